@@ -1,0 +1,36 @@
+-- What sources and sinks count, take and hold: the words that the contracts share.
+use Rattle.std.specs.Prelude.{◌≡◌, ℕ, ◌+◌, ◌-◌, ◌^◌, ◌≤◌, min, Result, OnErr, OnOk, Option, List, length, ◌++◌}
+use Rattle.std.specs.Io.KnownBytes.{Consumes, Appends}
+
+-- One more than the count, which stays at the largest u64.
+abbrev pub counted : ℕ → ℕ
+counted count = min (count + 1) (2 ^ 64 - 1)
+
+-- The count rose, or stands at the largest u64.
+abbrev pub Rose : ℕ → ℕ → Type 0
+Rose before now = counted before ≤ now
+
+-- An error has a fault as its cause: the count never falls, stays at `Ok`, and rose at `Err`.
+pub record HasCause {T E : Type 0} (before now : ℕ) (result : Result T E) : Type 0 where
+  pub later : before ≤ now
+  pub calm : OnOk result (now ≡ before)
+  pub failed : OnErr result (Rose before now)
+
+-- Some bytes, at most so many, were taken off the front of those left.
+pub record Takes (old new : Option (List ℕ)) (most : ℕ) : Type 0 where
+  pub bytes : List ℕ
+  pub taken : Consumes old new bytes
+  pub few : length bytes ≤ most
+
+-- Exactly so many bytes were taken off the front of those left.
+pub record TakesExactly (old new : Option (List ℕ)) (count : ℕ) : Type 0 where
+  pub bytes : List ℕ
+  pub taken : Consumes old new bytes
+  pub all : length bytes ≡ count
+
+-- The bytes held grew by a prefix of these.
+pub record Grows (old new : Option (List ℕ)) (bytes : List ℕ) : Type 0 where
+  pub front : List ℕ
+  pub back : List ℕ
+  pub parts : bytes ≡ front ++ back
+  pub grown : Appends old new front

@@ -1,0 +1,41 @@
+//! Bytes that come from a source and go to a sink, each with a count of its faults.
+//!
+//! `read_all` and `write_all` are generic over the two. `RealSource` and `RealSink` stand over a reader and
+//! a writer of std, and `MemSource` and `MemSink` over memory, with faults where a test wants them.
+#![tactic(auto)]
+
+use std::alloc::AllocError;
+
+mod memory_sink;
+mod memory_source;
+mod reading;
+mod real_sink;
+mod real_source;
+mod sink;
+mod source;
+#[cfg(test)]
+mod tests;
+mod writing;
+
+pub use memory_sink::MemSink;
+pub use memory_source::MemSource;
+pub use reading::{ReadEnd, read_all};
+pub use real_sink::RealSink;
+pub use real_source::RealSource;
+pub use sink::Sink;
+pub use source::Source;
+pub use writing::{WriteFault, write_all};
+
+/// A call of a source or a sink failed.
+#[derive(Clone, Copy, Debug, PartialEq, Eq)]
+pub struct Failed;
+
+/// There was no memory.
+#[derive(Clone, Copy, Debug, PartialEq, Eq)]
+pub struct Memory;
+
+impl From<AllocError> for Memory {
+    fn from(_: AllocError) -> Self {
+        Memory
+    }
+}

@@ -1,0 +1,44 @@
+ghost use Rattle.std.specs.Prelude.{◌≡◌};
+
+use crate::{Failed, Source};
+use std::io::Read;
+
+/// A source over a reader of std. It tells the bytes that its reader tells: none of a file or a terminal, all of
+/// a slice. That a reader of the system gives the bytes that are there is trusted.
+#[derive(Drop)]
+pub struct RealSource<R: Read> {
+    inner: R,
+    faults: u64,
+}
+
+impl<R: Read> RealSource<R> {
+    /// What the reader has left is left, and no call has failed.
+    pub fn new(inner: R) -> Self
+        ensures left { (⟦<RealSource<R> as Source>⟧).left result ≡ R.remaining inner }
+        ensures calm { (⟦<RealSource<R> as Source>⟧).faults result ≡ 0 }
+    {
+        RealSource { inner, faults: 0 }
+    }
+}
+
+impl<R: Read> Source for RealSource<R> {
+    ghost left = { λ s. R.remaining s.inner };
+
+    ghost faults = { λ s. s.faults };
+
+    fn take(&mut self, into: &mut [u8]) -> Result<usize, Failed> {
+        // std does not say that a read leaves the bytes behind its count, so it goes to a buffer of its own first.
+        let mut piece = [0u8; 4096];
+        let room = into.len().min(4096);
+        match self.inner.read(&mut piece[..room]) {
+            Ok(count) => {
+                into[..count].copy_from_slice(&piece[..count]);
+                Ok(count)
+            }
+            Err(_) => {
+                self.faults = self.faults.saturating_add(1);
+                Err(Failed)
+            }
+        }
+    }
+}
