@@ -1,0 +1,12 @@
+//! Lines out of bytes that come in pieces, the same however the bytes were cut.
+#![tactic(auto)]
+
+mod law;
+mod line_list;
+mod lines;
+#[cfg(test)]
+mod tests;
+
+pub use law::one_list_of_lines;
+pub use line_list::LineList;
+pub use lines::{Lines, Memory, NoNewline};
