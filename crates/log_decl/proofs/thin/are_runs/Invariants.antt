@@ -1,0 +1,13 @@
+use Rattle.std.proofs.Common.{◌≡◌, ◌+◌, ◌≤◌, length}
+use Rattle.semantics.specs.Records.{records_of}
+use Rattle.log_decl.specs.ThinTest.{are_runs_from}
+use Rattle.log_decl.proofs.thin.are_runs.Given as goal
+
+abbrev pub invariant-loop-rest : goal.invariant-loop-rest
+invariant-loop-rest l = record {
+  same : are_runs_from l.id (records_of l.rest) ≡ are_runs_from 1 (records_of l.records);
+  small : l.id + length l.rest ≤ 1 + length l.records;
+}
+
+abbrev pub decreases-loop-rest : goal.decreases-loop-rest
+decreases-loop-rest l = length l.rest

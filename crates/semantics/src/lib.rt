@@ -1,0 +1,13 @@
+//! What a log means: definitions and laws, and no algorithm.
+#![tactic(auto)]
+
+mod laws;
+mod tables;
+mod worked;
+
+pub use laws::{
+    one_log, one_thin_log, reads_on, records_are_few, thin_logs_are_logs, thin_records_are_good,
+    thin_tables,
+};
+pub use tables::{Item, ItemBody, LogNode, Op, Req};
+pub use worked::worked_logs;
