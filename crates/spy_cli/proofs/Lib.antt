@@ -1,0 +1,4 @@
+pub mod Chains
+pub mod FrontLines
+pub mod Outcomes
+pub mod Rows

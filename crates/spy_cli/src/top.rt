@@ -1,0 +1,107 @@
+//! The top call.
+
+ghost use Rattle.std.specs.Prelude.{◌≡◌, ◌≢◌, ◌⊎◌, ℕ, List, Some, true, false, map, string_bytes, IfOk, IfSome, OnOk, IsErrOf};
+ghost use Rattle.std.specs.Io.KnownBytes.{Appends};
+ghost use Rattle.spy_io.specs.Causes.{Rose, Grows};
+ghost use Rattle.spy_cli.specs.declared.status.Status.{Status};
+ghost use Rattle.spy_cli.specs.Outcome.{are_taken, IsOutcome, IsDecided, Answers};
+ghost use Rattle.spy_cli.specs.Texts.{usage_text, cannot_read_text};
+
+use crate::judging::{Report, judge, unbuilt_report};
+use crate::outcome_law::one_outcome;
+use crate::status::Status;
+use spy_io::{Memory, ReadEnd, Sink, Source, read_all, write_all};
+use std::alloc::Global;
+
+/// How many bytes an input has at most.
+const MOST_BYTES: u64 = 67_108_864;
+
+/// Whether the words are the one word `ordered`.
+fn takes_words(words: &Vec<String>) -> bool
+    ensures { result ≡ are_taken (map string_bytes words.now.items) }
+{
+    match words.as_slice() {
+        [word] => word.as_str() == "ordered",
+        _ => false,
+    }
+}
+
+/// Writes the text, and ends with this status if that succeeds.
+fn written<K: Sink>(sink: &mut K, text: &[u8], status: Status) -> Status
+    requires { status ≢ Status.WriteFault }
+    ensures done { result ≢ Status.WriteFault → (result ≡ status)
+        × Appends (K.held sink.old) (K.held sink.new) text.now × (K.faults sink.new ≡ K.faults sink.old) }
+    ensures fault { result ≡ Status.WriteFault → Rose (K.faults sink.old) (K.faults sink.new) × Grows (K.held sink.old) (K.held sink.new) text.now }
+{
+    match write_all(sink, text) {
+        Ok(()) => status,
+        Err(_) => Status::WriteFault,
+    }
+}
+
+/// Why there is no report on an input.
+#[derive(Clone, Copy, Debug, PartialEq, Eq)]
+enum ReportEnd {
+    ReadFault,
+    Memory,
+}
+
+/// The report on all that the source has left.
+fn report_on<S: Source>(alloc: Global, source: &mut S) -> Result<Report, ReportEnd>
+    ensures outcome { IfOk result (λ r. IfSome (S.left source.old) (λ bytes. IsOutcome bytes r.status r.text.items)) }
+    ensures decided { IfOk result (λ r. IsDecided r.status) }
+    ensures calm { OnOk result (S.faults source.new ≡ S.faults source.old) }
+    ensures read_fault { IsErrOf result ReportEnd.ReadFault → Rose (S.faults source.old) (S.faults source.new) }
+{
+    let report = match read_all(alloc, source, MOST_BYTES) {
+        Ok(bytes) => judge(alloc, &bytes),
+        Err(ReadEnd::TooLong) => unbuilt_report(alloc),
+        Err(ReadEnd::ReadFault) => return Err(ReportEnd::ReadFault),
+        Err(ReadEnd::Memory) => return Err(ReportEnd::Memory),
+    };
+    match report {
+        Ok(report) => Ok(report),
+        Err(Memory) => Err(ReportEnd::Memory),
+    }
+}
+
+#[tactic(auto, unfolding(crate::specs::Texts::usage_text, crate::specs::Texts::cannot_read_text))]
+/// Runs the command that the words name over the bytes of the source, and writes its report to the sink.
+/// The words do not hold the program's name. So far the one command is `ordered`.
+pub fn run<S: Source, K: Sink>(
+    alloc: Global,
+    words: &Vec<String>,
+    source: &mut S,
+    sink: &mut K,
+) -> Status
+    // Words that name no command: the source is not called.
+    ensures usage { result ≡ Status.Usage → (are_taken (map string_bytes words.now.items) ≡ false)
+        × Appends (K.held sink.old) (K.held sink.new) usage_text }
+    ensures not_taken { are_taken (map string_bytes words.now.items) ≡ false → (result ≡ Status.Usage) ⊎ (result ≡ Status.WriteFault) }
+    ensures not_called { are_taken (map string_bytes words.now.items) ≡ false → source.new ≡ source.old }
+
+    // What the input decides: the answer is its outcome, and where it has an outcome that is the answer.
+    ensures answer { IsDecided result → IfSome (S.left source.old) (λ bytes. Answers bytes result (K.held sink.old) (K.held sink.new)) }
+    ensures exact { (bytes : List ℕ) (status : Status) (text : List ℕ) → S.left source.old ≡ Some bytes → IsOutcome bytes status text
+        → IsDecided result → (result ≡ status) × Appends (K.held sink.old) (K.held sink.new) text }
+
+    // A device that failed says so by its count, and no other answer comes from a failure.
+    ensures calm { IsDecided result ⊎ (result ≡ Status.Usage) → (S.faults source.new ≡ S.faults source.old) × (K.faults sink.new ≡ K.faults sink.old) }
+    ensures read_fault { result ≡ Status.ReadFault → (are_taken (map string_bytes words.now.items) ≡ true)
+        × Rose (S.faults source.old) (S.faults source.new) × (K.faults sink.new ≡ K.faults sink.old)
+        × Appends (K.held sink.old) (K.held sink.new) cannot_read_text }
+    ensures write_fault { result ≡ Status.WriteFault → Rose (K.faults sink.old) (K.faults sink.new) }
+
+    // Without memory nothing is written.
+    ensures memory { result ≡ Status.Memory → sink.new ≡ sink.old }
+{
+    one_outcome();
+    if !takes_words(words) {
+        return written(sink, b"usage\n", Status::Usage);
+    }
+    match report_on(alloc, source) {
+        Ok(report) => written(sink, &report.text, report.status),
+        Err(ReportEnd::ReadFault) => written(sink, b"cannot read\n", Status::ReadFault),
+        Err(ReportEnd::Memory) => Status::Memory,
+    }
+}

@@ -1,0 +1,9 @@
+//! Worked examples of the whole program, as tests: each a log, the words, and the report and status that they give.
+#![tactic(auto)]
+
+#[cfg(test)]
+mod answers;
+#[cfg(test)]
+mod devices;
+#[cfg(test)]
+mod ordered;
