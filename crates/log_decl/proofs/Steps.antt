@@ -1,7 +1,7 @@
 -- One record more, or one task more.
 use Rattle.std.proofs.Common.{◌≡◌, ℕ, ◌+◌, ◌-◌, ◌≤◌, Bool, true, List, [], ◌∷◌, ◌++◌, length, get_or, take, drop, refl, sym, arith}
 use Rattle.std.proofs.lemmas.List.{take_all}
-use Rattle.spy_grammar.specs.declared.record.PrivWord.{PrivWord}
+use Rattle.spy_words.specs.declared.access.PrivWord.{PrivWord}
 use Rattle.spy_grammar.specs.declared.record.Record.{Record}
 use Rattle.spy_grammar.specs.declared.record.Record.TheVariants.{Req}
 use Rattle.spy_grammar.specs.declared.record.Lined.{Lined}

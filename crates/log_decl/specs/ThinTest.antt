@@ -1,8 +1,8 @@
 -- Tests of single records, and of runs of them, for the records of thin logs.
 use Rattle.std.specs.Prelude.{ℕ, ◌+◌, ◌*◌, ◌/◌, length, take, drop, Bool, true, false, if◌then◌else◌, not, ◌&&◌, ◌==◌, nat_lt, nat_le, List, [], ◌∷◌, Option, Some, None}
 use Rattle.std.specs.List.{list_all}
-use Rattle.spy_grammar.specs.declared.record.PrivWord.{PrivWord}
-use Rattle.spy_grammar.specs.declared.record.PrivWord.TheVariants as privileges
+use Rattle.spy_words.specs.declared.access.PrivWord.{PrivWord}
+use Rattle.spy_words.specs.declared.access.PrivWord.TheVariants as privileges
 use Rattle.spy_grammar.specs.declared.record.Record.{Record}
 use Rattle.spy_grammar.specs.declared.record.Record.TheVariants as records
 use Rattle.spy_grammar.specs.declared.record.Lined.{Lined}

@@ -178,8 +178,8 @@ fn are_runs(records: &[Lined]) -> bool
     true
 }
 
+/// Whether so many tasks and this last point are within the limits.
 fn is_small(count: usize, last: u64) -> bool
-    requires { count < 2 ^ 32 }
     ensures { result ≡ is_within count last }
 {
     1 <= count
@@ -194,7 +194,7 @@ fn is_rest(records: &[Lined], last: u64) -> bool
     ensures { result ≡ is_body last records.now }
 {
     let count = records.len() / 3;
-    if records.len() != 3 * count + 1 || count > 1000 || !is_small(count, last) {
+    if records.len() != 3 * count + 1 || !is_small(count, last) {
         return false;
     }
     let (tasks, others) = records.split_at(2 * count);

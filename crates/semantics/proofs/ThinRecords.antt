@@ -3,7 +3,7 @@ use Rattle.std.proofs.Common.{◌≡◌, ℕ, suc, ◌+◌, ◌*◌, ◌^◌, �
 use Rattle.std.specs.List.{AllByRecursion}
 use Rattle.spy_grammar.specs.declared.record.Record.{Record}
 use Rattle.spy_grammar.specs.declared.record.Record.TheVariants as records
-use Rattle.spy_grammar.specs.Classes.{IsNumberFrom, HasOperator}
+use Rattle.spy_words.specs.Classes.{IsNumberFrom, HasOperator}
 use Rattle.spy_grammar.specs.Spelling.{Good}
 use Rattle.semantics.specs.Records.{text_of}
 use Rattle.semantics.specs.Thin.{ThinTask, ThinLog, access_of, task_records, run_records, thin_records, WaitsBack, IsThin, SpellsThin}

@@ -1,7 +1,7 @@
 -- What a log declares, as plain lists.
 use Rattle.std.specs.Prelude.{ℕ, Bool, true, false, ◌+◌, ◌==◌, List, [], ◌∷◌, ◌++◌, fold, map, count_by, position, length, unwrap_or}
-use Rattle.spy_grammar.specs.declared.record.PrivWord.{PrivWord}
-use Rattle.spy_grammar.specs.declared.record.PrivWord.TheVariants as privileges
+use Rattle.spy_words.specs.declared.access.PrivWord.{PrivWord}
+use Rattle.spy_words.specs.declared.access.PrivWord.TheVariants as privileges
 use Rattle.spy_grammar.specs.declared.record.Record.{Record}
 use Rattle.spy_grammar.specs.declared.record.Record.TheVariants as records
 use Rattle.spy_grammar.specs.declared.record.Lined.{Lined}

@@ -1,8 +1,8 @@
 -- Thin logs: one region that every task reads or writes whole, and one run of each task.
 use Rattle.std.specs.Prelude.{◌≡◌, ℕ, ◌+◌, ◌*◌, ◌^◌, ◌<◌, ◌≤◌, Bool, false, List, [], ◌∷◌, ◌++◌, length, map, if◌then◌else◌}
 use Rattle.std.specs.List.{AllByRecursion}
-use Rattle.spy_grammar.specs.declared.record.PrivWord.{PrivWord}
-use Rattle.spy_grammar.specs.declared.record.PrivWord.TheVariants.{Ro, Rw}
+use Rattle.spy_words.specs.declared.access.PrivWord.{PrivWord}
+use Rattle.spy_words.specs.declared.access.PrivWord.TheVariants.{Ro, Rw}
 use Rattle.spy_grammar.specs.declared.record.Record.{Record}
 use Rattle.spy_grammar.specs.declared.record.Record.TheVariants as records
 use Rattle.semantics.specs.Records.{text_of}

@@ -1,6 +1,6 @@
 -- Worked examples: two tasks over one region, of which the first writes.
 use Rattle.std.specs.Prelude.{ℕ, true, false, List, [], ◌∷◌, codes, ◌++◌}
-use Rattle.spy_grammar.specs.declared.record.PrivWord.TheVariants.{Ro, Rw}
+use Rattle.spy_words.specs.declared.access.PrivWord.TheVariants.{Ro, Rw}
 use Rattle.spy_grammar.specs.declared.record.Record.{Record}
 use Rattle.spy_grammar.specs.declared.record.Record.TheVariants as records
 use Rattle.semantics.specs.Thin.{ThinLog}

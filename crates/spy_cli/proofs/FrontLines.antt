@@ -8,8 +8,8 @@ use Rattle.spy_grammar.specs.Spelling.{spelling, Good}
 use Rattle.semantics.specs.Records.{text_of, records_of, StandsFrom, Spells}
 use Rattle.semantics.proofs.Texts.{same_line, GoesOn}
 use Rattle.std.specs.Prelude.{Result, Ok, Err, IsErrAnd, IsErrOf}
-use Rattle.spy_grammar.specs.declared.fault.LineFault.{LineFault}
-use Rattle.spy_grammar.specs.declared.fault.LineFault.TheVariants as faults
+use Rattle.spy_words.specs.declared.fault.LineFault.{LineFault}
+use Rattle.spy_words.specs.declared.fault.LineFault.TheVariants as faults
 use Rattle.spy_cli.specs.declared.reading.LinesEnd.{LinesEnd}
 use Rattle.spy_cli.specs.declared.reading.LinesEnd.TheVariants.{NoRecord}
 use Rattle.spy_cli.specs.LineEnds.{end_of}

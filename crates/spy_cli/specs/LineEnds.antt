@@ -1,6 +1,6 @@
 -- What the fault of a line means for an input that has a record on each line.
-use Rattle.spy_grammar.specs.declared.fault.LineFault.{LineFault}
-use Rattle.spy_grammar.specs.declared.fault.LineFault.TheVariants as faults
+use Rattle.spy_words.specs.declared.fault.LineFault.{LineFault}
+use Rattle.spy_words.specs.declared.fault.LineFault.TheVariants as faults
 use Rattle.spy_cli.specs.declared.reading.LinesEnd.{LinesEnd}
 use Rattle.spy_cli.specs.declared.reading.LinesEnd.TheVariants as ends
 

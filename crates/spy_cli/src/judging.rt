@@ -52,8 +52,8 @@ fn order_report(alloc: Global, log: &Log) -> Result<Report, Memory>
     }
 }
 
-#[tactic(auto, unfolding(crate::specs::Texts::unbuilt_text))]
 /// The report that an input is of no shape that is judged yet.
+#[tactic(auto, unfolding(crate::specs::Texts::unbuilt_text))]
 pub fn unbuilt_report(alloc: Global) -> Result<Report, Memory>
     ensures { IfOk result (λ r. (r.status ≡ Status.Fault) × (r.text.items ≡ unbuilt_text)) }
 {

@@ -13,8 +13,8 @@ fn push_number(text: &mut Vec<u8>, n: u64) -> Result<(), AllocError>
     text.extend_from_slice(buffer.format(n).as_bytes())
 }
 
-#[tactic(auto, unfolding(crate::specs::Texts::ordered_text))]
 /// The report that so many tasks are ordered, of which so many pairs interfere.
+#[tactic(auto, unfolding(crate::specs::Texts::ordered_text))]
 pub fn ordered_report(alloc: Global, tasks: u64, pairs: u64) -> Result<Vec<u8>, AllocError>
     ensures { IfOk result (λ text. text.items ≡ ordered_text tasks pairs) }
 {
@@ -26,8 +26,8 @@ pub fn ordered_report(alloc: Global, tasks: u64, pairs: u64) -> Result<Vec<u8>, 
     Ok(text)
 }
 
-#[tactic(auto, unfolding(crate::specs::Texts::unordered_text))]
 /// The report that two tasks are not ordered, shown at the first place of the one region.
+#[tactic(auto, unfolding(crate::specs::Texts::unordered_text))]
 pub fn unordered_report(alloc: Global, first: u64, second: u64) -> Result<Vec<u8>, AllocError>
     ensures { IfOk result (λ text. text.items ≡ unordered_text first second) }
 {

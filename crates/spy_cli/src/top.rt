@@ -65,9 +65,9 @@ fn report_on<S: Source>(alloc: Global, source: &mut S) -> Result<Report, ReportE
     }
 }
 
-#[tactic(auto, unfolding(crate::specs::Texts::usage_text, crate::specs::Texts::cannot_read_text))]
 /// Runs the command that the words name over the bytes of the source, and writes its report to the sink.
 /// The words do not hold the program's name. So far the one command is `ordered`.
+#[tactic(auto, unfolding(crate::specs::Texts::usage_text, crate::specs::Texts::cannot_read_text))]
 pub fn run<S: Source, K: Sink>(
     alloc: Global,
     words: &Vec<String>,

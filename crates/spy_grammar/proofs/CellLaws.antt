@@ -5,24 +5,15 @@ use Rattle.std.proofs.lemmas.Bool.{false≢true}
 use Rattle.std.specs.Prelude.{decimal}
 use Rattle.spy_grammar.specs.declared.record.Record.{Record}
 use Rattle.spy_grammar.specs.declared.kinds.RecordKind.{RecordKind}
-use Rattle.spy_grammar.specs.Classes.{points, fields, IsSpan, IsNumberFrom, IsGood}
 use Rattle.spy_grammar.specs.Rows.{Row, one, two, three, four, five, six, some_ids, RowMeaning, name_of, row_of, Parts, parts_of}
 use Rattle.spy_grammar.specs.Spelling.{row_words, spelling, IsGoodRow, Good}
 use Rattle.spy_grammar.specs.Cells.{Item, item_text, IsGoodItem, items_of, parts_items}
-use Rattle.spy_grammar.specs.Reading.{ascends, spans_ascend}
-use Rattle.spy_grammar.proofs.ClassLaws.{spans_told, spans_kept, ascent_told, ascent_kept}
 
 pub parts_told : (k : RecordKind) (m : RowMeaning (row_of k)) → parts_items (k, m) ≡ items_of (row_of k) m
 unfolding parts_items
 parts_told k m = refl
 
 -- ---- which records have a spelling
-
-pub points_fit : (ps : List (ℕ × ℕ)) (up : Bool) → AllByRecursion IsSpan ps → up ≡ spans_ascend ps → IsTrue up ↔ IsGood points ps
-points_fit ps up fit e = (λ t. (fit, spans_told ps (sym e ∙ t)), λ good. e ∙ spans_kept ps good.1)
-
-pub fields_fit : (ns : List ℕ) (up : Bool) → AllByRecursion (IsNumberFrom 0) ns → ns ≢ [] → up ≡ ascends ns → IsTrue up ↔ IsGood fields ns
-fields_fit ns up fit some e = (λ t. (fit, ascent_told ns (sym e ∙ t), some), λ good. e ∙ ascent_kept ns good.1)
 
 row_fit : (r : Row) (m : RowMeaning r) → AllByRecursion IsGoodItem (items_of r m) → IsGoodRow r m
 row_fit (one a) m g = g.0

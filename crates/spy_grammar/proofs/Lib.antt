@@ -1,12 +1,5 @@
-pub mod Joins
 pub mod Table
-pub mod Digits
-pub mod Cuts
-pub mod Gathering
 pub mod Wordly
 pub mod Rowly
-pub mod Numbers
-pub mod ClassLaws
 pub mod RowLaws
-pub mod Commas
 pub mod CellLaws

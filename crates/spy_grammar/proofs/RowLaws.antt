@@ -3,17 +3,18 @@ use Rattle.std.proofs.Common.{◌≡◌, ◌≢◌, ℕ, Bool, true, false, cond
 use Rattle.std.specs.Prelude.{decimal}
 use Rattle.std.specs.List.{All, AllByRecursion, join_with_byte, slice_split}
 use Rattle.std.proofs.lemmas.List.Elements.{All-from_recursion}
-use Rattle.spy_grammar.specs.declared.fault.LineFault.{LineFault}
-use Rattle.spy_grammar.specs.declared.fault.LineFault.TheVariants.{Word, Form, Number, Order, Memory}
+use Rattle.spy_words.specs.declared.fault.LineFault.{LineFault}
+use Rattle.spy_words.specs.declared.fault.LineFault.TheVariants.{Word, Form, Number, Order, Memory}
 use Rattle.spy_grammar.specs.declared.kinds.RecordKind.{RecordKind}
 use Rattle.spy_grammar.specs.declared.record.Record.{Record}
-use Rattle.spy_grammar.specs.Classes.{Class, Meaning, word_of, IsNumberFrom, IsGood}
+use Rattle.spy_words.specs.Classes.{Class, Meaning, word_of, IsNumberFrom, IsGood}
 use Rattle.spy_grammar.specs.Rows.{Row, one, two, three, four, five, six, some_ids, RowMeaning, name_of, row_of, made, Parts, parts_of, kind_at}
 use Rattle.spy_grammar.specs.Spelling.{row_words, words_of, spelling, IsGoodRow, Good}
-use Rattle.spy_grammar.specs.Faults.{both, all_three, all_four, all_five, all_six, map_ok, Gives}
-use Rattle.spy_grammar.specs.Reading.{number_from, meaning_at, row_at, named_record, record_at, is_passed_over, line_at}
-use Rattle.spy_grammar.proofs.Joins.{Above, above_lower, above_join, split_join, join_takes}
-use Rattle.spy_grammar.proofs.ClassLaws.{both_ok, map_is_ok, number_agrees, each_takes, each_again, each_above, class_takes, class_again, class_above}
+use Rattle.spy_words.specs.Faults.{both, all_three, all_four, all_five, all_six, map_ok, Gives}
+use Rattle.spy_words.specs.Reading.{number_from, meaning_at}
+use Rattle.spy_grammar.specs.Reading.{row_at, named_record, record_at, is_passed_over, line_at}
+use Rattle.spy_words.proofs.Joins.{Above, all_lower, above_join, split_join, join_takes}
+use Rattle.spy_words.proofs.ClassLaws.{both_ok, map_is_ok, number_agrees, each_takes, each_again, each_above, class_takes, class_again, class_above}
 use Rattle.spy_grammar.proofs.Table.{named_so, in_table, made_again}
 
 -- ---- rows
@@ -86,11 +87,7 @@ row_above (three a b c) m g = (class_above a m.0 g.0, (class_above b m.1 g.1, (c
 row_above (four a b c d) m g = (class_above a m.0 g.0, (class_above b m.1 g.1, (class_above c m.2 g.2, (class_above d m.3 g.3, tt))))
 row_above (five a b c d e) m g = (class_above a m.0 g.0, (class_above b m.1 g.1, (class_above c m.2 g.2, (class_above d m.3 g.3, (class_above e m.4 g.4, tt)))))
 row_above (six a b c d e f) m g = (class_above a m.0 g.0, (class_above b m.1 g.1, (class_above c m.2 g.2, (class_above d m.3 g.3, (class_above e m.4 g.4, (class_above f m.5 g.5, tt))))))
-row_above some_ids m g = lower m (each_above ℕ (number_from 1) decimal (IsNumberFrom 1) 47 (number_agrees 1) m g.0)
-  where
-    lower : (ns : List ℕ) → AllByRecursion (Above 47) (map decimal ns) → AllByRecursion (Above 32) (map decimal ns)
-    lower [] h = tt
-    lower (n ∷ ns) h = (above_lower 32 47 (decimal n) (omega arith) h.0, lower ns h.1)
+row_above some_ids m g = all_lower 32 47 (map decimal m) (omega arith) (each_above ℕ (number_from 1) decimal (IsNumberFrom 1) 47 (number_agrees 1) m g.0)
 
 -- ---- records
 
@@ -161,12 +158,8 @@ spelling_some r e = let t = ap is_passed_over e in let f = not_passed r in absur
 
 pub no_line_feed : (r : Record) → Good r → All (λ b. b ≢ 10) (spelling r)
 unfolding spelling
-no_line_feed r good = All-from_recursion _ _ (other (join_with_byte 32 (words_of r)) (above_join 31 32 (words_of r) (omega arith) (lower (words_of r) (words_above r good))))
+no_line_feed r good = All-from_recursion _ _ (other (join_with_byte 32 (words_of r)) (above_join 31 32 (words_of r) (omega arith) (all_lower 31 32 (words_of r) (omega arith) (words_above r good))))
   where
-    lower : (ws : List (List ℕ)) → AllByRecursion (Above 32) ws → AllByRecursion (Above 31) ws
-    lower [] h = tt
-    lower (w ∷ ws) h = (above_lower 31 32 w (omega arith) h.0, lower ws h.1)
-
     other : (w : List ℕ) → Above 31 w → AllByRecursion (λ b. b ≢ 10) w
     other [] h = tt
     other (b ∷ w) h = ((λ e. absurd (omega (arith, h.0, e))), other w h.1)

@@ -1,11 +1,12 @@
 -- So many words, read by the table's row.
 use Rattle.std.proofs.Common.{◌≡◌, ℕ, List, Result, Ok, Err, refl}
-use Rattle.spy_grammar.specs.declared.fault.LineFault.{LineFault}
-use Rattle.spy_grammar.specs.declared.fault.LineFault.TheVariants.{Form}
-use Rattle.spy_grammar.specs.Classes.{Class, Meaning}
+use Rattle.spy_words.specs.declared.fault.LineFault.{LineFault}
+use Rattle.spy_words.specs.declared.fault.LineFault.TheVariants.{Form}
+use Rattle.spy_words.specs.Classes.{Class, Meaning}
 use Rattle.spy_grammar.specs.Rows.{one, two, three, four, five, six}
-use Rattle.spy_grammar.specs.Faults.{both, all_three, all_four, all_five, all_six, Gives}
-use Rattle.spy_grammar.specs.Reading.{meaning_at, row_at, one_word, two_words, three_words, four_words, five_words, six_words}
+use Rattle.spy_words.specs.Faults.{both, all_three, all_four, all_five, all_six, Gives}
+use Rattle.spy_words.specs.Reading.{meaning_at}
+use Rattle.spy_grammar.specs.Reading.{row_at, one_word, two_words, three_words, four_words, five_words, six_words}
 use Rattle.spy_grammar.proofs.Wordly.{both_gives, three_give, four_give, five_give, six_give}
 
 pub one_row : (a : Class) (ra : Result (Meaning a) LineFault) (ws : List (List ℕ)) (wa : List ℕ) → one_word ws ≡ Ok wa → Gives (λ x. x) ra (meaning_at a wa) → Gives (λ x. x) (ra) (row_at (one a) ws)

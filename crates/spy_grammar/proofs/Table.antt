@@ -9,7 +9,7 @@ use Rattle.spy_grammar.specs.declared.record.Record.{Record}
 use Rattle.spy_grammar.specs.declared.record.Record.TheVariants as records
 use Rattle.spy_grammar.specs.Rows.{RowMeaning, name_of, row_of, made, parts_of, kind_among, kind_at, all_kinds}
 use Rattle.spy_grammar.specs.Reading.{is_passed_over}
-use Rattle.spy_grammar.proofs.Joins.{Above, above_all}
+use Rattle.spy_words.proofs.Joins.{Above, above_all}
 
 -- the kind at a place has this name
 pub among_here : (ks : List RecordKind) (i : ℕ) (d : RecordKind) (w : List ℕ) → i < length ks → bytes_eq w (name_of (get_or ks i d)) ≡ true → kind_among (drop i ks) w ≡ Some (get_or ks i d)

@@ -1,8 +1,8 @@
 -- Several words, read as values and as what contracts see of them.
 use Rattle.std.proofs.Common.{◌≡◌, Result, Ok, Err, refl, ap}
-use Rattle.spy_grammar.specs.declared.fault.LineFault.{LineFault}
-use Rattle.spy_grammar.specs.declared.fault.LineFault.TheVariants.{Word, Form, Number, Order, Memory}
-use Rattle.spy_grammar.specs.Faults.{worse, both, all_three, all_four, all_five, all_six, map_ok, Fails, Gives}
+use Rattle.spy_words.specs.declared.fault.LineFault.{LineFault}
+use Rattle.spy_words.specs.declared.fault.LineFault.TheVariants.{Word, Form, Number, Order, Memory}
+use Rattle.spy_words.specs.Faults.{worse, both, all_three, all_four, all_five, all_six, map_ok, Fails, Gives}
 
 -- a fault of one word, or of both
 right_fails : {X Y : Type 0} (g : LineFault) (x : X) (rb : Result Y LineFault) → Fails g rb → Fails g (both (Ok x) rb)

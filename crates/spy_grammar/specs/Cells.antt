@@ -3,7 +3,7 @@ use Rattle.std.specs.Prelude.{ℕ, List, [], ◌∷◌, map, decimal, ◌≢◌}
 use Rattle.std.specs.List.{AllByRecursion, join_with_byte}
 use Rattle.spy_grammar.specs.declared.cells.Cell.{Cell}
 use Rattle.spy_grammar.specs.declared.cells.Cell.TheVariants as cells
-use Rattle.spy_grammar.specs.Classes.{Class, number, id, event, points, fields, waits, split, access, coherence, layout, Meaning, word_of, IsNumberFrom, IsGood}
+use Rattle.spy_words.specs.Classes.{Class, number, id, event, points, fields, waits, split, access, coherence, layout, Meaning, word_of, IsNumberFrom, IsGood}
 use Rattle.spy_grammar.specs.Rows.{row_of, Parts, Row, one, two, three, four, five, six, some_ids, RowMeaning}
 
 -- What a cell holds: no word, a word of a class, or ids.

@@ -5,7 +5,7 @@ use Rattle.spy_grammar.specs.declared.kinds.RecordKind.{RecordKind}
 use Rattle.spy_grammar.specs.declared.kinds.RecordKind.TheVariants as kinds
 use Rattle.spy_grammar.specs.declared.record.Record.{Record}
 use Rattle.spy_grammar.specs.declared.record.Record.TheVariants as records
-use Rattle.spy_grammar.specs.Classes.{Class, number, id, event, points, fields, waits, split, access, coherence, layout, Meaning}
+use Rattle.spy_words.specs.Classes.{Class, number, id, event, points, fields, waits, split, access, coherence, layout, Meaning}
 
 -- The words after the first: one of each class in turn, or one id or more.
 pub data Row : Type 0 where

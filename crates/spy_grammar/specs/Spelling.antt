@@ -2,7 +2,7 @@
 use Rattle.std.specs.Prelude.{◌≢◌, ℕ, List, [], ◌∷◌, map, decimal}
 use Rattle.std.specs.List.{join_with_byte, AllByRecursion}
 use Rattle.spy_grammar.specs.declared.record.Record.{Record}
-use Rattle.spy_grammar.specs.Classes.{word_of, IsGood, IsNumberFrom}
+use Rattle.spy_words.specs.Classes.{word_of, IsGood, IsNumberFrom}
 use Rattle.spy_grammar.specs.Rows.{Row, one, two, three, four, five, six, some_ids, RowMeaning, name_of, row_of, parts_of}
 
 -- The words after the first.

@@ -5,9 +5,8 @@ ghost use Rattle.spy_grammar.specs.Cells.{items_in, parts_items};
 ghost use Rattle.spy_grammar.specs.Rows.{parts_of};
 
 use crate::kinds::RecordKind;
-use crate::nums::Nums;
-use crate::record::{InstKind, PrivWord, Record};
-use crate::set::Set;
+use crate::record::Record;
+use spy_words::{InstKind, Nums, PrivWord, Set};
 
 /// A word of a record by its class, no word, or all the ids of a record.
 #[derive(Clone, Copy, Debug)]
@@ -32,7 +31,6 @@ pub type Six<'a> = (Cell<'a>, Cell<'a>, Cell<'a>, Cell<'a>, Cell<'a>, Cell<'a>);
 use crate::cells::Cell::*;
 
 /// The kind of a record, and the words after the first.
-
 #[tactic(auto, using(crate::proofs::CellLaws::parts_told))]
 #[rattlefmt::skip]
 pub fn cells_of(rec: &Record) -> (RecordKind, Six<'_>)

@@ -1,73 +1,13 @@
 //! Whether a record has a spelling.
 
-ghost use Rattle.std.specs.Prelude.{◌≡◌, ◌↔◌, IsTrue};
-ghost use Rattle.std.specs.List.{AllByRecursion};
+ghost use Rattle.std.specs.Prelude.{◌↔◌, IsTrue};
 ghost use Rattle.spy_grammar.specs.Cells.{IsGoodItem, item_of};
-ghost use Rattle.spy_grammar.specs.Classes.{fields, points, IsGood, IsNumberFrom, IsSpan, HasOperator, HoldsOperator};
 ghost use Rattle.spy_grammar.specs.Spelling.{Good};
 
 use crate::cells::Cell::*;
 use crate::cells::{Cell, cells_of};
-use crate::lists::{are_apart, is_ascending};
-use crate::record::{InstKind, PrivWord, Record};
-
-fn is_from(least: u32, n: u32) -> bool
-    ensures { IsTrue result ↔ IsNumberFrom least n }
-{
-    least <= n
-}
-
-fn are_from(least: u32, numbers: &[u32]) -> bool
-    ensures { IsTrue result ↔ AllByRecursion (IsNumberFrom least) numbers.now }
-{
-    for n in numbers {
-        if *n < least {
-            return false;
-        }
-    }
-    true
-}
-
-fn are_spans(spans: &[(u64, u64)]) -> bool
-    ensures { IsTrue result ↔ AllByRecursion IsSpan spans.now }
-{
-    for (first, last) in spans {
-        if first > last || *last >= 1 << 32 {
-            return false;
-        }
-    }
-    true
-}
-
-fn are_points(spans: &[(u64, u64)]) -> bool
-    ensures { IsTrue result ↔ IsGood points spans.now }
-{
-    are_spans(spans) && are_apart(spans)
-}
-
-fn are_fields(numbers: &[u32]) -> bool
-    ensures { IsTrue result ↔ IsGood fields numbers.now }
-{
-    !numbers.is_empty() && is_ascending(numbers)
-}
-
-fn has_operator(access: PrivWord) -> bool
-    ensures { IsTrue result ↔ HasOperator access }
-{
-    match access {
-        PrivWord::Red(operator) => is_from(1, operator),
-        _ => true,
-    }
-}
-
-fn holds_operator(layout: InstKind) -> bool
-    ensures { IsTrue result ↔ HoldsOperator layout }
-{
-    match layout {
-        InstKind::Red(operator) => is_from(1, operator),
-        _ => true,
-    }
-}
+use crate::record::Record;
+use spy_words::{are_fields, are_from, are_points, has_operator, holds_operator, is_from};
 
 fn is_good(cell: &Cell<'_>) -> bool
     ensures { IsTrue result ↔ IsGoodItem (item_of cell.now) }

@@ -2,32 +2,23 @@
 #![tactic(auto)]
 
 mod cells;
-mod choices;
 mod code;
-mod fault;
-mod gathered;
 mod goodness;
 mod kinds;
 mod law;
 mod line;
-mod lists;
-mod nums;
 mod reading;
 mod record;
 mod row_words;
 mod rows;
-mod set;
-mod words;
 mod writing;
 
 pub use code::Code;
-pub use fault::LineFault;
 pub use goodness::good;
 pub use law::{one_spelling, spelling_is_one_line, spelling_is_read};
 pub use line::read_line;
-pub use nums::Nums;
-pub use record::{InstKind, Lined, PrivWord, Record};
-pub use set::Set;
+pub use record::{Lined, Record};
+pub use spy_words::{InstKind, LineFault, Nums, PrivWord, Set};
 pub use writing::{Memory, write_record};
 
 #[cfg(test)]

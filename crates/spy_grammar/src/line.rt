@@ -1,17 +1,16 @@
 //! A line, read.
 
 ghost use Rattle.std.specs.Prelude.{◌≡◌, ◌⊎◌, true, Some, None, Ok, Err, map};
-ghost use Rattle.spy_grammar.specs.declared.fault.LineFault.TheVariants.{Memory};
+ghost use Rattle.spy_words.specs.declared.fault.LineFault.TheVariants.{Memory};
 ghost use Rattle.spy_grammar.specs.declared.record.Record.{Record};
-ghost use Rattle.spy_grammar.specs.Faults.{Gives};
+ghost use Rattle.spy_words.specs.Faults.{Gives};
 ghost use Rattle.spy_grammar.specs.Reading.{is_passed_over, line_at, record_at};
 ghost use Rattle.spy_grammar.specs.Spelling.{spelling, Good};
 
-use crate::fault::LineFault;
 use crate::kinds::kind_of;
 use crate::reading::read_kind;
 use crate::record::Record;
-use crate::words::words_in;
+use spy_words::{LineFault, words_in};
 use std::alloc::Global;
 
 fn read_record(alloc: Global, words: &[&[u8]]) -> Result<Record, LineFault>

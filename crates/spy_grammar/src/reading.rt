@@ -1,18 +1,17 @@
 //! A record of each kind, read.
 
 ghost use Rattle.std.specs.Prelude.{map};
-ghost use Rattle.spy_grammar.specs.Faults.{Gives};
+ghost use Rattle.spy_words.specs.Faults.{Gives};
 ghost use Rattle.spy_grammar.specs.Reading.{kind_record};
 
-use crate::fault::LineFault;
 use crate::kinds::RecordKind;
-use crate::lists::ids_in;
 use crate::record::Record;
 use crate::row_words::{
     fields_words, fill_words, id_word, inst_words, ispace_words, map_words, merge_words,
     number_word, part_words, put_words, req_words, reset_words, run_words, sub_words,
     transfer_words, tree_words,
 };
+use spy_words::{LineFault, ids_in};
 use std::alloc::Global;
 
 #[tactic(auto, using(crate::proofs::Wordly::map_fails))]

@@ -1,31 +1,6 @@
 //! What one line of a log says.
 
-use crate::nums::Nums;
-use crate::set::Set;
-
-/// What a task may do with a region.
-#[derive(Clone, Copy, Debug, PartialEq, Eq)]
-pub enum PrivWord {
-    /// Read.
-    Ro,
-    /// Read and write.
-    Rw,
-    /// Write, and see nothing of the old contents.
-    Wd,
-    /// Reduce with this operator.
-    Red(u32),
-}
-
-/// What an instance holds.
-#[derive(Clone, Copy, Debug, PartialEq, Eq)]
-pub enum InstKind {
-    /// Values that are unknown at the start.
-    Plain,
-    /// The values that the region has at the start.
-    Home,
-    /// Reductions with this operator.
-    Red(u32),
-}
+use spy_words::{InstKind, Nums, PrivWord, Set};
 
 /// One record. The words of a line stand in the order of the fields.
 #[derive(Debug, Drop)]

@@ -1,22 +1,18 @@
 //! The words after the first, for each row of the table.
 
 ghost use Rattle.std.specs.Prelude.{map};
-ghost use Rattle.spy_grammar.specs.Classes.{number, id, event, points, fields, waits, split, access, coherence, layout};
-ghost use Rattle.spy_grammar.specs.Faults.{Gives};
+ghost use Rattle.spy_words.specs.Classes.{number, id, event, points, fields, waits, split, access, coherence, layout};
+ghost use Rattle.spy_words.specs.Faults.{Gives};
 ghost use Rattle.spy_grammar.specs.Reading.{row_at};
 ghost use Rattle.spy_grammar.specs.Rows.{one, two, three, four, five, six};
 
-use crate::choices::{access_of, coherence_of, layout_of, split_of};
-use crate::fault::LineFault;
-use crate::gathered::both_of;
-use crate::lists::{fields_of, points_of, waits_of};
-use crate::nums::Nums;
-use crate::record::{InstKind, PrivWord};
 use crate::rows::{
     five_in, five_of, four_in, four_of, one_in, six_in, six_of, three_in, three_of, two_in,
 };
-use crate::set::Set;
-use crate::words::{event_of, id_of, number_of};
+use spy_words::{
+    InstKind, LineFault, Nums, PrivWord, Set, access_of, both_of, coherence_of, event_of,
+    fields_of, id_of, layout_of, number_of, points_of, split_of, waits_of,
+};
 use std::alloc::Global;
 
 /// One number.

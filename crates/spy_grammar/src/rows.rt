@@ -1,11 +1,10 @@
 //! So many words, and what they give together.
 
 ghost use Rattle.std.specs.Prelude.{◌≡◌, map};
-ghost use Rattle.spy_grammar.specs.Faults.{all_three, all_four, all_five, all_six, Gives};
+ghost use Rattle.spy_words.specs.Faults.{all_three, all_four, all_five, all_six, Gives};
 ghost use Rattle.spy_grammar.specs.Reading.{one_word, two_words, three_words, four_words, five_words, six_words};
 
-use crate::fault::LineFault;
-use crate::gathered::both_of;
+use spy_words::{LineFault, both_of};
 
 /// A word of a line.
 type Word<'a> = &'a [u8];

@@ -22,9 +22,9 @@ impl From<AllocError> for ReadEnd {
     }
 }
 
-#[tactic(auto, using(crate::proofs::Known::consumes_both))]
 /// All the bytes left, where they are at most `limit`. It takes at most one byte more, and then answers
 /// `TooLong`. A call that fails is `ReadFault`.
+#[tactic(auto, using(crate::proofs::Known::consumes_both))]
 pub fn read_all<S: Source>(alloc: Global, source: &mut S, limit: u64) -> Result<Vec<u8>, ReadEnd>
     requires { limit ≤ 2 ^ 26 }
 
