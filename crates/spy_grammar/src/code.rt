@@ -1,6 +1,6 @@
 //! The codes of the rules that a log may break.
 
-/// Which rule a log breaks. `docs/FORMAT.md` has the rules, with the text of each code.
+/// Which rule a log breaks. So far only `Unbuilt` is told; the passes to come tell the others.
 #[derive(Clone, Copy, Debug, PartialEq, Eq)]
 pub enum Code {
     TooLong,

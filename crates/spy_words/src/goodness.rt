@@ -1,6 +1,6 @@
 //! Whether a meaning has a word.
 
-ghost use Rattle.std.specs.Prelude.{◌≡◌, ◌↔◌, IsTrue};
+ghost use Rattle.std.specs.Prelude.{◌↔◌, IsTrue};
 ghost use Rattle.std.specs.List.{AllByRecursion};
 ghost use Rattle.spy_words.specs.Classes.{fields, points, IsGood, IsNumberFrom, IsSpan, HasOperator, HoldsOperator};
 
