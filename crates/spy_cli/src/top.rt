@@ -51,6 +51,7 @@ fn report_on<S: Source>(alloc: Global, source: &mut S) -> Result<Report, ReportE
     ensures outcome { IfOk result (λ r. IfSome (S.left source.old) (λ bytes. IsOutcome bytes r.status r.text.items)) }
     ensures decided { IfOk result (λ r. IsDecided r.status) }
     ensures calm { OnOk result (S.faults source.new ≡ S.faults source.old) }
+    ensures calm_memory { IsErrOf result ReportEnd.Memory → S.faults source.new ≡ S.faults source.old }
     ensures read_fault { IsErrOf result ReportEnd.ReadFault → Rose (S.faults source.old) (S.faults source.new) }
 {
     let report = match read_all(alloc, source, MOST_BYTES) {
@@ -92,8 +93,17 @@ pub fn run<S: Source, K: Sink>(
         × Appends (K.held sink.old) (K.held sink.new) cannot_read_text }
     ensures write_fault { result ≡ Status.WriteFault → Rose (K.faults sink.old) (K.faults sink.new) }
 
-    // Without memory nothing is written.
+    // After a failed write the sink has got a part of the report, and nothing else.
+    ensures part_of_usage { result ≡ Status.WriteFault → are_taken (map string_bytes words.now.items) ≡ false
+        → Grows (K.held sink.old) (K.held sink.new) usage_text }
+    ensures part { (bytes : List ℕ) (status : Status) (text : List ℕ) → S.left source.old ≡ Some bytes → IsOutcome bytes status text
+        → are_taken (map string_bytes words.now.items) ≡ true → result ≡ Status.WriteFault
+        → Grows (K.held sink.old) (K.held sink.new) text
+        ⊎ (Rose (S.faults source.old) (S.faults source.new) × Grows (K.held sink.old) (K.held sink.new) cannot_read_text) }
+
+    // Without memory nothing is written, and no device failed.
     ensures memory { result ≡ Status.Memory → sink.new ≡ sink.old }
+    ensures calm_memory { result ≡ Status.Memory → S.faults source.new ≡ S.faults source.old }
 {
     one_outcome();
     if !takes_words(words) {

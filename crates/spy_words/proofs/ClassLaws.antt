@@ -180,7 +180,7 @@ dash_takes w read xs e = elim (chosen w (codes "-") (Ok []) read (Ok xs) e) [
 
 -- ---- order
 
-pub spans_told : (ps : List (ℕ × ℕ)) → spans_ascend ps ≡ true → SpansAscend ps
+spans_told : (ps : List (ℕ × ℕ)) → spans_ascend ps ≡ true → SpansAscend ps
 spans_told [] e = tt
 spans_told (p ∷ []) e = tt
 spans_told (p ∷ q ∷ ps) e =
@@ -188,12 +188,12 @@ spans_told (p ∷ q ∷ ps) e =
     let first : ltb p.1 q.0 ≡ true = grind (arith, nat_tests) in
     (ltb-true p.1 q.0 first, spans_told (q ∷ ps) rest)
 
-pub spans_kept : (ps : List (ℕ × ℕ)) → SpansAscend ps → spans_ascend ps ≡ true
+spans_kept : (ps : List (ℕ × ℕ)) → SpansAscend ps → spans_ascend ps ≡ true
 spans_kept [] h = refl
 spans_kept (p ∷ []) h = refl
 spans_kept (p ∷ q ∷ ps) h = rw (lt-ltb p.1 q.0 h.0, spans_kept (q ∷ ps) h.1) refl
 
-pub ascent_told : (ns : List ℕ) → ascends ns ≡ true → Ascends ns
+ascent_told : (ns : List ℕ) → ascends ns ≡ true → Ascends ns
 ascent_told [] e = tt
 ascent_told (n ∷ []) e = tt
 ascent_told (m ∷ n ∷ ns) e =
@@ -201,7 +201,7 @@ ascent_told (m ∷ n ∷ ns) e =
     let first : ltb m n ≡ true = grind (arith, nat_tests) in
     (ltb-true m n first, ascent_told (n ∷ ns) rest)
 
-pub ascent_kept : (ns : List ℕ) → Ascends ns → ascends ns ≡ true
+ascent_kept : (ns : List ℕ) → Ascends ns → ascends ns ≡ true
 ascent_kept [] h = refl
 ascent_kept (n ∷ []) h = refl
 ascent_kept (m ∷ n ∷ ns) h = rw (lt-ltb m n h.0, ascent_kept (n ∷ ns) h.1) refl
