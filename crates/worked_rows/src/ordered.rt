@@ -116,7 +116,7 @@ fn whole_logs(rt: HostRuntime) -> Result<(), Fail> {
         ),
         (b"", Status::Fault, b"fault 0 unbuilt\n"),
         (
-            b"legion-spy 1\nispace 1 0-3\nfields 1 1\ntree 1 1 1\ntask 1\nreq 1 1 1 1 rw ex\nrun 1 1 -\nend 6",
+            b"legion-spy 1\nispace 1 0-3\nfields 1 1\ntree 1 1 1\ntask 1\nreq 1 1 1 1 rw ex\ntask 2\nreq 2 1 1 1 ro ex\nrun 1 1 -\nrun 2 2 1\nend 9",
             Status::Fault,
             b"fault 0 unbuilt\n",
         ),
