@@ -1,17 +1,10 @@
 //! The texts of reports.
 
-ghost use Rattle.std.specs.Prelude.{◌≡◌, ◌++◌, decimal, IfOk, OnOk};
+ghost use Rattle.std.specs.Prelude.{◌≡◌, IfOk};
 ghost use Rattle.spy_cli.specs.Texts.{ordered_text, unordered_text};
 
-use itoa::Buffer;
+use spy_words::push_u64;
 use std::alloc::{AllocError, Global};
-
-fn push_number(text: &mut Vec<u8>, n: u64) -> Result<(), AllocError>
-    ensures { OnOk result (text.new.items ≡ text.old.items ++ decimal n) }
-{
-    let mut buffer = Buffer::new();
-    text.extend_from_slice(buffer.format(n).as_bytes())
-}
 
 /// The report that so many tasks are ordered, of which so many pairs interfere.
 #[tactic(auto, unfolding(crate::specs::Texts::ordered_text))]
@@ -19,9 +12,9 @@ pub fn ordered_report(alloc: Global, tasks: u64, pairs: u64) -> Result<Vec<u8>, 
     ensures { IfOk result (λ text. text.items ≡ ordered_text tasks pairs) }
 {
     let mut text = Vec::from_slice(alloc, b"ordered tasks ")?;
-    push_number(&mut text, tasks)?;
+    push_u64(&mut text, tasks)?;
     text.extend_from_slice(b" pairs ")?;
-    push_number(&mut text, pairs)?;
+    push_u64(&mut text, pairs)?;
     text.extend_from_slice(b"\n")?;
     Ok(text)
 }
@@ -32,9 +25,9 @@ pub fn unordered_report(alloc: Global, first: u64, second: u64) -> Result<Vec<u8
     ensures { IfOk result (λ text. text.items ≡ unordered_text first second) }
 {
     let mut text = Vec::from_slice(alloc, b"unordered ")?;
-    push_number(&mut text, first)?;
+    push_u64(&mut text, first)?;
     text.extend_from_slice(b" ")?;
-    push_number(&mut text, second)?;
+    push_u64(&mut text, second)?;
     text.extend_from_slice(b" tree 1 point 0 field 1\n")?;
     Ok(text)
 }

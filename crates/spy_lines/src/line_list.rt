@@ -44,6 +44,7 @@ impl LineList {
         LineList { bytes, ends }
     }
 
+    /// How many lines there are.
     pub fn len(&self) -> usize
         ensures { result ≡ length self.now }
     {

@@ -65,6 +65,7 @@ fn is_unended(bytes: &[u8]) -> bool
 }
 
 impl Lines {
+    /// No bytes so far.
     pub fn new(alloc: Global) -> Lines
         ensures { result ≡ [] }
     {

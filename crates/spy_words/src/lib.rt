@@ -22,6 +22,6 @@ pub use nums::Nums;
 pub use set::Set;
 pub use words::{event_of, id_of, number_of, words_in};
 pub use writing::{
-    coherence_text, push_access, push_layout, push_number, push_numbers, push_points, push_waits,
-    split_text,
+    coherence_text, push_access, push_layout, push_number, push_numbers, push_points, push_u64,
+    push_waits, split_text,
 };

@@ -8,7 +8,8 @@ use crate::access::{InstKind, PrivWord};
 use itoa::Buffer;
 use std::alloc::AllocError;
 
-fn push_point(out: &mut Vec<u8>, n: u64) -> Result<(), AllocError>
+/// A number of up to 64 bits.
+pub fn push_u64(out: &mut Vec<u8>, n: u64) -> Result<(), AllocError>
     ensures { OnOk result (out.new.items ≡ out.old.items ++ decimal n) }
 {
     let mut buffer = Buffer::new();
@@ -19,18 +20,18 @@ fn push_point(out: &mut Vec<u8>, n: u64) -> Result<(), AllocError>
 pub fn push_number(out: &mut Vec<u8>, n: u32) -> Result<(), AllocError>
     ensures { OnOk result (out.new.items ≡ out.old.items ++ decimal n) }
 {
-    push_point(out, u64::from(n))
+    push_u64(out, u64::from(n))
 }
 
 fn push_span(out: &mut Vec<u8>, first: u64, last: u64) -> Result<(), AllocError>
     ensures { OnOk result (out.new.items ≡ out.old.items ++ span_word (first, last)) }
 {
-    push_point(out, first)?;
+    push_u64(out, first)?;
     if first == last {
         return Ok(());
     }
     out.push(b'-')?;
-    push_point(out, last)
+    push_u64(out, last)
 }
 
 fn push_spans(out: &mut Vec<u8>, spans: &[(u64, u64)]) -> Result<(), AllocError>
