@@ -6,12 +6,16 @@ use Rattle.spy_grammar.specs.declared.record.Record.{Record}
 use Rattle.spy_grammar.specs.declared.record.Record.TheVariants.{Req}
 use Rattle.spy_grammar.specs.declared.record.Lined.{Lined}
 use Rattle.semantics.specs.Records.{records_of}
-use Rattle.semantics.specs.Tables.{Tables, with_record, place_of, reqs_before}
+use Rattle.semantics.specs.Tables.{place_of, reqs_before, privilege_of, coherence_of}
+use Rattle.log_decl.specs.TaskTables.{TaskTables, with_task_record}
+use Rattle.privilege.specs.declared.kinds.Priv.{Priv}
+use Rattle.privilege.specs.declared.kinds.Coherence.{Coherence}
 use Rattle.log_decl.specs.ThinTest.{is_task_of, is_req_of, are_tasks_from}
 
-pub req_added : (t : Tables) (line item count task tree space : ℕ) (numbers fields : List ℕ) (access : PrivWord) (atomic : Bool) (rec : Record) → item ≡ place_of t.items task → count ≡ reqs_before t.reqs item → numbers ≡ fields → rec ≡ Req task tree space fields access atomic
-    → record t { reqs = t.reqs ++ record { item = item; number = count + 1; line = line; tree = tree; space = space; fields = numbers; access = access; atomic = atomic } ∷ [] } ≡ with_record t line rec
-req_added t line item count task tree space numbers fields access atomic rec at of same is = rw (is, of, at, same) refl
+pub req_added : (t : TaskTables) (line item count task tree space : ℕ) (numbers fields : List ℕ) (word : PrivWord) (atomic : Bool) (access : Priv) (coherence : Coherence) (rec : Record)
+    → item ≡ place_of t.items task → count ≡ reqs_before t.reqs item → numbers ≡ fields → access ≡ privilege_of word → coherence ≡ coherence_of atomic → rec ≡ Req task tree space fields word atomic
+    → record t { reqs = t.reqs ++ record { item = item; number = count + 1; line = line; tree = tree; space = space; fields = numbers; access = access; coherence = coherence } ∷ [] } ≡ with_task_record t line rec
+req_added t line item count task tree space numbers fields word atomic access coherence rec at of same by how is = rw (is, of, at, same, by, how) refl
 
 pub task_taken : (i : ℕ) (xs : List Lined) (a b : Lined) → 2 ≤ length xs → a ≡ get_or xs 0 a → b ≡ get_or xs 1 b → is_task_of i a.rec ≡ true → is_req_of i b.rec ≡ true → are_tasks_from (i + 1) (records_of (take (length xs - 2) (drop 2 xs))) ≡ are_tasks_from i (records_of xs)
 task_taken i [] a b long p q e f = absurd (omega arith)

@@ -1,1 +1,2 @@
 pub mod ThinTest
+pub mod TaskTables

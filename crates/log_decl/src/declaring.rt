@@ -6,6 +6,7 @@ ghost use Rattle.spy_grammar.specs.declared.code.Code.TheVariants.{Unbuilt};
 ghost use Rattle.semantics.specs.Records.{records_of};
 ghost use Rattle.semantics.specs.Tables.{tables_of};
 ghost use Rattle.semantics.specs.Thin.{IsThinLog};
+ghost use Rattle.log_decl.specs.TaskTables.{task_tables};
 ghost use Rattle.log_decl.specs.declared.declaring.DeclEnd.TheVariants.{Memory};
 
 use crate::log_tables::Log;
@@ -33,7 +34,7 @@ impl From<AllocError> for DeclEnd {
 /// The tables of a log. So far a log has tables only where it is thin; all others are unbuilt, at line 0.
 /// `lines` is the number of lines of the input.
 pub fn declare(alloc: Global, records: &Vec<Lined>, lines: u32) -> Result<Log, DeclEnd>
-    ensures tables { IfOk result (λ log. log ≡ tables_of records.now.items) }
+    ensures tables { IfOk result (λ log. log ≡ task_tables (tables_of records.now.items)) }
     ensures thin { OnOk result (IsThinLog (records_of records.now.items)) }
     ensures fault { (line : ℕ) (code : Code) → result ≡ Err (DeclEnd.Fault line code)
         → (line ≡ 0) × (code ≡ Unbuilt) × (IsThinLog (records_of records.now.items) → ⊥) }

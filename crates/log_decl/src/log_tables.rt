@@ -1,14 +1,16 @@
 //! The tables of a log.
 
 ghost use Rattle.std.specs.Prelude.{◌≡◌, ◌++◌, ◌∷◌, [], ◌+◌, ◌-◌, ◌^◌, ◌<◌, ◌≤◌, ◌==◌, length, position, IfOk, OnOk};
-ghost use Rattle.semantics.specs.Tables.{with_record, no_tables, place_of, reqs_before};
+ghost use Rattle.semantics.specs.Tables.{place_of, reqs_before, privilege_of, coherence_of};
+ghost use Rattle.log_decl.specs.TaskTables.{with_task_record, no_task_tables};
 
+use privilege::{Coherence, Priv};
 use semantics::{Item, ItemBody, LogNode, Op, Req};
-use spy_grammar::{Nums, Record};
+use spy_grammar::{Nums, PrivWord, Record};
 use std::alloc::{AllocError, Global};
 use std::marker::Model;
 
-/// What a log declares. Contracts see its tables.
+/// What a log declares, so far of a thin log: contracts see its items, its requirements and its nodes.
 #[derive(Debug, Drop)]
 pub struct Log {
     items: Vec<Item>,
@@ -17,9 +19,9 @@ pub struct Log {
 }
 
 impl Model for Log {
-    ghost use Rattle.semantics.specs.Tables.{Tables};
+    ghost use Rattle.log_decl.specs.TaskTables.{TaskTables};
 
-    ghost Value = { Tables };
+    ghost Value = { TaskTables };
 
     ghost view = { λ l. record { items = l.items.items; reqs = l.reqs.items; nodes = l.nodes.items } };
 }
@@ -37,10 +39,33 @@ fn position_of(items: &[Item], id: u32) -> Option<usize>
     items.iter().position(|item| item.id == id)
 }
 
+/// The privilege that a word spells.
+fn priv_of(word: PrivWord) -> Priv
+    ensures { result ≡ privilege_of word }
+{
+    match word {
+        PrivWord::Ro => Priv::Ro,
+        PrivWord::Rw => Priv::Rw,
+        PrivWord::Wd => Priv::Wd,
+        PrivWord::Red(op) => Priv::Red(op),
+    }
+}
+
+/// The coherence, by whether it is atomic.
+fn coherence_word(atomic: bool) -> Coherence
+    ensures { result ≡ coherence_of atomic }
+{
+    if atomic {
+        Coherence::Atomic
+    } else {
+        Coherence::Exclusive
+    }
+}
+
 impl Log {
     /// Nothing is declared.
     pub(crate) fn new(alloc: Global) -> Log
-        ensures { result ≡ no_tables }
+        ensures { result ≡ no_task_tables }
     {
         Log {
             items: Vec::new(alloc),
@@ -99,7 +124,7 @@ impl Log {
     /// What one record more declares.
     pub(crate) fn add(&mut self, alloc: Global, line: u32, rec: &Record) -> Result<(), AllocError>
         requires { length self.old.reqs < 2 ^ 32 - 1 }
-        ensures added { OnOk result (self.new ≡ with_record self.old line rec.now) }
+        ensures added { OnOk result (self.new ≡ with_task_record self.old line rec.now) }
         ensures few { OnOk result (length self.new.reqs ≤ length self.old.reqs + 1) }
     {
         match rec {
@@ -126,8 +151,8 @@ impl Log {
                     tree: *tree,
                     space: *space,
                     fields,
-                    access: *access,
-                    atomic: *atomic,
+                    access: priv_of(*access),
+                    coherence: coherence_word(*atomic),
                 })?;
             }
             Record::Run { task, done, waits } => {

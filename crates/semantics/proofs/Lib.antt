@@ -2,3 +2,4 @@ pub mod Texts
 pub mod ThinRecords
 pub mod ThinTables
 pub mod WorkedProofs
+pub mod WorkedRaces

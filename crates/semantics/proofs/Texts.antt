@@ -5,7 +5,8 @@ use Rattle.std.proofs.lemmas.List.Elements.{recursion_from_All}
 use Rattle.spy_grammar.specs.declared.record.Record.{Record}
 use Rattle.spy_grammar.specs.declared.record.Lined.{Lined}
 use Rattle.spy_grammar.specs.Spelling.{spelling, Good}
-use Rattle.semantics.specs.Records.{text_of, records_of, StandsFrom, Spells}
+use Rattle.semantics.specs.Records.{text_of, records_of}
+use Rattle.semantics.specs.Thin.{StandsFrom, Spells}
 
 abbrev pub OneSpelling : Type 0
 OneSpelling = (r s : Record) → Good r → Good s → spelling r ≡ spelling s → r ≡ s

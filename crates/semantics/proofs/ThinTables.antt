@@ -6,13 +6,19 @@ use Rattle.spy_grammar.specs.declared.record.Record.{Record}
 use Rattle.spy_grammar.specs.declared.record.Record.TheVariants as records
 use Rattle.spy_grammar.specs.declared.record.Lined.{Lined}
 use Rattle.semantics.specs.Records.{records_of}
-use Rattle.semantics.specs.Events.{Node, GoesBack}
-use Rattle.semantics.specs.Tables.{Tables, with_record, no_tables, tables_of, graph_of, is_write, writes_in}
-use Rattle.semantics.specs.Thin.{ThinTask, ThinLog, access_of, task_records, run_records, thin_records, WaitsBack, writes_of, runs_from, runs_of}
+use Rattle.semantics.specs.Events.{Node, graph_of}
+use Rattle.semantics.specs.TaskOrder.{is_write, writes_in}
+use Rattle.semantics.specs.Tables.{Tables, privilege_of, with_record, no_tables, tables_of}
+use Rattle.semantics.specs.Thin.{GoesBack, ThinTask, ThinLog, access_of, task_records, run_records, thin_records, WaitsBack, writes_of, runs_from, runs_of}
 
 -- the node, and the requirement's privilege, that a record declares
 abbrev node_of : Record → List Node
 node_of (records.Run task done waits) = record { done = done; waits = waits } ∷ []
+node_of (records.Copy src dst space fields done waits) = record { done = done; waits = waits } ∷ []
+node_of (records.Put inst space fields n done waits) = record { done = done; waits = waits } ∷ []
+node_of (records.Reset inst space fields done waits) = record { done = done; waits = waits } ∷ []
+node_of (records.Fold src dst space fields done waits) = record { done = done; waits = waits } ∷ []
+node_of (records.Merge done waits) = record { done = done; waits = waits } ∷ []
 node_of _ = []
 
 abbrev nodes_in : List Record → List Node
@@ -20,7 +26,7 @@ nodes_in [] = []
 nodes_in (r ∷ rs) = node_of r ++ nodes_in rs
 
 abbrev write_of : Record → List Bool
-write_of (records.Req task tree space fields access atomic) = is_write access ∷ []
+write_of (records.Req task tree space fields access atomic) = is_write (privilege_of access) ∷ []
 write_of _ = []
 
 abbrev writes_among : List Record → List Bool
@@ -29,6 +35,11 @@ writes_among (r ∷ rs) = write_of r ++ writes_among rs
 
 node_added : (t : Tables) (line : ℕ) (r : Record) → graph_of (with_record t line r).nodes ≡ graph_of t.nodes ++ node_of r
 node_added t line (records.Run task done waits) = map-append _ t.nodes _
+node_added t line (records.Copy src dst space fields done waits) = map-append _ t.nodes _
+node_added t line (records.Put inst space fields n done waits) = map-append _ t.nodes _
+node_added t line (records.Reset inst space fields done waits) = map-append _ t.nodes _
+node_added t line (records.Fold src dst space fields done waits) = map-append _ t.nodes _
+node_added t line (records.Merge done waits) = map-append _ t.nodes _
 node_added t line _ = sym (append-nil (graph_of t.nodes))
 
 write_added : (t : Tables) (line : ℕ) (r : Record) → writes_in (with_record t line r).reqs ≡ writes_in t.reqs ++ write_of r
@@ -51,7 +62,7 @@ nodes_of_runs : (i : ℕ) (ts : List ThinTask) (n : ℕ) → nodes_in (run_recor
 nodes_of_runs i [] n = refl
 nodes_of_runs i (t ∷ ts) n = ap (λ ns. record { done = i; waits = t.waits } ∷ ns) (nodes_of_runs (i + 1) ts n)
 
-access_writes : (w : Bool) → is_write (access_of w) ≡ w
+access_writes : (w : Bool) → is_write (privilege_of (access_of w)) ≡ w
 access_writes true = refl
 access_writes false = refl
 

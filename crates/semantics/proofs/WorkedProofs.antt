@@ -6,9 +6,9 @@ use Rattle.semantics.specs.Records.{text_of}
 use Rattle.semantics.specs.Events.{Node, WaitsOn, Before}
 use Rattle.semantics.specs.Thin.{IsThin, runs_of, writes_of}
 use Rattle.semantics.specs.TaskOrder.{IsShown, IsOrdered}
-use Rattle.semantics.specs.WorkedLogs.{two_tasks, two_tasks_unordered, two_tasks_records, two_tasks_text}
+use Rattle.semantics.specs.WorkedLogs.{two_tasks, two_tasks_unordered, unmapped, two_tasks_text}
 
-pub worked_text : text_of two_tasks_records ≡ two_tasks_text
+pub worked_text : text_of unmapped ≡ two_tasks_text
 unfolding spelling digits
 worked_text = refl
 

@@ -1,10 +1,15 @@
--- Nodes, what they wait on, and which is before which.
-use Rattle.std.specs.Prelude.{◌≡◌, ℕ, ◌+◌, ◌≤◌, List, [], ◌∷◌, Some, Contains, slice_get}
+-- Nodes, what they wait on, and which is before which. Nodes are named by position.
+use Rattle.std.specs.Prelude.{◌≡◌, ◌≢◌, ℕ, List, [], ◌∷◌, map, Some, Contains, AllPairs, slice_get}
+use Rattle.semantics.specs.declared.tables.LogNode.{LogNode}
 
 -- A node: its completion event, and the events that it waits on.
 pub record Node : Type 0 where
   pub done : ℕ
   pub waits : List ℕ
+
+-- The nodes of a log, by their events alone.
+abbrev pub graph_of : List LogNode → List Node
+graph_of nodes = map (λ (n : LogNode). record { done = n.done; waits = n.waits }) nodes
 
 -- The node at position `later` waits on the node at position `earlier`: it lists that node's event.
 pub record WaitsOn (nodes : List Node) (later earlier : ℕ) : Type 0 where
@@ -23,7 +28,12 @@ IsChain nodes start (next ∷ between) end = WaitsOn nodes next start × IsChain
 abbrev pub Before : List Node → ℕ → ℕ → Type 0
 Before nodes a b = (between : List ℕ) × IsChain nodes a between b
 
--- The nodes are numbered: the event of each is its place, counted from 1, and each waits on nodes before it alone.
-pub record GoesBack (nodes : List Node) : Type 0 where
-  pub numbered : (k : ℕ) (n : Node) → slice_get nodes k ≡ Some n → n.done ≡ k + 1
-  pub back : (k : ℕ) (n : Node) (wait : ℕ) → slice_get nodes k ≡ Some n → Contains n.waits wait → (1 ≤ wait) × (wait ≤ k)
+-- A cycle: nodes, at least one and each once, of which each is waited on by the next, and the last by the first.
+abbrev pub IsCycle : List Node → List ℕ → Type 0
+IsCycle nodes [] = ⊥
+IsCycle nodes (first ∷ rest) = AllPairs (λ a b. a ≢ b) (first ∷ rest) × IsChain nodes first rest first
+
+-- The nodes' events are all different, and each event that a node waits on is that of some node.
+pub record AreLinked (nodes : List Node) : Type 0 where
+  pub apart : AllPairs (λ (m : Node) n. m.done ≢ n.done) nodes
+  pub linked : (n : Node) (event : ℕ) → Contains nodes n → Contains n.waits event → (m : Node) × Contains nodes m × (m.done ≡ event)

@@ -1,9 +1,10 @@
 -- Lines and records.
-use Rattle.std.specs.Prelude.{◌≡◌, ℕ, ◌+◌, List, [], ◌∷◌, ◌++◌, map}
-use Rattle.std.specs.List.{AllByRecursion}
+use Rattle.std.specs.Prelude.{◌≡◌, ℕ, ◌+◌, ◌-◌, ◌==◌, true, List, [], ◌∷◌, ◌++◌, map, length, take, drop, ◌⊎◌}
+use Rattle.std.specs.List.{slice_split}
 use Rattle.spy_grammar.specs.declared.record.Record.{Record}
 use Rattle.spy_grammar.specs.declared.record.Lined.{Lined}
 use Rattle.spy_grammar.specs.Spelling.{spelling, Good}
+use Rattle.spy_grammar.specs.Reading.{is_passed_over}
 
 -- The text of some records: the spelling of each in turn, and a line feed after each.
 abbrev pub text_of : List Record → List ℕ
@@ -14,13 +15,22 @@ text_of (r ∷ rs) = spelling r ++ 10 ∷ text_of rs
 abbrev pub records_of : List Lined → List Record
 records_of log = map (λ (l : Lined). l.rec) log
 
--- The records stand on lines that follow each other, from this line on.
-abbrev pub StandsFrom : ℕ → List Lined → Type 0
-StandsFrom line [] = Unit {0}
-StandsFrom line (l ∷ log) = (l.line ≡ line) × StandsFrom (line + 1) log
+-- The parts of an input at each line feed: its lines, and at last what stands behind the last line feed.
+abbrev pub parts_of : List ℕ → List (List ℕ)
+parts_of bytes = slice_split (λ b. b == 10) bytes
 
--- The bytes are the records of the log and nothing else: each line spells one record, and ends with a line feed.
-pub record Spells (bytes : List ℕ) (log : List Lined) : Type 0 where
-  pub good : AllByRecursion Good (records_of log)
-  pub text : bytes ≡ text_of (records_of log)
-  pub lines : StandsFrom 1 log
+-- How many lines are ended by a line feed.
+abbrev pub line_count : List ℕ → ℕ
+line_count bytes = length (parts_of bytes) - 1
+
+-- Some lines, numbered from `number`, hold these records and no others: each line is blank or a comment, or spells the next record, which stands on the line of that number.
+abbrev pub Hold : ℕ → List (List ℕ) → List Lined → Type 0
+Hold number [] log = log ≡ []
+Hold number (line ∷ lines) log =
+    ((is_passed_over line ≡ true) × Hold (number + 1) lines log)
+    ⊎ ((r : Record) × (rest : List Lined) × Good r × (line ≡ spelling r) × (log ≡ record { line = number; rec = r } ∷ rest) × Hold (number + 1) lines rest)
+
+-- The input is lines, each ended by a line feed, that hold the records of the log.
+pub record Reads (bytes : List ℕ) (log : List Lined) : Type 0 where
+  pub ended : drop (line_count bytes) (parts_of bytes) ≡ [] ∷ []
+  pub hold : Hold 1 (take (line_count bytes) (parts_of bytes)) log

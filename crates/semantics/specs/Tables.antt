@@ -1,22 +1,99 @@
--- What a log declares, as plain lists.
-use Rattle.std.specs.Prelude.{ℕ, Bool, true, false, ◌+◌, ◌==◌, List, [], ◌∷◌, ◌++◌, fold, map, count_by, position, length, unwrap_or}
+-- What a log declares, as plain lists in the order of the lines.
+use Rattle.std.specs.Prelude.{ℕ, zero, suc, Bool, true, false, ◌+◌, ◌-◌, ◌==◌, List, [], ◌∷◌, ◌++◌, fold, count_by, position, length, unwrap_or}
+use Rattle.privilege.specs.declared.kinds.Priv.{Priv}
+use Rattle.privilege.specs.declared.kinds.Priv.TheVariants as privileges
+use Rattle.privilege.specs.declared.kinds.Coherence.{Coherence}
+use Rattle.privilege.specs.declared.kinds.Coherence.TheVariants.{Exclusive, Atomic}
 use Rattle.spy_words.specs.declared.access.PrivWord.{PrivWord}
-use Rattle.spy_words.specs.declared.access.PrivWord.TheVariants as privileges
+use Rattle.spy_words.specs.declared.access.PrivWord.TheVariants as words
 use Rattle.spy_grammar.specs.declared.record.Record.{Record}
 use Rattle.spy_grammar.specs.declared.record.Record.TheVariants as records
 use Rattle.spy_grammar.specs.declared.record.Lined.{Lined}
 use Rattle.semantics.specs.declared.tables.Item.{Item}
+use Rattle.semantics.specs.declared.tables.ItemBody.{ItemBody}
 use Rattle.semantics.specs.declared.tables.ItemBody.TheVariants as bodies
 use Rattle.semantics.specs.declared.tables.Req.{Req}
+use Rattle.semantics.specs.declared.tables.Inst.{Inst}
 use Rattle.semantics.specs.declared.tables.LogNode.{LogNode}
+use Rattle.semantics.specs.declared.tables.Op.{Op}
 use Rattle.semantics.specs.declared.tables.Op.TheVariants as operations
-use Rattle.semantics.specs.Events.{Node}
 
--- The items in program order, the requirements and the nodes, each in the order of their lines.
+-- An index space: its points, ascending.
+pub record Space : Type 0 where
+  pub id : ℕ
+  pub points : List ℕ
+
+-- A partition: the space that it splits, and whether its subspaces have to be disjoint.
+pub record Part : Type 0 where
+  pub id : ℕ
+  pub space : ℕ
+  pub disjoint : Bool
+
+-- A subspace: the space that a partition has at a colour.
+pub record Sub : Type 0 where
+  pub part : ℕ
+  pub colour : ℕ
+  pub space : ℕ
+
+-- A field space: its fields, ascending.
+pub record FieldSpace : Type 0 where
+  pub id : ℕ
+  pub fields : List ℕ
+
+-- A region tree: its root space and its field space.
+pub record Tree : Type 0 where
+  pub id : ℕ
+  pub space : ℕ
+  pub fspace : ℕ
+
+-- Items that a line lists in serial order.
+pub record Serial : Type 0 where
+  pub line : ℕ
+  pub ids : List ℕ
+
+-- The instance to which some fields of a requirement are mapped. The requirement is named by the position of its item, and by its number there.
+pub record Map : Type 0 where
+  pub item : ℕ
+  pub number : ℕ
+  pub fields : List ℕ
+  pub inst : ℕ
+
+-- All that a log declares.
 pub record Tables : Type 0 where
+  pub spaces : List Space
+  pub parts : List Part
+  pub subs : List Sub
+  pub field_spaces : List FieldSpace
+  pub trees : List Tree
+  pub operators : List ℕ
   pub items : List Item
   pub reqs : List Req
+  pub serials : List Serial
+  pub insts : List Inst
+  pub maps : List Map
   pub nodes : List LogNode
+
+-- So many numbers, from a first one upward.
+abbrev pub numbers_from : ℕ → ℕ → List ℕ
+numbers_from first zero = []
+numbers_from first (suc n) = first ∷ numbers_from (first + 1) n
+
+-- The points of a set, whose parts are each a first and a last point.
+abbrev pub points_of : List (ℕ × ℕ) → List ℕ
+points_of [] = []
+points_of (p ∷ ps) = numbers_from p.0 (p.1 + 1 - p.0) ++ points_of ps
+
+-- The privilege that a word spells.
+abbrev pub privilege_of : PrivWord → Priv
+privilege_of words.Ro = privileges.Ro
+privilege_of words.Rw = privileges.Rw
+privilege_of words.Wd = privileges.Wd
+privilege_of (words.Red op) = privileges.Red op
+
+-- The coherence, by whether it is atomic.
+abbrev pub coherence_of : Bool → Coherence
+coherence_of true = Atomic
+coherence_of false = Exclusive
 
 -- The position of the first item with this id, and the number of items where none has it.
 abbrev pub place_of : List Item → ℕ → ℕ
@@ -26,31 +103,40 @@ place_of items id = unwrap_or (position (λ (i : Item). i.id == id) items) (leng
 abbrev pub reqs_before : List Req → ℕ → ℕ
 reqs_before reqs item = count_by (λ (r : Req). r.item == item) reqs
 
+-- The tables with one item, or one node, more.
+abbrev pub with_item : Tables → ℕ → ℕ → ItemBody → Tables
+with_item t line id body = record t { items = t.items ++ record { id = id; line = line; body = body } ∷ [] }
+
+abbrev pub with_node : Tables → ℕ → ℕ → List ℕ → Op → Tables
+with_node t line done waits op = record t { nodes = t.nodes ++ record { line = line; done = done; waits = waits; op = op } ∷ [] }
+
 -- The tables with what one record more declares.
 abbrev pub with_record : Tables → ℕ → Record → Tables
-with_record t line (records.Task id) = record t { items = t.items ++ record { id = id; line = line; body = bodies.Task } ∷ [] }
-with_record t line (records.Req task tree space fields access atomic) = record t { reqs = t.reqs ++ record { item = place_of t.items task; number = reqs_before t.reqs (place_of t.items task) + 1; line = line; tree = tree; space = space; fields = fields; access = access; atomic = atomic } ∷ [] }
-with_record t line (records.Run task done waits) = record t { nodes = t.nodes ++ record { line = line; done = done; waits = waits; op = operations.Run (place_of t.items task) } ∷ [] }
-with_record t line _ = t
+with_record t line (records.Header version) = t
+with_record t line (records.Ispace id set) = record t { spaces = t.spaces ++ record { id = id; points = points_of set } ∷ [] }
+with_record t line (records.Part id space disjoint) = record t { parts = t.parts ++ record { id = id; space = space; disjoint = disjoint } ∷ [] }
+with_record t line (records.Sub part colour space) = record t { subs = t.subs ++ record { part = part; colour = colour; space = space } ∷ [] }
+with_record t line (records.Fields id fields) = record t { field_spaces = t.field_spaces ++ record { id = id; fields = fields } ∷ [] }
+with_record t line (records.Tree id space fspace) = record t { trees = t.trees ++ record { id = id; space = space; fspace = fspace } ∷ [] }
+with_record t line (records.Redop id) = record t { operators = t.operators ++ id ∷ [] }
+with_record t line (records.Task id) = with_item t line id bodies.Task
+with_record t line (records.Req task tree space fields access atomic) = record t { reqs = t.reqs ++ record { item = place_of t.items task; number = reqs_before t.reqs (place_of t.items task) + 1; line = line; tree = tree; space = space; fields = fields; access = privilege_of access; coherence = coherence_of atomic } ∷ [] }
+with_record t line (records.Fill id tree space fields n) = with_item t line id (bodies.Fill tree space fields n)
+with_record t line (records.Serial ids) = record t { serials = t.serials ++ record { line = line; ids = ids } ∷ [] }
+with_record t line (records.Inst id tree space fields kind) = record t { insts = t.insts ++ record { id = id; tree = tree; space = space; fields = fields; kind = kind } ∷ [] }
+with_record t line (records.Map task number fields inst) = record t { maps = t.maps ++ record { item = place_of t.items task; number = number; fields = fields; inst = inst } ∷ [] }
+with_record t line (records.Run task done waits) = with_node t line done waits (operations.Run (place_of t.items task))
+with_record t line (records.Copy src dst space fields done waits) = with_node t line done waits (operations.Copy src dst space fields)
+with_record t line (records.Put inst space fields n done waits) = with_node t line done waits (operations.Put inst space fields n)
+with_record t line (records.Reset inst space fields done waits) = with_node t line done waits (operations.Reset inst space fields)
+with_record t line (records.Fold src dst space fields done waits) = with_node t line done waits (operations.Fold src dst space fields)
+with_record t line (records.Merge done waits) = with_node t line done waits operations.Merge
+with_record t line (records.End n) = t
 
+-- Nothing is declared.
 abbrev pub no_tables : Tables
-no_tables = record { items = []; reqs = []; nodes = [] }
+no_tables = record { spaces = []; parts = []; subs = []; field_spaces = []; trees = []; operators = []; items = []; reqs = []; serials = []; insts = []; maps = []; nodes = [] }
 
 -- The tables of a log.
 abbrev pub tables_of : List Lined → Tables
 tables_of log = fold (λ t (l : Lined). with_record t l.line l.rec) no_tables log
-
--- The nodes of a log, by their events alone.
-abbrev pub graph_of : List LogNode → List Node
-graph_of nodes = map (λ (n : LogNode). record { done = n.done; waits = n.waits }) nodes
-
--- Whether a privilege writes.
-abbrev pub is_write : PrivWord → Bool
-is_write privileges.Ro = false
-is_write privileges.Rw = true
-is_write privileges.Wd = true
-is_write (privileges.Red op) = true
-
--- Which requirements write.
-abbrev pub writes_in : List Req → List Bool
-writes_in reqs = map (λ (r : Req). is_write r.access) reqs

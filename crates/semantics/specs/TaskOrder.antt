@@ -1,5 +1,8 @@
 -- Whether the runs of tasks that touch the same data are ordered as the tasks are. Tasks and their runs are named by position.
-use Rattle.std.specs.Prelude.{◌≡◌, ℕ, ◌+◌, ◌<◌, ◌≤◌, ◌⊎◌, Bool, true, List, [], ◌∷◌, length, Some, slice_get, count_by, if◌then◌else◌}
+use Rattle.std.specs.Prelude.{◌≡◌, ℕ, ◌+◌, ◌<◌, ◌≤◌, ◌⊎◌, Bool, true, false, List, [], ◌∷◌, length, Some, slice_get, count_by, map, if◌then◌else◌}
+use Rattle.privilege.specs.declared.kinds.Priv.{Priv}
+use Rattle.privilege.specs.declared.kinds.Priv.TheVariants as privileges
+use Rattle.semantics.specs.declared.tables.Req.{Req}
 use Rattle.semantics.specs.Events.{Node, Before}
 
 -- Two tasks, the first earlier in program order, that interfere: one of them writes at least. (`writes` tells of each task whether it does.)
@@ -26,3 +29,14 @@ IsOrdered writes nodes = (a b : ℕ) → IsUnordered writes nodes a b → ⊥
 abbrev pub pair_count : List Bool → ℕ
 pair_count [] = 0
 pair_count (w ∷ ws) = (if w then length ws else count_by (λ v. v) ws) + pair_count ws
+
+-- Whether a privilege writes.
+abbrev pub is_write : Priv → Bool
+is_write privileges.Ro = false
+is_write privileges.Rw = true
+is_write privileges.Wd = true
+is_write (privileges.Red op) = true
+
+-- Which requirements write.
+abbrev pub writes_in : List Req → List Bool
+writes_in reqs = map (λ (r : Req). is_write r.access) reqs

@@ -1,12 +1,25 @@
 -- Thin logs: one region that every task reads or writes whole, and one run of each task.
-use Rattle.std.specs.Prelude.{◌≡◌, ℕ, ◌+◌, ◌*◌, ◌^◌, ◌<◌, ◌≤◌, Bool, false, List, [], ◌∷◌, ◌++◌, length, map, if◌then◌else◌}
+use Rattle.std.specs.Prelude.{◌≡◌, ℕ, ◌+◌, ◌*◌, ◌^◌, ◌<◌, ◌≤◌, Bool, false, List, [], ◌∷◌, ◌++◌, length, map, Some, Contains, slice_get, if◌then◌else◌}
 use Rattle.std.specs.List.{AllByRecursion}
 use Rattle.spy_words.specs.declared.access.PrivWord.{PrivWord}
 use Rattle.spy_words.specs.declared.access.PrivWord.TheVariants.{Ro, Rw}
 use Rattle.spy_grammar.specs.declared.record.Record.{Record}
 use Rattle.spy_grammar.specs.declared.record.Record.TheVariants as records
-use Rattle.semantics.specs.Records.{text_of}
+use Rattle.spy_grammar.specs.declared.record.Lined.{Lined}
+use Rattle.spy_grammar.specs.Spelling.{Good}
+use Rattle.semantics.specs.Records.{text_of, records_of}
 use Rattle.semantics.specs.Events.{Node}
+
+-- The records stand on lines that follow each other, from this line on.
+abbrev pub StandsFrom : ℕ → List Lined → Type 0
+StandsFrom line [] = Unit {0}
+StandsFrom line (l ∷ log) = (l.line ≡ line) × StandsFrom (line + 1) log
+
+-- The bytes are the records of the log and nothing else: each line spells one record, and ends with a line feed.
+pub record Spells (bytes : List ℕ) (log : List Lined) : Type 0 where
+  pub good : AllByRecursion Good (records_of log)
+  pub text : bytes ≡ text_of (records_of log)
+  pub lines : StandsFrom 1 log
 
 -- A task of a thin log: whether it writes, and the events that its run waits on.
 pub record ThinTask : Type 0 where
@@ -73,3 +86,8 @@ runs_from i (t ∷ ts) = record { done = i; waits = t.waits } ∷ runs_from (i +
 
 abbrev pub runs_of : List ThinTask → List Node
 runs_of tasks = runs_from 1 tasks
+
+-- The nodes are numbered: the event of each is its place, counted from 1, and each waits on nodes before it alone.
+pub record GoesBack (nodes : List Node) : Type 0 where
+  pub numbered : (k : ℕ) (n : Node) → slice_get nodes k ≡ Some n → n.done ≡ k + 1
+  pub back : (k : ℕ) (n : Node) (wait : ℕ) → slice_get nodes k ≡ Some n → Contains n.waits wait → (1 ≤ wait) × (wait ≤ k)

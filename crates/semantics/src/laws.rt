@@ -5,10 +5,11 @@ ghost use Rattle.std.specs.List.{AllByRecursion};
 ghost use Rattle.spy_grammar.specs.declared.record.Record.{Record};
 ghost use Rattle.spy_grammar.specs.declared.record.Lined.{Lined};
 ghost use Rattle.spy_grammar.specs.Spelling.{Good};
-ghost use Rattle.semantics.specs.Records.{text_of, records_of, Spells};
-ghost use Rattle.semantics.specs.Events.{GoesBack};
-ghost use Rattle.semantics.specs.Tables.{tables_of, graph_of, writes_in};
-ghost use Rattle.semantics.specs.Thin.{ThinLog, IsThin, thin_records, runs_of, writes_of, SpellsThin};
+ghost use Rattle.semantics.specs.Records.{text_of, records_of};
+ghost use Rattle.semantics.specs.Events.{graph_of};
+ghost use Rattle.semantics.specs.TaskOrder.{writes_in};
+ghost use Rattle.semantics.specs.Tables.{tables_of};
+ghost use Rattle.semantics.specs.Thin.{GoesBack, Spells, ThinLog, IsThin, thin_records, runs_of, writes_of, SpellsThin};
 
 use spy_grammar::{one_spelling, spelling_is_one_line};
 

@@ -2,6 +2,8 @@
 #![tactic(auto)]
 
 mod laws;
+mod moves;
+mod places;
 mod tables;
 mod worked;
 
@@ -9,5 +11,7 @@ pub use laws::{
     one_log, one_thin_log, reads_on, records_are_few, thin_logs_are_logs, thin_records_are_good,
     thin_tables,
 };
-pub use tables::{Item, ItemBody, LogNode, Op, Req};
-pub use worked::worked_logs;
+pub use moves::Move;
+pub use places::{Cell, Place};
+pub use tables::{Inst, Item, ItemBody, LogNode, Op, Req};
+pub use worked::{worked_logs, worked_thin_logs};

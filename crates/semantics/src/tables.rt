@@ -1,11 +1,20 @@
-//! What a log declares, entry by entry.
+//! What a log declares, entry by entry. A number that names a thing is its id, unless it is said to be a position.
 
-use spy_grammar::{Nums, PrivWord};
+use privilege::{Coherence, Priv};
+use spy_grammar::{InstKind, Nums};
 
 /// What an item is.
-#[derive(Clone, Copy, Debug, PartialEq, Eq)]
+#[derive(Debug, Drop)]
 pub enum ItemBody {
+    /// A task. What it does is said by its requirements.
     Task,
+    /// A fill puts the constant `n` at each place that it covers.
+    Fill {
+        tree: u32,
+        space: u32,
+        fields: Nums,
+        n: u32,
+    },
 }
 
 /// An item of program order, the order of the lines.
@@ -27,15 +36,56 @@ pub struct Req {
     pub tree: u32,
     pub space: u32,
     pub fields: Nums,
-    pub access: PrivWord,
-    pub atomic: bool,
+    pub access: Priv,
+    pub coherence: Coherence,
+}
+
+/// An instance: a copy of the data of some points and fields of a region tree.
+#[derive(Debug, Drop)]
+pub struct Inst {
+    pub id: u32,
+    pub tree: u32,
+    pub space: u32,
+    pub fields: Nums,
+    pub kind: InstKind,
 }
 
 /// What a node of the recorded run does.
-#[derive(Clone, Copy, Debug, PartialEq, Eq)]
+#[derive(Debug, Drop)]
 pub enum Op {
     /// It runs the task at this position among the items.
-    Run { item: usize },
+    Run {
+        item: usize,
+    },
+    /// It copies data from one instance into another.
+    Copy {
+        src: u32,
+        dst: u32,
+        space: u32,
+        fields: Nums,
+    },
+    /// It puts the constant `n` into an instance.
+    Put {
+        inst: u32,
+        space: u32,
+        fields: Nums,
+        n: u32,
+    },
+    /// It empties a reduction instance.
+    Reset {
+        inst: u32,
+        space: u32,
+        fields: Nums,
+    },
+    /// It folds what a reduction instance has gathered into another instance.
+    Fold {
+        src: u32,
+        dst: u32,
+        space: u32,
+        fields: Nums,
+    },
+    /// It does nothing but wait.
+    Merge,
 }
 
 /// A node of the recorded run: its completion event, and the events that it waits on.

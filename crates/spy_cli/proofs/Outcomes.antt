@@ -6,11 +6,14 @@ use Rattle.std.proofs.lemmas.List.{length-map}
 use Rattle.spy_io.specs.Causes.{TakesExactly}
 use Rattle.spy_io.specs.declared.Memory.{Memory as NoMemory}
 use Rattle.spy_grammar.specs.declared.record.Lined.{Lined}
-use Rattle.semantics.specs.Records.{text_of, records_of, Spells}
-use Rattle.semantics.specs.Tables.{Tables, tables_of, graph_of, writes_in}
+use Rattle.semantics.specs.Records.{text_of, records_of}
+use Rattle.semantics.specs.Tables.{tables_of}
+use Rattle.semantics.specs.TaskOrder.{writes_in}
+use Rattle.semantics.specs.Events.{graph_of}
+use Rattle.log_decl.specs.TaskTables.{TaskTables, task_tables}
 use Rattle.spy_cli.specs.declared.judging.Report.{Report}
 use Rattle.semantics.specs.Events.{Node}
-use Rattle.semantics.specs.Thin.{ThinLog, thin_records, writes_of, runs_of, IsThin, IsThinLog, SpellsThin}
+use Rattle.semantics.specs.Thin.{Spells, ThinLog, thin_records, writes_of, runs_of, IsThin, IsThinLog, SpellsThin}
 use Rattle.semantics.specs.TaskOrder.{IsShown, IsOrdered}
 use Rattle.spy_cli.specs.declared.status.Status.{Status}
 use Rattle.spy_cli.specs.declared.status.Status.TheVariants.{Yes, Refused, Fault}
@@ -95,7 +98,7 @@ other_log_no_thin one logs bytes log spells none thin spelled =
     none (thin, spelled.within, ap records_of (one bytes log found.0 spells found.1) ∙ found.2)
 
 -- what the tables of a thin log say of its tasks
-pub record Known (thin : ThinLog) (t : Tables) : Type 0 where
+pub record Known (thin : ThinLog) (t : TaskTables) : Type 0 where
   pub nodes : graph_of t.nodes ≡ runs_of thin.tasks
   pub writes : writes_in t.reqs ≡ writes_of thin.tasks
   pub reqs_many : length t.reqs ≡ length thin.tasks
@@ -104,10 +107,10 @@ pub record Known (thin : ThinLog) (t : Tables) : Type 0 where
 pub known_of : ((thin : ThinLog) (log : List Lined) → records_of log ≡ thin_records thin → graph_of (tables_of log).nodes ≡ runs_of thin.tasks)
     → ((thin : ThinLog) (log : List Lined) → records_of log ≡ thin_records thin → writes_in (tables_of log).reqs ≡ writes_of thin.tasks)
     → ((thin : ThinLog) → (length (writes_of thin.tasks) ≡ length thin.tasks) × (length (runs_of thin.tasks) ≡ length thin.tasks))
-    → (thin : ThinLog) (log : List Lined) (t : Tables) → t ≡ tables_of log → records_of log ≡ thin_records thin → Known thin t
+    → (thin : ThinLog) (log : List Lined) (t : TaskTables) → t ≡ task_tables (tables_of log) → records_of log ≡ thin_records thin → Known thin t
 known_of nodes writes many thin log t is are =
-    let same_nodes : graph_of t.nodes ≡ runs_of thin.tasks = ap (λ (u : Tables). graph_of u.nodes) is ∙ nodes thin log are in
-    let same_writes : writes_in t.reqs ≡ writes_of thin.tasks = ap (λ (u : Tables). writes_in u.reqs) is ∙ writes thin log are in
+    let same_nodes : graph_of t.nodes ≡ runs_of thin.tasks = ap (λ (u : TaskTables). graph_of u.nodes) is ∙ nodes thin log are in
+    let same_writes : writes_in t.reqs ≡ writes_of thin.tasks = ap (λ (u : TaskTables). writes_in u.reqs) is ∙ writes thin log are in
     record {
       nodes = same_nodes;
       writes = same_writes;
@@ -115,7 +118,7 @@ known_of nodes writes many thin log t is are =
       nodes_many = sym (length-map t.nodes _) ∙ ap length same_nodes ∙ (many thin).1;
     }
 
-pub judged_is_outcome : (bytes : List ℕ) (log : List Lined) (thin : ThinLog) (t : Tables) → Spells bytes log → length bytes ≤ 2 ^ 26 → IsThin thin → records_of log ≡ thin_records thin → Known thin t → (s : Status) (x : List ℕ) → IsJudged (writes_in t.reqs) (graph_of t.nodes) s x → IsOutcome bytes s x
+pub judged_is_outcome : (bytes : List ℕ) (log : List Lined) (thin : ThinLog) (t : TaskTables) → Spells bytes log → length bytes ≤ 2 ^ 26 → IsThin thin → records_of log ≡ thin_records thin → Known thin t → (s : Status) (x : List ℕ) → IsJudged (writes_in t.reqs) (graph_of t.nodes) s x → IsOutcome bytes s x
 judged_is_outcome bytes log thin t spells short within are known s x judged = by_status s (rw (sym known.writes, sym known.nodes) judged)
   where
     spelled : SpellsThin bytes thin

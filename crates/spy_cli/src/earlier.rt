@@ -1,8 +1,8 @@
 //! Which runs are before which, and the first two tasks whose runs are not ordered as they are.
 
 ghost use Rattle.std.specs.Prelude.{◌≡◌, ℕ, ◌+◌, ◌^◌, ◌<◌, ◌≤◌, ◌==◌, ◌⊎◌, ◌||◌, length, map, false, Contains, Decides, IfOk, IfSome, IfNone};
-ghost use Rattle.semantics.specs.Events.{GoesBack};
-ghost use Rattle.semantics.specs.Tables.{graph_of};
+ghost use Rattle.semantics.specs.Events.{graph_of};
+ghost use Rattle.semantics.specs.Thin.{GoesBack};
 ghost use Rattle.semantics.specs.TaskOrder.{IsShown, IsOrdered, pair_count};
 ghost use Rattle.spy_cli.specs.Marks.{mark_at, row_at, is_reached, AreEarlier, IsApart};
 

@@ -1,8 +1,9 @@
 //! From bytes to a report.
 
 ghost use Rattle.std.specs.Prelude.{◌≡◌, ◌^◌, ◌≤◌, length, map, IfOk};
-ghost use Rattle.semantics.specs.Events.{GoesBack};
-ghost use Rattle.semantics.specs.Tables.{graph_of, is_write, writes_in};
+ghost use Rattle.semantics.specs.Events.{graph_of};
+ghost use Rattle.semantics.specs.TaskOrder.{is_write, writes_in};
+ghost use Rattle.semantics.specs.Thin.{GoesBack};
 ghost use Rattle.spy_cli.specs.Outcome.{IsOutcome, IsJudged};
 ghost use Rattle.spy_cli.specs.Texts.{unbuilt_text};
 
@@ -11,8 +12,8 @@ use crate::reading::{LinesEnd, read_records};
 use crate::status::Status;
 use crate::texts::{ordered_report, unordered_report};
 use log_decl::{DeclEnd, Log, Req, declare};
+use privilege::Priv;
 use semantics::{one_log, records_are_few, thin_logs_are_logs, thin_tables};
-use spy_grammar::PrivWord;
 use spy_io::Memory;
 use std::alloc::{AllocError, Global};
 
@@ -27,9 +28,7 @@ pub struct Report {
 fn writes(alloc: Global, reqs: &[Req]) -> Result<Vec<bool>, AllocError>
     ensures { IfOk result (λ marks. marks.items ≡ writes_in reqs.now) }
 {
-    reqs.iter()
-        .map(|req| req.access != PrivWord::Ro)
-        .collect(alloc)
+    reqs.iter().map(|req| req.access != Priv::Ro).collect(alloc)
 }
 
 /// The report on the tasks and runs of a thin log.

@@ -4,7 +4,7 @@ ghost use Rattle.std.specs.Prelude.{◌≡◌, ◌≢◌, ◌+◌, ◌^◌, ◌�
 ghost use Rattle.std.specs.List.{All};
 ghost use Rattle.spy_grammar.specs.declared.record.Record.{Record};
 ghost use Rattle.spy_grammar.specs.declared.record.Lined.{Lined};
-ghost use Rattle.semantics.specs.Records.{Spells};
+ghost use Rattle.semantics.specs.Thin.{Spells};
 ghost use Rattle.spy_cli.specs.Lines.{BeginsWith};
 ghost use Rattle.spy_cli.specs.LineEnds.{end_of};
 ghost use Rattle.spy_cli.specs.declared.reading.LinesEnd.TheVariants.{Memory};

@@ -1,9 +1,11 @@
 use Rattle.std.proofs.Common.{◌≡◌, ◌≤◌, length, take}
-use Rattle.semantics.specs.Tables.{tables_of}
+use Rattle.std.specs.Prelude.{fold}
+use Rattle.spy_grammar.specs.declared.record.Lined.{Lined}
+use Rattle.log_decl.specs.TaskTables.{with_task_record, no_task_tables}
 use Rattle.log_decl.proofs.declaring.declare.Given as goal
 
 abbrev pub invariant-loop-record : goal.invariant-loop-record
 invariant-loop-record l = record {
-  tables : l.log ≡ tables_of (take l.record-index l.records.items);
+  tables : l.log ≡ fold (λ t (l : Lined). with_task_record t l.line l.rec) no_task_tables (take l.record-index l.records.items);
   few : length l.log.reqs ≤ l.record-index;
 }

@@ -1,6 +1,6 @@
 use Rattle.std.proofs.Common.{ℕ, Bool, List, Vec, Global, subst, arith}
 use Rattle.std.specs.Prelude.{Contains}
-use Rattle.semantics.specs.Tables.{graph_of}
+use Rattle.semantics.specs.Events.{graph_of}
 use Rattle.spy_cli.proofs.Rows.{graph_at, rows_more}
 use Rattle.spy_cli.proofs.earlier.earlier_runs.Goals as goal
 

@@ -1,5 +1,5 @@
 use Rattle.std.proofs.Common.{◌≡◌, length, map}
-use Rattle.semantics.specs.Tables.{graph_of}
+use Rattle.semantics.specs.Events.{graph_of}
 use Rattle.spy_cli.specs.Marks.{AreEarlier}
 use Rattle.spy_cli.proofs.earlier.earlier_runs.Given as goal
 

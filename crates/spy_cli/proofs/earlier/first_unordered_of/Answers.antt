@@ -1,6 +1,6 @@
 use Rattle.std.proofs.Common.{Bool, List, Vec, Global, sym, subst, arith, length, ap, map}
 use Rattle.std.proofs.lemmas.List.{length-map}
-use Rattle.semantics.specs.Tables.{graph_of}
+use Rattle.semantics.specs.Events.{graph_of}
 use Rattle.spy_cli.specs.Marks.{AreEarlier}
 use Rattle.spy_cli.proofs.Rows.{shown_from_apart, ordered_from_apart}
 use Rattle.spy_cli.proofs.earlier.first_unordered_of.Goals as goal

@@ -1,5 +1,5 @@
 use Rattle.semantics.proofs.WorkedProofs.{worked_text, worked_thin, worked_thin_too, worked_before, worked_not_after, worked_ordered, worked_not_before, worked_shown}
-use Rattle.semantics.proofs.worked.worked_logs.Goals as goal
+use Rattle.semantics.proofs.worked.worked_thin_logs.Goals as goal
 
 pub returns-clause-text : goal.returns-clause-text
 returns-clause-text c = worked_text

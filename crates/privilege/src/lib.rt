@@ -1,0 +1,14 @@
+//! What a task may do with a region, and how two accesses to one place interfere.
+#![tactic(auto)]
+
+mod kinds;
+mod laws;
+mod markers;
+mod table;
+#[cfg(test)]
+mod tests;
+
+pub use kinds::{Coherence, Kind, Priv};
+pub use laws::kind_laws;
+pub use markers::{Folds, Privilege, Reads, Red, Ro, Rw, Wd, Writes};
+pub use table::kind;

@@ -1,0 +1,30 @@
+//! The table of interference.
+
+ghost use Rattle.std.specs.Prelude.{◌≡◌};
+ghost use Rattle.privilege.specs.Interference.{agree, kind_of};
+
+use crate::kinds::{Coherence, Kind, Priv};
+
+/// Whether two accesses with these privileges may overlap.
+fn may_overlap(p: Priv, q: Priv) -> bool
+    ensures { result ≡ agree p q }
+{
+    match (p, q) {
+        (Priv::Ro, Priv::Ro) => true,
+        (Priv::Red(one), Priv::Red(other)) => one == other,
+        _ => false,
+    }
+}
+
+/// How two accesses to one place interfere, each with its privilege and its coherence.
+pub fn kind(p: Priv, c: Coherence, q: Priv, d: Coherence) -> Kind
+    ensures { result ≡ kind_of p c q d }
+{
+    if may_overlap(p, q) {
+        Kind::Free
+    } else if c == Coherence::Atomic && d == Coherence::Atomic {
+        Kind::Turn
+    } else {
+        Kind::Before
+    }
+}

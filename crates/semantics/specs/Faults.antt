@@ -1,0 +1,124 @@
+-- The fault that is shown of a log: its frame first, then its records line by line, then what concerns the log as a whole.
+use Rattle.std.specs.Prelude.{ℕ, ◌+◌, ◌-◌, ◌==◌, Bool, true, false, not, List, [], ◌∷◌, ◌++◌, find, length, Option, Some, None, option_map, is_some, if◌then◌else◌}
+use Rattle.std.specs.List.{list_all}
+use Rattle.std.specs.Option.{option_or, option_map_or}
+use Rattle.spy_grammar.specs.declared.code.Code.{Code}
+use Rattle.spy_grammar.specs.declared.code.Code.TheVariants as codes
+use Rattle.spy_grammar.specs.declared.record.Record.{Record}
+use Rattle.spy_grammar.specs.declared.record.Record.TheVariants.{Header, End}
+use Rattle.spy_grammar.specs.declared.record.Lined.{Lined}
+use Rattle.semantics.specs.declared.tables.Req.{Req}
+use Rattle.semantics.specs.Records.{records_of}
+use Rattle.semantics.specs.Tables.{Tables, Serial, tables_of}
+use Rattle.semantics.specs.Points.{is_in}
+use Rattle.semantics.specs.SerialOrder.{turned_pair}
+use Rattle.semantics.specs.Steps.{mapped, id_of}
+use Rattle.semantics.specs.TextFaults.{Fault}
+use Rattle.semantics.specs.Rules as rules
+
+-- This code at a line.
+abbrev pub at_line : Code → ℕ → Fault
+at_line code line = record { line = line; code = code }
+
+-- This code at the line of the first record that passes a test, if there is one.
+abbrev pub first_with : Code → (Record → Bool) → List Lined → Option Fault
+first_with code test log = option_map (λ (l : Lined). at_line code l.line) (find (λ (l : Lined). test l.rec) log)
+
+abbrev pub is_header : Record → Bool
+is_header (Header version) = true
+is_header _ = false
+
+-- Whether this is the header of version 1, which is the one described here.
+abbrev pub opens : Record → Bool
+opens (Header version) = version == 1
+opens _ = false
+
+-- header: there is no record; or the first is no header of version 1; or a later one is a header. (`lines` is the number of lines.)
+abbrev pub header_fault : ℕ → List Lined → Option Fault
+header_fault lines [] = Some (at_line codes.Header (lines + 1))
+header_fault lines (l ∷ log) = if opens l.rec then first_with codes.Header is_header log else Some (at_line codes.Header l.line)
+
+abbrev pub is_end : Record → Bool
+is_end (End n) = true
+is_end _ = false
+
+-- ended: there is no `end`; or a record stands behind the first.
+abbrev pub ended_fault : ℕ → List Lined → Option Fault
+ended_fault lines [] = Some (at_line codes.Ended (lines + 1))
+ended_fault lines (l ∷ log) = if is_end l.rec then first_with codes.Ended (λ r. true) log else ended_fault lines log
+
+-- count: the number of `end` is not that of the records between header and end.
+abbrev pub miscounts : ℕ → Record → Bool
+miscounts count (End n) = not (n == count)
+miscounts count _ = false
+
+abbrev pub count_fault : List Lined → Option Fault
+count_fault log = first_with codes.Count (miscounts (length log - 2)) log
+
+-- Each rule on single records, in the order in which they are tried, with whether a record of the log breaks it. (`t` are the tables of the earlier records.)
+abbrev pub tried : List Record → List Record → Tables → Record → List (Code × Bool)
+tried log earlier t r =
+    (codes.TooManyRecords, rules.is_late (length earlier) r)
+    ∷ (codes.RepeatedId, rules.repeats_id t r)
+    ∷ (codes.UnknownId, rules.names_unknown t r)
+    ∷ (codes.TooManyPoints, rules.has_many_points t r)
+    ∷ (codes.SpaceInTwo, rules.is_sub_again t r)
+    ∷ (codes.LateSub, rules.is_late_sub t r)
+    ∷ (codes.TooDeep, rules.is_too_deep t r)
+    ∷ (codes.NotWithin, rules.is_outside t r)
+    ∷ (codes.NotDisjoint, rules.is_not_disjoint t r)
+    ∷ (codes.NotRoot, rules.is_no_root t r)
+    ∷ (codes.NotInTree, rules.is_not_in_tree t r)
+    ∷ (codes.Fields, rules.has_wrong_fields t r)
+    ∷ (codes.SelfInterference, rules.interferes_with_own t r)
+    ∷ (codes.WrongTree, rules.is_of_wrong_tree t r)
+    ∷ (codes.WrongKind, rules.is_of_wrong_kind t r)
+    ∷ (codes.NotCovered, rules.is_not_covered t r)
+    ∷ (codes.MappedTwice, rules.is_mapped_again t r)
+    ∷ (codes.NoRun, rules.has_no_run log r)
+    ∷ (codes.TwoRuns, rules.is_run_again t r)
+    ∷ (codes.RepeatedEvent, rules.repeats_event t r)
+    ∷ (codes.UndefinedEvent, rules.waits_for_none log r)
+    ∷ (codes.Serial, rules.is_bad_serial log t r)
+    ∷ (codes.TooManyCells, rules.has_many_cells t r)
+    ∷ (codes.TooManyAccesses, rules.has_many_accesses earlier t r)
+    ∷ (codes.TooMuchLoad, rules.has_much_load t r)
+    ∷ []
+
+-- The first rule that is broken.
+abbrev pub first_broken : List (Code × Bool) → Option Code
+first_broken rs = option_map (λ (p : Code × Bool). p.0) (find (λ (p : Code × Bool). p.1) rs)
+
+-- The fault of the first of some records that breaks a rule.
+abbrev pub records_fault : List Record → List Lined → List Lined → Option Fault
+records_fault log earlier [] = None
+records_fault log earlier (l ∷ rest) =
+    option_or (option_map (λ code. at_line code l.line) (first_broken (tried log (records_of earlier) (tables_of earlier) l.rec)))
+    (records_fault log (earlier ++ l ∷ []) rest)
+
+-- The line that lists an item in serial order, and 0 if none does.
+abbrev pub serial_line : Tables → ℕ → ℕ
+serial_line t item = option_map_or (λ (s : Serial). s.line) (find (λ (s : Serial). is_in s.ids (id_of t item)) t.serials) 0
+
+-- serial-order: two items stand against program order that may not. The line is the one that lists the first of them.
+abbrev pub serial_fault : Tables → Option Fault
+serial_fault t = option_map (λ (p : ℕ × ℕ). at_line codes.SerialOrder (serial_line t p.0)) (turned_pair t)
+
+-- unmapped: some field of a requirement is mapped to no instance.
+abbrev pub unmapped_fault : Tables → Option Fault
+unmapped_fault t = option_map (λ (r : Req). at_line codes.Unmapped r.line) (find (λ (r : Req). not (list_all (λ f. is_some (mapped t r f)) r.fields)) t.reqs)
+
+-- What is asked of a log.
+pub data Command : Type 0 where
+  Check : Command
+  Ordered : Command
+  Deps : Command
+
+-- The fault that a command shows of a log. `check` alone asks that each field be mapped.
+unfoldable pub log_fault : Command → ℕ → List Lined → Option Fault
+log_fault command lines log =
+    option_or (header_fault lines log)
+    (option_or (ended_fault lines log)
+    (option_or (count_fault log)
+    (option_or (records_fault (records_of log) [] log)
+    (option_or (serial_fault (tables_of log)) (elim command [ Check ↦ unmapped_fault (tables_of log) | Ordered ↦ None | Deps ↦ None ])))))

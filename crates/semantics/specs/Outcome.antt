@@ -1,0 +1,156 @@
+-- What each command finds in an input: the first that holds of a fault, a cycle, a race or an unordered pair, and a differing read; and else its counts.
+use Rattle.std.specs.Prelude.{◌≡◌, ℕ, ◌+◌, Bool, true, false, List, map, filter, filter_map, length, Some, None, option_map, unwrap_or, ◌⊎◌}
+use Rattle.privilege.specs.Allowed.{may_read}
+use Rattle.value_terms.specs.Values.{Value}
+use Rattle.spy_grammar.specs.declared.code.Code.{Code}
+use Rattle.spy_grammar.specs.declared.record.Lined.{Lined}
+use Rattle.semantics.specs.declared.places.Place.{Place}
+use Rattle.semantics.specs.declared.places.Cell.{Cell}
+use Rattle.semantics.specs.declared.tables.Item.{Item}
+use Rattle.semantics.specs.declared.tables.Req.{Req}
+use Rattle.semantics.specs.declared.tables.LogNode.{LogNode}
+use Rattle.semantics.specs.declared.tables.Op.{Op}
+use Rattle.semantics.specs.declared.tables.Op.TheVariants as operations
+use Rattle.semantics.specs.Records.{Reads, records_of, text_of, line_count}
+use Rattle.semantics.specs.Tables.{Tables, tables_of}
+use Rattle.semantics.specs.Kinds.{pairs, item_kind, is_before, least_place}
+use Rattle.semantics.specs.SerialOrder.{by_serial}
+use Rattle.semantics.specs.Events.{graph_of, IsCycle}
+use Rattle.semantics.specs.ReplayOrder.{done_at, shown_cycle}
+use Rattle.semantics.specs.Steps.{id_of}
+use Rattle.semantics.specs.Races.{IsRaceFree}
+use Rattle.semantics.specs.Reads.{Seen, want_of, IsRight, Differs, shown_difference}
+use Rattle.semantics.specs.TextFaults.{Fault, text_fault}
+use Rattle.semantics.specs.Rules.{is_task, size_of, total}
+use Rattle.semantics.specs.Faults.{Command, Check, Ordered, Deps, log_fault}
+use Rattle.semantics.specs.Shown.{task_pairs, AreKept, IsShownPair, IsShownRace}
+
+-- A dependence: its kind, the two items, by id and in serial order, and the least place at which they interfere.
+pub record Dependence : Type 0 where
+  pub before : Bool
+  pub a : ℕ
+  pub b : ℕ
+  pub place : Place
+
+-- What is found. Tasks and items are told by their ids, nodes by their events.
+pub data Finding : Type 0 where
+  accepted : (tasks operations reads : ℕ) → Finding
+  ordered : (tasks pairs : ℕ) → Finding
+  deps : (list : List Dependence) (items before turn : ℕ) → Finding
+  cycle : (events : List ℕ) → Finding
+  race : (a b : ℕ) (cell : Cell) → Finding
+  unordered : (a b : ℕ) (place : Place) → Finding
+  differ : Seen → (want : Value) → Finding
+  fault : (line : ℕ) (code : Code) → Finding
+
+-- ---- Counts.
+
+abbrev pub task_count : Tables → ℕ
+task_count t = length (filter (λ (i : Item). is_task i.body) t.items)
+
+abbrev pub is_operation : Op → Bool
+is_operation operations.Merge = false
+is_operation _ = true
+
+-- The operations: all nodes but merges.
+abbrev pub operation_count : Tables → ℕ
+operation_count t = length (filter (λ (n : LogNode). is_operation n.op) t.nodes)
+
+-- The reads of all tasks: a point and a field of a requirement each.
+abbrev pub read_count : Tables → ℕ
+read_count t = total (map (λ (r : Req). size_of t r.space r.fields) (filter (λ (r : Req). may_read r.access) t.reqs))
+
+-- ---- Dependences.
+
+abbrev pub dependence_at : Tables → ℕ × ℕ → Place → Dependence
+dependence_at t p place = record { before = is_before (item_kind t p.0 p.1); a = id_of t (by_serial t p).0; b = id_of t (by_serial t p).1; place = place }
+
+-- The dependences, in program order of the first and then of the second item.
+abbrev pub dependences : Tables → List Dependence
+dependences t = filter_map (λ (p : ℕ × ℕ). option_map (dependence_at t p) (least_place t p.0 p.1)) (pairs t)
+
+abbrev pub before_count : List Dependence → ℕ
+before_count ds = length (filter (λ (d : Dependence). d.before) ds)
+
+-- ---- What is found in an admitted log.
+
+abbrev pub event_of : Tables → ℕ → ℕ
+event_of t k = unwrap_or (done_at (graph_of t.nodes) k) 0
+
+abbrev pub HasNoCycle : Tables → Type 0
+HasNoCycle t = (ks : List ℕ) → IsCycle (graph_of t.nodes) ks → ⊥
+
+-- The cycle that is shown has these events.
+abbrev pub ShowsCycle : Tables → List ℕ → Type 0
+ShowsCycle t events = option_map (map (event_of t)) (shown_cycle (graph_of t.nodes)) ≡ Some events
+
+-- The race that is shown is between the nodes with these events.
+pub record ShowsRace (t : Tables) (a b : ℕ) (cell : Cell) : Type 0 where
+  pub one : ℕ
+  pub other : ℕ
+  pub shown : IsShownRace t one other cell
+  pub a_is : a ≡ event_of t one
+  pub b_is : b ≡ event_of t other
+
+-- The unordered pair that is shown is that of these tasks, at this place.
+pub record ShowsPair (t : Tables) (a b : ℕ) (place : Place) : Type 0 where
+  pub pair : ℕ × ℕ
+  pub shown : IsShownPair t pair
+  pub a_is : a ≡ id_of t (by_serial t pair).0
+  pub b_is : b ≡ id_of t (by_serial t pair).1
+  pub place_is : least_place t pair.0 pair.1 ≡ Some place
+
+-- The run computed what sequential execution computes: whatever order its events allow, each read sees what it should.
+pub record IsSound (t : Tables) : Type 0 where
+  pub no_cycle : HasNoCycle t
+  pub no_race : IsRaceFree t
+  pub right : IsRight t
+
+-- What `check` finds.
+abbrev pub CheckFinds : Tables → Finding → Type 0
+CheckFinds t (cycle events) = ShowsCycle t events
+CheckFinds t (race a b cell) = HasNoCycle t × ShowsRace t a b cell
+CheckFinds t (differ r want) = HasNoCycle t × IsRaceFree t × (shown_difference t ≡ Some r) × Differs t r × (want ≡ want_of t r)
+CheckFinds t (accepted tasks operations reads) = IsSound t × (tasks ≡ task_count t) × (operations ≡ operation_count t) × (reads ≡ read_count t)
+CheckFinds t _ = ⊥
+
+-- What `ordered` finds.
+abbrev pub OrderedFinds : Tables → Finding → Type 0
+OrderedFinds t (cycle events) = ShowsCycle t events
+OrderedFinds t (unordered a b place) = HasNoCycle t × ShowsPair t a b place
+OrderedFinds t (ordered tasks pairs) = HasNoCycle t × AreKept t × (tasks ≡ task_count t) × (pairs ≡ length (task_pairs t))
+OrderedFinds t _ = ⊥
+
+-- What `deps` finds.
+abbrev pub DepsFinds : Tables → Finding → Type 0
+DepsFinds t (deps list items before turn) = (list ≡ dependences t) × (items ≡ length t.items) × (before ≡ before_count list) × (before + turn ≡ length list)
+DepsFinds t _ = ⊥
+
+abbrev pub Finds : Command → Tables → Finding → Type 0
+Finds Check t f = CheckFinds t f
+Finds Ordered t f = OrderedFinds t f
+Finds Deps t f = DepsFinds t f
+
+-- ---- What is found in an input.
+
+-- The input spells a log, and the log keeps each rule that the command judges.
+pub record IsAdmitted (command : Command) (bytes : List ℕ) (log : List Lined) : Type 0 where
+  pub spelled : text_fault bytes ≡ None
+  pub reads : Reads bytes log
+  pub keeps : log_fault command (line_count bytes) log ≡ None
+
+-- The fault that the command shows of the input: that of its bytes and lines, or else that of its log.
+abbrev pub HasFault : Command → List ℕ → Fault → Type 0
+HasFault command bytes f = (text_fault bytes ≡ Some f) ⊎ ((text_fault bytes ≡ None) × ((log : List Lined) × Reads bytes log × (log_fault command (line_count bytes) log ≡ Some f)))
+
+-- The outcome of a command on an input.
+abbrev pub IsOutcome : Command → List ℕ → Finding → Type 0
+IsOutcome command bytes (fault line code) = HasFault command bytes (record { line = line; code = code })
+IsOutcome command bytes f = (log : List Lined) × IsAdmitted command bytes log × Finds command (tables_of log) f
+
+-- What `print` writes of an input whose lines all spell something: each record, on a line of its own.
+pub record IsPrinted (bytes text : List ℕ) : Type 0 where
+  pub spelled : text_fault bytes ≡ None
+  pub log : List Lined
+  pub reads : Reads bytes log
+  pub text_is : text ≡ text_of (records_of log)
