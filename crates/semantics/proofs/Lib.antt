@@ -3,3 +3,8 @@ pub mod ThinRecords
 pub mod ThinTables
 pub mod WorkedProofs
 pub mod WorkedRaces
+pub mod Lists
+pub mod Sane
+pub mod Admitted
+pub mod Tidy
+pub mod StepLists

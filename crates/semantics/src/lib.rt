@@ -4,6 +4,7 @@
 mod laws;
 mod moves;
 mod places;
+mod step_laws;
 mod tables;
 mod worked;
 
@@ -13,5 +14,6 @@ pub use laws::{
 };
 pub use moves::Move;
 pub use places::{Cell, Place};
+pub use step_laws::admitted_logs_are_tidy;
 pub use tables::{Inst, Item, ItemBody, LogNode, Op, Req};
 pub use worked::{worked_logs, worked_thin_logs};

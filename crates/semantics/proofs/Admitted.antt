@@ -1,0 +1,73 @@
+-- What it means for the tables of a log that no fault is shown of it.
+use Rattle.std.proofs.Common.{◌≡◌, ℕ, inl, inr, Bool, true, false, not, List, [], ◌∷◌, ◌++◌, refl, sym, ap, ◌∙◌, subst, append_assoc, append-nil, Option, Some, None}
+use Rattle.std.specs.Prelude.{find, fold, cond, option_map, is_some}
+use Rattle.std.specs.List.{AllByRecursion, list_all}
+use Rattle.std.proofs.lemmas.Bool.{cases_Bool, not-false}
+use Rattle.std.proofs.lemmas.List.Sums.{fold-append}
+use Rattle.spy_grammar.specs.declared.code.Code.{Code}
+use Rattle.spy_grammar.specs.declared.record.Record.{Record}
+use Rattle.spy_grammar.specs.declared.record.Lined.{Lined}
+use Rattle.semantics.specs.declared.tables.Req.{Req}
+use Rattle.semantics.specs.Records.{records_of}
+use Rattle.semantics.specs.Tables.{Tables, with_record, no_tables, tables_of}
+use Rattle.semantics.specs.Steps.{mapped}
+use Rattle.semantics.specs.TextFaults.{Fault}
+use Rattle.semantics.specs.Faults.{Check, tried, first_broken, records_fault, log_fault, header_fault, ended_fault, count_fault, serial_fault, unmapped_fault}
+use Rattle.semantics.proofs.Lists.{Member, none_found, both_none, unmapped_none, all_at}
+use Rattle.semantics.proofs.Sane.{Keeps, AreSane, with_kept}
+
+-- A record of the log breaks no rule.
+abbrev pub Unbroken : List Record → List Lined → Record → Type 0
+Unbroken log earlier r = AllByRecursion (λ (p : Code × Bool). p.1 ≡ false) (tried log (records_of earlier) (tables_of earlier) r)
+
+unbroken : (rs : List (Code × Bool)) → first_broken rs ≡ None → AllByRecursion (λ (p : Code × Bool). p.1 ≡ false) rs
+unbroken [] e = tt
+unbroken (r ∷ rs) e = elim (cases_Bool r.1) [
+  | inl broken ↦
+      let bad : Some r.0 ≡ None = subst (λ b. option_map (λ (p : Code × Bool). p.0) (cond b (Some r) (find (λ (p : Code × Bool). p.1) rs)) ≡ None) broken e in
+      absurd cc
+  | inr kept ↦ (kept, unbroken rs (subst (λ b. option_map (λ (p : Code × Bool). p.0) (cond b (Some r) (find (λ (p : Code × Bool). p.1) rs)) ≡ None) kept e))
+]
+
+one_more : (earlier : List Lined) (l : Lined) → tables_of (earlier ++ l ∷ []) ≡ with_record (tables_of earlier) l.line l.rec
+one_more earlier l = fold-append (λ t (l : Lined). with_record t l.line l.rec) no_tables earlier (l ∷ [])
+
+-- What holds of no tables, and stays with each record that breaks no rule, holds of the tables of the log.
+pub by_records : (P : Tables → Type 0) (log : List Record)
+    → ((earlier : List Lined) (l : Lined) → Unbroken log earlier l.rec → P (tables_of earlier) → P (with_record (tables_of earlier) l.line l.rec))
+    → (earlier rest : List Lined) → records_fault log earlier rest ≡ None → P (tables_of earlier) → P (tables_of (earlier ++ rest))
+by_records P log step earlier [] e h = subst (λ ls. P (tables_of ls)) (sym (append-nil earlier)) h
+by_records P log step earlier (l ∷ rest) e h =
+    let parts = both_none _ (records_fault log (earlier ++ l ∷ []) rest) e in
+    let kept : Unbroken log earlier l.rec = unbroken (tried log (records_of earlier) (tables_of earlier) l.rec) (unmapped_none _ _ parts.0) in
+    let next : P (tables_of (earlier ++ l ∷ [])) = subst P (sym (one_more earlier l)) (step earlier l kept h) in
+    subst (λ ls. P (tables_of ls)) (append_assoc earlier (l ∷ []) rest) (by_records P log step (earlier ++ l ∷ []) rest parts.1 next)
+
+keeps_of : (log : List Record) (earlier : List Lined) (r : Record) → Unbroken log earlier r → Keeps (tables_of earlier) r
+keeps_of log earlier r u = record { names = u.1.1.0; own = u.1.1.1.1.1.1.1.1.1.1.1.1.0; tree = u.1.1.1.1.1.1.1.1.1.1.1.1.1.0 }
+
+-- The parts of a log without a fault.
+pub record IsFaultless (log : List Lined) : Type 0 where
+  pub records : records_fault (records_of log) [] log ≡ None
+  pub serial : serial_fault (tables_of log) ≡ None
+  pub maps : unmapped_fault (tables_of log) ≡ None
+
+pub faultless : (lines : ℕ) (log : List Lined) → log_fault Check lines log ≡ None → IsFaultless log
+unfolding log_fault
+faultless lines log e =
+    let header = both_none (header_fault lines log) _ e in
+    let ended = both_none (ended_fault lines log) _ header.1 in
+    let count = both_none (count_fault log) _ ended.1 in
+    let records = both_none (records_fault (records_of log) [] log) _ count.1 in
+    let serial = both_none (serial_fault (tables_of log)) _ records.1 in
+    record { records = records.0; serial = serial.0; maps = serial.1 }
+
+pub sane : (log : List Lined) → IsFaultless log → AreSane (tables_of log)
+sane log f = by_records AreSane (records_of log) (λ earlier l u. with_kept (tables_of earlier) l.line l.rec (keeps_of (records_of log) earlier l.rec u)) [] log f.records
+    (record { numbered = record { low = λ r m. absurd m; single = λ q r a. absurd a }; calm = record { declared = λ r m. absurd m; calm = λ q r a. absurd a }; named = λ m is. absurd is })
+
+-- Each field of a requirement is mapped.
+pub all_mapped : (log : List Lined) → IsFaultless log → (r : Req) (field : ℕ) → Member (tables_of log).reqs r → Member r.fields field → is_some (mapped (tables_of log) r field) ≡ true
+all_mapped log f r field m is =
+    let none : not (list_all (λ n. is_some (mapped (tables_of log) r n)) r.fields) ≡ false = none_found (λ (r : Req). not (list_all (λ n. is_some (mapped (tables_of log) r n)) r.fields)) (tables_of log).reqs r (unmapped_none _ _ f.maps) m in
+    all_at (λ n. is_some (mapped (tables_of log) r n)) r.fields field (not-false _ none) is
