@@ -1,146 +1,171 @@
--- Members of lists, and tests that find them.
-use Rattle.std.proofs.Common.{◌≡◌, ℕ, zero, suc, ◌<◌, ◌+◌, ◌⊎◌, inl, inr, Bool, true, false, ◌||◌, ◌&&◌, ◌==◌, List, [], ◌∷◌, ◌++◌, map, length, Contains, cond, refl, sym, ap, ◌∙◌, arith, Option, Some, None, subst}
-use Rattle.std.specs.Prelude.{filter, flat_map, find, option_map, slice_get}
-use Rattle.std.specs.Option.{option_or}
-use Rattle.std.specs.List.{list_any, list_all}
-use Rattle.std.proofs.lemmas.Bool.{and_parts, or_parts, or_cases, cases_Bool, eq-eqb, eqb-true}
-use Rattle.std.proofs.lemmas.List.Folds.{find-append}
-use Rattle.semantics.specs.Points.{is_in, meets}
+-- What std's words say of a list by its first element, and what tests over a list tell.
+use Rattle.std.proofs.Common.{◌≡◌, ◌≢◌, ℕ, zero, suc, ◌+◌, ◌<◌, ◌≤◌, ◌==◌, Bool, true, false, List, [], ◌∷◌, ◌++◌, length, get_or, Some, None, ◌↔◌, ◌⊎◌, inl, inr, refl, sym, ap, subst, ◌∙◌, arith, eqb, length-append, Contains, AllPairs}
+use Rattle.std.specs.Bool.{Decides}
+use Rattle.std.specs.List.{filter, find, list_any, list_all}
+use Rattle.std.proofs.lemmas.Bool.{true≢false, false≢true, cases_Bool, cases_eq, and_cases, eqb-true, eq-eqb}
+use Rattle.std.proofs.lemmas.Bool.Decides.{Decides-eqb}
+use Rattle.std.proofs.lemmas.List.{get_or_append_left}
+use Rattle.std.proofs.lemmas.List.Elements.{All-contains, Contains-get_or, Contains-append_left, Contains-append_right, Contains-append_cases}
+use Rattle.std.proofs.lemmas.List.Folds.{Any-from_list_any, list_any-from_Any}
+use Rattle.std.proofs.lemmas.List.Kept.{AllPairs-cons}
+use Rattle.std.proofs.lemmas.List.Quantifiers.{all_pairs_push}
+use Rattle.std.proofs.lemmas.List.Sums.{AllPass-from_list_all}
+use Rattle.std.proofs.lemmas.Map.Made.{IsDistinct-from_AllPairs}
+use Rattle.std.proofs.lemmas.Map.Steps.{length-le_from_distinct_below}
+use Rattle.std.proofs.lemmas.Map.Views.{Contains-from_any}
+use Rattle.semantics.specs.Points.{is_in}
+use Rattle.semantics.specs.Tables.{numbers_from}
 
-or_true : (b : Bool) → (b || true) ≡ true
-or_true true = refl
-or_true false = refl
+pub nothing_in : {X : Type 0} (x : X) → Contains [] x → ⊥
+nothing_in x h = omega (arith, h.1)
 
-abbrev pub Member : {X : Type 0} → List X → X → Type 0
-Member [] x = ⊥
-Member (y ∷ ys) x = (x ≡ y) ⊎ Member ys x
+pub contains_first : {X : Type 0} (x : X) (xs : List X) → Contains (x ∷ xs) x
+contains_first x xs = (zero, omega arith, refl)
 
-pub member_of : {X : Type 0} (xs : List X) (x : X) → Contains xs x → Member xs x
-member_of [] x (k, lt, is) = absurd (omega (arith, lt))
-member_of (y ∷ ys) x (zero, lt, is) = inl (sym is)
-member_of (y ∷ ys) x (suc k, lt, is) = inr (member_of ys x (k, omega (arith, lt), is))
+pub contains_later : {X : Type 0} (x y : X) (xs : List X) → Contains xs y → Contains (x ∷ xs) y
+contains_later x y xs (k, within, at) = (suc k, omega arith, at)
 
-pub contains_of : {X : Type 0} (xs : List X) (x : X) → Member xs x → Contains xs x
-contains_of [] x m = absurd m
-contains_of (y ∷ ys) x (inl e) = (0, omega arith, sym e)
-contains_of (y ∷ ys) x (inr m) = let c = contains_of ys x m in (suc c.0, omega (arith, c.1), c.2)
+pub contains_cases : {X : Type 0} (x y : X) (xs : List X) → Contains (x ∷ xs) y → (x ≡ y) ⊎ Contains xs y
+contains_cases x y xs (zero, within, at) = inl at
+contains_cases x y xs (suc k, within, at) = inr (k, omega arith, at)
 
-pub member_at : {X : Type 0} (xs : List X) (k : ℕ) (x : X) → slice_get xs k ≡ Some x → Member xs x
-member_at [] k x e = absurd cc
-member_at (y ∷ ys) zero x e = inl (sym (let same : y ≡ x = cc in same))
-member_at (y ∷ ys) (suc k) x e = inr (member_at ys k x e)
-
--- ---- joined, mapped and filtered lists
-
-pub member_left : {X : Type 0} (xs ys : List X) (x : X) → Member xs x → Member (xs ++ ys) x
-member_left [] ys x m = absurd m
-member_left (z ∷ xs) ys x (inl e) = inl e
-member_left (z ∷ xs) ys x (inr m) = inr (member_left xs ys x m)
-
-pub member_right : {X : Type 0} (xs ys : List X) (x : X) → Member ys x → Member (xs ++ ys) x
-member_right [] ys x m = m
-member_right (z ∷ xs) ys x m = inr (member_right xs ys x m)
-
-pub member_append : {X : Type 0} (xs ys : List X) (x : X) → Member (xs ++ ys) x → Member xs x ⊎ Member ys x
-member_append [] ys x m = inr m
-member_append (z ∷ xs) ys x (inl e) = inl (inl e)
-member_append (z ∷ xs) ys x (inr m) = elim (member_append xs ys x m) [ inl l ↦ inl (inr l) | inr r ↦ inr r ]
-
-pub member_map : {X Y : Type 0} (f : X → Y) (xs : List X) (y : Y) → Member (map f xs) y → (x : X) × Member xs x × (y ≡ f x)
-member_map f [] y m = absurd m
-member_map f (x ∷ xs) y (inl e) = (x, inl refl, e)
-member_map f (x ∷ xs) y (inr m) = let r = member_map f xs y m in (r.0, inr r.1, r.2)
-
-pub member_flat : {X Y : Type 0} (f : X → List Y) (xs : List X) (y : Y) → Member (flat_map f xs) y → (x : X) × Member xs x × Member (f x) y
-member_flat f [] y m = absurd m
-member_flat f (x ∷ xs) y m = elim (member_append (f x) (flat_map f xs) y m) [
-  | inl l ↦ (x, inl refl, l)
-  | inr r ↦ let rest = member_flat f xs y r in (rest.0, inr rest.1, rest.2)
+pub split_at : {X : Type 0} (xs : List X) (x : X) → Contains xs x → (front : List X) × (back : List X) × (xs ≡ front ++ x ∷ back)
+split_at [] x h = absurd (nothing_in x h)
+split_at (y ∷ xs) x h = elim (contains_cases y x xs h) [
+  | inl is ↦ ([], xs, ap (λ z. z ∷ xs) is)
+  | inr g ↦ let s = split_at xs x g in (y ∷ s.0, s.1, ap (λ zs. y ∷ zs) s.2)
 ]
 
-pub member_filter : {X : Type 0} (p : X → Bool) (xs : List X) (x : X) → Member (filter p xs) x → Member xs x × (p x ≡ true)
-member_filter p [] x m = absurd m
-member_filter p (y ∷ ys) x m = elim (cases_Bool (p y)) [
-  | inl e ↦ elim (subst (λ b. Member (cond b (y ∷ filter p ys) (filter p ys)) x) e m) [
-    | inl is ↦ (inl is, ap p is ∙ e)
-    | inr later ↦ let r = member_filter p ys x later in (inr r.0, r.1)
+-- A relation of each element to each later one, by recursion.
+abbrev pub Pairs : {X : Type 0} → (X → X → Type 0) → List X → Type 0
+Pairs R [] = Unit {0}
+Pairs {X} R (x ∷ xs) = ((y : X) → Contains xs y → R x y) × Pairs R xs
+
+pub pairs_from : {X : Type 0} (R : X → X → Type 0) (xs : List X) → AllPairs R xs → Pairs R xs
+pairs_from R [] h = tt
+pairs_from R (x ∷ xs) h = (
+  λ y g. subst (R x) g.2 (h zero (suc g.0) y (omega arith) (omega (arith, g.1))),
+  pairs_from R xs (λ i j d lt within. h (suc i) (suc j) d (omega arith) (omega arith)),
+)
+
+-- One more element in front, and one more behind.
+pub all_pairs_with_first : {X : Type 0} (R : X → X → Type 0) (x : X) (xs : List X) → ((y : X) → Contains xs y → R x y) → AllPairs R xs → AllPairs R (x ∷ xs)
+all_pairs_with_first R x xs h = AllPairs-cons R x xs (λ k d within. h (get_or xs k d) (Contains-get_or xs k d within))
+
+pub all_pairs_with_last : {X : Type 0} (R : X → X → Type 0) (xs : List X) (y : X) → AllPairs R xs → ((x : X) → Contains xs x → R x y) → AllPairs R (xs ++ y ∷ [])
+all_pairs_with_last R xs y h g = all_pairs_push R xs y h (λ k d within. g (get_or xs k d) (Contains-get_or xs k d within))
+
+pub all_pairs_front : {X : Type 0} (R : X → X → Type 0) (xs ys : List X) → AllPairs R (xs ++ ys) → AllPairs R xs
+all_pairs_front R xs ys h i j d lt within =
+    let longer : j < length (xs ++ ys) = omega (arith, length-append xs ys) in
+    let first : i < length xs = omega arith in
+    subst (λ x. R x (get_or xs j d)) (get_or_append_left xs ys d i first) (subst (R (get_or (xs ++ ys) i d)) (get_or_append_left xs ys d j within) (h i j d lt longer))
+
+-- What a list has when one element is left out.
+left_out : {X : Type 0} (front : List X) (x : X) (back : List X) (y : X) → Contains (front ++ x ∷ back) y → (x ≡ y) ⊎ Contains (front ++ back) y
+left_out front x back y h = elim (Contains-append_cases front (x ∷ back) y h) [
+  | inl before ↦ inr (Contains-append_left front back y before)
+  | inr there ↦ elim (contains_cases x y back there) [ inl is ↦ inl is | inr behind ↦ inr (Contains-append_right front back y behind) ]
+]
+
+put_in : {X : Type 0} (front : List X) (x : X) (back : List X) (y : X) → Contains (front ++ back) y → Contains (front ++ x ∷ back) y
+put_in front x back y h = elim (Contains-append_cases front back y h) [
+  | inl before ↦ Contains-append_left front (x ∷ back) y before
+  | inr behind ↦ Contains-append_right front (x ∷ back) y (contains_later x y back behind)
+]
+
+pub pairs_left_out : {X : Type 0} (R : X → X → Type 0) (front : List X) (x : X) (back : List X) → Pairs R (front ++ x ∷ back) → Pairs R (front ++ back)
+pairs_left_out R [] x back h = h.1
+pairs_left_out R (y ∷ front) x back h = (λ z g. h.0 z (put_in front x back z g), pairs_left_out R front x back h.1)
+
+pub pairs_before : {X : Type 0} (R : X → X → Type 0) (front : List X) (x : X) (back : List X) → Pairs R (front ++ x ∷ back) → (y : X) → Contains front y → R y x
+pairs_before R [] x back h y g = absurd (nothing_in y g)
+pairs_before R (z ∷ front) x back h y g = elim (contains_cases z y front g) [
+  | inl is ↦ subst (λ w. R w x) is (h.0 x (Contains-append_right front (x ∷ back) x (contains_first x back)))
+  | inr later ↦ pairs_before R front x back h.1 y later
+]
+
+pairs_behind : {X : Type 0} (R : X → X → Type 0) (front : List X) (x : X) (back : List X) → Pairs R (front ++ x ∷ back) → (y : X) → Contains back y → R x y
+pairs_behind R [] x back h = h.0
+pairs_behind R (z ∷ front) x back h = pairs_behind R front x back h.1
+
+left_out_once : {X : Type 0} (R : X → X → Type 0) → ((x : X) → R x x → ⊥) → (front : List X) (x : X) (back : List X) → Pairs R (front ++ x ∷ back) → Contains (front ++ back) x → ⊥
+left_out_once R apart front x back h g = elim (Contains-append_cases front back x g) [
+  | inl before ↦ apart x (pairs_before R front x back h x before)
+  | inr behind ↦ apart x (pairs_behind R front x back h x behind)
+]
+
+-- Lists with the same elements, each once, have so when one element is left out of both.
+pub left_out_same : {X : Type 0} (R : X → X → Type 0) → ((x : X) → R x x → ⊥) → (x : X) (xs front back : List X) → Pairs R (x ∷ xs) → Pairs R (front ++ x ∷ back) → ((y : X) → Contains (x ∷ xs) y ↔ Contains (front ++ x ∷ back) y)
+    → (y : X) → Contains xs y ↔ Contains (front ++ back) y
+left_out_same R apart x xs front back one other same y = (
+  λ h. elim (left_out front x back y ((same y).0 (contains_later x y xs h))) [ inl is ↦ absurd (apart y (subst (λ z. R z y) is (one.0 y h))) | inr g ↦ g ],
+  λ h. elim (contains_cases x y xs ((same y).1 (put_in front x back y h))) [ inl is ↦ absurd (left_out_once R apart front x back other (subst (Contains (front ++ back)) (sym is) h)) | inr g ↦ g ],
+)
+
+-- Different numbers below a bound are no more than the bound, and fewer where one is left out.
+pub few : (ns : List ℕ) (n : ℕ) → AllPairs (λ a b. a ≢ b) ns → ((m : ℕ) → Contains ns m → m < n) → length ns ≤ n
+few ns n apart within = length-le_from_distinct_below ns n (IsDistinct-from_AllPairs {eq = eqb} Decides-eqb ns apart) (λ m h. within m (Contains-from_any {eq = eqb} eqb-true m ns h))
+
+pub fewer : (ns : List ℕ) (n k : ℕ) → AllPairs (λ a b. a ≢ b) ns → ((m : ℕ) → Contains ns m → m < n) → k < n → (Contains ns k → ⊥) → length ns < n
+fewer ns n k apart within lt new =
+    let more : AllPairs (λ a b. a ≢ b) (k ∷ ns) = all_pairs_with_first (λ a b. a ≢ b) k ns (λ m h e. new (subst (Contains ns) (sym e) h)) apart in
+    let many = few (k ∷ ns) n more (λ m h. elim (contains_cases k m ns h) [ inl e ↦ subst (λ j. j < n) e lt | inr g ↦ within m g ]) in
+    omega arith
+
+pub any_tells : {X : Type 0} (p : X → Bool) (xs : List X) → list_any p xs ≡ true → (x : X) × Contains xs x × (p x ≡ true)
+any_tells p xs h = let a = Any-from_list_any p xs h in (a.1, (a.0, a.2, a.3), a.4)
+
+pub any_from : {X : Type 0} (p : X → Bool) (xs : List X) (x : X) → Contains xs x → p x ≡ true → list_any p xs ≡ true
+any_from p xs x h is = list_any-from_Any p xs (h.0, x, h.1, h.2, is)
+
+pub is_in_decides : (ns : List ℕ) (n : ℕ) → Decides (is_in ns n) (Contains ns n)
+is_in_decides ns n = (λ h. let a = any_tells (λ m. m == n) ns h in subst (Contains ns) (eqb-true a.0 n a.2) a.1, λ h. any_from (λ m. m == n) ns n h (eq-eqb n n refl))
+
+pub all_pass : {X : Type 0} (p : X → Bool) (xs : List X) (x : X) → list_all p xs ≡ true → Contains xs x → p x ≡ true
+all_pass p xs x h = All-contains (λ y. p y ≡ true) xs x (AllPass-from_list_all p xs h)
+
+pub one_fails : {X : Type 0} (p : X → Bool) (xs : List X) → list_all p xs ≡ false → (x : X) × Contains xs x × (p x ≡ false)
+one_fails p [] h = absurd (true≢false h)
+one_fails p (y ∷ xs) h = elim (and_cases (p y) (list_all p xs) h) [
+  | inl here ↦ (y, contains_first y xs, here)
+  | inr there ↦ let r = one_fails p xs there in (r.0, contains_later y r.0 xs r.1, r.2)
+]
+
+-- What is found is an element that passes, and where nothing is found none does.
+pub find_cases : {X : Type 0} (p : X → Bool) (xs : List X) → ((x : X) × (find p xs ≡ Some x) × Contains xs x × (p x ≡ true)) ⊎ ((find p xs ≡ None) × ((x : X) → Contains xs x → p x ≡ false))
+find_cases p [] = inr (refl, λ x h. absurd (nothing_in x h))
+find_cases p (y ∷ xs) = elim (cases_Bool (p y)) [
+  | inl here ↦ inl (y, rw here refl, contains_first y xs, here)
+  | inr not_here ↦ elim (find_cases p xs) [
+    | inl r ↦ inl (r.0, rw not_here r.1, contains_later y r.0 xs r.2, r.3)
+    | inr r ↦ inr (rw not_here r.0, λ x h. elim (contains_cases y x xs h) [ inl is ↦ subst (λ z. p z ≡ false) is not_here | inr g ↦ r.1 x g ])
   ]
-  | inr e ↦ let r = member_filter p ys x (subst (λ b. Member (cond b (y ∷ filter p ys) (filter p ys)) x) e m) in (inr r.0, r.1)
 ]
 
--- ---- tests
-
-pub any_at : {X : Type 0} (p : X → Bool) (xs : List X) (x : X) → Member xs x → p x ≡ true → list_any p xs ≡ true
-any_at p [] x m e = absurd m
-any_at p (y ∷ ys) x (inl is) e = rw (sym is, e) refl
-any_at p (y ∷ ys) x (inr m) e = rw (any_at p ys x m e) (or_true (p y))
-
-pub none_at : {X : Type 0} (p : X → Bool) (xs : List X) (x : X) → list_any p xs ≡ false → Member xs x → p x ≡ false
-none_at p [] x e m = absurd m
-none_at p (y ∷ ys) x e (inl is) = ap p is ∙ (or_parts (p y) (list_any p ys) e).0
-none_at p (y ∷ ys) x e (inr m) = none_at p ys x (or_parts (p y) (list_any p ys) e).1 m
-
-pub any_found : {X : Type 0} (p : X → Bool) (xs : List X) → list_any p xs ≡ true → (x : X) × Member xs x × (p x ≡ true)
-any_found p [] e = absurd cc
-any_found p (y ∷ ys) e = elim (or_cases (p y) (list_any p ys) e) [
-  | inl here ↦ (y, inl refl, here)
-  | inr later ↦ let r = any_found p ys later in (r.0, inr r.1, r.2)
+pub filter_keeps : {X : Type 0} (p : X → Bool) (xs : List X) (x : X) → Contains xs x → p x ≡ true → Contains (filter p xs) x
+filter_keeps p [] x h is = absurd (nothing_in x h)
+filter_keeps p (y ∷ xs) x h is = elim (cases_Bool (p y)) [
+  | inl here ↦ rw here (elim (contains_cases y x xs h) [ inl e ↦ subst (Contains (y ∷ filter p xs)) e (contains_first y (filter p xs)) | inr g ↦ contains_later y x (filter p xs) (filter_keeps p xs x g is) ])
+  | inr not_here ↦ rw not_here (elim (contains_cases y x xs h) [ inl e ↦ absurd (false≢true (sym not_here ∙ ap p e ∙ is)) | inr g ↦ filter_keeps p xs x g is ])
 ]
 
-pub all_at : {X : Type 0} (p : X → Bool) (xs : List X) (x : X) → list_all p xs ≡ true → Member xs x → p x ≡ true
-all_at p [] x e m = absurd m
-all_at p (y ∷ ys) x e (inl is) = ap p is ∙ (and_parts (p y) (list_all p ys) e).0
-all_at p (y ∷ ys) x e (inr m) = all_at p ys x (and_parts (p y) (list_all p ys) e).1 m
-
-pub is_in_of : (ns : List ℕ) (n : ℕ) → Member ns n → is_in ns n ≡ true
-is_in_of ns n m = any_at (λ k. k == n) ns n m (eq-eqb n n refl)
-
-pub member_in : (ns : List ℕ) (n : ℕ) → is_in ns n ≡ true → Member ns n
-member_in ns n e = let r = any_found (λ k. k == n) ns e in subst (Member ns) (eqb-true r.0 n r.2) r.1
-
-pub meets_of : (ns ms : List ℕ) (n : ℕ) → Member ns n → Member ms n → meets ns ms ≡ true
-meets_of ns ms n a b = any_at (is_in ms) ns n a (is_in_of ms n b)
-
--- What is found is a member that passes the test, and where there is one it is found.
-pub found_at : {X : Type 0} (p : X → Bool) (xs : List X) (x : X) → find p xs ≡ Some x → Member xs x × (p x ≡ true)
-found_at p [] x e = absurd cc
-found_at p (y ∷ ys) x e = elim (cases_Bool (p y)) [
-  | inl passes ↦
-      let same : ◌≡◌ {A = Option _} (Some y) (Some x) = subst (λ b. cond b (Some y) (find p ys) ≡ Some x) passes e in
-      let is : y ≡ x = cc in
-      (inl (sym is), ap p (sym is) ∙ passes)
-  | inr fails ↦ let r = found_at p ys x (subst (λ b. cond b (Some y) (find p ys) ≡ Some x) fails e) in (inr r.0, r.1)
+numbers_below : (first n k : ℕ) → Contains (numbers_from first n) k → k < first + n
+numbers_below first zero k h = absurd (nothing_in k h)
+numbers_below first (suc n) k h = elim (contains_cases first k (numbers_from (first + 1) n) h) [
+  | inl e ↦ omega arith
+  | inr g ↦ let below = numbers_below (first + 1) n k g in omega arith
 ]
 
-pub find_any : {X : Type 0} (p : X → Bool) (xs : List X) → list_any p xs ≡ true → (x : X) × (find p xs ≡ Some x)
-find_any p [] e = absurd cc
-find_any p (y ∷ ys) e = elim (cases_Bool (p y)) [
-  | inl passes ↦ (y, rw passes refl)
-  | inr fails ↦ let r = find_any p ys (subst (λ b. (b || list_any p ys) ≡ true) fails e) in (r.0, ap (λ b. cond b (Some y) (find p ys)) fails ∙ r.1)
+numbers_all : (first n k : ℕ) → first ≤ k → k < first + n → Contains (numbers_from first n) k
+numbers_all first zero k le lt = absurd (omega arith)
+numbers_all first (suc n) k le lt = elim (cases_eq first k) [
+  | inl e ↦ subst (Contains (first ∷ numbers_from (first + 1) n)) e (contains_first first (numbers_from (first + 1) n))
+  | inr ne ↦ contains_later first k (numbers_from (first + 1) n) (numbers_all (first + 1) n k (omega arith) (omega arith))
 ]
 
--- What is found in a list is found in a longer one.
-pub find_still : {X : Type 0} (p : X → Bool) (xs ys : List X) (x : X) → find p xs ≡ Some x → find p (xs ++ ys) ≡ Some x
-find_still p xs ys x e = find-append p xs ys ∙ rw e refl
+pub numbers_within : (n k : ℕ) → Contains (numbers_from 0 n) k → k < n
+numbers_within n k h = omega (arith, numbers_below 0 n k h)
 
--- Where nothing is found, no member passes the test.
-pub none_found : {X : Type 0} (p : X → Bool) (xs : List X) (x : X) → find p xs ≡ None → Member xs x → p x ≡ false
-none_found p [] x e m = absurd m
-none_found p (y ∷ ys) x e m = elim (cases_Bool (p y)) [
-  | inl passes ↦ let bad : Some y ≡ None = subst (λ b. cond b (Some y) (find p ys) ≡ None) passes e in absurd cc
-  | inr fails ↦ elim m [ inl is ↦ ap p is ∙ fails | inr later ↦ none_found p ys x (subst (λ b. cond b (Some y) (find p ys) ≡ None) fails e) later ]
-]
-
--- ---- options
-
-pub none_or_some : {A : Type 0} (o : Option A) → (o ≡ None) ⊎ ((a : A) × (o ≡ Some a))
-none_or_some None = inl refl
-none_or_some (Some a) = inr (a, refl)
-
-pub both_none : {A : Type 0} (o p : Option A) → option_or o p ≡ None → (o ≡ None) × (p ≡ None)
-both_none None p e = (refl, e)
-both_none (Some a) p e = absurd cc
-
-pub unmapped_none : {A B : Type 0} (f : A → B) (o : Option A) → option_map f o ≡ None → o ≡ None
-unmapped_none f None e = refl
-unmapped_none f (Some a) e = absurd cc
+pub numbers_listed : (n k : ℕ) → k < n → Contains (numbers_from 0 n) k
+numbers_listed n k within = numbers_all 0 n k (omega arith) (omega arith)

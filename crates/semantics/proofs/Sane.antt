@@ -1,10 +1,9 @@
 -- What the rules on records make of the tables: requirements, maps and operations fit each other.
-use Rattle.std.proofs.Common.{◌≡◌, ◌≢◌, ℕ, ◌<◌, ◌≤◌, ◌+◌, ◌⊎◌, inl, inr, Bool, true, false, not, ◌&&◌, ◌||◌, ◌==◌, List, [], ◌∷◌, ◌++◌, cond, refl, sym, ap, ap₂, ◌∙◌, subst, arith, Option, Some, None}
+use Rattle.std.proofs.Common.{◌≡◌, ◌≢◌, ℕ, ◌<◌, ◌≤◌, ◌+◌, inl, inr, Bool, true, false, not, ◌&&◌, ◌==◌, List, [], ◌∷◌, ◌++◌, cond, refl, sym, ap, ◌∙◌, subst, arith, Option, Some, None}
 use Rattle.std.specs.Prelude.{find, option_map, is_some}
 use Rattle.std.specs.List.{list_any, list_all}
 use Rattle.std.specs.Option.{option_map_or}
-use Rattle.std.proofs.lemmas.Bool.{and_parts, and_from, or_parts, eq-eqb, eqb-true, eqb-false, not-false}
-use Rattle.std.proofs.lemmas.Bool.Decides.{nat_tests}
+use Rattle.std.proofs.lemmas.Bool.{and_parts, or_parts, eq-eqb, eqb-true}
 use Rattle.std.proofs.lemmas.List.Sums.{sum_by-append}
 use Rattle.std.proofs.lemmas.List.Folds.{list_any-append}
 use Rattle.spy_grammar.specs.declared.record.Record.{Record}
@@ -14,16 +13,12 @@ use Rattle.privilege.specs.declared.kinds.Priv.TheVariants as privileges
 use Rattle.privilege.specs.Interference.{agree}
 use Rattle.semantics.specs.declared.tables.Req.{Req}
 use Rattle.semantics.specs.declared.tables.Inst.{Inst}
-use Rattle.semantics.specs.declared.tables.LogNode.{LogNode}
-use Rattle.semantics.specs.declared.tables.Op.{Op}
-use Rattle.semantics.specs.declared.tables.Op.TheVariants as operations
-use Rattle.semantics.specs.Tables.{Tables, Space, Map, with_record, place_of, reqs_before, privilege_of}
+use Rattle.semantics.specs.Tables.{Tables, Space, Map, with_record, no_tables, place_of, reqs_before, privilege_of}
 use Rattle.semantics.specs.Points.{meets, points_in}
 use Rattle.semantics.specs.Steps.{inst_at}
-use Rattle.semantics.specs.Reads.{req_at}
 use Rattle.spy_words.specs.declared.access.PrivWord.{PrivWord}
 use Rattle.semantics.specs.Rules.{is_declared, names, task_id, tree_id, reduced_by, names_unknown, interferes_with_own, is_of_wrong_tree, named_req, is_of_tree}
-use Rattle.semantics.proofs.Lists.{Member, member_left, member_append, none_at, meets_of, found_at, find_any, find_still, none_or_some}
+use Rattle.semantics.proofs.Members.{Member, member_left, member_append, none_at, meets_of, found_at, find_any, find_still, none_or_some}
 
 -- ---- words on the lists of the tables
 
@@ -236,9 +231,12 @@ with_kept t line (records.Req task tree space fields access atomic) k h = record
   numbered = with_req t.reqs _ h.numbered refl;
   calm = calm_with_req t.reqs _ t.spaces h.calm (space_named t task tree space fields access atomic k.names)
       (λ q m at. agrees t (place_of t.items task) tree space fields (privilege_of access) q
-        (none_at (λ (r : Req). (r.item == place_of t.items task) && ((r.tree == tree) && (meets (points_in t r.space) (points_in t space) && (meets r.fields fields && not (agree r.access (privilege_of access)))))) t.reqs q k.own m) at);
+      (none_at (λ (r : Req). (r.item == place_of t.items task) && ((r.tree == tree) && (meets (points_in t r.space) (points_in t space) && (meets r.fields fields && not (agree r.access (privilege_of access)))))) t.reqs q k.own m) at);
   named = named_with_req t.reqs _ t.insts t.maps h.named;
 }
 with_kept t line (records.Inst id tree space fields kind) k h = record { numbered = h.numbered; calm = h.calm; named = with_inst t.reqs t.insts t.maps _ h.named }
 with_kept t line (records.Map task number fields inst) k h = record { numbered = h.numbered; calm = h.calm; named = with_map t.reqs t.insts t.maps _ (names_of t line task number inst fields k) h.named }
 with_kept t line _ k h = record { numbered = h.numbered; calm = h.calm; named = h.named }
+
+pub nothing_sane : AreSane no_tables
+nothing_sane = record { numbered = record { low = λ r m. absurd m; single = λ q r a. absurd a }; calm = record { declared = λ r m. absurd m; calm = λ q r a. absurd a }; named = λ m is. absurd is }

@@ -1,12 +1,12 @@
 -- Which node, and which operation, a step belongs to.
-use Rattle.std.proofs.Common.{◌≡◌, ℕ, inl, inr, List, [], refl, sym, ap, ◌∙◌, subst, Option, Some, None}
+use Rattle.std.proofs.Common.{◌≡◌, ℕ, inl, inr, List, [], sym, ap, subst, Some}
 use Rattle.std.specs.Prelude.{map, slice_get}
 use Rattle.std.specs.Option.{option_map_or}
 use Rattle.semantics.specs.declared.moves.Move.{Move}
 use Rattle.semantics.specs.declared.tables.LogNode.{LogNode}
 use Rattle.semantics.specs.Tables.{Tables}
 use Rattle.semantics.specs.Steps.{Step, moves_of, steps_by}
-use Rattle.semantics.proofs.Lists.{Member, member_map, member_flat, none_or_some}
+use Rattle.semantics.proofs.Members.{Member, member_map, member_flat, none_or_some}
 
 -- The moves of the node at a position.
 abbrev pub moves_at : Tables → ℕ → List Move

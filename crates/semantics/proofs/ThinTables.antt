@@ -1,5 +1,6 @@
 -- The tables of thin logs.
 use Rattle.std.proofs.Common.{◌≡◌, ℕ, zero, suc, ◌+◌, ◌*◌, ◌<◌, ◌≤◌, Bool, true, false, List, [], ◌∷◌, ◌++◌, length, Some, fold, refl, sym, ap, subst, ◌∙◌, arith, append_assoc, append-nil, Contains, slice_get}
+use Rattle.std.specs.List.{filter_map}
 use Rattle.std.proofs.lemmas.List.{map-append, length-map}
 use Rattle.std.proofs.lemmas.List.Elements.{All-from_recursion, All-contains}
 use Rattle.spy_grammar.specs.declared.record.Record.{Record}
@@ -9,22 +10,11 @@ use Rattle.semantics.specs.Records.{records_of}
 use Rattle.semantics.specs.Events.{Node, graph_of}
 use Rattle.semantics.specs.TaskOrder.{is_write, writes_in}
 use Rattle.semantics.specs.Tables.{Tables, privilege_of, with_record, no_tables, tables_of}
+use Rattle.semantics.specs.Rules.{node_of}
+use Rattle.semantics.proofs.Nodes.{nodes_are}
 use Rattle.semantics.specs.Thin.{GoesBack, ThinTask, ThinLog, access_of, task_records, run_records, thin_records, WaitsBack, writes_of, runs_from, runs_of}
 
--- the node, and the requirement's privilege, that a record declares
-abbrev node_of : Record → List Node
-node_of (records.Run task done waits) = record { done = done; waits = waits } ∷ []
-node_of (records.Copy src dst space fields done waits) = record { done = done; waits = waits } ∷ []
-node_of (records.Put inst space fields n done waits) = record { done = done; waits = waits } ∷ []
-node_of (records.Reset inst space fields done waits) = record { done = done; waits = waits } ∷ []
-node_of (records.Fold src dst space fields done waits) = record { done = done; waits = waits } ∷ []
-node_of (records.Merge done waits) = record { done = done; waits = waits } ∷ []
-node_of _ = []
-
-abbrev nodes_in : List Record → List Node
-nodes_in [] = []
-nodes_in (r ∷ rs) = node_of r ++ nodes_in rs
-
+-- the requirement's privilege that a record declares
 abbrev write_of : Record → List Bool
 write_of (records.Req task tree space fields access atomic) = is_write (privilege_of access) ∷ []
 write_of _ = []
@@ -33,32 +23,19 @@ abbrev writes_among : List Record → List Bool
 writes_among [] = []
 writes_among (r ∷ rs) = write_of r ++ writes_among rs
 
-node_added : (t : Tables) (line : ℕ) (r : Record) → graph_of (with_record t line r).nodes ≡ graph_of t.nodes ++ node_of r
-node_added t line (records.Run task done waits) = map-append _ t.nodes _
-node_added t line (records.Copy src dst space fields done waits) = map-append _ t.nodes _
-node_added t line (records.Put inst space fields n done waits) = map-append _ t.nodes _
-node_added t line (records.Reset inst space fields done waits) = map-append _ t.nodes _
-node_added t line (records.Fold src dst space fields done waits) = map-append _ t.nodes _
-node_added t line (records.Merge done waits) = map-append _ t.nodes _
-node_added t line _ = sym (append-nil (graph_of t.nodes))
-
 write_added : (t : Tables) (line : ℕ) (r : Record) → writes_in (with_record t line r).reqs ≡ writes_in t.reqs ++ write_of r
 write_added t line (records.Req task tree space fields access atomic) = map-append _ t.reqs _
 write_added t line _ = sym (append-nil (writes_in t.reqs))
-
-nodes_folded : (t : Tables) (log : List Lined) → graph_of (fold (λ t (l : Lined). with_record t l.line l.rec) t log).nodes ≡ graph_of t.nodes ++ nodes_in (records_of log)
-nodes_folded t [] = sym (append-nil (graph_of t.nodes))
-nodes_folded t (l ∷ log) = nodes_folded (with_record t l.line l.rec) log ∙ ap (λ ns. ns ++ nodes_in (records_of log)) (node_added t l.line l.rec) ∙ append_assoc (graph_of t.nodes) (node_of l.rec) (nodes_in (records_of log))
 
 writes_folded : (t : Tables) (log : List Lined) → writes_in (fold (λ t (l : Lined). with_record t l.line l.rec) t log).reqs ≡ writes_in t.reqs ++ writes_among (records_of log)
 writes_folded t [] = sym (append-nil (writes_in t.reqs))
 writes_folded t (l ∷ log) = writes_folded (with_record t l.line l.rec) log ∙ ap (λ ws. ws ++ writes_among (records_of log)) (write_added t l.line l.rec) ∙ append_assoc (writes_in t.reqs) (write_of l.rec) (writes_among (records_of log))
 
-nodes_behind_tasks : (i : ℕ) (ts : List ThinTask) (rs : List Record) → nodes_in (task_records i ts ++ rs) ≡ nodes_in rs
+nodes_behind_tasks : (i : ℕ) (ts : List ThinTask) (rs : List Record) → filter_map node_of (task_records i ts ++ rs) ≡ filter_map node_of rs
 nodes_behind_tasks i [] rs = refl
 nodes_behind_tasks i (t ∷ ts) rs = nodes_behind_tasks (i + 1) ts rs
 
-nodes_of_runs : (i : ℕ) (ts : List ThinTask) (n : ℕ) → nodes_in (run_records i ts ++ records.End n ∷ []) ≡ runs_from i ts
+nodes_of_runs : (i : ℕ) (ts : List ThinTask) (n : ℕ) → filter_map node_of (run_records i ts ++ records.End n ∷ []) ≡ runs_from i ts
 nodes_of_runs i [] n = refl
 nodes_of_runs i (t ∷ ts) n = ap (λ ns. record { done = i; waits = t.waits } ∷ ns) (nodes_of_runs (i + 1) ts n)
 
@@ -75,7 +52,7 @@ writes_of_tasks i [] rs e = e
 writes_of_tasks i (t ∷ ts) rs e = cc (access_writes t.writes, writes_of_tasks (i + 1) ts rs e)
 
 pub thin_nodes : (thin : ThinLog) (log : List Lined) → records_of log ≡ thin_records thin → graph_of (tables_of log).nodes ≡ runs_of thin.tasks
-thin_nodes thin log e = nodes_folded no_tables log ∙ ap nodes_in e ∙ nodes_behind_tasks 1 thin.tasks (run_records 1 thin.tasks ++ records.End (3 + 3 * length thin.tasks) ∷ []) ∙ nodes_of_runs 1 thin.tasks (3 + 3 * length thin.tasks)
+thin_nodes thin log e = nodes_are log ∙ ap (filter_map node_of) e ∙ nodes_behind_tasks 1 thin.tasks (run_records 1 thin.tasks ++ records.End (3 + 3 * length thin.tasks) ∷ []) ∙ nodes_of_runs 1 thin.tasks (3 + 3 * length thin.tasks)
 
 pub thin_writes : (thin : ThinLog) (log : List Lined) → records_of log ≡ thin_records thin → writes_in (tables_of log).reqs ≡ writes_of thin.tasks
 thin_writes thin log e = writes_folded no_tables log ∙ ap writes_among e ∙ writes_of_tasks 1 thin.tasks (run_records 1 thin.tasks ++ records.End (3 + 3 * length thin.tasks) ∷ []) (writes_behind_runs 1 thin.tasks (3 + 3 * length thin.tasks))

@@ -1,13 +1,11 @@
 -- Two steps of one node conflict only where the one is a read and the other is none.
-use Rattle.std.proofs.Common.{◌≡◌, ◌≢◌, ℕ, ◌⊎◌, inl, inr, Bool, true, false, not, ◌&&◌, ◌==◌, List, [], ◌∷◌, ◌++◌, cond, refl, sym, ap, ◌∙◌, subst, Option, Some, None}
-use Rattle.std.specs.Prelude.{find, option_map, is_some, unwrap_or, slice_get, Contains, map, flat_map}
-use Rattle.std.specs.Option.{option_map_or}
+use Rattle.std.proofs.Common.{◌≡◌, ◌≢◌, ℕ, ◌⊎◌, inl, inr, Bool, true, false, not, ◌&&◌, ◌==◌, List, cond, refl, sym, ap, ◌∙◌, subst, Option, Some, None}
+use Rattle.std.specs.Prelude.{find, option_map, is_some, unwrap_or, map, flat_map}
 use Rattle.std.proofs.lemmas.Bool.{true≢false, and_parts, cases_Bool, cases_eq, eq-eqb, eqb-true}
-use Rattle.std.proofs.lemmas.Bool.Decides.{eqb_tells}
 use Rattle.privilege.specs.declared.kinds.Priv.{Priv}
 use Rattle.privilege.specs.declared.kinds.Priv.TheVariants as privileges
 use Rattle.privilege.specs.Interference.{agree}
-use Rattle.privilege.specs.Allowed.{may_read, may_write}
+use Rattle.privilege.specs.Allowed.{may_write}
 use Rattle.semantics.specs.declared.places.Cell.{Cell}
 use Rattle.semantics.specs.declared.moves.Move.{Move}
 use Rattle.semantics.specs.declared.moves.Move.TheVariants as moves
@@ -18,17 +16,17 @@ use Rattle.semantics.specs.declared.tables.Op.TheVariants as operations
 use Rattle.semantics.specs.Tables.{Tables, Map}
 use Rattle.semantics.specs.Points.{is_in, points_in}
 use Rattle.semantics.specs.Kinds.{reqs_of, grid, req_grid}
-use Rattle.semantics.specs.Steps.{Step, id_of, mapped, mapped_cell, cell_in, reads_by, changes_by, at_cells, run_moves, moves_of, steps}
+use Rattle.semantics.specs.Steps.{id_of, mapped, mapped_cell, cell_in, reads_by, changes_by, at_cells, run_moves, moves_of, steps}
 use Rattle.semantics.specs.Execution.{same_cell}
 use Rattle.semantics.specs.Interleavings.{is_read}
 use Rattle.semantics.specs.Races.{Access, Untouched, Reads, Writes, Folds, at_cell, from_to, access, conflicts, IsTidy}
-use Rattle.semantics.proofs.Lists.{Member, member_of, member_append, member_map, member_flat, member_filter, member_at, found_at, none_or_some}
+use Rattle.semantics.proofs.Members.{Member, member_of, member_append, member_map, member_flat, member_filter, found_at, none_or_some}
 use Rattle.semantics.proofs.Sane.{AreSane, tree_of}
 use Rattle.semantics.proofs.StepLists.{of_node}
 
 -- ---- cells and accesses
 
-cell_is : {a b : Cell} → a.inst ≡ b.inst → a.point ≡ b.point → a.field ≡ b.field → a ≡ b
+pub cell_is : {a b : Cell} → a.inst ≡ b.inst → a.point ≡ b.point → a.field ≡ b.field → a ≡ b
 cell_is p q r = λ i. record { inst = p i; point = q i; field = r i }
 
 same_is : (a b : Cell) → same_cell a b ≡ true → a ≡ b
@@ -106,20 +104,20 @@ module _ (of : ℕ × ℕ → Move) (ps : List (ℕ × ℕ)) (meet : (p q : ℕ 
 -- ---- the moves of a task
 
 -- What a task does for a requirement at a cell, and which requirement of its that is.
-record IsOf (t : Tables) (rs : List Req) (does : Req → Cell → List Move) (m : Move) : Type 0 where
-  req : Req
-  at : ℕ × ℕ
-  is_req : Member rs req
-  is_at : Member (req_grid t req) at
-  is_done : Member (does req (mapped_cell t req at)) m
+pub record IsOf (t : Tables) (rs : List Req) (does : Req → Cell → List Move) (m : Move) : Type 0 where
+  pub req : Req
+  pub at : ℕ × ℕ
+  pub is_req : Member rs req
+  pub is_at : Member (req_grid t req) at
+  pub is_done : Member (does req (mapped_cell t req at)) m
 
-is_of : (t : Tables) (rs : List Req) (does : Req → Cell → List Move) (m : Move) → Member (at_cells t does rs) m → IsOf t rs does m
+pub is_of : (t : Tables) (rs : List Req) (does : Req → Cell → List Move) (m : Move) → Member (at_cells t does rs) m → IsOf t rs does m
 is_of t rs does m h =
     let r = member_flat (λ r. flat_map (λ p. does r (mapped_cell t r p)) (req_grid t r)) rs m h in
     let p = member_flat (λ p. does r.0 (mapped_cell t r.0 p)) (req_grid t r.0) m r.2 in
     record { req = r.0; at = p.0; is_req = r.1; is_at = p.1; is_done = p.2 }
 
-read_is : (task number : ℕ) (access : Priv) (c : Cell) (m : Move) → Member (reads_by task number access c) m → m ≡ moves.Read task number c
+pub read_is : (task number : ℕ) (access : Priv) (c : Cell) (m : Move) → Member (reads_by task number access c) m → m ≡ moves.Read task number c
 read_is task number privileges.Ro c m (inl is) = is
 read_is task number privileges.Ro c m (inr none) = absurd none
 read_is task number privileges.Rw c m (inl is) = is
@@ -128,7 +126,7 @@ read_is task number privileges.Wd c m none = absurd none
 read_is task number (privileges.Red op) c m none = absurd none
 
 -- A change is a write, or a reduction with the operator of the requirement.
-change_is : (task number : ℕ) (access : Priv) (c : Cell) (m : Move) → Member (changes_by task number access c) m
+pub change_is : (task number : ℕ) (access : Priv) (c : Cell) (m : Move) → Member (changes_by task number access c) m
     → ((may_write access ≡ true) × (m ≡ moves.Write task c)) ⊎ ((op : ℕ) × (access ≡ privileges.Red op) × (m ≡ moves.Reduce task number op c))
 change_is task number privileges.Ro c m none = absurd none
 change_is task number privileges.Rw c m (inl is) = inl (refl, is)
@@ -137,6 +135,12 @@ change_is task number privileges.Wd c m (inl is) = inl (refl, is)
 change_is task number privileges.Wd c m (inr none) = absurd none
 change_is task number (privileges.Red op) c m (inl is) = inr (op, refl, is)
 change_is task number (privileges.Red op) c m (inr none) = absurd none
+
+pub a_read : (task : ℕ) (t : Tables) (rs : List Req) (m : Move) → IsOf t rs (λ r c. reads_by task r.number r.access c) m → is_read m ≡ true
+a_read task t rs m x = ap is_read (read_is task x.req.number x.req.access (mapped_cell t x.req x.at) m x.is_done)
+
+pub no_read : (task : ℕ) (t : Tables) (rs : List Req) (m : Move) → IsOf t rs (λ r c. changes_by task r.number r.access c) m → is_read m ≡ false
+no_read task t rs m x = elim (change_is task x.req.number x.req.access (mapped_cell t x.req x.at) m x.is_done) [ inl w ↦ ap is_read w.1 | inr r ↦ ap is_read r.2 ]
 
 -- ---- two requirements of one task at one cell
 
@@ -170,7 +174,7 @@ module _ (t : Tables) (sane : AreSane t) (whole : (r : Req) (field : ℕ) → Me
   ]
 
   -- Two requirements of one task agree where they are mapped to one cell.
-  at_one_cell : (q r : Req) (p s : ℕ × ℕ) → Member t.reqs q → Member t.reqs r → q.item ≡ r.item → q.number ≢ r.number → Member (req_grid t q) p → Member (req_grid t r) s
+  pub at_one_cell : (q r : Req) (p s : ℕ × ℕ) → Member t.reqs q → Member t.reqs r → q.item ≡ r.item → q.number ≢ r.number → Member (req_grid t q) p → Member (req_grid t r) s
       → mapped_cell t q p ≡ mapped_cell t r s → agree q.access r.access ≡ true
   at_one_cell q r p s is_q is_r item number at_p at_s same =
       let x = target q p is_q at_p in
@@ -255,19 +259,13 @@ module _ (t : Tables) (sane : AreSane t) (whole : (r : Req) (field : ℕ) → Me
     run_tidy m n c a b differ e = elim (member_append (at_cells t reads (reqs_of t item)) (at_cells t changes (reqs_of t item)) m a) [
       | inl r ↦ elim (member_append (at_cells t reads (reqs_of t item)) (at_cells t changes (reqs_of t item)) n b) [
         | inl s ↦ absurd (two_reads m n (is_of t _ reads m r) (is_of t _ reads n s) c e)
-        | inr s ↦ λ same. true≢false (sym (a_read m (is_of t _ reads m r)) ∙ same ∙ no_read n (is_of t _ changes n s))
+        | inr s ↦ λ same. true≢false (sym (a_read task t (reqs_of t item) m (is_of t _ reads m r)) ∙ same ∙ no_read task t (reqs_of t item) n (is_of t _ changes n s))
       ]
       | inr r ↦ elim (member_append (at_cells t reads (reqs_of t item)) (at_cells t changes (reqs_of t item)) n b) [
-        | inl s ↦ λ same. true≢false (sym (a_read n (is_of t _ reads n s)) ∙ sym same ∙ no_read m (is_of t _ changes m r))
+        | inl s ↦ λ same. true≢false (sym (a_read task t (reqs_of t item) n (is_of t _ reads n s)) ∙ sym same ∙ no_read task t (reqs_of t item) m (is_of t _ changes m r))
         | inr s ↦ absurd (two_changes m n (is_of t _ changes m r) (is_of t _ changes n s) differ c e)
       ]
     ]
-      where
-        a_read : (m : Move) → IsOf t (reqs_of t item) reads m → is_read m ≡ true
-        a_read m x = ap is_read (read_is task x.req.number x.req.access (mapped_cell t x.req x.at) m x.is_done)
-
-        no_read : (m : Move) → IsOf t (reqs_of t item) changes m → is_read m ≡ false
-        no_read m x = elim (change_is task x.req.number x.req.access (mapped_cell t x.req x.at) m x.is_done) [ inl w ↦ ap is_read w.1 | inr r ↦ ap is_read r.2 ]
 
   op_tidy : (op : Op) (m n : Move) (c : Cell) → Member (moves_of t op) m → Member (moves_of t op) n → m ≢ n → conflicts (access m c) (access n c) ≡ true → is_read m ≢ is_read n
   op_tidy (operations.Run item) m n c a b differ e = run_tidy item (id_of t item) m n c a b differ e

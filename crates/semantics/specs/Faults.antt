@@ -114,11 +114,16 @@ pub data Command : Type 0 where
   Ordered : Command
   Deps : Command
 
--- The fault that a command shows of a log. `check` alone asks that each field be mapped.
+-- `check` alone asks that each field be mapped.
+abbrev pub map_fault : Command → Tables → Option Fault
+map_fault Check t = unmapped_fault t
+map_fault _ t = None
+
+-- The fault that a command shows of a log.
 unfoldable pub log_fault : Command → ℕ → List Lined → Option Fault
 log_fault command lines log =
     option_or (header_fault lines log)
     (option_or (ended_fault lines log)
     (option_or (count_fault log)
     (option_or (records_fault (records_of log) [] log)
-    (option_or (serial_fault (tables_of log)) (elim command [ Check ↦ unmapped_fault (tables_of log) | Ordered ↦ None | Deps ↦ None ])))))
+    (option_or (serial_fault (tables_of log)) (map_fault command (tables_of log))))))
