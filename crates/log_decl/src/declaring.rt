@@ -5,7 +5,7 @@ ghost use Rattle.spy_grammar.specs.declared.code.Code.{Code};
 ghost use Rattle.spy_grammar.specs.declared.code.Code.TheVariants.{Unbuilt};
 ghost use Rattle.semantics.specs.Records.{records_of};
 ghost use Rattle.semantics.specs.Tables.{tables_of};
-ghost use Rattle.semantics.specs.Thin.{IsThinLog};
+ghost use Rattle.thin_logs.specs.Thin.{IsThinLog};
 ghost use Rattle.log_decl.specs.TaskTables.{task_tables};
 ghost use Rattle.log_decl.specs.declared.declaring.DeclEnd.TheVariants.{Memory};
 

@@ -16,7 +16,5 @@ pub mod Rules
 pub mod Faults
 pub mod Shown
 pub mod Outcome
-pub mod Thin
-pub mod TaskOrder
 pub mod Computed
 pub mod WorkedLogs

@@ -1,5 +1,5 @@
 -- Worked logs, by their records. Each stands on its line: the first on line 1.
-use Rattle.std.specs.Prelude.{ℕ, ◌+◌, Bool, true, false, List, [], ◌∷◌, ◌++◌, codes}
+use Rattle.std.specs.Prelude.{ℕ, ◌+◌, Bool, true, false, List, [], ◌∷◌, ◌++◌}
 use Rattle.spy_words.specs.declared.access.PrivWord.{PrivWord}
 use Rattle.spy_words.specs.declared.access.PrivWord.TheVariants.{Ro, Rw, Wd, Red}
 use Rattle.spy_words.specs.declared.access.InstKind.TheVariants as layouts
@@ -11,7 +11,6 @@ use Rattle.value_terms.specs.Values.{Value}
 use Rattle.semantics.specs.declared.places.Place.{Place}
 use Rattle.semantics.specs.declared.places.Cell.{Cell}
 use Rattle.semantics.specs.Reads.{Seen}
-use Rattle.semantics.specs.Thin.{ThinLog}
 
 abbrev pub lined_from : ℕ → List Record → List Lined
 lined_from line [] = []
@@ -31,13 +30,6 @@ region last = Header 1 ∷ Ispace 1 ((0, last) ∷ []) ∷ Fields 1 one ∷ Tree
 -- A task with one requirement, on all of the region.
 abbrev pub task_with : ℕ → PrivWord → List Record
 task_with id access = Task id ∷ Req id 1 1 one access false ∷ []
-
--- Two thin logs: two tasks of which the first writes; in the second log its run is not waited on.
-abbrev pub two_tasks : ThinLog
-two_tasks = record { last = 3; tasks = record { writes = true; waits = [] } ∷ record { writes = false; waits = one } ∷ [] }
-
-abbrev pub two_tasks_unordered : ThinLog
-two_tasks_unordered = record { last = 3; tasks = record { writes = true; waits = [] } ∷ record { writes = false; waits = [] } ∷ [] }
 
 -- Two tasks whose fields are mapped to nothing.
 abbrev pub unmapped : List Record
@@ -105,21 +97,6 @@ turned_by_log = turned true (Serial (2 ∷ 1 ∷ []) ∷ []) 13
 -- Two subspaces of a partition that share the point 5.
 abbrev pub overlapping : Bool → List Record
 overlapping disjoint = Header 1 ∷ Ispace 1 ((0, 9) ∷ []) ∷ Part 1 1 disjoint ∷ Ispace 2 ((0, 5) ∷ []) ∷ Sub 1 0 2 ∷ Ispace 3 ((5, 9) ∷ []) ∷ Sub 1 1 3 ∷ End 6 ∷ []
-
--- The text of the two tasks.
-abbrev pub two_tasks_text : List ℕ
-two_tasks_text =
-    codes "legion-spy 1\n"
-    ++ codes "ispace 1 0-3\n"
-    ++ codes "fields 1 1\n"
-    ++ codes "tree 1 1 1\n"
-    ++ codes "task 1\n"
-    ++ codes "req 1 1 1 1 rw ex\n"
-    ++ codes "task 2\n"
-    ++ codes "req 2 1 1 1 ro ex\n"
-    ++ codes "run 1 1 -\n"
-    ++ codes "run 2 2 1\n"
-    ++ codes "end 9\n"
 
 -- What two tasks have added to the value at the start.
 abbrev pub both_added : ℕ → Value

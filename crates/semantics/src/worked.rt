@@ -7,35 +7,16 @@ ghost use Rattle.spy_grammar.specs.declared.record.Record.TheVariants as records
 ghost use Rattle.privilege.specs.declared.kinds.Kind.TheVariants as kinds;
 ghost use Rattle.value_terms.specs.declared.terms.Base.TheVariants as bases;
 ghost use Rattle.value_terms.specs.Values.{plain};
-ghost use Rattle.semantics.specs.Records.{text_of};
 ghost use Rattle.semantics.specs.Tables.{tables_of};
 ghost use Rattle.semantics.specs.Kinds.{item_kind, least_place, pairs};
 ghost use Rattle.semantics.specs.SerialOrder.{serial};
-ghost use Rattle.semantics.specs.Events.{Before, graph_of};
+ghost use Rattle.semantics.specs.Events.{graph_of};
 ghost use Rattle.semantics.specs.ReplayOrder.{replay_order, shown_cycle};
 ghost use Rattle.semantics.specs.Races.{Race};
 ghost use Rattle.semantics.specs.Reads.{shown_difference, want_of};
 ghost use Rattle.semantics.specs.Faults.{Check, Ordered, at_line, log_fault};
 ghost use Rattle.semantics.specs.Outcome.{operation_count, read_count, task_count};
-ghost use Rattle.semantics.specs.Thin.{IsThin, thin_records, writes_of, runs_of};
-ghost use Rattle.semantics.specs.TaskOrder.{IsShown, IsOrdered, pair_count};
-ghost use Rattle.semantics.specs.WorkedLogs.{accepted, both_added, copy_unordered, first_cell, first_place, folded_once, folded_twice, fresh_copy, in_a_circle, lined, merges_in_a_circle, not_reset, one, one_instance, overlapping, saw, stale_copy, turned, turned_by_log, two_operators, two_tasks, two_tasks_text, two_tasks_unordered, unmapped, unordered};
-
-/// What the definitions say of two tasks over one region, of which the first writes, with and without a wait.
-pub fn worked_thin_logs()
-    ensures records { thin_records two_tasks ≡ unmapped }
-    ensures text { text_of unmapped ≡ two_tasks_text }
-    ensures thin { IsThin two_tasks }
-    ensures pairs { pair_count (writes_of two_tasks.tasks) ≡ 1 }
-
-    ensures before { Before (runs_of two_tasks.tasks) 0 1 }
-    ensures not_after { Before (runs_of two_tasks.tasks) 1 0 → ⊥ }
-    ensures ordered { IsOrdered (writes_of two_tasks.tasks) (runs_of two_tasks.tasks) }
-
-    ensures thin_too { IsThin two_tasks_unordered }
-    ensures not_before { Before (runs_of two_tasks_unordered.tasks) 0 1 → ⊥ }
-    ensures shown { IsShown (writes_of two_tasks_unordered.tasks) (runs_of two_tasks_unordered.tasks) 0 1 }
-{}
+ghost use Rattle.semantics.specs.WorkedLogs.{accepted, both_added, copy_unordered, first_cell, first_place, folded_once, folded_twice, fresh_copy, in_a_circle, lined, merges_in_a_circle, not_reset, one, one_instance, overlapping, saw, stale_copy, turned, turned_by_log, two_operators, unmapped, unordered};
 
 /// What the definitions say of worked logs.
 #[tactic(auto, using(crate::proofs::WorkedRaces::race_of_runs, crate::proofs::WorkedRaces::race_of_operators, crate::proofs::WorkedRaces::race_with_copy), unfolding(crate::specs::Computed::logs_computed))]

@@ -5,7 +5,7 @@ use Rattle.std.proofs.lemmas.Bool.{or_cases, or_left, or_right}
 use Rattle.std.proofs.lemmas.Bool.Decides.{Decides-below_or, Decides-and, Decides-eqb}
 use Rattle.std.proofs.lemmas.Option.{slice_get_within, same_Some, slice_get-get_or}
 use Rattle.semantics.specs.Events.{Node, WaitsOn, IsChain, Before}
-use Rattle.semantics.specs.Thin.{GoesBack}
+use Rattle.thin_logs.specs.Thin.{GoesBack}
 use Rattle.spy_cli.specs.Marks.{mark_at, row_at, is_reached, AreEarlier}
 
 -- A chain of two steps or more ends with a step from a node that the start is before.

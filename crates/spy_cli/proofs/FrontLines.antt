@@ -6,7 +6,7 @@ use Rattle.spy_grammar.specs.declared.record.Record.{Record}
 use Rattle.spy_grammar.specs.declared.record.Lined.{Lined}
 use Rattle.spy_grammar.specs.Spelling.{spelling, Good}
 use Rattle.semantics.specs.Records.{text_of, records_of}
-use Rattle.semantics.specs.Thin.{StandsFrom, Spells}
+use Rattle.thin_logs.specs.Thin.{StandsFrom, Spells}
 use Rattle.semantics.proofs.Texts.{same_line, GoesOn}
 use Rattle.std.specs.Prelude.{Result, Ok, Err, IsErrAnd, IsErrOf}
 use Rattle.spy_words.specs.declared.fault.LineFault.{LineFault}

@@ -8,13 +8,13 @@ use Rattle.spy_io.specs.declared.Memory.{Memory as NoMemory}
 use Rattle.spy_grammar.specs.declared.record.Lined.{Lined}
 use Rattle.semantics.specs.Records.{text_of, records_of}
 use Rattle.semantics.specs.Tables.{tables_of}
-use Rattle.semantics.specs.TaskOrder.{writes_in}
+use Rattle.thin_logs.specs.TaskOrder.{writes_in}
 use Rattle.semantics.specs.Events.{graph_of}
 use Rattle.log_decl.specs.TaskTables.{TaskTables, task_tables}
 use Rattle.spy_cli.specs.declared.judging.Report.{Report}
 use Rattle.semantics.specs.Events.{Node}
-use Rattle.semantics.specs.Thin.{Spells, ThinLog, thin_records, writes_of, runs_of, IsThin, IsThinLog, SpellsThin}
-use Rattle.semantics.specs.TaskOrder.{IsShown, IsOrdered}
+use Rattle.thin_logs.specs.Thin.{Spells, ThinLog, thin_records, writes_of, runs_of, IsThin, IsThinLog, SpellsThin}
+use Rattle.thin_logs.specs.TaskOrder.{IsShown, IsOrdered}
 use Rattle.spy_cli.specs.declared.status.Status.{Status}
 use Rattle.spy_cli.specs.declared.status.Status.TheVariants.{Yes, Refused, Fault}
 use Rattle.spy_cli.specs.Texts.{unbuilt_text}

@@ -10,9 +10,9 @@ use Rattle.std.proofs.lemmas.List.Sums.{count_by-le-length}
 use Rattle.std.proofs.lemmas.Option.{slice_get-map, slice_get_read, slice_get-get_or, get_or_from_slice_get}
 use Rattle.semantics.specs.declared.tables.LogNode.{LogNode}
 use Rattle.semantics.specs.Events.{Node, Before}
-use Rattle.semantics.specs.Thin.{GoesBack}
+use Rattle.thin_logs.specs.Thin.{GoesBack}
 use Rattle.semantics.specs.Events.{graph_of}
-use Rattle.semantics.specs.TaskOrder.{IsUnordered, IsShown, IsOrdered, pair_count}
+use Rattle.thin_logs.specs.TaskOrder.{IsUnordered, IsShown, IsOrdered, pair_count}
 use Rattle.spy_cli.specs.Marks.{mark_at, row_at, is_reached, AreEarlier, IsApart}
 use Rattle.spy_cli.proofs.Chains.{next_row}
 

@@ -4,8 +4,8 @@ use Rattle.std.specs.Io.KnownBytes.{Appends}
 use Rattle.spy_cli.specs.declared.status.Status.{Status}
 use Rattle.spy_cli.specs.declared.status.Status.TheVariants.{Yes, Refused, Fault, Usage, ReadFault, WriteFault, Memory}
 use Rattle.semantics.specs.Events.{Node}
-use Rattle.semantics.specs.Thin.{ThinLog, writes_of, runs_of, SpellsThin}
-use Rattle.semantics.specs.TaskOrder.{IsShown, IsOrdered, pair_count}
+use Rattle.thin_logs.specs.Thin.{ThinLog, writes_of, runs_of, SpellsThin}
+use Rattle.thin_logs.specs.TaskOrder.{IsShown, IsOrdered, pair_count}
 use Rattle.spy_cli.specs.Texts.{ordered_text, unordered_text, unbuilt_text}
 
 -- Whether the words are the one word `ordered`.

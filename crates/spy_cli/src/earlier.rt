@@ -2,8 +2,8 @@
 
 ghost use Rattle.std.specs.Prelude.{◌≡◌, ℕ, ◌+◌, ◌^◌, ◌<◌, ◌≤◌, ◌==◌, ◌⊎◌, ◌||◌, length, map, false, Contains, Decides, IfOk, IfSome, IfNone};
 ghost use Rattle.semantics.specs.Events.{graph_of};
-ghost use Rattle.semantics.specs.Thin.{GoesBack};
-ghost use Rattle.semantics.specs.TaskOrder.{IsShown, IsOrdered, pair_count};
+ghost use Rattle.thin_logs.specs.Thin.{GoesBack};
+ghost use Rattle.thin_logs.specs.TaskOrder.{IsShown, IsOrdered, pair_count};
 ghost use Rattle.spy_cli.specs.Marks.{mark_at, row_at, is_reached, AreEarlier, IsApart};
 
 use semantics::LogNode;

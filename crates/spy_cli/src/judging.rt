@@ -2,8 +2,8 @@
 
 ghost use Rattle.std.specs.Prelude.{◌≡◌, ◌^◌, ◌≤◌, length, map, IfOk};
 ghost use Rattle.semantics.specs.Events.{graph_of};
-ghost use Rattle.semantics.specs.TaskOrder.{is_write, writes_in};
-ghost use Rattle.semantics.specs.Thin.{GoesBack};
+ghost use Rattle.thin_logs.specs.TaskOrder.{is_write, writes_in};
+ghost use Rattle.thin_logs.specs.Thin.{GoesBack};
 ghost use Rattle.spy_cli.specs.Outcome.{IsOutcome, IsJudged};
 ghost use Rattle.spy_cli.specs.Texts.{unbuilt_text};
 
@@ -13,7 +13,7 @@ use crate::status::Status;
 use crate::texts::{ordered_report, unordered_report};
 use log_decl::{DeclEnd, Log, Req, declare};
 use privilege::Priv;
-use semantics::{one_log, records_are_few, thin_logs_are_logs, thin_tables};
+use thin_logs::{one_log, records_are_few, thin_logs_are_logs, thin_tables};
 use spy_io::Memory;
 use std::alloc::{AllocError, Global};
 

@@ -4,7 +4,7 @@ ghost use Rattle.std.specs.Prelude.{◌≡◌, ℕ, List};
 ghost use Rattle.spy_cli.specs.declared.status.Status.{Status};
 ghost use Rattle.spy_cli.specs.Outcome.{IsOutcome};
 
-use semantics::one_thin_log;
+use thin_logs::one_thin_log;
 
 /// No input has two outcomes.
 pub fn one_outcome()

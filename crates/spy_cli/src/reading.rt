@@ -4,13 +4,13 @@ ghost use Rattle.std.specs.Prelude.{◌≡◌, ◌≢◌, ◌+◌, ◌^◌, ◌�
 ghost use Rattle.std.specs.List.{All};
 ghost use Rattle.spy_grammar.specs.declared.record.Record.{Record};
 ghost use Rattle.spy_grammar.specs.declared.record.Lined.{Lined};
-ghost use Rattle.semantics.specs.Thin.{Spells};
+ghost use Rattle.thin_logs.specs.Thin.{Spells};
 ghost use Rattle.spy_cli.specs.Lines.{BeginsWith};
 ghost use Rattle.spy_cli.specs.LineEnds.{end_of};
 ghost use Rattle.spy_cli.specs.declared.reading.LinesEnd.TheVariants.{Memory};
 
 use memchr::memchr;
-use semantics::reads_on;
+use thin_logs::reads_on;
 use spy_grammar::{LineFault, Lined, Record, read_line, spelling_is_one_line};
 use std::alloc::{AllocError, AllocFailed, Global};
 

@@ -1,6 +1,6 @@
 use Rattle.std.proofs.Common.{rules, arith, subst, ◌≤◌, length, ◌∙◌}
 use Rattle.semantics.specs.Records.{records_of}
-use Rattle.semantics.specs.Thin.{IsThinLog}
+use Rattle.thin_logs.specs.Thin.{IsThinLog}
 use Rattle.log_decl.proofs.ThinLaws.{few_records}
 use Rattle.log_decl.proofs.TaskRecords.{thin_task_tables, all_taken}
 use Rattle.log_decl.proofs.declaring.declare.Goals as goal

@@ -1,6 +1,6 @@
 use Rattle.std.proofs.Common.{◌≡◌, ◌-◌, length, drop}
 use Rattle.std.specs.Prelude.{count_by}
-use Rattle.semantics.specs.TaskOrder.{pair_count}
+use Rattle.thin_logs.specs.TaskOrder.{pair_count}
 use Rattle.spy_cli.proofs.earlier.count_pairs.Given as goal
 
 abbrev pub invariant-loop-later : goal.invariant-loop-later

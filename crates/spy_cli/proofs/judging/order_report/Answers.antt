@@ -1,7 +1,7 @@
 use Rattle.std.proofs.Common.{◌≡◌, length, sym, ap, ◌∙◌}
 use Rattle.semantics.specs.Events.{graph_of}
-use Rattle.semantics.specs.TaskOrder.{writes_in}
-use Rattle.semantics.specs.TaskOrder.{pair_count}
+use Rattle.thin_logs.specs.TaskOrder.{writes_in}
+use Rattle.thin_logs.specs.TaskOrder.{pair_count}
 use Rattle.spy_cli.specs.Texts.{ordered_text}
 use Rattle.spy_cli.proofs.Outcomes.{none_found}
 use Rattle.spy_cli.proofs.judging.order_report.Goals as goal

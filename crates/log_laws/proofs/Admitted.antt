@@ -1,0 +1,101 @@
+-- What it means for the tables of a log that no fault is shown of it.
+use Rattle.std.proofs.Common.{◌≡◌, ℕ, ◌+◌, inl, inr, Bool, true, false, not, List, [], ◌∷◌, ◌++◌, sym, subst, append_assoc, append-nil, Some, None}
+use Rattle.std.specs.Prelude.{find, cond, option_map, is_some}
+use Rattle.std.specs.List.{AllByRecursion, list_all}
+use Rattle.std.proofs.lemmas.Bool.{cases_Bool, not-false}
+use Rattle.std.proofs.lemmas.List.Sums.{fold-append}
+use Rattle.spy_grammar.specs.declared.code.Code.{Code}
+use Rattle.spy_grammar.specs.declared.record.Record.{Record}
+use Rattle.spy_grammar.specs.declared.record.Lined.{Lined}
+use Rattle.semantics.specs.declared.tables.Req.{Req}
+use Rattle.spy_grammar.specs.Spelling.{Good}
+use Rattle.semantics.specs.Records.{records_of, Hold, Reads}
+use Rattle.semantics.specs.Tables.{Tables, with_record, no_tables, tables_of}
+use Rattle.semantics.specs.Steps.{mapped}
+use Rattle.semantics.specs.Rules.{repeats_event, waits_for_none}
+use Rattle.semantics.specs.Faults.{Command, Check, tried, first_broken, records_fault, log_fault, header_fault, ended_fault, count_fault, serial_fault, map_fault}
+use Rattle.log_laws.proofs.Members.{Member, none_found, both_none, unmapped_none, all_at}
+use Rattle.log_laws.proofs.Sane.{Keeps, AreSane, with_kept, nothing_sane}
+
+-- A record of the log breaks no rule.
+abbrev pub Unbroken : List Record → List Lined → Record → Type 0
+Unbroken log earlier r = AllByRecursion (λ (p : Code × Bool). p.1 ≡ false) (tried log (records_of earlier) (tables_of earlier) r)
+
+unbroken : (rs : List (Code × Bool)) → first_broken rs ≡ None → AllByRecursion (λ (p : Code × Bool). p.1 ≡ false) rs
+unbroken [] e = tt
+unbroken (r ∷ rs) e = elim (cases_Bool r.1) [
+  | inl broken ↦
+      let bad : Some r.0 ≡ None = subst (λ b. option_map (λ (p : Code × Bool). p.0) (cond b (Some r) (find (λ (p : Code × Bool). p.1) rs)) ≡ None) broken e in
+      absurd cc
+  | inr kept ↦ (kept, unbroken rs (subst (λ b. option_map (λ (p : Code × Bool). p.0) (cond b (Some r) (find (λ (p : Code × Bool). p.1) rs)) ≡ None) kept e))
+]
+
+one_more : (earlier : List Lined) (l : Lined) → tables_of (earlier ++ l ∷ []) ≡ with_record (tables_of earlier) l.line l.rec
+one_more earlier l = fold-append (λ t (l : Lined). with_record t l.line l.rec) no_tables earlier (l ∷ [])
+
+-- What holds of no tables, and stays with each good record that breaks no rule, holds of the tables of the log. (`G` is what is known of each record by itself.)
+pub by_records : (G : Record → Type 0) (P : Tables → Type 0) (log : List Record)
+    → ((earlier : List Lined) (l : Lined) → Unbroken log earlier l.rec → G l.rec → P (tables_of earlier) → P (with_record (tables_of earlier) l.line l.rec))
+    → (earlier rest : List Lined) → AllByRecursion G (records_of rest) → records_fault log earlier rest ≡ None → P (tables_of earlier) → P (tables_of (earlier ++ rest))
+by_records G P log step earlier [] good e h = subst (λ ls. P (tables_of ls)) (sym (append-nil earlier)) h
+by_records G P log step earlier (l ∷ rest) good e h =
+    let parts = both_none _ (records_fault log (earlier ++ l ∷ []) rest) e in
+    let kept : Unbroken log earlier l.rec = unbroken (tried log (records_of earlier) (tables_of earlier) l.rec) (unmapped_none _ _ parts.0) in
+    let next : P (tables_of (earlier ++ l ∷ [])) = subst P (sym (one_more earlier l)) (step earlier l kept good.0 h) in
+    subst (λ ls. P (tables_of ls)) (append_assoc earlier (l ∷ []) rest) (by_records G P log step (earlier ++ l ∷ []) rest good.1 parts.1 next)
+
+-- Each record of a log without a broken rule breaks none at its place.
+pub each_unbroken : (log : List Record) (earlier rest : List Lined) → records_fault log earlier rest ≡ None → (r : Record) → Member (records_of rest) r → (before : List Lined) × Unbroken log before r
+each_unbroken log earlier [] e r m = absurd m
+each_unbroken log earlier (l ∷ rest) e r m =
+    let parts = both_none _ (records_fault log (earlier ++ l ∷ []) rest) e in
+    elim m [
+      | inl is ↦ (earlier, subst (Unbroken log earlier) (sym is) (unbroken (tried log (records_of earlier) (tables_of earlier) l.rec) (unmapped_none _ _ parts.0)))
+      | inr later ↦ each_unbroken log (earlier ++ l ∷ []) rest parts.1 r later
+    ]
+
+pub keeps_of : (log : List Record) (earlier : List Lined) (r : Record) → Unbroken log earlier r → Keeps (tables_of earlier) r
+keeps_of log earlier r u = record { names = u.1.1.0; own = u.1.1.1.1.1.1.1.1.1.1.1.1.0; tree = u.1.1.1.1.1.1.1.1.1.1.1.1.1.0 }
+
+pub event_is_new : (log : List Record) (earlier : List Lined) (r : Record) → Unbroken log earlier r → repeats_event (tables_of earlier) r ≡ false
+event_is_new log earlier r u = u.1.1.1.1.1.1.1.1.1.1.1.1.1.1.1.1.1.1.1.0
+
+pub events_are_completed : (log : List Record) (earlier : List Lined) (r : Record) → Unbroken log earlier r → waits_for_none log r ≡ false
+events_are_completed log earlier r u = u.1.1.1.1.1.1.1.1.1.1.1.1.1.1.1.1.1.1.1.1.0
+
+-- What it means, part by part, that a command shows no fault of a log.
+pub record IsFaultless (command : Command) (log : List Lined) : Type 0 where
+  pub records : records_fault (records_of log) [] log ≡ None
+  pub serial : serial_fault (tables_of log) ≡ None
+  pub maps : map_fault command (tables_of log) ≡ None
+
+pub faultless : (command : Command) (lines : ℕ) (log : List Lined) → log_fault command lines log ≡ None → IsFaultless command log
+unfolding log_fault
+faultless command lines log e =
+    let header = both_none (header_fault lines log) _ e in
+    let ended = both_none (ended_fault lines log) _ header.1 in
+    let count = both_none (count_fault log) _ ended.1 in
+    let records = both_none (records_fault (records_of log) [] log) _ count.1 in
+    let serial = both_none (serial_fault (tables_of log)) _ records.1 in
+    record { records = records.0; serial = serial.0; maps = serial.1 }
+
+pub sane : (command : Command) (log : List Lined) → IsFaultless command log → AreSane (tables_of log)
+sane command log f = by_records (λ r. Unit {0}) AreSane (records_of log) (λ earlier l u g. with_kept (tables_of earlier) l.line l.rec (keeps_of (records_of log) earlier l.rec u)) [] log (nothing_known (records_of log)) f.records nothing_sane
+  where
+    nothing_known : (rs : List Record) → AllByRecursion (λ r. Unit {0}) rs
+    nothing_known [] = tt
+    nothing_known (r ∷ rs) = (tt, nothing_known rs)
+
+-- Each field of a requirement is mapped.
+pub all_mapped : (log : List Lined) → IsFaultless Check log → (r : Req) (field : ℕ) → Member (tables_of log).reqs r → Member r.fields field → is_some (mapped (tables_of log) r field) ≡ true
+all_mapped log f r field m is =
+    let none : not (list_all (λ n. is_some (mapped (tables_of log) r n)) r.fields) ≡ false = none_found (λ (r : Req). not (list_all (λ n. is_some (mapped (tables_of log) r n)) r.fields)) (tables_of log).reqs r (unmapped_none _ _ f.maps) m in
+    all_at (λ n. is_some (mapped (tables_of log) r n)) r.fields field (not-false _ none) is
+
+held_is_good : (line : ℕ) (lines : List (List ℕ)) (log : List Lined) → Hold line lines log → AllByRecursion Good (records_of log)
+held_is_good line [] log h = subst (λ ls. AllByRecursion Good (records_of ls)) (sym h) tt
+held_is_good line (l ∷ lines) log (inl h) = held_is_good (line + 1) lines log h.1
+held_is_good line (l ∷ lines) log (inr h) = subst (λ ls. AllByRecursion Good (records_of ls)) (sym h.4) (h.2, held_is_good (line + 1) lines h.1 h.5)
+
+pub read_is_good : (bytes : List ℕ) (log : List Lined) → Reads bytes log → AllByRecursion Good (records_of log)
+read_is_good bytes log h = held_is_good 1 _ log h.hold

@@ -1,0 +1,16 @@
+pub mod Members
+pub mod Lists
+pub mod Apart
+pub mod Rounds
+pub mod Cycles
+pub mod Swap
+pub mod Reorder
+pub mod Sane
+pub mod Admitted
+pub mod GoodRecords
+pub mod Strict
+pub mod StepLists
+pub mod Tidy
+pub mod MovesApart
+pub mod Linked
+pub mod Replay

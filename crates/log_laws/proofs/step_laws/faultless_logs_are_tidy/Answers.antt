@@ -1,0 +1,8 @@
+use Rattle.semantics.specs.Tables.{tables_of}
+use Rattle.semantics.specs.Faults.{Check}
+use Rattle.log_laws.proofs.Admitted.{faultless, sane, all_mapped}
+use Rattle.log_laws.proofs.Tidy.{tidy}
+use Rattle.log_laws.proofs.step_laws.faultless_logs_are_tidy.Goals as goal
+
+pub returns : goal.returns
+returns c lines log none = let f = faultless Check lines log none in tidy (tables_of log) (sane Check log f) (all_mapped log f)

@@ -1,0 +1,13 @@
+//! Laws of what a log means, on which the program's parts rest. Each is the contract of a function with nothing to do.
+#![tactic(auto)]
+
+mod answer_laws;
+mod order_laws;
+mod step_laws;
+
+pub use answer_laws::{one_answer, swap_law};
+pub use order_laws::{replay_order_lists, stuck_nodes_have_cycles};
+pub use step_laws::{
+    faultless_logs_are_linked, faultless_logs_are_tidy, faultless_logs_have_one_answer,
+    read_logs_are_good, replay_is_an_interleaving,
+};

@@ -1,6 +1,0 @@
-use Rattle.semantics.proofs.Texts.{same_records}
-use Rattle.semantics.proofs.ThinRecords.{one_thin}
-use Rattle.semantics.proofs.laws.one_thin_log.Goals as goal
-
-pub returns : goal.returns
-returns c = one_thin (same_records c.reads_on.ensures) c.thin_records_are_good.ensures

@@ -1,8 +1,0 @@
-use Rattle.semantics.specs.Tables.{tables_of}
-use Rattle.semantics.specs.Faults.{Check}
-use Rattle.semantics.proofs.Admitted.{faultless, sane, all_mapped}
-use Rattle.semantics.proofs.Tidy.{tidy}
-use Rattle.semantics.proofs.step_laws.faultless_logs_are_tidy.Goals as goal
-
-pub returns : goal.returns
-returns c lines log none = let f = faultless Check lines log none in tidy (tables_of log) (sane Check log f) (all_mapped log f)

@@ -1,0 +1,4 @@
+pub mod Texts
+pub mod ThinRecords
+pub mod ThinTables
+pub mod WorkedProofs

@@ -1,0 +1,3 @@
+pub mod Thin
+pub mod TaskOrder
+pub mod WorkedThin
