@@ -2,9 +2,13 @@
 #![tactic(auto)]
 
 mod ascending;
+mod law;
 mod point_list;
 mod runs;
 mod set;
+#[cfg(test)]
+mod tests;
 
+pub use law::maximal_runs_are_apart;
 pub use point_list::PointList;
 pub use set::PointSet;

@@ -6,10 +6,13 @@ use crate::ascending::{first_common, is_ascending, next_from, outside};
 use crate::runs::{run_at, run_count};
 use crate::set::PointSet;
 
-/// The points themselves, in a slice.
+/// The points themselves, in an ascending slice. Its runs are maximal.
+///
+/// `has`, `first` and `next_from` search by halves. `first_common` and `outside`, and so `meets` and `within`, take one pass over both slices at most. `run_count` takes one pass, and `run` one up to the end of its run.
 #[derive(Clone, Copy, Debug)]
 pub struct PointList<'a> {
     points: &'a [u64],
+    // What the laws of `PointSet` say of each set.
     ghost ascends: { IsStrictlyIncreasing points.now },
     ghost bounded: { All (λ p. p < 2 ^ 64) points.now },
     ghost are_runs: { AreRuns (maximal_runs points.now) },

@@ -4,10 +4,16 @@ ghost use Rattle.std.specs.List.Sorted.{IsStrictlyIncreasing};
 ghost use Rattle.point_set.specs.Least.{IsLeast};
 ghost use Rattle.point_set.specs.Runs.{AreRuns, points_of};
 
-/// A set of points, seen as the ascending list of them. No call takes memory.
+/// A set of points, which contracts see as the ascending list of them. No call takes memory.
+///
+/// The points are also cut into runs of numbers that follow each other. Where the cuts are is for the implementation to choose: a run need not be as long as can be.
+///
+/// What a call costs is for the implementation to say. `run` may take a pass over the points, so code for any set goes over the points by `first` and `next_from`.
 pub trait PointSet: Sized {
+    // The points, in ascending order.
     ghost points: { Self → List ℕ };
 
+    // The runs, each a pair of its first and its last point, in ascending order.
     ghost runs: { Self → List (ℕ × ℕ) };
 
     /// Whether `p` is a point of the set.
@@ -21,7 +27,7 @@ pub trait PointSet: Sized {
     fn count(&self) -> u128
         ensures { result ≡ length (points self.now) };
 
-    /// The least point, or `None` if there is no point.
+    /// The least point, or `None` of the empty set.
     fn first(&self) -> Option<u64>
         ensures { IsLeast (Contains (points self.now)) result }
     {
@@ -62,11 +68,14 @@ pub trait PointSet: Sized {
     fn run(&self, k: usize) -> Option<(u64, u64)>
         ensures { result ≡ slice_get (runs self.now) k };
 
+    // Each point is below the next.
     ghost ascends: { (s : Self) → IsStrictlyIncreasing (points s) };
 
     ghost bounded: { (s : Self) → All (λ p. p < 2 ^ 64) (points s) };
 
+    // Each run has a point, and ends before the next begins.
     ghost are_runs: { (s : Self) → AreRuns (runs s) };
 
+    // The runs hold each point once, and no other number.
     ghost joined: { (s : Self) → points_of (runs s) ≡ points s };
 }
