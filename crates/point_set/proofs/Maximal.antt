@@ -1,5 +1,5 @@
 -- The maximal runs of an ascending list.
-use Rattle.std.proofs.Common.{◌≡◌, ℕ, zero, suc, ◌+◌, ◌-◌, ◌<◌, ◌≤◌, List, [], ◌∷◌, ◌++◌, slice_get, All, refl, sym, ap, ◌∙◌, inl, inr, arith, add-one, append_assoc}
+use Rattle.std.proofs.Common.{◌≡◌, ℕ, zero, suc, ◌+◌, ◌-◌, ◌<◌, ◌≤◌, List, [], ◌∷◌, ◌++◌, All, refl, sym, ap, ◌∙◌, inl, inr, arith, add-one, append_assoc}
 use Rattle.std.specs.List.{range_with_len}
 use Rattle.std.specs.List.Sorted.{IsStrictlyIncreasing, IsStrictlySortedBy}
 use Rattle.std.specs.Ordering.{nat_cmp}
@@ -90,30 +90,3 @@ points_of-maximal_runs (p ∷ ps) up =
     let one : p + 1 - p ≡ 1 = omega arith in
     let rest : IsStrictlyIncreasing ps = IsStrictlyIncreasing-from_sorted ps (sorted_tail nat_cmp p ps (sorted_from_strictly_increasing (p ∷ ps) up)) in
     points_of-with_run 0 (p, p) (maximal_runs ps) (omega arith) (stand_apart ps rest) ∙ rw one (ap (λ qs. p ∷ qs) (points_of-maximal_runs ps rest))
-
--- a run that grows by the next number
-with_run-touching : (first last p : ℕ) (runs : List (ℕ × ℕ)) → p ≡ last + 1 → with_run (first, last) (with_run (p, p) runs) ≡ with_run (first, p) runs
-with_run-touching first last p [] e = touching (first, last) (p, p) [] e
-with_run-touching first last p (next ∷ runs) e =
-    elim (cases_eq next.0 (p + 1)) [
-      | inl f ↦ rw (touching (p, p) next runs f, touching (first, p) next runs f) (touching (first, last) (p, next.1) runs e)
-      | inr ne ↦ rw (apart (p, p) next runs ne, apart (first, p) next runs ne) (touching (first, last) (p, p) (next ∷ runs) e)
-    ]
-
-pub run_grows : (first last p : ℕ) (ps rest behind : List ℕ) → maximal_runs ps ≡ with_run (first, last) (maximal_runs rest) → rest ≡ p ∷ behind → p ≡ last + 1 → maximal_runs ps ≡ with_run (first, p) (maximal_runs behind)
-run_grows first last p ps rest behind so_far cut e = so_far ∙ rw cut (with_run-touching first last p (maximal_runs behind) e)
-
--- a run that ends before the next number
-with_run-apart : (run : ℕ × ℕ) (p : ℕ) (runs : List (ℕ × ℕ)) → (p ≡ run.1 + 1 → ⊥) → with_run run (with_run (p, p) runs) ≡ run ∷ with_run (p, p) runs
-with_run-apart run p [] ne = apart run (p, p) [] ne
-with_run-apart run p (next ∷ runs) ne =
-    elim (cases_eq next.0 (p + 1)) [
-      | inl f ↦ rw (touching (p, p) next runs f) (apart run (p, next.1) runs ne)
-      | inr nf ↦ rw (apart (p, p) next runs nf) (apart run (p, p) (next ∷ runs) ne)
-    ]
-
-pub run_ends : (run : ℕ × ℕ) (p : ℕ) (ps rest behind : List ℕ) → maximal_runs ps ≡ with_run run (maximal_runs rest) → rest ≡ p ∷ behind → (p ≡ run.1 + 1 → ⊥) → maximal_runs ps ≡ run ∷ maximal_runs rest
-run_ends run p ps rest behind so_far cut ne = so_far ∙ rw cut (with_run-apart run p (maximal_runs behind) ne)
-
-pub run_behind : (run : ℕ × ℕ) (all runs : List (ℕ × ℕ)) (n m : ℕ) → all ≡ run ∷ runs → n ≡ m + 1 → slice_get all n ≡ slice_get runs m
-run_behind run all runs n m cut e = rw (cut, e, add-one m) refl

@@ -2,7 +2,7 @@
 
 ghost use Rattle.std.specs.Prelude.{◌≡◌, ◌+◌, ◌<◌, ◌≤◌, ◌↔◌, length, Contains, IsTrue};
 ghost use Rattle.std.specs.List.Sorted.{IsStrictlyIncreasing};
-ghost use Rattle.point_set.specs.Least.{IsLeast};
+ghost use Rattle.point_set.specs.Least.{IsLeastFrom, IsLeastCommon, IsLeastOutside};
 
 use std::cmp::Ordering;
 
@@ -13,9 +13,10 @@ pub(crate) fn is_ascending(points: &[u64]) -> bool
     points.is_sorted_by(|p, q| p < q)
 }
 
+/// The least point from `p` on, by a binary search.
 pub(crate) fn next_from(points: &[u64], p: u64) -> Option<u64>
     requires { IsStrictlyIncreasing points.now }
-    ensures { IsLeast (λ q. Contains points.now q × (p ≤ q)) result }
+    ensures { IsLeastFrom points.now p result }
 {
     let below = points.partition_point(|q| *q < p);
     points.get(below).copied()
@@ -25,7 +26,7 @@ pub(crate) fn next_from(points: &[u64], p: u64) -> Option<u64>
 pub(crate) fn first_common(ours: &[u64], theirs: &[u64]) -> Option<u64>
     requires ours { IsStrictlyIncreasing ours.now }
     requires theirs { IsStrictlyIncreasing theirs.now }
-    ensures { IsLeast (λ q. Contains ours.now q × Contains theirs.now q) result }
+    ensures { IsLeastCommon ours.now theirs.now result }
 {
     let mut i = 0;
     let mut j = 0;
@@ -43,7 +44,7 @@ pub(crate) fn first_common(ours: &[u64], theirs: &[u64]) -> Option<u64>
 pub(crate) fn outside(ours: &[u64], theirs: &[u64]) -> Option<u64>
     requires ours { IsStrictlyIncreasing ours.now }
     requires theirs { IsStrictlyIncreasing theirs.now }
-    ensures { IsLeast (λ q. Contains ours.now q × ¬ (Contains theirs.now q)) result }
+    ensures { IsLeastOutside ours.now theirs.now result }
 {
     let mut i = 0;
     let mut j = 0;

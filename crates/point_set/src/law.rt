@@ -1,8 +1,13 @@
 ghost use Rattle.std.specs.Prelude.{ℕ, List};
 ghost use Rattle.std.specs.List.Sorted.{IsStrictlyIncreasing};
-ghost use Rattle.point_set.specs.Runs.{AreApart, maximal_runs};
+ghost use Rattle.point_set.specs.Runs.{AreRuns, AreApart, points_of, maximal_runs};
 
-/// No maximal run touches the next, so that no cut of the same points has fewer runs.
+/// The points of runs ascend, so runs are enough to make a set of.
+pub fn points_of_runs_ascend()
+    ensures { (runs : List (ℕ × ℕ)) → AreRuns runs → IsStrictlyIncreasing (points_of runs) }
+{}
+
+/// No maximal run touches the next, so that no other runs of the same points are fewer.
 pub fn maximal_runs_are_apart()
     ensures { (points : List ℕ) → IsStrictlyIncreasing points → AreApart (maximal_runs points) }
 {}

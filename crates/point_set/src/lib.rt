@@ -9,6 +9,6 @@ mod set;
 #[cfg(test)]
 mod tests;
 
-pub use law::maximal_runs_are_apart;
+pub use law::{maximal_runs_are_apart, points_of_runs_ascend};
 pub use point_list::PointList;
 pub use set::PointSet;

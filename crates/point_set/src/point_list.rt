@@ -6,9 +6,9 @@ use crate::ascending::{first_common, is_ascending, next_from, outside};
 use crate::runs::{run_at, run_count};
 use crate::set::PointSet;
 
-/// The points themselves, in an ascending slice. Its runs are maximal.
+/// The points themselves, in an ascending slice, cut into runs that are as long as can be.
 ///
-/// `has`, `first` and `next_from` search by halves. `first_common` and `outside`, and so `meets` and `within`, take one pass over both slices at most. `run_count` takes one pass, and `run` one up to the end of its run.
+/// `has`, `first` and `next_from` are binary searches. `first_common`, `meets`, `outside` and `within` take at most one pass over both slices. `run_count` takes one pass, and `run(k)` one up to the end of run `k`: asking for each of many runs in turn takes quadratic time, and going over the points by `next_from` does not.
 #[derive(Clone, Copy, Debug)]
 pub struct PointList<'a> {
     points: &'a [u64],

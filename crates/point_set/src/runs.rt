@@ -27,6 +27,7 @@ fn cut_run(points: &[u64]) -> Option<((u64, u64), &[u64])>
     Some(((*first, last), rest))
 }
 
+/// How many maximal runs there are, by one pass.
 pub(crate) fn run_count(points: &[u64]) -> usize
     ensures { result ≡ length (maximal_runs points.now) }
 {
@@ -39,6 +40,7 @@ pub(crate) fn run_count(points: &[u64]) -> usize
     count
 }
 
+/// Maximal run `k`, from 0, by one pass up to its end.
 pub(crate) fn run_at(points: &[u64], k: usize) -> Option<(u64, u64)>
     ensures { result ≡ slice_get (maximal_runs points.now) k }
 {

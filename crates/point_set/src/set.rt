@@ -1,14 +1,14 @@
-ghost use Rattle.std.specs.Prelude.{◌≡◌, ℕ, ◌^◌, ◌<◌, ◌≤◌, ◌↔◌, List, length, slice_get, All, Contains, IsTrue};
+ghost use Rattle.std.specs.Prelude.{◌≡◌, ℕ, ◌^◌, ◌<◌, ◌↔◌, List, length, slice_get, All, Contains, IsTrue};
 ghost use Rattle.std.specs.List.{Any};
 ghost use Rattle.std.specs.List.Sorted.{IsStrictlyIncreasing};
-ghost use Rattle.point_set.specs.Least.{IsLeast};
+ghost use Rattle.point_set.specs.Least.{IsLeastOf, IsLeastFrom, IsLeastCommon, IsLeastOutside};
 ghost use Rattle.point_set.specs.Runs.{AreRuns, points_of};
 
 /// A set of points, which contracts see as the ascending list of them. No call takes memory.
 ///
-/// The points are also cut into runs of numbers that follow each other. Where the cuts are is for the implementation to choose: a run need not be as long as can be.
+/// The points are also cut into runs of consecutive numbers. Where to cut is for the implementation to choose, so two runs may touch.
 ///
-/// What a call costs is for the implementation to say. `run` may take a pass over the points, so code for any set goes over the points by `first` and `next_from`.
+/// What a call costs is for the implementation to say. A call of `run` may take a pass over the points, so code for any set had better go over the points by `first` and `next_from`.
 pub trait PointSet: Sized {
     // The points, in ascending order.
     ghost points: { Self → List ℕ };
@@ -29,14 +29,14 @@ pub trait PointSet: Sized {
 
     /// The least point, or `None` of the empty set.
     fn first(&self) -> Option<u64>
-        ensures { IsLeast (Contains (points self.now)) result }
+        ensures { IsLeastOf (points self.now) result }
     {
         self.next_from(0)
     }
 
     /// The least point from `p` on, or `None` if each point is below `p`.
     fn next_from(&self, p: u64) -> Option<u64>
-        ensures { IsLeast (λ q. Contains (points self.now) q × (p ≤ q)) result };
+        ensures { IsLeastFrom (points self.now) p result };
 
     /// Whether a point is in both sets.
     fn meets(&self, other: &Self) -> bool
@@ -47,11 +47,11 @@ pub trait PointSet: Sized {
 
     /// The least point that is in both sets, or `None` if there is none.
     fn first_common(&self, other: &Self) -> Option<u64>
-        ensures { IsLeast (λ q. Contains (points self.now) q × Contains (points other.now) q) result };
+        ensures { IsLeastCommon (points self.now) (points other.now) result };
 
     /// The least point that is not in `other`, or `None` if there is none.
     fn outside(&self, other: &Self) -> Option<u64>
-        ensures { IsLeast (λ q. Contains (points self.now) q × ¬ (Contains (points other.now) q)) result };
+        ensures { IsLeastOutside (points self.now) (points other.now) result };
 
     /// Whether each point is in `other` too.
     fn within(&self, other: &Self) -> bool

@@ -3,7 +3,7 @@ use Rattle.std.proofs.lemmas.Cmp.{ranked}
 use Rattle.std.proofs.lemmas.Grind.{common_steps}
 use Rattle.std.proofs.lemmas.List.Elements.{Contains-get_or}
 use Rattle.std.proofs.lemmas.Option.{gets}
-use Rattle.point_set.specs.Least.{IsLeast}
+use Rattle.point_set.specs.Least.{IsLeastOutside}
 use Rattle.point_set.proofs.Ahead.{common_behind, here_below, here_least, least_got, least_here, stands_behind, stands_earlier, stands_here, stands_within}
 use Rattle.point_set.proofs.ascending.outside.Goals as goal
 use Rattle.point_set.proofs.ascending.outside.Goals.{then-loop-i-test+else-j-theirs, else-loop-i-test}
@@ -47,7 +47,7 @@ returns c =
     let i = c.loop-i.i in
     let got : c.copied.result ≡ slice_get ours i = grind (arith, common_steps, gets) in
     let past : i < length ours → length theirs ≤ c.loop-i.j = λ lt. elim c.loop-i-test.branch [ then-loop-i-test+else-j-theirs w ↦ w.if-j-theirs.false | else-loop-i-test w ↦ absurd (omega (arith, w.loop-i-test.false)) ] in
-    subst (IsLeast (λ p. Contains ours p × ¬ (Contains theirs p))) (sym got)
+    subst (IsLeastOutside ours theirs) (sym got)
     (least_got (λ p. Contains ours p × ¬ (Contains theirs p)) ours i c.requires.ours
     (λ lt. (
       Contains-get_or ours i 0 lt,
