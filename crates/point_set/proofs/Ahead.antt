@@ -41,7 +41,7 @@ stands_behind xs i p h not_here =
 pub common_behind : (xs ys : List ℕ) (i j p : ℕ) → IsStrictlyIncreasing ys → get_or xs i 0 < get_or ys j 0 → StandsFrom xs i p → StandsFrom ys j p → StandsFrom xs (i + 1) p
 common_behind xs ys i j p up lt h k = stands_behind xs i p h (λ here. absurd (omega (arith, here_least ys j p up k)))
 
-pub stands_here : (xs : List ℕ) (i : ℕ) → i < length xs → StandsFrom xs i (get_or xs i 0)
+stands_here : (xs : List ℕ) (i : ℕ) → i < length xs → StandsFrom xs i (get_or xs i 0)
 stands_here xs i lt = (i, omega arith, lt, get_or_default xs i (get_or xs i 0) 0 lt)
 
 pub stands_earlier : (xs : List ℕ) (i p : ℕ) → StandsFrom xs (i + 1) p → StandsFrom xs i p
@@ -59,6 +59,10 @@ least_got P xs i up here ahead = elim (cases_lt i (length xs)) [
   | inl lt ↦ subst (IsLeast P) (sym (slice_get-get_or xs i 0 lt)) (least_here P xs i up (here lt) ahead)
   | inr past ↦ subst (IsLeast P) (sym (slice_get_past xs i past)) (none_ahead P xs i past ahead)
 ]
+
+-- what is common stands from j on in the second list, and the number here does not
+pub alone_here : (xs ys : List ℕ) (i j : ℕ) → i < length xs → ((p : ℕ) → StandsFrom xs i p → Contains ys p → StandsFrom ys j p) → (StandsFrom ys j (get_or xs i 0) → ⊥) → Contains xs (get_or xs i 0) × ¬ (Contains ys (get_or xs i 0))
+alone_here xs ys i j lt common missed = (Contains-get_or xs i 0 lt, λ there. missed (common (get_or xs i 0) (stands_here xs i lt) there))
 
 -- the numbers below a number stand before those from it on
 pub least_from : (xs : List ℕ) (p below : ℕ) → IsStrictlyIncreasing xs → IsPartitionPoint (λ q. nat_lt q p ≡ true) (λ q. nat_lt q p ≡ false) xs below → IsLeastFrom xs p (slice_get xs below)

@@ -1,4 +1,4 @@
--- Least numbers of lists. The answer is none just where no number will do.
+-- The least number of a kind, or `None` exactly where there is none of that kind.
 use Rattle.std.specs.Prelude.{ℕ, ◌≤◌, List, Contains, Option, Some, None}
 
 -- The least number with a property.

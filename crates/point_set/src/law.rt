@@ -2,7 +2,7 @@ ghost use Rattle.std.specs.Prelude.{ℕ, List};
 ghost use Rattle.std.specs.List.Sorted.{IsStrictlyIncreasing};
 ghost use Rattle.point_set.specs.Runs.{AreRuns, AreApart, points_of, maximal_runs};
 
-/// The points of runs ascend, so runs are enough to make a set of.
+/// The points of runs ascend, one run after the other: any runs are those of a set.
 pub fn points_of_runs_ascend()
     ensures { (runs : List (ℕ × ℕ)) → AreRuns runs → IsStrictlyIncreasing (points_of runs) }
 {}

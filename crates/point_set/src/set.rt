@@ -8,7 +8,7 @@ ghost use Rattle.point_set.specs.Runs.{AreRuns, points_of};
 ///
 /// The points are also cut into runs of consecutive numbers. Where to cut is for the implementation to choose, so two runs may touch.
 ///
-/// What a call costs is for the implementation to say. A call of `run` may take a pass over the points, so code for any set had better go over the points by `first` and `next_from`.
+/// What a call costs is for the implementation to say. A call of `run` may take a pass over the points, so code that serves any set goes over its points by `first` and `next_from`.
 pub trait PointSet: Sized {
     // The points, in ascending order.
     ghost points: { Self → List ℕ };

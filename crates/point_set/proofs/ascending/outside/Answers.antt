@@ -4,7 +4,7 @@ use Rattle.std.proofs.lemmas.Grind.{common_steps}
 use Rattle.std.proofs.lemmas.List.Elements.{Contains-get_or}
 use Rattle.std.proofs.lemmas.Option.{gets}
 use Rattle.point_set.specs.Least.{IsLeastOutside}
-use Rattle.point_set.proofs.Ahead.{common_behind, here_below, here_least, least_got, least_here, stands_behind, stands_earlier, stands_here, stands_within}
+use Rattle.point_set.proofs.Ahead.{alone_here, common_behind, here_below, here_least, least_got, least_here, stands_behind, stands_earlier, stands_within}
 use Rattle.point_set.proofs.ascending.outside.Goals as goal
 use Rattle.point_set.proofs.ascending.outside.Goals.{then-loop-i-test+else-j-theirs, else-loop-i-test}
 
@@ -13,12 +13,10 @@ returns-in-Less c =
     let ours = c.args.ours.now in
     let theirs = c.args.theirs.now in
     let i = c.loop-i.i in
-    let below : get_or ours i 0 < get_or theirs c.loop-i.j 0 = ranked _ _ Less (sym c.in-Less.is ∙ c.cmp.ensures) in
-    least_here (λ p. Contains ours p × ¬ (Contains theirs p)) ours i c.requires.ours (
-      Contains-get_or ours i 0 c.loop-i-test.true,
-      λ common. omega (arith, below, here_least theirs c.loop-i.j (get_or ours i 0) c.requires.theirs (c.loop-i.invariant.common (get_or ours i 0) (stands_here ours i c.loop-i-test.true) common)),
-    )
-    c.loop-i.invariant.alone
+    let j = c.loop-i.j in
+    let below : get_or ours i 0 < get_or theirs j 0 = ranked _ _ Less (sym c.in-Less.is ∙ c.cmp.ensures) in
+    let alone = alone_here ours theirs i j c.loop-i-test.true c.loop-i.invariant.common (λ h. omega (arith, here_least theirs j (get_or ours i 0) c.requires.theirs h)) in
+    least_here (λ p. Contains ours p × ¬ (Contains theirs p)) ours i c.requires.ours alone c.loop-i.invariant.alone
 
 pub loop-i-preserved-in-Equal : goal.loop-i-preserved-in-Equal
 loop-i-preserved-in-Equal c =
@@ -45,12 +43,8 @@ returns c =
     let ours = c.args.ours.now in
     let theirs = c.args.theirs.now in
     let i = c.loop-i.i in
+    let j = c.loop-i.j in
     let got : c.copied.result ≡ slice_get ours i = grind (arith, common_steps, gets) in
-    let past : i < length ours → length theirs ≤ c.loop-i.j = λ lt. elim c.loop-i-test.branch [ then-loop-i-test+else-j-theirs w ↦ w.if-j-theirs.false | else-loop-i-test w ↦ absurd (omega (arith, w.loop-i-test.false)) ] in
-    subst (IsLeastOutside ours theirs) (sym got)
-    (least_got (λ p. Contains ours p × ¬ (Contains theirs p)) ours i c.requires.ours
-    (λ lt. (
-      Contains-get_or ours i 0 lt,
-      λ common. omega (arith, past lt, stands_within theirs c.loop-i.j (get_or ours i 0) (c.loop-i.invariant.common (get_or ours i 0) (stands_here ours i lt) common)),
-    ))
-    c.loop-i.invariant.alone)
+    let past : i < length ours → length theirs ≤ j = λ lt. elim c.loop-i-test.branch [ then-loop-i-test+else-j-theirs w ↦ w.if-j-theirs.false | else-loop-i-test w ↦ absurd (omega (arith, w.loop-i-test.false)) ] in
+    let alone = λ (lt : i < length ours). alone_here ours theirs i j lt c.loop-i.invariant.common (λ h. omega (arith, past lt, stands_within theirs j (get_or ours i 0) h)) in
+    subst (IsLeastOutside ours theirs) (sym got) (least_got (λ p. Contains ours p × ¬ (Contains theirs p)) ours i c.requires.ours alone c.loop-i.invariant.alone)
