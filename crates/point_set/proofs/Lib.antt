@@ -1,0 +1,4 @@
+pub mod Ahead
+pub mod Defaults
+pub mod Maximal
+pub mod RunPoints

@@ -1,0 +1,81 @@
+ghost use Rattle.std.specs.Prelude.{◌≡◌, ℕ, ◌^◌, ◌<◌, ◌↔◌, List, length, slice_get, All, Contains, IsTrue};
+ghost use Rattle.std.specs.List.{Any};
+ghost use Rattle.std.specs.List.Sorted.{IsStrictlyIncreasing};
+ghost use Rattle.point_set.specs.Least.{IsLeastOf, IsLeastFrom, IsLeastCommon, IsLeastOutside};
+ghost use Rattle.point_set.specs.Runs.{AreRuns, points_of};
+
+/// A set of points, which contracts see as the ascending list of them. No call takes memory.
+///
+/// The points are also cut into runs of consecutive numbers. Where to cut is for the implementation to choose, so two runs may touch.
+///
+/// What a call costs is for the implementation to say. A call of `run` may take a pass over the points, so code that serves any set goes over its points by `first` and `next_from`.
+pub trait PointSet: Sized {
+    // The points, in ascending order.
+    ghost points: { Self → List ℕ };
+
+    // The runs, each a pair of its first and its last point, in ascending order.
+    ghost runs: { Self → List (ℕ × ℕ) };
+
+    /// Whether `p` is a point of the set.
+    fn has(&self, p: u64) -> bool
+        ensures { IsTrue result ↔ Contains (points self.now) p }
+    {
+        self.next_from(p) == Some(p)
+    }
+
+    /// How many points there are.
+    fn count(&self) -> u128
+        ensures { result ≡ length (points self.now) };
+
+    /// The least point, or `None` of the empty set.
+    fn first(&self) -> Option<u64>
+        ensures { IsLeastOf (points self.now) result }
+    {
+        self.next_from(0)
+    }
+
+    /// The least point from `p` on, or `None` if each point is below `p`.
+    fn next_from(&self, p: u64) -> Option<u64>
+        ensures { IsLeastFrom (points self.now) p result };
+
+    /// Whether a point is in both sets.
+    fn meets(&self, other: &Self) -> bool
+        ensures { IsTrue result ↔ Any (Contains (points other.now)) (points self.now) }
+    {
+        self.first_common(other).is_some()
+    }
+
+    /// The least point that is in both sets, or `None` if there is none.
+    fn first_common(&self, other: &Self) -> Option<u64>
+        ensures { IsLeastCommon (points self.now) (points other.now) result };
+
+    /// The least point that is not in `other`, or `None` if there is none.
+    fn outside(&self, other: &Self) -> Option<u64>
+        ensures { IsLeastOutside (points self.now) (points other.now) result };
+
+    /// Whether each point is in `other` too.
+    fn within(&self, other: &Self) -> bool
+        ensures { IsTrue result ↔ All (Contains (points other.now)) (points self.now) }
+    {
+        self.outside(other).is_none()
+    }
+
+    /// How many runs there are.
+    fn run_count(&self) -> usize
+        ensures { result ≡ length (runs self.now) };
+
+    /// The first and the last point of run `k`, from 0, or `None` past the last run.
+    fn run(&self, k: usize) -> Option<(u64, u64)>
+        ensures { result ≡ slice_get (runs self.now) k };
+
+    // Each point is below the next.
+    ghost ascends: { (s : Self) → IsStrictlyIncreasing (points s) };
+
+    ghost bounded: { (s : Self) → All (λ p. p < 2 ^ 64) (points s) };
+
+    // Each run has a point, and ends before the next begins.
+    ghost are_runs: { (s : Self) → AreRuns (runs s) };
+
+    // The runs hold each point once, and no other number.
+    ghost joined: { (s : Self) → points_of (runs s) ≡ points s };
+}
