@@ -1,6 +1,6 @@
 pub mod Members
-pub mod Lists
 pub mod Apart
+pub mod Lists
 pub mod Rounds
 pub mod Cycles
 pub mod Swap

@@ -1,18 +1,19 @@
 -- What std's words say of a list by its first element, and what tests over a list tell.
-use Rattle.std.proofs.Common.{◌≡◌, ◌≢◌, ℕ, zero, suc, ◌+◌, ◌<◌, ◌≤◌, ◌==◌, Bool, true, false, List, [], ◌∷◌, ◌++◌, length, get_or, Some, None, ◌↔◌, ◌⊎◌, inl, inr, refl, sym, ap, subst, ◌∙◌, arith, eqb, length-append, Contains, AllPairs}
+use Rattle.std.proofs.Common.{◌≡◌, ◌≢◌, ℕ, zero, suc, ◌<◌, ◌≤◌, ◌==◌, Bool, true, false, List, [], ◌∷◌, ◌++◌, length, get_or, Some, None, ◌↔◌, ◌⊎◌, inl, inr, refl, sym, ap, subst, ◌∙◌, arith, eqb, length-append, Contains, AllPairs}
 use Rattle.std.specs.Bool.{Decides}
 use Rattle.std.specs.List.{filter, find, list_any, list_all}
-use Rattle.std.proofs.lemmas.Bool.{true≢false, false≢true, cases_Bool, cases_eq, and_cases, eqb-true, eq-eqb}
+use Rattle.std.proofs.lemmas.Bool.{true≢false, false≢true, cases_Bool, and_cases, eqb-true, eq-eqb}
 use Rattle.std.proofs.lemmas.Bool.Decides.{Decides-eqb}
 use Rattle.std.proofs.lemmas.List.{get_or_append_left}
-use Rattle.std.proofs.lemmas.List.Elements.{All-contains, Contains-get_or, Contains-append_left, Contains-append_right, Contains-append_cases}
+use Rattle.std.proofs.lemmas.List.Elements.{Contains-get_or, Contains-append_left, Contains-append_right, Contains-append_cases}
 use Rattle.std.proofs.lemmas.List.Folds.{Any-from_list_any, list_any-from_Any}
 use Rattle.std.proofs.lemmas.List.Kept.{AllPairs-cons}
 use Rattle.std.proofs.lemmas.List.Quantifiers.{all_pairs_push}
-use Rattle.std.proofs.lemmas.List.Sums.{AllPass-from_list_all}
 use Rattle.std.proofs.lemmas.Map.Made.{IsDistinct-from_AllPairs}
 use Rattle.std.proofs.lemmas.Map.Steps.{length-le_from_distinct_below}
 use Rattle.std.proofs.lemmas.Map.Views.{Contains-from_any}
+use Rattle.log_laws.proofs.Members.{member_of, contains_of, all_at, found_at, none_found, none_or_some}
+use Rattle.log_laws.proofs.Apart.{number_within, number_in}
 use Rattle.semantics.specs.Points.{is_in}
 use Rattle.semantics.specs.Tables.{numbers_from}
 
@@ -123,7 +124,7 @@ pub is_in_decides : (ns : List ℕ) (n : ℕ) → Decides (is_in ns n) (Contains
 is_in_decides ns n = (λ h. let a = any_tells (λ m. m == n) ns h in subst (Contains ns) (eqb-true a.0 n a.2) a.1, λ h. any_from (λ m. m == n) ns n h (eq-eqb n n refl))
 
 pub all_pass : {X : Type 0} (p : X → Bool) (xs : List X) (x : X) → list_all p xs ≡ true → Contains xs x → p x ≡ true
-all_pass p xs x h = All-contains (λ y. p y ≡ true) xs x (AllPass-from_list_all p xs h)
+all_pass p xs x h g = all_at p xs x h (member_of xs x g)
 
 pub one_fails : {X : Type 0} (p : X → Bool) (xs : List X) → list_all p xs ≡ false → (x : X) × Contains xs x × (p x ≡ false)
 one_fails p [] h = absurd (true≢false h)
@@ -134,13 +135,9 @@ one_fails p (y ∷ xs) h = elim (and_cases (p y) (list_all p xs) h) [
 
 -- What is found is an element that passes, and where nothing is found none does.
 pub find_cases : {X : Type 0} (p : X → Bool) (xs : List X) → ((x : X) × (find p xs ≡ Some x) × Contains xs x × (p x ≡ true)) ⊎ ((find p xs ≡ None) × ((x : X) → Contains xs x → p x ≡ false))
-find_cases p [] = inr (refl, λ x h. absurd (nothing_in x h))
-find_cases p (y ∷ xs) = elim (cases_Bool (p y)) [
-  | inl here ↦ inl (y, rw here refl, contains_first y xs, here)
-  | inr not_here ↦ elim (find_cases p xs) [
-    | inl r ↦ inl (r.0, rw not_here r.1, contains_later y r.0 xs r.2, r.3)
-    | inr r ↦ inr (rw not_here r.0, λ x h. elim (contains_cases y x xs h) [ inl is ↦ subst (λ z. p z ≡ false) is not_here | inr g ↦ r.1 x g ])
-  ]
+find_cases p xs = elim (none_or_some (find p xs)) [
+  | inl none ↦ inr (none, λ x h. none_found p xs x none (member_of xs x h))
+  | inr some ↦ let f = found_at p xs some.0 some.1 in inl (some.0, some.1, contains_of xs some.0 f.0, f.1)
 ]
 
 pub filter_keeps : {X : Type 0} (p : X → Bool) (xs : List X) (x : X) → Contains xs x → p x ≡ true → Contains (filter p xs) x
@@ -150,22 +147,8 @@ filter_keeps p (y ∷ xs) x h is = elim (cases_Bool (p y)) [
   | inr not_here ↦ rw not_here (elim (contains_cases y x xs h) [ inl e ↦ absurd (false≢true (sym not_here ∙ ap p e ∙ is)) | inr g ↦ filter_keeps p xs x g is ])
 ]
 
-numbers_below : (first n k : ℕ) → Contains (numbers_from first n) k → k < first + n
-numbers_below first zero k h = absurd (nothing_in k h)
-numbers_below first (suc n) k h = elim (contains_cases first k (numbers_from (first + 1) n) h) [
-  | inl e ↦ omega arith
-  | inr g ↦ let below = numbers_below (first + 1) n k g in omega arith
-]
-
-numbers_all : (first n k : ℕ) → first ≤ k → k < first + n → Contains (numbers_from first n) k
-numbers_all first zero k le lt = absurd (omega arith)
-numbers_all first (suc n) k le lt = elim (cases_eq first k) [
-  | inl e ↦ subst (Contains (first ∷ numbers_from (first + 1) n)) e (contains_first first (numbers_from (first + 1) n))
-  | inr ne ↦ contains_later first k (numbers_from (first + 1) n) (numbers_all (first + 1) n k (omega arith) (omega arith))
-]
-
 pub numbers_within : (n k : ℕ) → Contains (numbers_from 0 n) k → k < n
-numbers_within n k h = omega (arith, numbers_below 0 n k h)
+numbers_within n k h = number_within n k (member_of (numbers_from 0 n) k h)
 
 pub numbers_listed : (n k : ℕ) → k < n → Contains (numbers_from 0 n) k
-numbers_listed n k within = numbers_all 0 n k (omega arith) (omega arith)
+numbers_listed n k within = contains_of (numbers_from 0 n) k (number_in n k within)

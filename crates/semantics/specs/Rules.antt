@@ -30,10 +30,10 @@ use Rattle.semantics.specs.Reads.{req_at}
 
 -- ---- The number of records, and their names.
 
--- too-many-records: it is later than the 131,072nd record after the header, and not the end. (`index` records stand before it.)
+-- too-many-records: it is later than the 131,072nd record after the header, and not the end. (`before` records stand before it.)
 abbrev pub is_late : ℕ → Record → Bool
-is_late index (End n) = false
-is_late index r = nat_lt 131072 index
+is_late before (End n) = false
+is_late before r = nat_lt 131072 before
 
 -- What has an id. Tasks and fills are one kind of thing, items; a task may also be named as such.
 pub data Thing : Type 0 where

@@ -7,7 +7,6 @@ use Rattle.spy_grammar.specs.declared.record.Lined.{Lined}
 use Rattle.spy_grammar.specs.Spelling.{spelling, Good}
 use Rattle.semantics.specs.Records.{text_of, records_of}
 use Rattle.thin_logs.specs.Thin.{StandsFrom, Spells}
-use Rattle.semantics.proofs.Texts.{same_line, GoesOn}
 use Rattle.std.specs.Prelude.{Result, Ok, Err, IsErrAnd, IsErrOf}
 use Rattle.spy_words.specs.declared.fault.LineFault.{LineFault}
 use Rattle.spy_words.specs.declared.fault.LineFault.TheVariants as faults
@@ -25,8 +24,12 @@ pub no_line : (bytes : List ℕ) (r : Record) (rest : List ℕ) → All (λ b. b
 no_line bytes r rest lacks begins = has_feed (spelling r) rest (subst (AllByRecursion (λ b. b ≢ 10)) begins.line (recursion_from_All _ bytes lacks))
 
 -- the first line is the spelling of the record with which the bytes begin
-pub line_is : ((r : Record) → Good r → All (λ b. b ≢ 10) (spelling r)) → (bytes line after : List ℕ) (r : Record) (rest : List ℕ) → bytes ≡ line ++ 10 ∷ after → All (λ b. b ≢ 10) line → BeginsWith bytes r rest → line ≡ spelling r
-line_is flat bytes line after r rest cut lacks begins = (same_line line (spelling r) after rest (recursion_from_All _ line lacks) (recursion_from_All _ (spelling r) (flat r begins.good)) (sym cut ∙ begins.line)).0
+-- Two lines with a line feed behind each, at the front of one text, are one line.
+abbrev OneFirstLine : Type 0
+OneFirstLine = (line other rest after : List ℕ) → AllByRecursion (λ b. b ≢ 10) line → AllByRecursion (λ b. b ≢ 10) other → line ++ 10 ∷ rest ≡ other ++ 10 ∷ after → line ≡ other
+
+pub line_is : OneFirstLine → ((r : Record) → Good r → All (λ b. b ≢ 10) (spelling r)) → (bytes line after : List ℕ) (r : Record) (rest : List ℕ) → bytes ≡ line ++ 10 ∷ after → All (λ b. b ≢ 10) line → BeginsWith bytes r rest → line ≡ spelling r
+line_is one flat bytes line after r rest cut lacks begins = one line (spelling r) after rest (recursion_from_All _ line lacks) (recursion_from_All _ (spelling r) (flat r begins.good)) (sym cut ∙ begins.line)
 
 -- the records that were read, and the bytes that are left
 pub record SoFar (bytes : List ℕ) (log : List Lined) (rest : List ℕ) : Type 0 where
@@ -65,11 +68,11 @@ good_rest [] ys g = g
 good_rest (x ∷ xs) ys g = good_rest xs ys g.1
 
 -- where the bytes that are left begin with no record's line, the bytes spell no log
-pub not_read : ((all first : List Record) (rest : List ℕ) → AllByRecursion Good all → AllByRecursion Good first → text_of all ≡ text_of first ++ rest → GoesOn all first rest)
+pub not_read : ((all first : List Record) (rest : List ℕ) → AllByRecursion Good all → AllByRecursion Good first → text_of all ≡ text_of first ++ rest → (others : List Record) × (all ≡ first ++ others) × (rest ≡ text_of others))
     → (bytes : List ℕ) (log : List Lined) (rest : List ℕ) → SoFar bytes log rest → (rest ≡ [] → ⊥) → ((r : Record) (after : List ℕ) → BeginsWith rest r after → ⊥) → (other : List Lined) → Spells bytes other → ⊥
 not_read on bytes log rest so_far more none other spells = by_rest g.0 g.1 g.2
   where
-    g : GoesOn (records_of other) (records_of log) rest
+    g : (others : List Record) × (records_of other ≡ records_of log ++ others) × (rest ≡ text_of others)
     g = on (records_of other) (records_of log) rest spells.good so_far.good (sym spells.text ∙ so_far.text)
 
     by_rest : (others : List Record) → records_of other ≡ records_of log ++ others → rest ≡ text_of others → ⊥

@@ -13,9 +13,9 @@ use crate::status::Status;
 use crate::texts::{ordered_report, unordered_report};
 use log_decl::{DeclEnd, Log, Req, declare};
 use privilege::Priv;
-use thin_logs::{one_log, records_are_few, thin_logs_are_logs, thin_tables};
 use spy_io::Memory;
 use std::alloc::{AllocError, Global};
+use thin_logs::{one_log, records_are_few, thin_logs_are_logs, thin_tables};
 
 /// What is answered: how the call ends if its text is written, and that text.
 #[derive(Debug, Drop)]

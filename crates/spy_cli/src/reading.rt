@@ -10,9 +10,9 @@ ghost use Rattle.spy_cli.specs.LineEnds.{end_of};
 ghost use Rattle.spy_cli.specs.declared.reading.LinesEnd.TheVariants.{Memory};
 
 use memchr::memchr;
-use thin_logs::reads_on;
 use spy_grammar::{LineFault, Lined, Record, read_line, spelling_is_one_line};
 use std::alloc::{AllocError, AllocFailed, Global};
+use thin_logs::{one_first_line, reads_on};
 
 /// Why the lines of an input are no records.
 #[derive(Clone, Copy, Debug, PartialEq, Eq)]
@@ -65,6 +65,7 @@ fn next_record(alloc: Global, bytes: &[u8]) -> Result<(Record, &[u8]), LinesEnd>
     ensures found { IfOk result (λ p. BeginsWith bytes.now p.0 p.1.now) }
     ensures none { IsErrOf result LinesEnd.NoRecord → (r : Record) (rest : List ℕ) → BeginsWith bytes.now r rest → ⊥ }
 {
+    one_first_line();
     spelling_is_one_line();
     let Some((line, rest)) = cut_line(bytes) else {
         return Err(LinesEnd::NoRecord);

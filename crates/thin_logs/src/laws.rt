@@ -1,6 +1,6 @@
 //! Laws over the definitions alone. A function here has nothing to do: its contract is the law.
 
-ghost use Rattle.std.specs.Prelude.{◌≡◌, ℕ, List, ◌++◌, ◌≤◌, length};
+ghost use Rattle.std.specs.Prelude.{◌≡◌, ◌≢◌, ◌∷◌, ℕ, List, ◌++◌, ◌≤◌, length};
 ghost use Rattle.std.specs.List.{AllByRecursion};
 ghost use Rattle.spy_grammar.specs.declared.record.Record.{Record};
 ghost use Rattle.spy_grammar.specs.declared.record.Lined.{Lined};
@@ -13,6 +13,12 @@ ghost use Rattle.thin_logs.specs.Thin.{GoesBack, Spells, ThinLog, IsThin, thin_r
 
 use semantics::nodes_are_of_records;
 use spy_grammar::{one_spelling, spelling_is_one_line};
+
+/// Two lines with a line feed behind each, at the front of one text, are one line.
+pub fn one_first_line()
+    ensures { (line other rest after : List ℕ) → AllByRecursion (λ b. b ≢ 10) line → AllByRecursion (λ b. b ≢ 10) other
+        → line ++ 10 ∷ rest ≡ other ++ 10 ∷ after → line ≡ other }
+{}
 
 /// A text that begins with the text of some records goes on with the text of the others.
 pub fn reads_on()

@@ -1,6 +1,4 @@
-use mathlib.Core.Path.{fun_ext}
 use Rattle.std.proofs.Common.{ap}
-use Rattle.semantics.specs.Execution.{effect, sees}
 use Rattle.log_laws.proofs.Reorder.{all_agree}
 use Rattle.log_laws.proofs.answer_laws.one_answer.Goals as goal
 
