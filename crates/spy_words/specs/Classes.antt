@@ -1,5 +1,5 @@
 -- The classes of words: what a word of each class means, how it is spelled, and which meanings have a spelling.
-use Rattle.std.specs.Prelude.{◌≢◌, ℕ, ◌^◌, ◌<◌, ◌≤◌, ◌==◌, Bool, true, false, List, [], ◌∷◌, ◌++◌, map, codes, decimal, if◌then◌else◌}
+use Rattle.std.specs.Prelude.{◌≢◌, ℕ, ◌^◌, ◌<◌, ◌≤◌, ◌==◌, ◌&&◌, nat_lt, Bool, true, false, IsTrue, List, [], ◌∷◌, ◌++◌, map, codes, decimal, if◌then◌else◌}
 use Rattle.std.specs.List.{join_with_byte, AllByRecursion}
 use Rattle.spy_words.specs.declared.access.PrivWord.{PrivWord}
 use Rattle.spy_words.specs.declared.access.PrivWord.TheVariants as privileges
@@ -32,27 +32,23 @@ Meaning access = PrivWord
 Meaning coherence = Bool
 Meaning layout = InstKind
 
--- Parts, with one comma between each two.
-abbrev pub with_commas : List (List ℕ) → List ℕ
-with_commas parts = join_with_byte 44 parts
+-- Words, each after such a byte.
+abbrev pub follow : ℕ → List (List ℕ) → List ℕ
+follow c [] = []
+follow c (w ∷ ws) = c ∷ w ++ follow c ws
 
 -- A run of points: one number, or the first and the last with a dash between.
 abbrev pub span_word : ℕ × ℕ → List ℕ
 span_word p = if p.0 == p.1 then decimal p.0 else decimal p.0 ++ 45 ∷ decimal p.1
 
--- A set of points: its runs, or a dash for none.
-abbrev pub points_word : List (ℕ × ℕ) → List ℕ
-points_word [] = 45 ∷ []
-points_word (p ∷ ps) = with_commas (map span_word (p ∷ ps))
+-- A list: its parts, with one comma between each two.
+abbrev pub list_word : {A : Type 0} → (A → List ℕ) → List A → List ℕ
+list_word spell xs = join_with_byte 44 (map spell xs)
 
--- Numbers, at least one.
-abbrev pub fields_word : List ℕ → List ℕ
-fields_word ns = with_commas (map decimal ns)
-
--- Events, or a dash for none.
-abbrev pub waits_word : List ℕ → List ℕ
-waits_word [] = 45 ∷ []
-waits_word (n ∷ ns) = with_commas (map decimal (n ∷ ns))
+-- A list, or a dash for none.
+abbrev pub list_or_dash : {A : Type 0} → (A → List ℕ) → List A → List ℕ
+list_or_dash spell [] = 45 ∷ []
+list_or_dash spell (x ∷ xs) = list_word spell (x ∷ xs)
 
 -- Whether a partition is disjoint.
 abbrev pub split_word : Bool → List ℕ
@@ -82,9 +78,9 @@ abbrev pub word_of : (c : Class) → Meaning c → List ℕ
 word_of number n = decimal n
 word_of id n = decimal n
 word_of event n = decimal n
-word_of points ps = points_word ps
-word_of fields ns = fields_word ns
-word_of waits ns = waits_word ns
+word_of points ps = list_or_dash span_word ps
+word_of fields ns = list_word decimal ns
+word_of waits ns = list_or_dash decimal ns
 word_of split b = split_word b
 word_of access a = access_word a
 word_of coherence b = coherence_word b
@@ -98,17 +94,15 @@ IsNumberFrom least n = (least ≤ n) × (n < 2 ^ 32)
 abbrev pub IsSpan : ℕ × ℕ → Type 0
 IsSpan p = (p.0 ≤ p.1) × (p.1 < 2 ^ 32)
 
--- Each run of points ends before the next begins.
-abbrev pub SpansAscend : List (ℕ × ℕ) → Type 0
-SpansAscend [] = Unit {0}
-SpansAscend (p ∷ []) = Unit {0}
-SpansAscend (p ∷ q ∷ ps) = (p.1 < q.0) × SpansAscend (q ∷ ps)
+-- Each element of a list stands before the next.
+abbrev pub ascends : {A : Type 0} → (A → A → Bool) → List A → Bool
+ascends before [] = true
+ascends before (x ∷ []) = true
+ascends before (x ∷ y ∷ xs) = before x y && ascends before (y ∷ xs)
 
--- Each number is below the next.
-abbrev pub Ascends : List ℕ → Type 0
-Ascends [] = Unit {0}
-Ascends (n ∷ []) = Unit {0}
-Ascends (m ∷ n ∷ ns) = (m < n) × Ascends (n ∷ ns)
+-- A run of points ends before another begins.
+abbrev pub span_before : ℕ × ℕ → ℕ × ℕ → Bool
+span_before p q = nat_lt p.1 q.0
 
 -- An operator, where there is one, has an id.
 abbrev pub HasOperator : PrivWord → Type 0
@@ -128,8 +122,8 @@ abbrev pub IsGood : (c : Class) → Meaning c → Type 0
 IsGood number n = IsNumberFrom 0 n
 IsGood id n = IsNumberFrom 1 n
 IsGood event n = IsNumberFrom 1 n
-IsGood points ps = AllByRecursion IsSpan ps × SpansAscend ps
-IsGood fields ns = AllByRecursion (IsNumberFrom 0) ns × Ascends ns × (ns ≢ [])
+IsGood points ps = AllByRecursion IsSpan ps × IsTrue (ascends span_before ps)
+IsGood fields ns = AllByRecursion (IsNumberFrom 0) ns × IsTrue (ascends nat_lt ns) × (ns ≢ [])
 IsGood waits ns = AllByRecursion (IsNumberFrom 1) ns
 IsGood split b = Unit {0}
 IsGood access a = HasOperator a

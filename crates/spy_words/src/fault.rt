@@ -1,9 +1,10 @@
-//! What may be wrong with one line.
+//! What may be wrong with one line, and which fault is told of several.
 
-ghost use Rattle.std.specs.Prelude.{◌≡◌};
+ghost use Rattle.std.specs.Prelude.{◌≡◌, Ok};
 ghost use Rattle.spy_words.specs.declared.fault.LineFault.TheVariants.{Memory};
+ghost use Rattle.spy_words.specs.Faults.{rank, worse, kept, after};
 
-use std::alloc::{AllocError, AllocFailed};
+use std::alloc::AllocError;
 
 /// Why a line could not be read. Of several faults the first in this order is told.
 #[derive(Clone, Copy, Debug, PartialEq, Eq)]
@@ -28,10 +29,46 @@ impl From<AllocError> for LineFault {
     }
 }
 
-impl<T: Drop> From<AllocFailed<T>> for LineFault {
-    ghost from_gives = { λ _ e. e ≡ Memory };
+fn rank_of(fault: LineFault) -> u8
+    ensures { result ≡ rank fault }
+{
+    match fault {
+        LineFault::Form => 0,
+        LineFault::Number => 1,
+        LineFault::Order => 2,
+        LineFault::Word => 3,
+        LineFault::Memory => 4,
+    }
+}
 
-    fn from(_e: AllocFailed<T>) -> LineFault {
-        LineFault::Memory
+fn worse_of(a: LineFault, b: LineFault) -> LineFault
+    ensures { result ≡ worse a b }
+{
+    if rank_of(b) < rank_of(a) { b } else { a }
+}
+
+/// The value that was read, or a stand-in and a fault more that was met.
+pub fn keep<T: Drop>(met: &mut Option<LineFault>, read: Result<T, LineFault>, other: T) -> T
+    ensures { kept met.old read other ≡ (result, met.new) }
+{
+    match read {
+        Ok(value) => value,
+        Err(fault) => {
+            *met = Some(match *met {
+                None => fault,
+                Some(first) => worse_of(first, fault),
+            });
+            other
+        }
+    }
+}
+
+/// The value, unless a fault was met.
+pub fn unless_met<T: Drop>(met: Option<LineFault>, value: T) -> Result<T, LineFault>
+    ensures { result ≡ after met (Ok value) }
+{
+    match met {
+        None => Ok(value),
+        Some(fault) => Err(fault),
     }
 }

@@ -1,28 +1,19 @@
-//! Words, cut at a byte, and numbers.
+//! Single words: numbers, and words of a few fixed texts.
 
-ghost use Rattle.std.specs.Prelude.{◌≡◌, ◌==◌, map, option_map, IfOk};
-ghost use Rattle.std.specs.List.{slice_split};
-ghost use Rattle.spy_words.specs.Classes.{number, id, event};
-ghost use Rattle.spy_words.specs.Faults.{Gives};
-ghost use Rattle.spy_words.specs.Reading.{cut_at, is_digits, meaning_at, number_from};
+ghost use Rattle.std.specs.Prelude.{◌≡◌, ◌↔◌, ◌++◌, IsTrue, IfOk, OnOk, codes, decimal, map};
+ghost use Rattle.spy_words.specs.Classes.{split, split_word, access, access_word, coherence, coherence_word, layout, layout_word, HasOperator, HoldsOperator, IsNumberFrom};
+ghost use Rattle.spy_words.specs.Reading.{parts, is_digits, meaning_at, number_from, operator_at};
 
+use crate::access::{InstKind, PrivWord};
 use crate::fault::LineFault;
-use memchr::memchr;
+use itoa::Buffer;
 use std::alloc::{AllocError, Global};
 
-/// The words of a line: its parts at each space.
-pub fn words_in(alloc: Global, line: &[u8]) -> Result<Vec<&[u8]>, AllocError>
-    ensures { IfOk result (λ v. map (λ w. w.now) v.items ≡ slice_split (λ b. b == 32) line.now) }
+/// The parts of a text, cut at each such byte.
+pub fn parts_of(alloc: Global, text: &[u8], byte: u8) -> Result<Vec<&[u8]>, AllocError>
+    ensures { IfOk result (λ v. map (λ w. w.now) v.items ≡ parts byte text.now) }
 {
-    line.split(|b| *b == b' ').collect(alloc)
-}
-
-/// The word before the first such byte, and the word after it.
-pub fn cut(word: &[u8], byte: u8) -> Option<(&[u8], &[u8])>
-    ensures { option_map (λ p. (p.0.now, p.1.now)) result ≡ cut_at byte word.now }
-{
-    let at = memchr(byte, word)?;
-    Some((&word[..at], &word[at + 1..]))
+    text.split(|b| *b == byte).collect(alloc)
 }
 
 fn all_digits(word: &[u8]) -> bool
@@ -33,7 +24,7 @@ fn all_digits(word: &[u8]) -> bool
 
 /// A number from the least up.
 #[tactic(auto, unfolding(crate::specs::Reading::number_from))]
-pub fn number_from_least(least: u32, word: &[u8]) -> Result<u32, LineFault>
+pub fn number_of(least: u32, word: &[u8]) -> Result<u32, LineFault>
     ensures { result ≡ number_from least word.now }
 {
     if !all_digits(word) {
@@ -49,26 +40,158 @@ pub fn number_from_least(least: u32, word: &[u8]) -> Result<u32, LineFault>
     Ok(value as u32)
 }
 
-/// A number.
-#[tactic(auto, using(crate::proofs::Gathering::gives_same), unfolding(crate::specs::Reading::meaning_at))]
-pub fn number_of(word: &[u8]) -> Result<u32, LineFault>
-    ensures { Gives (λ x. x) result (meaning_at number word.now) }
+/// Whether the number is at least this.
+pub fn is_from(least: u32, n: u32) -> bool
+    ensures { IsTrue result ↔ IsNumberFrom least n }
 {
-    number_from_least(0, word)
+    least <= n
 }
 
-/// An id.
-#[tactic(auto, using(crate::proofs::Gathering::gives_same), unfolding(crate::specs::Reading::meaning_at))]
-pub fn id_of(word: &[u8]) -> Result<u32, LineFault>
-    ensures { Gives (λ x. x) result (meaning_at id word.now) }
+/// Writes a number of up to 64 bits.
+pub fn push_u64(out: &mut Vec<u8>, n: u64) -> Result<(), AllocError>
+    ensures { OnOk result (out.new.items ≡ out.old.items ++ decimal n) }
 {
-    number_from_least(1, word)
+    let mut buffer = Buffer::new();
+    out.extend_from_slice(buffer.format(n).as_bytes())
 }
 
-/// An event.
-#[tactic(auto, using(crate::proofs::Gathering::gives_same), unfolding(crate::specs::Reading::meaning_at))]
-pub fn event_of(word: &[u8]) -> Result<u32, LineFault>
-    ensures { Gives (λ x. x) result (meaning_at event word.now) }
+/// Writes a number.
+pub fn push_number(out: &mut Vec<u8>, n: u32) -> Result<(), AllocError>
+    ensures { OnOk result (out.new.items ≡ out.old.items ++ decimal n) }
 {
-    number_from_least(1, word)
+    push_u64(out, u64::from(n))
+}
+
+/// Whether a partition is disjoint.
+#[tactic(auto, unfolding(crate::specs::Reading::meaning_at))]
+pub fn split_of(word: &[u8]) -> Result<bool, LineFault>
+    ensures { result ≡ meaning_at split word.now }
+{
+    if word == b"disjoint".as_slice() {
+        Ok(true)
+    } else if word == b"aliased".as_slice() {
+        Ok(false)
+    } else {
+        Err(LineFault::Form)
+    }
+}
+
+/// The word for whether a partition is disjoint.
+pub fn split_text(disjoint: bool) -> &'static [u8]
+    ensures { result.now ≡ split_word disjoint }
+{
+    if disjoint { b"disjoint" } else { b"aliased" }
+}
+
+/// Whether coherence is atomic.
+#[tactic(auto, unfolding(crate::specs::Reading::meaning_at))]
+pub fn coherence_of(word: &[u8]) -> Result<bool, LineFault>
+    ensures { result ≡ meaning_at coherence word.now }
+{
+    if word == b"at".as_slice() {
+        Ok(true)
+    } else if word == b"ex".as_slice() {
+        Ok(false)
+    } else {
+        Err(LineFault::Form)
+    }
+}
+
+/// The word for whether coherence is atomic.
+pub fn coherence_text(atomic: bool) -> &'static [u8]
+    ensures { result.now ≡ coherence_word atomic }
+{
+    if atomic { b"at" } else { b"ex" }
+}
+
+/// The operator of a reduction.
+#[tactic(auto, unfolding(crate::specs::Reading::operator_at))]
+fn operator_of(word: &[u8]) -> Result<u32, LineFault>
+    ensures { result ≡ operator_at word.now }
+{
+    if word.starts_with(b"red:") {
+        number_of(1, &word[4..])
+    } else {
+        Err(LineFault::Form)
+    }
+}
+
+fn push_operator(out: &mut Vec<u8>, operator: u32) -> Result<(), AllocError>
+    ensures { OnOk result (out.new.items ≡ out.old.items ++ codes "red:" ++ decimal operator) }
+{
+    out.extend_from_slice(b"red:")?;
+    push_number(out, operator)
+}
+
+/// A privilege.
+#[tactic(auto, unfolding(crate::specs::Reading::meaning_at))]
+pub fn access_of(word: &[u8]) -> Result<PrivWord, LineFault>
+    ensures { result ≡ meaning_at access word.now }
+{
+    if word == b"ro".as_slice() {
+        Ok(PrivWord::Ro)
+    } else if word == b"rw".as_slice() {
+        Ok(PrivWord::Rw)
+    } else if word == b"wd".as_slice() {
+        Ok(PrivWord::Wd)
+    } else {
+        Ok(PrivWord::Red(operator_of(word)?))
+    }
+}
+
+/// Whether a privilege has a spelling.
+pub fn has_operator(access: PrivWord) -> bool
+    ensures { IsTrue result ↔ HasOperator access }
+{
+    match access {
+        PrivWord::Red(operator) => is_from(1, operator),
+        _ => true,
+    }
+}
+
+/// Writes a privilege.
+pub fn push_access(out: &mut Vec<u8>, access: PrivWord) -> Result<(), AllocError>
+    ensures { OnOk result (out.new.items ≡ out.old.items ++ access_word access) }
+{
+    match access {
+        PrivWord::Ro => out.extend_from_slice(b"ro"),
+        PrivWord::Rw => out.extend_from_slice(b"rw"),
+        PrivWord::Wd => out.extend_from_slice(b"wd"),
+        PrivWord::Red(operator) => push_operator(out, operator),
+    }
+}
+
+/// A kind of instance.
+#[tactic(auto, unfolding(crate::specs::Reading::meaning_at))]
+pub fn layout_of(word: &[u8]) -> Result<InstKind, LineFault>
+    ensures { result ≡ meaning_at layout word.now }
+{
+    if word == b"plain".as_slice() {
+        Ok(InstKind::Plain)
+    } else if word == b"home".as_slice() {
+        Ok(InstKind::Home)
+    } else {
+        Ok(InstKind::Red(operator_of(word)?))
+    }
+}
+
+/// Whether a kind of instance has a spelling.
+pub fn holds_operator(layout: InstKind) -> bool
+    ensures { IsTrue result ↔ HoldsOperator layout }
+{
+    match layout {
+        InstKind::Red(operator) => is_from(1, operator),
+        _ => true,
+    }
+}
+
+/// Writes a kind of instance.
+pub fn push_layout(out: &mut Vec<u8>, layout: InstKind) -> Result<(), AllocError>
+    ensures { OnOk result (out.new.items ≡ out.old.items ++ layout_word layout) }
+{
+    match layout {
+        InstKind::Plain => out.extend_from_slice(b"plain"),
+        InstKind::Home => out.extend_from_slice(b"home"),
+        InstKind::Red(operator) => push_operator(out, operator),
+    }
 }

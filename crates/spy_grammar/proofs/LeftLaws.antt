@@ -1,0 +1,64 @@
+-- A row that was read word by word is read by the table.
+use Rattle.std.proofs.Common.{◌≡◌, List, [], ◌∷◌, drop, ℕ, Option, Some, None, Result, Ok, Err, refl, sym, ap, ◌∙◌}
+use Rattle.spy_words.specs.declared.fault.LineFault.{LineFault}
+use Rattle.spy_words.specs.declared.fault.LineFault.TheVariants.{Form}
+use Rattle.spy_words.specs.Faults.{worse, both, map_ok, after, kept}
+use Rattle.spy_words.specs.Reading.{ids_at}
+use Rattle.spy_words.proofs.Faulty.{after_both}
+use Rattle.spy_grammar.specs.declared.kinds.RecordKind.{RecordKind}
+use Rattle.spy_grammar.specs.Rows.{Row, no_more, some_ids, ◌&◌, RowMeaning, Makes, entry, applied, made}
+use Rattle.spy_grammar.specs.Reading.{row_at, kind_record}
+use Rattle.spy_grammar.specs.WordByWord.{Left, stand_in, said, first_of, read_word, read_ids, read_row, read_record, unless_more, ended}
+
+-- a fault of form is told whatever else is wrong
+form_after : {A : Type 0} (met : Option LineFault) → after {A = A} met (Err Form) ≡ Err Form
+form_after None = refl
+form_after (Some Form) = refl
+form_after (Some f) = refl
+
+form_first : {A B : Type 0} (rest : Result B LineFault) → both {A = A} (Err Form) rest ≡ Err Form
+form_first (Ok b) = refl
+form_first (Err Form) = refl
+form_first (Err f) = refl
+
+kept_alone : {A : Type 0} (met : Option LineFault) (read : Result A LineFault) (other : A) → after (kept met read other).1 (Ok (kept met read other).0) ≡ after met read
+kept_alone None (Ok x) other = refl
+kept_alone None (Err f) other = refl
+kept_alone (Some e) (Ok x) other = refl
+kept_alone (Some e) (Err f) other = refl
+
+-- what is made of what was read
+ended_map : {A B : Type 0} (f : A → B) (x : A) (s : Left) → ended (f x, s) ≡ map_ok f (ended (x, s))
+ended_map f x s = by_words s.words s.met
+  where
+    by_words : (ws : List (List ℕ)) (met : Option LineFault) → unless_more ws (after met (Ok (f x))) ≡ map_ok f (unless_more ws (after met (Ok x)))
+    by_words [] None = refl
+    by_words [] (Some e) = refl
+    by_words (w ∷ ws) met = refl
+
+row_read : (r : Row) (s : Left) → ended (read_row r s) ≡ after s.met (row_at r s.words)
+unfolding read_word read_ids
+row_read no_more s = by_words s.words
+  where
+    by_words : (ws : List (List ℕ)) → unless_more ws (after s.met (Ok tt)) ≡ after s.met (row_at no_more ws)
+    by_words [] = refl
+    by_words (w ∷ ws) = sym (form_after s.met)
+row_read some_ids s = kept_alone s.met (ids_at s.words) []
+row_read (c & r) s =
+    let now = kept s.met (said c (first_of s.words)) (stand_in c) in
+    let rest : Left = record { words = drop 1 s.words; met = now.1 } in
+    ended_map (λ m. (now.0, m)) (read_row r rest).0 (read_row r rest).1 ∙ ap (map_ok (λ m. (now.0, m))) (row_read r rest)
+    ∙ sym (after_both s.met (said c (first_of s.words)) (row_at r (drop 1 s.words)) (stand_in c)) ∙ ap (after s.met) (by_words s.words)
+  where
+    by_words : (ws : List (List ℕ)) → both (said c (first_of ws)) (row_at r (drop 1 ws)) ≡ row_at (c & r) ws
+    by_words [] = form_first (row_at r [])
+    by_words (w ∷ ws) = refl
+
+pub record_told : (name : List ℕ) (r : Row) (make : Makes r) (s : Left) → read_record (record { name = name; row = r; record_of = make }) s ≡ (applied r make (read_row r s).0, (read_row r s).1)
+unfolding read_record
+record_told name r make s = refl
+
+-- the words of a kind, read one after the other
+pub kind_read : (k : RecordKind) (ws : List (List ℕ)) → kind_record k ws ≡ ended (read_record (entry k) (record { words = ws; met = None }))
+unfolding kind_record read_record
+kind_read k ws = let start : Left = record { words = ws; met = None } in sym (ended_map (made k) (read_row (entry k).row start).0 (read_row (entry k).row start).1 ∙ ap (map_ok (made k)) (row_read (entry k).row start))

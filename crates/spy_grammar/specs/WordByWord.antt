@@ -1,0 +1,69 @@
+-- A row that is read word by word: where a word has a fault, a stand-in serves as its meaning, and the fault that is told is kept.
+use Rattle.std.specs.Prelude.{ℕ, false, List, [], ◌∷◌, Option, Result, Ok, Err, drop}
+use Rattle.spy_words.specs.declared.access.PrivWord.TheVariants as privileges
+use Rattle.spy_words.specs.declared.access.InstKind.TheVariants as instances
+use Rattle.spy_words.specs.declared.fault.LineFault.{LineFault}
+use Rattle.spy_words.specs.declared.fault.LineFault.TheVariants.{Form}
+use Rattle.spy_words.specs.Classes.{Class, number, id, event, points, fields, waits, split, access, coherence, layout, Meaning}
+use Rattle.spy_words.specs.Faults.{after, kept}
+use Rattle.spy_words.specs.Reading.{meaning_at, ids_at}
+use Rattle.spy_grammar.specs.declared.record.Record.{Record}
+use Rattle.spy_grammar.specs.Rows.{Row, no_more, some_ids, ◌&◌, RowMeaning, Entry, applied}
+
+-- The words that are still to be read, and the fault that was met before them.
+pub record Left : Type 0 where
+  pub words : List (List ℕ)
+  pub met : Option LineFault
+
+-- What serves as a meaning where there is a fault.
+abbrev pub stand_in : (c : Class) → Meaning c
+stand_in number = 0
+stand_in id = 0
+stand_in event = 0
+stand_in points = []
+stand_in fields = []
+stand_in waits = []
+stand_in split = false
+stand_in access = privileges.Ro
+stand_in coherence = false
+stand_in layout = instances.Plain
+
+-- The next word.
+abbrev pub first_of : List (List ℕ) → Result (List ℕ) LineFault
+first_of [] = Err Form
+first_of (w ∷ ws) = Ok w
+
+-- What a word says, if there is one.
+abbrev pub said : (c : Class) → Result (List ℕ) LineFault → Result (Meaning c) LineFault
+said c (Ok w) = meaning_at c w
+said c (Err f) = Err f
+
+-- The next word was read.
+abbrev pub next : {A : Type 0} → A × Option LineFault → List (List ℕ) → A × Left
+next p ws = (p.0, record { words = ws; met = p.1 })
+
+-- A word of a class was read.
+unfoldable pub read_word : (c : Class) → Left → Meaning c × Left
+read_word c s = next (kept s.met (said c (first_of s.words)) (stand_in c)) (drop 1 s.words)
+
+-- All words that are left were read as ids.
+unfoldable pub read_ids : Left → List ℕ × Left
+read_ids s = next (kept s.met (ids_at s.words) []) []
+
+-- The words of a row were read.
+abbrev pub read_row : (r : Row) → Left → RowMeaning r × Left
+read_row no_more s = (tt, s)
+read_row some_ids s = read_ids s
+read_row (c & r) s = (((read_word c s).0, (read_row r (read_word c s).1).0), (read_row r (read_word c s).1).1)
+
+-- The words of a record were read.
+unfoldable pub read_record : Entry → Left → Record × Left
+read_record e s = (applied e.row e.record_of (read_row e.row s).0, (read_row e.row s).1)
+
+-- What was read, unless a fault was met or words are left.
+abbrev pub unless_more : {A : Type 0} → List (List ℕ) → Result A LineFault → Result A LineFault
+unless_more [] read = read
+unless_more (w ∷ ws) read = Err Form
+
+abbrev pub ended : {A : Type 0} → A × Left → Result A LineFault
+ended p = unless_more p.1.words (after p.1.met (Ok p.0))

@@ -1,0 +1,169 @@
+//! The words after the first, read one after the other.
+#![tactic(auto, unfolding(crate::specs::WordByWord::read_word, crate::specs::WordByWord::read_ids))]
+
+ghost use Rattle.std.specs.Prelude.{◌≡◌, ◌∷◌, [], IfOk, None, Ok, Err, MatchResult, map, drop};
+ghost use Rattle.spy_words.specs.declared.fault.LineFault.TheVariants.{Form};
+ghost use Rattle.spy_words.specs.Classes.{number, id, event, points, fields, waits, split, access, coherence, layout};
+ghost use Rattle.spy_grammar.specs.WordByWord.{Left, read_word, read_ids, ended, first_of};
+
+use spy_words::{
+    InstKind, LineFault, Nums, PrivWord, Set, access_of, coherence_of, fields_of, ids_of, keep,
+    layout_of, number_of, points_of, split_of, unless_met, waits_of,
+};
+use std::alloc::{AllocError, Global};
+use std::marker::Model;
+
+/// The words that are still to be read, and the fault that was met before them. Each call reads
+/// the next word by its class. Where the word has a fault, a stand-in is given, and `end` tells
+/// the fault.
+#[derive(Drop)]
+pub struct RowReader<'a> {
+    alloc: Global,
+    words: &'a [&'a [u8]],
+    met: Option<LineFault>,
+}
+
+impl<'a> Model for RowReader<'a> {
+    ghost use Rattle.std.specs.Prelude.{map};
+    ghost use Rattle.spy_grammar.specs.WordByWord.{Left};
+
+    ghost Value = { Left };
+
+    ghost view = { λ r. record { words = map (λ w. w.now) r.words.now; met = r.met } };
+}
+
+impl<'a> RowReader<'a> {
+    /// All words are still to be read.
+    pub fn new(alloc: Global, words: &'a [&'a [u8]]) -> RowReader<'a>
+        ensures { result ≡ record { words = map (λ w. w.now) words.now; met = None } }
+    {
+        RowReader {
+            alloc,
+            words,
+            met: None,
+        }
+    }
+
+    fn next(&mut self) -> Result<&'a [u8], LineFault>
+        ensures word { MatchResult result (λ w. first_of self.old.words ≡ Ok w.now) (λ f. first_of self.old.words ≡ Err f) }
+        ensures rest { self.new ≡ record self.old { words = drop 1 self.old.words } }
+    {
+        let [word, rest @ ..] = self.words else {
+            return Err(LineFault::Form);
+        };
+        self.words = rest;
+        Ok(word)
+    }
+
+    /// A number.
+    #[tactic(auto, unfolding(crate::specs::WordByWord::read_word, spy_words::specs::Reading::meaning_at))]
+    pub fn number(&mut self) -> u32
+        ensures { read_word number self.old ≡ (result, self.new) }
+    {
+        let read = self.next().and_then(|word| number_of(0, word));
+        keep(&mut self.met, read, 0)
+    }
+
+    /// An id.
+    #[tactic(auto, unfolding(crate::specs::WordByWord::read_word, spy_words::specs::Reading::meaning_at))]
+    pub fn id(&mut self) -> u32
+        ensures { read_word id self.old ≡ (result, self.new) }
+    {
+        let read = self.next().and_then(|word| number_of(1, word));
+        keep(&mut self.met, read, 0)
+    }
+
+    /// An event.
+    #[tactic(auto, unfolding(crate::specs::WordByWord::read_word, spy_words::specs::Reading::meaning_at))]
+    pub fn event(&mut self) -> u32
+        ensures { read_word event self.old ≡ (result, self.new) }
+    {
+        let read = self.next().and_then(|word| number_of(1, word));
+        keep(&mut self.met, read, 0)
+    }
+
+    /// A set of points.
+    pub fn points(&mut self) -> Result<Set, AllocError>
+        ensures { IfOk result (λ x. read_word points self.old ≡ (x, self.new)) }
+    {
+        let read = match self.next() {
+            Ok(word) => points_of(self.alloc, word)?,
+            Err(fault) => Err(fault),
+        };
+        Ok(keep(&mut self.met, read, Set::from_pairs(Vec::new(self.alloc))))
+    }
+
+    /// Fields.
+    pub fn fields(&mut self) -> Result<Nums, AllocError>
+        ensures { IfOk result (λ x. read_word fields self.old ≡ (x, self.new)) }
+    {
+        let read = match self.next() {
+            Ok(word) => fields_of(self.alloc, word)?,
+            Err(fault) => Err(fault),
+        };
+        Ok(keep(&mut self.met, read, Nums::from_vec(Vec::new(self.alloc))))
+    }
+
+    /// Events, or none.
+    pub fn waits(&mut self) -> Result<Nums, AllocError>
+        ensures { IfOk result (λ x. read_word waits self.old ≡ (x, self.new)) }
+    {
+        let read = match self.next() {
+            Ok(word) => waits_of(self.alloc, word)?,
+            Err(fault) => Err(fault),
+        };
+        Ok(keep(&mut self.met, read, Nums::from_vec(Vec::new(self.alloc))))
+    }
+
+    /// Whether a partition is disjoint.
+    pub fn split(&mut self) -> bool
+        ensures { read_word split self.old ≡ (result, self.new) }
+    {
+        let read = self.next().and_then(|word| split_of(word));
+        keep(&mut self.met, read, false)
+    }
+
+    /// A privilege.
+    pub fn access(&mut self) -> PrivWord
+        ensures { read_word access self.old ≡ (result, self.new) }
+    {
+        let read = self.next().and_then(|word| access_of(word));
+        keep(&mut self.met, read, PrivWord::Ro)
+    }
+
+    /// Whether coherence is atomic.
+    pub fn coherence(&mut self) -> bool
+        ensures { read_word coherence self.old ≡ (result, self.new) }
+    {
+        let read = self.next().and_then(|word| coherence_of(word));
+        keep(&mut self.met, read, false)
+    }
+
+    /// A kind of instance.
+    pub fn layout(&mut self) -> InstKind
+        ensures { read_word layout self.old ≡ (result, self.new) }
+    {
+        let read = self.next().and_then(|word| layout_of(word));
+        keep(&mut self.met, read, InstKind::Plain)
+    }
+
+    /// All words that are left, as ids.
+    pub fn ids(&mut self) -> Result<Nums, AllocError>
+        ensures { IfOk result (λ x. read_ids self.old ≡ (x, self.new)) }
+    {
+        let read = ids_of(self.alloc, self.words)?;
+        self.words = &[];
+        Ok(keep(&mut self.met, read, Nums::from_vec(Vec::new(self.alloc))))
+    }
+
+    /// What was read, unless a fault was met or words are left.
+    pub fn end<T: Drop>(self, value: T) -> Result<T, LineFault>
+        ensures { result ≡ ended (value, self.entry) }
+    {
+        if self.words.is_empty() {
+            unless_met(self.met, value)
+        } else {
+            Err(LineFault::Form)
+        }
+    }
+}
