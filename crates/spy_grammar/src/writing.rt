@@ -2,7 +2,7 @@
 
 ghost use Rattle.std.specs.Prelude.{◌≡◌, ◌↔◌, ◌++◌, ◌∷◌, [], IsTrue, IfOk, OnOk};
 ghost use Rattle.std.specs.List.{AllByRecursion};
-ghost use Rattle.spy_words.specs.Classes.{follow};
+ghost use Rattle.spy_words.specs.Classes.{IsGood, fields, follow};
 ghost use Rattle.spy_grammar.specs.Cells.{items_in, with_cell};
 ghost use Rattle.spy_grammar.specs.Spelling.{Good, IsGoodItem, spelling, words_in};
 
@@ -11,8 +11,8 @@ use crate::cells::{Cell, cells_of};
 use crate::kinds::name_text;
 use crate::record::Record;
 use spy_words::{
-    are_fields, are_fit, are_points, coherence_text, has_operator, holds_operator, is_from,
-    push_access, push_after, push_layout, push_list, push_number, push_or_dash, split_text,
+    InstKind, Part, PrivWord, are_fit, ascend, coherence_text, push_access, push_after, push_layout,
+    push_list, push_or_dash, push_u64, split_text,
 };
 use std::alloc::{AllocError, Global};
 
@@ -32,19 +32,22 @@ fn is_good(cell: &Cell<'_>) -> bool
     ensures { IsTrue result ↔ AllByRecursion IsGoodItem (with_cell cell.now []) }
 {
     match *cell {
-        No => true,
-        Number(n) => is_from(0, n),
-        Id(n) => is_from(1, n),
-        Event(n) => is_from(1, n),
-        Points(set) => are_points(set.as_slice()),
+        No | Split(_) | Coherence(_) => true,
+        Number(n) => n.is_fit(0),
+        Id(n) | Event(n) => n.is_fit(1),
+        Points(set) => are_fit(0, set.as_slice()) && ascend(set.as_slice()),
         Fields(numbers) => are_fields(numbers.as_slice()),
         Waits(numbers) => are_fit(1, numbers.as_slice()),
-        Split(_) => true,
-        Access(access) => has_operator(access),
-        Coherence(_) => true,
-        Layout(layout) => holds_operator(layout),
+        Access(PrivWord::Red(operator)) | Layout(InstKind::Red(operator)) => operator.is_fit(1),
+        Access(_) | Layout(_) => true,
         Ids(numbers) => !numbers.as_slice().is_empty() && are_fit(1, numbers.as_slice()),
     }
+}
+
+fn are_fields(numbers: &[u32]) -> bool
+    ensures { IsTrue result ↔ IsGood fields numbers.now }
+{
+    !numbers.is_empty() && are_fit(0, numbers) && ascend(numbers)
 }
 
 /// Whether the record has a spelling: its ids and events are at least 1, and its lists ascend.
@@ -77,9 +80,7 @@ fn push_word(out: &mut Vec<u8>, cell: &Cell<'_>) -> Result<(), AllocError>
         _ => out.push(b' ')?,
     }
     match *cell {
-        Number(n) => push_number(out, n),
-        Id(n) => push_number(out, n),
-        Event(n) => push_number(out, n),
+        Number(n) | Id(n) | Event(n) => push_u64(out, u64::from(n)),
         Points(set) => push_or_dash(out, set.as_slice()),
         Fields(numbers) => push_list(out, numbers.as_slice()),
         Waits(numbers) => push_or_dash(out, numbers.as_slice()),

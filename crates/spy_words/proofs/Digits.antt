@@ -1,5 +1,5 @@
 -- Words of digits.
-use Rattle.std.proofs.Common.{◌≡◌, ℕ, ◌+◌, ◌*◌, ◌-◌, ◌^◌, ◌<◌, ◌==◌, Bool, true, false, List, length, get_or, take, min, refl, sym, ◌∙◌, arith, rules}
+use Rattle.std.proofs.Common.{◌≡◌, ℕ, ◌+◌, ◌*◌, ◌-◌, ◌^◌, ◌<◌, Bool, true, false, List, length, get_or, take, min, refl, sym, ◌∙◌, arith, rules}
 use Rattle.std.proofs.lemmas.Bool.{false≢true}
 use Rattle.std.specs.Char.{is_ascii_digit}
 use Rattle.std.specs.Int.{IsInRange}
@@ -10,7 +10,6 @@ use Rattle.std.proofs.lemmas.Int.Digits.{digits_value_more}
 use Rattle.std.proofs.lemmas.List.Folds.{list_all_at}
 use Rattle.std.proofs.lemmas.Str.{digit_value_digit}
 use Rattle.std.proofs.lemmas.Str.Parse.{IsDigitsTest, IsNumeralModel, numerals_by_value}
-use Rattle.spy_words.specs.Reading.{is_digits}
 
 digit_of_test : (c : ℕ) (b : Bool) → is_ascii_digit c ≡ b → (b ≡ false → ⊥) → IsInRange 48 57 c
 digit_of_test c true e n = grind (arith, nat_tests)
@@ -31,10 +30,3 @@ tests_digits = search rules
 
 pub own : IsNumeralModel (λ w. list_all is_ascii_digit w ≡ true) (digits_value 10)
 own = numerals_by_value _ tests_digits
-
--- some bytes, each a digit
-pub is_digits_from : (w : List ℕ) (empty all : Bool) → empty ≡ (length w == 0) → empty ≡ false → all ≡ list_all is_ascii_digit w → all ≡ is_digits w
-is_digits_from w empty all e some is = grind (arith, nat_tests)
-
-pub all_from_is_digits : (w : List ℕ) → true ≡ is_digits w → list_all is_ascii_digit w ≡ true
-all_from_is_digits w e = grind (arith, nat_tests)

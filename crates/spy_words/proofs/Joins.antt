@@ -1,12 +1,11 @@
 -- Words, joined by a byte that is below all of theirs, and cut there again.
-use Rattle.std.proofs.Common.{OnOk, Result, Ok, Err, ◌≡◌, ◌≢◌, ℕ, ◌<◌, ◌≤◌, ltb, eqb, Bool, true, false, List, [], ◌∷◌, ◌++◌, map, length, get_or, take, drop, ◌-◌, append_assoc, refl, sym, ap, ◌∙◌, arith, append-nil}
+use Rattle.std.proofs.Common.{◌≡◌, ◌≢◌, ℕ, ◌<◌, ◌≤◌, ltb, eqb, Bool, true, false, List, [], ◌∷◌, ◌++◌, length, refl, sym, ap, ◌∙◌, arith, append-nil}
 use Rattle.std.specs.List.{join_with_byte, list_all, AllByRecursion}
 use Rattle.std.proofs.lemmas.Bool.{eq-eqb, ne_eqb}
 use Rattle.std.proofs.lemmas.Bool.Decides.{nat_tests}
-use Rattle.std.proofs.lemmas.List.{take_all}
 use Rattle.std.proofs.lemmas.List.Elements.{All-from_recursion}
 use Rattle.std.proofs.lemmas.List.Splits.{slice_split_none, slice_split_at, join_with_byte-slice_split, length-slice_split}
-use Rattle.spy_words.specs.Classes.{follow, list_word}
+use Rattle.spy_words.specs.Classes.{follow}
 use Rattle.spy_words.specs.Reading.{parts}
 
 -- each byte is above a floor
@@ -55,14 +54,3 @@ parts_some c w e = let n = length-slice_split (λ b. eqb b c) w in let z = ap le
 pub join_follow : (c : ℕ) (w : List ℕ) (ws : List (List ℕ)) → join_with_byte c (w ∷ ws) ≡ w ++ follow c ws
 join_follow c w [] = sym (append-nil w)
 join_follow c w (v ∷ vs) = ap (λ (x : List ℕ). w ++ c ∷ x) (join_follow c v vs)
-
--- the first word of a list was written, and then the rest
-pub list_written : {A : Type 0} (spell : A → List ℕ) (before out after : List ℕ) (xs : List A) (d : A) → 1 ≤ length xs → out ≡ before ++ spell (get_or xs 0 d) → after ≡ out ++ follow 44 (map spell (take (length xs - 1) (drop 1 xs))) → after ≡ before ++ list_word spell xs
-list_written spell before out after [] d some is rest = absurd (omega arith)
-list_written spell before out after (x ∷ xs) d some is rest =
-    let whole : take (length (x ∷ xs) - 1) xs ≡ xs = take_all _ xs (omega arith) in
-    rw (rest, whole, is, append_assoc) (ap (λ (w : List ℕ). before ++ w) (sym (join_follow 44 (spell x) (map spell xs))))
-
-pub on_ok : {T E P Q : Type 0} (result : Result T E) → (P → Q) → OnOk result P → OnOk result Q
-on_ok (Ok x) more p = more p
-on_ok (Err e) more p = p

@@ -11,10 +11,10 @@ pub use access::{InstKind, PrivWord};
 pub use fault::{LineFault, keep, unless_met};
 pub use lists::{Nums, Set};
 pub use parts::{
-    Part, Read, are_fields, are_fit, are_points, fields_of, ids_of, points_of, push_after,
-    push_list, push_or_dash, waits_of,
+    Part, Read, are_fit, ascend, fields_of, ids_of, points_of, push_after, push_list, push_or_dash,
+    waits_of,
 };
 pub use words::{
-    access_of, coherence_of, coherence_text, has_operator, holds_operator, is_from, layout_of,
-    number_of, parts_of, push_access, push_layout, push_number, push_u64, split_of, split_text,
+    access_of, coherence_of, coherence_text, layout_of, number_of, parts_of, push_access,
+    push_layout, push_u64, split_of, split_text,
 };

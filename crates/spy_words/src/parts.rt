@@ -3,13 +3,13 @@
 ghost use Rattle.std.specs.Prelude.{◌≡◌, ◌↔◌, ◌++◌, ◌∷◌, IsTrue, IfOk, OnOk, map, decimal, nat_lt, List, ℕ, Bool, Result};
 ghost use Rattle.std.specs.List.{AllByRecursion};
 ghost use Rattle.spy_words.specs.declared.fault.LineFault.{LineFault};
-ghost use Rattle.spy_words.specs.Classes.{ascends, points, fields, waits, follow, span_before, span_word, list_word, list_or_dash, IsGood, IsNumberFrom, IsSpan};
+ghost use Rattle.spy_words.specs.Classes.{ascends, points, fields, waits, follow, span_before, span_word, list_word, list_or_dash, IsNumberFrom, IsSpan};
 ghost use Rattle.spy_words.specs.Faults.{each, in_order, map_ok};
 ghost use Rattle.spy_words.specs.Reading.{ids_at, list_at, meaning_at, number_from, span_among, span_at};
 
 use crate::fault::{LineFault, keep, unless_met};
 use crate::lists::{Nums, Set};
-use crate::words::{is_from, number_of, parts_of, push_number, push_u64};
+use crate::words::{number_of, parts_of, push_u64};
 use std::alloc::{AllocError, Global};
 
 /// What is read of some text, where memory suffices.
@@ -51,11 +51,11 @@ impl Part for u32 {
     }
 
     fn push(self, out: &mut Vec<u8>) -> Result<(), AllocError> {
-        push_number(out, self)
+        push_u64(out, u64::from(self))
     }
 
     fn is_fit(self, least: u32) -> bool {
-        is_from(least, self)
+        least <= self
     }
 
     fn is_before(self, next: u32) -> bool {
@@ -142,7 +142,7 @@ fn list_of<T: Part>(alloc: Global, least: u32, word: &[u8]) -> Read<Vec<T>>
 }
 
 /// Whether each part stands before the next.
-fn ascend<T: Part>(parts: &[T]) -> bool
+pub fn ascend<T: Part>(parts: &[T]) -> bool
     ensures { result ≡ ascends T.before parts.now }
 {
     let [first, rest @ ..] = parts else {
@@ -189,10 +189,11 @@ pub fn push_after<T: Part>(out: &mut Vec<u8>, byte: u8, parts: &[T]) -> Result<(
 }
 
 /// Writes a list.
+#[tactic(auto, using(crate::proofs::Joins::join_follow, std::proofs::Common::append_assoc))]
 pub fn push_list<T: Part>(out: &mut Vec<u8>, parts: &[T]) -> Result<(), AllocError>
     ensures { OnOk result (out.new.items ≡ out.old.items ++ list_word T.text parts.now) }
 {
-    let [first, rest @ ..] = parts else {
+    let Some((first, rest)) = parts.split_first() else {
         return Ok(());
     };
     first.push(out)?;
@@ -234,13 +235,6 @@ pub fn points_of(alloc: Global, word: &[u8]) -> Read<Set>
     Ok(in_order_of(spans).map(Set::from_pairs))
 }
 
-/// Whether a set of points has a spelling.
-pub fn are_points(spans: &[(u64, u64)]) -> bool
-    ensures { IsTrue result ↔ IsGood points spans.now }
-{
-    are_fit(0, spans) && ascend(spans)
-}
-
 /// Fields, which ascend.
 #[tactic(auto, unfolding(crate::specs::Reading::meaning_at))]
 pub fn fields_of(alloc: Global, word: &[u8]) -> Read<Nums>
@@ -248,13 +242,6 @@ pub fn fields_of(alloc: Global, word: &[u8]) -> Read<Nums>
 {
     let numbers = list_of(alloc, 0, word)?;
     Ok(in_order_of(numbers).map(Nums::from_vec))
-}
-
-/// Whether a list of fields has a spelling.
-pub fn are_fields(numbers: &[u32]) -> bool
-    ensures { IsTrue result ↔ IsGood fields numbers.now }
-{
-    !numbers.is_empty() && are_fit(0, numbers) && ascend(numbers)
 }
 
 /// Events, or none.

@@ -1,8 +1,10 @@
 //! Single words: numbers, and words of a few fixed texts.
 
-ghost use Rattle.std.specs.Prelude.{◌≡◌, ◌↔◌, ◌++◌, IsTrue, IfOk, OnOk, codes, decimal, map};
-ghost use Rattle.spy_words.specs.Classes.{split, split_word, access, access_word, coherence, coherence_word, layout, layout_word, HasOperator, HoldsOperator, IsNumberFrom};
-ghost use Rattle.spy_words.specs.Reading.{parts, is_digits, meaning_at, number_from, operator_at};
+ghost use Rattle.std.specs.Prelude.{◌≡◌, ◌++◌, IfOk, OnOk, codes, decimal, map};
+ghost use Rattle.std.specs.Char.{is_ascii_digit};
+ghost use Rattle.std.specs.List.{list_all};
+ghost use Rattle.spy_words.specs.Classes.{split, split_word, access, access_word, coherence, coherence_word, layout, layout_word};
+ghost use Rattle.spy_words.specs.Reading.{parts, meaning_at, number_from, operator_at};
 
 use crate::access::{InstKind, PrivWord};
 use crate::fault::LineFault;
@@ -17,9 +19,9 @@ pub fn parts_of(alloc: Global, text: &[u8], byte: u8) -> Result<Vec<&[u8]>, Allo
 }
 
 fn all_digits(word: &[u8]) -> bool
-    ensures { result ≡ is_digits word.now }
+    ensures { result ≡ list_all is_ascii_digit word.now }
 {
-    !word.is_empty() && word.iter().all(|b| b.is_ascii_digit())
+    word.iter().all(|b| b.is_ascii_digit())
 }
 
 /// A number from the least up.
@@ -27,7 +29,7 @@ fn all_digits(word: &[u8]) -> bool
 pub fn number_of(least: u32, word: &[u8]) -> Result<u32, LineFault>
     ensures { result ≡ number_from least word.now }
 {
-    if !all_digits(word) {
+    if word.is_empty() || !all_digits(word) {
         return Err(LineFault::Form);
     }
     let mut value = 0u64;
@@ -40,26 +42,12 @@ pub fn number_of(least: u32, word: &[u8]) -> Result<u32, LineFault>
     Ok(value as u32)
 }
 
-/// Whether the number is at least this.
-pub fn is_from(least: u32, n: u32) -> bool
-    ensures { IsTrue result ↔ IsNumberFrom least n }
-{
-    least <= n
-}
-
-/// Writes a number of up to 64 bits.
+/// Writes a number.
 pub fn push_u64(out: &mut Vec<u8>, n: u64) -> Result<(), AllocError>
     ensures { OnOk result (out.new.items ≡ out.old.items ++ decimal n) }
 {
     let mut buffer = Buffer::new();
     out.extend_from_slice(buffer.format(n).as_bytes())
-}
-
-/// Writes a number.
-pub fn push_number(out: &mut Vec<u8>, n: u32) -> Result<(), AllocError>
-    ensures { OnOk result (out.new.items ≡ out.old.items ++ decimal n) }
-{
-    push_u64(out, u64::from(n))
 }
 
 /// Whether a partition is disjoint.
@@ -120,7 +108,7 @@ fn push_operator(out: &mut Vec<u8>, operator: u32) -> Result<(), AllocError>
     ensures { OnOk result (out.new.items ≡ out.old.items ++ codes "red:" ++ decimal operator) }
 {
     out.extend_from_slice(b"red:")?;
-    push_number(out, operator)
+    push_u64(out, u64::from(operator))
 }
 
 /// A privilege.
@@ -136,16 +124,6 @@ pub fn access_of(word: &[u8]) -> Result<PrivWord, LineFault>
         Ok(PrivWord::Wd)
     } else {
         Ok(PrivWord::Red(operator_of(word)?))
-    }
-}
-
-/// Whether a privilege has a spelling.
-pub fn has_operator(access: PrivWord) -> bool
-    ensures { IsTrue result ↔ HasOperator access }
-{
-    match access {
-        PrivWord::Red(operator) => is_from(1, operator),
-        _ => true,
     }
 }
 
@@ -172,16 +150,6 @@ pub fn layout_of(word: &[u8]) -> Result<InstKind, LineFault>
         Ok(InstKind::Home)
     } else {
         Ok(InstKind::Red(operator_of(word)?))
-    }
-}
-
-/// Whether a kind of instance has a spelling.
-pub fn holds_operator(layout: InstKind) -> bool
-    ensures { IsTrue result ↔ HoldsOperator layout }
-{
-    match layout {
-        InstKind::Red(operator) => is_from(1, operator),
-        _ => true,
     }
 }
 
