@@ -114,7 +114,7 @@ abbrev Said : List ℕ → Option Record → Type 0
 Said line None = is_passed_over line ≡ true
 Said line (Some r) = (line ≡ spelling r) × Good r
 
-pub line_takes : (line : List ℕ) (o : Option Record) → line_at line ≡ Ok o → Said line o
+line_takes : (line : List ℕ) (o : Option Record) → line_at line ≡ Ok o → Said line o
 unfolding line_at spelling
 line_takes line o e = by_test (is_passed_over line) refl e
   where
@@ -124,6 +124,15 @@ line_takes line o e = by_test (is_passed_over line) refl e
         let m = map_is_ok (λ (r : Record). Some r) (record_at (parts 32 line)) o e in
         let t = record_takes (parts 32 line) m.0 m.1 in
         subst (Said line) m.2 (join_parts 32 line _ t.0, t.1)
+
+pub line_blank : (line : List ℕ) → line_at line ≡ Ok None → is_passed_over line ≡ true
+line_blank line e = line_takes line None e
+
+pub line_spelled : (line : List ℕ) (r : Record) → line_at line ≡ Ok (Some r) → line ≡ spelling r
+line_spelled line r e = (line_takes line (Some r) e).0
+
+pub line_good : (line : List ℕ) (r : Record) → line_at line ≡ Ok (Some r) → Good r
+line_good line r e = (line_takes line (Some r) e).1
 
 pub line_again : (r : Record) → Good r → line_at (spelling r) ≡ Ok (Some r)
 unfolding line_at spelling
