@@ -28,15 +28,10 @@ stand_in access = privileges.Ro
 stand_in coherence = false
 stand_in layout = instances.Plain
 
--- The next word.
-abbrev pub first_of : List (List ℕ) → Result (List ℕ) LineFault
-first_of [] = Err Form
-first_of (w ∷ ws) = Ok w
-
--- What a word says, if there is one.
-abbrev pub said : (c : Class) → Result (List ℕ) LineFault → Result (Meaning c) LineFault
-said c (Ok w) = meaning_at c w
-said c (Err f) = Err f
+-- The next word. Past the last it is the empty word, which has no shape in any class.
+abbrev pub next_word : List (List ℕ) → List ℕ
+next_word [] = []
+next_word (w ∷ ws) = w
 
 -- The next word was read.
 abbrev pub next : {A : Type 0} → A × Option LineFault → List (List ℕ) → A × Left
@@ -44,7 +39,7 @@ next p ws = (p.0, record { words = ws; met = p.1 })
 
 -- A word of a class was read.
 unfoldable pub read_word : (c : Class) → Left → Meaning c × Left
-read_word c s = next (kept s.met (said c (first_of s.words)) (stand_in c)) (drop 1 s.words)
+read_word c s = next (kept s.met (meaning_at c (next_word s.words)) (stand_in c)) (drop 1 s.words)
 
 -- All words that are left were read as ids.
 unfoldable pub read_ids : Left → List ℕ × Left

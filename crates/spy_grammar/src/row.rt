@@ -1,10 +1,10 @@
 //! The words after the first, read one after the other.
 #![tactic(auto, unfolding(crate::specs::WordByWord::read_word, crate::specs::WordByWord::read_ids))]
 
-ghost use Rattle.std.specs.Prelude.{◌≡◌, ◌∷◌, [], IfOk, None, Ok, Err, MatchResult, map, drop};
+ghost use Rattle.std.specs.Prelude.{◌≡◌, ◌∷◌, [], IfOk, None, map, drop};
 ghost use Rattle.spy_words.specs.declared.fault.LineFault.TheVariants.{Form};
 ghost use Rattle.spy_words.specs.Classes.{number, id, event, points, fields, waits, split, access, coherence, layout};
-ghost use Rattle.spy_grammar.specs.WordByWord.{Left, read_word, read_ids, ended, first_of};
+ghost use Rattle.spy_grammar.specs.WordByWord.{Left, read_word, read_ids, ended, next_word};
 
 use spy_words::{
     InstKind, LineFault, Nums, PrivWord, Set, access_of, coherence_of, fields_of, ids_of, keep,
@@ -44,15 +44,16 @@ impl<'a> RowReader<'a> {
         }
     }
 
-    fn next(&mut self) -> Result<&'a [u8], LineFault>
-        ensures word { MatchResult result (λ w. first_of self.old.words ≡ Ok w.now) (λ f. first_of self.old.words ≡ Err f) }
+    /// The next word. Past the last it is the empty word, which has no shape in any class.
+    fn next(&mut self) -> &'a [u8]
+        ensures word { result.now ≡ next_word self.old.words }
         ensures rest { self.new ≡ record self.old { words = drop 1 self.old.words } }
     {
         let [word, rest @ ..] = self.words else {
-            return Err(LineFault::Form);
+            return b"";
         };
         self.words = rest;
-        Ok(word)
+        word
     }
 
     /// A number.
@@ -60,7 +61,7 @@ impl<'a> RowReader<'a> {
     pub fn number(&mut self) -> u32
         ensures { read_word number self.old ≡ (result, self.new) }
     {
-        let read = self.next().and_then(|word| number_of(0, word));
+        let read = number_of(0, self.next());
         keep(&mut self.met, read, 0)
     }
 
@@ -69,7 +70,7 @@ impl<'a> RowReader<'a> {
     pub fn id(&mut self) -> u32
         ensures { read_word id self.old ≡ (result, self.new) }
     {
-        let read = self.next().and_then(|word| number_of(1, word));
+        let read = number_of(1, self.next());
         keep(&mut self.met, read, 0)
     }
 
@@ -78,7 +79,7 @@ impl<'a> RowReader<'a> {
     pub fn event(&mut self) -> u32
         ensures { read_word event self.old ≡ (result, self.new) }
     {
-        let read = self.next().and_then(|word| number_of(1, word));
+        let read = number_of(1, self.next());
         keep(&mut self.met, read, 0)
     }
 
@@ -86,10 +87,7 @@ impl<'a> RowReader<'a> {
     pub fn points(&mut self) -> Result<Set, AllocError>
         ensures { IfOk result (λ x. read_word points self.old ≡ (x, self.new)) }
     {
-        let read = match self.next() {
-            Ok(word) => points_of(self.alloc, word)?,
-            Err(fault) => Err(fault),
-        };
+        let read = points_of(self.alloc, self.next())?;
         Ok(keep(&mut self.met, read, Set::from_pairs(Vec::new(self.alloc))))
     }
 
@@ -97,10 +95,7 @@ impl<'a> RowReader<'a> {
     pub fn fields(&mut self) -> Result<Nums, AllocError>
         ensures { IfOk result (λ x. read_word fields self.old ≡ (x, self.new)) }
     {
-        let read = match self.next() {
-            Ok(word) => fields_of(self.alloc, word)?,
-            Err(fault) => Err(fault),
-        };
+        let read = fields_of(self.alloc, self.next())?;
         Ok(keep(&mut self.met, read, Nums::from_vec(Vec::new(self.alloc))))
     }
 
@@ -108,10 +103,7 @@ impl<'a> RowReader<'a> {
     pub fn waits(&mut self) -> Result<Nums, AllocError>
         ensures { IfOk result (λ x. read_word waits self.old ≡ (x, self.new)) }
     {
-        let read = match self.next() {
-            Ok(word) => waits_of(self.alloc, word)?,
-            Err(fault) => Err(fault),
-        };
+        let read = waits_of(self.alloc, self.next())?;
         Ok(keep(&mut self.met, read, Nums::from_vec(Vec::new(self.alloc))))
     }
 
@@ -119,7 +111,7 @@ impl<'a> RowReader<'a> {
     pub fn split(&mut self) -> bool
         ensures { read_word split self.old ≡ (result, self.new) }
     {
-        let read = self.next().and_then(|word| split_of(word));
+        let read = split_of(self.next());
         keep(&mut self.met, read, false)
     }
 
@@ -127,7 +119,7 @@ impl<'a> RowReader<'a> {
     pub fn access(&mut self) -> PrivWord
         ensures { read_word access self.old ≡ (result, self.new) }
     {
-        let read = self.next().and_then(|word| access_of(word));
+        let read = access_of(self.next());
         keep(&mut self.met, read, PrivWord::Ro)
     }
 
@@ -135,7 +127,7 @@ impl<'a> RowReader<'a> {
     pub fn coherence(&mut self) -> bool
         ensures { read_word coherence self.old ≡ (result, self.new) }
     {
-        let read = self.next().and_then(|word| coherence_of(word));
+        let read = coherence_of(self.next());
         keep(&mut self.met, read, false)
     }
 
@@ -143,7 +135,7 @@ impl<'a> RowReader<'a> {
     pub fn layout(&mut self) -> InstKind
         ensures { read_word layout self.old ≡ (result, self.new) }
     {
-        let read = self.next().and_then(|word| layout_of(word));
+        let read = layout_of(self.next());
         keep(&mut self.met, read, InstKind::Plain)
     }
 

@@ -16,7 +16,7 @@ use Rattle.spy_words.specs.declared.access.InstKind.{InstKind}
 use Rattle.spy_words.specs.declared.access.InstKind.TheVariants as instances
 use Rattle.spy_words.specs.Classes.{Class, number, id, event, points, fields, waits, split, access, coherence, layout, Meaning, span_word, list_word, list_or_dash, split_word, access_word, coherence_word, layout_word, word_of, IsNumberFrom, IsSpan, ascends, span_before, HasOperator, HoldsOperator, IsGood}
 use Rattle.spy_words.specs.Faults.{both, map_ok, in_order, each}
-use Rattle.spy_words.specs.Reading.{number_from, parts, goes_up, span_among, span_at, list_at, unless_dash, text_at, operator_at, meaning_at}
+use Rattle.spy_words.specs.Reading.{number_from, parts, goes_up, span_among, span_at, list_at, text_at, operator_at, meaning_at}
 use Rattle.spy_words.proofs.Digits.{own, digit_at}
 use Rattle.spy_words.proofs.Numbers.{number_takes, number_again}
 use Rattle.spy_words.proofs.Joins.{Above, above_lower, all_lower, above_append, above_join, above_all, parts_join, join_parts, parts_some}
@@ -151,21 +151,26 @@ list_agrees A read spell IsFit laws = record {
     again [] fit some = absurd (some refl)
     again (x ∷ xs) fit some = ap (each read) (parts_join 44 (spell x) (map spell xs) (each_above A read spell IsFit 44 laws (x ∷ xs) fit)) ∙ each_again A read spell IsFit 44 laws (x ∷ xs) fit
 
+-- a value is found by its text, or read otherwise
+pub text_takes : (A : Type 0) (spell : A → List ℕ) (IsFit : A → Type 0) (xs : List A) (w : List ℕ) (otherwise : Result A LineFault) (y : A) → AllByRecursion IsFit xs → (otherwise ≡ Ok y → (w ≡ spell y) × IsFit y) → text_at spell xs w otherwise ≡ Ok y → (w ≡ spell y) × IsFit y
+text_takes A spell IsFit [] w otherwise y fit later e = later e
+text_takes A spell IsFit (x ∷ xs) w otherwise y fit later e = elim (chosen w (spell x) (Ok x) (text_at spell xs w otherwise) (Ok y) e) [
+  | inl p ↦ let same : x ≡ y = cc (p.1) in subst (λ (y : A). (w ≡ spell y) × IsFit y) same (p.0, fit.0)
+  | inr p ↦ text_takes A spell IsFit xs w otherwise y fit.1 later p
+]
+
 -- a list, or a dash, which is no list
-dash_agrees : (A : Type 0) (read : List ℕ → Result (List A) LineFault) (spell : A → List ℕ) (IsFit : List A → Type 0) → IsFit [] → ((xs : List A) → read (codes "-") ≡ Ok xs → ⊥) → Agree (List A) read (list_word spell) (λ xs. IsFit xs × (xs ≢ [])) 32 → Agree (List A) (λ w. unless_dash w (read w)) (list_or_dash spell) IsFit 32
+dash_agrees : (A : Type 0) (read : List ℕ → Result (List A) LineFault) (spell : A → List ℕ) (IsFit : List A → Type 0) → IsFit [] → ((xs : List A) → read (codes "-") ≡ Ok xs → ⊥) → Agree (List A) read (list_word spell) (λ xs. IsFit xs × (xs ≢ [])) 32 → Agree (List A) (λ w. text_at (list_or_dash spell) ([] ∷ []) w (read w)) (list_or_dash spell) IsFit 32
 dash_agrees A read spell IsFit none no_list laws = record { takes = takes; again = again; above = above }
   where
     spelled : (xs : List A) → xs ≢ [] → list_word spell xs ≡ list_or_dash spell xs
     spelled [] some = absurd (some refl)
     spelled (x ∷ xs) some = refl
 
-    takes : (w : List ℕ) (xs : List A) → unless_dash w (read w) ≡ Ok xs → (w ≡ list_or_dash spell xs) × IsFit xs
-    takes w xs e = elim (chosen w (codes "-") (Ok []) (read w) (Ok xs) e) [
-      | inl d ↦ let empty : [] ≡ xs = cc (d.1) in subst (λ (xs : List A). (w ≡ list_or_dash spell xs) × IsFit xs) empty (d.0, none)
-      | inr d ↦ let t = laws.takes w xs d in (t.0 ∙ spelled xs t.1.1, t.1.0)
-    ]
+    takes : (w : List ℕ) (xs : List A) → text_at (list_or_dash spell) ([] ∷ []) w (read w) ≡ Ok xs → (w ≡ list_or_dash spell xs) × IsFit xs
+    takes w xs e = text_takes (List A) (list_or_dash spell) IsFit ([] ∷ []) w (read w) xs (none, tt) (λ e. let t = laws.takes w xs e in (t.0 ∙ spelled xs t.1.1, t.1.0)) e
 
-    again : (xs : List A) → IsFit xs → unless_dash (list_or_dash spell xs) (read (list_or_dash spell xs)) ≡ Ok xs
+    again : (xs : List A) → IsFit xs → text_at (list_or_dash spell) ([] ∷ []) (list_or_dash spell xs) (read (list_or_dash spell xs)) ≡ Ok xs
     again [] fit = refl
     again (x ∷ xs) fit = by_test (bytes_eq (list_word spell (x ∷ xs)) (codes "-")) refl
       where
@@ -188,26 +193,18 @@ order_agrees A read spell IsFit before laws = record {
   above = λ xs fit. laws.above xs (fit.0.0, fit.1);
 }
 
-points_agree : Agree (List (ℕ × ℕ)) (λ w. unless_dash w (in_order (ascends span_before) (list_at span_at w))) (list_or_dash span_word) (IsGood points) 32
+points_agree : Agree (List (ℕ × ℕ)) (λ w. text_at (list_or_dash span_word) ([] ∷ []) w (in_order (ascends span_before) (list_at span_at w))) (list_or_dash span_word) (IsGood points) 32
 unfolding list_at span_at number_from
 points_agree = dash_agrees (ℕ × ℕ) _ span_word (IsGood points) (tt, refl) (λ xs e. absurd cc) (order_agrees (ℕ × ℕ) (list_at span_at) span_word IsSpan span_before (list_agrees (ℕ × ℕ) span_at span_word IsSpan span_agrees))
 
 fields_agree : Agree (List ℕ) (λ w. in_order (ascends nat_lt) (list_at (number_from 0) w)) (list_word decimal) (λ ns. (AllByRecursion (IsNumberFrom 0) ns × (ascends nat_lt ns ≡ true)) × (ns ≢ [])) 32
 fields_agree = order_agrees ℕ (list_at (number_from 0)) decimal (IsNumberFrom 0) nat_lt (list_agrees ℕ (number_from 0) decimal (IsNumberFrom 0) (number_agrees 0))
 
-waits_agree : Agree (List ℕ) (λ w. unless_dash w (list_at (number_from 1) w)) (list_or_dash decimal) (IsGood waits) 32
+waits_agree : Agree (List ℕ) (λ w. text_at (list_or_dash decimal) ([] ∷ []) w (list_at (number_from 1) w)) (list_or_dash decimal) (IsGood waits) 32
 unfolding list_at number_from
 waits_agree = dash_agrees ℕ (list_at (number_from 1)) decimal (IsGood waits) tt (λ xs e. absurd cc) (list_agrees ℕ (number_from 1) decimal (IsNumberFrom 1) (number_agrees 1))
 
--- ---- words of a few fixed texts
-
--- a value is found by its text, or read otherwise
-pub text_takes : (A : Type 0) (spell : A → List ℕ) (IsFit : A → Type 0) (xs : List A) (w : List ℕ) (otherwise : Result A LineFault) (y : A) → AllByRecursion IsFit xs → (otherwise ≡ Ok y → (w ≡ spell y) × IsFit y) → text_at spell xs w otherwise ≡ Ok y → (w ≡ spell y) × IsFit y
-text_takes A spell IsFit [] w otherwise y fit later e = later e
-text_takes A spell IsFit (x ∷ xs) w otherwise y fit later e = elim (chosen w (spell x) (Ok x) (text_at spell xs w otherwise) (Ok y) e) [
-  | inl p ↦ let same : x ≡ y = cc (p.1) in subst (λ (y : A). (w ≡ spell y) × IsFit y) same (p.0, fit.0)
-  | inr p ↦ text_takes A spell IsFit xs w otherwise y fit.1 later p
-]
+-- ---- reductions
 
 operator_takes : (w : List ℕ) (op : ℕ) → operator_at w ≡ Ok op → (w ≡ codes "red:" ++ decimal op) × IsNumberFrom 1 op
 unfolding operator_at

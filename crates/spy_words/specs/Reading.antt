@@ -1,5 +1,5 @@
 -- What a word of each class says, or its fault.
-use Rattle.std.specs.Prelude.{ℕ, ◌^◌, Bool, true, false, not, ◌||◌, ◌&&◌, ◌==◌, nat_eq, nat_lt, List, [], ◌∷◌, length, drop, slice_index, Result, Ok, Err, if◌then◌else◌, codes}
+use Rattle.std.specs.Prelude.{ℕ, ◌^◌, Bool, true, false, not, ◌||◌, ◌&&◌, ◌==◌, nat_eq, nat_lt, List, [], ◌∷◌, length, drop, slice_index, Result, Ok, Err, if◌then◌else◌, codes, decimal}
 use Rattle.std.specs.List.{slice_split, list_all, starts_with}
 use Rattle.std.specs.Str.{bytes_eq}
 use Rattle.std.specs.Char.{is_ascii_digit}
@@ -10,7 +10,7 @@ use Rattle.spy_words.specs.declared.access.InstKind.{InstKind}
 use Rattle.spy_words.specs.declared.access.InstKind.TheVariants as instances
 use Rattle.spy_words.specs.declared.fault.LineFault.{LineFault}
 use Rattle.spy_words.specs.declared.fault.LineFault.TheVariants.{Form, Number}
-use Rattle.spy_words.specs.Classes.{Class, number, id, event, points, fields, waits, split, access, coherence, layout, Meaning, split_word, access_word, coherence_word, layout_word, ascends, span_before}
+use Rattle.spy_words.specs.Classes.{Class, number, id, event, points, fields, waits, split, access, coherence, layout, Meaning, span_word, list_or_dash, split_word, access_word, coherence_word, layout_word, ascends, span_before}
 use Rattle.spy_words.specs.Faults.{both, map_ok, in_order, each}
 
 -- The parts of a text, cut at each such byte.
@@ -50,10 +50,6 @@ span_at w = span_among (parts 45 w)
 unfoldable pub list_at : {A : Type 0} → (List ℕ → Result A LineFault) → List ℕ → Result (List A) LineFault
 list_at read w = each read (parts 44 w)
 
--- A list, or a dash for none.
-abbrev pub unless_dash : {A : Type 0} → List ℕ → Result (List A) LineFault → Result (List A) LineFault
-unless_dash w read = if bytes_eq w (codes "-") then Ok [] else read
-
 -- The first of some values with this text, or what else reading gives.
 abbrev pub text_at : {A : Type 0} → (A → List ℕ) → List A → List ℕ → Result A LineFault → Result A LineFault
 text_at spell [] w otherwise = otherwise
@@ -68,9 +64,9 @@ unfoldable pub meaning_at : (c : Class) → List ℕ → Result (Meaning c) Line
 meaning_at number w = number_from 0 w
 meaning_at id w = number_from 1 w
 meaning_at event w = number_from 1 w
-meaning_at points w = unless_dash w (in_order (ascends span_before) (list_at span_at w))
+meaning_at points w = text_at (list_or_dash span_word) ([] ∷ []) w (in_order (ascends span_before) (list_at span_at w))
 meaning_at fields w = in_order (ascends nat_lt) (list_at (number_from 0) w)
-meaning_at waits w = unless_dash w (list_at (number_from 1) w)
+meaning_at waits w = text_at (list_or_dash decimal) ([] ∷ []) w (list_at (number_from 1) w)
 meaning_at split w = text_at split_word (true ∷ false ∷ []) w (Err Form)
 meaning_at access w = text_at access_word (privileges.Ro ∷ privileges.Rw ∷ privileges.Wd ∷ []) w (map_ok (λ op. privileges.Red op) (operator_at w))
 meaning_at coherence w = text_at coherence_word (true ∷ false ∷ []) w (Err Form)
