@@ -1,5 +1,5 @@
 //! The words after the first, read one after the other.
-#![tactic(auto, unfolding(crate::specs::WordByWord::read_word, crate::specs::WordByWord::read_ids))]
+#![tactic(auto, unfolding(crate::specs::WordByWord::read_word, crate::specs::WordByWord::read_ids, spy_words::specs::Reading::meaning_at))]
 
 ghost use Rattle.std.specs.Prelude.{◌≡◌, ◌∷◌, [], IfOk, None, map, drop};
 ghost use Rattle.spy_words.specs.declared.fault.LineFault.TheVariants.{Form};
@@ -7,8 +7,8 @@ ghost use Rattle.spy_words.specs.Classes.{number, id, event, points, fields, wai
 ghost use Rattle.spy_grammar.specs.WordByWord.{Left, read_word, read_ids, ended, next_word};
 
 use spy_words::{
-    InstKind, LineFault, Nums, PrivWord, Set, access_of, coherence_of, fields_of, ids_of, keep,
-    layout_of, number_of, points_of, split_of, unless_met, waits_of,
+    InstKind, LineFault, Nums, PrivWord, Set, access_of, coherence_text, either, fields_of, ids_of,
+    keep, layout_of, number_of, points_of, split_text, unless_met, waits_of,
 };
 use std::alloc::{AllocError, Global};
 use std::marker::Model;
@@ -57,7 +57,6 @@ impl<'a> RowReader<'a> {
     }
 
     /// A number.
-    #[tactic(auto, unfolding(crate::specs::WordByWord::read_word, spy_words::specs::Reading::meaning_at))]
     pub fn number(&mut self) -> u32
         ensures { read_word number self.old ≡ (result, self.new) }
     {
@@ -66,7 +65,6 @@ impl<'a> RowReader<'a> {
     }
 
     /// An id.
-    #[tactic(auto, unfolding(crate::specs::WordByWord::read_word, spy_words::specs::Reading::meaning_at))]
     pub fn id(&mut self) -> u32
         ensures { read_word id self.old ≡ (result, self.new) }
     {
@@ -75,7 +73,6 @@ impl<'a> RowReader<'a> {
     }
 
     /// An event.
-    #[tactic(auto, unfolding(crate::specs::WordByWord::read_word, spy_words::specs::Reading::meaning_at))]
     pub fn event(&mut self) -> u32
         ensures { read_word event self.old ≡ (result, self.new) }
     {
@@ -111,7 +108,7 @@ impl<'a> RowReader<'a> {
     pub fn split(&mut self) -> bool
         ensures { read_word split self.old ≡ (result, self.new) }
     {
-        let read = split_of(self.next());
+        let read = either(self.next(), split_text(true), split_text(false));
         keep(&mut self.met, read, false)
     }
 
@@ -127,7 +124,7 @@ impl<'a> RowReader<'a> {
     pub fn coherence(&mut self) -> bool
         ensures { read_word coherence self.old ≡ (result, self.new) }
     {
-        let read = coherence_of(self.next());
+        let read = either(self.next(), coherence_text(true), coherence_text(false));
         keep(&mut self.met, read, false)
     }
 

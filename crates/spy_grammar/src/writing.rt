@@ -2,7 +2,7 @@
 
 ghost use Rattle.std.specs.Prelude.{◌≡◌, ◌↔◌, ◌++◌, ◌∷◌, [], IsTrue, IfOk, OnOk};
 ghost use Rattle.std.specs.List.{AllByRecursion};
-ghost use Rattle.spy_words.specs.Classes.{IsGood, fields, follow};
+ghost use Rattle.spy_words.specs.Classes.{follow};
 ghost use Rattle.spy_grammar.specs.Cells.{items_in, with_cell};
 ghost use Rattle.spy_grammar.specs.Spelling.{Good, IsGoodItem, spelling, words_in};
 
@@ -36,18 +36,15 @@ fn is_good(cell: &Cell<'_>) -> bool
         Number(n) => n.is_fit(0),
         Id(n) | Event(n) => n.is_fit(1),
         Points(set) => are_fit(0, set.as_slice()) && ascend(set.as_slice()),
-        Fields(numbers) => are_fields(numbers.as_slice()),
+        Fields(numbers) => {
+            let numbers = numbers.as_slice();
+            !numbers.is_empty() && are_fit(0, numbers) && ascend(numbers)
+        }
         Waits(numbers) => are_fit(1, numbers.as_slice()),
         Access(PrivWord::Red(operator)) | Layout(InstKind::Red(operator)) => operator.is_fit(1),
         Access(_) | Layout(_) => true,
         Ids(numbers) => !numbers.as_slice().is_empty() && are_fit(1, numbers.as_slice()),
     }
-}
-
-fn are_fields(numbers: &[u32]) -> bool
-    ensures { IsTrue result ↔ IsGood fields numbers.now }
-{
-    !numbers.is_empty() && are_fit(0, numbers) && ascend(numbers)
 }
 
 /// Whether the record has a spelling: its ids and events are at least 1, and its lists ascend.

@@ -211,18 +211,6 @@ pub fn push_or_dash<T: Part>(out: &mut Vec<u8>, parts: &[T]) -> Result<(), Alloc
     push_list(out, parts)
 }
 
-/// The parts that were read, if they ascend.
-fn in_order_of<T: Part>(read: Result<Vec<T>, LineFault>) -> Result<Vec<T>, LineFault>
-    ensures { map_ok (λ v. v.items) result ≡ in_order (ascends T.before) (map_ok (λ v. v.items) read) }
-{
-    let parts = read?;
-    if ascend(&parts) {
-        Ok(parts)
-    } else {
-        Err(LineFault::Order)
-    }
-}
-
 /// A set of points.
 #[tactic(auto, unfolding(crate::specs::Reading::meaning_at))]
 pub fn points_of(alloc: Global, word: &[u8]) -> Read<Set>
@@ -231,8 +219,10 @@ pub fn points_of(alloc: Global, word: &[u8]) -> Read<Set>
     if word == b"-".as_slice() {
         return Ok(Ok(Set::from_pairs(Vec::new(alloc))));
     }
-    let spans = list_of(alloc, 0, word)?;
-    Ok(in_order_of(spans).map(Set::from_pairs))
+    Ok(match list_of(alloc, 0, word)? {
+        Ok(spans) if !ascend(&spans) => Err(LineFault::Order),
+        read => read.map(Set::from_pairs),
+    })
 }
 
 /// Fields, which ascend.
@@ -240,8 +230,10 @@ pub fn points_of(alloc: Global, word: &[u8]) -> Read<Set>
 pub fn fields_of(alloc: Global, word: &[u8]) -> Read<Nums>
     ensures { IfOk result (λ read. read ≡ meaning_at fields word.now) }
 {
-    let numbers = list_of(alloc, 0, word)?;
-    Ok(in_order_of(numbers).map(Nums::from_vec))
+    Ok(match list_of(alloc, 0, word)? {
+        Ok(numbers) if !ascend(&numbers) => Err(LineFault::Order),
+        read => read.map(Nums::from_vec),
+    })
 }
 
 /// Events, or none.

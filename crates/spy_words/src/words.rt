@@ -1,10 +1,11 @@
 //! Single words: numbers, and words of a few fixed texts.
 
-ghost use Rattle.std.specs.Prelude.{◌≡◌, ◌++◌, IfOk, OnOk, codes, decimal, map};
+ghost use Rattle.std.specs.Prelude.{◌≡◌, ◌∷◌, [], ◌++◌, true, false, if◌then◌else◌, Err, IfOk, OnOk, codes, decimal, map};
+ghost use Rattle.spy_words.specs.declared.fault.LineFault.TheVariants.{Form};
 ghost use Rattle.std.specs.Char.{is_ascii_digit};
 ghost use Rattle.std.specs.List.{list_all};
-ghost use Rattle.spy_words.specs.Classes.{split, split_word, access, access_word, coherence, coherence_word, layout, layout_word};
-ghost use Rattle.spy_words.specs.Reading.{parts, meaning_at, number_from, operator_at};
+ghost use Rattle.spy_words.specs.Classes.{split_word, access, access_word, coherence_word, layout, layout_word};
+ghost use Rattle.spy_words.specs.Reading.{parts, meaning_at, number_from, operator_at, text_at};
 
 use crate::access::{InstKind, PrivWord};
 use crate::fault::LineFault;
@@ -50,14 +51,13 @@ pub fn push_u64(out: &mut Vec<u8>, n: u64) -> Result<(), AllocError>
     out.extend_from_slice(buffer.format(n).as_bytes())
 }
 
-/// Whether a partition is disjoint.
-#[tactic(auto, unfolding(crate::specs::Reading::meaning_at))]
-pub fn split_of(word: &[u8]) -> Result<bool, LineFault>
-    ensures { result ≡ meaning_at split word.now }
+/// Which of two texts the word is: the first for true, the second for false.
+pub fn either(word: &[u8], first: &[u8], second: &[u8]) -> Result<bool, LineFault>
+    ensures { result ≡ text_at (λ b. if b then first.now else second.now) (true ∷ false ∷ []) word.now (Err Form) }
 {
-    if word == b"disjoint".as_slice() {
+    if word == first {
         Ok(true)
-    } else if word == b"aliased".as_slice() {
+    } else if word == second {
         Ok(false)
     } else {
         Err(LineFault::Form)
@@ -69,20 +69,6 @@ pub fn split_text(disjoint: bool) -> &'static [u8]
     ensures { result.now ≡ split_word disjoint }
 {
     if disjoint { b"disjoint" } else { b"aliased" }
-}
-
-/// Whether coherence is atomic.
-#[tactic(auto, unfolding(crate::specs::Reading::meaning_at))]
-pub fn coherence_of(word: &[u8]) -> Result<bool, LineFault>
-    ensures { result ≡ meaning_at coherence word.now }
-{
-    if word == b"at".as_slice() {
-        Ok(true)
-    } else if word == b"ex".as_slice() {
-        Ok(false)
-    } else {
-        Err(LineFault::Form)
-    }
 }
 
 /// The word for whether coherence is atomic.
