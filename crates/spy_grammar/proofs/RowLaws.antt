@@ -9,7 +9,7 @@ use Rattle.spy_words.specs.Classes.{IsNumberFrom}
 use Rattle.spy_words.specs.Faults.{map_ok}
 use Rattle.spy_words.specs.Reading.{number_from, parts, meaning_at}
 use Rattle.spy_words.proofs.Joins.{Above, all_lower, above_all, above_join, parts_join, join_parts}
-use Rattle.spy_words.proofs.ClassLaws.{both_ok, map_is_ok, number_agrees, each_takes, each_again, each_above, text_takes, class_takes, class_again}
+use Rattle.spy_words.proofs.ClassLaws.{both_ok, map_is_ok, number_agrees, each_takes, each_again, text_takes, class_takes, class_again}
 use Rattle.spy_grammar.specs.declared.kinds.RecordKind.{RecordKind}
 use Rattle.spy_grammar.specs.declared.kinds.RecordKind.TheVariants as kinds
 use Rattle.spy_grammar.specs.declared.record.Record.{Record}
@@ -23,7 +23,7 @@ use Rattle.spy_grammar.specs.Reading.{row_at, kind_record, named_record, record_
 row_takes : (r : Row) (ws : List (List ℕ)) (m : RowMeaning r) → row_at r ws ≡ Ok m → (ws ≡ words_in (row_items r m)) × AllByRecursion IsGoodItem (row_items r m)
 row_takes no_more [] m e = (refl, tt)
 row_takes some_ids (w ∷ ws) m e =
-    let t = each_takes ℕ (number_from 1) decimal (IsNumberFrom 1) 44 (number_agrees 1) (w ∷ ws) m e in
+    let t = each_takes ℕ (number_from 1) decimal (IsNumberFrom 1) 45 (number_agrees 1) (w ∷ ws) m e in
     (t.0 ∙ sym (append-nil (map decimal m)), ((t.1, λ empty. let z : w ∷ ws ≡ [] = t.0 ∙ ap (map decimal) empty in absurd cc), tt))
 row_takes (c & r) (w ∷ ws) m e =
     let b = both_ok (meaning_at c w) (row_at r ws) m e in
@@ -37,9 +37,8 @@ row_again no_more m g = (refl, tt)
 row_again some_ids [] g = absurd (g.0.1 refl)
 row_again some_ids (n ∷ ns) g =
     let words = map decimal (n ∷ ns) in
-    let again = each_again ℕ (number_from 1) decimal (IsNumberFrom 1) 44 (number_agrees 1) (n ∷ ns) g.0.0 in
-    let above = all_lower 32 44 words (omega arith) (each_above ℕ (number_from 1) decimal (IsNumberFrom 1) 44 (number_agrees 1) (n ∷ ns) g.0.0) in
-    subst (λ (ws : List (List ℕ)). (row_at some_ids ws ≡ Ok (n ∷ ns)) × AllByRecursion (Above 32) ws) (sym (append-nil words)) (again, above)
+    let again = each_again ℕ (number_from 1) decimal (IsNumberFrom 1) 45 (number_agrees 1) (n ∷ ns) g.0.0 in
+    subst (λ (ws : List (List ℕ)). (row_at some_ids ws ≡ Ok (n ∷ ns)) × AllByRecursion (Above 32) ws) (sym (append-nil words)) (again.0, all_lower 32 45 words (omega arith) again.1)
 row_again (c & r) m g =
     let first = class_again c m.0 g.0 in
     let rest = row_again r m.1 g.1 in

@@ -24,8 +24,7 @@ use Rattle.spy_words.proofs.Joins.{Above, above_lower, all_lower, above_append, 
 -- a reader and a speller of words say the same
 pub record Agree (A : Type 0) (read : List ℕ → Result A LineFault) (spell : A → List ℕ) (IsFit : A → Type 0) (floor : ℕ) : Type 0 where
   pub takes : (w : List ℕ) (x : A) → read w ≡ Ok x → (w ≡ spell x) × IsFit x
-  pub again : (x : A) → IsFit x → read (spell x) ≡ Ok x
-  pub above : (x : A) → IsFit x → Above floor (spell x)
+  pub again : (x : A) → IsFit x → (read (spell x) ≡ Ok x) × Above floor (spell x)
 
 -- ---- what gave a value
 
@@ -56,18 +55,15 @@ chosen w text x y z e = by_test (bytes_eq w text) refl e
 
 -- ---- numbers and runs of points
 
-decimal_above : (least n : ℕ) → IsNumberFrom least n → Above 47 (decimal n)
-decimal_above least n good = digits_above (decimal n) (digits_decimal own n (omega (arith, good.1)))
-  where
-    digits_above : (w : List ℕ) → list_all is_ascii_digit w ≡ true → Above 47 w
-    digits_above [] all = tt
-    digits_above (b ∷ w) all =
-        let r = digit_at (b ∷ w) 0 all (omega arith) in
-        let rest : list_all is_ascii_digit w ≡ true = grind (arith, nat_tests) in
-        (omega (arith, r.0), digits_above w rest)
+digits_above : (w : List ℕ) → list_all is_ascii_digit w ≡ true → Above 45 w
+digits_above [] all = tt
+digits_above (b ∷ w) all =
+    let r = digit_at (b ∷ w) 0 all (omega arith) in
+    let rest : list_all is_ascii_digit w ≡ true = grind (arith, nat_tests) in
+    (omega (arith, r.0), digits_above w rest)
 
-pub number_agrees : (least : ℕ) → Agree ℕ (number_from least) decimal (IsNumberFrom least) 44
-number_agrees least = record { takes = number_takes least; again = number_again least; above = λ n good. above_lower 44 47 (decimal n) (omega arith) (decimal_above least n good) }
+pub number_agrees : (least : ℕ) → Agree ℕ (number_from least) decimal (IsNumberFrom least) 45
+number_agrees least = record { takes = number_takes least; again = λ n good. (number_again least n good, digits_above (decimal n) (digits_decimal own n (omega (arith, good.1)))) }
 
 span_takes : (ws : List (List ℕ)) (p : ℕ × ℕ) → span_among ws ≡ Ok p → (join_with_byte 45 ws ≡ span_word p) × IsSpan p
 span_takes (v ∷ []) p e =
@@ -83,37 +79,27 @@ span_takes (v ∷ w ∷ []) p e =
     (rw (ne_eqb p.0 p.1 (λ e. absurd (omega (arith, up, e)))) (ap (λ (x : List ℕ). x ++ 45 ∷ w) s.0 ∙ ap (λ (x : List ℕ). decimal p.0 ++ 45 ∷ x) t.0), (omega (arith, up), t.1.1))
 span_takes vs p e = absurd cc
 
-span_again : (p : ℕ × ℕ) → IsSpan p → span_among (parts 45 (span_word p)) ≡ Ok p
+span_again : (p : ℕ × ℕ) → IsSpan p → (span_among (parts 45 (span_word p)) ≡ Ok p) × Above 44 (span_word p)
 span_again p good = by_test (eqb p.0 p.1) refl
   where
-    low : IsNumberFrom 0 p.0
-    low = (omega arith, omega (arith, good.0, good.1))
+    first : (number_from 0 (decimal p.0) ≡ Ok p.0) × Above 45 (decimal p.0)
+    first = (number_agrees 0).again p.0 (omega arith, omega (arith, good.0, good.1))
 
-    dashless : (n : ℕ) → IsNumberFrom 0 n → Above 45 (decimal n)
-    dashless n fit = above_lower 45 47 (decimal n) (omega arith) (decimal_above 0 n fit)
+    last : (number_from 0 (decimal p.1) ≡ Ok p.1) × Above 45 (decimal p.1)
+    last = (number_agrees 0).again p.1 (omega arith, good.1)
 
-    by_test : (t : Bool) → eqb p.0 p.1 ≡ t → span_among (parts 45 (cond t (decimal p.0) (decimal p.0 ++ 45 ∷ decimal p.1))) ≡ Ok p
-    by_test true is = rw (parts_join 45 (decimal p.0) [] (dashless p.0 low, tt), number_again 0 p.0 low) (ap (λ (n : ℕ). Ok (p.0, n)) (eqb-true p.0 p.1 is))
+    by_test : (t : Bool) → eqb p.0 p.1 ≡ t → let w = cond t (decimal p.0) (decimal p.0 ++ 45 ∷ decimal p.1) in (span_among (parts 45 w) ≡ Ok p) × Above 44 w
+    by_test true is = (rw (parts_join 45 (decimal p.0) [] (first.1, tt), first.0) (ap (λ (n : ℕ). Ok (p.0, n)) (eqb-true p.0 p.1 is)), above_lower 44 45 (decimal p.0) (omega arith) first.1)
     by_test false is =
         let other = eqb-false p.0 p.1 is in
-        rw (parts_join 45 (decimal p.0) (decimal p.1 ∷ []) (dashless p.0 low, (dashless p.1 (omega arith, good.1), tt)), number_again 0 p.0 low, number_again 0 p.1 (omega arith, good.1), lt-ltb p.0 p.1 (omega (arith, good.0, other))) refl
-
-span_above : (p : ℕ × ℕ) → IsSpan p → Above 44 (span_word p)
-span_above p good = by_test (eqb p.0 p.1)
-  where
-    digits : (n : ℕ) → n < 2 ^ 32 → Above 44 (decimal n)
-    digits n lt = (number_agrees 0).above n (omega arith, lt)
-
-    by_test : (t : Bool) → Above 44 (cond t (decimal p.0) (decimal p.0 ++ 45 ∷ decimal p.1))
-    by_test true = digits p.0 (omega (arith, good.0, good.1))
-    by_test false = above_append 44 (decimal p.0) (45 ∷ decimal p.1) (digits p.0 (omega (arith, good.0, good.1))) (omega arith, digits p.1 good.1)
+        let again : span_among (parts 45 (decimal p.0 ++ 45 ∷ decimal p.1)) ≡ Ok p = rw (parts_join 45 (decimal p.0) (decimal p.1 ∷ []) (first.1, (last.1, tt)), first.0, last.0, lt-ltb p.0 p.1 (omega (arith, good.0, other))) refl in
+        (again, above_append 44 (decimal p.0) (45 ∷ decimal p.1) (above_lower 44 45 (decimal p.0) (omega arith) first.1) (omega arith, above_lower 44 45 (decimal p.1) (omega arith) last.1))
 
 span_agrees : Agree (ℕ × ℕ) span_at span_word IsSpan 44
 unfolding span_at
 span_agrees = record {
   takes = λ w p e. let t = span_takes (parts 45 w) p e in (join_parts 45 w (parts 45 w) refl ∙ t.0, t.1);
   again = span_again;
-  above = span_above;
 }
 
 -- ---- lists
@@ -128,28 +114,27 @@ each_takes A read spell IsFit m laws (w ∷ ws) xs e =
     let r = each_takes A read spell IsFit m laws ws j.0.1 b.1 in
     subst (λ (xs : List A). (w ∷ ws ≡ map spell xs) × AllByRecursion IsFit xs) j.2 (cc (t.0, r.0), (t.1, r.1))
 
-pub each_again : (A : Type 0) (read : List ℕ → Result A LineFault) (spell : A → List ℕ) (IsFit : A → Type 0) (m : ℕ) → Agree A read spell IsFit m → (xs : List A) → AllByRecursion IsFit xs → each read (map spell xs) ≡ Ok xs
-each_again A read spell IsFit m laws [] h = refl
-each_again A read spell IsFit m laws (x ∷ xs) h = rw (laws.again x h.0, each_again A read spell IsFit m laws xs h.1) refl
-
-pub each_above : (A : Type 0) (read : List ℕ → Result A LineFault) (spell : A → List ℕ) (IsFit : A → Type 0) (m : ℕ) → Agree A read spell IsFit m → (xs : List A) → AllByRecursion IsFit xs → AllByRecursion (Above m) (map spell xs)
-each_above A read spell IsFit m laws [] h = tt
-each_above A read spell IsFit m laws (x ∷ xs) h = (laws.above x h.0, each_above A read spell IsFit m laws xs h.1)
+pub each_again : (A : Type 0) (read : List ℕ → Result A LineFault) (spell : A → List ℕ) (IsFit : A → Type 0) (m : ℕ) → Agree A read spell IsFit m → (xs : List A) → AllByRecursion IsFit xs → (each read (map spell xs) ≡ Ok xs) × AllByRecursion (Above m) (map spell xs)
+each_again A read spell IsFit m laws [] h = (refl, tt)
+each_again A read spell IsFit m laws (x ∷ xs) h =
+    let first = laws.again x h.0 in
+    let rest = each_again A read spell IsFit m laws xs h.1 in
+    (rw (first.0, rest.0) refl, (first.1, rest.1))
 
 -- what stands between commas: at least one part
-list_agrees : (A : Type 0) (read : List ℕ → Result A LineFault) (spell : A → List ℕ) (IsFit : A → Type 0) → Agree A read spell IsFit 44 → Agree (List A) (list_at read) (list_word spell) (λ xs. AllByRecursion IsFit xs × (xs ≢ [])) 32
+list_agrees : (A : Type 0) (read : List ℕ → Result A LineFault) (spell : A → List ℕ) (IsFit : A → Type 0) (m : ℕ) → 44 ≤ m → Agree A read spell IsFit m → Agree (List A) (list_at read) (list_word spell) (λ xs. AllByRecursion IsFit xs × (xs ≢ [])) 32
 unfolding list_at
-list_agrees A read spell IsFit laws = record {
-  takes = λ w xs e.
-      let t = each_takes A read spell IsFit 44 laws (parts 44 w) xs e in
-      (join_parts 44 w (map spell xs) t.0, (t.1, λ empty. parts_some 44 w (t.0 ∙ ap (map spell) empty)));
-  again = λ xs fit. again xs fit.0 fit.1;
-  above = λ xs fit. above_join 32 44 (map spell xs) (omega arith) (all_lower 32 44 (map spell xs) (omega arith) (each_above A read spell IsFit 44 laws xs fit.0));
+list_agrees A read spell IsFit m le laws = record {
+  takes = λ w xs e. let t = each_takes A read spell IsFit m laws (parts 44 w) xs e in (join_parts 44 w (map spell xs) t.0, (t.1, λ empty. parts_some 44 w (t.0 ∙ ap (map spell) empty)));
+  again = again;
 }
   where
-    again : (xs : List A) → AllByRecursion IsFit xs → xs ≢ [] → each read (parts 44 (list_word spell xs)) ≡ Ok xs
-    again [] fit some = absurd (some refl)
-    again (x ∷ xs) fit some = ap (each read) (parts_join 44 (spell x) (map spell xs) (each_above A read spell IsFit 44 laws (x ∷ xs) fit)) ∙ each_again A read spell IsFit 44 laws (x ∷ xs) fit
+    again : (xs : List A) → AllByRecursion IsFit xs × (xs ≢ []) → (each read (parts 44 (list_word spell xs)) ≡ Ok xs) × Above 32 (list_word spell xs)
+    again [] fit = absurd (fit.1 refl)
+    again (x ∷ xs) fit =
+        let words = each_again A read spell IsFit m laws (x ∷ xs) fit.0 in
+        let lower : (n : ℕ) → n ≤ 44 → AllByRecursion (Above n) (map spell (x ∷ xs)) = λ n lt. all_lower n m (map spell (x ∷ xs)) (omega arith) words.1 in
+        (ap (each read) (parts_join 44 (spell x) (map spell xs) (lower 44 (omega arith))) ∙ words.0, above_join 32 44 (map spell (x ∷ xs)) (omega arith) (lower 32 (omega arith)))
 
 -- a value is found by its text, or read otherwise
 pub text_takes : (A : Type 0) (spell : A → List ℕ) (IsFit : A → Type 0) (xs : List A) (w : List ℕ) (otherwise : Result A LineFault) (y : A) → AllByRecursion IsFit xs → (otherwise ≡ Ok y → (w ≡ spell y) × IsFit y) → text_at spell xs w otherwise ≡ Ok y → (w ≡ spell y) × IsFit y
@@ -161,7 +146,7 @@ text_takes A spell IsFit (x ∷ xs) w otherwise y fit later e = elim (chosen w (
 
 -- a list, or a dash, which is no list
 dash_agrees : (A : Type 0) (read : List ℕ → Result (List A) LineFault) (spell : A → List ℕ) (IsFit : List A → Type 0) → IsFit [] → ((xs : List A) → read (codes "-") ≡ Ok xs → ⊥) → Agree (List A) read (list_word spell) (λ xs. IsFit xs × (xs ≢ [])) 32 → Agree (List A) (λ w. text_at (list_or_dash spell) ([] ∷ []) w (read w)) (list_or_dash spell) IsFit 32
-dash_agrees A read spell IsFit none no_list laws = record { takes = takes; again = again; above = above }
+dash_agrees A read spell IsFit none no_list laws = record { takes = takes; again = again }
   where
     spelled : (xs : List A) → xs ≢ [] → list_word spell xs ≡ list_or_dash spell xs
     spelled [] some = absurd (some refl)
@@ -170,39 +155,31 @@ dash_agrees A read spell IsFit none no_list laws = record { takes = takes; again
     takes : (w : List ℕ) (xs : List A) → text_at (list_or_dash spell) ([] ∷ []) w (read w) ≡ Ok xs → (w ≡ list_or_dash spell xs) × IsFit xs
     takes w xs e = text_takes (List A) (list_or_dash spell) IsFit ([] ∷ []) w (read w) xs (none, tt) (λ e. let t = laws.takes w xs e in (t.0 ∙ spelled xs t.1.1, t.1.0)) e
 
-    again : (xs : List A) → IsFit xs → text_at (list_or_dash spell) ([] ∷ []) (list_or_dash spell xs) (read (list_or_dash spell xs)) ≡ Ok xs
-    again [] fit = refl
-    again (x ∷ xs) fit = by_test (bytes_eq (list_word spell (x ∷ xs)) (codes "-")) refl
-      where
-        read_so : read (list_word spell (x ∷ xs)) ≡ Ok (x ∷ xs)
-        read_so = laws.again (x ∷ xs) (fit, λ e. absurd cc)
+    no_dash : (w : List ℕ) (xs : List A) (t : Bool) → bytes_eq w (codes "-") ≡ t → read w ≡ Ok xs → cond t (Ok []) (read w) ≡ Ok xs
+    no_dash w xs true is e = absurd (no_list xs (ap read (sym ((bytes_eq-Decides w (codes "-")).0 is)) ∙ e))
+    no_dash w xs false is e = e
 
-        by_test : (t : Bool) → bytes_eq (list_word spell (x ∷ xs)) (codes "-") ≡ t → cond t (Ok []) (read (list_word spell (x ∷ xs))) ≡ Ok (x ∷ xs)
-        by_test true is = absurd (no_list (x ∷ xs) (ap read (sym ((bytes_eq-Decides (list_word spell (x ∷ xs)) (codes "-")).0 is)) ∙ read_so))
-        by_test false is = read_so
-
-    above : (xs : List A) → IsFit xs → Above 32 (list_or_dash spell xs)
-    above [] fit = (omega arith, tt)
-    above (x ∷ xs) fit = laws.above (x ∷ xs) (fit, λ e. absurd cc)
+    again : (xs : List A) → IsFit xs → (text_at (list_or_dash spell) ([] ∷ []) (list_or_dash spell xs) (read (list_or_dash spell xs)) ≡ Ok xs) × Above 32 (list_or_dash spell xs)
+    again [] fit = (refl, (omega arith, tt))
+    again (x ∷ xs) fit = let w = laws.again (x ∷ xs) (fit, λ e. absurd cc) in (no_dash (list_word spell (x ∷ xs)) (x ∷ xs) _ refl w.0, w.1)
 
 -- a list that ascends
 order_agrees : (A : Type 0) (read : List ℕ → Result (List A) LineFault) (spell : A → List ℕ) (IsFit : A → Type 0) (before : A → A → Bool) → Agree (List A) read (list_word spell) (λ xs. AllByRecursion IsFit xs × (xs ≢ [])) 32 → Agree (List A) (λ w. in_order (ascends before) (read w)) (list_word spell) (λ xs. (AllByRecursion IsFit xs × (ascends before xs ≡ true)) × (xs ≢ [])) 32
 order_agrees A read spell IsFit before laws = record {
   takes = λ w xs e. let o = in_order_ok (ascends before) (read w) xs e in let t = laws.takes w xs o.0 in (t.0, ((t.1.0, o.1), t.1.1));
-  again = λ xs fit. rw (laws.again xs (fit.0.0, fit.1), fit.0.1) refl;
-  above = λ xs fit. laws.above xs (fit.0.0, fit.1);
+  again = λ xs fit. let w = laws.again xs (fit.0.0, fit.1) in (rw (w.0, fit.0.1) refl, w.1);
 }
 
 points_agree : Agree (List (ℕ × ℕ)) (λ w. text_at (list_or_dash span_word) ([] ∷ []) w (in_order (ascends span_before) (list_at span_at w))) (list_or_dash span_word) (IsGood points) 32
 unfolding list_at span_at number_from
-points_agree = dash_agrees (ℕ × ℕ) _ span_word (IsGood points) (tt, refl) (λ xs e. absurd cc) (order_agrees (ℕ × ℕ) (list_at span_at) span_word IsSpan span_before (list_agrees (ℕ × ℕ) span_at span_word IsSpan span_agrees))
+points_agree = dash_agrees (ℕ × ℕ) _ span_word (IsGood points) (tt, refl) (λ xs e. absurd cc) (order_agrees (ℕ × ℕ) (list_at span_at) span_word IsSpan span_before (list_agrees (ℕ × ℕ) span_at span_word IsSpan 44 (omega arith) span_agrees))
 
 fields_agree : Agree (List ℕ) (λ w. in_order (ascends nat_lt) (list_at (number_from 0) w)) (list_word decimal) (λ ns. (AllByRecursion (IsNumberFrom 0) ns × (ascends nat_lt ns ≡ true)) × (ns ≢ [])) 32
-fields_agree = order_agrees ℕ (list_at (number_from 0)) decimal (IsNumberFrom 0) nat_lt (list_agrees ℕ (number_from 0) decimal (IsNumberFrom 0) (number_agrees 0))
+fields_agree = order_agrees ℕ (list_at (number_from 0)) decimal (IsNumberFrom 0) nat_lt (list_agrees ℕ (number_from 0) decimal (IsNumberFrom 0) 45 (omega arith) (number_agrees 0))
 
 waits_agree : Agree (List ℕ) (λ w. text_at (list_or_dash decimal) ([] ∷ []) w (list_at (number_from 1) w)) (list_or_dash decimal) (IsGood waits) 32
 unfolding list_at number_from
-waits_agree = dash_agrees ℕ (list_at (number_from 1)) decimal (IsGood waits) tt (λ xs e. absurd cc) (list_agrees ℕ (number_from 1) decimal (IsNumberFrom 1) (number_agrees 1))
+waits_agree = dash_agrees ℕ (list_at (number_from 1)) decimal (IsGood waits) tt (λ xs e. absurd cc) (list_agrees ℕ (number_from 1) decimal (IsNumberFrom 1) 45 (omega arith) (number_agrees 1))
 
 -- ---- reductions
 
@@ -221,7 +198,7 @@ reduction_takes {A = A} spell IsFit make w y made e =
     subst (λ (y : A). (w ≡ spell y) × IsFit y) m.2 (t.0 ∙ (made m.0 t.1).0, (made m.0 t.1).1)
 
 reduction_above : (op : ℕ) → IsNumberFrom 1 op → Above 32 (codes "red:" ++ decimal op)
-reduction_above op good = above_append 32 (codes "red:") (decimal op) (above_all 32 (codes "red:") refl) (above_lower 32 47 (decimal op) (omega arith) (decimal_above 1 op good))
+reduction_above op good = above_append 32 (codes "red:") (decimal op) (above_all 32 (codes "red:") refl) (above_lower 32 45 (decimal op) (omega arith) ((number_agrees 1).again op good).1)
 
 -- ---- every class
 
@@ -238,14 +215,17 @@ class_takes access w x e = text_takes PrivWord access_word HasOperator (privileg
 class_takes coherence w x e = text_takes Bool coherence_word (IsGood coherence) (true ∷ false ∷ []) w (Err Form) x (tt, (tt, tt)) (λ e. absurd cc) e
 class_takes layout w x e = text_takes InstKind layout_word HoldsOperator (instances.Plain ∷ instances.Home ∷ []) w _ x (tt, (tt, tt)) (reduction_takes layout_word HoldsOperator (λ op. instances.Red op) w x (λ op good. (refl, good))) e
 
+number_word : (least n : ℕ) → IsNumberFrom least n → (number_from least (decimal n) ≡ Ok n) × Above 32 (decimal n)
+number_word least n good = let w = (number_agrees least).again n good in (w.0, above_lower 32 45 (decimal n) (omega arith) w.1)
+
 pub class_again : (c : Class) (x : Meaning c) → IsGood c x → (meaning_at c (word_of c x) ≡ Ok x) × Above 32 (word_of c x)
 unfolding meaning_at operator_at
-class_again number n good = (number_again 0 n good, above_lower 32 47 (decimal n) (omega arith) (decimal_above 0 n good))
-class_again id n good = (number_again 1 n good, above_lower 32 47 (decimal n) (omega arith) (decimal_above 1 n good))
-class_again event n good = (number_again 1 n good, above_lower 32 47 (decimal n) (omega arith) (decimal_above 1 n good))
-class_again points ps good = (points_agree.again ps good, points_agree.above ps good)
-class_again fields ns good = let fit : (AllByRecursion (IsNumberFrom 0) ns × (ascends nat_lt ns ≡ true)) × (ns ≢ []) = ((good.0, good.1), good.2) in (fields_agree.again ns fit, fields_agree.above ns fit)
-class_again waits ns good = (waits_agree.again ns good, waits_agree.above ns good)
+class_again number n good = number_word 0 n good
+class_again id n good = number_word 1 n good
+class_again event n good = number_word 1 n good
+class_again points ps good = points_agree.again ps good
+class_again fields ns good = let fit : (AllByRecursion (IsNumberFrom 0) ns × (ascends nat_lt ns ≡ true)) × (ns ≢ []) = ((good.0, good.1), good.2) in fields_agree.again ns fit
+class_again waits ns good = waits_agree.again ns good
 class_again access (privileges.Red op) good = (ap (map_ok (λ op. privileges.Red op)) (number_again 1 op good), reduction_above op good)
 class_again layout (instances.Red op) good = (ap (map_ok (λ op. instances.Red op)) (number_again 1 op good), reduction_above op good)
 class_again split true good = (refl, above_all 32 (codes "disjoint") refl)
