@@ -1,12 +1,10 @@
 -- For each class of words: what is read has that word, and what has a word is read from it.
 use Rattle.std.proofs.Common.{◌≡◌, ◌≢◌, ℕ, ◌^◌, ◌<◌, ◌≤◌, ltb, eqb, Bool, true, false, cond, List, [], ◌∷◌, ◌++◌, map, codes, length, drop, nat_lt, nat_eq, Result, Ok, Err, refl, sym, ap, subst, ◌∙◌, arith, inl, inr, ◌⊎◌, append-nil}
 use Rattle.std.specs.Prelude.{decimal}
-use Rattle.std.specs.Char.{is_ascii_digit}
 use Rattle.std.specs.List.{AllByRecursion, list_all, starts_with, join_with_byte}
 use Rattle.std.specs.Str.{bytes_eq}
 use Rattle.std.proofs.lemmas.Bool.{lt-ltb, ltb-true, eq-eqb, eqb-true, eqb-false, ne_eqb}
-use Rattle.std.proofs.lemmas.Bool.Decides.{nat_tests, Decides-eqb}
-use Rattle.std.proofs.lemmas.Fmt.{digits_decimal}
+use Rattle.std.proofs.lemmas.Bool.Decides.{Decides-eqb}
 use Rattle.std.proofs.lemmas.Slice.Eq.{bytes_eq-Decides, starts_is}
 use Rattle.spy_words.specs.declared.fault.LineFault.{LineFault}
 use Rattle.spy_words.specs.declared.fault.LineFault.TheVariants.{Form}
@@ -17,7 +15,6 @@ use Rattle.spy_words.specs.declared.access.InstKind.TheVariants as instances
 use Rattle.spy_words.specs.Classes.{Class, number, id, event, points, fields, waits, split, access, coherence, layout, Meaning, span_word, list_word, list_or_dash, split_word, access_word, coherence_word, layout_word, word_of, IsNumberFrom, IsSpan, ascends, span_before, HasOperator, HoldsOperator, IsGood}
 use Rattle.spy_words.specs.Faults.{both, map_ok, in_order, each}
 use Rattle.spy_words.specs.Reading.{number_from, parts, goes_up, span_among, span_at, list_at, text_at, operator_at, meaning_at}
-use Rattle.spy_words.proofs.Digits.{own, digit_at}
 use Rattle.spy_words.proofs.Numbers.{number_takes, number_again}
 use Rattle.spy_words.proofs.Joins.{Above, above_lower, all_lower, above_append, above_join, above_all, parts_join, join_parts, parts_some}
 
@@ -55,15 +52,8 @@ chosen w text x y z e = by_test (bytes_eq w text) refl e
 
 -- ---- numbers and runs of points
 
-digits_above : (w : List ℕ) → list_all is_ascii_digit w ≡ true → Above 45 w
-digits_above [] all = tt
-digits_above (b ∷ w) all =
-    let r = digit_at (b ∷ w) 0 all (omega arith) in
-    let rest : list_all is_ascii_digit w ≡ true = grind (arith, nat_tests) in
-    (omega (arith, r.0), digits_above w rest)
-
 pub number_agrees : (least : ℕ) → Agree ℕ (number_from least) decimal (IsNumberFrom least) 45
-number_agrees least = record { takes = number_takes least; again = λ n good. (number_again least n good, digits_above (decimal n) (digits_decimal own n (omega (arith, good.1)))) }
+number_agrees least = record { takes = number_takes least; again = number_again least }
 
 span_takes : (ws : List (List ℕ)) (p : ℕ × ℕ) → span_among ws ≡ Ok p → (join_with_byte 45 ws ≡ span_word p) × IsSpan p
 span_takes (v ∷ []) p e =
@@ -83,10 +73,10 @@ span_again : (p : ℕ × ℕ) → IsSpan p → (span_among (parts 45 (span_word 
 span_again p good = by_test (eqb p.0 p.1) refl
   where
     first : (number_from 0 (decimal p.0) ≡ Ok p.0) × Above 45 (decimal p.0)
-    first = (number_agrees 0).again p.0 (omega arith, omega (arith, good.0, good.1))
+    first = number_again 0 p.0 (omega arith, omega (arith, good.0, good.1))
 
     last : (number_from 0 (decimal p.1) ≡ Ok p.1) × Above 45 (decimal p.1)
-    last = (number_agrees 0).again p.1 (omega arith, good.1)
+    last = number_again 0 p.1 (omega arith, good.1)
 
     by_test : (t : Bool) → eqb p.0 p.1 ≡ t → let w = cond t (decimal p.0) (decimal p.0 ++ 45 ∷ decimal p.1) in (span_among (parts 45 w) ≡ Ok p) × Above 44 w
     by_test true is = (rw (parts_join 45 (decimal p.0) [] (first.1, tt), first.0) (ap (λ (n : ℕ). Ok (p.0, n)) (eqb-true p.0 p.1 is)), above_lower 44 45 (decimal p.0) (omega arith) first.1)
@@ -198,7 +188,7 @@ reduction_takes {A = A} spell IsFit make w y made e =
     subst (λ (y : A). (w ≡ spell y) × IsFit y) m.2 (t.0 ∙ (made m.0 t.1).0, (made m.0 t.1).1)
 
 reduction_above : (op : ℕ) → IsNumberFrom 1 op → Above 32 (codes "red:" ++ decimal op)
-reduction_above op good = above_append 32 (codes "red:") (decimal op) (above_all 32 (codes "red:") refl) (above_lower 32 45 (decimal op) (omega arith) ((number_agrees 1).again op good).1)
+reduction_above op good = above_append 32 (codes "red:") (decimal op) (above_all 32 (codes "red:") refl) (above_lower 32 45 (decimal op) (omega arith) (number_again 1 op good).1)
 
 -- ---- every class
 
@@ -216,7 +206,7 @@ class_takes coherence w x e = text_takes Bool coherence_word (IsGood coherence) 
 class_takes layout w x e = text_takes InstKind layout_word HoldsOperator (instances.Plain ∷ instances.Home ∷ []) w _ x (tt, (tt, tt)) (reduction_takes layout_word HoldsOperator (λ op. instances.Red op) w x (λ op good. (refl, good))) e
 
 number_word : (least n : ℕ) → IsNumberFrom least n → (number_from least (decimal n) ≡ Ok n) × Above 32 (decimal n)
-number_word least n good = let w = (number_agrees least).again n good in (w.0, above_lower 32 45 (decimal n) (omega arith) w.1)
+number_word least n good = let w = number_again least n good in (w.0, above_lower 32 45 (decimal n) (omega arith) w.1)
 
 pub class_again : (c : Class) (x : Meaning c) → IsGood c x → (meaning_at c (word_of c x) ≡ Ok x) × Above 32 (word_of c x)
 unfolding meaning_at operator_at
@@ -226,8 +216,8 @@ class_again event n good = number_word 1 n good
 class_again points ps good = points_agree.again ps good
 class_again fields ns good = let fit : (AllByRecursion (IsNumberFrom 0) ns × (ascends nat_lt ns ≡ true)) × (ns ≢ []) = ((good.0, good.1), good.2) in fields_agree.again ns fit
 class_again waits ns good = waits_agree.again ns good
-class_again access (privileges.Red op) good = (ap (map_ok (λ op. privileges.Red op)) (number_again 1 op good), reduction_above op good)
-class_again layout (instances.Red op) good = (ap (map_ok (λ op. instances.Red op)) (number_again 1 op good), reduction_above op good)
+class_again access (privileges.Red op) good = (ap (map_ok (λ op. privileges.Red op)) (number_again 1 op good).0, reduction_above op good)
+class_again layout (instances.Red op) good = (ap (map_ok (λ op. instances.Red op)) (number_again 1 op good).0, reduction_above op good)
 class_again split true good = (refl, above_all 32 (codes "disjoint") refl)
 class_again coherence true good = (refl, above_all 32 (codes "at") refl)
 class_again c x good = (refl, above_all 32 (word_of c x) refl)

@@ -1,4 +1,3 @@
-pub mod Digits
 pub mod Faulty
 pub mod Joins
 pub mod Numbers

@@ -26,7 +26,7 @@ fn all_digits(word: &[u8]) -> bool
 }
 
 /// A number from the least up.
-#[tactic(auto, unfolding(crate::specs::Reading::number_from))]
+#[tactic(auto, using(crate::proofs::Numbers::value_more), unfolding(crate::specs::Reading::number_from))]
 pub fn number_of(least: u32, word: &[u8]) -> Result<u32, LineFault>
     ensures { result ≡ number_from least word.now }
 {
