@@ -3,13 +3,13 @@ use Rattle.std.proofs.Common.{◌≡◌, List, [], ◌∷◌, drop, ℕ, Option,
 use Rattle.spy_words.specs.declared.fault.LineFault.{LineFault}
 use Rattle.spy_words.specs.declared.fault.LineFault.TheVariants.{Form}
 use Rattle.spy_words.specs.Faults.{worse, both, map_ok, after, kept}
-use Rattle.spy_words.specs.Classes.{Class, number}
+use Rattle.spy_words.specs.Classes.{Class, number, about}
 use Rattle.spy_words.specs.Reading.{meaning_at, ids_at, list_at, span_at, number_from, operator_at}
 use Rattle.spy_words.proofs.Faulty.{after_both}
 use Rattle.spy_grammar.specs.declared.kinds.RecordKind.{RecordKind}
 use Rattle.spy_grammar.specs.Rows.{Row, no_more, some_ids, ◌&◌, RowMeaning, Makes, entry, applied, made}
 use Rattle.spy_grammar.specs.Reading.{row_at, kind_record}
-use Rattle.spy_grammar.specs.WordByWord.{Left, stand_in, next_word, read_word, read_ids, read_row, read_record, unless_more, ended}
+use Rattle.spy_grammar.specs.WordByWord.{Left, next_word, read_word, read_ids, read_row, read_record, unless_more, ended}
 
 -- a fault of form is told whatever else is wrong
 form_after : {A : Type 0} (met : Option LineFault) → after {A = A} met (Err Form) ≡ Err Form
@@ -51,10 +51,10 @@ row_read no_more s = by_words s.words
     by_words (w ∷ ws) = sym (form_after s.met)
 row_read some_ids s = kept_alone s.met (ids_at s.words) []
 row_read (c & r) s =
-    let now = kept s.met (meaning_at c (next_word s.words)) (stand_in c) in
+    let now = kept s.met (meaning_at c (next_word s.words)) (about c).stand_in in
     let rest : Left = record { words = drop 1 s.words; met = now.1 } in
     ended_map (λ m. (now.0, m)) (read_row r rest).0 (read_row r rest).1 ∙ ap (map_ok (λ m. (now.0, m))) (row_read r rest)
-    ∙ sym (after_both s.met (meaning_at c (next_word s.words)) (row_at r (drop 1 s.words)) (stand_in c)) ∙ ap (after s.met) (by_words s.words)
+    ∙ sym (after_both s.met (meaning_at c (next_word s.words)) (row_at r (drop 1 s.words)) (about c).stand_in) ∙ ap (after s.met) (by_words s.words)
   where
     by_words : (ws : List (List ℕ)) → both (meaning_at c (next_word ws)) (row_at r (drop 1 ws)) ≡ row_at (c & r) ws
     by_words [] = rw (empty_word c) (form_first (row_at r []))

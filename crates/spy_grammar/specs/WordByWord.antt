@@ -1,10 +1,8 @@
 -- A row that is read word by word: where a word has a fault, a stand-in serves as its meaning, and the fault that is told is kept.
-use Rattle.std.specs.Prelude.{ℕ, false, List, [], ◌∷◌, Option, Result, Ok, Err, drop}
-use Rattle.spy_words.specs.declared.access.PrivWord.TheVariants as privileges
-use Rattle.spy_words.specs.declared.access.InstKind.TheVariants as instances
+use Rattle.std.specs.Prelude.{ℕ, List, [], ◌∷◌, Option, Result, Ok, Err, drop}
 use Rattle.spy_words.specs.declared.fault.LineFault.{LineFault}
 use Rattle.spy_words.specs.declared.fault.LineFault.TheVariants.{Form}
-use Rattle.spy_words.specs.Classes.{Class, number, id, event, points, fields, waits, split, access, coherence, layout, Meaning}
+use Rattle.spy_words.specs.Classes.{Class, Meaning, about}
 use Rattle.spy_words.specs.Faults.{after, kept}
 use Rattle.spy_words.specs.Reading.{meaning_at, ids_at}
 use Rattle.spy_grammar.specs.declared.record.Record.{Record}
@@ -14,19 +12,6 @@ use Rattle.spy_grammar.specs.Rows.{Row, no_more, some_ids, ◌&◌, RowMeaning, 
 pub record Left : Type 0 where
   pub words : List (List ℕ)
   pub met : Option LineFault
-
--- What serves as a meaning where there is a fault.
-abbrev pub stand_in : (c : Class) → Meaning c
-stand_in number = 0
-stand_in id = 0
-stand_in event = 0
-stand_in points = []
-stand_in fields = []
-stand_in waits = []
-stand_in split = false
-stand_in access = privileges.Ro
-stand_in coherence = false
-stand_in layout = instances.Plain
 
 -- The next word. Past the last it is the empty word, which has no shape in any class.
 abbrev pub next_word : List (List ℕ) → List ℕ
@@ -39,7 +24,7 @@ next p ws = (p.0, record { words = ws; met = p.1 })
 
 -- A word of a class was read.
 unfoldable pub read_word : (c : Class) → Left → Meaning c × Left
-read_word c s = next (kept s.met (meaning_at c (next_word s.words)) (stand_in c)) (drop 1 s.words)
+read_word c s = next (kept s.met (meaning_at c (next_word s.words)) (about c).stand_in) (drop 1 s.words)
 
 -- All words that are left were read as ids.
 unfoldable pub read_ids : Left → List ℕ × Left

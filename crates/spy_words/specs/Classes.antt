@@ -19,19 +19,6 @@ pub data Class : Type 0 where
   coherence : Class
   layout : Class
 
--- What a word of a class means.
-abbrev pub Meaning : Class → Type 0
-Meaning number = ℕ
-Meaning id = ℕ
-Meaning event = ℕ
-Meaning points = List (ℕ × ℕ)
-Meaning fields = List ℕ
-Meaning waits = List ℕ
-Meaning split = Bool
-Meaning access = PrivWord
-Meaning coherence = Bool
-Meaning layout = InstKind
-
 -- Words, each after such a byte.
 abbrev pub follow : ℕ → List (List ℕ) → List ℕ
 follow c [] = []
@@ -73,19 +60,6 @@ layout_word instances.Plain = codes "plain"
 layout_word instances.Home = codes "home"
 layout_word (instances.Red op) = codes "red:" ++ decimal op
 
--- The one word of a class that has this meaning.
-abbrev pub word_of : (c : Class) → Meaning c → List ℕ
-word_of number n = decimal n
-word_of id n = decimal n
-word_of event n = decimal n
-word_of points ps = list_or_dash span_word ps
-word_of fields ns = list_word decimal ns
-word_of waits ns = list_or_dash decimal ns
-word_of split b = split_word b
-word_of access a = access_word a
-word_of coherence b = coherence_word b
-word_of layout k = layout_word k
-
 -- A number of a log, from a least number on.
 abbrev pub IsNumberFrom : ℕ → ℕ → Type 0
 IsNumberFrom least n = (least ≤ n) × (n < 2 ^ 32)
@@ -117,15 +91,34 @@ HoldsOperator instances.Plain = Unit {0}
 HoldsOperator instances.Home = Unit {0}
 HoldsOperator (instances.Red op) = IsNumberFrom 1 op
 
+-- What is said of a class: what its words mean, the one word that has a meaning, which meanings have a word, and what stands in where there is none.
+pub record About : Type 1 where
+  pub Meaning : Type 0
+  pub word : Meaning → List ℕ
+  pub IsGood : Meaning → Type 0
+  pub stand_in : Meaning
+
+-- The table of the classes.
+abbrev pub about : Class → About
+about number = record { Meaning = ℕ; word = decimal; IsGood = IsNumberFrom 0; stand_in = 0 }
+about id = record { Meaning = ℕ; word = decimal; IsGood = IsNumberFrom 1; stand_in = 0 }
+about event = record { Meaning = ℕ; word = decimal; IsGood = IsNumberFrom 1; stand_in = 0 }
+about points = record { Meaning = List (ℕ × ℕ); word = list_or_dash span_word; IsGood = λ ps. AllByRecursion IsSpan ps × IsTrue (ascends span_before ps); stand_in = [] }
+about fields = record { Meaning = List ℕ; word = list_word decimal; IsGood = λ ns. AllByRecursion (IsNumberFrom 0) ns × IsTrue (ascends nat_lt ns) × (ns ≢ []); stand_in = [] }
+about waits = record { Meaning = List ℕ; word = list_or_dash decimal; IsGood = AllByRecursion (IsNumberFrom 1); stand_in = [] }
+about split = record { Meaning = Bool; word = split_word; IsGood = λ b. Unit {0}; stand_in = false }
+about access = record { Meaning = PrivWord; word = access_word; IsGood = HasOperator; stand_in = privileges.Ro }
+about coherence = record { Meaning = Bool; word = coherence_word; IsGood = λ b. Unit {0}; stand_in = false }
+about layout = record { Meaning = InstKind; word = layout_word; IsGood = HoldsOperator; stand_in = instances.Plain }
+
+-- What a word of a class means.
+abbrev pub Meaning : Class → Type 0
+Meaning c = (about c).Meaning
+
+-- The one word of a class that has this meaning.
+abbrev pub word_of : (c : Class) → Meaning c → List ℕ
+word_of c m = (about c).word m
+
 -- What a class can mean.
 abbrev pub IsGood : (c : Class) → Meaning c → Type 0
-IsGood number n = IsNumberFrom 0 n
-IsGood id n = IsNumberFrom 1 n
-IsGood event n = IsNumberFrom 1 n
-IsGood points ps = AllByRecursion IsSpan ps × IsTrue (ascends span_before ps)
-IsGood fields ns = AllByRecursion (IsNumberFrom 0) ns × IsTrue (ascends nat_lt ns) × (ns ≢ [])
-IsGood waits ns = AllByRecursion (IsNumberFrom 1) ns
-IsGood split b = Unit {0}
-IsGood access a = HasOperator a
-IsGood coherence b = Unit {0}
-IsGood layout k = HoldsOperator k
+IsGood c m = (about c).IsGood m
