@@ -2,25 +2,19 @@
 use Rattle.std.proofs.Common.{◌≡◌, List, [], ◌∷◌, drop, ℕ, Option, Some, None, Result, Ok, Err, refl, sym, ap, ◌∙◌}
 use Rattle.spy_words.specs.declared.fault.LineFault.{LineFault}
 use Rattle.spy_words.specs.declared.fault.LineFault.TheVariants.{Form}
-use Rattle.spy_words.specs.Faults.{worse, both, map_ok, after, kept}
+use Rattle.spy_words.specs.Faults.{both, map_ok, after, kept}
 use Rattle.spy_words.specs.Classes.{Class, number, about}
 use Rattle.spy_words.specs.Reading.{meaning_at, ids_at, list_at, span_at, number_from, operator_at}
 use Rattle.spy_words.proofs.Faulty.{after_both}
 use Rattle.spy_grammar.specs.declared.kinds.RecordKind.{RecordKind}
 use Rattle.spy_grammar.specs.Rows.{Row, no_more, some_ids, ◌&◌, RowMeaning, Makes, entry, applied, made}
 use Rattle.spy_grammar.specs.Reading.{row_at, kind_record}
-use Rattle.spy_grammar.specs.WordByWord.{Left, next_word, read_word, read_ids, read_row, read_record, unless_more, ended}
+use Rattle.spy_grammar.specs.WordByWord.{Left, next_word, read_word, read_ids, read_row, read_record, ended}
 
--- a fault of form is told whatever else is wrong
-form_after : {A : Type 0} (met : Option LineFault) → after {A = A} met (Err Form) ≡ Err Form
-form_after None = refl
-form_after (Some Form) = refl
-form_after (Some f) = refl
-
-form_first : {A B : Type 0} (rest : Result B LineFault) → both {A = A} (Err Form) rest ≡ Err Form
-form_first (Ok b) = refl
-form_first (Err Form) = refl
-form_first (Err f) = refl
+-- where no word is left, the first fault of form is told
+form_first : {A : Type 0} (r : Row) → both {A = A} (Err Form) (row_at r []) ≡ Err Form
+form_first no_more = refl
+form_first r = refl
 
 kept_alone : {A : Type 0} (met : Option LineFault) (read : Result A LineFault) (other : A) → after (kept met read other).1 (Ok (kept met read other).0) ≡ after met read
 kept_alone None (Ok x) other = refl
@@ -32,10 +26,11 @@ kept_alone (Some e) (Err f) other = refl
 ended_map : {A B : Type 0} (f : A → B) (x : A) (s : Left) → ended (f x, s) ≡ map_ok f (ended (x, s))
 ended_map f x s = by_words s.words s.met
   where
-    by_words : (ws : List (List ℕ)) (met : Option LineFault) → unless_more ws (after met (Ok (f x))) ≡ map_ok f (unless_more ws (after met (Ok x)))
+    by_words : (ws : List (List ℕ)) (met : Option LineFault) → after met (map_ok (λ _. f x) (row_at no_more ws)) ≡ map_ok f (after met (map_ok (λ _. x) (row_at no_more ws)))
     by_words [] None = refl
-    by_words [] (Some e) = refl
-    by_words (w ∷ ws) met = refl
+    by_words [] met = refl
+    by_words (w ∷ ws) None = refl
+    by_words ws met = refl
 
 empty_word : (c : Class) → meaning_at c [] ≡ Err Form
 unfolding meaning_at list_at span_at number_from operator_at
@@ -46,9 +41,9 @@ row_read : (r : Row) (s : Left) → ended (read_row r s) ≡ after s.met (row_at
 unfolding read_word read_ids
 row_read no_more s = by_words s.words
   where
-    by_words : (ws : List (List ℕ)) → unless_more ws (after s.met (Ok tt)) ≡ after s.met (row_at no_more ws)
+    by_words : (ws : List (List ℕ)) → after s.met (map_ok (λ _. tt) (row_at no_more ws)) ≡ after s.met (row_at no_more ws)
     by_words [] = refl
-    by_words (w ∷ ws) = sym (form_after s.met)
+    by_words ws = refl
 row_read some_ids s = kept_alone s.met (ids_at s.words) []
 row_read (c & r) s =
     let now = kept s.met (meaning_at c (next_word s.words)) (about c).stand_in in
@@ -57,7 +52,7 @@ row_read (c & r) s =
     ∙ sym (after_both s.met (meaning_at c (next_word s.words)) (row_at r (drop 1 s.words)) (about c).stand_in) ∙ ap (after s.met) (by_words s.words)
   where
     by_words : (ws : List (List ℕ)) → both (meaning_at c (next_word ws)) (row_at r (drop 1 ws)) ≡ row_at (c & r) ws
-    by_words [] = rw (empty_word c) (form_first (row_at r []))
+    by_words [] = rw (empty_word c) (form_first r)
     by_words (w ∷ ws) = refl
 
 pub record_told : (name : List ℕ) (r : Row) (make : Makes r) (s : Left) → read_record (record { name = name; row = r; record_of = make }) s ≡ (applied r make (read_row r s).0, (read_row r s).1)

@@ -1,12 +1,12 @@
 -- A row that is read word by word: where a word has a fault, a stand-in serves as its meaning, and the fault that is told is kept.
 use Rattle.std.specs.Prelude.{ℕ, List, [], ◌∷◌, Option, Result, Ok, Err, drop}
 use Rattle.spy_words.specs.declared.fault.LineFault.{LineFault}
-use Rattle.spy_words.specs.declared.fault.LineFault.TheVariants.{Form}
 use Rattle.spy_words.specs.Classes.{Class, Meaning, about}
-use Rattle.spy_words.specs.Faults.{after, kept}
+use Rattle.spy_words.specs.Faults.{map_ok, after, kept}
 use Rattle.spy_words.specs.Reading.{meaning_at, ids_at}
 use Rattle.spy_grammar.specs.declared.record.Record.{Record}
 use Rattle.spy_grammar.specs.Rows.{Row, no_more, some_ids, ◌&◌, RowMeaning, Entry, applied}
+use Rattle.spy_grammar.specs.Reading.{row_at}
 
 -- The words that are still to be read, and the fault that was met before them.
 pub record Left : Type 0 where
@@ -41,9 +41,5 @@ unfoldable pub read_record : Entry → Left → Record × Left
 read_record e s = (applied e.row e.record_of (read_row e.row s).0, (read_row e.row s).1)
 
 -- What was read, unless a fault was met or words are left.
-abbrev pub unless_more : {A : Type 0} → List (List ℕ) → Result A LineFault → Result A LineFault
-unless_more [] read = read
-unless_more (w ∷ ws) read = Err Form
-
 abbrev pub ended : {A : Type 0} → A × Left → Result A LineFault
-ended p = unless_more p.1.words (after p.1.met (Ok p.0))
+ended p = after p.1.met (map_ok (λ _. p.0) (row_at no_more p.1.words))

@@ -8,7 +8,7 @@ ghost use Rattle.spy_grammar.specs.WordByWord.{Left, read_word, read_ids, ended,
 
 use spy_words::{
     InstKind, LineFault, Nums, PrivWord, Set, access_of, coherence_text, either, fields_of, ids_of,
-    keep, layout_of, number_of, points_of, split_text, unless_met, waits_of,
+    keep, layout_of, number_of, points_of, split_text, told, waits_of,
 };
 use std::alloc::{AllocError, Global};
 use std::marker::Model;
@@ -149,10 +149,11 @@ impl<'a> RowReader<'a> {
     pub fn end<T: Drop>(self, value: T) -> Result<T, LineFault>
         ensures { result ≡ ended (value, self.entry) }
     {
-        if self.words.is_empty() {
-            unless_met(self.met, value)
+        let read = if self.words.is_empty() {
+            Ok(value)
         } else {
             Err(LineFault::Form)
-        }
+        };
+        told(self.met, read)
     }
 }

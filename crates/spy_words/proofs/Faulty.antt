@@ -17,12 +17,6 @@ after_both None (Err f) (Ok b) other = refl
 after_both None (Ok a) (Ok b) other = refl
 after_both met r rest other = refl
 
--- two words
-pub both_kept : {A B : Type 0} (a : Result A LineFault) (b : Result B LineFault) (d : A) (e : B) → after (kept (kept None a d).1 b e).1 (Ok ((kept None a d).0, (kept (kept None a d).1 b e).0)) ≡ both a b
-both_kept (Err f) (Ok y) d e = refl
-both_kept (Ok x) (Ok y) d e = refl
-both_kept a b d e = refl
-
 pub after_map : {A B : Type 0} (f : A → B) (met : Option LineFault) (r : Result A LineFault) → after met (map_ok f r) ≡ map_ok f (after met r)
 after_map f (Some e) (Err g) = refl
 after_map f None (Ok x) = refl

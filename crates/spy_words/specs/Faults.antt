@@ -3,12 +3,12 @@ use Rattle.std.specs.Prelude.{◌≡◌, ℕ, Bool, List, [], ◌∷◌, Option,
 use Rattle.spy_words.specs.declared.fault.LineFault.{LineFault}
 use Rattle.spy_words.specs.declared.fault.LineFault.TheVariants.{Word, Form, Number, Order, Memory}
 
--- How early a fault of the words after the first is told. No reading below gives `Word` or `Memory`.
+-- How early a fault is told.
 abbrev pub rank : LineFault → ℕ
-rank Form = 0
-rank Number = 1
-rank Order = 2
-rank Word = 3
+rank Word = 0
+rank Form = 1
+rank Number = 2
+rank Order = 3
 rank Memory = 4
 
 -- The fault that is told of two.

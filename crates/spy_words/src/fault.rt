@@ -1,8 +1,8 @@
 //! What may be wrong with one line, and which fault is told of several.
 
-ghost use Rattle.std.specs.Prelude.{◌≡◌, Ok};
+ghost use Rattle.std.specs.Prelude.{◌≡◌};
 ghost use Rattle.spy_words.specs.declared.fault.LineFault.TheVariants.{Memory};
-ghost use Rattle.spy_words.specs.Faults.{rank, worse, kept, after};
+ghost use Rattle.spy_words.specs.Faults.{worse, kept, after};
 
 use std::alloc::AllocError;
 
@@ -29,22 +29,11 @@ impl From<AllocError> for LineFault {
     }
 }
 
-fn rank_of(fault: LineFault) -> u8
-    ensures { result ≡ rank fault }
-{
-    match fault {
-        LineFault::Form => 0,
-        LineFault::Number => 1,
-        LineFault::Order => 2,
-        LineFault::Word => 3,
-        LineFault::Memory => 4,
-    }
-}
-
-fn worse_of(a: LineFault, b: LineFault) -> LineFault
+/// The fault that is told of two.
+pub fn worse_of(a: LineFault, b: LineFault) -> LineFault
     ensures { result ≡ worse a b }
 {
-    if rank_of(b) < rank_of(a) { b } else { a }
+    if (b as u8) < (a as u8) { b } else { a }
 }
 
 /// The value that was read, or a stand-in and a fault more that was met.
@@ -54,21 +43,19 @@ pub fn keep<T: Drop>(met: &mut Option<LineFault>, read: Result<T, LineFault>, ot
     match read {
         Ok(value) => value,
         Err(fault) => {
-            *met = Some(match *met {
-                None => fault,
-                Some(first) => worse_of(first, fault),
-            });
+            *met = Some(met.map_or(fault, |first| worse_of(first, fault)));
             other
         }
     }
 }
 
-/// The value, unless a fault was met.
-pub fn unless_met<T: Drop>(met: Option<LineFault>, value: T) -> Result<T, LineFault>
-    ensures { result ≡ after met (Ok value) }
+/// What was read, unless a fault was met before that is told.
+pub fn told<T: Drop>(met: Option<LineFault>, read: Result<T, LineFault>) -> Result<T, LineFault>
+    ensures { result ≡ after met read }
 {
-    match met {
-        None => Ok(value),
-        Some(fault) => Err(fault),
+    match (met, read) {
+        (None, read) => read,
+        (Some(first), Ok(_)) => Err(first),
+        (Some(first), Err(fault)) => Err(worse_of(first, fault)),
     }
 }

@@ -8,7 +8,7 @@ mod parts;
 mod words;
 
 pub use access::{InstKind, PrivWord};
-pub use fault::{LineFault, keep, unless_met};
+pub use fault::{LineFault, keep, told};
 pub use lists::{Nums, Set};
 pub use parts::{
     Part, Read, are_fit, ascend, fields_of, ids_of, points_of, push_after, push_list, push_or_dash,

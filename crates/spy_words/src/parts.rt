@@ -7,7 +7,7 @@ ghost use Rattle.spy_words.specs.Classes.{ascends, points, fields, waits, follow
 ghost use Rattle.spy_words.specs.Faults.{each, in_order, map_ok};
 ghost use Rattle.spy_words.specs.Reading.{ids_at, list_at, meaning_at, number_from, span_among, span_at};
 
-use crate::fault::{LineFault, keep, unless_met};
+use crate::fault::{LineFault, keep, told, worse_of};
 use crate::lists::{Nums, Set};
 use crate::words::{number_of, parts_of, push_u64};
 use std::alloc::{AllocError, Global};
@@ -93,7 +93,6 @@ impl Part for (u64, u64) {
 }
 
 /// A run of points, from its words.
-#[tactic(auto, using(crate::proofs::Faulty::both_kept))]
 fn span_of(words: &[&[u8]]) -> Result<(u64, u64), LineFault>
     ensures { result ≡ span_among (map (λ w. w.now) words.now) }
 {
@@ -102,17 +101,12 @@ fn span_of(words: &[&[u8]]) -> Result<(u64, u64), LineFault>
             let point = u64::from(number_of(0, only)?);
             Ok((point, point))
         }
-        [first, last] => {
-            let mut met = None;
-            let first = keep(&mut met, number_of(0, first), 0);
-            let last = keep(&mut met, number_of(0, last), 0);
-            let (first, last) = unless_met(met, (first, last))?;
-            if first < last {
-                Ok((u64::from(first), u64::from(last)))
-            } else {
-                Err(LineFault::Order)
-            }
-        }
+        [first, last] => match (number_of(0, first), number_of(0, last)) {
+            (Ok(first), Ok(last)) if first < last => Ok((u64::from(first), u64::from(last))),
+            (Ok(_), Ok(_)) => Err(LineFault::Order),
+            (Err(fault), Ok(_)) | (Ok(_), Err(fault)) => Err(fault),
+            (Err(first), Err(last)) => Err(worse_of(first, last)),
+        },
         _ => Err(LineFault::Form),
     }
 }
@@ -130,7 +124,7 @@ fn each_of<T: Part>(alloc: Global, least: u32, words: &[&[u8]]) -> Read<Vec<T>>
         items.push(keep(&mut met, read, T::default()))?;
         rest = more;
     }
-    Ok(unless_met(met, items))
+    Ok(told(met, Ok(items)))
 }
 
 /// The parts between commas.
