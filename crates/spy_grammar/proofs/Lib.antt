@@ -1,5 +1,3 @@
-pub mod Table
-pub mod Wordly
-pub mod Rowly
-pub mod RowLaws
 pub mod CellLaws
+pub mod LeftLaws
+pub mod RowLaws

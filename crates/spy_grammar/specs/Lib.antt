@@ -2,3 +2,4 @@ pub mod Rows
 pub mod Spelling
 pub mod Reading
 pub mod Cells
+pub mod WordByWord

@@ -3,23 +3,19 @@
 
 mod cells;
 mod code;
-mod goodness;
 mod kinds;
 mod law;
-mod line;
 mod reading;
 mod record;
-mod row_words;
-mod rows;
+mod row;
 mod writing;
 
 pub use code::Code;
-pub use goodness::good;
 pub use law::{one_spelling, spelling_is_one_line, spelling_is_read};
-pub use line::read_line;
+pub use reading::read_line;
 pub use record::{Lined, Record};
 pub use spy_words::{InstKind, LineFault, Nums, PrivWord, Set};
-pub use writing::{Memory, write_record};
+pub use writing::{Memory, good, write_record};
 
 #[cfg(test)]
 mod tests;

@@ -1,262 +1,94 @@
-//! A record of each kind, read.
+//! A line, read.
 
-ghost use Rattle.std.specs.Prelude.{map};
+ghost use Rattle.std.specs.Prelude.{◌≡◌, ◌⊎◌, true, IfOk, Some, None, Ok, Err, map};
+ghost use Rattle.spy_words.specs.declared.fault.LineFault.TheVariants.{Memory};
 ghost use Rattle.spy_words.specs.Faults.{Gives};
-ghost use Rattle.spy_grammar.specs.Reading.{kind_record};
+ghost use Rattle.spy_grammar.specs.declared.record.Record.{Record};
+ghost use Rattle.spy_grammar.specs.Rows.{entry};
+ghost use Rattle.spy_grammar.specs.Reading.{is_passed_over, kind_record, line_at, record_at};
+ghost use Rattle.spy_grammar.specs.Spelling.{spelling, Good};
+ghost use Rattle.spy_grammar.specs.WordByWord.{read_record};
 
-use crate::kinds::RecordKind;
+use crate::kinds::{RecordKind, kind_of};
 use crate::record::Record;
-use crate::row_words::{
-    fields_words, fill_words, id_word, inst_words, ispace_words, map_words, merge_words,
-    number_word, part_words, put_words, req_words, reset_words, run_words, sub_words,
-    transfer_words, tree_words,
-};
-use spy_words::{LineFault, ids_in};
-use std::alloc::Global;
+use crate::row::RowReader;
+use spy_words::{LineFault, Read, parts_of};
+use std::alloc::{AllocError, Global};
 
-#[tactic(auto, using(crate::proofs::Wordly::map_fails))]
-fn read_header(words: &[&[u8]]) -> Result<Record, LineFault>
-    ensures { Gives (λ r. r) result (kind_record RecordKind.Header (map (λ w. w.now) words.now)) }
-{
-    let version = number_word(words)?;
-    Ok(Record::Header { version })
-}
-
-#[tactic(auto, using(crate::proofs::Wordly::map_fails))]
-fn read_ispace(alloc: Global, words: &[&[u8]]) -> Result<Record, LineFault>
-    ensures { Gives (λ r. r) result (kind_record RecordKind.Ispace (map (λ w. w.now) words.now)) }
-{
-    let (id, set) = ispace_words(alloc, words)?;
-    Ok(Record::Ispace { id, set })
-}
-
-#[tactic(auto, using(crate::proofs::Wordly::map_fails))]
-fn read_part(words: &[&[u8]]) -> Result<Record, LineFault>
-    ensures { Gives (λ r. r) result (kind_record RecordKind.Part (map (λ w. w.now) words.now)) }
-{
-    let (id, space, disjoint) = part_words(words)?;
-    Ok(Record::Part {
-        id,
-        space,
-        disjoint,
-    })
-}
-
-#[tactic(auto, using(crate::proofs::Wordly::map_fails))]
-fn read_sub(words: &[&[u8]]) -> Result<Record, LineFault>
-    ensures { Gives (λ r. r) result (kind_record RecordKind.Sub (map (λ w. w.now) words.now)) }
-{
-    let (part, colour, space) = sub_words(words)?;
-    Ok(Record::Sub {
-        part,
-        colour,
-        space,
-    })
-}
-
-#[tactic(auto, using(crate::proofs::Wordly::map_fails))]
-fn read_fields(alloc: Global, words: &[&[u8]]) -> Result<Record, LineFault>
-    ensures { Gives (λ r. r) result (kind_record RecordKind.Fields (map (λ w. w.now) words.now)) }
-{
-    let (id, fields) = fields_words(alloc, words)?;
-    Ok(Record::Fields { id, fields })
-}
-
-#[tactic(auto, using(crate::proofs::Wordly::map_fails))]
-fn read_tree(words: &[&[u8]]) -> Result<Record, LineFault>
-    ensures { Gives (λ r. r) result (kind_record RecordKind.Tree (map (λ w. w.now) words.now)) }
-{
-    let (id, space, fspace) = tree_words(words)?;
-    Ok(Record::Tree { id, space, fspace })
-}
-
-#[tactic(auto, using(crate::proofs::Wordly::map_fails))]
-fn read_redop(words: &[&[u8]]) -> Result<Record, LineFault>
-    ensures { Gives (λ r. r) result (kind_record RecordKind.Redop (map (λ w. w.now) words.now)) }
-{
-    let id = id_word(words)?;
-    Ok(Record::Redop { id })
-}
-
-#[tactic(auto, using(crate::proofs::Wordly::map_fails))]
-fn read_task(words: &[&[u8]]) -> Result<Record, LineFault>
-    ensures { Gives (λ r. r) result (kind_record RecordKind.Task (map (λ w. w.now) words.now)) }
-{
-    let id = id_word(words)?;
-    Ok(Record::Task { id })
-}
-
-#[tactic(auto, using(crate::proofs::Wordly::map_fails))]
-fn read_req(alloc: Global, words: &[&[u8]]) -> Result<Record, LineFault>
-    ensures { Gives (λ r. r) result (kind_record RecordKind.Req (map (λ w. w.now) words.now)) }
-{
-    let (task, tree, space, fields, access, atomic) = req_words(alloc, words)?;
-    Ok(Record::Req {
-        task,
-        tree,
-        space,
-        fields,
-        access,
-        atomic,
-    })
-}
-
-#[tactic(auto, using(crate::proofs::Wordly::map_fails))]
-fn read_fill(alloc: Global, words: &[&[u8]]) -> Result<Record, LineFault>
-    ensures { Gives (λ r. r) result (kind_record RecordKind.Fill (map (λ w. w.now) words.now)) }
-{
-    let (id, tree, space, fields, n) = fill_words(alloc, words)?;
-    Ok(Record::Fill {
-        id,
-        tree,
-        space,
-        fields,
-        n,
-    })
-}
-
-#[tactic(auto, using(crate::proofs::Wordly::map_fails))]
-fn read_inst(alloc: Global, words: &[&[u8]]) -> Result<Record, LineFault>
-    ensures { Gives (λ r. r) result (kind_record RecordKind.Inst (map (λ w. w.now) words.now)) }
-{
-    let (id, tree, space, fields, kind) = inst_words(alloc, words)?;
-    Ok(Record::Inst {
-        id,
-        tree,
-        space,
-        fields,
-        kind,
-    })
-}
-
-#[tactic(auto, using(crate::proofs::Wordly::map_fails))]
-fn read_map(alloc: Global, words: &[&[u8]]) -> Result<Record, LineFault>
-    ensures { Gives (λ r. r) result (kind_record RecordKind.Map (map (λ w. w.now) words.now)) }
-{
-    let (task, req, fields, inst) = map_words(alloc, words)?;
-    Ok(Record::Map {
-        task,
-        req,
-        fields,
-        inst,
-    })
-}
-
-#[tactic(auto, using(crate::proofs::Wordly::map_fails))]
-fn read_run(alloc: Global, words: &[&[u8]]) -> Result<Record, LineFault>
-    ensures { Gives (λ r. r) result (kind_record RecordKind.Run (map (λ w. w.now) words.now)) }
-{
-    let (task, done, waits) = run_words(alloc, words)?;
-    Ok(Record::Run { task, done, waits })
-}
-
-#[tactic(auto, using(crate::proofs::Wordly::map_fails))]
-fn read_copy(alloc: Global, words: &[&[u8]]) -> Result<Record, LineFault>
-    ensures { Gives (λ r. r) result (kind_record RecordKind.Copy (map (λ w. w.now) words.now)) }
-{
-    let (src, dst, space, fields, done, waits) = transfer_words(alloc, words)?;
-    Ok(Record::Copy {
-        src,
-        dst,
-        space,
-        fields,
-        done,
-        waits,
-    })
-}
-
-#[tactic(auto, using(crate::proofs::Wordly::map_fails))]
-fn read_put(alloc: Global, words: &[&[u8]]) -> Result<Record, LineFault>
-    ensures { Gives (λ r. r) result (kind_record RecordKind.Put (map (λ w. w.now) words.now)) }
-{
-    let (inst, space, fields, n, done, waits) = put_words(alloc, words)?;
-    Ok(Record::Put {
-        inst,
-        space,
-        fields,
-        n,
-        done,
-        waits,
-    })
-}
-
-#[tactic(auto, using(crate::proofs::Wordly::map_fails))]
-fn read_reset(alloc: Global, words: &[&[u8]]) -> Result<Record, LineFault>
-    ensures { Gives (λ r. r) result (kind_record RecordKind.Reset (map (λ w. w.now) words.now)) }
-{
-    let (inst, space, fields, done, waits) = reset_words(alloc, words)?;
-    Ok(Record::Reset {
-        inst,
-        space,
-        fields,
-        done,
-        waits,
-    })
-}
-
-#[tactic(auto, using(crate::proofs::Wordly::map_fails))]
-fn read_fold(alloc: Global, words: &[&[u8]]) -> Result<Record, LineFault>
-    ensures { Gives (λ r. r) result (kind_record RecordKind.Fold (map (λ w. w.now) words.now)) }
-{
-    let (src, dst, space, fields, done, waits) = transfer_words(alloc, words)?;
-    Ok(Record::Fold {
-        src,
-        dst,
-        space,
-        fields,
-        done,
-        waits,
-    })
-}
-
-#[tactic(auto, using(crate::proofs::Wordly::map_fails))]
-fn read_merge(alloc: Global, words: &[&[u8]]) -> Result<Record, LineFault>
-    ensures { Gives (λ r. r) result (kind_record RecordKind.Merge (map (λ w. w.now) words.now)) }
-{
-    let (done, waits) = merge_words(alloc, words)?;
-    Ok(Record::Merge { done, waits })
-}
-
-#[tactic(auto, using(crate::proofs::Wordly::map_fails))]
-fn read_end(words: &[&[u8]]) -> Result<Record, LineFault>
-    ensures { Gives (λ r. r) result (kind_record RecordKind.End (map (λ w. w.now) words.now)) }
-{
-    let n = number_word(words)?;
-    Ok(Record::End { n })
-}
-
-#[tactic(auto, unfolding(crate::specs::Reading::row_at))]
-fn read_serial(alloc: Global, words: &[&[u8]]) -> Result<Record, LineFault>
-    ensures { Gives (λ r. r) result (kind_record RecordKind.Serial (map (λ w. w.now) words.now)) }
-{
-    let items = ids_in(alloc, words)?;
-    Ok(Record::Serial { items })
-}
-
-/// The record of a kind, from the words after the first.
-pub fn read_kind(alloc: Global, kind: RecordKind, words: &[&[u8]]) -> Result<Record, LineFault>
-    ensures { Gives (λ r. r) result (kind_record kind (map (λ w. w.now) words.now)) }
+/// The record of a kind, from the words after the first: the format's table.
+#[tactic(auto, using(crate::proofs::LeftLaws::record_told))]
+#[rattlefmt::skip]
+fn read_words(kind: RecordKind, row: &mut RowReader<'_>) -> Result<Record, AllocError>
+    ensures { IfOk result (λ rec. read_record (entry kind) row.old ≡ (rec, row.new)) }
 {
     match kind {
-        RecordKind::Header => read_header(words),
-        RecordKind::Ispace => read_ispace(alloc, words),
-        RecordKind::Part => read_part(words),
-        RecordKind::Sub => read_sub(words),
-        RecordKind::Fields => read_fields(alloc, words),
-        RecordKind::Tree => read_tree(words),
-        RecordKind::Redop => read_redop(words),
-        RecordKind::Task => read_task(words),
-        RecordKind::Req => read_req(alloc, words),
-        RecordKind::Fill => read_fill(alloc, words),
-        RecordKind::Serial => read_serial(alloc, words),
-        RecordKind::Inst => read_inst(alloc, words),
-        RecordKind::Map => read_map(alloc, words),
-        RecordKind::Run => read_run(alloc, words),
-        RecordKind::Copy => read_copy(alloc, words),
-        RecordKind::Put => read_put(alloc, words),
-        RecordKind::Reset => read_reset(alloc, words),
-        RecordKind::Fold => read_fold(alloc, words),
-        RecordKind::Merge => read_merge(alloc, words),
-        RecordKind::End => read_end(words),
+        RecordKind::Header => Ok(Record::Header { version: row.number() }),
+        RecordKind::Ispace => Ok(Record::Ispace { id: row.id(), set: row.points()? }),
+        RecordKind::Part => Ok(Record::Part { id: row.id(), space: row.id(), disjoint: row.split() }),
+        RecordKind::Sub => Ok(Record::Sub { part: row.id(), colour: row.number(), space: row.id() }),
+        RecordKind::Fields => Ok(Record::Fields { id: row.id(), fields: row.fields()? }),
+        RecordKind::Tree => Ok(Record::Tree { id: row.id(), space: row.id(), fspace: row.id() }),
+        RecordKind::Redop => Ok(Record::Redop { id: row.id() }),
+        RecordKind::Task => Ok(Record::Task { id: row.id() }),
+        RecordKind::Req => Ok(Record::Req { task: row.id(), tree: row.id(), space: row.id(), fields: row.fields()?, access: row.access(), atomic: row.coherence() }),
+        RecordKind::Fill => Ok(Record::Fill { id: row.id(), tree: row.id(), space: row.id(), fields: row.fields()?, n: row.number() }),
+        RecordKind::Serial => Ok(Record::Serial { items: row.ids()? }),
+        RecordKind::Inst => Ok(Record::Inst { id: row.id(), tree: row.id(), space: row.id(), fields: row.fields()?, kind: row.layout() }),
+        RecordKind::Map => Ok(Record::Map { task: row.id(), req: row.id(), fields: row.fields()?, inst: row.id() }),
+        RecordKind::Run => Ok(Record::Run { task: row.id(), done: row.event(), waits: row.waits()? }),
+        RecordKind::Copy => Ok(Record::Copy { src: row.id(), dst: row.id(), space: row.id(), fields: row.fields()?, done: row.event(), waits: row.waits()? }),
+        RecordKind::Put => Ok(Record::Put { inst: row.id(), space: row.id(), fields: row.fields()?, n: row.number(), done: row.event(), waits: row.waits()? }),
+        RecordKind::Reset => Ok(Record::Reset { inst: row.id(), space: row.id(), fields: row.fields()?, done: row.event(), waits: row.waits()? }),
+        RecordKind::Fold => Ok(Record::Fold { src: row.id(), dst: row.id(), space: row.id(), fields: row.fields()?, done: row.event(), waits: row.waits()? }),
+        RecordKind::Merge => Ok(Record::Merge { done: row.event(), waits: row.waits()? }),
+        RecordKind::End => Ok(Record::End { n: row.number() }),
     }
+}
+
+#[tactic(auto, using(crate::proofs::LeftLaws::kind_read))]
+fn read_kind(alloc: Global, kind: RecordKind, words: &[&[u8]]) -> Read<Record>
+    ensures { IfOk result (λ read. read ≡ kind_record kind (map (λ w. w.now) words.now)) }
+{
+    let mut row = RowReader::new(alloc, words);
+    let rec = read_words(kind, &mut row)?;
+    Ok(row.end(rec))
+}
+
+fn read_record(alloc: Global, words: &[&[u8]]) -> Read<Record>
+    ensures { IfOk result (λ read. read ≡ record_at (map (λ w. w.now) words.now)) }
+{
+    let [name, rest @ ..] = words else {
+        return Ok(Err(LineFault::Word));
+    };
+    match kind_of(name) {
+        Ok(kind) => read_kind(alloc, kind, rest),
+        Err(fault) => Ok(Err(fault)),
+    }
+}
+
+#[tactic(auto, unfolding(crate::specs::Reading::line_at))]
+fn any_line(alloc: Global, line: &[u8]) -> Read<Option<Record>>
+    ensures exact { IfOk result (λ read. read ≡ line_at line.now) }
+    ensures blank { is_passed_over line.now ≡ true → result ≡ Ok (Ok None) }
+{
+    if let [] | [b'#', ..] = line {
+        return Ok(Ok(None));
+    }
+    let words = parts_of(alloc, line, b' ')?;
+    Ok(read_record(alloc, &words)?.map(Some))
+}
+
+/// What a line, without its line feed, says: nothing if it is blank or a comment.
+#[tactic(auto, using(crate::proofs::RowLaws::line_blank, crate::proofs::RowLaws::line_spelled, crate::proofs::RowLaws::line_good, crate::proofs::RowLaws::line_again))]
+pub fn read_line(alloc: Global, line: &[u8]) -> Result<Option<Record>, LineFault>
+    // Of several faults the one that is told is the one that the definitions tell.
+    ensures exact { Gives (λ o. o) result (line_at line.now) }
+    // A line is passed over where it is empty or begins with `#`, and nowhere else.
+    ensures blank { is_passed_over line.now ≡ true → result ≡ Ok None }
+    ensures no_more { result ≡ Ok None → is_passed_over line.now ≡ true }
+    // A record that is read has this spelling, and its spelling is read as that record, unless memory runs out.
+    ensures found { (r : Record) → result ≡ Ok (Some r) → (line.now ≡ spelling r) × Good r }
+    ensures only { (r : Record) → Good r → line.now ≡ spelling r → (result ≡ Ok (Some r)) ⊎ (result ≡ Err Memory) }
+{
+    any_line(alloc, line)?
 }

@@ -1,16 +1,18 @@
-//! A record, written.
+//! A record, written, and whether it has a spelling.
 
-ghost use Rattle.std.specs.Prelude.{◌≡◌, ◌++◌, ◌∷◌, [], IfOk, OnOk};
-ghost use Rattle.spy_grammar.specs.Cells.{item_of, item_text};
-ghost use Rattle.spy_grammar.specs.Spelling.{Good, spelling};
+ghost use Rattle.std.specs.Prelude.{◌≡◌, ◌↔◌, ◌++◌, ◌∷◌, [], IsTrue, IfOk, OnOk};
+ghost use Rattle.std.specs.List.{AllByRecursion};
+ghost use Rattle.spy_words.specs.Classes.{follow};
+ghost use Rattle.spy_grammar.specs.Cells.{items_in, with_cell};
+ghost use Rattle.spy_grammar.specs.Spelling.{Good, IsGoodItem, spelling, words_in};
 
 use crate::cells::Cell::*;
 use crate::cells::{Cell, cells_of};
 use crate::kinds::name_text;
 use crate::record::Record;
 use spy_words::{
-    coherence_text, push_access, push_layout, push_number, push_numbers, push_points, push_waits,
-    split_text,
+    InstKind, Part, PrivWord, are_fit, ascend, coherence_text, push_access, push_after, push_layout,
+    push_list, push_or_dash, push_u64, split_text,
 };
 use std::alloc::{AllocError, Global};
 
@@ -26,44 +28,89 @@ impl From<AllocError> for Memory {
     }
 }
 
-fn push_cell(out: &mut Vec<u8>, cell: &Cell<'_>) -> Result<(), AllocError>
-    ensures { OnOk result (out.new.items ≡ out.old.items ++ item_text (item_of cell.now)) }
+fn is_good(cell: &Cell<'_>) -> bool
+    ensures { IsTrue result ↔ AllByRecursion IsGoodItem (with_cell cell.now []) }
 {
-    if let No = *cell {
-        return Ok(());
-    }
-    out.push(b' ')?;
     match *cell {
-        No => Ok(()),
-        Number(n) => push_number(out, n),
-        Id(n) => push_number(out, n),
-        Event(n) => push_number(out, n),
-        Points(set) => push_points(out, set.as_slice()),
-        Fields(numbers) => push_numbers(out, b',', numbers.as_slice()),
-        Waits(numbers) => push_waits(out, numbers.as_slice()),
+        No | Split(_) | Coherence(_) => true,
+        Number(n) => n.is_fit(0),
+        Id(n) | Event(n) => n.is_fit(1),
+        Points(set) => are_fit(0, set.as_slice()) && ascend(set.as_slice()),
+        Fields(numbers) => {
+            let numbers = numbers.as_slice();
+            !numbers.is_empty() && are_fit(0, numbers) && ascend(numbers)
+        }
+        Waits(numbers) => are_fit(1, numbers.as_slice()),
+        Access(PrivWord::Red(operator)) | Layout(InstKind::Red(operator)) => operator.is_fit(1),
+        Access(_) | Layout(_) => true,
+        Ids(numbers) => !numbers.as_slice().is_empty() && are_fit(1, numbers.as_slice()),
+    }
+}
+
+/// Whether the record has a spelling: its ids and events are at least 1, and its lists ascend.
+pub fn good(rec: &Record) -> bool
+    ensures { IsTrue result ↔ Good rec.now }
+{
+    let (_, cells) = cells_of(rec);
+    all_good(&cells)
+}
+
+fn all_good(cells: &[Cell<'_>]) -> bool
+    ensures { IsTrue result ↔ AllByRecursion IsGoodItem (items_in cells.now) }
+{
+    let mut rest = cells;
+    while let [cell, more @ ..] = rest {
+        if !is_good(cell) {
+            return false;
+        }
+        rest = more;
+    }
+    true
+}
+
+fn push_word(out: &mut Vec<u8>, cell: &Cell<'_>) -> Result<(), AllocError>
+    ensures { OnOk result (out.new.items ≡ out.old.items ++ follow 32 (words_in (with_cell cell.now []))) }
+{
+    match *cell {
+        No => return Ok(()),
+        Ids(numbers) => return push_after(out, b' ', numbers.as_slice()),
+        _ => out.push(b' ')?,
+    }
+    match *cell {
+        Number(n) | Id(n) | Event(n) => push_u64(out, u64::from(n)),
+        Points(set) => push_or_dash(out, set.as_slice()),
+        Fields(numbers) => push_list(out, numbers.as_slice()),
+        Waits(numbers) => push_or_dash(out, numbers.as_slice()),
         Split(disjoint) => out.extend_from_slice(split_text(disjoint)),
         Access(access) => push_access(out, access),
         Coherence(atomic) => out.extend_from_slice(coherence_text(atomic)),
         Layout(layout) => push_layout(out, layout),
-        Ids(numbers) => push_numbers(out, b' ', numbers.as_slice()),
+        No | Ids(_) => Ok(()),
     }
 }
 
+fn push_words(out: &mut Vec<u8>, cells: &[Cell<'_>]) -> Result<(), AllocError>
+    ensures { OnOk result (out.new.items ≡ out.old.items ++ follow 32 (words_in (items_in cells.now))) }
+{
+    let mut rest = cells;
+    while let [cell, more @ ..] = rest {
+        push_word(out, cell)?;
+        rest = more;
+    }
+    Ok(())
+}
+
 /// The record's line, with its line feed.
+#[tactic(auto, using(crate::proofs::CellLaws::spelled))]
 pub fn write_record(alloc: Global, rec: &Record) -> Result<Vec<u8>, Memory>
     // Another record's line would not be read again.
     requires { Good rec.now }
     ensures { IfOk result (λ v. v.items ≡ spelling rec.now ++ 10 ∷ []) }
 {
     let mut out = Vec::new(alloc);
-    let (kind, (a, b, c, d, e, f)) = cells_of(rec);
+    let (kind, cells) = cells_of(rec);
     out.extend_from_slice(name_text(kind))?;
-    push_cell(&mut out, &a)?;
-    push_cell(&mut out, &b)?;
-    push_cell(&mut out, &c)?;
-    push_cell(&mut out, &d)?;
-    push_cell(&mut out, &e)?;
-    push_cell(&mut out, &f)?;
+    push_words(&mut out, &cells)?;
     out.extend_from_slice(b"\n")?;
     Ok(out)
 }

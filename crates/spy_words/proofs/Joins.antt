@@ -1,14 +1,12 @@
 -- Words, joined by a byte that is below all of theirs, and cut there again.
-use Rattle.std.proofs.Common.{◌≡◌, ◌≢◌, ℕ, ◌<◌, ◌≤◌, ltb, eqb, Bool, true, false, cond, List, [], ◌∷◌, ◌++◌, length, get_or, Option, Some, None, refl, sym, ap, subst, ◌∙◌, arith, option_map}
-use Rattle.std.specs.List.{join_with_byte, slice_split, list_all, AllByRecursion}
-use Rattle.std.specs.Str.{bytes_eq}
-use Rattle.std.proofs.lemmas.Bool.{eq-eqb, ne_eqb, eqb-true}
+use Rattle.std.proofs.Common.{◌≡◌, ◌≢◌, ℕ, ◌<◌, ◌≤◌, ltb, eqb, Bool, true, false, List, [], ◌∷◌, ◌++◌, length, refl, sym, ap, ◌∙◌, arith, append-nil}
+use Rattle.std.specs.List.{join_with_byte, list_all, AllByRecursion}
+use Rattle.std.proofs.lemmas.Bool.{eq-eqb, ne_eqb}
 use Rattle.std.proofs.lemmas.Bool.Decides.{nat_tests}
-use Rattle.std.proofs.lemmas.List.{length-append}
 use Rattle.std.proofs.lemmas.List.Elements.{All-from_recursion}
 use Rattle.std.proofs.lemmas.List.Splits.{slice_split_none, slice_split_at, join_with_byte-slice_split, length-slice_split}
-use Rattle.std.proofs.lemmas.Slice.Eq.{bytes_eq-Decides}
-use Rattle.spy_words.specs.Reading.{cut_at}
+use Rattle.spy_words.specs.Classes.{follow}
+use Rattle.spy_words.specs.Reading.{parts}
 
 -- each byte is above a floor
 abbrev pub Above : ℕ → List ℕ → Type 0
@@ -41,74 +39,18 @@ lacks : (c : ℕ) (w : List ℕ) → Above c w → AllByRecursion (λ b. eqb b c
 lacks c [] h = tt
 lacks c (b ∷ w) h = (ne_eqb b c (λ e. absurd (omega (arith, h.0, e))), lacks c w h.1)
 
-pub split_join : (c : ℕ) (w : List ℕ) (ws : List (List ℕ)) → AllByRecursion (Above c) (w ∷ ws) → slice_split (λ b. eqb b c) (join_with_byte c (w ∷ ws)) ≡ w ∷ ws
-split_join c w [] h = slice_split_none (λ b. eqb b c) w (All-from_recursion _ w (lacks c w h.0))
-split_join c w (v ∷ vs) h =
+pub parts_join : (c : ℕ) (w : List ℕ) (ws : List (List ℕ)) → AllByRecursion (Above c) (w ∷ ws) → parts c (join_with_byte c (w ∷ ws)) ≡ w ∷ ws
+parts_join c w [] h = slice_split_none (λ b. eqb b c) w (All-from_recursion _ w (lacks c w h.0))
+parts_join c w (v ∷ vs) h =
     slice_split_at (λ b. eqb b c) w c (join_with_byte c (v ∷ vs)) (All-from_recursion _ w (lacks c w h.0)) (eq-eqb c c refl)
-    ∙ ap (λ (xs : List (List ℕ)). w ∷ xs) (split_join c v vs h.1)
+    ∙ ap (λ (xs : List (List ℕ)). w ∷ xs) (parts_join c v vs h.1)
 
-pub join_takes : (c : ℕ) (w : List ℕ) (ws : List (List ℕ)) → slice_split (λ b. eqb b c) w ≡ ws → w ≡ join_with_byte c ws
-join_takes c w ws e = sym (join_with_byte-slice_split c w) ∙ ap (join_with_byte c) e
+pub join_parts : (c : ℕ) (w : List ℕ) (ws : List (List ℕ)) → parts c w ≡ ws → w ≡ join_with_byte c ws
+join_parts c w ws e = sym (join_with_byte-slice_split c w) ∙ ap (join_with_byte c) e
 
-pub split_some : (c : ℕ) (w : List ℕ) → slice_split (λ b. eqb b c) w ≢ []
-split_some c w e = let n = length-slice_split (λ b. eqb b c) w in let z = ap length e in absurd (omega arith)
+pub parts_some : (c : ℕ) (w : List ℕ) → parts c w ≢ []
+parts_some c w e = let n = length-slice_split (λ b. eqb b c) w in let z = ap length e in absurd (omega arith)
 
--- what a cut says: no such byte, or the two parts with the byte between
-abbrev Cut : ℕ → List ℕ → Option (List ℕ × List ℕ) → Type 0
-Cut c w None = AllByRecursion (λ b. eqb b c ≡ false) w
-Cut c w (Some p) = (w ≡ p.0 ++ c ∷ p.1) × AllByRecursion (λ b. eqb b c ≡ false) p.0
-
-cut_says : (c : ℕ) (w : List ℕ) → Cut c w (cut_at c w)
-cut_says c [] = tt
-cut_says c (b ∷ w) = by_test (eqb b c) refl (cut_says c w)
-  where
-    one_more : (o : Option (List ℕ × List ℕ)) → eqb b c ≡ false → Cut c w o → Cut c (b ∷ w) (option_map {U = List ℕ × List ℕ} (λ (p : List ℕ × List ℕ). (b ∷ p.0, p.1)) o)
-    one_more None is h = (is, h)
-    one_more (Some p) is h = (ap (λ (x : List ℕ). b ∷ x) h.0, (is, h.1))
-
-    by_test : (t : Bool) → eqb b c ≡ t → Cut c w (cut_at c w) → Cut c (b ∷ w) (cond t (Some ([], w)) (option_map {U = List ℕ × List ℕ} (λ (p : List ℕ × List ℕ). (b ∷ p.0, p.1)) (cut_at c w)))
-    by_test true is h = (ap (λ (x : ℕ). x ∷ w) (eqb-true b c is), tt)
-    by_test false is h = one_more (cut_at c w) is h
-
-pub cut_joins : (c : ℕ) (w u v : List ℕ) → cut_at c w ≡ Some (u, v) → w ≡ u ++ c ∷ v
-cut_joins c w u v e = (subst (Cut c w) e (cut_says c w)).0
-
--- a word with the byte: its first part and the parts of what comes after
-pub split_cut : (c : ℕ) (w u v : List ℕ) → cut_at c w ≡ Some (u, v) → slice_split (λ b. eqb b c) w ≡ u ∷ slice_split (λ b. eqb b c) v
-split_cut c w u v e =
-    let s = subst (Cut c w) e (cut_says c w) in
-    ap (slice_split (λ b. eqb b c)) s.0 ∙ slice_split_at (λ b. eqb b c) u c v (All-from_recursion _ u s.1) (eq-eqb c c refl)
-
-pub split_whole : (c : ℕ) (w : List ℕ) → cut_at c w ≡ None → slice_split (λ b. eqb b c) w ≡ w ∷ []
-split_whole c w e = slice_split_none (λ b. eqb b c) w (All-from_recursion _ w (subst (Cut c w) e (cut_says c w)))
-
--- what comes after a cut is shorter
-pub shorter : (c : ℕ) (w u v : List ℕ) → cut_at c w ≡ Some (u, v) → length v < length w
-shorter c w u v e = omega (arith, ap length (cut_joins c w u v e), length-append u (c ∷ v))
-
-pub cut_at_first : (c : ℕ) (u v : List ℕ) → Above c u → cut_at c (u ++ c ∷ v) ≡ Some (u, v)
-cut_at_first c [] v h = rw (eq-eqb c c refl) refl
-cut_at_first c (b ∷ u) v h = rw ((lacks c (b ∷ u) h).0, cut_at_first c u v h.1) refl
-
-pub cut_nowhere : (c : ℕ) (w : List ℕ) → Above c w → cut_at c w ≡ None
-cut_nowhere c [] h = refl
-cut_nowhere c (b ∷ w) h = rw ((lacks c (b ∷ w) h).0, cut_nowhere c w h.1) refl
-
--- the first byte is above a floor
-abbrev pub Starts : ℕ → List ℕ → Type 0
-Starts m w = m < get_or w 0 0
-
-pub starts_append : (m : ℕ) (v w : List ℕ) → Starts m v → Starts m (v ++ w)
-starts_append m [] w h = absurd (omega (arith, h))
-starts_append m (b ∷ v) w h = h
-
-pub starts_join : (m c : ℕ) (w : List ℕ) (ws : List (List ℕ)) → Starts m w → Starts m (join_with_byte c (w ∷ ws))
-starts_join m c w [] h = h
-starts_join m c w (v ∷ vs) h = starts_append m w (c ∷ join_with_byte c (v ∷ vs)) h
-
-pub no_dash : (w : List ℕ) → Starts 47 w → bytes_eq w (45 ∷ []) ≡ false
-no_dash w h = by_test (bytes_eq w (45 ∷ [])) refl
-  where
-    by_test : (t : Bool) → bytes_eq w (45 ∷ []) ≡ t → t ≡ false
-    by_test true is = let e = (bytes_eq-Decides w (45 ∷ [])).0 is in absurd (omega (arith, h, ap (λ (w : List ℕ). get_or w 0 0) e))
-    by_test false is = refl
+pub join_follow : (c : ℕ) (w : List ℕ) (ws : List (List ℕ)) → join_with_byte c (w ∷ ws) ≡ w ++ follow c ws
+join_follow c w [] = sym (append-nil w)
+join_follow c w (v ∷ vs) = ap (λ (x : List ℕ). w ++ c ∷ x) (join_follow c v vs)

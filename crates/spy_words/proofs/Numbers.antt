@@ -1,30 +1,55 @@
 -- A number and its word, both ways.
-use Rattle.std.proofs.Common.{◌≡◌, ℕ, zero, suc, ◌^◌, ◌<◌, ◌≤◌, ltb, Bool, true, false, cond, not, ◌||◌, List, length, get_or, Ok, Err, refl, sym, subst, arith}
+use Rattle.std.proofs.Common.{◌≡◌, ℕ, zero, suc, ◌+◌, ◌*◌, ◌-◌, ◌^◌, ◌<◌, ◌≤◌, ltb, Bool, true, false, cond, not, ◌||◌, List, [], ◌∷◌, length, get_or, take, min, Ok, Err, refl, sym, subst, ◌∙◌, arith, rules}
 use Rattle.std.specs.Prelude.{decimal}
 use Rattle.std.specs.Char.{is_ascii_digit}
+use Rattle.std.specs.Int.{IsInRange}
 use Rattle.std.specs.List.{list_all}
 use Rattle.std.specs.Str.Parse.{digits_value}
-use Rattle.std.proofs.lemmas.Bool.{lt-ltb, le-ltb}
+use Rattle.std.proofs.lemmas.Bool.{false≢true, lt-ltb, le-ltb}
 use Rattle.std.proofs.lemmas.Bool.Decides.{nat_tests}
 use Rattle.std.proofs.lemmas.Fmt.{decimal-digits_value, digits_decimal, digits_value-decimal, first_decimal, decimal_nonempty, decimal_digit}
+use Rattle.std.proofs.lemmas.Int.Digits.{digits_value_more}
+use Rattle.std.proofs.lemmas.List.Folds.{list_all_at}
+use Rattle.std.proofs.lemmas.Str.{digit_value_digit}
+use Rattle.std.proofs.lemmas.Str.Parse.{IsNumeralModel, numerals_by_value}
 use Rattle.spy_words.specs.declared.fault.LineFault.{LineFault}
 use Rattle.spy_words.specs.declared.fault.LineFault.TheVariants.{Form, Number}
 use Rattle.spy_words.specs.Classes.{IsNumberFrom}
 use Rattle.spy_words.specs.Reading.{is_digits, has_leading_zero, number_from}
-use Rattle.spy_words.proofs.Digits.{own}
+use Rattle.spy_words.proofs.Joins.{Above}
+
+-- ---- digits
+
+digit_of_test : (c : ℕ) (b : Bool) → is_ascii_digit c ≡ b → (b ≡ false → ⊥) → IsInRange 48 57 c
+digit_of_test c true e n = grind (arith, nat_tests)
+digit_of_test c false e n = absurd (n refl)
+
+digit_at : (w : List ℕ) (i : ℕ) → list_all is_ascii_digit w ≡ true → i < length w → IsInRange 48 57 (get_or w i 0)
+digit_at w i all lt = digit_of_test (get_or w i 0) _ refl (λ fails. false≢true (sym (list_all_at is_ascii_digit w i 0 lt fails) ∙ all))
+
+-- one more digit, in a value that stops at 2 ^ 32
+pub value_more : (w : List ℕ) (i value b : ℕ) → list_all is_ascii_digit w ≡ true → i < length w → b ≡ get_or w i 0 → value ≡ min (digits_value 10 (take i w)) (2 ^ 32) → min (value * 10 + (b - 48)) (2 ^ 32) ≡ min (digits_value 10 (take (i + 1) w)) (2 ^ 32)
+value_more w i value b all lt is so_far =
+    let d = digit_at w i all lt in
+    omega (arith, digits_value_more 10 w i lt, digit_value_digit (get_or w i 0) d, d.0, d.1)
+
+-- the words of digits, in std's terms
+own : IsNumeralModel (λ w. list_all is_ascii_digit w ≡ true) (digits_value 10)
+own = numerals_by_value _ (search rules)
+
+digits_above : (w : List ℕ) → list_all is_ascii_digit w ≡ true → Above 45 w
+digits_above [] all = tt
+digits_above (b ∷ w) all =
+    let r = digit_at (b ∷ w) 0 all (omega arith) in
+    let rest : list_all is_ascii_digit w ≡ true = grind (arith, nat_tests) in
+    (omega (arith, r.0), digits_above w rest)
+
+-- ---- numbers
 
 tests_passed : {A : Type 0} (a b : Bool) (e f : LineFault) (x y : A) → cond (not a) (Err e) (cond b (Err f) (Ok x)) ≡ Ok y → (a ≡ true) × (b ≡ false) × (x ≡ y)
 tests_passed true true e f x y h = absurd cc
 tests_passed true false e f x y h = (refl, refl, cc)
 tests_passed false b e f x y h = absurd cc
-
-record IsDecimal (w : List ℕ) : Type 0 where
-  some : 0 < length w
-  all : list_all is_ascii_digit w ≡ true
-  first : get_or w 0 0 ≡ 48 → length w ≡ 1
-
-digits_are : (w : List ℕ) → is_digits w ≡ true → has_leading_zero w ≡ false → IsDecimal w
-digits_are w d z = record { some = grind (arith, nat_tests); all = grind (arith, nat_tests); first = λ e. grind (arith, nat_tests) }
 
 in_bounds : (lz : Bool) (v least : ℕ) → (lz || ltb v least || not (ltb v (2 ^ 32))) ≡ false → (lz ≡ false) × (least ≤ v) × (v < 2 ^ 32)
 in_bounds true v least e = absurd cc
@@ -35,19 +60,23 @@ unfolding number_from
 number_takes least w n e =
     let t = tests_passed (is_digits w) (has_leading_zero w || ltb (digits_value 10 w) least || not (ltb (digits_value 10 w) (2 ^ 32))) Form Number (digits_value 10 w) n e in
     let b = in_bounds (has_leading_zero w) (digits_value 10 w) least t.1 in
-    let d = digits_are w t.0 b.0 in
-    let text : decimal (digits_value 10 w) ≡ w = decimal-digits_value own w d.all d.some d.first (omega (arith, b.2)) in
+    let digits : is_digits w ≡ true = t.0 in
+    let plain : has_leading_zero w ≡ false = b.0 in
+    let all : list_all is_ascii_digit w ≡ true = grind (arith, nat_tests) in
+    let some : 0 < length w = grind (arith, nat_tests) in
+    let first : get_or w 0 0 ≡ 48 → length w ≡ 1 = λ e. grind (arith, nat_tests) in
+    let text : decimal (digits_value 10 w) ≡ w = decimal-digits_value own w all some first (omega (arith, b.2)) in
     subst (λ (m : ℕ). (w ≡ decimal m) × IsNumberFrom least m) t.2 (sym text, (b.1, b.2))
 
 no_leading_zero : (n : ℕ) → n < 2 ^ 32 → has_leading_zero (decimal n) ≡ false
 no_leading_zero zero lt = rw (decimal_digit 0 (omega arith)) refl
 no_leading_zero (suc n) lt = let f = first_decimal (suc n) (omega arith) (omega arith) in grind (arith, nat_tests)
 
-pub number_again : (least n : ℕ) → IsNumberFrom least n → number_from least (decimal n) ≡ Ok n
+pub number_again : (least n : ℕ) → IsNumberFrom least n → (number_from least (decimal n) ≡ Ok n) × Above 45 (decimal n)
 unfolding number_from
 number_again least n good =
     let all = digits_decimal own n (omega (arith, good.1)) in
     let value = digits_value-decimal own n (omega (arith, good.1)) in
     let some = decimal_nonempty n (omega (arith, good.1)) in
     let digits : is_digits (decimal n) ≡ true = grind (arith, nat_tests) in
-    rw (digits, no_leading_zero n good.1, value, le-ltb n least good.0, lt-ltb n (2 ^ 32) good.1) refl
+    (rw (digits, no_leading_zero n good.1, value, le-ltb n least good.0, lt-ltb n (2 ^ 32) good.1) refl, digits_above (decimal n) all)

@@ -1,5 +1,5 @@
 -- The classes of words: what a word of each class means, how it is spelled, and which meanings have a spelling.
-use Rattle.std.specs.Prelude.{◌≢◌, ℕ, ◌^◌, ◌<◌, ◌≤◌, ◌==◌, Bool, true, false, List, [], ◌∷◌, ◌++◌, map, codes, decimal, if◌then◌else◌}
+use Rattle.std.specs.Prelude.{◌≢◌, ℕ, ◌^◌, ◌<◌, ◌≤◌, ◌==◌, ◌&&◌, nat_lt, Bool, true, false, IsTrue, List, [], ◌∷◌, ◌++◌, map, codes, decimal, if◌then◌else◌}
 use Rattle.std.specs.List.{join_with_byte, AllByRecursion}
 use Rattle.spy_words.specs.declared.access.PrivWord.{PrivWord}
 use Rattle.spy_words.specs.declared.access.PrivWord.TheVariants as privileges
@@ -19,40 +19,23 @@ pub data Class : Type 0 where
   coherence : Class
   layout : Class
 
--- What a word of a class means.
-abbrev pub Meaning : Class → Type 0
-Meaning number = ℕ
-Meaning id = ℕ
-Meaning event = ℕ
-Meaning points = List (ℕ × ℕ)
-Meaning fields = List ℕ
-Meaning waits = List ℕ
-Meaning split = Bool
-Meaning access = PrivWord
-Meaning coherence = Bool
-Meaning layout = InstKind
-
--- Parts, with one comma between each two.
-abbrev pub with_commas : List (List ℕ) → List ℕ
-with_commas parts = join_with_byte 44 parts
+-- Words, each after such a byte.
+abbrev pub follow : ℕ → List (List ℕ) → List ℕ
+follow c [] = []
+follow c (w ∷ ws) = c ∷ w ++ follow c ws
 
 -- A run of points: one number, or the first and the last with a dash between.
 abbrev pub span_word : ℕ × ℕ → List ℕ
 span_word p = if p.0 == p.1 then decimal p.0 else decimal p.0 ++ 45 ∷ decimal p.1
 
--- A set of points: its runs, or a dash for none.
-abbrev pub points_word : List (ℕ × ℕ) → List ℕ
-points_word [] = 45 ∷ []
-points_word (p ∷ ps) = with_commas (map span_word (p ∷ ps))
+-- A list: its parts, with one comma between each two.
+abbrev pub list_word : {A : Type 0} → (A → List ℕ) → List A → List ℕ
+list_word spell xs = join_with_byte 44 (map spell xs)
 
--- Numbers, at least one.
-abbrev pub fields_word : List ℕ → List ℕ
-fields_word ns = with_commas (map decimal ns)
-
--- Events, or a dash for none.
-abbrev pub waits_word : List ℕ → List ℕ
-waits_word [] = 45 ∷ []
-waits_word (n ∷ ns) = with_commas (map decimal (n ∷ ns))
+-- A list, or a dash for none.
+abbrev pub list_or_dash : {A : Type 0} → (A → List ℕ) → List A → List ℕ
+list_or_dash spell [] = 45 ∷ []
+list_or_dash spell (x ∷ xs) = list_word spell (x ∷ xs)
 
 -- Whether a partition is disjoint.
 abbrev pub split_word : Bool → List ℕ
@@ -77,19 +60,6 @@ layout_word instances.Plain = codes "plain"
 layout_word instances.Home = codes "home"
 layout_word (instances.Red op) = codes "red:" ++ decimal op
 
--- The one word of a class that has this meaning.
-abbrev pub word_of : (c : Class) → Meaning c → List ℕ
-word_of number n = decimal n
-word_of id n = decimal n
-word_of event n = decimal n
-word_of points ps = points_word ps
-word_of fields ns = fields_word ns
-word_of waits ns = waits_word ns
-word_of split b = split_word b
-word_of access a = access_word a
-word_of coherence b = coherence_word b
-word_of layout k = layout_word k
-
 -- A number of a log, from a least number on.
 abbrev pub IsNumberFrom : ℕ → ℕ → Type 0
 IsNumberFrom least n = (least ≤ n) × (n < 2 ^ 32)
@@ -98,17 +68,15 @@ IsNumberFrom least n = (least ≤ n) × (n < 2 ^ 32)
 abbrev pub IsSpan : ℕ × ℕ → Type 0
 IsSpan p = (p.0 ≤ p.1) × (p.1 < 2 ^ 32)
 
--- Each run of points ends before the next begins.
-abbrev pub SpansAscend : List (ℕ × ℕ) → Type 0
-SpansAscend [] = Unit {0}
-SpansAscend (p ∷ []) = Unit {0}
-SpansAscend (p ∷ q ∷ ps) = (p.1 < q.0) × SpansAscend (q ∷ ps)
+-- Each element of a list stands before the next.
+abbrev pub ascends : {A : Type 0} → (A → A → Bool) → List A → Bool
+ascends before [] = true
+ascends before (x ∷ []) = true
+ascends before (x ∷ y ∷ xs) = before x y && ascends before (y ∷ xs)
 
--- Each number is below the next.
-abbrev pub Ascends : List ℕ → Type 0
-Ascends [] = Unit {0}
-Ascends (n ∷ []) = Unit {0}
-Ascends (m ∷ n ∷ ns) = (m < n) × Ascends (n ∷ ns)
+-- A run of points ends before another begins.
+abbrev pub span_before : ℕ × ℕ → ℕ × ℕ → Bool
+span_before p q = nat_lt p.1 q.0
 
 -- An operator, where there is one, has an id.
 abbrev pub HasOperator : PrivWord → Type 0
@@ -123,15 +91,34 @@ HoldsOperator instances.Plain = Unit {0}
 HoldsOperator instances.Home = Unit {0}
 HoldsOperator (instances.Red op) = IsNumberFrom 1 op
 
+-- What is said of a class: what its words mean, the one word that has a meaning, which meanings have a word, and what stands in where there is none.
+pub record About : Type 1 where
+  pub Meaning : Type 0
+  pub word : Meaning → List ℕ
+  pub IsGood : Meaning → Type 0
+  pub stand_in : Meaning
+
+-- The table of the classes.
+abbrev pub about : Class → About
+about number = record { Meaning = ℕ; word = decimal; IsGood = IsNumberFrom 0; stand_in = 0 }
+about id = record { Meaning = ℕ; word = decimal; IsGood = IsNumberFrom 1; stand_in = 0 }
+about event = record { Meaning = ℕ; word = decimal; IsGood = IsNumberFrom 1; stand_in = 0 }
+about points = record { Meaning = List (ℕ × ℕ); word = list_or_dash span_word; IsGood = λ ps. AllByRecursion IsSpan ps × IsTrue (ascends span_before ps); stand_in = [] }
+about fields = record { Meaning = List ℕ; word = list_word decimal; IsGood = λ ns. AllByRecursion (IsNumberFrom 0) ns × IsTrue (ascends nat_lt ns) × (ns ≢ []); stand_in = [] }
+about waits = record { Meaning = List ℕ; word = list_or_dash decimal; IsGood = AllByRecursion (IsNumberFrom 1); stand_in = [] }
+about split = record { Meaning = Bool; word = split_word; IsGood = λ b. Unit {0}; stand_in = false }
+about access = record { Meaning = PrivWord; word = access_word; IsGood = HasOperator; stand_in = privileges.Ro }
+about coherence = record { Meaning = Bool; word = coherence_word; IsGood = λ b. Unit {0}; stand_in = false }
+about layout = record { Meaning = InstKind; word = layout_word; IsGood = HoldsOperator; stand_in = instances.Plain }
+
+-- What a word of a class means.
+abbrev pub Meaning : Class → Type 0
+Meaning c = (about c).Meaning
+
+-- The one word of a class that has this meaning.
+abbrev pub word_of : (c : Class) → Meaning c → List ℕ
+word_of c m = (about c).word m
+
 -- What a class can mean.
 abbrev pub IsGood : (c : Class) → Meaning c → Type 0
-IsGood number n = IsNumberFrom 0 n
-IsGood id n = IsNumberFrom 1 n
-IsGood event n = IsNumberFrom 1 n
-IsGood points ps = AllByRecursion IsSpan ps × SpansAscend ps
-IsGood fields ns = AllByRecursion (IsNumberFrom 0) ns × Ascends ns × (ns ≢ [])
-IsGood waits ns = AllByRecursion (IsNumberFrom 1) ns
-IsGood split b = Unit {0}
-IsGood access a = HasOperator a
-IsGood coherence b = Unit {0}
-IsGood layout k = HoldsOperator k
+IsGood c m = (about c).IsGood m

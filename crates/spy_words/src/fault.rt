@@ -1,9 +1,10 @@
-//! What may be wrong with one line.
+//! What may be wrong with one line, and which fault is told of several.
 
 ghost use Rattle.std.specs.Prelude.{◌≡◌};
 ghost use Rattle.spy_words.specs.declared.fault.LineFault.TheVariants.{Memory};
+ghost use Rattle.spy_words.specs.Faults.{worse, kept, after};
 
-use std::alloc::{AllocError, AllocFailed};
+use std::alloc::AllocError;
 
 /// Why a line could not be read. Of several faults the first in this order is told.
 #[derive(Clone, Copy, Debug, PartialEq, Eq)]
@@ -28,10 +29,33 @@ impl From<AllocError> for LineFault {
     }
 }
 
-impl<T: Drop> From<AllocFailed<T>> for LineFault {
-    ghost from_gives = { λ _ e. e ≡ Memory };
+/// The fault that is told of two.
+pub fn worse_of(a: LineFault, b: LineFault) -> LineFault
+    ensures { result ≡ worse a b }
+{
+    if (b as u8) < (a as u8) { b } else { a }
+}
 
-    fn from(_e: AllocFailed<T>) -> LineFault {
-        LineFault::Memory
+/// The value that was read, or a stand-in and a fault more that was met.
+pub fn keep<T: Drop>(met: &mut Option<LineFault>, read: Result<T, LineFault>, other: T) -> T
+    ensures { kept met.old read other ≡ (result, met.new) }
+{
+    match read {
+        Ok(value) => value,
+        Err(fault) => {
+            *met = Some(met.map_or(fault, |first| worse_of(first, fault)));
+            other
+        }
+    }
+}
+
+/// What was read, unless a fault was met before that is told.
+pub fn told<T: Drop>(met: Option<LineFault>, read: Result<T, LineFault>) -> Result<T, LineFault>
+    ensures { result ≡ after met read }
+{
+    match (met, read) {
+        (None, read) => read,
+        (Some(first), Ok(_)) => Err(first),
+        (Some(first), Err(fault)) => Err(worse_of(first, fault)),
     }
 }

@@ -1,42 +1,36 @@
-//! Words, cut at a byte, and numbers.
+//! Single words: numbers, and words of a few fixed texts.
 
-ghost use Rattle.std.specs.Prelude.{◌≡◌, ◌==◌, map, option_map, IfOk};
-ghost use Rattle.std.specs.List.{slice_split};
-ghost use Rattle.spy_words.specs.Classes.{number, id, event};
-ghost use Rattle.spy_words.specs.Faults.{Gives};
-ghost use Rattle.spy_words.specs.Reading.{cut_at, is_digits, meaning_at, number_from};
+ghost use Rattle.std.specs.Prelude.{◌≡◌, ◌∷◌, [], ◌++◌, true, false, if◌then◌else◌, Err, IfOk, OnOk, codes, decimal, map};
+ghost use Rattle.spy_words.specs.declared.fault.LineFault.TheVariants.{Form};
+ghost use Rattle.std.specs.Char.{is_ascii_digit};
+ghost use Rattle.std.specs.List.{list_all};
+ghost use Rattle.spy_words.specs.Classes.{split_word, access, access_word, coherence_word, layout, layout_word};
+ghost use Rattle.spy_words.specs.Reading.{parts, meaning_at, number_from, operator_at, text_at};
 
+use crate::access::{InstKind, PrivWord};
 use crate::fault::LineFault;
-use memchr::memchr;
+use itoa::Buffer;
 use std::alloc::{AllocError, Global};
 
-/// The words of a line: its parts at each space.
-pub fn words_in(alloc: Global, line: &[u8]) -> Result<Vec<&[u8]>, AllocError>
-    ensures { IfOk result (λ v. map (λ w. w.now) v.items ≡ slice_split (λ b. b == 32) line.now) }
+/// The parts of a text, cut at each such byte.
+pub fn parts_of(alloc: Global, text: &[u8], byte: u8) -> Result<Vec<&[u8]>, AllocError>
+    ensures { IfOk result (λ v. map (λ w. w.now) v.items ≡ parts byte text.now) }
 {
-    line.split(|b| *b == b' ').collect(alloc)
-}
-
-/// The word before the first such byte, and the word after it.
-pub fn cut(word: &[u8], byte: u8) -> Option<(&[u8], &[u8])>
-    ensures { option_map (λ p. (p.0.now, p.1.now)) result ≡ cut_at byte word.now }
-{
-    let at = memchr(byte, word)?;
-    Some((&word[..at], &word[at + 1..]))
+    text.split(|b| *b == byte).collect(alloc)
 }
 
 fn all_digits(word: &[u8]) -> bool
-    ensures { result ≡ is_digits word.now }
+    ensures { result ≡ list_all is_ascii_digit word.now }
 {
-    !word.is_empty() && word.iter().all(|b| b.is_ascii_digit())
+    word.iter().all(|b| b.is_ascii_digit())
 }
 
 /// A number from the least up.
-#[tactic(auto, unfolding(crate::specs::Reading::number_from))]
-pub fn number_from_least(least: u32, word: &[u8]) -> Result<u32, LineFault>
+#[tactic(auto, using(crate::proofs::Numbers::value_more), unfolding(crate::specs::Reading::number_from))]
+pub fn number_of(least: u32, word: &[u8]) -> Result<u32, LineFault>
     ensures { result ≡ number_from least word.now }
 {
-    if !all_digits(word) {
+    if word.is_empty() || !all_digits(word) {
         return Err(LineFault::Form);
     }
     let mut value = 0u64;
@@ -49,26 +43,109 @@ pub fn number_from_least(least: u32, word: &[u8]) -> Result<u32, LineFault>
     Ok(value as u32)
 }
 
-/// A number.
-#[tactic(auto, using(crate::proofs::Gathering::gives_same), unfolding(crate::specs::Reading::meaning_at))]
-pub fn number_of(word: &[u8]) -> Result<u32, LineFault>
-    ensures { Gives (λ x. x) result (meaning_at number word.now) }
+/// Writes a number.
+pub fn push_u64(out: &mut Vec<u8>, n: u64) -> Result<(), AllocError>
+    ensures { OnOk result (out.new.items ≡ out.old.items ++ decimal n) }
 {
-    number_from_least(0, word)
+    let mut buffer = Buffer::new();
+    out.extend_from_slice(buffer.format(n).as_bytes())
 }
 
-/// An id.
-#[tactic(auto, using(crate::proofs::Gathering::gives_same), unfolding(crate::specs::Reading::meaning_at))]
-pub fn id_of(word: &[u8]) -> Result<u32, LineFault>
-    ensures { Gives (λ x. x) result (meaning_at id word.now) }
+/// Which of two texts the word is: the first for true, the second for false.
+pub fn either(word: &[u8], first: &[u8], second: &[u8]) -> Result<bool, LineFault>
+    ensures { result ≡ text_at (λ b. if b then first.now else second.now) (true ∷ false ∷ []) word.now (Err Form) }
 {
-    number_from_least(1, word)
+    if word == first {
+        Ok(true)
+    } else if word == second {
+        Ok(false)
+    } else {
+        Err(LineFault::Form)
+    }
 }
 
-/// An event.
-#[tactic(auto, using(crate::proofs::Gathering::gives_same), unfolding(crate::specs::Reading::meaning_at))]
-pub fn event_of(word: &[u8]) -> Result<u32, LineFault>
-    ensures { Gives (λ x. x) result (meaning_at event word.now) }
+/// The word for whether a partition is disjoint.
+pub fn split_text(disjoint: bool) -> &'static [u8]
+    ensures { result.now ≡ split_word disjoint }
 {
-    number_from_least(1, word)
+    if disjoint { b"disjoint" } else { b"aliased" }
+}
+
+/// The word for whether coherence is atomic.
+pub fn coherence_text(atomic: bool) -> &'static [u8]
+    ensures { result.now ≡ coherence_word atomic }
+{
+    if atomic { b"at" } else { b"ex" }
+}
+
+/// The operator of a reduction.
+#[tactic(auto, unfolding(crate::specs::Reading::operator_at))]
+fn operator_of(word: &[u8]) -> Result<u32, LineFault>
+    ensures { result ≡ operator_at word.now }
+{
+    if word.starts_with(b"red:") {
+        number_of(1, &word[4..])
+    } else {
+        Err(LineFault::Form)
+    }
+}
+
+fn push_operator(out: &mut Vec<u8>, operator: u32) -> Result<(), AllocError>
+    ensures { OnOk result (out.new.items ≡ out.old.items ++ codes "red:" ++ decimal operator) }
+{
+    out.extend_from_slice(b"red:")?;
+    push_u64(out, u64::from(operator))
+}
+
+/// A privilege.
+#[tactic(auto, unfolding(crate::specs::Reading::meaning_at))]
+pub fn access_of(word: &[u8]) -> Result<PrivWord, LineFault>
+    ensures { result ≡ meaning_at access word.now }
+{
+    if word == b"ro".as_slice() {
+        Ok(PrivWord::Ro)
+    } else if word == b"rw".as_slice() {
+        Ok(PrivWord::Rw)
+    } else if word == b"wd".as_slice() {
+        Ok(PrivWord::Wd)
+    } else {
+        Ok(PrivWord::Red(operator_of(word)?))
+    }
+}
+
+/// Writes a privilege.
+pub fn push_access(out: &mut Vec<u8>, access: PrivWord) -> Result<(), AllocError>
+    ensures { OnOk result (out.new.items ≡ out.old.items ++ access_word access) }
+{
+    match access {
+        PrivWord::Ro => out.extend_from_slice(b"ro"),
+        PrivWord::Rw => out.extend_from_slice(b"rw"),
+        PrivWord::Wd => out.extend_from_slice(b"wd"),
+        PrivWord::Red(operator) => push_operator(out, operator),
+    }
+}
+
+/// A kind of instance.
+#[tactic(auto, unfolding(crate::specs::Reading::meaning_at))]
+pub fn layout_of(word: &[u8]) -> Result<InstKind, LineFault>
+    ensures { result ≡ meaning_at layout word.now }
+{
+    if word == b"plain".as_slice() {
+        Ok(InstKind::Plain)
+    } else if word == b"home".as_slice() {
+        Ok(InstKind::Home)
+    } else {
+        Ok(InstKind::Red(operator_of(word)?))
+    }
+}
+
+/// Writes a kind of instance.
+pub fn push_layout(out: &mut Vec<u8>, layout: InstKind) -> Result<(), AllocError>
+    ensures { OnOk result (out.new.items ≡ out.old.items ++ layout_word layout) }
+{
+    match layout {
+        InstKind::Plain => out.extend_from_slice(b"plain"),
+        InstKind::Home => out.extend_from_slice(b"home"),
+        InstKind::Red(operator) => push_operator(out, operator),
+    }
 }

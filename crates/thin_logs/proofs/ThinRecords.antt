@@ -17,11 +17,11 @@ no_operator true = tt
 no_operator false = tt
 
 good_req : (i : ℕ) (w : Bool) → 1 ≤ i → i < 2 ^ 32 → Good (records.Req i 1 1 (1 ∷ []) (access_of w) false)
-good_req i w lo hi = ((lo, hi), (omega arith, omega arith), (omega arith, omega arith), (((omega arith, omega arith), tt), tt, λ e. cc e), no_operator w, tt)
+good_req i w lo hi = ((lo, hi), ((omega arith, omega arith), ((omega arith, omega arith), ((((omega arith, omega arith), tt), refl, λ e. cc e), (no_operator w, (tt, tt))))))
 
 good_tasks : (i : ℕ) (ts : List ThinTask) → 1 ≤ i → i + length ts < 2 ^ 32 → AllByRecursion Good (task_records i ts)
 good_tasks i [] lo hi = tt
-good_tasks i (t ∷ ts) lo hi = ((lo, omega arith), (good_req i t.writes lo (omega arith), good_tasks (i + 1) ts (omega arith) (omega arith)))
+good_tasks i (t ∷ ts) lo hi = (((lo, omega arith), tt), (good_req i t.writes lo (omega arith), good_tasks (i + 1) ts (omega arith) (omega arith)))
 
 good_waits : (i : ℕ) (ws : List ℕ) → i < 2 ^ 32 → AllByRecursion (λ w. (1 ≤ w) × (w < i)) ws → AllByRecursion (IsNumberFrom 1) ws
 good_waits i [] hi h = tt
@@ -29,20 +29,20 @@ good_waits i (w ∷ ws) hi h = ((h.0.0, omega (arith, h.0.1)), good_waits i ws h
 
 good_runs : (i : ℕ) (ts : List ThinTask) → 1 ≤ i → i + length ts < 2 ^ 32 → WaitsBack i ts → AllByRecursion Good (run_records i ts)
 good_runs i [] lo hi h = tt
-good_runs i (t ∷ ts) lo hi h = (((lo, omega arith), (lo, omega arith), good_waits i t.waits (omega arith) h.0), good_runs (i + 1) ts (omega arith) (omega arith) h.1)
+good_runs i (t ∷ ts) lo hi h = (((lo, omega arith), ((lo, omega arith), (good_waits i t.waits (omega arith) h.0, tt))), good_runs (i + 1) ts (omega arith) (omega arith) h.1)
 
 pub thin_good : (thin : ThinLog) → IsThin thin → AllByRecursion Good (thin_records thin)
 thin_good thin h =
     let tasks = good_tasks 1 thin.tasks (omega arith) (omega (arith, h.few_tasks)) in
     let runs = good_runs 1 thin.tasks (omega arith) (omega (arith, h.few_tasks)) h.back in
-    let end : Good (records.End (3 + 3 * length thin.tasks)) = (omega arith, omega (arith, h.few_tasks)) in (
-      (omega arith, omega arith),
+    let end : Good (records.End (3 + 3 * length thin.tasks)) = ((omega arith, omega (arith, h.few_tasks)), tt) in (
+      ((omega arith, omega arith), tt),
       (
-        ((omega arith, omega arith), (((omega arith, omega (arith, h.few_points)), tt), tt)),
+        ((omega arith, omega arith), ((((omega arith, omega (arith, h.few_points)), tt), refl), tt)),
         (
-          ((omega arith, omega arith), (((omega arith, omega arith), tt), tt, λ e. cc e)),
+          ((omega arith, omega arith), ((((omega arith, omega arith), tt), refl, λ e. cc e), tt)),
           (
-            ((omega arith, omega arith), (omega arith, omega arith), (omega arith, omega arith)),
+            ((omega arith, omega arith), ((omega arith, omega arith), ((omega arith, omega arith), tt))),
             good_append (task_records 1 thin.tasks) (run_records 1 thin.tasks ++ records.End (3 + 3 * length thin.tasks) ∷ []) tasks (good_append (run_records 1 thin.tasks) (records.End (3 + 3 * length thin.tasks) ∷ []) runs (end, tt)),
           ),
         ),

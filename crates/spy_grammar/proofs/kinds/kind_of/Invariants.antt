@@ -1,6 +1,11 @@
-use Rattle.std.proofs.Common.{◌≡◌, drop}
-use Rattle.spy_grammar.specs.Rows.{kind_among, kind_at, all_kinds}
+use Rattle.std.proofs.Common.{◌≡◌, Err, length}
+use Rattle.spy_words.specs.declared.fault.LineFault.TheVariants.{Word}
+use Rattle.spy_words.specs.Reading.{text_at}
+use Rattle.spy_grammar.specs.Rows.{entry, kind_at}
 use Rattle.spy_grammar.proofs.kinds.kind_of.Given as goal
 
-abbrev pub invariant-loop-kind : goal.invariant-loop-kind
-invariant-loop-kind l = kind_among (drop l.kind-index all_kinds) l.word ≡ kind_at l.word
+abbrev pub invariant-loop-rest : goal.invariant-loop-rest
+invariant-loop-rest l = text_at (λ k. (entry k).name) l.rest l.word (Err Word) ≡ kind_at l.word
+
+abbrev pub decreases-loop-rest : goal.decreases-loop-rest
+decreases-loop-rest l = length l.rest

@@ -1,0 +1,159 @@
+//! The words after the first, read one after the other.
+#![tactic(auto, unfolding(crate::specs::WordByWord::read_word, crate::specs::WordByWord::read_ids, spy_words::specs::Reading::meaning_at))]
+
+ghost use Rattle.std.specs.Prelude.{◌≡◌, ◌∷◌, [], IfOk, None, map, drop};
+ghost use Rattle.spy_words.specs.declared.fault.LineFault.TheVariants.{Form};
+ghost use Rattle.spy_words.specs.Classes.{number, id, event, points, fields, waits, split, access, coherence, layout};
+ghost use Rattle.spy_grammar.specs.WordByWord.{Left, read_word, read_ids, ended, next_word};
+
+use spy_words::{
+    InstKind, LineFault, Nums, PrivWord, Set, access_of, coherence_text, either, fields_of, ids_of,
+    keep, layout_of, number_of, points_of, split_text, told, waits_of,
+};
+use std::alloc::{AllocError, Global};
+use std::marker::Model;
+
+/// The words that are still to be read, and the fault that was met before them. Each call reads
+/// the next word by its class. Where the word has a fault, a stand-in is given, and `end` tells
+/// the fault.
+#[derive(Drop)]
+pub struct RowReader<'a> {
+    alloc: Global,
+    words: &'a [&'a [u8]],
+    met: Option<LineFault>,
+}
+
+impl<'a> Model for RowReader<'a> {
+    ghost use Rattle.std.specs.Prelude.{map};
+    ghost use Rattle.spy_grammar.specs.WordByWord.{Left};
+
+    ghost Value = { Left };
+
+    ghost view = { λ r. record { words = map (λ w. w.now) r.words.now; met = r.met } };
+}
+
+impl<'a> RowReader<'a> {
+    /// All words are still to be read.
+    pub fn new(alloc: Global, words: &'a [&'a [u8]]) -> RowReader<'a>
+        ensures { result ≡ record { words = map (λ w. w.now) words.now; met = None } }
+    {
+        RowReader {
+            alloc,
+            words,
+            met: None,
+        }
+    }
+
+    /// The next word. Past the last it is the empty word, which has no shape in any class.
+    fn next(&mut self) -> &'a [u8]
+        ensures word { result.now ≡ next_word self.old.words }
+        ensures rest { self.new ≡ record self.old { words = drop 1 self.old.words } }
+    {
+        let [word, rest @ ..] = self.words else {
+            return b"";
+        };
+        self.words = rest;
+        word
+    }
+
+    /// A number.
+    pub fn number(&mut self) -> u32
+        ensures { read_word number self.old ≡ (result, self.new) }
+    {
+        let read = number_of(0, self.next());
+        keep(&mut self.met, read, 0)
+    }
+
+    /// An id.
+    pub fn id(&mut self) -> u32
+        ensures { read_word id self.old ≡ (result, self.new) }
+    {
+        let read = number_of(1, self.next());
+        keep(&mut self.met, read, 0)
+    }
+
+    /// An event.
+    pub fn event(&mut self) -> u32
+        ensures { read_word event self.old ≡ (result, self.new) }
+    {
+        let read = number_of(1, self.next());
+        keep(&mut self.met, read, 0)
+    }
+
+    /// A set of points.
+    pub fn points(&mut self) -> Result<Set, AllocError>
+        ensures { IfOk result (λ x. read_word points self.old ≡ (x, self.new)) }
+    {
+        let read = points_of(self.alloc, self.next())?;
+        Ok(keep(&mut self.met, read, Set::from_pairs(Vec::new(self.alloc))))
+    }
+
+    /// Fields.
+    pub fn fields(&mut self) -> Result<Nums, AllocError>
+        ensures { IfOk result (λ x. read_word fields self.old ≡ (x, self.new)) }
+    {
+        let read = fields_of(self.alloc, self.next())?;
+        Ok(keep(&mut self.met, read, Nums::from_vec(Vec::new(self.alloc))))
+    }
+
+    /// Events, or none.
+    pub fn waits(&mut self) -> Result<Nums, AllocError>
+        ensures { IfOk result (λ x. read_word waits self.old ≡ (x, self.new)) }
+    {
+        let read = waits_of(self.alloc, self.next())?;
+        Ok(keep(&mut self.met, read, Nums::from_vec(Vec::new(self.alloc))))
+    }
+
+    /// Whether a partition is disjoint.
+    pub fn split(&mut self) -> bool
+        ensures { read_word split self.old ≡ (result, self.new) }
+    {
+        let read = either(self.next(), split_text(true), split_text(false));
+        keep(&mut self.met, read, false)
+    }
+
+    /// A privilege.
+    pub fn access(&mut self) -> PrivWord
+        ensures { read_word access self.old ≡ (result, self.new) }
+    {
+        let read = access_of(self.next());
+        keep(&mut self.met, read, PrivWord::Ro)
+    }
+
+    /// Whether coherence is atomic.
+    pub fn coherence(&mut self) -> bool
+        ensures { read_word coherence self.old ≡ (result, self.new) }
+    {
+        let read = either(self.next(), coherence_text(true), coherence_text(false));
+        keep(&mut self.met, read, false)
+    }
+
+    /// A kind of instance.
+    pub fn layout(&mut self) -> InstKind
+        ensures { read_word layout self.old ≡ (result, self.new) }
+    {
+        let read = layout_of(self.next());
+        keep(&mut self.met, read, InstKind::Plain)
+    }
+
+    /// All words that are left, as ids.
+    pub fn ids(&mut self) -> Result<Nums, AllocError>
+        ensures { IfOk result (λ x. read_ids self.old ≡ (x, self.new)) }
+    {
+        let read = ids_of(self.alloc, self.words)?;
+        self.words = &[];
+        Ok(keep(&mut self.met, read, Nums::from_vec(Vec::new(self.alloc))))
+    }
+
+    /// What was read, unless a fault was met or words are left.
+    pub fn end<T: Drop>(self, value: T) -> Result<T, LineFault>
+        ensures { result ≡ ended (value, self.entry) }
+    {
+        let read = if self.words.is_empty() {
+            Ok(value)
+        } else {
+            Err(LineFault::Form)
+        };
+        told(self.met, read)
+    }
+}

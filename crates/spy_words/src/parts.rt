@@ -1,0 +1,252 @@
+//! Words that hold a list: numbers, or runs of points.
+
+ghost use Rattle.std.specs.Prelude.{◌≡◌, ◌↔◌, ◌++◌, ◌∷◌, IsTrue, IfOk, OnOk, map, decimal, nat_lt, List, ℕ, Bool, Result};
+ghost use Rattle.std.specs.List.{AllByRecursion};
+ghost use Rattle.spy_words.specs.declared.fault.LineFault.{LineFault};
+ghost use Rattle.spy_words.specs.Classes.{ascends, points, fields, waits, follow, span_before, span_word, list_word, list_or_dash, IsNumberFrom, IsSpan};
+ghost use Rattle.spy_words.specs.Faults.{each, in_order, map_ok};
+ghost use Rattle.spy_words.specs.Reading.{ids_at, list_at, meaning_at, number_from, span_among, span_at};
+
+use crate::fault::{LineFault, keep, told, worse_of};
+use crate::lists::{Nums, Set};
+use crate::words::{number_of, parts_of, push_u64};
+use std::alloc::{AllocError, Global};
+
+/// What is read of some text, where memory suffices.
+pub type Read<T> = Result<Result<T, LineFault>, AllocError>;
+
+/// A part of a list: a number, or a run of points.
+pub trait Part: Copy + Default + Drop {
+    /// The part that a word says, its numbers from a least one on.
+    ghost reading: { ℕ → List ℕ → Result Self LineFault };
+    ghost text: { Self → List ℕ };
+    ghost IsFit: { ℕ → Self → Type 0 };
+    ghost before: { Self → Self → Bool };
+
+    /// The part that a word says, its numbers from the least up.
+    fn read(alloc: Global, least: u32, word: &[u8]) -> Read<Self>
+        ensures { IfOk result (λ read. read ≡ reading least word.now) };
+
+    /// Writes the part.
+    fn push(self, out: &mut Vec<u8>) -> Result<(), AllocError>
+        ensures { OnOk result (out.new.items ≡ out.old.items ++ text self) };
+
+    /// Whether the part has a spelling, its numbers from the least up.
+    fn is_fit(self, least: u32) -> bool
+        ensures { IsTrue result ↔ IsFit least self };
+
+    /// Whether the part may stand before another in an ascending list.
+    fn is_before(self, next: Self) -> bool
+        ensures { result ≡ before self next };
+}
+
+impl Part for u32 {
+    ghost reading = { number_from };
+    ghost text = { decimal };
+    ghost IsFit = { IsNumberFrom };
+    ghost before = { nat_lt };
+
+    fn read(_alloc: Global, least: u32, word: &[u8]) -> Read<u32> {
+        Ok(number_of(least, word))
+    }
+
+    fn push(self, out: &mut Vec<u8>) -> Result<(), AllocError> {
+        push_u64(out, u64::from(self))
+    }
+
+    fn is_fit(self, least: u32) -> bool {
+        least <= self
+    }
+
+    fn is_before(self, next: u32) -> bool {
+        self < next
+    }
+}
+
+impl Part for (u64, u64) {
+    ghost reading = { λ _ w. span_at w };
+    ghost text = { span_word };
+    ghost IsFit = { λ _ p. IsSpan p };
+    ghost before = { span_before };
+
+    #[tactic(auto, unfolding(crate::specs::Reading::span_at))]
+    fn read(alloc: Global, _least: u32, word: &[u8]) -> Read<(u64, u64)> {
+        Ok(span_of(&parts_of(alloc, word, b'-')?))
+    }
+
+    fn push(self, out: &mut Vec<u8>) -> Result<(), AllocError> {
+        push_u64(out, self.0)?;
+        if self.0 == self.1 {
+            return Ok(());
+        }
+        out.push(b'-')?;
+        push_u64(out, self.1)
+    }
+
+    fn is_fit(self, _least: u32) -> bool {
+        self.0 <= self.1 && self.1 < 1 << 32
+    }
+
+    fn is_before(self, next: (u64, u64)) -> bool {
+        self.1 < next.0
+    }
+}
+
+/// A run of points, from its words.
+fn span_of(words: &[&[u8]]) -> Result<(u64, u64), LineFault>
+    ensures { result ≡ span_among (map (λ w. w.now) words.now) }
+{
+    match words {
+        [only] => {
+            let point = u64::from(number_of(0, only)?);
+            Ok((point, point))
+        }
+        [first, last] => match (number_of(0, first), number_of(0, last)) {
+            (Ok(first), Ok(last)) if first < last => Ok((u64::from(first), u64::from(last))),
+            (Ok(_), Ok(_)) => Err(LineFault::Order),
+            (Err(fault), Ok(_)) | (Ok(_), Err(fault)) => Err(fault),
+            (Err(first), Err(last)) => Err(worse_of(first, last)),
+        },
+        _ => Err(LineFault::Form),
+    }
+}
+
+/// What each word says.
+#[tactic(auto, using(crate::proofs::Faulty::each_end))]
+fn each_of<T: Part>(alloc: Global, least: u32, words: &[&[u8]]) -> Read<Vec<T>>
+    ensures { IfOk result (λ read. map_ok (λ v. v.items) read ≡ each (T.reading least) (map (λ w. w.now) words.now)) }
+{
+    let mut met = None;
+    let mut items = Vec::new(alloc);
+    let mut rest = words;
+    while let [word, more @ ..] = rest {
+        let read = T::read(alloc, least, word)?;
+        items.push(keep(&mut met, read, T::default()))?;
+        rest = more;
+    }
+    Ok(told(met, Ok(items)))
+}
+
+/// The parts between commas.
+#[tactic(auto, unfolding(crate::specs::Reading::list_at))]
+fn list_of<T: Part>(alloc: Global, least: u32, word: &[u8]) -> Read<Vec<T>>
+    ensures { IfOk result (λ read. map_ok (λ v. v.items) read ≡ list_at (T.reading least) word.now) }
+{
+    each_of(alloc, least, &parts_of(alloc, word, b',')?)
+}
+
+/// Whether each part stands before the next.
+pub fn ascend<T: Part>(parts: &[T]) -> bool
+    ensures { result ≡ ascends T.before parts.now }
+{
+    let [first, rest @ ..] = parts else {
+        return true;
+    };
+    let mut last = *first;
+    let mut rest = rest;
+    while let [next, more @ ..] = rest {
+        if !last.is_before(*next) {
+            return false;
+        }
+        last = *next;
+        rest = more;
+    }
+    true
+}
+
+/// Whether each part has a spelling, its numbers from the least up.
+pub fn are_fit<T: Part>(least: u32, parts: &[T]) -> bool
+    ensures { IsTrue result ↔ AllByRecursion (T.IsFit least) parts.now }
+{
+    let mut rest = parts;
+    while let [part, more @ ..] = rest {
+        if !part.is_fit(least) {
+            return false;
+        }
+        rest = more;
+    }
+    true
+}
+
+/// Writes each part, with a byte before it.
+#[tactic(auto, using(std::proofs::Common::append_assoc))]
+pub fn push_after<T: Part>(out: &mut Vec<u8>, byte: u8, parts: &[T]) -> Result<(), AllocError>
+    ensures { OnOk result (out.new.items ≡ out.old.items ++ follow byte (map T.text parts.now)) }
+{
+    let mut rest = parts;
+    while let [part, more @ ..] = rest {
+        out.push(byte)?;
+        part.push(out)?;
+        rest = more;
+    }
+    Ok(())
+}
+
+/// Writes a list.
+#[tactic(auto, using(crate::proofs::Joins::join_follow, std::proofs::Common::append_assoc))]
+pub fn push_list<T: Part>(out: &mut Vec<u8>, parts: &[T]) -> Result<(), AllocError>
+    ensures { OnOk result (out.new.items ≡ out.old.items ++ list_word T.text parts.now) }
+{
+    let Some((first, rest)) = parts.split_first() else {
+        return Ok(());
+    };
+    first.push(out)?;
+    push_after(out, b',', rest)
+}
+
+/// Writes a list, or a dash for none.
+pub fn push_or_dash<T: Part>(out: &mut Vec<u8>, parts: &[T]) -> Result<(), AllocError>
+    ensures { OnOk result (out.new.items ≡ out.old.items ++ list_or_dash T.text parts.now) }
+{
+    if parts.is_empty() {
+        out.push(b'-')?;
+        return Ok(());
+    }
+    push_list(out, parts)
+}
+
+/// A set of points.
+#[tactic(auto, unfolding(crate::specs::Reading::meaning_at))]
+pub fn points_of(alloc: Global, word: &[u8]) -> Read<Set>
+    ensures { IfOk result (λ read. read ≡ meaning_at points word.now) }
+{
+    if word == b"-".as_slice() {
+        return Ok(Ok(Set::from_pairs(Vec::new(alloc))));
+    }
+    Ok(match list_of(alloc, 0, word)? {
+        Ok(spans) if !ascend(&spans) => Err(LineFault::Order),
+        read => read.map(Set::from_pairs),
+    })
+}
+
+/// Fields, which ascend.
+#[tactic(auto, unfolding(crate::specs::Reading::meaning_at))]
+pub fn fields_of(alloc: Global, word: &[u8]) -> Read<Nums>
+    ensures { IfOk result (λ read. read ≡ meaning_at fields word.now) }
+{
+    Ok(match list_of(alloc, 0, word)? {
+        Ok(numbers) if !ascend(&numbers) => Err(LineFault::Order),
+        read => read.map(Nums::from_vec),
+    })
+}
+
+/// Events, or none.
+#[tactic(auto, unfolding(crate::specs::Reading::meaning_at))]
+pub fn waits_of(alloc: Global, word: &[u8]) -> Read<Nums>
+    ensures { IfOk result (λ read. read ≡ meaning_at waits word.now) }
+{
+    if word == b"-".as_slice() {
+        return Ok(Ok(Nums::from_vec(Vec::new(alloc))));
+    }
+    Ok(list_of(alloc, 1, word)?.map(Nums::from_vec))
+}
+
+/// The ids that these words are, at least one.
+pub fn ids_of(alloc: Global, words: &[&[u8]]) -> Read<Nums>
+    ensures { IfOk result (λ read. read ≡ ids_at (map (λ w. w.now) words.now)) }
+{
+    if words.is_empty() {
+        return Ok(Err(LineFault::Form));
+    }
+    Ok(each_of(alloc, 1, words)?.map(Nums::from_vec))
+}
