@@ -1,10 +1,10 @@
 -- Lists in which nothing stands twice.
-use Rattle.std.proofs.Common.{◌≡◌, ◌≢◌, ℕ, zero, suc, ◌<◌, ◌≤◌, ◌+◌, ◌-◌, inl, inr, Bool, List, [], ◌∷◌, ◌++◌, cond, refl, sym, ap, ◌∙◌, subst, append-nil, arith, get_or, AllPairs}
-use Rattle.std.specs.Prelude.{map, flat_map, filter}
-use Rattle.std.proofs.lemmas.Bool.{cases_Bool, cases_eq}
+use Rattle.std.proofs.Common.{◌≡◌, ◌≢◌, true, ℕ, zero, suc, ◌<◌, ◌≤◌, ◌+◌, ◌-◌, inl, inr, Bool, List, [], ◌∷◌, ◌++◌, cond, refl, sym, ap, ◌∙◌, subst, append-nil, arith, get_or, AllPairs}
+use Rattle.std.specs.Prelude.{map, flat_map, filter, nat_lt}
+use Rattle.std.proofs.lemmas.Bool.{and_parts, ltb-true, cases_Bool, cases_eq}
 use Rattle.std.proofs.lemmas.List.Elements.{Contains-get_or}
 use Rattle.std.proofs.lemmas.List.Kept.{AllPairs-cons}
-use Rattle.spy_words.specs.Classes.{Ascends, SpansAscend, IsSpan}
+use Rattle.spy_words.specs.Classes.{ascends, span_before, IsSpan}
 use Rattle.std.specs.List.{AllByRecursion}
 use Rattle.semantics.specs.Tables.{numbers_from, points_of}
 use Rattle.semantics.specs.Kinds.{grid}
@@ -98,30 +98,34 @@ numbers_apart first zero = tt
 numbers_apart first (suc n) = (λ m. omega (arith, (number_between (first + 1) n first m).0), numbers_apart (first + 1) n)
 
 -- The points of a set that is spelled are not below its first.
-point_after : (p : ℕ × ℕ) (ps : List (ℕ × ℕ)) → AllByRecursion IsSpan (p ∷ ps) → SpansAscend (p ∷ ps) → (x : ℕ) → Member (points_of (p ∷ ps)) x → p.0 ≤ x
+point_after : (p : ℕ × ℕ) (ps : List (ℕ × ℕ)) → AllByRecursion IsSpan (p ∷ ps) → ascends span_before (p ∷ ps) ≡ true → (x : ℕ) → Member (points_of (p ∷ ps)) x → p.0 ≤ x
 point_after p [] good up x m = elim (member_append (numbers_from p.0 (p.1 + 1 - p.0)) [] x m) [ inl l ↦ (number_between p.0 (p.1 + 1 - p.0) x l).0 | inr none ↦ absurd none ]
 point_after p (q ∷ ps) good up x m = elim (member_append (numbers_from p.0 (p.1 + 1 - p.0)) (points_of (q ∷ ps)) x m) [
   | inl l ↦ (number_between p.0 (p.1 + 1 - p.0) x l).0
-  | inr r ↦ let later = point_after q ps good.1 up.1 x r in omega (arith, later, up.0, good.0.0)
+  | inr r ↦ let parts = and_parts (span_before p q) (ascends span_before (q ∷ ps)) up in let later = point_after q ps good.1 parts.1 x r in omega (arith, later, ltb-true p.1 q.0 parts.0, good.0.0)
 ]
 
-pub points_apart : (ps : List (ℕ × ℕ)) → AllByRecursion IsSpan ps → SpansAscend ps → Apart (points_of ps)
+pub points_apart : (ps : List (ℕ × ℕ)) → AllByRecursion IsSpan ps → ascends span_before ps ≡ true → Apart (points_of ps)
 points_apart [] good up = tt
 points_apart (p ∷ []) good up = subst Apart (sym (append-nil (numbers_from p.0 (p.1 + 1 - p.0)))) (numbers_apart p.0 (p.1 + 1 - p.0))
-points_apart (p ∷ q ∷ ps) good up = apart_append (numbers_from p.0 (p.1 + 1 - p.0)) (points_of (q ∷ ps)) (numbers_apart p.0 (p.1 + 1 - p.0)) (points_apart (q ∷ ps) good.1 up.1)
-    (λ x m n. let low = number_between p.0 (p.1 + 1 - p.0) x m in let high = point_after q ps good.1 up.1 x n in omega (arith, low.1, high, up.0, good.0.0))
+points_apart (p ∷ q ∷ ps) good up =
+    let parts = and_parts (span_before p q) (ascends span_before (q ∷ ps)) up in
+    apart_append (numbers_from p.0 (p.1 + 1 - p.0)) (points_of (q ∷ ps)) (numbers_apart p.0 (p.1 + 1 - p.0)) (points_apart (q ∷ ps) good.1 parts.1)
+    (λ x m n. let low = number_between p.0 (p.1 + 1 - p.0) x m in let high = point_after q ps good.1 parts.1 x n in omega (arith, low.1, high, ltb-true p.1 q.0 parts.0, good.0.0))
 
 -- ---- fields
 
-field_after : (n : ℕ) (ns : List ℕ) → Ascends (n ∷ ns) → (m : ℕ) → Member ns m → n < m
+field_after : (n : ℕ) (ns : List ℕ) → ascends nat_lt (n ∷ ns) ≡ true → (m : ℕ) → Member ns m → n < m
 field_after n [] up m h = absurd h
-field_after n (k ∷ ns) up m (inl e) = omega (arith, up.0, e)
-field_after n (k ∷ ns) up m (inr h) = omega (arith, up.0, field_after k ns up.1 m h)
+field_after n (k ∷ ns) up m h =
+    let parts = and_parts (nat_lt n k) (ascends nat_lt (k ∷ ns)) up in
+    let first : n < k = ltb-true n k parts.0 in
+    elim h [ inl e ↦ omega (arith, first, e) | inr later ↦ omega (arith, first, field_after k ns parts.1 m later) ]
 
-pub fields_apart : (ns : List ℕ) → Ascends ns → Apart ns
+pub fields_apart : (ns : List ℕ) → ascends nat_lt ns ≡ true → Apart ns
 fields_apart [] up = tt
 fields_apart (n ∷ []) up = (λ m. m, tt)
-fields_apart (n ∷ k ∷ ns) up = (λ m. omega (arith, field_after n (k ∷ ns) up n m), fields_apart (k ∷ ns) up.1)
+fields_apart (n ∷ k ∷ ns) up = (λ m. omega (arith, field_after n (k ∷ ns) up n m), fields_apart (k ∷ ns) (and_parts (nat_lt n k) (ascends nat_lt (k ∷ ns)) up).1)
 
 pub grid_apart : (points fields : List ℕ) → Apart points → Apart fields → Apart (grid points fields)
 grid_apart points fields p f = apart_flat (λ x. map (λ g. (x, g)) fields) points (λ x m. apart_map (λ g. (x, g)) fields (λ a b e. ap (λ (q : ℕ × ℕ). q.1) e) f)
