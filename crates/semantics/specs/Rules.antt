@@ -208,7 +208,7 @@ is_of_wrong_tree t (Copy src dst space fields done waits) = not (is_of_tree t (t
 is_of_wrong_tree t (Fold src dst space fields done waits) = not (is_of_tree t (tree_of_inst t src) dst)
 is_of_wrong_tree t _ = false
 
--- Whether a requirement with this privilege may be mapped to an instance of this kind: a reduction to all but a reduction instance of another operator, and all others to none but reduction instances.
+-- Whether a requirement with this privilege may be mapped to an instance of this kind: a reduction to any but a reduction instance of another operator, and all others to any but a reduction instance.
 abbrev pub fits : Priv → InstKind → Bool
 fits (privileges.Red op) (layouts.Red other) = op == other
 fits (privileges.Red op) kind = true
