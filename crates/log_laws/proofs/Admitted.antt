@@ -91,11 +91,3 @@ pub all_mapped : (log : List Lined) → IsFaultless Check log → (r : Req) (fie
 all_mapped log f r field m is =
     let none : not (list_all (λ n. is_some (mapped (tables_of log) r n)) r.fields) ≡ false = none_found (λ (r : Req). not (list_all (λ n. is_some (mapped (tables_of log) r n)) r.fields)) (tables_of log).reqs r (unmapped_none _ _ f.maps) m in
     all_at (λ n. is_some (mapped (tables_of log) r n)) r.fields field (not-false _ none) is
-
-held_is_good : (line : ℕ) (lines : List (List ℕ)) (log : List Lined) → Hold line lines log → AllByRecursion Good (records_of log)
-held_is_good line [] log h = subst (λ ls. AllByRecursion Good (records_of ls)) (sym h) tt
-held_is_good line (l ∷ lines) log (inl h) = held_is_good (line + 1) lines log h.1
-held_is_good line (l ∷ lines) log (inr h) = subst (λ ls. AllByRecursion Good (records_of ls)) (sym h.4) (h.2, held_is_good (line + 1) lines h.1 h.5)
-
-pub read_is_good : (bytes : List ℕ) (log : List Lined) → Reads bytes log → AllByRecursion Good (records_of log)
-read_is_good bytes log h = held_is_good 1 _ log h.hold

@@ -12,5 +12,6 @@ pub mod Strict
 pub mod StepLists
 pub mod Tidy
 pub mod MovesApart
+pub mod ReadLogs
 pub mod Linked
 pub mod Replay

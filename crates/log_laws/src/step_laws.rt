@@ -6,7 +6,7 @@ ghost use Rattle.value_terms.specs.Values.{Value};
 ghost use Rattle.spy_grammar.specs.declared.record.Lined.{Lined};
 ghost use Rattle.spy_grammar.specs.Spelling.{Good};
 ghost use Rattle.semantics.specs.declared.places.Cell.{Cell};
-ghost use Rattle.semantics.specs.Records.{Reads, records_of};
+ghost use Rattle.semantics.specs.Records.{records_of};
 ghost use Rattle.semantics.specs.Tables.{tables_of};
 ghost use Rattle.semantics.specs.Events.{AreLinked, graph_of};
 ghost use Rattle.semantics.specs.Steps.{Step};
@@ -19,11 +19,6 @@ ghost use Rattle.semantics.specs.Outcome.{HasNoCycle};
 
 use crate::answer_laws::one_answer;
 use semantics::nodes_are_of_records;
-
-/// The records of a log that is read are good.
-pub fn read_logs_are_good()
-    ensures { (bytes : List ℕ) (log : List Lined) → Reads bytes log → AllByRecursion Good (records_of log) }
-{}
 
 /// The nodes have different events, and wait on events of nodes alone.
 pub fn faultless_logs_are_linked()

@@ -15,6 +15,15 @@ text_of (r ∷ rs) = spelling r ++ 10 ∷ text_of rs
 abbrev pub records_of : List Lined → List Record
 records_of log = map (λ (l : Lined). l.rec) log
 
+-- A log of these records, each on a line of its own, from this line on.
+abbrev pub lined_from : ℕ → List Record → List Lined
+lined_from line [] = []
+lined_from line (r ∷ rs) = record { line = line; rec = r } ∷ lined_from (line + 1) rs
+
+-- The log that has these records and nothing else.
+abbrev pub lined : List Record → List Lined
+lined rs = lined_from 1 rs
+
 -- The parts of an input at each line feed: its lines, and at last what stands behind the last line feed.
 abbrev pub parts_of : List ℕ → List (List ℕ)
 parts_of bytes = slice_split (λ b. b == 10) bytes

@@ -1,23 +1,15 @@
--- Worked logs, by their records. Each stands on its line: the first on line 1.
-use Rattle.std.specs.Prelude.{ℕ, ◌+◌, Bool, true, false, List, [], ◌∷◌, ◌++◌}
+-- Worked logs, by their records.
+use Rattle.std.specs.Prelude.{ℕ, Bool, true, false, List, [], ◌∷◌, ◌++◌}
 use Rattle.spy_words.specs.declared.access.PrivWord.{PrivWord}
 use Rattle.spy_words.specs.declared.access.PrivWord.TheVariants.{Ro, Rw, Wd, Red}
 use Rattle.spy_words.specs.declared.access.InstKind.TheVariants as layouts
 use Rattle.spy_grammar.specs.declared.record.Record.{Record}
 use Rattle.spy_grammar.specs.declared.record.Record.TheVariants.{Header, Ispace, Part, Sub, Fields, Tree, Redop, Task, Req, Serial, Inst, Map, Run, Copy, Reset, Fold, Merge, End}
-use Rattle.spy_grammar.specs.declared.record.Lined.{Lined}
 use Rattle.value_terms.specs.declared.terms.Base.TheVariants.{Init}
 use Rattle.value_terms.specs.Values.{Value}
 use Rattle.semantics.specs.declared.places.Place.{Place}
 use Rattle.semantics.specs.declared.places.Cell.{Cell}
 use Rattle.semantics.specs.Reads.{Seen}
-
-abbrev pub lined_from : ℕ → List Record → List Lined
-lined_from line [] = []
-lined_from line (r ∷ rs) = record { line = line; rec = r } ∷ lined_from (line + 1) rs
-
-abbrev pub lined : List Record → List Lined
-lined rs = lined_from 1 rs
 
 -- The field 1 alone.
 abbrev pub one : List ℕ

@@ -7,6 +7,7 @@ ghost use Rattle.spy_grammar.specs.declared.record.Record.TheVariants as records
 ghost use Rattle.privilege.specs.declared.kinds.Kind.TheVariants as kinds;
 ghost use Rattle.value_terms.specs.declared.terms.Base.TheVariants as bases;
 ghost use Rattle.value_terms.specs.Values.{plain};
+ghost use Rattle.semantics.specs.Records.{lined};
 ghost use Rattle.semantics.specs.Tables.{tables_of};
 ghost use Rattle.semantics.specs.Kinds.{item_kind, least_place, pairs};
 ghost use Rattle.semantics.specs.SerialOrder.{serial};
@@ -16,7 +17,7 @@ ghost use Rattle.semantics.specs.Races.{Race};
 ghost use Rattle.semantics.specs.Reads.{shown_difference, want_of};
 ghost use Rattle.semantics.specs.Faults.{Check, Ordered, at_line, log_fault};
 ghost use Rattle.semantics.specs.Outcome.{operation_count, read_count, task_count};
-ghost use Rattle.semantics.specs.WorkedLogs.{accepted, both_added, copy_unordered, first_cell, first_place, folded_once, folded_twice, fresh_copy, in_a_circle, lined, merges_in_a_circle, not_reset, one, one_instance, overlapping, saw, stale_copy, turned, turned_by_log, two_operators, unmapped, unordered};
+ghost use Rattle.semantics.specs.WorkedLogs.{accepted, both_added, copy_unordered, first_cell, first_place, folded_once, folded_twice, fresh_copy, in_a_circle, merges_in_a_circle, not_reset, one, one_instance, overlapping, saw, stale_copy, turned, turned_by_log, two_operators, unmapped, unordered};
 
 /// What the definitions say of worked logs.
 #[tactic(auto, using(crate::proofs::WorkedRaces::race_of_runs, crate::proofs::WorkedRaces::race_of_operators, crate::proofs::WorkedRaces::race_with_copy), unfolding(crate::specs::Computed::logs_computed))]

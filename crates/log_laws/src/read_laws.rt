@@ -1,0 +1,33 @@
+//! Laws of the logs that inputs hold.
+
+ghost use Rattle.std.specs.Prelude.{◌≡◌, ℕ, None, List};
+ghost use Rattle.std.specs.List.{AllByRecursion};
+ghost use Rattle.spy_grammar.specs.declared.record.Lined.{Lined};
+ghost use Rattle.spy_grammar.specs.Spelling.{Good};
+ghost use Rattle.semantics.specs.Records.{Reads, lined, records_of, text_of};
+ghost use Rattle.semantics.specs.TextFaults.{text_fault};
+
+use spy_grammar::{spelling_is_one_line, spelling_is_read};
+
+/// The records of a log that is read are good.
+pub fn read_logs_are_good()
+    ensures { (bytes : List ℕ) (log : List Lined) → Reads bytes log → AllByRecursion Good (records_of log) }
+{}
+
+/// No input holds two logs.
+pub fn one_log()
+    ensures { (bytes : List ℕ) (log other : List Lined) → Reads bytes log → Reads bytes other → log ≡ other }
+{
+    spelling_is_read();
+}
+
+/// The text of the records of an input has no fault of its bytes or lines if the input has none, and holds these records and nothing else.
+pub fn printed_logs_are_read()
+    ensures fault { (bytes : List ℕ) (log : List Lined) → text_fault bytes ≡ None → Reads bytes log → text_fault (text_of (records_of log)) ≡ None }
+    ensures log { (bytes : List ℕ) (log : List Lined) → Reads bytes log → Reads (text_of (records_of log)) (lined (records_of log)) }
+    ensures records { (bytes : List ℕ) (log : List Lined) → Reads bytes log → records_of (lined (records_of log)) ≡ records_of log }
+{
+    read_logs_are_good();
+    spelling_is_read();
+    spelling_is_one_line();
+}
