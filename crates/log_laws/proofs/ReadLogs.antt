@@ -46,7 +46,7 @@ module _ (read : SpellingIsRead) where
 
 -- ---- the records of a log that is held are good
 
-held_is_good : (line : ℕ) (lines : List (List ℕ)) (log : List Lined) → Hold line lines log → AllByRecursion Good (records_of log)
+pub held_is_good : (line : ℕ) (lines : List (List ℕ)) (log : List Lined) → Hold line lines log → AllByRecursion Good (records_of log)
 held_is_good line [] log h = subst (λ ls. AllByRecursion Good (records_of ls)) (sym h) tt
 held_is_good line (l ∷ lines) log (inl h) = held_is_good (line + 1) lines log h.1
 held_is_good line (l ∷ lines) log (inr h) = subst (λ ls. AllByRecursion Good (records_of ls)) (sym h.4) (h.2, held_is_good (line + 1) lines h.1 h.5)

@@ -4,14 +4,15 @@ ghost use Rattle.std.specs.Prelude.{◌≡◌, ℕ, None, List};
 ghost use Rattle.std.specs.List.{AllByRecursion};
 ghost use Rattle.spy_grammar.specs.declared.record.Lined.{Lined};
 ghost use Rattle.spy_grammar.specs.Spelling.{Good};
-ghost use Rattle.semantics.specs.Records.{Reads, lined, records_of, text_of};
+ghost use Rattle.semantics.specs.Records.{Hold, Reads, lined, records_of, text_of};
 ghost use Rattle.semantics.specs.TextFaults.{text_fault};
 
 use spy_grammar::{spelling_is_one_line, spelling_is_read};
 
-/// The records of a log that is read are good.
+/// The records of a log that lines hold, or that is read, are good.
 pub fn read_logs_are_good()
-    ensures { (bytes : List ℕ) (log : List Lined) → Reads bytes log → AllByRecursion Good (records_of log) }
+    ensures held { (line : ℕ) (lines : List (List ℕ)) (log : List Lined) → Hold line lines log → AllByRecursion Good (records_of log) }
+    ensures read { (bytes : List ℕ) (log : List Lined) → Reads bytes log → AllByRecursion Good (records_of log) }
 {}
 
 /// No input holds two logs.

@@ -1,4 +1,4 @@
 pub mod Chains
-pub mod FrontLines
 pub mod Outcomes
+pub mod Spelled
 pub mod Rows

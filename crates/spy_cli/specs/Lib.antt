@@ -1,6 +1,4 @@
 pub mod Statuses
-pub mod Texts
-pub mod Lines
 pub mod Outcome
-pub mod LineEnds
+pub mod Spelled
 pub mod Marks

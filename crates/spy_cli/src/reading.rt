@@ -1,96 +1,83 @@
-//! The records of an input, line by line.
+//! The records of an input.
 
-ghost use Rattle.std.specs.Prelude.{◌≡◌, ◌≢◌, ◌+◌, ◌^◌, ◌≤◌, ◌<◌, ℕ, List, [], ◌∷◌, ◌++◌, length, IfOk, IsErrOf, MatchOption};
-ghost use Rattle.std.specs.List.{All};
-ghost use Rattle.spy_grammar.specs.declared.record.Record.{Record};
-ghost use Rattle.spy_grammar.specs.declared.record.Lined.{Lined};
-ghost use Rattle.thin_logs.specs.Thin.{Spells};
-ghost use Rattle.spy_cli.specs.Lines.{BeginsWith};
-ghost use Rattle.spy_cli.specs.LineEnds.{end_of};
-ghost use Rattle.spy_cli.specs.declared.reading.LinesEnd.TheVariants.{Memory};
+ghost use Rattle.std.specs.Prelude.{◌≡◌, ◌<◌, ◌^◌, ◌∷◌, [], ◌++◌, ℕ, None, Some, Err, IfOk, OnOk};
+ghost use Rattle.spy_grammar.specs.declared.code.Code.{Code};
+ghost use Rattle.semantics.specs.Records.{Hold};
+ghost use Rattle.semantics.specs.TextFaults.{code_of, line_fault, lines_fault};
+ghost use Rattle.spy_grammar.specs.Reading.{line_at};
+ghost use Rattle.spy_cli.specs.Spelled.{Says, end_at};
+ghost use Rattle.spy_cli.specs.declared.reading.SpellEnd.TheVariants.{Memory};
 
-use memchr::memchr;
-use spy_grammar::{LineFault, Lined, Record, read_line, spelling_is_one_line};
+use spy_grammar::{Code, LineFault, Lined, read_line};
+use spy_lines::LineList;
 use std::alloc::{AllocError, AllocFailed, Global};
-use thin_logs::{one_first_line, reads_on};
 
-/// Why the lines of an input are no records.
+/// Why lines have no records.
 #[derive(Clone, Copy, Debug, PartialEq, Eq)]
-pub enum LinesEnd {
-    /// Some line spells no record, or the last has no line feed.
-    NoRecord,
+pub enum SpellEnd {
+    /// The line of this number, the least, has this fault.
+    Fault { line: u32, code: Code },
     /// Memory ran out.
     Memory,
 }
 
-impl From<AllocError> for LinesEnd {
+impl From<AllocError> for SpellEnd {
     ghost from_gives = { λ _ e. e ≡ Memory };
 
-    fn from(_e: AllocError) -> LinesEnd {
-        LinesEnd::Memory
+    fn from(_e: AllocError) -> SpellEnd {
+        SpellEnd::Memory
     }
 }
 
-impl<T: Drop> From<AllocFailed<T>> for LinesEnd {
+impl<T: Drop> From<AllocFailed<T>> for SpellEnd {
     ghost from_gives = { λ _ e. e ≡ Memory };
 
-    fn from(_e: AllocFailed<T>) -> LinesEnd {
-        LinesEnd::Memory
+    fn from(_e: AllocFailed<T>) -> SpellEnd {
+        SpellEnd::Memory
     }
 }
 
-impl From<LineFault> for LinesEnd {
-    ghost from_gives = { λ fault e. e ≡ end_of fault };
+/// The end that a fault of a line makes.
+fn end_of(line: u32, fault: LineFault) -> SpellEnd
+    ensures { result ≡ end_at line fault }
+{
+    match fault {
+        LineFault::Word => SpellEnd::Fault { line, code: Code::Word },
+        LineFault::Form => SpellEnd::Fault { line, code: Code::Form },
+        LineFault::Number => SpellEnd::Fault { line, code: Code::Number },
+        LineFault::Order => SpellEnd::Fault { line, code: Code::Order },
+        LineFault::Memory => SpellEnd::Memory,
+    }
+}
 
-    fn from(fault: LineFault) -> LinesEnd {
-        match fault {
-            LineFault::Memory => LinesEnd::Memory,
-            LineFault::Word | LineFault::Form | LineFault::Number | LineFault::Order => {
-                LinesEnd::NoRecord
-            }
+/// Adds what one line says.
+fn add_line(alloc: Global, records: &mut Vec<Lined>, line: u32, text: &[u8]) -> Result<(), SpellEnd>
+    ensures said { OnOk result (Says line text.now records.old.items records.new.items) }
+    ensures clean { OnOk result (line_fault line (line_at text.now) ≡ None) }
+    ensures fault { (at : ℕ) (code : Code) → result ≡ Err (SpellEnd.Fault at code) → line_fault line (line_at text.now) ≡ Some (record { line = at; code = code }) }
+{
+    match read_line(alloc, text) {
+        Ok(None) => Ok(()),
+        Ok(Some(rec)) => {
+            records.push(Lined { line, rec })?;
+            Ok(())
         }
+        Err(fault) => Err(end_of(line, fault)),
     }
 }
 
-/// The first line without its line feed, and the bytes behind it.
-fn cut_line(bytes: &[u8]) -> Option<(&[u8], &[u8])>
-    ensures { MatchOption result (All (λ b. b ≢ 10) bytes.now) (λ p. (bytes.now ≡ p.0.now ++ 10 ∷ p.1.now) × All (λ b. b ≢ 10) p.0.now) }
+/// The records of lines, each with the number of its line. A line that is blank or a comment has none.
+pub fn read_records(alloc: Global, list: &LineList) -> Result<Vec<Lined>, SpellEnd>
+    ensures held { IfOk result (λ log. Hold 1 list.now log.items) }
+    ensures clean { OnOk result (lines_fault 1 list.now ≡ None) }
+    ensures fault { (line : ℕ) (code : Code) → result ≡ Err (SpellEnd.Fault line code) → lines_fault 1 list.now ≡ Some (record { line = line; code = code }) }
 {
-    let end = memchr(b'\n', bytes)?;
-    Some((&bytes[..end], &bytes[end + 1..]))
-}
-
-/// The record of the first line, and the bytes behind that line.
-fn next_record(alloc: Global, bytes: &[u8]) -> Result<(Record, &[u8]), LinesEnd>
-    ensures found { IfOk result (λ p. BeginsWith bytes.now p.0 p.1.now) }
-    ensures none { IsErrOf result LinesEnd.NoRecord → (r : Record) (rest : List ℕ) → BeginsWith bytes.now r rest → ⊥ }
-{
-    one_first_line();
-    spelling_is_one_line();
-    let Some((line, rest)) = cut_line(bytes) else {
-        return Err(LinesEnd::NoRecord);
-    };
-    match read_line(alloc, line)? {
-        Some(rec) => Ok((rec, rest)),
-        None => Err(LinesEnd::NoRecord),
-    }
-}
-
-/// The records of an input that has one on each line.
-pub fn read_records(alloc: Global, bytes: &[u8]) -> Result<Vec<Lined>, LinesEnd>
-    requires { length bytes.now ≤ 2 ^ 26 }
-    ensures read { IfOk result (λ log. Spells bytes.now log.items) }
-    ensures none { IsErrOf result LinesEnd.NoRecord → (log : List Lined) → Spells bytes.now log → ⊥ }
-{
-    reads_on();
     let mut records = Vec::new(alloc);
-    let mut rest = bytes;
-    let mut line = 1;
-    while !rest.is_empty() {
-        let (rec, after) = next_record(alloc, rest)?;
-        records.push(Lined { line, rec })?;
-        line += 1;
-        rest = after;
+    for k in 0..list.len() {
+        let Some(text) = list.line(k) else {
+            unreachable!();
+        };
+        add_line(alloc, &mut records, k as u32 + 1, text)?;
     }
     Ok(records)
 }

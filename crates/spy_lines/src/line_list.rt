@@ -1,6 +1,6 @@
-ghost use Rattle.std.specs.Prelude.{◌≡◌, ◌≤◌, ◌<◌, length, slice_get};
+ghost use Rattle.std.specs.Prelude.{◌≡◌, ◌≤◌, ◌<◌, ◌^◌, length, slice_get};
 ghost use Rattle.std.specs.Option.{option_map};
-ghost use Rattle.spy_lines.specs.Ends.{start_of, ends_of};
+ghost use Rattle.spy_lines.specs.Ends.{start_of, ends_of, HasEnds};
 ghost use Rattle.spy_lines.specs.LinesOf.{lines_of};
 
 use std::marker::Model;
@@ -13,15 +13,15 @@ pub struct LineList {
 }
 
 impl Model for LineList {
-    ghost use Rattle.std.specs.Prelude.{◌≡◌, List, ℕ};
-    ghost use Rattle.spy_lines.specs.Ends.{ends_of};
+    ghost use Rattle.std.specs.Prelude.{List, ℕ};
+    ghost use Rattle.spy_lines.specs.Ends.{HasEnds};
     ghost use Rattle.spy_lines.specs.LinesOf.{lines_of};
 
     ghost Value = { List (List ℕ) };
 
     ghost view = { λ l. lines_of l.bytes.items };
 
-    ghost invariant = { λ l. l.ends.items ≡ ends_of l.bytes.items };
+    ghost invariant = { λ l. HasEnds l.bytes.items l.ends.items };
 }
 
 /// Where line `k` begins: behind the line feed before it.
@@ -38,7 +38,7 @@ fn line_start(ends: &[u32], k: usize) -> usize
 impl LineList {
     /// The lines of a text whose line feeds stand at `ends`.
     pub(crate) fn from_parts(bytes: Vec<u8>, ends: Vec<u32>) -> LineList
-        requires { ends.items ≡ ends_of bytes.items }
+        requires { HasEnds bytes.items ends.items }
         ensures { result ≡ lines_of bytes.items }
     {
         LineList { bytes, ends }
@@ -46,7 +46,9 @@ impl LineList {
 
     /// How many lines there are.
     pub fn len(&self) -> usize
-        ensures { result ≡ length self.now }
+        ensures count { result ≡ length self.now }
+        // A text has 2^26 bytes at most, and so no more lines.
+        ensures few { result ≤ 2 ^ 26 }
     {
         self.ends.len()
     }

@@ -1,4 +1,3 @@
-pub mod Texts
 pub mod ThinRecords
 pub mod ThinTables
 pub mod WorkedProofs

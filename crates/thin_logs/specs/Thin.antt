@@ -1,25 +1,11 @@
 -- Thin logs: one region that every task reads or writes whole, and one run of each task.
-use Rattle.std.specs.Prelude.{◌≡◌, ℕ, ◌+◌, ◌*◌, ◌^◌, ◌<◌, ◌≤◌, Bool, false, List, [], ◌∷◌, ◌++◌, length, map, Some, Contains, slice_get, if◌then◌else◌}
+use Rattle.std.specs.Prelude.{◌≡◌, ℕ, ◌+◌, ◌*◌, ◌<◌, ◌≤◌, Bool, false, List, [], ◌∷◌, ◌++◌, length, map, Some, Contains, slice_get, if◌then◌else◌}
 use Rattle.std.specs.List.{AllByRecursion}
 use Rattle.spy_words.specs.declared.access.PrivWord.{PrivWord}
 use Rattle.spy_words.specs.declared.access.PrivWord.TheVariants.{Ro, Rw}
 use Rattle.spy_grammar.specs.declared.record.Record.{Record}
 use Rattle.spy_grammar.specs.declared.record.Record.TheVariants as records
-use Rattle.spy_grammar.specs.declared.record.Lined.{Lined}
-use Rattle.spy_grammar.specs.Spelling.{Good}
-use Rattle.semantics.specs.Records.{text_of, records_of}
 use Rattle.semantics.specs.Events.{Node}
-
--- The records stand on lines that follow each other, from this line on.
-abbrev pub StandsFrom : ℕ → List Lined → Type 0
-StandsFrom line [] = Unit {0}
-StandsFrom line (l ∷ log) = (l.line ≡ line) × StandsFrom (line + 1) log
-
--- The bytes are the records of the log and nothing else: each line spells one record, and ends with a line feed.
-pub record Spells (bytes : List ℕ) (log : List Lined) : Type 0 where
-  pub good : AllByRecursion Good (records_of log)
-  pub text : bytes ≡ text_of (records_of log)
-  pub lines : StandsFrom 1 log
 
 -- A task of a thin log: whether it writes, and the events that its run waits on.
 pub record ThinTask : Type 0 where
@@ -64,12 +50,6 @@ pub record IsThin (thin : ThinLog) : Type 0 where
   pub few_points : thin.last ≤ 1048575
   pub few_accesses : length thin.tasks * (thin.last + 1) ≤ 4194304
   pub back : WaitsBack 1 thin.tasks
-
--- The bytes spell the thin log.
-pub record SpellsThin (bytes : List ℕ) (thin : ThinLog) : Type 0 where
-  pub within : IsThin thin
-  pub text : bytes ≡ text_of (thin_records thin)
-  pub short : length bytes ≤ 2 ^ 26
 
 -- The records are those of a thin log.
 abbrev pub IsThinLog : List Record → Type 0

@@ -4,8 +4,5 @@
 mod laws;
 mod worked;
 
-pub use laws::{
-    one_first_line, one_log, one_thin_log, reads_on, records_are_few, thin_logs_are_logs,
-    thin_records_are_good, thin_tables,
-};
+pub use laws::{one_thin_log, thin_tables};
 pub use worked::worked_thin_logs;

@@ -6,7 +6,7 @@ pub returns-clause-fault : goal.returns-clause-fault
 returns-clause-fault c = printed_has_no_fault c.spelling_is_read.ensures c.spelling_is_one_line.ensures.no_line_feed
 
 pub returns-clause-log : goal.returns-clause-log
-returns-clause-log c bytes log reads = printed_is_read c.spelling_is_read.ensures c.spelling_is_one_line.ensures.no_line_feed (records_of log) (c.read_logs_are_good.ensures bytes log reads)
+returns-clause-log c bytes log reads = printed_is_read c.spelling_is_read.ensures c.spelling_is_one_line.ensures.no_line_feed (records_of log) (c.read_logs_are_good.ensures.read bytes log reads)
 
 pub returns-clause-records : goal.returns-clause-records
 returns-clause-records c bytes log reads = lined_again 1 (records_of log)

@@ -1,5 +1,8 @@
-use Rattle.log_laws.proofs.ReadLogs.{read_is_good}
+use Rattle.log_laws.proofs.ReadLogs.{held_is_good, read_is_good}
 use Rattle.log_laws.proofs.read_laws.read_logs_are_good.Goals as goal
 
-pub returns : goal.returns
-returns c bytes log reads = read_is_good bytes log reads
+pub returns-clause-held : goal.returns-clause-held
+returns-clause-held c = held_is_good
+
+pub returns-clause-read : goal.returns-clause-read
+returns-clause-read c = read_is_good

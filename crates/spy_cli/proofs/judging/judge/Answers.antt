@@ -1,21 +1,19 @@
-use Rattle.std.proofs.Common.{arith, sym, ◌∙◌}
-use Rattle.spy_cli.proofs.Outcomes.{known_of, judged_is_outcome, if_ok_so}
+use Rattle.std.proofs.Common.{◌≡◌, ◌≤◌, ◌^◌, length, refl, arith, sym, subst, ◌∙◌}
+use Rattle.std.proofs.lemmas.Grind.{common_steps}
+use Rattle.spy_cli.specs.Outcome.{IsOutcome}
+use Rattle.spy_cli.specs.declared.judging.Report.{Report}
+use Rattle.spy_cli.proofs.Outcomes.{lines_to_bytes, unended, if_ok_so}
 use Rattle.spy_cli.proofs.judging.judge.Goals as goal
 
-pub order_report-requires-clause-same_length : goal.order_report-requires-clause-same_length
-order_report-requires-clause-same_length c =
-    let thin = c.in-Ok-declare.ensures.thin in
-    let known = known_of c.thin_tables.ensures.nodes c.thin_tables.ensures.writes c.thin_tables.ensures.many thin.0 c.in-Ok.records.items c.in-Ok-declare.log c.in-Ok-declare.ensures.tables thin.2 in
-    known.reqs_many ∙ sym known.nodes_many
+pub returns-in-Ok : goal.returns-in-Ok
+returns-in-Ok c =
+    let fed : c.feed.new.self ≡ c.args.bytes.now = grind (arith, common_steps) in
+    let whole = c.in-Ok.ensures.bytes ∙ fed in
+    if_ok_so _ _ (λ (r : Report) said. subst (λ bs. IsOutcome c.args.command bs r.status r.text.items) whole
+      (lines_to_bytes c.args.command c.in-Ok.list r.status r.text.items c.in-Ok.ensures.lines (subst (λ bs. length bs ≤ 2 ^ 26) (sym whole) c.requires) said)) c.lines_report.result c.lines_report.ensures
 
-pub order_report-requires-clause-few : goal.order_report-requires-clause-few
-order_report-requires-clause-few c =
-    let thin = c.in-Ok-declare.ensures.thin in
-    let known = known_of c.thin_tables.ensures.nodes c.thin_tables.ensures.writes c.thin_tables.ensures.many thin.0 c.in-Ok.records.items c.in-Ok-declare.log c.in-Ok-declare.ensures.tables thin.2 in
-    omega (arith, known.reqs_many, thin.1.few_tasks)
-
-pub returns-in-Ok-declare : goal.returns-in-Ok-declare
-returns-in-Ok-declare c =
-    let thin = c.in-Ok-declare.ensures.thin in
-    let known = known_of c.thin_tables.ensures.nodes c.thin_tables.ensures.writes c.thin_tables.ensures.many thin.0 c.in-Ok.records.items c.in-Ok-declare.log c.in-Ok-declare.ensures.tables thin.2 in
-    if_ok_so _ _ (λ r judged. judged_is_outcome c.args.bytes.now c.in-Ok.records.items thin.0 c.in-Ok-declare.log c.in-Ok.ensures.read c.requires thin.1 thin.2 known r.status r.text.items judged) c.order_report.result c.order_report.ensures
+pub returns-in-Err : goal.returns-in-Err
+returns-in-Err c =
+    let fed : c.feed.new.self ≡ c.args.bytes.now = grind (arith, common_steps) in
+    if_ok_so _ _ (λ (r : Report) said. subst (λ bs. IsOutcome c.args.command bs r.status r.text.items) fed
+      (unended c.args.command c.feed.new.self c.in-Err.end.line r.status r.text.items (subst (λ bs. length bs ≤ 2 ^ 26) (sym fed) c.requires) (c.in-Err.ensures.unended.0 refl) c.in-Err.ensures.line said.0 said.1)) c.fault_report.result c.fault_report.ensures

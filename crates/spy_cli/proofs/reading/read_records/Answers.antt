@@ -1,14 +1,31 @@
-use Rattle.std.proofs.Common.{arith}
-use Rattle.std.proofs.lemmas.Grind.{common_steps}
-use Rattle.spy_cli.proofs.FrontLines.{read_more, not_read, some_left, shorter_rest}
+use Rattle.std.proofs.Common.{◌≡◌, ◌+◌, [], arith, ap, sym, subst, ◌∙◌, Some, None, take, length}
+use Rattle.std.specs.Option.{option_or}
+use Rattle.std.proofs.lemmas.List.{length-take-le}
+use Rattle.std.proofs.lemmas.Option.{slice_get_within}
+use Rattle.spy_grammar.specs.Reading.{line_at}
+use Rattle.semantics.specs.Records.{Hold}
+use Rattle.semantics.specs.TextFaults.{line_fault, lines_fault}
+use Rattle.std.proofs.lemmas.Result.{err_from_is_err_and}
+use Rattle.spy_cli.specs.declared.reading.SpellEnd.TheVariants.{Fault}
+use Rattle.spy_cli.proofs.Spelled.{handed_on, held_more, fault_behind, one_more, cut_at}
 use Rattle.spy_cli.proofs.reading.read_records.Goals as goal
 
-pub returns-in_err-rec-clause-none : goal.returns-in_err-rec-clause-none
-returns-in_err-rec-clause-none c = λ told. not_read c.reads_on.ensures c.args.bytes.now c.loop-rest.records.items c.loop-rest.rest.now c.loop-rest.invariant.so_far (some_left c.loop-rest.rest.now c.is_empty.result c.is_empty.ensures c.loop-rest-test.true) (c.in_err-rec.ensures.none (grind (arith, common_steps)))
+pub returns-in_err-add_line-clause-fault : goal.returns-in_err-add_line-clause-fault
+returns-in_err-add_line-clause-fault c line code is =
+    let within = slice_get_within c.args.list.now c.loop-k.k c.in-Some.text.now (sym c.in-Some.ensures) in
+    let many : length (take c.loop-k.k c.args.list.now) ≡ c.loop-k.k = length-take-le c.loop-k.k c.args.list.now (omega (arith, within)) in
+    let cut = cut_at c.args.list.now c.loop-k.k c.in-Some.text.now (sym c.in-Some.ensures) in
+    let told : line_fault (c.loop-k.k + 1) (line_at c.in-Some.text.now) ≡ Some (record { line = line; code = code }) =
+        (let handed = err_from_is_err_and c.from_residual.result c.from_residual.ensures.1 in
+        c.in_err-add_line.ensures.fault line code (handed_on c.from_residual.result handed.0 c.in_err-add_line.field-0.0 (Fault line code) handed.1 handed.2 is)) in
+    ap (lines_fault 1) cut.1 ∙ fault_behind 1 (c.loop-k.k + 1) (take c.loop-k.k c.args.list.now) c.in-Some.text.now cut.0 (omega (arith, many)) c.loop-k.invariant.clean ∙ ap (λ o. option_or o (lines_fault (c.loop-k.k + 1 + 1) cut.0)) told
 
-pub loop-rest-preserved : goal.loop-rest-preserved
-loop-rest-preserved c = record {
-  so_far = rw c.in_ok-push.ensures.items (read_more c.args.bytes.now c.loop-rest.records.items c.loop-rest.rest.now (record { line = c.loop-rest.line; rec = c.in_ok-rec.rec }) c.in_ok-rec.after.now c.loop-rest.invariant.so_far c.loop-rest.invariant.next c.in_ok-rec.ensures.found);
-  next = omega (arith, c.in_ok-push.ensures.len, c.loop-rest.invariant.next);
-  fits = omega (arith, c.loop-rest.invariant.fits, shorter_rest _ _ _ c.in_ok-rec.ensures.found);
-}
+pub loop-k-preserved : goal.loop-k-preserved
+loop-k-preserved c =
+    let within = slice_get_within c.args.list.now c.loop-k.k c.in-Some.text.now (sym c.in-Some.ensures) in
+    let many : length (take c.loop-k.k c.args.list.now) ≡ c.loop-k.k = length-take-le c.loop-k.k c.args.list.now (omega (arith, within)) in
+    let more = one_more c.args.list.now c.loop-k.k c.in-Some.text.now (sym c.in-Some.ensures) in
+    record {
+      held = subst (λ ls. Hold 1 ls c.add_line.new.records.items) (sym more) (held_more 1 (c.loop-k.k + 1) (take c.loop-k.k c.args.list.now) c.in-Some.text.now c.loop-k.records.items c.add_line.new.records.items (omega (arith, many)) c.loop-k.invariant.held c.in_ok-add_line.ensures.said);
+      clean = ap (lines_fault 1) more ∙ fault_behind 1 (c.loop-k.k + 1) (take c.loop-k.k c.args.list.now) c.in-Some.text.now [] (omega (arith, many)) c.loop-k.invariant.clean ∙ ap (λ o. option_or o None) c.in_ok-add_line.ensures.clean;
+    }

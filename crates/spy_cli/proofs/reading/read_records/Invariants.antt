@@ -1,13 +1,10 @@
-use Rattle.std.proofs.Common.{◌≡◌, ◌+◌, ◌≤◌, length}
-use Rattle.spy_cli.proofs.FrontLines.{SoFar}
+use Rattle.std.proofs.Common.{◌≡◌, None, take}
+use Rattle.semantics.specs.Records.{Hold}
+use Rattle.semantics.specs.TextFaults.{lines_fault}
 use Rattle.spy_cli.proofs.reading.read_records.Given as goal
 
-abbrev pub invariant-loop-rest : goal.invariant-loop-rest
-invariant-loop-rest l = record {
-  so_far : SoFar l.bytes l.records.items l.rest;
-  next : l.line ≡ 1 + length l.records.items;
-  fits : l.line + length l.rest ≤ 1 + length l.bytes;
+abbrev pub invariant-loop-k : goal.invariant-loop-k
+invariant-loop-k l = record {
+  held : Hold 1 (take l.k l.list) l.records.items;
+  clean : lines_fault 1 (take l.k l.list) ≡ None;
 }
-
-abbrev pub decreases-loop-rest : goal.decreases-loop-rest
-decreases-loop-rest l = length l.rest
