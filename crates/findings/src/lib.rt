@@ -5,9 +5,11 @@ mod cells;
 mod codes;
 mod finding;
 mod lists;
+mod reading;
 mod writing;
 
 pub use finding::{Dep, Finding};
 pub use lists::{DepList, EventList};
+pub use reading::{TextFault, read_text};
 pub use spy_grammar::Code;
 pub use writing::{Memory, good_finding, text};
