@@ -1,11 +1,11 @@
 -- What is read of the text of a report is that report.
-use Rattle.std.proofs.Common.{◌≡◌, ℕ, suc, ◌+◌, ◌-◌, ◌*◌, ◌^◌, ◌<◌, ◌≤◌, ltb, eqb, Bool, true, false, cond, not, List, [], ◌∷◌, ◌++◌, map, length, take, drop, get_or, min, fold, codes, refl, sym, ap, subst, ◌∙◌, arith, append-nil, length-append, ◌≢◌}
+use Rattle.std.proofs.Common.{◌≡◌, ℕ, ◌+◌, ◌-◌, ◌*◌, ◌^◌, ◌<◌, ◌≤◌, ltb, eqb, Bool, true, false, cond, not, List, [], ◌∷◌, ◌++◌, map, length, take, get_or, min, fold, codes, refl, sym, ap, subst, ◌∙◌, arith, append-nil, length-append, ◌≢◌}
 use Rattle.std.specs.Prelude.{decimal}
 use Rattle.std.specs.Char.{digit_value}
-use Rattle.std.specs.List.{All, AllByRecursion, list_all}
+use Rattle.std.specs.List.{AllByRecursion, list_all}
 use Rattle.std.specs.Str.{bytes_eq}
 use Rattle.std.specs.Str.Parse.{AllDigits, digits_value, digits_value_after}
-use Rattle.std.proofs.lemmas.Bool.{eq-eqb, ne_eqb}
+use Rattle.std.proofs.lemmas.Bool.{ne_eqb}
 use Rattle.std.proofs.lemmas.Bool.Decides.{nat_tests}
 use Rattle.std.proofs.lemmas.Fmt.{digits_decimal, digits_value-decimal}
 use Rattle.std.proofs.lemmas.List.{length-map, take-map}
@@ -21,7 +21,7 @@ use Rattle.findings.specs.declared.finding.Finding.{Finding}
 use Rattle.findings.specs.declared.finding.Finding.TheVariants.{Accepted, Ordered, Deps, Cycle, Race, Unordered, Fault, Usage, CannotRead}
 use Rattle.findings.specs.Codes.{code_text, code_at}
 use Rattle.findings.specs.Texts.{Word, says, small, large, names, Line, last_line, deps_of, dep_line, lines_of, word_text, row_text, line_text, lines_text, text_of, IsInRange, Fits, Good}
-use Rattle.findings.specs.Reading.{number_of, word_at, small_at, large_at, dep_at, events_at, report_at, last_place, report_in, finding_at}
+use Rattle.findings.specs.Reading.{number_of, word_at, dep_at, events_at, report_at, last_place, report_in, finding_at}
 
 -- ---- numbers
 
@@ -223,3 +223,9 @@ no_report bytes shown said is writes other f good e =
 -- what lines say that a program holds, seen by `view`
 pub lines_told : {A : Type 0} (view : A → List ℕ) (lines : List A) (last : ℕ) (list : List Dep) (words : List (List ℕ)) → last ≡ length lines - 2 → list ≡ map (λ l. dep_at (parts 32 l)) (map view (take last lines)) → words ≡ parts 32 (word_at (map view lines) last) → report_at list words ≡ report_in (map view lines)
 lines_told view lines last list words is listed parted = rw (listed, parted, is, length-map lines view, take-map view (length lines - 2) lines) refl
+
+pub texts_apart : (f g : Finding) → Good f → Good g → text_of f ≡ text_of g → f ≡ g
+texts_apart f g good fine e = sym (read_again f good) ∙ ap finding_at e ∙ read_again g fine
+
+pub codes_apart : (c d : Code) → code_text c ≡ code_text d → c ≡ d
+codes_apart c d e = sym (code_again c) ∙ ap code_at e ∙ code_again d

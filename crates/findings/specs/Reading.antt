@@ -1,5 +1,5 @@
 -- What the words of a text say if it is the text of a report. Of other texts it is some report that has another text.
-use Rattle.std.specs.Prelude.{ℕ, ◌+◌, ◌-◌, ◌*◌, ◌^◌, List, [], ◌∷◌, map, take, drop, min, fold, length, slice_index_or, codes, if◌then◌else◌}
+use Rattle.std.specs.Prelude.{ℕ, ◌+◌, ◌-◌, ◌*◌, ◌^◌, List, [], map, take, drop, min, fold, length, slice_index_or, codes, if◌then◌else◌}
 use Rattle.std.specs.Str.{bytes_eq}
 use Rattle.spy_words.specs.Reading.{parts}
 use Rattle.findings.specs.declared.finding.Dep.{Dep}

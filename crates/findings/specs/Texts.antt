@@ -1,5 +1,5 @@
 -- The text of each report, and which reports have one.
-use Rattle.std.specs.Prelude.{◌≡◌, ◌≢◌, ℕ, ◌<◌, ◌^◌, Bool, not, List, [], ◌∷◌, ◌++◌, map, count_by, codes, decimal, if◌then◌else◌}
+use Rattle.std.specs.Prelude.{◌≡◌, ◌≢◌, ℕ, ◌<◌, ◌^◌, not, List, [], ◌∷◌, ◌++◌, map, count_by, codes, decimal, if◌then◌else◌}
 use Rattle.std.specs.List.{AllByRecursion}
 use Rattle.spy_grammar.specs.declared.code.Code.{Code}
 use Rattle.findings.specs.declared.finding.Dep.{Dep}

@@ -4,12 +4,17 @@
 mod cells;
 mod codes;
 mod finding;
+mod law;
 mod lists;
 mod reading;
 mod writing;
 
 pub use finding::{Dep, Finding};
+pub use law::{one_code_text, one_text};
 pub use lists::{DepList, EventList};
 pub use reading::{TextFault, read_text};
 pub use spy_grammar::Code;
 pub use writing::{Memory, good_finding, text};
+
+#[cfg(test)]
+mod tests;

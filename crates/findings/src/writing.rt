@@ -69,9 +69,12 @@ pub fn good_finding(f: &Finding) -> bool
     let deps = deps_of(f);
     let _last = last_words(f);
     match f {
-        Finding::Deps { list: _, items: _, before, turn } => {
-            in_range(deps) && count_before(deps) == *before && count_turn(deps) == *turn
-        }
+        Finding::Deps {
+            list: _,
+            items: _,
+            before,
+            turn,
+        } => { in_range(deps) && count_before(deps) == *before && count_turn(deps) == *turn }
         Finding::Cycle { events } => events.len() > 0,
         _ => true,
     }

@@ -1,7 +1,6 @@
-use Rattle.std.proofs.Common.{◌∙◌, ap, sym, map, List, ℕ, ◌-◌, length}
+use Rattle.std.proofs.Common.{◌∙◌, ap, map, List, ℕ}
 use Rattle.std.specs.Borrow.{Bor}
 use Rattle.spy_words.specs.Reading.{parts}
-use Rattle.findings.specs.Reading as says
 use Rattle.findings.proofs.ReadLaws.{lines_told}
 use Rattle.findings.proofs.reading.report_in.Goals as goal
 
