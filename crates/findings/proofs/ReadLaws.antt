@@ -1,0 +1,231 @@
+-- What is read of the text of a report is that report.
+use Rattle.std.proofs.Common.{◌≡◌, ℕ, ◌+◌, ◌-◌, ◌*◌, ◌^◌, ◌<◌, ◌≤◌, ltb, eqb, Bool, true, false, cond, not, List, [], ◌∷◌, ◌++◌, map, length, take, get_or, min, fold, codes, refl, sym, ap, subst, ◌∙◌, arith, append-nil, length-append, ◌≢◌}
+use Rattle.std.specs.Prelude.{decimal}
+use Rattle.std.specs.Char.{digit_value}
+use Rattle.std.specs.List.{AllByRecursion, list_all}
+use Rattle.std.specs.Str.{bytes_eq}
+use Rattle.std.specs.Str.Parse.{AllDigits, digits_value, digits_value_after}
+use Rattle.std.proofs.lemmas.Bool.{ne_eqb}
+use Rattle.std.proofs.lemmas.Bool.Decides.{nat_tests}
+use Rattle.std.proofs.lemmas.Fmt.{digits_decimal, digits_value-decimal}
+use Rattle.std.proofs.lemmas.List.{length-map, take-map}
+use Rattle.std.proofs.lemmas.List.Elements.{All-from_recursion}
+use Rattle.std.proofs.lemmas.List.Splits.{slice_split_none, slice_split_at}
+use Rattle.std.proofs.lemmas.Slice.Eq.{bytes_eq-Decides}
+use Rattle.std.proofs.lemmas.Str.Parse.{IsNumeralModel, numerals_by_value, tells_digits}
+use Rattle.spy_grammar.specs.declared.code.Code.{Code}
+use Rattle.spy_grammar.specs.declared.code.Code.TheVariants.{TooLong}
+use Rattle.spy_words.specs.Reading.{parts}
+use Rattle.findings.specs.declared.finding.Dep.{Dep}
+use Rattle.findings.specs.declared.finding.Finding.{Finding}
+use Rattle.findings.specs.declared.finding.Finding.TheVariants.{Accepted, Ordered, Deps, Cycle, Race, Unordered, Fault, Usage, CannotRead}
+use Rattle.findings.specs.Codes.{code_text, code_at}
+use Rattle.findings.specs.Texts.{Word, says, small, large, names, Line, last_line, deps_of, dep_line, lines_of, word_text, row_text, line_text, lines_text, text_of, IsInRange, Fits, Good}
+use Rattle.findings.specs.Reading.{number_of, word_at, dep_at, events_at, report_at, last_place, report_in, finding_at}
+
+-- ---- numbers
+
+own : IsNumeralModel (AllDigits 10) (digits_value 10)
+own = numerals_by_value (AllDigits 10) tells_digits
+
+digit_is : (b : ℕ) → digit_value b < 10 → (digit_value b ≡ b - 48) × (32 < b)
+digit_is b lt = (grind (arith, nat_tests), grind (arith, nat_tests))
+
+clamped : (greatest v : ℕ) (w : List ℕ) → AllDigits 10 w → fold (λ value b. min (value * 10 + (b - 48)) greatest) (min v greatest) w ≡ min (digits_value_after 10 v w) greatest
+clamped greatest v [] all = refl
+clamped greatest v (b ∷ w) all =
+    let digit = (digit_is b all.0).0 in
+    let step : min (min v greatest * 10 + (b - 48)) greatest ≡ min (v * 10 + digit_value b) greatest = omega (arith, digit) in
+    rw step (clamped greatest (v * 10 + digit_value b) w all.1)
+
+number_again : (greatest n : ℕ) → n ≤ greatest → n < 2 ^ 64 → number_of greatest (decimal n) ≡ n
+unfolding number_of
+number_again greatest n le lt =
+    let value : digits_value 10 (decimal n) ≡ n = digits_value-decimal own n lt in
+    let start : min 0 greatest ≡ 0 = omega arith in
+    subst (λ (m : ℕ). fold (λ value b. min (value * 10 + (b - 48)) greatest) m (decimal n) ≡ n) start (clamped greatest 0 (decimal n) (digits_decimal own n lt) ∙ rw value (omega arith))
+
+small_again : (n : ℕ) → n < 2 ^ 32 → number_of (2 ^ 32 - 1) (decimal n) ≡ n
+small_again n lt = number_again (2 ^ 32 - 1) n (omega arith) (omega arith)
+
+large_again : (n : ℕ) → n < 2 ^ 64 → number_of (2 ^ 64 - 1) (decimal n) ≡ n
+large_again n lt = number_again (2 ^ 64 - 1) n (omega arith) lt
+
+-- ---- words, which have no space
+
+abbrev Plain : List ℕ → Type 0
+Plain w = AllByRecursion (λ b. 32 < b) w
+
+plain_by_test : (w : List ℕ) → list_all (λ b. ltb 32 b) w ≡ true → Plain w
+plain_by_test [] e = tt
+plain_by_test (b ∷ w) e =
+    let rest : list_all (λ b. ltb 32 b) w ≡ true = grind (arith, nat_tests) in
+    (grind (arith, nat_tests), plain_by_test w rest)
+
+digits_plain : (w : List ℕ) → AllDigits 10 w → Plain w
+digits_plain [] all = tt
+digits_plain (b ∷ w) all = ((digit_is b all.0).1, digits_plain w all.1)
+
+code_plain : (c : Code) → Plain (code_text c)
+code_plain TooLong = plain_by_test (code_text TooLong) refl
+code_plain c = plain_by_test (code_text c) refl
+
+-- no fixed text has a space
+is_plain : Word → Bool
+is_plain (says w) = list_all (λ b. ltb 32 b) w
+is_plain w = true
+
+word_plain : (w : Word) → is_plain w ≡ true → IsInRange w → Plain (word_text w)
+unfolding is_plain
+word_plain (says w) e fits = plain_by_test w e
+word_plain (small n) e fits = digits_plain (decimal n) (digits_decimal own n (omega (arith, fits)))
+word_plain (large n) e fits = digits_plain (decimal n) (digits_decimal own n fits)
+word_plain (names c) e fits = code_plain c
+
+-- ---- lines, parted into words
+
+-- the name of a line and its other words have no space
+abbrev PlainLine : Line → Type 0
+PlainLine l = Plain l.name × AllByRecursion Plain (map word_text l.row)
+
+row_plain : (ws : List Word) → list_all is_plain ws ≡ true → AllByRecursion IsInRange ws → AllByRecursion Plain (map word_text ws)
+row_plain [] e fits = tt
+row_plain (w ∷ ws) e fits =
+    let first : is_plain w ≡ true = grind (arith, nat_tests) in
+    let rest : list_all is_plain ws ≡ true = grind (arith, nat_tests) in
+    (word_plain w first fits.0, row_plain ws rest fits.1)
+
+events_plain : (ns : List ℕ) → list_all is_plain (map small ns) ≡ true
+unfolding is_plain
+events_plain [] = refl
+events_plain (n ∷ ns) = events_plain ns
+
+last_plain : (f : Finding) → Fits (last_line f) → PlainLine (last_line f)
+unfolding is_plain
+last_plain (Cycle events) fits = (plain_by_test (codes "cycle") refl, row_plain (map small events) (events_plain events) fits)
+last_plain f fits = (plain_by_test (last_line f).name refl, row_plain (last_line f).row refl fits)
+
+dep_plain : (d : Dep) → Fits (dep_line d) → PlainLine (dep_line d)
+unfolding is_plain
+dep_plain d fits = (name d.before, row_plain (dep_line d).row refl fits)
+  where
+    name : (b : Bool) → Plain (cond b (codes "before") (codes "turn"))
+    name true = plain_by_test (codes "before") refl
+    name false = plain_by_test (codes "turn") refl
+
+lacks : (c : ℕ) (w : List ℕ) → c ≤ 32 → Plain w → AllByRecursion (λ b. eqb b c ≡ false) w
+lacks c [] le plain = tt
+lacks c (b ∷ w) le plain = (ne_eqb b c (λ e. absurd (omega (arith, plain.0, e, le))), lacks c w le plain.1)
+
+words_parted : (w : List ℕ) (ws : List Word) → Plain w → AllByRecursion Plain (map word_text ws) → parts 32 (w ++ row_text ws) ≡ w ∷ map word_text ws
+words_parted w [] plain all = ap (parts 32) (append-nil w) ∙ slice_split_none (λ b. eqb b 32) w (All-from_recursion _ w (lacks 32 w (omega arith) plain))
+words_parted w (v ∷ vs) plain all =
+    slice_split_at (λ b. eqb b 32) w 32 (word_text v ++ row_text vs) (All-from_recursion _ w (lacks 32 w (omega arith) plain)) refl
+    ∙ ap (λ (xs : List (List ℕ)). w ∷ xs) (words_parted (word_text v) vs all.0 all.1)
+
+line_parted : (l : Line) → PlainLine l → parts 32 (line_text l) ≡ l.name ∷ map word_text l.row
+line_parted l plain = words_parted l.name l.row plain.0 plain.1
+
+-- ---- a text, parted into lines
+
+abbrev OneLine : List ℕ → Type 0
+OneLine w = AllByRecursion (λ b. eqb b 10 ≡ false) w
+
+one_line-append : (v w : List ℕ) → OneLine v → OneLine w → OneLine (v ++ w)
+one_line-append [] w p q = q
+one_line-append (b ∷ v) w p q = (p.0, one_line-append v w p.1 q)
+
+row_one_line : (ws : List Word) → AllByRecursion Plain (map word_text ws) → OneLine (row_text ws)
+row_one_line [] all = tt
+row_one_line (w ∷ ws) all = (refl, one_line-append (word_text w) (row_text ws) (lacks 10 (word_text w) (omega arith) all.0) (row_one_line ws all.1))
+
+one_line : (l : Line) → PlainLine l → OneLine (line_text l)
+one_line l plain = one_line-append l.name (row_text l.row) (lacks 10 l.name (omega arith) plain.0) (row_one_line l.row plain.1)
+
+lines_parted : (ls : List Line) → AllByRecursion PlainLine ls → parts 10 (lines_text ls) ≡ map line_text ls ++ [] ∷ []
+lines_parted [] all = refl
+lines_parted (l ∷ ls) all =
+    slice_split_at (λ b. eqb b 10) (line_text l) 10 (lines_text ls) (All-from_recursion _ (line_text l) (one_line l all.0)) refl
+    ∙ ap (λ (xs : List (List ℕ)). line_text l ∷ xs) (lines_parted ls all.1)
+
+-- ---- each line says what it was written of
+
+dep_again : (d : Dep) → Fits (dep_line d) → dep_at (parts 32 (line_text (dep_line d))) ≡ d
+unfolding dep_at
+dep_again d fits =
+    rw (line_parted (dep_line d) (dep_plain d fits), named d.before, small_again d.a fits.0, small_again d.b fits.1.0, small_again d.tree fits.1.1.1.0, large_again d.point fits.1.1.1.1.1.0, small_again d.field fits.1.1.1.1.1.1.1.0) refl
+  where
+    named : (b : Bool) → bytes_eq (cond b (codes "before") (codes "turn")) (codes "before") ≡ b
+    named true = refl
+    named false = refl
+
+code_again : (c : Code) → code_at (code_text c) ≡ c
+unfolding code_at
+code_again TooLong = refl
+code_again c = refl
+
+events_again : (ns : List ℕ) → AllByRecursion IsInRange (map small ns) → events_at (map word_text (map small ns)) ≡ ns
+events_again [] fits = refl
+events_again (n ∷ ns) fits = rw (small_again n fits.0, events_again ns fits.1) refl
+
+report_again : (f : Finding) → Fits (last_line f) → report_at (deps_of f) ((last_line f).name ∷ map word_text (last_line f).row) ≡ f
+unfolding report_at
+report_again (Accepted tasks operations reads) fits = rw (small_again tasks fits.1.0, small_again operations fits.1.1.1.0, large_again reads fits.1.1.1.1.1.0) refl
+report_again (Ordered tasks pairs) fits = rw (small_again tasks fits.1.0, large_again pairs fits.1.1.1.0) refl
+report_again (Deps list items before turn) fits = rw (small_again items fits.1.0, large_again before fits.1.1.1.0, large_again turn fits.1.1.1.1.1.0) refl
+report_again (Cycle events) fits = rw (events_again events fits) refl
+report_again (Race a b inst point field) fits = rw (small_again a fits.0, small_again b fits.1.0, small_again inst fits.1.1.1.0, large_again point fits.1.1.1.1.1.0, small_again field fits.1.1.1.1.1.1.1.0) refl
+report_again (Unordered t u tree point field) fits = rw (small_again t fits.0, small_again u fits.1.0, small_again tree fits.1.1.1.0, large_again point fits.1.1.1.1.1.0, small_again field fits.1.1.1.1.1.1.1.0) refl
+report_again (Fault line code) fits = rw (small_again line fits.0, code_again code) refl
+report_again Usage fits = refl
+report_again CannotRead fits = refl
+
+-- ---- reports
+
+front : (xs ys : List (List ℕ)) → take (length xs) (xs ++ ys) ≡ xs
+front [] ys = refl
+front (x ∷ xs) ys = ap (λ (zs : List (List ℕ)). x ∷ zs) (front xs ys)
+
+behind : (xs : List (List ℕ)) (y : List ℕ) (ys : List (List ℕ)) → get_or (xs ++ y ∷ ys) (length xs) [] ≡ y
+behind [] y ys = refl
+behind (x ∷ xs) y ys = behind xs y ys
+
+deps_again : (ds : List Dep) → AllByRecursion Fits (map dep_line ds) → map (λ l. dep_at (parts 32 l)) (map line_text (map dep_line ds)) ≡ ds
+deps_again [] fits = refl
+deps_again (d ∷ ds) fits = rw (dep_again d fits.0, deps_again ds fits.1) refl
+
+all_plain : (f : Finding) (ds : List Dep) → AllByRecursion Fits (map dep_line ds ++ last_line f ∷ []) → AllByRecursion PlainLine (map dep_line ds ++ last_line f ∷ []) × AllByRecursion Fits (map dep_line ds) × Fits (last_line f)
+all_plain f [] fits = ((last_plain f fits.0, tt), tt, fits.0)
+all_plain f (d ∷ ds) fits = let rest = all_plain f ds fits.1 in ((dep_plain d fits.0, rest.0), (fits.0, rest.1), rest.2)
+
+ends : (ls : List Line) (l : Line) → map line_text (ls ++ l ∷ []) ++ [] ∷ [] ≡ map line_text ls ++ line_text l ∷ [] ∷ []
+ends [] l = refl
+ends (k ∷ ls) l = ap (λ (xs : List (List ℕ)). line_text k ∷ xs) (ends ls l)
+
+pub read_again : (f : Finding) → Good f → finding_at (text_of f) ≡ f
+unfolding finding_at text_of
+read_again f good =
+    let all = all_plain f (deps_of f) good.0 in
+    let lines = map line_text (map dep_line (deps_of f)) in
+    let last = line_text (last_line f) in
+    let parted : parts 10 (lines_text (lines_of f)) ≡ lines ++ last ∷ [] ∷ [] = lines_parted (lines_of f) all.0 ∙ ends (map dep_line (deps_of f)) (last_line f) in
+    let place : last_place (lines ++ last ∷ [] ∷ []) ≡ length lines = omega (arith, length-append lines (last ∷ [] ∷ [])) in
+    ap report_in parted ∙ rw (place, front lines (last ∷ [] ∷ []), behind lines last ([] ∷ []), deps_again (deps_of f) all.1, line_parted (last_line f) (last_plain f all.2)) (report_again f all.2)
+
+-- a text other than that of what it says is no report's
+pub no_report : (bytes shown : List ℕ) (said : Finding) → said ≡ finding_at bytes → shown ≡ text_of said → true ≡ not (bytes_eq shown bytes) → (f : Finding) → Good f → bytes ≢ text_of f
+no_report bytes shown said is writes other f good e =
+    let same : shown ≡ bytes = writes ∙ ap text_of (is ∙ ap finding_at e ∙ read_again f good) ∙ sym e in
+    let yes : bytes_eq shown bytes ≡ true = (bytes_eq-Decides shown bytes).1 same in
+    let no : true ≡ false = other ∙ ap not yes in
+    absurd cc
+
+-- what lines say that a program holds, seen by `view`
+pub lines_told : {A : Type 0} (view : A → List ℕ) (lines : List A) (last : ℕ) (list : List Dep) (words : List (List ℕ)) → last ≡ length lines - 2 → list ≡ map (λ l. dep_at (parts 32 l)) (map view (take last lines)) → words ≡ parts 32 (word_at (map view lines) last) → report_at list words ≡ report_in (map view lines)
+lines_told view lines last list words is listed parted = rw (listed, parted, is, length-map lines view, take-map view (length lines - 2) lines) refl
+
+pub texts_apart : (f g : Finding) → Good f → Good g → text_of f ≡ text_of g → f ≡ g
+texts_apart f g good fine e = sym (read_again f good) ∙ ap finding_at e ∙ read_again g fine
+
+pub codes_apart : (c d : Code) → code_text c ≡ code_text d → c ≡ d
+codes_apart c d e = sym (code_again c) ∙ ap code_at e ∙ code_again d

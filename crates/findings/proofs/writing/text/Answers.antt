@@ -1,0 +1,6 @@
+use Rattle.std.proofs.Common.{arith}
+use Rattle.findings.proofs.CellLaws.{text_told}
+use Rattle.findings.proofs.writing.text.Goals as goal
+
+pub returns : goal.returns
+returns c = let told = text_told c.args.f.now in grind (arith, c.in_ok-push_line.ensures, c.in_ok-push_deps.ensures, c.last_words.ensures.name, c.last_words.ensures.row, c.deps_of.ensures, c.new-out.ensures.items, told)

@@ -1,0 +1,19 @@
+-- A line of a report as the program holds it: eight cells, each a word, no word, or all the events of a cycle.
+use Rattle.std.specs.Prelude.{List, [], ◌∷◌, ◌++◌, map}
+use Rattle.findings.specs.declared.cells.Cell.{Cell}
+use Rattle.findings.specs.declared.cells.Cell.TheVariants as cells
+use Rattle.findings.specs.Texts.{Word, says, small, large, names}
+
+-- What a cell holds, before further words.
+abbrev pub with_cell : Cell → List Word → List Word
+with_cell cells.No ws = ws
+with_cell (cells.Says w) ws = says w.now ∷ ws
+with_cell (cells.Small n) ws = small n ∷ ws
+with_cell (cells.Large n) ws = large n ∷ ws
+with_cell (cells.Names c) ws = names c ∷ ws
+with_cell (cells.Events ns) ws = map small ns.now ++ ws
+
+-- What cells hold.
+abbrev pub words_in : List Cell → List Word
+words_in [] = []
+words_in (c ∷ cs) = with_cell c (words_in cs)

@@ -1,0 +1,91 @@
+-- The text of each report, and which reports have one.
+use Rattle.std.specs.Prelude.{◌≡◌, ◌≢◌, ℕ, ◌<◌, ◌^◌, not, List, [], ◌∷◌, ◌++◌, map, count_by, codes, decimal, if◌then◌else◌}
+use Rattle.std.specs.List.{AllByRecursion}
+use Rattle.spy_grammar.specs.declared.code.Code.{Code}
+use Rattle.findings.specs.declared.finding.Dep.{Dep}
+use Rattle.findings.specs.declared.finding.Finding.{Finding}
+use Rattle.findings.specs.declared.finding.Finding.TheVariants.{Accepted, Ordered, Deps, Cycle, Race, Unordered, Fault, Usage, CannotRead}
+use Rattle.findings.specs.Codes.{code_text}
+
+-- A word of a report: a fixed text, a number of 32 bits or of 64, or a code.
+pub data Word : Type 0 where
+  says : List ℕ → Word
+  small : ℕ → Word
+  large : ℕ → Word
+  names : Code → Word
+
+-- A line of a report: its first word, and the words after it.
+pub record Line : Type 0 where
+  pub name : List ℕ
+  pub row : List Word
+
+-- The table: each report's own line, which is its last.
+abbrev pub last_line : Finding → Line
+last_line (Accepted tasks operations reads) = record { name = codes "accepted"; row = says (codes "tasks") ∷ small tasks ∷ says (codes "operations") ∷ small operations ∷ says (codes "reads") ∷ large reads ∷ [] }
+last_line (Ordered tasks pairs) = record { name = codes "ordered"; row = says (codes "tasks") ∷ small tasks ∷ says (codes "pairs") ∷ large pairs ∷ [] }
+last_line (Deps list items before turn) = record { name = codes "deps"; row = says (codes "items") ∷ small items ∷ says (codes "before") ∷ large before ∷ says (codes "turn") ∷ large turn ∷ [] }
+last_line (Cycle events) = record { name = codes "cycle"; row = map small events }
+last_line (Race a b inst point field) = record { name = codes "race"; row = small a ∷ small b ∷ says (codes "inst") ∷ small inst ∷ says (codes "point") ∷ large point ∷ says (codes "field") ∷ small field ∷ [] }
+last_line (Unordered t u tree point field) = record { name = codes "unordered"; row = small t ∷ small u ∷ says (codes "tree") ∷ small tree ∷ says (codes "point") ∷ large point ∷ says (codes "field") ∷ small field ∷ [] }
+last_line (Fault line code) = record { name = codes "fault"; row = small line ∷ names code ∷ [] }
+last_line Usage = record { name = codes "usage"; row = [] }
+last_line CannotRead = record { name = codes "cannot"; row = says (codes "read") ∷ [] }
+
+-- The pairs that a report lists, each in a line before its last.
+abbrev pub deps_of : Finding → List Dep
+deps_of (Deps list items before turn) = list
+deps_of f = []
+
+-- The line of such a pair.
+abbrev pub dep_line : Dep → Line
+dep_line d = record { name = if d.before then codes "before" else codes "turn"; row = small d.a ∷ small d.b ∷ says (codes "tree") ∷ small d.tree ∷ says (codes "point") ∷ large d.point ∷ says (codes "field") ∷ small d.field ∷ [] }
+
+-- The lines of a report.
+abbrev pub lines_of : Finding → List Line
+lines_of f = map dep_line (deps_of f) ++ last_line f ∷ []
+
+-- How a word is written.
+abbrev pub word_text : Word → List ℕ
+word_text (says w) = w
+word_text (small n) = decimal n
+word_text (large n) = decimal n
+word_text (names c) = code_text c
+
+-- Words, each after a space.
+abbrev pub row_text : List Word → List ℕ
+row_text [] = []
+row_text (w ∷ ws) = 32 ∷ word_text w ++ row_text ws
+
+-- A line: its words, with one space between each two.
+abbrev pub line_text : Line → List ℕ
+line_text l = l.name ++ row_text l.row
+
+-- Lines, each with a line feed at its end.
+abbrev pub lines_text : List Line → List ℕ
+lines_text [] = []
+lines_text (l ∷ ls) = line_text l ++ 10 ∷ lines_text ls
+
+-- The text of a report.
+unfoldable pub text_of : Finding → List ℕ
+text_of f = lines_text (lines_of f)
+
+-- A number lies in the range of its type.
+abbrev pub IsInRange : Word → Type 0
+IsInRange (says w) = Unit {0}
+IsInRange (small n) = n < 2 ^ 32
+IsInRange (large n) = n < 2 ^ 64
+IsInRange (names c) = Unit {0}
+
+-- The numbers of a line lie in the ranges of their types.
+abbrev pub Fits : Line → Type 0
+Fits l = AllByRecursion IsInRange l.row
+
+-- Where a report counts what it lists, the counts are right; and a cycle has an event.
+abbrev pub IsWhole : Finding → Type 0
+IsWhole (Deps list items before turn) = (before ≡ count_by (λ d. d.before) list) × (turn ≡ count_by (λ d. not d.before) list)
+IsWhole (Cycle events) = events ≢ []
+IsWhole f = Unit {0}
+
+-- The report has a text.
+abbrev pub Good : Finding → Type 0
+Good f = AllByRecursion Fits (lines_of f) × IsWhole f

@@ -1,0 +1,72 @@
+//! The lines of a report, word by word.
+
+ghost use Rattle.std.specs.Prelude.{◌≡◌, map, codes, if◌then◌else◌};
+ghost use Rattle.std.specs.List.{AllByRecursion};
+ghost use Rattle.findings.specs.Cells.{words_in};
+ghost use Rattle.findings.specs.Texts.{dep_line, last_line, small, Fits, IsInRange};
+
+use crate::cells::Cell::*;
+use crate::finding::{Dep, Finding};
+use spy_grammar::Code;
+
+/// A word of a report, no word, or all the events of a cycle.
+#[derive(Clone, Copy, Debug)]
+pub enum Cell<'a> {
+    No,
+    Says(&'a [u8]),
+    Small(u32),
+    Large(u64),
+    Names(Code),
+    Events(&'a [u32]),
+}
+
+/// The first word of a line, and the words after it.
+pub type Words<'a> = (&'static [u8], [Cell<'a>; 8]);
+
+/// The first word of the line of a pair of items, by whether their order is fixed.
+pub fn dep_name(before: bool) -> &'static [u8]
+    ensures { result.now ≡ (if before then codes "before" else codes "turn") }
+{
+    if before { b"before" } else { b"turn" }
+}
+
+/// The line of a pair of items.
+#[rattlefmt::skip]
+pub fn dep_words(dep: &Dep) -> Words<'_>
+    ensures name { result.0.now ≡ (dep_line dep.now).name }
+    ensures row { words_in result.1 ≡ (dep_line dep.now).row }
+    // Rust's types keep each number in its range.
+    ensures fits { Fits (dep_line dep.now) }
+{
+    let Dep { before, a, b, tree, point, field } = dep;
+    let row = [Small(*a), Small(*b), Says(b"tree"), Small(*tree), Says(b"point"), Large(*point), Says(b"field"), Small(*field)];
+    (dep_name(*before), row)
+}
+
+/// Events, each a word.
+fn event_words(events: &[u32]) -> [Cell<'_>; 8]
+    ensures words { words_in result ≡ map small events.now }
+    ensures fits { AllByRecursion IsInRange (map small events.now) }
+{
+    [Events(events), No, No, No, No, No, No, No]
+}
+
+/// A report's own line, which is its last.
+#[rattlefmt::skip]
+pub fn last_words(f: &Finding) -> Words<'_>
+    ensures name { result.0.now ≡ (last_line f.now).name }
+    ensures row { words_in result.1 ≡ (last_line f.now).row }
+    ensures fits { Fits (last_line f.now) }
+{
+    match f {
+        Finding::Accepted { tasks, operations, reads } => (b"accepted", [Says(b"tasks"), Small(*tasks), Says(b"operations"), Small(*operations), Says(b"reads"), Large(*reads), No, No]),
+        Finding::Ordered { tasks, pairs } => (b"ordered", [Says(b"tasks"), Small(*tasks), Says(b"pairs"), Large(*pairs), No, No, No, No]),
+        Finding::Deps { list: _, items, before, turn } => (b"deps", [Says(b"items"), Small(*items), Says(b"before"), Large(*before), Says(b"turn"), Large(*turn), No, No]),
+        Finding::Cycle { events } => (b"cycle", event_words(events.as_slice())),
+        Finding::Race { a, b, inst, point, field } => (b"race", [Small(*a), Small(*b), Says(b"inst"), Small(*inst), Says(b"point"), Large(*point), Says(b"field"), Small(*field)]),
+        Finding::Unordered { t, u, tree, point, field } => (b"unordered", [Small(*t), Small(*u), Says(b"tree"), Small(*tree), Says(b"point"), Large(*point), Says(b"field"), Small(*field)]),
+        Finding::Fault { line, code } => (b"fault", [Small(*line), Names(*code), No, No, No, No, No, No]),
+        Finding::Usage => (b"usage", [No, No, No, No, No, No, No, No]),
+        Finding::CannotRead => (b"cannot", [Says(b"read"), No, No, No, No, No, No, No]),
+    }
+}

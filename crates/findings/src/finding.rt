@@ -1,0 +1,42 @@
+//! What a command says of a log.
+
+use crate::lists::{DepList, EventList};
+use spy_grammar::Code;
+
+/// A pair of items that interfere, and the least place at which they do.
+#[derive(Clone, Copy, Debug, PartialEq, Eq)]
+pub struct Dep {
+    /// Whether the order of the two is fixed; else they take turns in either order.
+    pub before: bool,
+    /// The item that is earlier in serial order.
+    pub a: u32,
+    /// The item that is later in serial order.
+    pub b: u32,
+    pub tree: u32,
+    pub point: u64,
+    pub field: u32,
+}
+
+/// A report.
+#[derive(Debug, Drop)]
+#[rattlefmt::skip]
+pub enum Finding {
+    /// Every read got the value that the sequential program reads.
+    Accepted { tasks: u32, operations: u32, reads: u64 },
+    /// Each two tasks that interfere are ordered. So many pairs interfere.
+    Ordered { tasks: u32, pairs: u64 },
+    /// The pairs of items that interfere, and how many of them are of each kind.
+    Deps { list: DepList, items: u32, before: u64, turn: u64 },
+    /// Events that wait on each other in a cycle.
+    Cycle { events: EventList },
+    /// Two nodes, told by their events, that reach a place of an instance in either order.
+    Race { a: u32, b: u32, inst: u32, point: u64, field: u32 },
+    /// Two tasks that interfere and are not ordered, and the least place at which they interfere.
+    Unordered { t: u32, u: u32, tree: u32, point: u64, field: u32 },
+    /// The rule that the log breaks, and the line that breaks it.
+    Fault { line: u32, code: Code },
+    /// The words of the command are not taken.
+    Usage,
+    /// Reading the log failed.
+    CannotRead,
+}

@@ -1,0 +1,163 @@
+use crate::{Dep, DepList, EventList, Finding, TextFault, good_finding, read_text, text};
+use std::alloc::Global;
+use std::test::Fail;
+
+#[test]
+fn writes_what_it_reads(rt: HostRuntime) -> Result<(), Fail> {
+    for report in [
+        "accepted tasks 0 operations 0 reads 0\n",
+        "accepted tasks 4294967295 operations 4294967295 reads 18446744073709551615\n",
+        "ordered tasks 0 pairs 0\n",
+        "ordered tasks 4294967295 pairs 18446744073709551615\n",
+        "deps items 0 before 0 turn 0\n",
+        "deps items 4294967295 before 0 turn 0\n",
+        "before 0 0 tree 0 point 0 field 0\ndeps items 0 before 1 turn 0\n",
+        "turn 4294967295 4294967295 tree 4294967295 point 18446744073709551615 field 4294967295\nbefore 1 2 tree 3 point 4 field 5\nturn 2 1 tree 3 point 4 field 5\ndeps items 3 before 1 turn 2\n",
+        "cycle 0\n",
+        "cycle 4294967295 1 2 1\n",
+        "race 0 0 inst 0 point 0 field 0\n",
+        "race 1 2 inst 1 point 0 field 1\n",
+        "race 4294967295 4294967295 inst 4294967295 point 18446744073709551615 field 4294967295\n",
+        "unordered 0 0 tree 0 point 0 field 0\n",
+        "unordered 4294967295 4294967295 tree 4294967295 point 18446744073709551615 field 4294967295\n",
+        "fault 0 too-long\n",
+        "fault 4294967295 unmapped\n",
+        "fault 1 unbuilt\n",
+        "usage\n",
+        "cannot read\n",
+    ] {
+        let f = read_text(rt.alloc(), report.as_bytes())?;
+        assert!(rt; good_finding(&f), "at {report}");
+        let again = text(rt.alloc(), &f)?;
+        assert_eq!(rt; again.as_slice(), report.as_bytes(), "at {report}");
+    }
+    Ok(())
+}
+
+#[test]
+fn refuses_other_texts(rt: HostRuntime) {
+    for other in [
+        "",
+        "\n",
+        " \n",
+        "accepted tasks 4294967296 operations 0 reads 0\n",
+        "accepted tasks 0 operations 4294967296 reads 0\n",
+        "accepted tasks 0 operations 0 reads 18446744073709551616\n",
+        "accepted tasks 00 operations 0 reads 0\n",
+        "accepted tasks 0 operations 0\n",
+        "accepted 0 0 0\n",
+        "ordered tasks 4294967296 pairs 0\n",
+        "ordered tasks 1 pairs 18446744073709551616\n",
+        "ordered tasks 1 pairs 99999999999999999999999999999999999999999999\n",
+        "ordered tasks 1 pairs 0\n\n",
+        "ordered tasks 1 pairs 0\nordered tasks 1 pairs 0\n",
+        "\nordered tasks 1 pairs 0\n",
+        "ordered tasks 1 pairs 0 \n",
+        "ordered  tasks 1 pairs 0\n",
+        " ordered tasks 1 pairs 0\n",
+        "ordered tasks 1 pairs 0\r\n",
+        "ordered tasks +1 pairs 0\n",
+        "ordered tasks -1 pairs 0\n",
+        "ordered tasks x pairs 0\n",
+        "ordered tasks  pairs 0\n",
+        "Ordered tasks 1 pairs 0\n",
+        "deps items 4294967296 before 0 turn 0\n",
+        "deps items 2 before 1 turn 0\n",
+        "before 1 2 tree 1 point 0 field 1\ndeps items 2 before 0 turn 1\n",
+        "turn 1 2 tree 1 point 0 field 1\ndeps items 2 before 1 turn 0\n",
+        "before 1 2 tree 1 point 0 field 1\nturn 1 2 tree 1 point 0 field 1\ndeps items 2 before 2 turn 0\n",
+        "before 1 4294967296 tree 1 point 0 field 1\ndeps items 2 before 1 turn 0\n",
+        "before 1 2 tree 1 point 18446744073709551616 field 1\ndeps items 2 before 1 turn 0\n",
+        "after 1 2 tree 1 point 0 field 1\ndeps items 2 before 0 turn 1\n",
+        "before 1 2 tree 1 point 0 field 1\nusage\n",
+        "before 1 2 tree 1 point 0 field 1\n",
+        "cycle\n",
+        "cycle \n",
+        "cycle 4294967296\n",
+        "cycle 1 02\n",
+        "cycle 1,2\n",
+        "race 1 2 inst 1 point 0 field 1",
+        "race 1 2 inst 1 point 0 field 01\n",
+        "race 4294967296 2 inst 1 point 0 field 1\n",
+        "race 1 2 tree 1 point 0 field 1\n",
+        "unordered 1 2 tree 1 point 18446744073709551616 field 1\n",
+        "unordered 1 2 tree 1 point 0 field 4294967296\n",
+        "unordered 1 2 tree 1 point 0 field 1 1\n",
+        "fault 4294967296 word\n",
+        "fault 0 words\n",
+        "fault 0 Word\n",
+        "fault 0 \n",
+        "fault 0\n",
+        "fault word\n",
+        "usage 1\n",
+        "usages\n",
+        "cannot write\n",
+        "cannot\n",
+    ] {
+        let read = read_text(rt.alloc(), other.as_bytes());
+        assert_eq!(rt; read.err(), Some(TextFault::NotAReport), "at {other}");
+    }
+}
+
+#[test]
+fn reads_the_fields_in_order(rt: HostRuntime) -> Result<(), Fail> {
+    let read = read_text(rt.alloc(), b"race 1 2 inst 3 point 4 field 5\n")?;
+    let Finding::Race {
+        a,
+        b,
+        inst,
+        point,
+        field,
+    } = read
+    else {
+        return Err(Fail::new("another report"));
+    };
+    assert_eq!(rt; (a, b, inst, point, field), (1, 2, 3, 4, 5));
+    Ok(())
+}
+
+/// The report that lists one pair, with these counts.
+fn one_dep(alloc: Global, before: u64, turn: u64) -> Result<Finding, Fail> {
+    let dep = Dep {
+        before: true,
+        a: 1,
+        b: 2,
+        tree: 3,
+        point: 4,
+        field: 5,
+    };
+    let list = DepList::from_vec(vec![in alloc; dep]?);
+    Ok(Finding::Deps {
+        list,
+        items: 2,
+        before,
+        turn,
+    })
+}
+
+#[test]
+fn tells_which_reports_are_good(rt: HostRuntime) -> Result<(), Fail> {
+    assert!(rt; good_finding(&one_dep(rt.alloc(), 1, 0)?));
+    assert!(rt; !good_finding(&one_dep(rt.alloc(), 0, 1)?));
+    assert!(rt; !good_finding(&one_dep(rt.alloc(), 1, 1)?));
+    let none = EventList::from_vec(Vec::new(rt.alloc()));
+    assert!(rt; !good_finding(&Finding::Cycle { events: none }));
+    Ok(())
+}
+
+#[test]
+fn lists_give_what_they_hold(rt: HostRuntime) -> Result<(), Fail> {
+    let events = EventList::from_vec(vec![in rt.alloc(); 7, 8]?);
+    assert_eq!(rt;
+        (events.len(), events.at(1), events.at(2)),
+        (2, Some(8), None)
+    );
+    assert_eq!(rt; events.into_vec().as_slice(), [7, 8].as_slice());
+    let Finding::Deps { list, .. } = one_dep(rt.alloc(), 1, 0)? else {
+        return Err(Fail::new("another report"));
+    };
+    assert_eq!(rt; list.len(), 1);
+    assert!(rt; list.at(0).is_some_and(|dep| dep.before && dep.field == 5));
+    assert!(rt; list.at(1).is_none());
+    Ok(())
+}

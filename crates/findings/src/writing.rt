@@ -1,0 +1,160 @@
+//! A report, written, and whether it has a text.
+
+ghost use Rattle.std.specs.Prelude.{◌≡◌, ◌↔◌, ◌++◌, ◌∷◌, [], not, map, count_by, IsTrue, IfOk, OnOk};
+ghost use Rattle.std.specs.List.{AllByRecursion};
+ghost use Rattle.findings.specs.Cells.{with_cell, words_in};
+ghost use Rattle.findings.specs.Texts as texts;
+ghost use Rattle.findings.specs.Texts.{small, dep_line, row_text, line_text, lines_text, Fits, Good};
+
+use crate::cells::Cell::*;
+use crate::cells::{Cell, dep_words, last_words};
+use crate::codes;
+use crate::finding::{Dep, Finding};
+use spy_words::push_u64;
+use std::alloc::{AllocError, Global};
+
+/// Memory ran out.
+#[derive(Clone, Copy, Debug, PartialEq, Eq)]
+pub struct Memory;
+
+impl From<AllocError> for Memory {
+    ghost from_gives = { λ _ e. Unit {0} };
+
+    fn from(_e: AllocError) -> Memory {
+        Memory
+    }
+}
+
+/// The pairs that a report lists.
+fn deps_of(f: &Finding) -> &[Dep]
+    ensures { result.now ≡ texts.deps_of f.now }
+{
+    match f {
+        Finding::Deps { list, .. } => list.as_slice(),
+        _ => &[],
+    }
+}
+
+/// Whether each number lies in the range of its type. Rust's types see to that, and a proof learns
+/// of it where the numbers are read.
+fn in_range(deps: &[Dep]) -> bool
+    ensures { IsTrue result ↔ AllByRecursion Fits (map dep_line deps.now) }
+{
+    let mut rest = deps;
+    while let [dep, more @ ..] = rest {
+        let _line = dep_words(dep);
+        rest = more;
+    }
+    true
+}
+
+/// How many pairs have a fixed order.
+fn count_before(deps: &[Dep]) -> u64
+    ensures { result ≡ count_by (λ d. d.before) deps.now }
+{
+    deps.iter().filter(|dep| dep.before).count() as u64
+}
+
+/// How many pairs take turns.
+fn count_turn(deps: &[Dep]) -> u64
+    ensures { result ≡ count_by (λ d. not d.before) deps.now }
+{
+    deps.iter().filter(|dep| !dep.before).count() as u64
+}
+
+/// Whether the report has a text: `Deps` counts right what it lists, and a `Cycle` has an event.
+pub fn good_finding(f: &Finding) -> bool
+    ensures { IsTrue result ↔ Good f.now }
+{
+    let deps = deps_of(f);
+    let _last = last_words(f);
+    match f {
+        Finding::Deps {
+            list: _,
+            items: _,
+            before,
+            turn,
+        } => { in_range(deps) && count_before(deps) == *before && count_turn(deps) == *turn }
+        Finding::Cycle { events } => events.len() > 0,
+        _ => true,
+    }
+}
+
+fn push_events(out: &mut Vec<u8>, events: &[u32]) -> Result<(), AllocError>
+    ensures { OnOk result (out.new.items ≡ out.old.items ++ row_text (map small events.now)) }
+{
+    let mut rest = events;
+    while let [event, more @ ..] = rest {
+        out.push(b' ')?;
+        push_u64(out, u64::from(*event))?;
+        rest = more;
+    }
+    Ok(())
+}
+
+fn push_cell(out: &mut Vec<u8>, cell: &Cell<'_>) -> Result<(), AllocError>
+    ensures { OnOk result (out.new.items ≡ out.old.items ++ row_text (with_cell cell.now [])) }
+{
+    match *cell {
+        No => return Ok(()),
+        Events(events) => return push_events(out, events),
+        _ => out.push(b' ')?,
+    }
+    match *cell {
+        Says(word) => out.extend_from_slice(word),
+        Small(n) => push_u64(out, u64::from(n)),
+        Large(n) => push_u64(out, n),
+        Names(code) => out.extend_from_slice(codes::text_of(code)),
+        No | Events(_) => Ok(()),
+    }
+}
+
+fn push_row(out: &mut Vec<u8>, row: &[Cell<'_>]) -> Result<(), AllocError>
+    ensures { OnOk result (out.new.items ≡ out.old.items ++ row_text (words_in row.now)) }
+{
+    let mut rest = row;
+    while let [cell, more @ ..] = rest {
+        push_cell(out, cell)?;
+        rest = more;
+    }
+    Ok(())
+}
+
+fn push_line(out: &mut Vec<u8>, name: &[u8], row: &[Cell<'_>]) -> Result<(), AllocError>
+    ensures { OnOk result (out.new.items ≡ out.old.items ++ (name.now ++ row_text (words_in row.now)) ++ 10 ∷ []) }
+{
+    out.extend_from_slice(name)?;
+    push_row(out, row)?;
+    out.extend_from_slice(b"\n")
+}
+
+fn push_dep(out: &mut Vec<u8>, dep: &Dep) -> Result<(), AllocError>
+    ensures { OnOk result (out.new.items ≡ out.old.items ++ line_text (dep_line dep.now) ++ 10 ∷ []) }
+{
+    let (name, row) = dep_words(dep);
+    push_line(out, name, &row)
+}
+
+fn push_deps(out: &mut Vec<u8>, deps: &[Dep]) -> Result<(), AllocError>
+    ensures { OnOk result (out.new.items ≡ out.old.items ++ lines_text (map dep_line deps.now)) }
+{
+    let mut rest = deps;
+    while let [dep, more @ ..] = rest {
+        push_dep(out, dep)?;
+        rest = more;
+    }
+    Ok(())
+}
+
+/// The text of a report.
+pub fn text(alloc: Global, f: &Finding) -> Result<Vec<u8>, Memory>
+    // Another report's text would not be read again.
+    requires { Good f.now }
+    ensures { IfOk result (λ v. v.items ≡ texts.text_of f.now) }
+{
+    let mut out = Vec::new(alloc);
+    push_deps(&mut out, deps_of(f))?;
+    let (name, row) = last_words(f);
+    push_line(&mut out, name, &row)?;
+    Ok(out)
+}
