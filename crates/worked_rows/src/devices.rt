@@ -1,6 +1,7 @@
 //! Words that name no command, and sources and sinks that fail.
 
-use crate::answers::{TWO_TASKS, words_of};
+use crate::answers::words_of;
+use crate::logs::TWO_TASKS;
 use spy_cli::{Status, run};
 use spy_io::{MemSink, MemSource};
 use std::test::Fail;
@@ -8,10 +9,11 @@ use std::test::Fail;
 #[test]
 fn words_that_name_no_command_read_nothing(rt: HostRuntime) -> Result<(), Fail> {
     let alloc = rt.alloc();
-    let cases: [&[&str]; 5] = [
+    let cases: [&[&str]; 6] = [
         &[],
         &["orderd"],
         &["ordered", "ordered"],
+        &["print", "ordered"],
         &["--help"],
         &["check"],
     ];

@@ -6,4 +6,8 @@ mod answers;
 #[cfg(test)]
 mod devices;
 #[cfg(test)]
+mod logs;
+#[cfg(test)]
 mod ordered;
+#[cfg(test)]
+mod printed;

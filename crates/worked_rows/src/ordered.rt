@@ -1,6 +1,7 @@
-//! `ordered` over thin logs, and over all others.
+//! `ordered` over thin logs, and over all other inputs.
 
-use crate::answers::{TWO_TASKS, answer, with_line};
+use crate::answers::{answer, with_line};
+use crate::logs::{TWO_TASKS, WRITE_THEN_READ};
 use spy_cli::Status;
 use std::test::Fail;
 
@@ -51,31 +52,31 @@ fn one_line_changed(rt: HostRuntime) -> Result<(), Fail> {
             b"fault 0 unbuilt\n",
         ),
         (2, b"ispace 1 0", Status::Fault, b"fault 0 unbuilt\n"),
-        (2, b"ispace 1 0-0", Status::Fault, b"fault 0 unbuilt\n"),
+        (2, b"ispace 1 0-0", Status::Fault, b"fault 2 order\n"),
         (2, b"ispace 1 1-3", Status::Fault, b"fault 0 unbuilt\n"),
-        (2, b"ispace 01 0-3", Status::Fault, b"fault 0 unbuilt\n"),
+        (2, b"ispace 01 0-3", Status::Fault, b"fault 2 number\n"),
         (6, b"req 1 1 1 1 wd ex", Status::Fault, b"fault 0 unbuilt\n"),
         (6, b"req 1 1 1 1 rw at", Status::Fault, b"fault 0 unbuilt\n"),
         (
             6,
             b"req 1 1  1 1 rw ex",
             Status::Fault,
-            b"fault 0 unbuilt\n",
+            b"fault 6 form\n",
         ),
-        (9, b"run 1 1 -\r", Status::Fault, b"fault 0 unbuilt\n"),
+        (9, b"run 1 1 -\r", Status::Fault, b"fault 9 form\n"),
         (9, b"run 1 1 2", Status::Fault, b"fault 0 unbuilt\n"),
         (10, b"run 2 2 2", Status::Fault, b"fault 0 unbuilt\n"),
         (11, b"end 10", Status::Fault, b"fault 0 unbuilt\n"),
         (
             1,
-            b"# a comment\nlegion-spy 1",
-            Status::Fault,
-            b"fault 0 unbuilt\n",
+            b"# a comment\n\nlegion-spy 1",
+            Status::Yes,
+            b"ordered tasks 2 pairs 1\n",
         ),
     ];
     for (number, text, status, report) in cases {
         let log = with_line(alloc, TWO_TASKS, number, text)?;
-        let (ended, said) = answer(alloc, &log)?;
+        let (ended, said) = answer(alloc, "ordered", &log)?;
         assert_eq!(rt; ended, status, "line {number}");
         assert_eq!(rt; said.as_slice(), report, "line {number}");
     }
@@ -110,7 +111,7 @@ fn whole_logs(rt: HostRuntime) -> Result<(), Fail> {
         ),
         // A log of what copies, maps and instances make of two tasks is not judged yet.
         (
-            b"legion-spy 1\nispace 1 0-3\nfields 1 1\ntree 1 1 1\ntask 1\nreq 1 1 1 1 wd ex\ntask 2\nreq 2 1 1 1 ro ex\ninst 1 1 1 1 plain\nmap 1 1 1 1\nmap 2 1 1 1\nrun 1 1 -\nrun 2 2 1\nend 12\n",
+            WRITE_THEN_READ,
             Status::Fault,
             b"fault 0 unbuilt\n",
         ),
@@ -118,11 +119,11 @@ fn whole_logs(rt: HostRuntime) -> Result<(), Fail> {
         (
             b"legion-spy 1\nispace 1 0-3\nfields 1 1\ntree 1 1 1\ntask 1\nreq 1 1 1 1 rw ex\ntask 2\nreq 2 1 1 1 ro ex\nrun 1 1 -\nrun 2 2 1\nend 9",
             Status::Fault,
-            b"fault 0 unbuilt\n",
+            b"fault 11 newline\n",
         ),
     ];
     for (log, status, report) in cases {
-        let (ended, said) = answer(alloc, log)?;
+        let (ended, said) = answer(alloc, "ordered", log)?;
         assert_eq!(rt; ended, status);
         assert_eq!(rt; said.as_slice(), report);
     }

@@ -1,0 +1,117 @@
+//! The logs of the worked examples, as they stand in the folder `examples`.
+
+/// Two tasks over one region, the second run waiting on the first.
+pub const TWO_TASKS: &[u8] = b"legion-spy 1
+ispace 1 0-3
+fields 1 1
+tree 1 1 1
+task 1
+req 1 1 1 1 rw ex
+task 2
+req 2 1 1 1 ro ex
+run 1 1 -
+run 2 2 1
+end 9
+";
+
+/// A task writes one instance, and a task whose run waits on it reads there.
+pub const WRITE_THEN_READ: &[u8] = b"legion-spy 1
+ispace 1 0-3
+fields 1 1
+tree 1 1 1
+task 1
+req 1 1 1 1 wd ex
+task 2
+req 2 1 1 1 ro ex
+inst 1 1 1 1 plain
+map 1 1 1 1
+map 2 1 1 1
+run 1 1 -
+run 2 2 1
+end 12
+";
+
+/// A copy that comes before the second write: the third task reads the value of the first.
+pub const STALE_COPY: &[u8] = b"legion-spy 1
+ispace 1 0-3
+fields 1 1
+tree 1 1 1
+task 1
+req 1 1 1 1 wd ex
+task 2
+req 2 1 1 1 rw ex
+task 3
+req 3 1 1 1 ro ex
+inst 1 1 1 1 plain
+inst 2 1 1 1 plain
+map 1 1 1 1
+map 2 1 1 1
+map 3 1 1 2
+run 1 1 -
+copy 1 2 1 1 2 1
+run 2 3 2
+run 3 4 3
+end 18
+";
+
+/// Two reductions gathered in a reduction instance, folded into the one that is read.
+pub const GATHERED_REDUCTIONS: &[u8] = b"legion-spy 1
+ispace 1 0
+fields 1 1
+tree 1 1 1
+redop 1
+task 1
+req 1 1 1 1 red:1 ex
+task 2
+req 2 1 1 1 red:1 ex
+task 3
+req 3 1 1 1 ro ex
+inst 1 1 1 1 home
+inst 2 1 1 1 red:1
+map 1 1 1 2
+map 2 1 1 2
+map 3 1 1 1
+reset 2 1 1 1 -
+run 1 2 1
+run 2 3 1
+fold 2 1 1 1 4 2,3
+run 3 5 4
+end 20
+";
+
+/// Reductions with two operators, into one instance, with no wait between them.
+pub const TWO_OPERATORS: &[u8] = b"legion-spy 1
+ispace 1 0
+fields 1 1
+tree 1 1 1
+redop 1
+redop 2
+task 1
+req 1 1 1 1 red:1 ex
+task 2
+req 2 1 1 1 red:2 ex
+inst 1 1 1 1 home
+map 1 1 1 1
+map 2 1 1 1
+run 1 1 -
+run 2 2 -
+end 14
+";
+
+/// Two atomic tasks, run in the serial order, which turns program order round.
+pub const TURNED_WRITES: &[u8] = b"legion-spy 1
+ispace 1 0-3
+fields 1 1
+tree 1 1 1
+task 1
+req 1 1 1 1 rw at
+task 2
+req 2 1 1 1 rw at
+serial 2 1
+inst 1 1 1 1 home
+map 1 1 1 1
+map 2 1 1 1
+run 1 1 2
+run 2 2 -
+end 13
+";
