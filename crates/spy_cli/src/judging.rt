@@ -145,29 +145,40 @@ fn answered(
     }
 }
 
-/// The report of a command on lines.
-fn lines_report(alloc: Global, command: Command, list: &LineList) -> Result<Report, Memory>
-    ensures { IfOk result (λ r. IsLinesOutcome command list.now r.status r.text.items) }
+/// The report of a command on lines. They are not kept once their records are read.
+fn lines_report(alloc: Global, command: Command, list: LineList) -> Result<Report, Memory>
+    ensures { IfOk result (λ r. IsLinesOutcome command list r.status r.text.items) }
 {
     read_logs_are_good();
-    match read_records(alloc, list) {
-        Ok(records) => answered(alloc, command, &records, list.len() as u32),
+    let count = list.len() as u32;
+    let records = read_records(alloc, &list);
+    drop(list);
+    match records {
+        Ok(records) => answered(alloc, command, &records, count),
         Err(SpellEnd::Fault { line, code }) => fault_report(alloc, line, code),
         Err(SpellEnd::Memory) => Err(Memory),
     }
 }
 
-/// The report of a command on an input.
-pub fn judge(alloc: Global, command: Command, bytes: &[u8]) -> Result<Report, Memory>
-    requires { length bytes.now ≤ 2 ^ 26 }
-    ensures { IfOk result (λ r. IsOutcome command bytes.now r.status r.text.items) }
+/// The input, to be cut into lines. What was read is not kept.
+fn lines_of(alloc: Global, bytes: Vec<u8>) -> Result<Lines, Memory>
+    requires { length bytes.items ≤ 2 ^ 26 }
+    ensures { IfOk result (λ lines. lines ≡ bytes.items) }
 {
     let mut lines = Lines::new(alloc);
-    if lines.feed(bytes).is_err() {
-        return Err(Memory);
+    match lines.feed(&bytes) {
+        Ok(()) => Ok(lines),
+        Err(_) => Err(Memory),
     }
-    match lines.finish() {
-        Ok(list) => lines_report(alloc, command, &list),
+}
+
+/// The report of a command on an input.
+pub fn judge(alloc: Global, command: Command, bytes: Vec<u8>) -> Result<Report, Memory>
+    requires { length bytes.items ≤ 2 ^ 26 }
+    ensures { IfOk result (λ r. IsOutcome command bytes.items r.status r.text.items) }
+{
+    match lines_of(alloc, bytes)?.finish() {
+        Ok(list) => lines_report(alloc, command, list),
         Err(end) => fault_report(alloc, end.line, Code::Newline),
     }
 }

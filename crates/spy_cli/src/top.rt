@@ -53,7 +53,7 @@ fn report_on<S: Source>(
     ensures read_fault { IsErrOf result ReportEnd.ReadFault → Rose (S.faults source.old) (S.faults source.new) }
 {
     let report = match read_all(alloc, source, MOST_BYTES) {
-        Ok(bytes) => judge(alloc, command, &bytes),
+        Ok(bytes) => judge(alloc, command, bytes),
         Err(ReadEnd::TooLong) => fault_report(alloc, 0, Code::TooLong),
         Err(ReadEnd::ReadFault) => return Err(ReportEnd::ReadFault),
         Err(ReadEnd::Memory) => return Err(ReportEnd::Memory),
