@@ -185,9 +185,9 @@ left_next (p ∷ parts) some h = left_behind [] p parts ∙ h
 unended_left : (bytes : List ℕ) → IsUnended bytes → none_left (parts_of bytes) ≡ false
 unended_left [] un = absurd (un.0 refl)
 unended_left (b ∷ []) un = elim (cases_Bool (b == 10)) [
-    | inl same ↦ absurd (un.1 (ap Some (eqb-true b 10 same)))
-    | inr other ↦ subst (λ ps. none_left ps ≡ false) (sym (slice_split-cons_no (λ c. c == 10) b [] other)) (rw (ne_eqb (length (b ∷ [])) 0 (λ e. omega (arith, e))) refl)
-  ]
+  | inl same ↦ absurd (un.1 (ap Some (eqb-true b 10 same)))
+  | inr other ↦ subst (λ ps. none_left ps ≡ false) (sym (slice_split-cons_no (λ c. c == 10) b [] other)) (rw (ne_eqb (length (b ∷ [])) 0 (λ e. omega (arith, e))) refl)
+]
 unended_left (b ∷ c ∷ bs) un =
     let last : length (b ∷ c ∷ bs) - 1 ≡ suc (length (c ∷ bs) - 1) = omega (arith) in
     let behind : none_left (parts_of (c ∷ bs)) ≡ false = unended_left (c ∷ bs) (λ e. absurd cc, λ e. un.1 (ap (slice_get (b ∷ c ∷ bs)) last ∙ e)) in

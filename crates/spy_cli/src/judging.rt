@@ -55,9 +55,7 @@ pub fn fault_report(alloc: Global, line: u32, code: Code) -> Result<Report, Memo
 fn writes(alloc: Global, reqs: &[Req]) -> Result<Vec<bool>, AllocError>
     ensures { IfOk result (λ marks. marks.items ≡ writes_in reqs.now) }
 {
-    reqs.iter()
-        .map(|req| req.access != Priv::Ro)
-        .collect(alloc)
+    reqs.iter().map(|req| req.access != Priv::Ro).collect(alloc)
 }
 
 /// The report on the tasks and runs of a thin log.

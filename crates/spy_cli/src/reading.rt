@@ -42,10 +42,22 @@ fn end_of(line: u32, fault: LineFault) -> SpellEnd
     ensures { result ≡ end_at line fault }
 {
     match fault {
-        LineFault::Word => SpellEnd::Fault { line, code: Code::Word },
-        LineFault::Form => SpellEnd::Fault { line, code: Code::Form },
-        LineFault::Number => SpellEnd::Fault { line, code: Code::Number },
-        LineFault::Order => SpellEnd::Fault { line, code: Code::Order },
+        LineFault::Word => SpellEnd::Fault {
+            line,
+            code: Code::Word,
+        },
+        LineFault::Form => SpellEnd::Fault {
+            line,
+            code: Code::Form,
+        },
+        LineFault::Number => SpellEnd::Fault {
+            line,
+            code: Code::Number,
+        },
+        LineFault::Order => SpellEnd::Fault {
+            line,
+            code: Code::Order,
+        },
         LineFault::Memory => SpellEnd::Memory,
     }
 }

@@ -57,12 +57,7 @@ fn one_line_changed(rt: HostRuntime) -> Result<(), Fail> {
         (2, b"ispace 01 0-3", Status::Fault, b"fault 2 number\n"),
         (6, b"req 1 1 1 1 wd ex", Status::Fault, b"fault 0 unbuilt\n"),
         (6, b"req 1 1 1 1 rw at", Status::Fault, b"fault 0 unbuilt\n"),
-        (
-            6,
-            b"req 1 1  1 1 rw ex",
-            Status::Fault,
-            b"fault 6 form\n",
-        ),
+        (6, b"req 1 1  1 1 rw ex", Status::Fault, b"fault 6 form\n"),
         (9, b"run 1 1 -\r", Status::Fault, b"fault 9 form\n"),
         (9, b"run 1 1 2", Status::Fault, b"fault 0 unbuilt\n"),
         (10, b"run 2 2 2", Status::Fault, b"fault 0 unbuilt\n"),
@@ -110,11 +105,7 @@ fn whole_logs(rt: HostRuntime) -> Result<(), Fail> {
             b"unordered 1 3 tree 1 point 0 field 1\n",
         ),
         // A log of what copies, maps and instances make of two tasks is not judged yet.
-        (
-            WRITE_THEN_READ,
-            Status::Fault,
-            b"fault 0 unbuilt\n",
-        ),
+        (WRITE_THEN_READ, Status::Fault, b"fault 0 unbuilt\n"),
         (b"", Status::Fault, b"fault 0 unbuilt\n"),
         (
             b"legion-spy 1\nispace 1 0-3\nfields 1 1\ntree 1 1 1\ntask 1\nreq 1 1 1 1 rw ex\ntask 2\nreq 2 1 1 1 ro ex\nrun 1 1 -\nrun 2 2 1\nend 9",

@@ -16,4 +16,4 @@ returns c =
     let pairs = c.count_pairs.ensures ∙ ap pair_count (c.deref-in-None.ensures.value ∙ marks) in
     let ordered = none_found c.in_ok-first.field-0 c.deref.result.now _ (graph_of c.nodes.result.now) _ c.in-None.is c.in_ok-first.ensures.ordered (c.deref.ensures.value ∙ marks) (ap graph_of c.nodes.ensures) in
     if_ok_so _ _ (λ (r : Report) said. subst (λ s. IsJudged (writes_in c.args.log.now.reqs) (graph_of c.args.log.now.nodes) s r.text.items) (sym said.0)
-      (ordered, said.1 ∙ ap (λ n. text_of (Ordered n c.count_pairs.result)) many ∙ ap (λ n. text_of (Ordered (length (writes_in c.args.log.now.reqs)) n)) pairs)) c.report_of-in-None.result c.report_of-in-None.ensures
+    (ordered, said.1 ∙ ap (λ n. text_of (Ordered n c.count_pairs.result)) many ∙ ap (λ n. text_of (Ordered (length (writes_in c.args.log.now.reqs)) n)) pairs)) c.report_of-in-None.result c.report_of-in-None.ensures

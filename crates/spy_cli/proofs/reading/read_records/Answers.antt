@@ -16,8 +16,8 @@ returns-in_err-add_line-clause-fault c line code is =
     let many : length (take c.loop-k.k c.args.list.now) ≡ c.loop-k.k = length-take-le c.loop-k.k c.args.list.now (omega (arith, within)) in
     let cut = cut_at c.args.list.now c.loop-k.k c.in-Some.text.now (sym c.in-Some.ensures) in
     let told : line_fault (c.loop-k.k + 1) (line_at c.in-Some.text.now) ≡ Some (record { line = line; code = code }) =
-        (let handed = err_from_is_err_and c.from_residual.result c.from_residual.ensures.1 in
-        c.in_err-add_line.ensures.fault line code (handed_on c.from_residual.result handed.0 c.in_err-add_line.field-0.0 (Fault line code) handed.1 handed.2 is)) in
+    (let handed = err_from_is_err_and c.from_residual.result c.from_residual.ensures.1 in
+    c.in_err-add_line.ensures.fault line code (handed_on c.from_residual.result handed.0 c.in_err-add_line.field-0.0 (Fault line code) handed.1 handed.2 is)) in
     ap (lines_fault 1) cut.1 ∙ fault_behind 1 (c.loop-k.k + 1) (take c.loop-k.k c.args.list.now) c.in-Some.text.now cut.0 (omega (arith, many)) c.loop-k.invariant.clean ∙ ap (λ o. option_or o (lines_fault (c.loop-k.k + 1 + 1) cut.0)) told
 
 pub loop-k-preserved : goal.loop-k-preserved
