@@ -11,8 +11,8 @@ use crate::cells::{Cell, cells_of};
 use crate::kinds::name_text;
 use crate::record::Record;
 use spy_words::{
-    InstKind, Part, PrivWord, are_fit, ascend, coherence_text, push_access, push_after, push_layout,
-    push_list, push_or_dash, push_u64, split_text,
+    InstKind, Part, PrivWord, are_fit, ascend, coherence_text, push_access, push_after,
+    push_layout, push_list, push_or_dash, push_u64, split_text,
 };
 use std::alloc::{AllocError, Global};
 

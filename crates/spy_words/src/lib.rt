@@ -15,6 +15,6 @@ pub use parts::{
     push_or_dash, spans_of,
 };
 pub use words::{
-    access_of, coherence_text, either, layout_of, number_of, parts_of, push_access,
-    push_layout, push_u64, split_text,
+    access_of, coherence_text, either, layout_of, number_of, parts_of, push_access, push_layout,
+    push_u64, split_text,
 };

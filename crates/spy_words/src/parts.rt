@@ -19,8 +19,11 @@ pub type Read<T> = Result<Result<T, LineFault>, AllocError>;
 pub trait Part: Copy + Default + Drop {
     /// The part that a word says, its numbers from a least one on.
     ghost reading: { ℕ → List ℕ → Result Self LineFault };
+
     ghost text: { Self → List ℕ };
+
     ghost IsFit: { ℕ → Self → Type 0 };
+
     ghost before: { Self → Self → Bool };
 
     /// The part that a word says, its numbers from the least up.
@@ -42,8 +45,11 @@ pub trait Part: Copy + Default + Drop {
 
 impl Part for u32 {
     ghost reading = { number_from };
+
     ghost text = { decimal };
+
     ghost IsFit = { IsNumberFrom };
+
     ghost before = { nat_lt };
 
     fn read(_alloc: Global, least: u32, word: &[u8]) -> Read<u32> {
@@ -65,8 +71,11 @@ impl Part for u32 {
 
 impl Part for (u64, u64) {
     ghost reading = { span_from };
+
     ghost text = { span_word };
+
     ghost IsFit = { λ _ p. IsSpan p };
+
     ghost before = { span_before };
 
     #[tactic(auto, unfolding(crate::specs::Reading::span_from))]
