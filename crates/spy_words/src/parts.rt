@@ -20,10 +20,13 @@ pub trait Part: Copy + Default + Drop {
     /// The part that a word says, its numbers from a least one on.
     ghost reading: { ℕ → List ℕ → Result Self LineFault };
 
+    /// The word of the part.
     ghost text: { Self → List ℕ };
 
+    /// Which parts have a word, their numbers from a least one on.
     ghost IsFit: { ℕ → Self → Type 0 };
 
+    /// Which parts may stand before which in an ascending list.
     ghost before: { Self → Self → Bool };
 
     /// The part that a word says, its numbers from the least up.
@@ -121,7 +124,7 @@ fn span_of(least: u32, words: &[&[u8]]) -> Result<(u64, u64), LineFault>
 }
 
 /// What each word says.
-#[tactic(auto, using(crate::proofs::Faulty::each_end))]
+#[tactic(auto, using(crate::proofs::MetFaults::each_end))]
 fn each_of<T: Part>(alloc: Global, least: u32, words: &[&[u8]]) -> Read<Vec<T>>
     ensures { IfOk result (λ read. map_ok (λ v. v.items) read ≡ each (T.reading least) (map (λ w. w.now) words.now)) }
 {

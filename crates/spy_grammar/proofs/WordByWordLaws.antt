@@ -5,7 +5,7 @@ use Rattle.spy_words.specs.declared.fault.LineFault.TheVariants.{Form}
 use Rattle.spy_words.specs.Faults.{both, map_ok, after, kept}
 use Rattle.spy_words.specs.Classes.{Class, number, about}
 use Rattle.spy_words.specs.Reading.{meaning_at, ids_at, list_or_none_at, list_at, span_from, number_from, operator_at}
-use Rattle.spy_words.proofs.Faulty.{after_both}
+use Rattle.spy_words.proofs.MetFaults.{after_both}
 use Rattle.spy_grammar.specs.declared.kinds.RecordKind.{RecordKind}
 use Rattle.spy_grammar.specs.Rows.{Row, no_more, some_ids, ◌&◌, Makes, entry, applied, made}
 use Rattle.spy_grammar.specs.Reading.{row_at, kind_record}
