@@ -11,7 +11,6 @@ use Rattle.spy_grammar.specs.declared.record.Record.{Record}
 use Rattle.spy_grammar.specs.declared.record.Record.TheVariants as records
 
 infixr 30 ◌&◌
-
 -- The words after the first: words of such classes in turn, at last no more words, or ids, at least one.
 pub data Row : Type 0 where
   no_more : Row
