@@ -1,3 +1,3 @@
 pub mod CellLaws
-pub mod LeftLaws
+pub mod WordByWordLaws
 pub mod RowLaws

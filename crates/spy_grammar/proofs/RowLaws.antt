@@ -1,5 +1,5 @@
 -- For each row of the table, and for a line: what is read has that spelling, and what has a spelling is read from it.
-use Rattle.std.proofs.Common.{◌≡◌, ◌≢◌, ℕ, Bool, true, false, cond, ltb, eqb, List, [], ◌∷◌, map, Option, Some, None, Result, Ok, Err, refl, sym, ap, subst, ◌∙◌, arith, append-nil}
+use Rattle.std.proofs.Common.{◌≡◌, ◌≢◌, ℕ, Bool, true, false, cond, ltb, List, [], ◌∷◌, map, Option, Some, None, Result, Ok, Err, refl, sym, ap, subst, ◌∙◌, arith, append-nil}
 use Rattle.std.specs.Prelude.{decimal}
 use Rattle.std.specs.List.{All, AllByRecursion, join_with_byte, list_all}
 use Rattle.std.proofs.lemmas.List.Elements.{All-from_recursion}
@@ -10,11 +10,12 @@ use Rattle.spy_words.specs.Faults.{map_ok}
 use Rattle.spy_words.specs.Reading.{number_from, parts, meaning_at}
 use Rattle.spy_words.proofs.Joins.{Above, all_lower, above_all, above_join, parts_join, join_parts}
 use Rattle.spy_words.proofs.ClassLaws.{both_ok, map_is_ok, number_agrees, each_takes, each_again, text_takes, class_takes, class_again}
+use Rattle.spy_grammar.specs.declared.kinds.TheConstants.{KINDS}
 use Rattle.spy_grammar.specs.declared.kinds.RecordKind.{RecordKind}
 use Rattle.spy_grammar.specs.declared.kinds.RecordKind.TheVariants as kinds
 use Rattle.spy_grammar.specs.declared.record.Record.{Record}
 use Rattle.spy_grammar.specs.declared.record.Record.TheVariants as records
-use Rattle.spy_grammar.specs.Rows.{Row, no_more, some_ids, ◌&◌, RowMeaning, entry, made, Parts, parts_of, all_kinds, kind_at}
+use Rattle.spy_grammar.specs.Rows.{Row, no_more, some_ids, ◌&◌, RowMeaning, entry, made, Parts, parts_of, kind_at}
 use Rattle.spy_grammar.specs.Spelling.{row_items, items_of, words_in, spelling, IsGoodItem, Good}
 use Rattle.spy_grammar.specs.Reading.{row_at, kind_record, named_record, record_at, is_passed_over, line_at}
 
@@ -70,7 +71,7 @@ is_kind (k ∷ ks) = (tt, is_kind ks)
 -- a word that names a kind is its name
 named_so : (w : List ℕ) (k : RecordKind) → kind_at w ≡ Ok k → w ≡ (entry k).name
 unfolding kind_at
-named_so w k e = (text_takes RecordKind (λ k. (entry k).name) (λ k. Unit {0}) all_kinds w (Err Word) k (is_kind all_kinds) (λ e. absurd cc) e).0
+named_so w k e = (text_takes RecordKind (λ k. (entry k).name) (λ k. Unit {0}) KINDS w (Err Word) k (is_kind KINDS) (λ e. absurd cc) e).0
 
 -- ---- records
 

@@ -4,6 +4,7 @@ use Rattle.spy_words.specs.declared.fault.LineFault.{LineFault}
 use Rattle.spy_words.specs.declared.fault.LineFault.TheVariants.{Word}
 use Rattle.spy_words.specs.Classes.{Class, number, id, event, points, fields, waits, split, access, coherence, layout, Meaning}
 use Rattle.spy_words.specs.Reading.{text_at}
+use Rattle.spy_grammar.specs.declared.kinds.TheConstants.{KINDS}
 use Rattle.spy_grammar.specs.declared.kinds.RecordKind.{RecordKind}
 use Rattle.spy_grammar.specs.declared.kinds.RecordKind.TheVariants as kinds
 use Rattle.spy_grammar.specs.declared.record.Record.{Record}
@@ -94,10 +95,6 @@ parts_of (records.Fold src dst space fs done ws) = (kinds.Fold, (src, (dst, (spa
 parts_of (records.Merge done ws) = (kinds.Merge, (done, (ws, tt)))
 parts_of (records.End n) = (kinds.End, (n, tt))
 
--- Every kind, in the order of the table.
-abbrev pub all_kinds : List RecordKind
-all_kinds = kinds.Header ∷ kinds.Ispace ∷ kinds.Part ∷ kinds.Sub ∷ kinds.Fields ∷ kinds.Tree ∷ kinds.Redop ∷ kinds.Task ∷ kinds.Req ∷ kinds.Fill ∷ kinds.Serial ∷ kinds.Inst ∷ kinds.Map ∷ kinds.Run ∷ kinds.Copy ∷ kinds.Put ∷ kinds.Reset ∷ kinds.Fold ∷ kinds.Merge ∷ kinds.End ∷ []
-
 -- The kind with this first word.
 unfoldable pub kind_at : List ℕ → Result RecordKind LineFault
-kind_at word = text_at (λ k. (entry k).name) all_kinds word (Err Word)
+kind_at word = text_at (λ k. (entry k).name) KINDS word (Err Word)

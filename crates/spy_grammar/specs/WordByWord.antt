@@ -1,5 +1,5 @@
 -- A row that is read word by word: where a word has a fault, a stand-in serves as its meaning, and the fault that is told is kept.
-use Rattle.std.specs.Prelude.{ℕ, List, [], ◌∷◌, Option, Result, Ok, Err, drop}
+use Rattle.std.specs.Prelude.{ℕ, List, [], ◌∷◌, Option, Result, drop}
 use Rattle.spy_words.specs.declared.fault.LineFault.{LineFault}
 use Rattle.spy_words.specs.Classes.{Class, Meaning, about}
 use Rattle.spy_words.specs.Faults.{map_ok, after, kept}

@@ -16,7 +16,7 @@ use spy_words::{LineFault, Read, parts_of};
 use std::alloc::{AllocError, Global};
 
 /// The record of a kind, from the words after the first: the format's table.
-#[tactic(auto, using(crate::proofs::LeftLaws::record_told))]
+#[tactic(auto, using(crate::proofs::WordByWordLaws::record_told))]
 #[rattlefmt::skip]
 fn read_words(kind: RecordKind, row: &mut RowReader<'_>) -> Result<Record, AllocError>
     ensures { IfOk result (λ rec. read_record (entry kind) row.old ≡ (rec, row.new)) }
@@ -45,7 +45,7 @@ fn read_words(kind: RecordKind, row: &mut RowReader<'_>) -> Result<Record, Alloc
     }
 }
 
-#[tactic(auto, using(crate::proofs::LeftLaws::kind_read))]
+#[tactic(auto, using(crate::proofs::WordByWordLaws::kind_read))]
 fn read_kind(alloc: Global, kind: RecordKind, words: &[&[u8]]) -> Read<Record>
     ensures { IfOk result (λ read. read ≡ kind_record kind (map (λ w. w.now) words.now)) }
 {

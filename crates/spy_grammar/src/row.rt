@@ -7,8 +7,8 @@ ghost use Rattle.spy_words.specs.Classes.{number, id, event, points, fields, wai
 ghost use Rattle.spy_grammar.specs.WordByWord.{Left, read_word, read_ids, ended, next_word};
 
 use spy_words::{
-    InstKind, LineFault, Nums, PrivWord, Set, access_of, coherence_text, either, fields_of, ids_of,
-    keep, layout_of, number_of, points_of, split_text, told, waits_of,
+    InstKind, LineFault, Nums, PrivWord, Set, access_of, ascending, coherence_text, either, ids_of,
+    keep, layout_of, list_of, list_or_none, number_of, spans_of, split_text, told,
 };
 use std::alloc::{AllocError, Global};
 use std::marker::Model;
@@ -84,24 +84,24 @@ impl<'a> RowReader<'a> {
     pub fn points(&mut self) -> Result<Set, AllocError>
         ensures { IfOk result (λ x. read_word points self.old ≡ (x, self.new)) }
     {
-        let read = points_of(self.alloc, self.next())?;
-        Ok(keep(&mut self.met, read, Set::from_pairs(Vec::new(self.alloc))))
+        let read = spans_of(self.alloc, self.next())?;
+        Ok(Set::from_pairs(keep(&mut self.met, read, Vec::new(self.alloc))))
     }
 
     /// Fields.
     pub fn fields(&mut self) -> Result<Nums, AllocError>
         ensures { IfOk result (λ x. read_word fields self.old ≡ (x, self.new)) }
     {
-        let read = fields_of(self.alloc, self.next())?;
-        Ok(keep(&mut self.met, read, Nums::from_vec(Vec::new(self.alloc))))
+        let read = ascending(list_of(self.alloc, 0, self.next())?);
+        Ok(Nums::from_vec(keep(&mut self.met, read, Vec::new(self.alloc))))
     }
 
     /// Events, or none.
     pub fn waits(&mut self) -> Result<Nums, AllocError>
         ensures { IfOk result (λ x. read_word waits self.old ≡ (x, self.new)) }
     {
-        let read = waits_of(self.alloc, self.next())?;
-        Ok(keep(&mut self.met, read, Nums::from_vec(Vec::new(self.alloc))))
+        let read = list_or_none(self.alloc, 1, self.next())?;
+        Ok(Nums::from_vec(keep(&mut self.met, read, Vec::new(self.alloc))))
     }
 
     /// Whether a partition is disjoint.

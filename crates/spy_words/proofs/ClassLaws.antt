@@ -1,7 +1,7 @@
 -- For each class of words: what is read has that word, and what has a word is read from it.
-use Rattle.std.proofs.Common.{◌≡◌, ◌≢◌, ℕ, ◌^◌, ◌<◌, ◌≤◌, ltb, eqb, Bool, true, false, cond, List, [], ◌∷◌, ◌++◌, map, codes, length, drop, nat_lt, nat_eq, Result, Ok, Err, refl, sym, ap, subst, ◌∙◌, arith, inl, inr, ◌⊎◌, append-nil}
+use Rattle.std.proofs.Common.{◌≡◌, ◌≢◌, ℕ, ◌<◌, ◌≤◌, eqb, Bool, true, false, cond, List, [], ◌∷◌, ◌++◌, map, codes, drop, nat_lt, nat_eq, Result, Ok, Err, refl, sym, ap, subst, ◌∙◌, arith, inl, inr, ◌⊎◌}
 use Rattle.std.specs.Prelude.{decimal}
-use Rattle.std.specs.List.{AllByRecursion, list_all, starts_with, join_with_byte}
+use Rattle.std.specs.List.{AllByRecursion, starts_with, join_with_byte}
 use Rattle.std.specs.Str.{bytes_eq}
 use Rattle.std.proofs.lemmas.Bool.{lt-ltb, ltb-true, eq-eqb, eqb-true, eqb-false, ne_eqb}
 use Rattle.std.proofs.lemmas.Bool.Decides.{Decides-eqb}
@@ -14,7 +14,7 @@ use Rattle.spy_words.specs.declared.access.InstKind.{InstKind}
 use Rattle.spy_words.specs.declared.access.InstKind.TheVariants as instances
 use Rattle.spy_words.specs.Classes.{Class, number, id, event, points, fields, waits, split, access, coherence, layout, Meaning, span_word, list_word, list_or_dash, split_word, access_word, coherence_word, layout_word, word_of, IsNumberFrom, IsSpan, ascends, span_before, HasOperator, HoldsOperator, IsGood}
 use Rattle.spy_words.specs.Faults.{both, map_ok, in_order, each}
-use Rattle.spy_words.specs.Reading.{number_from, parts, goes_up, span_among, span_at, list_at, text_at, operator_at, meaning_at}
+use Rattle.spy_words.specs.Reading.{number_from, parts, goes_up, span_among, span_from, list_at, list_or_none_at, text_at, operator_at, meaning_at}
 use Rattle.spy_words.proofs.Numbers.{number_takes, number_again}
 use Rattle.spy_words.proofs.Joins.{Above, above_lower, all_lower, above_append, above_join, above_all, parts_join, join_parts, parts_some}
 
@@ -55,7 +55,7 @@ chosen w text x y z e = by_test (bytes_eq w text) refl e
 pub number_agrees : (least : ℕ) → Agree ℕ (number_from least) decimal (IsNumberFrom least) 45
 number_agrees least = record { takes = number_takes least; again = number_again least }
 
-span_takes : (ws : List (List ℕ)) (p : ℕ × ℕ) → span_among ws ≡ Ok p → (join_with_byte 45 ws ≡ span_word p) × IsSpan p
+span_takes : (ws : List (List ℕ)) (p : ℕ × ℕ) → span_among 0 ws ≡ Ok p → (join_with_byte 45 ws ≡ span_word p) × IsSpan p
 span_takes (v ∷ []) p e =
     let m = map_is_ok (λ (n : ℕ). (n, n)) (number_from 0 v) p e in
     let t = number_takes 0 v m.0 m.1 in
@@ -69,7 +69,7 @@ span_takes (v ∷ w ∷ []) p e =
     (rw (ne_eqb p.0 p.1 (λ e. absurd (omega (arith, up, e)))) (ap (λ (x : List ℕ). x ++ 45 ∷ w) s.0 ∙ ap (λ (x : List ℕ). decimal p.0 ++ 45 ∷ x) t.0), (omega (arith, up), t.1.1))
 span_takes vs p e = absurd cc
 
-span_again : (p : ℕ × ℕ) → IsSpan p → (span_among (parts 45 (span_word p)) ≡ Ok p) × Above 44 (span_word p)
+span_again : (p : ℕ × ℕ) → IsSpan p → (span_among 0 (parts 45 (span_word p)) ≡ Ok p) × Above 44 (span_word p)
 span_again p good = by_test (eqb p.0 p.1) refl
   where
     first : (number_from 0 (decimal p.0) ≡ Ok p.0) × Above 45 (decimal p.0)
@@ -78,15 +78,15 @@ span_again p good = by_test (eqb p.0 p.1) refl
     last : (number_from 0 (decimal p.1) ≡ Ok p.1) × Above 45 (decimal p.1)
     last = number_again 0 p.1 (omega arith, good.1)
 
-    by_test : (t : Bool) → eqb p.0 p.1 ≡ t → let w = cond t (decimal p.0) (decimal p.0 ++ 45 ∷ decimal p.1) in (span_among (parts 45 w) ≡ Ok p) × Above 44 w
+    by_test : (t : Bool) → eqb p.0 p.1 ≡ t → let w = cond t (decimal p.0) (decimal p.0 ++ 45 ∷ decimal p.1) in (span_among 0 (parts 45 w) ≡ Ok p) × Above 44 w
     by_test true is = (rw (parts_join 45 (decimal p.0) [] (first.1, tt), first.0) (ap (λ (n : ℕ). Ok (p.0, n)) (eqb-true p.0 p.1 is)), above_lower 44 45 (decimal p.0) (omega arith) first.1)
     by_test false is =
         let other = eqb-false p.0 p.1 is in
-        let again : span_among (parts 45 (decimal p.0 ++ 45 ∷ decimal p.1)) ≡ Ok p = rw (parts_join 45 (decimal p.0) (decimal p.1 ∷ []) (first.1, (last.1, tt)), first.0, last.0, lt-ltb p.0 p.1 (omega (arith, good.0, other))) refl in
+        let again : span_among 0 (parts 45 (decimal p.0 ++ 45 ∷ decimal p.1)) ≡ Ok p = rw (parts_join 45 (decimal p.0) (decimal p.1 ∷ []) (first.1, (last.1, tt)), first.0, last.0, lt-ltb p.0 p.1 (omega (arith, good.0, other))) refl in
         (again, above_append 44 (decimal p.0) (45 ∷ decimal p.1) (above_lower 44 45 (decimal p.0) (omega arith) first.1) (omega arith, above_lower 44 45 (decimal p.1) (omega arith) last.1))
 
-span_agrees : Agree (ℕ × ℕ) span_at span_word IsSpan 44
-unfolding span_at
+span_agrees : Agree (ℕ × ℕ) (span_from 0) span_word IsSpan 44
+unfolding span_from
 span_agrees = record {
   takes = λ w p e. let t = span_takes (parts 45 w) p e in (join_parts 45 w (parts 45 w) refl ∙ t.0, t.1);
   again = span_again;
@@ -135,41 +135,42 @@ text_takes A spell IsFit (x ∷ xs) w otherwise y fit later e = elim (chosen w (
 ]
 
 -- a list, or a dash, which is no list
-dash_agrees : (A : Type 0) (read : List ℕ → Result (List A) LineFault) (spell : A → List ℕ) (IsFit : List A → Type 0) → IsFit [] → ((xs : List A) → read (codes "-") ≡ Ok xs → ⊥) → Agree (List A) read (list_word spell) (λ xs. IsFit xs × (xs ≢ [])) 32 → Agree (List A) (λ w. text_at (list_or_dash spell) ([] ∷ []) w (read w)) (list_or_dash spell) IsFit 32
+dash_agrees : (A : Type 0) (read : List ℕ → Result A LineFault) (spell : A → List ℕ) (IsFit : List A → Type 0) → IsFit [] → ((xs : List A) → list_at read (codes "-") ≡ Ok xs → ⊥) → Agree (List A) (list_at read) (list_word spell) (λ xs. IsFit xs × (xs ≢ [])) 32 → Agree (List A) (list_or_none_at read) (list_or_dash spell) IsFit 32
+unfolding list_or_none_at
 dash_agrees A read spell IsFit none no_list laws = record { takes = takes; again = again }
   where
     spelled : (xs : List A) → xs ≢ [] → list_word spell xs ≡ list_or_dash spell xs
     spelled [] some = absurd (some refl)
     spelled (x ∷ xs) some = refl
 
-    takes : (w : List ℕ) (xs : List A) → text_at (list_or_dash spell) ([] ∷ []) w (read w) ≡ Ok xs → (w ≡ list_or_dash spell xs) × IsFit xs
-    takes w xs e = text_takes (List A) (list_or_dash spell) IsFit ([] ∷ []) w (read w) xs (none, tt) (λ e. let t = laws.takes w xs e in (t.0 ∙ spelled xs t.1.1, t.1.0)) e
+    takes : (w : List ℕ) (xs : List A) → list_or_none_at read w ≡ Ok xs → (w ≡ list_or_dash spell xs) × IsFit xs
+    takes w xs e = text_takes (List A) (list_or_dash spell) IsFit ([] ∷ []) w (list_at read w) xs (none, tt) (λ e. let t = laws.takes w xs e in (t.0 ∙ spelled xs t.1.1, t.1.0)) e
 
-    no_dash : (w : List ℕ) (xs : List A) (t : Bool) → bytes_eq w (codes "-") ≡ t → read w ≡ Ok xs → cond t (Ok []) (read w) ≡ Ok xs
-    no_dash w xs true is e = absurd (no_list xs (ap read (sym ((bytes_eq-Decides w (codes "-")).0 is)) ∙ e))
+    no_dash : (w : List ℕ) (xs : List A) (t : Bool) → bytes_eq w (codes "-") ≡ t → list_at read w ≡ Ok xs → cond t (Ok []) (list_at read w) ≡ Ok xs
+    no_dash w xs true is e = absurd (no_list xs (ap (list_at read) (sym ((bytes_eq-Decides w (codes "-")).0 is)) ∙ e))
     no_dash w xs false is e = e
 
-    again : (xs : List A) → IsFit xs → (text_at (list_or_dash spell) ([] ∷ []) (list_or_dash spell xs) (read (list_or_dash spell xs)) ≡ Ok xs) × Above 32 (list_or_dash spell xs)
+    again : (xs : List A) → IsFit xs → (list_or_none_at read (list_or_dash spell xs) ≡ Ok xs) × Above 32 (list_or_dash spell xs)
     again [] fit = (refl, (omega arith, tt))
     again (x ∷ xs) fit = let w = laws.again (x ∷ xs) (fit, λ e. absurd cc) in (no_dash (list_word spell (x ∷ xs)) (x ∷ xs) _ refl w.0, w.1)
 
 -- a list that ascends
-order_agrees : (A : Type 0) (read : List ℕ → Result (List A) LineFault) (spell : A → List ℕ) (IsFit : A → Type 0) (before : A → A → Bool) → Agree (List A) read (list_word spell) (λ xs. AllByRecursion IsFit xs × (xs ≢ [])) 32 → Agree (List A) (λ w. in_order (ascends before) (read w)) (list_word spell) (λ xs. (AllByRecursion IsFit xs × (ascends before xs ≡ true)) × (xs ≢ [])) 32
+order_agrees : (A : Type 0) (read : List ℕ → Result (List A) LineFault) (spell : List A → List ℕ) (IsFit : List A → Type 0) (before : A → A → Bool) → Agree (List A) read spell IsFit 32 → Agree (List A) (λ w. in_order (ascends before) (read w)) spell (λ xs. IsFit xs × (ascends before xs ≡ true)) 32
 order_agrees A read spell IsFit before laws = record {
-  takes = λ w xs e. let o = in_order_ok (ascends before) (read w) xs e in let t = laws.takes w xs o.0 in (t.0, ((t.1.0, o.1), t.1.1));
-  again = λ xs fit. let w = laws.again xs (fit.0.0, fit.1) in (rw (w.0, fit.0.1) refl, w.1);
+  takes = λ w xs e. let o = in_order_ok (ascends before) (read w) xs e in let t = laws.takes w xs o.0 in (t.0, (t.1, o.1));
+  again = λ xs fit. let w = laws.again xs fit.0 in (rw (w.0, fit.1) refl, w.1);
 }
 
-points_agree : Agree (List (ℕ × ℕ)) (λ w. text_at (list_or_dash span_word) ([] ∷ []) w (in_order (ascends span_before) (list_at span_at w))) (list_or_dash span_word) (IsGood points) 32
-unfolding list_at span_at number_from
-points_agree = dash_agrees (ℕ × ℕ) _ span_word (IsGood points) (tt, refl) (λ xs e. absurd cc) (order_agrees (ℕ × ℕ) (list_at span_at) span_word IsSpan span_before (list_agrees (ℕ × ℕ) span_at span_word IsSpan 44 (omega arith) span_agrees))
+points_agree : Agree (List (ℕ × ℕ)) (λ w. in_order (ascends span_before) (list_or_none_at (span_from 0) w)) (list_or_dash span_word) (IsGood points) 32
+unfolding list_at span_from number_from
+points_agree = order_agrees (ℕ × ℕ) _ (list_or_dash span_word) (AllByRecursion IsSpan) span_before (dash_agrees (ℕ × ℕ) (span_from 0) span_word (AllByRecursion IsSpan) tt (λ xs e. absurd cc) (list_agrees (ℕ × ℕ) (span_from 0) span_word IsSpan 44 (omega arith) span_agrees))
 
-fields_agree : Agree (List ℕ) (λ w. in_order (ascends nat_lt) (list_at (number_from 0) w)) (list_word decimal) (λ ns. (AllByRecursion (IsNumberFrom 0) ns × (ascends nat_lt ns ≡ true)) × (ns ≢ [])) 32
-fields_agree = order_agrees ℕ (list_at (number_from 0)) decimal (IsNumberFrom 0) nat_lt (list_agrees ℕ (number_from 0) decimal (IsNumberFrom 0) 45 (omega arith) (number_agrees 0))
+fields_agree : Agree (List ℕ) (λ w. in_order (ascends nat_lt) (list_at (number_from 0) w)) (list_word decimal) (λ ns. (AllByRecursion (IsNumberFrom 0) ns × (ns ≢ [])) × (ascends nat_lt ns ≡ true)) 32
+fields_agree = order_agrees ℕ (list_at (number_from 0)) (list_word decimal) _ nat_lt (list_agrees ℕ (number_from 0) decimal (IsNumberFrom 0) 45 (omega arith) (number_agrees 0))
 
-waits_agree : Agree (List ℕ) (λ w. text_at (list_or_dash decimal) ([] ∷ []) w (list_at (number_from 1) w)) (list_or_dash decimal) (IsGood waits) 32
+waits_agree : Agree (List ℕ) (list_or_none_at (number_from 1)) (list_or_dash decimal) (IsGood waits) 32
 unfolding list_at number_from
-waits_agree = dash_agrees ℕ (list_at (number_from 1)) decimal (IsGood waits) tt (λ xs e. absurd cc) (list_agrees ℕ (number_from 1) decimal (IsNumberFrom 1) 45 (omega arith) (number_agrees 1))
+waits_agree = dash_agrees ℕ (number_from 1) decimal (IsGood waits) tt (λ xs e. absurd cc) (list_agrees ℕ (number_from 1) decimal (IsNumberFrom 1) 45 (omega arith) (number_agrees 1))
 
 -- ---- reductions
 
@@ -198,7 +199,7 @@ class_takes number w x e = number_takes 0 w x e
 class_takes id w x e = number_takes 1 w x e
 class_takes event w x e = number_takes 1 w x e
 class_takes points w x e = points_agree.takes w x e
-class_takes fields w x e = let t = fields_agree.takes w x e in (t.0, (t.1.0.0, t.1.0.1, t.1.1))
+class_takes fields w x e = let t = fields_agree.takes w x e in (t.0, (t.1.0.0, t.1.1, t.1.0.1))
 class_takes waits w x e = waits_agree.takes w x e
 class_takes split w x e = text_takes Bool split_word (IsGood split) (true ∷ false ∷ []) w (Err Form) x (tt, (tt, tt)) (λ e. absurd cc) e
 class_takes access w x e = text_takes PrivWord access_word HasOperator (privileges.Ro ∷ privileges.Rw ∷ privileges.Wd ∷ []) w _ x (tt, (tt, (tt, tt))) (reduction_takes access_word HasOperator (λ op. privileges.Red op) w x (λ op good. (refl, good))) e
@@ -214,7 +215,7 @@ class_again number n good = number_word 0 n good
 class_again id n good = number_word 1 n good
 class_again event n good = number_word 1 n good
 class_again points ps good = points_agree.again ps good
-class_again fields ns good = let fit : (AllByRecursion (IsNumberFrom 0) ns × (ascends nat_lt ns ≡ true)) × (ns ≢ []) = ((good.0, good.1), good.2) in fields_agree.again ns fit
+class_again fields ns good = let fit : (AllByRecursion (IsNumberFrom 0) ns × (ns ≢ [])) × (ascends nat_lt ns ≡ true) = ((good.0, good.2), good.1) in fields_agree.again ns fit
 class_again waits ns good = waits_agree.again ns good
 class_again access (privileges.Red op) good = (ap (map_ok (λ op. privileges.Red op)) (number_again 1 op good).0, reduction_above op good)
 class_again layout (instances.Red op) good = (ap (map_ok (λ op. instances.Red op)) (number_again 1 op good).0, reduction_above op good)

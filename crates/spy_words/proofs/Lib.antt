@@ -1,4 +1,4 @@
-pub mod Faulty
+pub mod MetFaults
 pub mod Joins
 pub mod Numbers
 pub mod ClassLaws

@@ -11,8 +11,8 @@ pub use access::{InstKind, PrivWord};
 pub use fault::{LineFault, keep, told};
 pub use lists::{Nums, Set};
 pub use parts::{
-    Part, Read, are_fit, ascend, fields_of, ids_of, points_of, push_after, push_list, push_or_dash,
-    waits_of,
+    Part, Read, are_fit, ascend, ascending, ids_of, list_of, list_or_none, push_after, push_list,
+    push_or_dash, spans_of,
 };
 pub use words::{
     access_of, coherence_text, either, layout_of, number_of, parts_of, push_access, push_layout,

@@ -1,14 +1,14 @@
 //! Words that hold a list: numbers, or runs of points.
 
-ghost use Rattle.std.specs.Prelude.{◌≡◌, ◌↔◌, ◌++◌, ◌∷◌, IsTrue, IfOk, OnOk, map, decimal, nat_lt, List, ℕ, Bool, Result};
+ghost use Rattle.std.specs.Prelude.{◌≡◌, ◌↔◌, ◌++◌, IsTrue, IfOk, OnOk, map, decimal, nat_lt, List, ℕ, Bool, Result};
 ghost use Rattle.std.specs.List.{AllByRecursion};
 ghost use Rattle.spy_words.specs.declared.fault.LineFault.{LineFault};
-ghost use Rattle.spy_words.specs.Classes.{ascends, points, fields, waits, follow, span_before, span_word, list_word, list_or_dash, IsNumberFrom, IsSpan};
+ghost use Rattle.spy_words.specs.Classes.{ascends, points, follow, span_before, span_word, list_word, list_or_dash, IsNumberFrom, IsSpan};
 ghost use Rattle.spy_words.specs.Faults.{each, in_order, map_ok};
-ghost use Rattle.spy_words.specs.Reading.{ids_at, list_at, meaning_at, number_from, span_among, span_at};
+ghost use Rattle.spy_words.specs.Reading.{ids_at, list_at, list_or_none_at, meaning_at, number_from, span_among, span_from};
 
 use crate::fault::{LineFault, keep, told, worse_of};
-use crate::lists::{Nums, Set};
+use crate::lists::Nums;
 use crate::words::{number_of, parts_of, push_u64};
 use std::alloc::{AllocError, Global};
 
@@ -20,10 +20,13 @@ pub trait Part: Copy + Default + Drop {
     /// The part that a word says, its numbers from a least one on.
     ghost reading: { ℕ → List ℕ → Result Self LineFault };
 
+    /// The word of the part.
     ghost text: { Self → List ℕ };
 
+    /// Which parts have a word, their numbers from a least one on.
     ghost IsFit: { ℕ → Self → Type 0 };
 
+    /// Which parts may stand before which in an ascending list.
     ghost before: { Self → Self → Bool };
 
     /// The part that a word says, its numbers from the least up.
@@ -70,7 +73,7 @@ impl Part for u32 {
 }
 
 impl Part for (u64, u64) {
-    ghost reading = { λ _ w. span_at w };
+    ghost reading = { span_from };
 
     ghost text = { span_word };
 
@@ -78,9 +81,9 @@ impl Part for (u64, u64) {
 
     ghost before = { span_before };
 
-    #[tactic(auto, unfolding(crate::specs::Reading::span_at))]
-    fn read(alloc: Global, _least: u32, word: &[u8]) -> Read<(u64, u64)> {
-        Ok(span_of(&parts_of(alloc, word, b'-')?))
+    #[tactic(auto, unfolding(crate::specs::Reading::span_from))]
+    fn read(alloc: Global, least: u32, word: &[u8]) -> Read<(u64, u64)> {
+        Ok(span_of(least, &parts_of(alloc, word, b'-')?))
     }
 
     fn push(self, out: &mut Vec<u8>) -> Result<(), AllocError> {
@@ -102,15 +105,15 @@ impl Part for (u64, u64) {
 }
 
 /// A run of points, from its words.
-fn span_of(words: &[&[u8]]) -> Result<(u64, u64), LineFault>
-    ensures { result ≡ span_among (map (λ w. w.now) words.now) }
+fn span_of(least: u32, words: &[&[u8]]) -> Result<(u64, u64), LineFault>
+    ensures { result ≡ span_among least (map (λ w. w.now) words.now) }
 {
     match words {
         [only] => {
-            let point = u64::from(number_of(0, only)?);
+            let point = u64::from(number_of(least, only)?);
             Ok((point, point))
         }
-        [first, last] => match (number_of(0, first), number_of(0, last)) {
+        [first, last] => match (number_of(least, first), number_of(least, last)) {
             (Ok(first), Ok(last)) if first < last => Ok((u64::from(first), u64::from(last))),
             (Ok(_), Ok(_)) => Err(LineFault::Order),
             (Err(fault), Ok(_)) | (Ok(_), Err(fault)) => Err(fault),
@@ -121,7 +124,7 @@ fn span_of(words: &[&[u8]]) -> Result<(u64, u64), LineFault>
 }
 
 /// What each word says.
-#[tactic(auto, using(crate::proofs::Faulty::each_end))]
+#[tactic(auto, using(crate::proofs::MetFaults::each_end))]
 fn each_of<T: Part>(alloc: Global, least: u32, words: &[&[u8]]) -> Read<Vec<T>>
     ensures { IfOk result (λ read. map_ok (λ v. v.items) read ≡ each (T.reading least) (map (λ w. w.now) words.now)) }
 {
@@ -138,10 +141,31 @@ fn each_of<T: Part>(alloc: Global, least: u32, words: &[&[u8]]) -> Read<Vec<T>>
 
 /// The parts between commas.
 #[tactic(auto, unfolding(crate::specs::Reading::list_at))]
-fn list_of<T: Part>(alloc: Global, least: u32, word: &[u8]) -> Read<Vec<T>>
+pub fn list_of<T: Part>(alloc: Global, least: u32, word: &[u8]) -> Read<Vec<T>>
     ensures { IfOk result (λ read. map_ok (λ v. v.items) read ≡ list_at (T.reading least) word.now) }
 {
     each_of(alloc, least, &parts_of(alloc, word, b',')?)
+}
+
+/// The parts between commas, or none for a dash.
+#[tactic(auto, unfolding(crate::specs::Reading::list_or_none_at))]
+pub fn list_or_none<T: Part>(alloc: Global, least: u32, word: &[u8]) -> Read<Vec<T>>
+    ensures { IfOk result (λ read. map_ok (λ v. v.items) read ≡ list_or_none_at (T.reading least) word.now) }
+{
+    if word == b"-".as_slice() {
+        return Ok(Ok(Vec::new(alloc)));
+    }
+    list_of(alloc, least, word)
+}
+
+/// The parts that were read, if they ascend.
+pub fn ascending<T: Part>(read: Result<Vec<T>, LineFault>) -> Result<Vec<T>, LineFault>
+    ensures { map_ok (λ v. v.items) result ≡ in_order (ascends T.before) (map_ok (λ v. v.items) read) }
+{
+    match read {
+        Ok(parts) if !ascend(&parts) => Err(LineFault::Order),
+        read => read,
+    }
 }
 
 /// Whether each part stands before the next.
@@ -214,40 +238,12 @@ pub fn push_or_dash<T: Part>(out: &mut Vec<u8>, parts: &[T]) -> Result<(), Alloc
     push_list(out, parts)
 }
 
-/// A set of points.
+/// The runs of a set of points.
 #[tactic(auto, unfolding(crate::specs::Reading::meaning_at))]
-pub fn points_of(alloc: Global, word: &[u8]) -> Read<Set>
-    ensures { IfOk result (λ read. read ≡ meaning_at points word.now) }
+pub fn spans_of(alloc: Global, word: &[u8]) -> Read<Vec<(u64, u64)>>
+    ensures { IfOk result (λ read. map_ok (λ v. v.items) read ≡ meaning_at points word.now) }
 {
-    if word == b"-".as_slice() {
-        return Ok(Ok(Set::from_pairs(Vec::new(alloc))));
-    }
-    Ok(match list_of(alloc, 0, word)? {
-        Ok(spans) if !ascend(&spans) => Err(LineFault::Order),
-        read => read.map(Set::from_pairs),
-    })
-}
-
-/// Fields, which ascend.
-#[tactic(auto, unfolding(crate::specs::Reading::meaning_at))]
-pub fn fields_of(alloc: Global, word: &[u8]) -> Read<Nums>
-    ensures { IfOk result (λ read. read ≡ meaning_at fields word.now) }
-{
-    Ok(match list_of(alloc, 0, word)? {
-        Ok(numbers) if !ascend(&numbers) => Err(LineFault::Order),
-        read => read.map(Nums::from_vec),
-    })
-}
-
-/// Events, or none.
-#[tactic(auto, unfolding(crate::specs::Reading::meaning_at))]
-pub fn waits_of(alloc: Global, word: &[u8]) -> Read<Nums>
-    ensures { IfOk result (λ read. read ≡ meaning_at waits word.now) }
-{
-    if word == b"-".as_slice() {
-        return Ok(Ok(Nums::from_vec(Vec::new(alloc))));
-    }
-    Ok(list_of(alloc, 1, word)?.map(Nums::from_vec))
+    Ok(ascending(list_or_none(alloc, 0, word)?))
 }
 
 /// The ids that these words are, at least one.

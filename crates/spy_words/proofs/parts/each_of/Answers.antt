@@ -1,6 +1,6 @@
 use Rattle.std.proofs.Common.{List, ℕ}
 use Rattle.std.specs.Borrow.{Bor}
-use Rattle.spy_words.proofs.Faulty.{each_next}
+use Rattle.spy_words.proofs.MetFaults.{each_next}
 use Rattle.spy_words.proofs.parts.each_of.Goals as goal
 
 pub loop-rest-preserved : goal.loop-rest-preserved

@@ -4,10 +4,10 @@ use Rattle.spy_words.specs.declared.fault.LineFault.{LineFault}
 use Rattle.spy_words.specs.declared.fault.LineFault.TheVariants.{Form}
 use Rattle.spy_words.specs.Faults.{both, map_ok, after, kept}
 use Rattle.spy_words.specs.Classes.{Class, number, about}
-use Rattle.spy_words.specs.Reading.{meaning_at, ids_at, list_at, span_at, number_from, operator_at}
-use Rattle.spy_words.proofs.Faulty.{after_both}
+use Rattle.spy_words.specs.Reading.{meaning_at, ids_at, list_or_none_at, list_at, span_from, number_from, operator_at}
+use Rattle.spy_words.proofs.MetFaults.{after_both}
 use Rattle.spy_grammar.specs.declared.kinds.RecordKind.{RecordKind}
-use Rattle.spy_grammar.specs.Rows.{Row, no_more, some_ids, ◌&◌, RowMeaning, Makes, entry, applied, made}
+use Rattle.spy_grammar.specs.Rows.{Row, no_more, some_ids, ◌&◌, Makes, entry, applied, made}
 use Rattle.spy_grammar.specs.Reading.{row_at, kind_record}
 use Rattle.spy_grammar.specs.WordByWord.{Left, next_word, read_word, read_ids, read_row, read_record, ended}
 
@@ -33,7 +33,7 @@ ended_map f x s = by_words s.words s.met
     by_words ws met = refl
 
 empty_word : (c : Class) → meaning_at c [] ≡ Err Form
-unfolding meaning_at list_at span_at number_from operator_at
+unfolding meaning_at list_or_none_at list_at span_from number_from operator_at
 empty_word number = refl
 empty_word c = refl
 
