@@ -1,5 +1,5 @@
 -- What is read of the text of a report is that report.
-use Rattle.std.proofs.Common.{◌≡◌, ℕ, ◌+◌, ◌-◌, ◌*◌, ◌^◌, ◌<◌, ◌≤◌, ltb, eqb, Bool, true, false, cond, not, List, [], ◌∷◌, ◌++◌, map, length, take, get_or, min, fold, codes, refl, sym, ap, subst, ◌∙◌, arith, append-nil, length-append, ◌≢◌}
+use Rattle.std.proofs.Common.{◌≡◌, ℕ, ◌+◌, ◌-◌, ◌*◌, ◌^◌, ◌<◌, ◌≤◌, ltb, eqb, Bool, true, false, cond, List, [], ◌∷◌, ◌++◌, map, length, take, get_or, min, fold, codes, refl, sym, ap, subst, ◌∙◌, arith, append-nil, length-append, ◌≢◌}
 use Rattle.std.specs.Prelude.{decimal}
 use Rattle.std.specs.Char.{digit_value}
 use Rattle.std.specs.List.{AllByRecursion, list_all}
@@ -11,7 +11,6 @@ use Rattle.std.proofs.lemmas.Fmt.{digits_decimal, digits_value-decimal}
 use Rattle.std.proofs.lemmas.List.{length-map, take-map}
 use Rattle.std.proofs.lemmas.List.Elements.{All-from_recursion}
 use Rattle.std.proofs.lemmas.List.Splits.{slice_split_none, slice_split_at}
-use Rattle.std.proofs.lemmas.Slice.Eq.{bytes_eq-Decides}
 use Rattle.std.proofs.lemmas.Str.Parse.{IsNumeralModel, numerals_by_value, tells_digits}
 use Rattle.spy_grammar.specs.declared.code.Code.{Code}
 use Rattle.spy_grammar.specs.declared.code.Code.TheVariants.{TooLong}
@@ -212,13 +211,11 @@ read_again f good =
     let place : last_place (lines ++ last ∷ [] ∷ []) ≡ length lines = omega (arith, length-append lines (last ∷ [] ∷ [])) in
     ap report_in parted ∙ rw (place, front lines (last ∷ [] ∷ []), behind lines last ([] ∷ []), deps_again (deps_of f) all.1, line_parted (last_line f) (last_plain f all.2)) (report_again f all.2)
 
--- a text other than that of what it says is no report's
-pub no_report : (bytes shown : List ℕ) (said : Finding) → said ≡ finding_at bytes → shown ≡ text_of said → true ≡ not (bytes_eq shown bytes) → (f : Finding) → Good f → bytes ≢ text_of f
-no_report bytes shown said is writes other f good e =
-    let same : shown ≡ bytes = writes ∙ ap text_of (is ∙ ap finding_at e ∙ read_again f good) ∙ sym e in
-    let yes : bytes_eq shown bytes ≡ true = (bytes_eq-Decides shown bytes).1 same in
-    let no : true ≡ false = other ∙ ap not yes in
-    absurd cc
+-- where what a text says does not have that text, no report has it
+pub no_report : (bytes : List ℕ) (said : Finding) → said ≡ finding_at bytes → (Good said × (bytes ≡ text_of said) → ⊥) → (f : Finding) → Good f → bytes ≢ text_of f
+no_report bytes said is other f good e =
+    let same : said ≡ f = is ∙ ap finding_at e ∙ read_again f good in
+    other (subst Good (sym same) good, e ∙ ap text_of (sym same))
 
 -- what lines say that a program holds, seen by `view`
 pub lines_told : {A : Type 0} (view : A → List ℕ) (lines : List A) (last : ℕ) (list : List Dep) (words : List (List ℕ)) → last ≡ length lines - 2 → list ≡ map (λ l. dep_at (parts 32 l)) (map view (take last lines)) → words ≡ parts 32 (word_at (map view lines) last) → report_at list words ≡ report_in (map view lines)

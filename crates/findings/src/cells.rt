@@ -1,6 +1,6 @@
 //! The lines of a report, word by word.
 
-ghost use Rattle.std.specs.Prelude.{◌≡◌, map, codes, if◌then◌else◌};
+ghost use Rattle.std.specs.Prelude.{◌≡◌, map};
 ghost use Rattle.std.specs.List.{AllByRecursion};
 ghost use Rattle.findings.specs.Cells.{words_in};
 ghost use Rattle.findings.specs.Texts.{dep_line, last_line, small, Fits, IsInRange};
@@ -23,13 +23,6 @@ pub enum Cell<'a> {
 /// The first word of a line, and the words after it.
 pub type Words<'a> = (&'static [u8], [Cell<'a>; 8]);
 
-/// The first word of the line of a pair of items, by whether their order is fixed.
-pub fn dep_name(before: bool) -> &'static [u8]
-    ensures { result.now ≡ (if before then codes "before" else codes "turn") }
-{
-    if before { b"before" } else { b"turn" }
-}
-
 /// The line of a pair of items.
 #[rattlefmt::skip]
 pub fn dep_words(dep: &Dep) -> Words<'_>
@@ -40,7 +33,7 @@ pub fn dep_words(dep: &Dep) -> Words<'_>
 {
     let Dep { before, a, b, tree, point, field } = dep;
     let row = [Small(*a), Small(*b), Says(b"tree"), Small(*tree), Says(b"point"), Large(*point), Says(b"field"), Small(*field)];
-    (dep_name(*before), row)
+    (if *before { b"before" } else { b"turn" }, row)
 }
 
 /// Events, each a word.

@@ -12,12 +12,15 @@ pub struct Dep {
     pub a: u32,
     /// The item that is later in serial order.
     pub b: u32,
+    /// The region tree of the least place at which they interfere.
     pub tree: u32,
+    /// The point of that place.
     pub point: u64,
+    /// The field of that place.
     pub field: u32,
 }
 
-/// A report.
+/// A report. Places are told by region tree, or by instance, with point and field.
 #[derive(Debug, Drop)]
 #[rattlefmt::skip]
 pub enum Finding {

@@ -4,7 +4,7 @@
 //! where that gives the same text was it a report's. So numbers that are too large, leading zeros,
 //! other spaces and wrong counts need no test of their own.
 
-ghost use Rattle.std.specs.Prelude.{◌≡◌, ◌≢◌, ◌≤◌, ◌-◌, ◌^◌, ◌⊎◌, map, drop, IfOk, Ok, Err};
+ghost use Rattle.std.specs.Prelude.{◌≡◌, ◌≢◌, ◌≤◌, ◌-◌, ◌^◌, ◌⊎◌, ◌↔◌, map, drop, IsTrue, IfOk, Ok, Err};
 ghost use Rattle.findings.specs.declared.finding.Finding.{Finding};
 ghost use Rattle.findings.specs.Reading as says;
 ghost use Rattle.findings.specs.Texts.{text_of, Good};
@@ -180,8 +180,19 @@ fn finding_at(alloc: Global, bytes: &[u8]) -> Result<Finding, AllocError>
     Ok(report_in(alloc, &lines)?)
 }
 
+/// Whether the report has a text, and it is this.
+fn has_text(alloc: Global, f: &Finding, bytes: &[u8]) -> Result<bool, Memory>
+    ensures { IfOk result (λ b. IsTrue b ↔ (Good f.now × (bytes.now ≡ text_of f.now))) }
+{
+    if !good_finding(f) {
+        return Ok(false);
+    }
+    let again = text(alloc, f)?;
+    Ok(again.as_slice() == bytes)
+}
+
 /// The one report that has this text.
-#[tactic(auto, using(crate::proofs::ReadLaws::read_again))]
+#[tactic(auto, using(crate::proofs::ReadLaws::read_again, crate::proofs::ReadLaws::no_report))]
 pub fn read_text(alloc: Global, bytes: &[u8]) -> Result<Finding, TextFault>
     // A report that is read has this text, and a report that has it is read, unless memory runs out.
     ensures found { (f : Finding) → result ≡ Ok f → (bytes.now ≡ text_of f) × Good f }
@@ -189,12 +200,9 @@ pub fn read_text(alloc: Global, bytes: &[u8]) -> Result<Finding, TextFault>
     ensures none { result ≡ Err faults.NotAReport → (f : Finding) → Good f → bytes.now ≢ text_of f }
 {
     let f = finding_at(alloc, bytes)?;
-    if !good_finding(&f) {
-        return Err(TextFault::NotAReport);
+    if has_text(alloc, &f, bytes)? {
+        Ok(f)
+    } else {
+        Err(TextFault::NotAReport)
     }
-    let again = text(alloc, &f)?;
-    if again.as_slice() != bytes {
-        return Err(TextFault::NotAReport);
-    }
-    Ok(f)
 }

@@ -100,39 +100,18 @@ fn refuses_other_texts(rt: HostRuntime) {
 }
 
 #[test]
+#[rattlefmt::skip]
 fn reads_the_fields_in_order(rt: HostRuntime) -> Result<(), Fail> {
-    let read = read_text(rt.alloc(), b"race 1 2 inst 3 point 4 field 5\n")?;
-    let Finding::Race {
-        a,
-        b,
-        inst,
-        point,
-        field,
-    } = read
-    else {
-        return Err(Fail::new("another report"));
-    };
-    assert_eq!(rt; (a, b, inst, point, field), (1, 2, 3, 4, 5));
+    let f = read_text(rt.alloc(), b"race 1 2 inst 3 point 4 field 5\n")?;
+    assert!(rt; matches!(f, Finding::Race { a: 1, b: 2, inst: 3, point: 4, field: 5 }));
     Ok(())
 }
 
 /// The report that lists one pair, with these counts.
+#[rattlefmt::skip]
 fn one_dep(alloc: Global, before: u64, turn: u64) -> Result<Finding, Fail> {
-    let dep = Dep {
-        before: true,
-        a: 1,
-        b: 2,
-        tree: 3,
-        point: 4,
-        field: 5,
-    };
-    let list = DepList::from_vec(vec![in alloc; dep]?);
-    Ok(Finding::Deps {
-        list,
-        items: 2,
-        before,
-        turn,
-    })
+    let dep = Dep { before: true, a: 1, b: 2, tree: 3, point: 4, field: 5 };
+    Ok(Finding::Deps { list: DepList::from_vec(vec![in alloc; dep]?), items: 2, before, turn })
 }
 
 #[test]

@@ -4,7 +4,7 @@ ghost use Rattle.std.specs.Prelude.{◌≡◌, ◌↔◌, ◌++◌, ◌∷◌, [
 ghost use Rattle.std.specs.List.{AllByRecursion};
 ghost use Rattle.findings.specs.Cells.{with_cell, words_in};
 ghost use Rattle.findings.specs.Texts as texts;
-ghost use Rattle.findings.specs.Texts.{small, dep_line, row_text, line_text, lines_text, Fits, Good};
+ghost use Rattle.findings.specs.Texts.{small, dep_line, row_text, line_text, lines_text, Fits, IsWhole, Good};
 
 use crate::cells::Cell::*;
 use crate::cells::{Cell, dep_words, last_words};
@@ -37,10 +37,11 @@ fn deps_of(f: &Finding) -> &[Dep]
 
 /// Whether each number lies in the range of its type. Rust's types see to that, and a proof learns
 /// of it where the numbers are read.
-fn in_range(deps: &[Dep]) -> bool
-    ensures { IsTrue result ↔ AllByRecursion Fits (map dep_line deps.now) }
+fn fits(f: &Finding) -> bool
+    ensures { IsTrue result ↔ AllByRecursion Fits (texts.lines_of f.now) }
 {
-    let mut rest = deps;
+    let _last = last_words(f);
+    let mut rest = deps_of(f);
     while let [dep, more @ ..] = rest {
         let _line = dep_words(dep);
         rest = more;
@@ -62,22 +63,30 @@ fn count_turn(deps: &[Dep]) -> u64
     deps.iter().filter(|dep| !dep.before).count() as u64
 }
 
+/// Whether the report counts right what it lists, and a cycle has an event.
+fn is_whole(f: &Finding) -> bool
+    ensures { IsTrue result ↔ IsWhole f.now }
+{
+    match f {
+        Finding::Deps {
+            list,
+            before,
+            turn,
+            ..
+        } => {
+            let deps = list.as_slice();
+            count_before(deps) == *before && count_turn(deps) == *turn
+        }
+        Finding::Cycle { events } => events.len() > 0,
+        _ => true,
+    }
+}
+
 /// Whether the report has a text: `Deps` counts right what it lists, and a `Cycle` has an event.
 pub fn good_finding(f: &Finding) -> bool
     ensures { IsTrue result ↔ Good f.now }
 {
-    let deps = deps_of(f);
-    let _last = last_words(f);
-    match f {
-        Finding::Deps {
-            list: _,
-            items: _,
-            before,
-            turn,
-        } => { in_range(deps) && count_before(deps) == *before && count_turn(deps) == *turn }
-        Finding::Cycle { events } => events.len() > 0,
-        _ => true,
-    }
+    fits(f) && is_whole(f)
 }
 
 fn push_events(out: &mut Vec<u8>, events: &[u32]) -> Result<(), AllocError>
