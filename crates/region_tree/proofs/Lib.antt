@@ -1,1 +1,2 @@
 pub mod RunPoints
+pub mod Firsts

@@ -2,7 +2,13 @@
 #![tactic(auto)]
 
 mod arena_set;
+mod decls;
+mod finder;
 mod memory;
+mod path;
+mod places;
 
 pub use arena_set::ArenaSet;
+pub use decls::{Decls, PartDecl, SpaceDecl, SubDecl};
 pub use memory::Memory;
+pub use path::Step;
