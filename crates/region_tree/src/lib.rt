@@ -4,6 +4,7 @@
 mod arena_set;
 mod decls;
 mod finder;
+mod lookups;
 mod memory;
 mod path;
 mod places;

@@ -1,0 +1,79 @@
+//! Declarations as they are looked up.
+
+ghost use Rattle.std.specs.Prelude.{◌≡◌, ◌↔◌, slice_get, IsSome, IsTrue, option_and_then};
+ghost use Rattle.std.specs.Option.{option_copied, option_map};
+ghost use Rattle.region_tree.specs.Regions.{seen, space_of, part_of, sub_of, child_of, whole_of, parent_of};
+
+use crate::decls::{PartDecl, SpaceDecl, SubDecl};
+use crate::finder::Finder;
+use crate::path::Step;
+use point_set::PointSet;
+
+/// The item at a place.
+fn item_at<T>(items: &[T], place: Option<usize>) -> Option<&T>
+    ensures { option_copied result ≡ option_and_then (slice_get items.now) place }
+{
+    items.get(place?)
+}
+
+impl<'t, P: PointSet> Finder<'t, P> {
+    /// The space with this id.
+    fn space(&self, id: u32) -> Option<&'t SpaceDecl<P>>
+        ensures { option_map (λ s. seen P.points s.now) result ≡ space_of self.now id }
+    {
+        item_at(self.spaces(), self.space_place(id))
+    }
+
+    /// The set of a space.
+    pub fn set(&self, id: u32) -> Option<&'t P>
+        ensures { option_map (λ s. P.points s.now) result ≡ option_map (λ s. s.points) (space_of self.now id) }
+    {
+        match self.space(id) {
+            Some(space) => Some(&space.set),
+            None => None,
+        }
+    }
+
+    /// Whether there is a space with this id.
+    pub fn has_space(&self, id: u32) -> bool
+        ensures { IsTrue result ↔ IsSome (space_of self.now id) }
+    {
+        self.space(id).is_some()
+    }
+
+    /// The partition with this id.
+    pub fn part(&self, id: u32) -> Option<PartDecl>
+        ensures { result ≡ part_of self.now id }
+    {
+        item_at(self.parts(), self.part_place(id)).copied()
+    }
+
+    /// What declares the space as a subspace.
+    pub fn sub(&self, space: u32) -> Option<SubDecl>
+        ensures { result ≡ sub_of self.now space }
+    {
+        item_at(self.subs(), self.sub_place(space)).copied()
+    }
+
+    /// The subspace of this partition and colour.
+    pub fn child(&self, step: Step) -> Option<SubDecl>
+        ensures { result ≡ child_of self.now step }
+    {
+        item_at(self.subs(), self.child_place(step)).copied()
+    }
+
+    /// The space that a partition cuts.
+    pub fn whole(&self, part: u32) -> Option<u32>
+        ensures { result ≡ whole_of self.now part }
+    {
+        Some(self.part(part)?.space)
+    }
+
+    /// The space of which this one is a subspace.
+    pub fn parent(&self, space: u32) -> Option<u32>
+        ensures { result ≡ parent_of self.now space }
+    {
+        let sub = self.sub(space)?;
+        self.whole(sub.part)
+    }
+}
