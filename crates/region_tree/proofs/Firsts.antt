@@ -1,9 +1,9 @@
 -- First places in lists.
-use Rattle.std.proofs.Common.{◌≡◌, ℕ, suc, ◌+◌, ◌-◌, ◌<◌, ◌≤◌, Bool, true, false, List, [], ◌∷◌, map, length, get_or, Option, Some, None, cond, Bor, refl, sym, ap, ◌∙◌, inl, inr, arith, find, slice_get}
+use Rattle.std.proofs.Common.{◌≡◌, ℕ, suc, ◌+◌, ◌-◌, ◌<◌, ◌≤◌, Bool, true, false, List, [], ◌∷◌, map, length, get_or, Option, Some, None, All, subst, cond, Bor, refl, sym, ap, ◌∙◌, inl, inr, arith, find, slice_get}
 use Rattle.std.specs.List.{position_from}
 use Rattle.std.specs.Option.{option_and_then, option_map, option_copied}
 use Rattle.std.proofs.lemmas.Bool.{cases_Bool}
-use Rattle.std.proofs.lemmas.Option.{slice_get-map, none-some, same_Some}
+use Rattle.std.proofs.lemmas.Option.{slice_get-map, slice_get_within, get_or_from_slice_get, none-some, same_Some}
 
 pub position_from-map : {X K : Type 0} (f : X → K) (p : K → Bool) (k : ℕ) (xs : List X) → position_from p k (map f xs) ≡ position_from (λ x. p (f x)) k xs
 position_from-map f p k [] = refl
@@ -41,3 +41,16 @@ seen_at f xs None = refl
 pub seen_behind : {X Y : Type 0} (f : X → Y) (r : Option (Bor X)) → option_map (λ s. f s.now) r ≡ option_map f (option_copied r)
 seen_behind f (Some x) = refl
 seen_behind f None = refl
+
+-- the first element that passes is an element, and passes
+pub find_some : {X : Type 0} (p : X → Bool) (xs : List X) (x : X) → find p xs ≡ Some x → (i : ℕ) × (slice_get xs i ≡ Some x) × (p x ≡ true)
+find_some p [] x e = absurd (none-some x e)
+find_some p (y ∷ ys) x e =
+    elim (cases_Bool (p y)) [
+      | inl hit ↦ let here : y ≡ x = same_Some y x (rw hit at e) in (0, ap (λ z. Some z) here, ap p (sym here) ∙ hit)
+      | inr miss ↦ let h = find_some p ys x (rw miss at e) in (suc h.0, h.1, h.2)
+    ]
+
+-- what holds of each element holds of the one at a place
+pub all_at : {X : Type 0} (P : X → Type 0) (xs : List X) (i : ℕ) (x : X) → All P xs → slice_get xs i ≡ Some x → P x
+all_at P xs i x all at = subst P (get_or_from_slice_get xs i x x at) (all i x (slice_get_within xs i x at))

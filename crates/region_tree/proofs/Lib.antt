@@ -1,2 +1,4 @@
 pub mod RunPoints
 pub mod Firsts
+pub mod Distinct
+pub mod Climbs

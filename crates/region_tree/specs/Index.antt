@@ -1,8 +1,12 @@
 -- What an index of declarations holds.
-use Rattle.std.specs.Prelude.{◌≡◌, ℕ, ◌==◌, ◌&&◌, Option}
+use Rattle.std.specs.Prelude.{◌≡◌, ℕ, ◌==◌, ◌&&◌, Bool, List, slice_get, Option, Some}
 use Rattle.std.specs.List.{position_from}
 use Rattle.region_tree.specs.declared.path.Step.{Step}
 use Rattle.region_tree.specs.Regions.{Regions}
+
+-- The element at this place is the first that is like it.
+abbrev pub IsFirstAt : {X : Type 0} → (X → X → Bool) → List X → ℕ → Type 0
+IsFirstAt {X} same xs i = (x : X) → slice_get xs i ≡ Some x → position_from (same x) 0 xs ≡ Some i
 
 -- The first place of each declaration, by id, by space, or by partition and colour.
 pub record IsIndexOf (d : Regions) (spaces parts subs : ℕ → Option ℕ) (children : Step → Option ℕ) : Type 0 where

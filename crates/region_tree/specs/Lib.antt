@@ -1,2 +1,4 @@
 pub mod Regions
 pub mod Index
+pub mod Tied
+pub mod Ancestors

@@ -5,6 +5,7 @@ ghost use Rattle.region_tree.specs.Regions.{seen, step_of};
 
 use crate::path::Step;
 use point_set::PointSet;
+use std::alloc::Global;
 use std::marker::Model;
 
 /// A space: its id, and its points.
@@ -75,6 +76,11 @@ impl<P: PointSet> Decls<P> {
             parts,
             subs,
         }
+    }
+
+    /// The allocator that the lists were made with.
+    pub(crate) fn allocator(&self) -> Global {
+        *self.spaces.allocator()
     }
 
     /// The spaces.

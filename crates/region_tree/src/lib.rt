@@ -8,8 +8,10 @@ mod lookups;
 mod memory;
 mod path;
 mod places;
+mod tie;
 
 pub use arena_set::ArenaSet;
 pub use decls::{Decls, PartDecl, SpaceDecl, SubDecl};
 pub use memory::Memory;
 pub use path::Step;
+pub use tie::tied;

@@ -17,6 +17,27 @@ fn item_at<T>(items: &[T], place: Option<usize>) -> Option<&T>
 }
 
 impl<'t, P: PointSet> Finder<'t, P> {
+    /// Space `i` of the declarations.
+    pub fn space_at(&self, i: usize) -> Option<&'t SpaceDecl<P>>
+        ensures { option_map (λ s. seen P.points s.now) result ≡ slice_get self.now.spaces i }
+    {
+        item_at(self.spaces(), Some(i))
+    }
+
+    /// Partition `i` of the declarations.
+    pub fn part_at(&self, i: usize) -> Option<PartDecl>
+        ensures { result ≡ slice_get self.now.parts i }
+    {
+        item_at(self.parts(), Some(i)).copied()
+    }
+
+    /// Subspace `i` of the declarations.
+    pub fn sub_at(&self, i: usize) -> Option<SubDecl>
+        ensures { result ≡ slice_get self.now.subs i }
+    {
+        item_at(self.subs(), Some(i)).copied()
+    }
+
     /// The space with this id.
     fn space(&self, id: u32) -> Option<&'t SpaceDecl<P>>
         ensures { option_map (λ s. seen P.points s.now) result ≡ space_of self.now id }
