@@ -2,3 +2,5 @@ pub mod RunPoints
 pub mod Firsts
 pub mod Distinct
 pub mod Climbs
+pub mod Finding
+pub mod Claiming

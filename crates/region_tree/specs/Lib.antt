@@ -2,3 +2,5 @@ pub mod Regions
 pub mod Index
 pub mod Tied
 pub mod Ancestors
+pub mod Faults
+pub mod Claims

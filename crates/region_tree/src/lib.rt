@@ -2,16 +2,22 @@
 #![tactic(auto)]
 
 mod arena_set;
+mod claims;
 mod decls;
+mod faults;
 mod finder;
+mod forest;
 mod lookups;
 mod memory;
 mod path;
+mod place_fault;
 mod places;
 mod tie;
 
 pub use arena_set::ArenaSet;
 pub use decls::{Decls, PartDecl, SpaceDecl, SubDecl};
+pub use forest::Forest;
 pub use memory::Memory;
 pub use path::Step;
+pub use place_fault::PlaceFault;
 pub use tie::tied;

@@ -1,8 +1,10 @@
 //! Declarations as they are looked up.
 
-ghost use Rattle.std.specs.Prelude.{◌≡◌, ◌↔◌, slice_get, IsSome, IsTrue, option_and_then};
+ghost use Rattle.std.specs.Prelude.{◌≡◌, ◌↔◌, [], slice_get, MatchOption, IsSome, IsTrue, option_and_then};
 ghost use Rattle.std.specs.Option.{option_copied, option_map};
-ghost use Rattle.region_tree.specs.Regions.{seen, space_of, part_of, sub_of, child_of, whole_of, parent_of};
+ghost use Rattle.region_tree.specs.Regions.{seen, space_of, part_of, sub_of, child_of, points_of, whole_of, parent_of};
+ghost use Rattle.region_tree.specs.Faults.{is_disjoint, points_cut};
+ghost use Rattle.point_set.specs.Least.{IsLeastCommon};
 
 use crate::decls::{PartDecl, SpaceDecl, SubDecl};
 use crate::finder::Finder;
@@ -47,7 +49,8 @@ impl<'t, P: PointSet> Finder<'t, P> {
 
     /// The set of a space.
     pub fn set(&self, id: u32) -> Option<&'t P>
-        ensures { option_map (λ s. P.points s.now) result ≡ option_map (λ s. s.points) (space_of self.now id) }
+        ensures value { option_map (λ s. P.points s.now) result ≡ option_map (λ s. s.points) (space_of self.now id) }
+        ensures points { MatchOption result (points_of self.now id ≡ []) (λ s. points_of self.now id ≡ P.points s.now) }
     {
         match self.space(id) {
             Some(space) => Some(&space.set),
@@ -88,6 +91,36 @@ impl<'t, P: PointSet> Finder<'t, P> {
         ensures { result ≡ whole_of self.now part }
     {
         Some(self.part(part)?.space)
+    }
+
+    /// The set of the space that a partition cuts.
+    pub fn whole_set(&self, part: u32) -> Option<&'t P>
+        ensures { MatchOption result (points_cut self.now part ≡ []) (λ s. points_cut self.now part ≡ P.points s.now) }
+    {
+        match self.whole(part) {
+            Some(space) => self.set(space),
+            None => None,
+        }
+    }
+
+    /// Whether the partition is declared disjoint.
+    pub fn is_disjoint(&self, part: u32) -> bool
+        ensures { result ≡ is_disjoint self.now part }
+    {
+        match self.part(part) {
+            Some(part) => part.disjoint,
+            None => false,
+        }
+    }
+
+    /// The least point that two spaces share.
+    pub fn first_common(&self, a: u32, b: u32) -> Option<u64>
+        ensures { IsLeastCommon (points_of self.now a) (points_of self.now b) result }
+    {
+        match (self.set(a), self.set(b)) {
+            (Some(ours), Some(theirs)) => ours.first_common(theirs),
+            _ => None,
+        }
     }
 
     /// The space of which this one is a subspace.

@@ -1,0 +1,78 @@
+//! Forests of regions.
+
+ghost use Rattle.std.specs.Prelude.{◌≡◌, ℕ, Err, IfOk, OnOk};
+ghost use Rattle.region_tree.specs.Tied.{IsTied};
+ghost use Rattle.region_tree.specs.Faults.{IsFaulty, FirstNotWithin, FirstNotDisjoint};
+
+use crate::arena_set::ArenaSet;
+use crate::decls::{Decls, SpaceDecl};
+use crate::faults::judge;
+use crate::finder::Finder;
+use crate::place_fault::PlaceFault;
+use bumpalo::Bump;
+use bumpalo::collections::into_bump_slice;
+use point_set::PointSet;
+use std::alloc::{AllocError, Global};
+use std::marker::Model;
+
+/// Declarations that make a forest, with each subspace within the space that is cut and each disjoint partition disjoint. They lie in an arena.
+#[derive(Drop)]
+pub struct Forest<'a, P: PointSet> {
+    finder: Finder<'a, P>,
+}
+
+impl<'a, P: PointSet> Model for Forest<'a, P> {
+    ghost use Rattle.std.specs.Prelude.{ℕ};
+    ghost use Rattle.region_tree.specs.Regions.{Regions};
+    ghost use Rattle.region_tree.specs.Tied.{IsTied};
+    ghost use Rattle.region_tree.specs.Faults.{IsFaulty};
+
+    ghost Value = { Regions };
+
+    ghost view = { λ f. f.finder };
+
+    ghost invariant = { λ f. IsTied f.finder × ((i : ℕ) → ¬ IsFaulty f.finder i) };
+}
+
+/// The spaces, in the arena.
+fn place_spaces<'a, P: PointSet + Copy>(
+    bump: &'a Bump,
+    spaces: &[SpaceDecl<P>],
+) -> Result<&'a [SpaceDecl<P>], AllocError>
+    ensures { IfOk result (λ placed. placed.now ≡ spaces.now) }
+{
+    let mut placed = Vec::new(bump);
+    for space in spaces {
+        placed.push(SpaceDecl {
+            id: space.id,
+            set: space.set,
+        })?;
+    }
+    Ok(into_bump_slice(placed))
+}
+
+impl<'a, P: ArenaSet<'a>> Forest<'a, P> {
+    /// The forest that is declared, in the arena.
+    ///
+    /// It is refused just where some subspace is faulty: with the least faulty one, and the least point at fault.
+    pub fn place(
+        alloc: Global,
+        bump: &'a Bump,
+        decls: &Decls<P>,
+    ) -> Result<Forest<'a, P>, PlaceFault>
+        requires { IsTied decls.now }
+        ensures forest { IfOk result (λ forest. forest ≡ decls.now) }
+        ensures faultless { OnOk result ((i : ℕ) → ¬ IsFaulty decls.now i) }
+
+        // Each refusal shows the least faulty subspace. The first way of being faulty comes before the second.
+        ensures not_within { (sub point : ℕ) → result ≡ Err (PlaceFault.NotWithin sub point) → FirstNotWithin decls.now sub point }
+        ensures not_disjoint { (sub other point : ℕ) → result ≡ Err (PlaceFault.NotDisjoint sub other point) → FirstNotDisjoint decls.now sub other point }
+    {
+        let spaces = place_spaces(bump, decls.spaces())?;
+        let parts = bump.try_alloc_slice_copy(decls.parts())?;
+        let subs = bump.try_alloc_slice_copy(decls.subs())?;
+        let finder = Finder::indexed(alloc, spaces, parts, subs)?;
+        judge(alloc, &finder)?;
+        Ok(Forest { finder })
+    }
+}
