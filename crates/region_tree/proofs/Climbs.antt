@@ -69,3 +69,11 @@ round d space n (suc k) e = let h = round d space n k e in (suc n + h.0, omega (
 -- and none lies below itself
 pub acyclic_from : (d : Regions) → ((space : ℕ) → IsShallow d space) → (space : ℕ) → ¬ (IsBelow d space space)
 acyclic_from d shallow space below = let h = round d space below.0 65 below.1 in omega (arith, h.1, shallow space space h.0 h.2)
+
+-- a climb that ends and did not meet the root
+pub never_met : (d : Regions) (n space root : ℕ) → ((m : ℕ) → ancestor_of d m space ≡ Some root → m ≤ n) → ((k : ℕ) → k < n → ancestor_of d k space ≡ Some root → ⊥) → (ancestor_of d n space ≡ Some root → ⊥) → (m : ℕ) → ancestor_of d m space ≡ Some root → ⊥
+never_met d n space root most passed here m e =
+    elim (cases_lt m n) [
+      | inl lt ↦ passed m lt e
+      | inr le ↦ let z : m ≡ n = omega (arith, most m e) in here (ap (λ k. ancestor_of d k space) (sym z) ∙ e)
+    ]

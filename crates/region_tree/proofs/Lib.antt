@@ -4,3 +4,4 @@ pub mod Distinct
 pub mod Climbs
 pub mod Finding
 pub mod Claiming
+pub mod Ways

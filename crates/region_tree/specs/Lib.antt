@@ -4,3 +4,4 @@ pub mod Tied
 pub mod Ancestors
 pub mod Faults
 pub mod Claims
+pub mod Paths

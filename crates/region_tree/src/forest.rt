@@ -1,13 +1,20 @@
 //! Forests of regions.
 
-ghost use Rattle.std.specs.Prelude.{◌≡◌, ℕ, Err, IfOk, OnOk};
+ghost use Rattle.std.specs.Prelude.{◌≡◌, ◌↔◌, ℕ, Err, IfOk, OnOk, IsSome, IfSome, IsTrue};
+ghost use Rattle.std.specs.Option.{option_map};
+ghost use Rattle.region_tree.specs.Regions.{space_of};
+ghost use Rattle.region_tree.specs.Ancestors.{IsUnder};
+ghost use Rattle.region_tree.specs.Paths.{IsPath};
 ghost use Rattle.region_tree.specs.Tied.{IsTied};
 ghost use Rattle.region_tree.specs.Faults.{IsFaulty, FirstNotWithin, FirstNotDisjoint};
 
 use crate::arena_set::ArenaSet;
+use crate::climb::{is_under, path_to};
 use crate::decls::{Decls, SpaceDecl};
 use crate::faults::judge;
 use crate::finder::Finder;
+use crate::memory::Memory;
+use crate::path::Path;
 use crate::place_fault::PlaceFault;
 use bumpalo::Bump;
 use bumpalo::collections::into_bump_slice;
@@ -74,5 +81,33 @@ impl<'a, P: ArenaSet<'a>> Forest<'a, P> {
         let finder = Finder::indexed(alloc, spaces, parts, subs)?;
         judge(alloc, &finder)?;
         Ok(Forest { finder })
+    }
+}
+
+impl<'a, P: PointSet> Forest<'a, P> {
+    /// The set of a space, or `None` if the space is not declared.
+    pub fn set_of(&self, space: u32) -> Option<&P>
+        ensures { option_map (λ set. P.points set.now) result ≡ option_map (λ s. s.points) (space_of self.now space) }
+    {
+        self.finder.set(space)
+    }
+
+    /// Whether both are declared, and the space is the root or lies below it.
+    pub fn under(&self, space: u32, root: u32) -> bool
+        ensures { IsTrue result ↔ IsUnder self.now space root }
+    {
+        is_under(&self.finder, space, root)
+    }
+
+    /// The path of a space, or `None` if the space is not declared. The only error is want of memory.
+    pub fn path_of(&self, alloc: Global, space: u32) -> Result<Option<Path>, Memory>
+        ensures declared { IfOk result (λ path. IsSome path ↔ IsSome (space_of self.now space)) }
+        ensures path { IfOk result (λ path. IfSome path (λ way. IsPath self.now way space)) }
+    {
+        if !self.finder.has_space(space) {
+            return Ok(None);
+        }
+        let path = path_to(alloc, &self.finder, space)?;
+        Ok(Some(path))
     }
 }

@@ -3,6 +3,7 @@
 
 mod arena_set;
 mod claims;
+mod climb;
 mod decls;
 mod faults;
 mod finder;
@@ -18,6 +19,6 @@ pub use arena_set::ArenaSet;
 pub use decls::{Decls, PartDecl, SpaceDecl, SubDecl};
 pub use forest::Forest;
 pub use memory::Memory;
-pub use path::Step;
+pub use path::{Path, Step};
 pub use place_fault::PlaceFault;
 pub use tie::tied;

@@ -4,6 +4,7 @@ ghost use Rattle.std.specs.Prelude.{◌≡◌, ◌↔◌, [], slice_get, MatchOp
 ghost use Rattle.std.specs.Option.{option_copied, option_map};
 ghost use Rattle.region_tree.specs.Regions.{seen, space_of, part_of, sub_of, child_of, points_of, whole_of, parent_of};
 ghost use Rattle.region_tree.specs.Faults.{is_disjoint, points_cut};
+ghost use Rattle.region_tree.specs.Paths.{step_to};
 ghost use Rattle.point_set.specs.Least.{IsLeastCommon};
 
 use crate::decls::{PartDecl, SpaceDecl, SubDecl};
@@ -121,6 +122,15 @@ impl<'t, P: PointSet> Finder<'t, P> {
             (Some(ours), Some(theirs)) => ours.first_common(theirs),
             _ => None,
         }
+    }
+
+    /// The last step to a subspace, with the space from which it leads.
+    pub fn step_to(&self, space: u32) -> Option<(Step, u32)>
+        ensures { result ≡ step_to self.now space }
+    {
+        let sub = self.sub(space)?;
+        let whole = self.whole(sub.part)?;
+        Some((sub.step(), whole))
     }
 
     /// The space of which this one is a subspace.
