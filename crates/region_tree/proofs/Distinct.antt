@@ -22,7 +22,7 @@ none_before p k i (suc j) d (x ∷ xs) e lt =
     ]
 
 -- an element that passes stands at the first place or behind it
-found_by : {X : Type 0} (p : X → Bool) (k i : ℕ) (x : X) (xs : List X) → slice_get xs i ≡ Some x → p x ≡ true → (j : ℕ) × (y : X) × (j ≤ i) × (position_from p k xs ≡ Some (k + j)) × (slice_get xs j ≡ Some y) × (p y ≡ true)
+pub found_by : {X : Type 0} (p : X → Bool) (k i : ℕ) (x : X) (xs : List X) → slice_get xs i ≡ Some x → p x ≡ true → (j : ℕ) × (y : X) × (j ≤ i) × (position_from p k xs ≡ Some (k + j)) × (slice_get xs j ≡ Some y) × (p y ≡ true)
 found_by p k i x [] at e = absurd (none-some x at)
 found_by p k zero x (y ∷ ys) at e =
     let here : y ≡ x = same_Some y x at in

@@ -5,3 +5,4 @@ pub mod Climbs
 pub mod Finding
 pub mod Claiming
 pub mod Ways
+pub mod Aliases

@@ -2,7 +2,8 @@
 
 ghost use Rattle.std.specs.Prelude.{◌≡◌, ◌↔◌, ℕ, Err, IfOk, OnOk, IsSome, IfSome, IsTrue};
 ghost use Rattle.std.specs.Option.{option_map};
-ghost use Rattle.region_tree.specs.Regions.{space_of};
+ghost use Rattle.region_tree.specs.Regions.{space_of, points_of};
+ghost use Rattle.point_set.specs.Least.{IsLeastCommon};
 ghost use Rattle.region_tree.specs.Ancestors.{IsUnder};
 ghost use Rattle.region_tree.specs.Paths.{IsPath};
 ghost use Rattle.region_tree.specs.Tied.{IsTied};
@@ -16,6 +17,7 @@ use crate::finder::Finder;
 use crate::memory::Memory;
 use crate::path::Path;
 use crate::place_fault::PlaceFault;
+use crate::sharing::alias_of;
 use bumpalo::Bump;
 use bumpalo::collections::into_bump_slice;
 use point_set::PointSet;
@@ -109,5 +111,16 @@ impl<'a, P: PointSet> Forest<'a, P> {
         }
         let path = path_to(alloc, &self.finder, space)?;
         Ok(Some(path))
+    }
+
+    /// The least point that the spaces of two paths share, or `None` if they share none. Takes no memory.
+    ///
+    /// Both are paths of this forest. Below two colours of one disjoint partition no point is looked at.
+    pub fn alias(&self, a: &Path, b: &Path) -> Option<u64>
+        requires a { (s : ℕ) × IsPath self.now a.now s }
+        requires b { (t : ℕ) × IsPath self.now b.now t }
+        ensures { (s t : ℕ) → IsPath self.now a.now s → IsPath self.now b.now t → IsLeastCommon (points_of self.now s) (points_of self.now t) result }
+    {
+        alias_of(&self.finder, a, b)
     }
 }

@@ -13,6 +13,7 @@ mod memory;
 mod path;
 mod place_fault;
 mod places;
+mod sharing;
 mod tie;
 
 pub use arena_set::ArenaSet;
