@@ -14,6 +14,8 @@ mod path;
 mod place_fault;
 mod places;
 mod sharing;
+#[cfg(test)]
+mod tests;
 mod tie;
 
 pub use arena_set::ArenaSet;
