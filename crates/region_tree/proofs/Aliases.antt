@@ -1,16 +1,15 @@
 -- Points along paths.
-use Rattle.std.proofs.Common.{◌≡◌, ◌≢◌, ℕ, zero, suc, ◌+◌, ◌-◌, ◌<◌, ◌≤◌, Bool, true, false, ◌==◌, ◌&&◌, List, [], ◌∷◌, length, get_or, find, Contains, Option, Some, None, IsTrue, slice_get, subst, refl, sym, ap, ◌∙◌, inl, inr, ◌⊎◌, eq-eqb, arith}
-use Rattle.std.specs.List.{list_any, position_from}
+use Rattle.std.proofs.Common.{◌≡◌, ℕ, zero, suc, ◌+◌, ◌-◌, Bool, true, ◌==◌, ◌&&◌, List, [], ◌∷◌, length, get_or, Contains, Some, None, IsTrue, slice_get, subst, refl, sym, ap, ◌∙◌, inl, inr, ◌⊎◌, eq-eqb, arith}
+use Rattle.std.specs.List.{list_any}
 use Rattle.std.specs.Option.{option_map_or}
 use Rattle.std.proofs.lemmas.Bool.{cases_Bool, cases_order, eqb-true, and_parts, and_from}
 use Rattle.std.proofs.lemmas.Bool.Decides.{Decides-eqb, Decides-by_or, not_from_Decides}
 use Rattle.std.proofs.lemmas.List.Elements.{Decides-contains}
-use Rattle.std.proofs.lemmas.List.{get_or_default}
 use Rattle.std.proofs.lemmas.Option.{none-some, same_Some, slice_get-get_or, slice_get_within, get_or_from_slice_get}
 use Rattle.point_set.specs.Least.{IsLeastCommon}
 use Rattle.region_tree.specs.declared.decls.SubDecl.{SubDecl}
 use Rattle.region_tree.specs.declared.path.Step.{Step}
-use Rattle.region_tree.specs.Regions.{Regions, step_of, sub_of, child_of, whole_of, points_of}
+use Rattle.region_tree.specs.Regions.{Regions, step_of, child_of, whole_of, points_of}
 use Rattle.region_tree.specs.Tied.{IsTied}
 use Rattle.region_tree.specs.Faults.{points_cut, is_disjoint, IsFaulty}
 use Rattle.region_tree.specs.Paths.{Way, Leads, IsPath}

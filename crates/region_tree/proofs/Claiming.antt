@@ -1,5 +1,5 @@
 -- Claims, point by point and subspace by subspace.
-use Rattle.std.proofs.Common.{◌≡◌, ◌↔◌, ℕ, suc, ◌+◌, ◌<◌, ◌≤◌, Bool, true, false, cond, ◌⊎◌, List, [], Option, Some, None, Contains, IsTrue, Result, Ok, Err, IfOk, ◌==◌, slice_get, subst, refl, sym, ap, ◌∙◌, inl, inr, eq-eqb, arith}
+use Rattle.std.proofs.Common.{◌≡◌, ℕ, ◌+◌, ◌<◌, ◌≤◌, Bool, true, false, cond, List, [], Option, Some, None, Contains, IsTrue, Result, Ok, Err, IfOk, ◌==◌, slice_get, subst, refl, sym, ap, ◌∙◌, inl, inr, eq-eqb, arith}
 use Rattle.std.proofs.lemmas.Bool.{cases_Bool, cases_lt, cases_eq, eqb-true, and_parts, and_from, cond-true, cond-false, both_ways}
 use Rattle.std.specs.Bool.{OnTrue, OnFalse}
 use Rattle.std.specs.List.{list_any}
@@ -7,7 +7,7 @@ use Rattle.std.proofs.lemmas.Option.{same_Some, none-some}
 use Rattle.point_set.specs.Least.{IsLeastOf, IsLeastFrom}
 use Rattle.region_tree.specs.declared.decls.SubDecl.{SubDecl}
 use Rattle.region_tree.specs.Regions.{Regions, points_of}
-use Rattle.region_tree.specs.Faults.{is_disjoint, Meets, MeetsEarlier}
+use Rattle.region_tree.specs.Faults.{is_disjoint, MeetsEarlier}
 use Rattle.region_tree.specs.Claims.{same_claim, Claims, AreClaims, AddsPoints, IsFree, ClaimsNothing, ClaimsAll}
 
 -- the points below a number

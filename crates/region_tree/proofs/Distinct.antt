@@ -1,5 +1,5 @@
 -- Keys of which no two are alike.
-use Rattle.std.proofs.Common.{◌≡◌, ℕ, zero, suc, ◌+◌, ◌<◌, ◌≤◌, Bool, true, false, List, [], ◌∷◌, length, get_or, Option, Some, AllPairs, cond, refl, sym, ap, ◌∙◌, inl, inr, arith, slice_get, nat_eq, IsTrue, ◌↔◌, None, eq-eqb, ◌==◌, ◌&&◌}
+use Rattle.std.proofs.Common.{◌≡◌, ℕ, zero, suc, ◌+◌, ◌<◌, ◌≤◌, Bool, true, false, List, [], ◌∷◌, length, get_or, Option, Some, AllPairs, refl, sym, ap, ◌∙◌, inl, inr, arith, slice_get, nat_eq, IsTrue, ◌↔◌, None, eq-eqb, ◌==◌, ◌&&◌}
 use Rattle.std.specs.List.{position_from}
 use Rattle.std.specs.Option.{option_eq}
 use Rattle.std.specs.Cmp.Derive.{both_true}

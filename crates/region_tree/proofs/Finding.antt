@@ -1,5 +1,5 @@
 -- Least points and subspaces at which something is wrong.
-use Rattle.std.proofs.Common.{◌≡◌, ◌↔◌, ℕ, suc, ◌+◌, ◌<◌, ◌≤◌, List, [], Option, Some, None, Contains, IsTrue, Result, Ok, Err, refl, length, slice_get, subst, sym, ap, ◌∙◌, inl, inr, arith}
+use Rattle.std.proofs.Common.{◌≡◌, ℕ, ◌<◌, ◌≤◌, List, [], Option, Some, None, Contains, IsTrue, Result, Err, refl, length, slice_get, subst, sym, ◌∙◌, inl, inr, arith}
 use Rattle.std.proofs.lemmas.Option.{same_Some, none-some, slice_get_within}
 use Rattle.std.proofs.lemmas.Bool.{cases_lt}
 use Rattle.point_set.specs.Least.{IsLeast, IsLeastOf, IsLeastCommon, IsLeastOutside}
@@ -7,7 +7,7 @@ use Rattle.region_tree.specs.declared.decls.SubDecl.{SubDecl}
 use Rattle.region_tree.specs.declared.place_fault.PlaceFault.{PlaceFault}
 use Rattle.region_tree.specs.declared.place_fault.PlaceFault.TheVariants.{NotWithin, NotDisjoint}
 use Rattle.region_tree.specs.Regions.{Regions, points_of}
-use Rattle.region_tree.specs.Faults.{points_cut, is_disjoint, Clashes, IsOutside, Meets, MeetsEarlier, IsFaulty, FirstNotWithin, FirstNotDisjoint}
+use Rattle.region_tree.specs.Faults.{points_cut, is_disjoint, IsOutside, Meets, MeetsEarlier, IsFaulty, FirstNotWithin, FirstNotDisjoint}
 
 least_alike : (P Q : ℕ → Type 0) (o : Option ℕ) → ((p : ℕ) → P p → Q p) → ((p : ℕ) → Q p → P p) → IsLeast P o → IsLeast Q o
 least_alike P Q (Some p) there back least = (there p least.0, λ q h. least.1 q (back q h))

@@ -1,5 +1,5 @@
 -- First places in lists.
-use Rattle.std.proofs.Common.{◌≡◌, ℕ, suc, ◌+◌, ◌-◌, ◌<◌, ◌≤◌, Bool, true, false, List, [], ◌∷◌, map, length, get_or, Option, Some, None, All, subst, cond, Bor, refl, sym, ap, ◌∙◌, inl, inr, arith, find, slice_get}
+use Rattle.std.proofs.Common.{◌≡◌, ℕ, suc, ◌+◌, ◌-◌, ◌≤◌, Bool, true, List, [], ◌∷◌, map, Option, Some, None, All, subst, cond, Bor, refl, sym, ap, ◌∙◌, inl, inr, arith, find, slice_get}
 use Rattle.std.specs.List.{position_from}
 use Rattle.std.specs.Option.{option_and_then, option_map, option_copied}
 use Rattle.std.proofs.lemmas.Bool.{cases_Bool}

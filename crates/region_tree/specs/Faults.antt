@@ -1,5 +1,5 @@
 -- What is wrong with a subspace.
-use Rattle.std.specs.Prelude.{◌≡◌, ◌≢◌, ℕ, ◌<◌, Bool, false, ◌⊎◌, List, [], slice_get, Contains, Some, None, IsTrue}
+use Rattle.std.specs.Prelude.{◌≡◌, ℕ, ◌<◌, Bool, false, ◌⊎◌, List, [], slice_get, Contains, Some, None, IsTrue}
 use Rattle.std.specs.Option.{option_map_or}
 use Rattle.point_set.specs.Least.{IsLeast}
 use Rattle.region_tree.specs.declared.decls.SubDecl.{SubDecl}

@@ -1,4 +1,4 @@
-use Rattle.std.proofs.Common.{ℕ, ◌+◌, ◌-◌, ◌^◌, Option, unwrap_or}
+use Rattle.std.proofs.Common.{ℕ, ◌-◌, ◌^◌}
 use Rattle.std.specs.HashSet.{contains}
 use Rattle.std.specs.Option.{option_map_or}
 use Rattle.point_set.specs.Least.{IsLeastFrom}

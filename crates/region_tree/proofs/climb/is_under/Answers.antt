@@ -1,4 +1,4 @@
-use Rattle.std.proofs.Common.{◌≡◌, sym, ap, ◌∙◌, refl, arith, below_more}
+use Rattle.std.proofs.Common.{sym, ◌∙◌, arith, below_more}
 use Rattle.std.proofs.lemmas.Option.{same_Some}
 use Rattle.region_tree.proofs.Climbs.{ancestor_more, at_most, never_met}
 use Rattle.region_tree.proofs.Ways.{parent_declared}

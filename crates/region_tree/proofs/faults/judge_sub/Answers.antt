@@ -1,4 +1,3 @@
-use Rattle.std.proofs.Common.{◌≡◌}
 use Rattle.std.proofs.lemmas.Bool.{OnTrue_at, OnFalse_at}
 use Rattle.region_tree.specs.Faults.{IsOutside}
 use Rattle.region_tree.proofs.Finding.{not_within_shown, not_disjoint_shown, least_none, not_faulty}

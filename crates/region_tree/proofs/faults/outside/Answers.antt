@@ -1,8 +1,6 @@
-use Rattle.std.proofs.Common.{sym, ◌∙◌}
+use Rattle.std.proofs.Common.{sym}
 use Rattle.region_tree.proofs.Finding.{outside_from, least_outside_none}
-use Rattle.region_tree.specs.Regions.{points_of}
 use Rattle.region_tree.specs.Faults.{points_cut}
-use Rattle.point_set.specs.Least.{IsLeastOutside}
 use Rattle.region_tree.proofs.faults.outside.Goals as goal
 
 pub returns-in-Some : goal.returns-in-Some

@@ -1,4 +1,4 @@
-use Rattle.std.proofs.Common.{◌≡◌, ℕ, ◌==◌, ◌&&◌, ap, sym, ◌∙◌}
+use Rattle.std.proofs.Common.{ℕ, ◌==◌, ◌&&◌, ap, sym, ◌∙◌}
 use Rattle.std.specs.List.{position_from}
 use Rattle.region_tree.specs.Regions.{Space, seen, step_of}
 use Rattle.region_tree.specs.declared.path.Step.{Step}

@@ -1,4 +1,4 @@
-use Rattle.std.proofs.Common.{◌≡◌, ◌≢◌, ◌≤◌, ◌==◌, ◌&&◌, length, refl, sym, ap, eq-eqb, arith}
+use Rattle.std.proofs.Common.{◌≢◌, ◌≤◌, ◌==◌, length, refl, sym, ap, eq-eqb, arith}
 use Rattle.region_tree.specs.Regions.{Space, seen}
 use Rattle.std.proofs.lemmas.Bool.{eqb-false, eqb-true}
 use Rattle.std.proofs.lemmas.List.{length-map}

@@ -1,4 +1,4 @@
-use Rattle.std.proofs.Common.{◌≡◌, ◌≢◌, ◌≤◌, ◌==◌, ◌&&◌, length, refl, sym, ap, eq-eqb, arith}
+use Rattle.std.proofs.Common.{◌≢◌, ◌≤◌, ◌==◌, ◌&&◌, length, ap, arith}
 use Rattle.region_tree.specs.declared.decls.SubDecl.{SubDecl}
 use Rattle.region_tree.specs.Regions.{step_of}
 use Rattle.region_tree.proofs.Distinct.{steps_apart, steps_alike, step_itself}

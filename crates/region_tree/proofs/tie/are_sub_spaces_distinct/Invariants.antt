@@ -1,4 +1,4 @@
-use Rattle.std.proofs.Common.{ℕ, ◌<◌, ◌==◌, ◌&&◌}
+use Rattle.std.proofs.Common.{ℕ, ◌<◌, ◌==◌}
 use Rattle.region_tree.specs.Index.{IsFirstAt}
 use Rattle.region_tree.proofs.tie.are_sub_spaces_distinct.Given as goal
 

@@ -1,4 +1,4 @@
-use Rattle.std.proofs.Common.{◌==◌, ◌&&◌}
+use Rattle.std.proofs.Common.{◌==◌}
 use Rattle.region_tree.specs.declared.decls.PartDecl.{PartDecl}
 use Rattle.region_tree.proofs.Distinct.{first_answer}
 use Rattle.region_tree.proofs.tie.is_first_part.Goals as goal

@@ -1,4 +1,4 @@
-use Rattle.std.proofs.Common.{sym, ap, ◌∙◌, refl, arith}
+use Rattle.std.proofs.Common.{sym, ◌∙◌, refl, arith}
 use Rattle.region_tree.proofs.Climbs.{ancestor_more, at_most}
 use Rattle.region_tree.proofs.tie.is_shallow.Goals as goal
 

@@ -1,5 +1,3 @@
-use Rattle.std.proofs.Common.{refl}
-use Rattle.region_tree.specs.Tied.{IsTied}
 use Rattle.region_tree.proofs.Climbs.{every_shallow, acyclic_from}
 use Rattle.region_tree.proofs.tie.is_tied.Goals as goal
 

@@ -1,5 +1,4 @@
 use Rattle.std.proofs.Common.{◌≡◌, subst, sym, ◌∙◌}
-use Rattle.region_tree.specs.Regions.{Regions}
 use Rattle.region_tree.specs.Tied.{IsTied}
 use Rattle.region_tree.proofs.tie.tied.Goals as goal
 

@@ -1,4 +1,4 @@
-use Rattle.std.proofs.Common.{◌==◌, ◌&&◌, List, slice_get, ap, ◌∙◌}
+use Rattle.std.proofs.Common.{◌==◌, List, slice_get, ap, ◌∙◌}
 use Rattle.std.specs.Option.{option_and_then}
 use Rattle.region_tree.specs.declared.decls.SubDecl.{SubDecl}
 use Rattle.region_tree.proofs.Firsts.{find_by_place}

@@ -1,4 +1,4 @@
-use Rattle.std.proofs.Common.{◌==◌, ◌&&◌, ap, ◌∙◌}
+use Rattle.std.proofs.Common.{◌==◌, ap, ◌∙◌}
 use Rattle.std.specs.List.{position_from}
 use Rattle.region_tree.specs.Regions.{Regions}
 use Rattle.region_tree.proofs.finder.Finder.sub_place.Goals as goal
