@@ -4,7 +4,7 @@ use Rattle.std.proofs.lemmas.Bool.{cases_Bool, cases_lt, cases_eq, eqb-true, and
 use Rattle.std.specs.Bool.{OnTrue, OnFalse}
 use Rattle.std.specs.List.{list_any}
 use Rattle.std.proofs.lemmas.Option.{same_Some, none-some}
-use Rattle.point_set.specs.Least.{IsLeastOf, IsLeastFrom}
+use Rattle.point_set.specs.Least.{IsLeastOf, IsLeastFrom, IsLeastOutside}
 use Rattle.region_tree.specs.declared.decls.SubDecl.{SubDecl}
 use Rattle.region_tree.specs.Regions.{Regions, points_of}
 use Rattle.region_tree.specs.Faults.{is_disjoint, MeetsEarlier}
@@ -187,3 +187,24 @@ no_claims d keys e claim = (
   λ is. absurd (let no_key : false ≡ true = ap (list_any (same_claim claim)) (sym e) ∙ is in cc),
   λ h. absurd (omega (arith, h.1)),
 )
+
+-- points of a set that lie in another, from the first on
+abbrev pub LieIn : List ℕ → List ℕ → ℕ → Type 0
+LieIn points whole low = (q : ℕ) → Contains points q → q < low → Contains whole q
+
+pub lie_in_more : (points whole : List ℕ) (low point : ℕ) → LieIn points whole low → IsLeastFrom points low (Some point) → Contains whole point → LieIn points whole (point + 1)
+lie_in_more points whole low point so_far least has q there lt =
+    elim (cases_eq q point) [
+      | inl e ↦ subst (Contains whole) (sym e) has
+      | inr ne ↦ so_far q there (lower points low point q least there (omega (arith, lt)))
+    ]
+
+pub outside_here : (points whole : List ℕ) (low point : ℕ) → LieIn points whole low → IsLeastFrom points low (Some point) → ¬ (Contains whole point) → IsLeastOutside points whole (Some point)
+outside_here points whole low point so_far least missing = (
+  (least.0.0, missing),
+  λ q h. elim (cases_lt q low) [ inl lt ↦ absurd (h.1 (so_far q h.0 lt)) | inr le ↦ least.1 q (h.0, le) ],
+)
+
+pub outside_none : (points whole : List ℕ) (low : ℕ) → LieIn points whole low → IsLeastFrom points low None → IsLeastOutside points whole None
+outside_none points whole low so_far none q h =
+    elim (cases_lt q low) [ inl lt ↦ h.1 (so_far q h.0 lt) | inr le ↦ none q (h.0, le) ]

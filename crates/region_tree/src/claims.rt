@@ -13,7 +13,7 @@ use std::alloc::AllocError;
 use std::collections::HashSet;
 
 /// The least point behind this one.
-fn next_after<P: PointSet>(set: &P, point: u64) -> Option<u64>
+pub(crate) fn next_after<P: PointSet>(set: &P, point: u64) -> Option<u64>
     ensures { IsLeastFrom (P.points set.now) (point + 1) result }
 {
     match point.checked_add(1) {

@@ -2,16 +2,30 @@
 
 ghost use Rattle.std.specs.Prelude.{◌≡◌, ℕ, ◌+◌, ◌<◌, MatchOption, Some, None, Err, OnOk};
 ghost use Rattle.std.specs.HashSet.{contains};
-ghost use Rattle.point_set.specs.Least.{IsLeast};
+ghost use Rattle.point_set.specs.Least.{IsLeast, IsLeastOutside};
 ghost use Rattle.region_tree.specs.Claims.{same_claim, AreClaims};
 ghost use Rattle.region_tree.specs.Faults.{IsOutside, Meets, MeetsEarlier, IsFaulty, FirstNotWithin, FirstNotDisjoint};
 
-use crate::claims::claim_sub;
+use crate::claims::{claim_sub, next_after};
 use crate::finder::Finder;
 use crate::place_fault::PlaceFault;
 use point_set::PointSet;
 use std::alloc::Global;
 use std::collections::HashSet;
+
+/// The least point of `ours` that `whole` has not. It asks `whole` for each point, since many small sets may lie in a large one.
+fn first_outside<P: PointSet>(ours: &P, whole: &P) -> Option<u64>
+    ensures { IsLeastOutside (P.points ours.now) (P.points whole.now) result }
+{
+    let mut next = ours.first();
+    while let Some(point) = next {
+        if !whole.has(point) {
+            return Some(point);
+        }
+        next = next_after(ours, point);
+    }
+    None
+}
 
 /// The least point of subspace `i` that the space which its partition cuts has not.
 fn outside<P: PointSet>(finder: &Finder<P>, i: usize) -> Option<u64>
@@ -20,7 +34,7 @@ fn outside<P: PointSet>(finder: &Finder<P>, i: usize) -> Option<u64>
     let sub = finder.sub_at(i)?;
     let ours = finder.set(sub.space)?;
     match finder.whole_set(sub.part) {
-        Some(whole) => ours.outside(whole),
+        Some(whole) => first_outside(ours, whole),
         None => ours.first(),
     }
 }
