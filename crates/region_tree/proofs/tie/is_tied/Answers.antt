@@ -1,0 +1,20 @@
+use Rattle.region_tree.proofs.Climbs.{every_shallow, acyclic_from}
+use Rattle.region_tree.proofs.tie.is_tied.Goals as goal
+
+pub returns : goal.returns
+returns g c = (
+  λ told.
+      let shallow = every_shallow c.args.finder.now (c.are_subs_shallow.ensures.0 told) in
+      record {
+        space_ids = c.are_space_ids_distinct.ensures.0 c.if-not-are_space_ids_distinct.false;
+        part_ids = c.are_part_ids_distinct.ensures.0 c.if-not-are_part_ids_distinct.false;
+        steps = c.are_steps_distinct.ensures.0 c.if-not-are_steps_distinct.false;
+        sub_spaces = c.are_sub_spaces_distinct.ensures.0 c.if-not-are_sub_spaces_distinct.false;
+        wholes_declared = c.are_wholes_declared.ensures.0 c.if-not-are_wholes_declared.false;
+        parts_declared = c.are_parts_declared.ensures.0 c.if-not-are_parts_declared.false;
+        spaces_declared = c.are_spaces_declared.ensures.0 c.if-not-are_spaces_declared.false;
+        acyclic = acyclic_from c.args.finder.now shallow;
+        shallow = shallow;
+      },
+  λ tied. c.are_subs_shallow.ensures.1 (λ k d lt root n e. tied.shallow _ root n e),
+)

@@ -1,0 +1,7 @@
+pub mod Regions
+pub mod Index
+pub mod Tied
+pub mod Ancestors
+pub mod Faults
+pub mod Claims
+pub mod Paths

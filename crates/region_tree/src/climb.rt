@@ -1,0 +1,60 @@
+//! Climbs from a space to those above it.
+
+ghost use Rattle.std.specs.Prelude.{◌≡◌, ◌↔◌, IfOk, IsSome, IsTrue};
+ghost use Rattle.region_tree.specs.Regions.{space_of};
+ghost use Rattle.region_tree.specs.Ancestors.{IsUnder};
+ghost use Rattle.region_tree.specs.Paths.{IsPath};
+ghost use Rattle.region_tree.specs.Tied.{IsTied};
+
+use crate::finder::Finder;
+use crate::memory::Memory;
+use crate::path::Path;
+use crate::tie::DEPTH_LIMIT;
+use point_set::PointSet;
+use smallvec::SmallVec;
+use std::alloc::Global;
+
+/// Whether both are declared, and the space is the root or lies below it.
+pub(crate) fn is_under<P: PointSet>(finder: &Finder<P>, space: u32, root: u32) -> bool
+    requires { IsTied finder.now }
+    ensures { IsTrue result ↔ IsUnder finder.now space root }
+{
+    if !finder.has_space(space) {
+        return false;
+    }
+    let mut at = space;
+    for _up in 0..DEPTH_LIMIT + 1 {
+        if at == root {
+            return true;
+        }
+        match finder.parent(at) {
+            Some(parent) => at = parent,
+            None => return false,
+        }
+    }
+    false
+}
+
+/// The path of a declared space.
+pub(crate) fn path_to<P: PointSet>(
+    alloc: Global,
+    finder: &Finder<P>,
+    space: u32,
+) -> Result<Path, Memory>
+    requires tied { IsTied finder.now }
+    requires declared { IsSome (space_of finder.now space) }
+    ensures { IfOk result (λ way. IsPath finder.now way space) }
+{
+    let mut steps = SmallVec::new(alloc);
+    let mut top = space;
+    for _up in 0..DEPTH_LIMIT + 1 {
+        match finder.step_to(top) {
+            Some((step, whole)) => {
+                steps.insert(0, step)?;
+                top = whole;
+            }
+            None => return Ok(Path::new(top, steps)),
+        }
+    }
+    unreachable!()
+}

@@ -1,0 +1,27 @@
+//! Forests of regions: spaces, the partitions of spaces, and the subspaces of partitions.
+#![tactic(auto)]
+
+mod arena_set;
+mod claims;
+mod climb;
+mod decls;
+mod faults;
+mod finder;
+mod forest;
+mod lookups;
+mod memory;
+mod path;
+mod place_fault;
+mod places;
+mod sharing;
+#[cfg(test)]
+mod tests;
+mod tie;
+
+pub use arena_set::ArenaSet;
+pub use decls::{Decls, PartDecl, SpaceDecl, SubDecl};
+pub use forest::Forest;
+pub use memory::Memory;
+pub use path::{Path, Step};
+pub use place_fault::PlaceFault;
+pub use tie::tied;

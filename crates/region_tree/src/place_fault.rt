@@ -1,0 +1,40 @@
+ghost use Rattle.std.specs.Prelude.{◌≡◌};
+ghost use Rattle.region_tree.specs.declared.place_fault.PlaceFault.TheVariants.{Memory};
+
+use std::alloc::{AllocError, AllocFailed};
+
+/// Why declarations were not placed. A subspace is told by its place among the declared ones, from 0.
+#[derive(Clone, Copy, Debug, PartialEq, Eq)]
+pub enum PlaceFault {
+    /// The least faulty subspace has this point, the least of them, that the space which its partition cuts has not.
+    NotWithin {
+        sub: usize,
+        point: u64,
+    },
+
+    /// The least faulty subspace is within that space, and meets an earlier one, the least of them, of its disjoint partition. `point` is the least that the two share.
+    NotDisjoint {
+        sub: usize,
+        other: usize,
+        point: u64,
+    },
+
+    /// Want of memory.
+    Memory,
+}
+
+impl From<AllocError> for PlaceFault {
+    ghost from_gives = { λ _ e. e ≡ Memory };
+
+    fn from(_: AllocError) -> PlaceFault {
+        PlaceFault::Memory
+    }
+}
+
+impl<T: Drop> From<AllocFailed<T>> for PlaceFault {
+    ghost from_gives = { λ _ e. e ≡ Memory };
+
+    fn from(_: AllocFailed<T>) -> PlaceFault {
+        PlaceFault::Memory
+    }
+}

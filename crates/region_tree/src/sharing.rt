@@ -1,0 +1,64 @@
+//! Points that two spaces share.
+
+ghost use Rattle.std.specs.Prelude.{◌≡◌, ◌≢◌, ℕ, Contains, Some, IfSome, IsTrue};
+ghost use Rattle.point_set.specs.Least.{IsLeastCommon};
+ghost use Rattle.region_tree.specs.declared.path.Step.{Step};
+ghost use Rattle.region_tree.specs.Regions.{points_of};
+ghost use Rattle.region_tree.specs.Faults.{is_disjoint, IsFaulty};
+ghost use Rattle.region_tree.specs.Paths.{IsPath};
+ghost use Rattle.region_tree.specs.Tied.{IsTied};
+
+use crate::finder::Finder;
+use crate::path::{Path, Step};
+use point_set::PointSet;
+
+/// The first steps at which two paths differ: those below their last common space.
+fn parting(a: &[Step], b: &[Step]) -> Option<(Step, Step)>
+    ensures { IfSome result (λ steps. Contains a.now steps.0 × Contains b.now steps.1 × (steps.0 ≢ steps.1)) }
+{
+    for i in 0..a.len().min(b.len()) {
+        if a[i] != b[i] {
+            return Some((a[i], b[i]));
+        }
+    }
+    None
+}
+
+/// Whether the paths part under two colours of one disjoint partition.
+fn are_apart<P: PointSet>(finder: &Finder<P>, a: &Path, b: &Path) -> bool
+    ensures { IsTrue result → (x : Step) × (y : Step) × Contains a.now.steps x × Contains b.now.steps y × (x ≢ y) × (x.part ≡ y.part) × IsTrue (is_disjoint finder.now x.part) }
+{
+    if a.top() != b.top() {
+        return false;
+    }
+    match parting(a.steps(), b.steps()) {
+        Some((x, y)) => x.part == y.part && finder.is_disjoint(x.part),
+        None => false,
+    }
+}
+
+/// The space that a path leads to.
+fn end_of<P: PointSet>(finder: &Finder<P>, path: &Path) -> Option<u32>
+    requires { IsTied finder.now }
+    ensures { (space : ℕ) → IsPath finder.now path.now space → result ≡ Some space }
+{
+    match path.steps().last() {
+        Some(step) => Some(finder.child(*step)?.space),
+        None => Some(path.top()),
+    }
+}
+
+/// The least point that the spaces of two paths share.
+pub(crate) fn alias_of<P: PointSet>(finder: &Finder<P>, a: &Path, b: &Path) -> Option<u64>
+    requires tied { IsTied finder.now }
+    requires faultless { (i : ℕ) → ¬ IsFaulty finder.now i }
+    ensures { (s t : ℕ) → IsPath finder.now a.now s → IsPath finder.now b.now t → IsLeastCommon (points_of finder.now s) (points_of finder.now t) result }
+{
+    if are_apart(finder, a, b) {
+        return None;
+    }
+    match (end_of(finder, a), end_of(finder, b)) {
+        (Some(s), Some(t)) => finder.first_common(s, t),
+        _ => None,
+    }
+}
