@@ -1,3 +1,4 @@
 pub mod CellLaws
 pub mod WordByWordLaws
 pub mod RowLaws
+pub mod EmptyWords

@@ -3,3 +3,4 @@ pub mod Spelling
 pub mod Reading
 pub mod Cells
 pub mod WordByWord
+pub mod EmptyWords

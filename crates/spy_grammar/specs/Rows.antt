@@ -1,5 +1,5 @@
 -- The table of the format: for each kind of record its first word, the classes of the words after it, and the record that they mean.
-use Rattle.std.specs.Prelude.{ℕ, List, [], ◌∷◌, codes, Result, Err}
+use Rattle.std.specs.Prelude.{ℕ, List, codes, Result, Err}
 use Rattle.spy_words.specs.declared.fault.LineFault.{LineFault}
 use Rattle.spy_words.specs.declared.fault.LineFault.TheVariants.{Word}
 use Rattle.spy_words.specs.Classes.{Class, number, id, event, points, fields, waits, split, access, coherence, layout, Meaning}

@@ -1,6 +1,8 @@
 //! A line, read.
 
-ghost use Rattle.std.specs.Prelude.{◌≡◌, ◌⊎◌, true, IfOk, Some, None, Ok, Err, map};
+ghost use Rattle.std.specs.Prelude.{◌≡◌, ◌⊎◌, ◌∷◌, ℕ, List, true, IfOk, Some, None, Ok, Err, map};
+ghost use Rattle.spy_grammar.specs.EmptyWords.{bare_from};
+ghost use Rattle.spy_words.specs.Reading.{parts};
 ghost use Rattle.spy_words.specs.declared.fault.LineFault.TheVariants.{Memory};
 ghost use Rattle.spy_words.specs.Faults.{Gives};
 ghost use Rattle.spy_grammar.specs.declared.record.Record.{Record};
@@ -12,6 +14,7 @@ ghost use Rattle.spy_grammar.specs.WordByWord.{read_record};
 use crate::kinds::{RecordKind, kind_of};
 use crate::record::Record;
 use crate::row::RowReader;
+use memchr::memchr;
 use spy_words::{LineFault, Read, parts_of};
 use std::alloc::{AllocError, Global};
 
@@ -66,6 +69,42 @@ fn read_record(alloc: Global, words: &[&[u8]]) -> Read<Record>
     }
 }
 
+/// Whether a word of the line is empty: a space stands beside another, or at an end.
+fn has_empty_word(line: &[u8]) -> bool
+    ensures { result ≡ bare_from true line.now }
+{
+    let mut bare = true;
+    let mut rest = line;
+    while let [b, more @ ..] = rest {
+        if *b == b' ' && bare {
+            return true;
+        }
+        bare = *b == b' ';
+        rest = more;
+    }
+    bare
+}
+
+fn first_word(line: &[u8]) -> &[u8]
+    ensures { (rest : List (List ℕ)) × (parts 32 line.now ≡ result.now ∷ rest) }
+{
+    match memchr(b' ', line) {
+        Some(end) => &line[..end],
+        None => line,
+    }
+}
+
+/// The fault of a line with an empty word, which has no shape in any class.
+fn fault_of_empty(line: &[u8]) -> LineFault
+    requires { bare_from true line.now ≡ true }
+    ensures { record_at (parts 32 line.now) ≡ Err result }
+{
+    match kind_of(first_word(line)) {
+        Ok(_) => LineFault::Form,
+        Err(fault) => fault,
+    }
+}
+
 #[tactic(auto, unfolding(crate::specs::Reading::line_at))]
 fn any_line(alloc: Global, line: &[u8]) -> Read<Option<Record>>
     ensures exact { IfOk result (λ read. read ≡ line_at line.now) }
@@ -73,6 +112,10 @@ fn any_line(alloc: Global, line: &[u8]) -> Read<Option<Record>>
 {
     if let [] | [b'#', ..] = line {
         return Ok(Ok(None));
+    }
+    // Else a line of spaces would have as many words as bytes.
+    if has_empty_word(line) {
+        return Ok(Err(fault_of_empty(line)));
     }
     let words = parts_of(alloc, line, b' ')?;
     Ok(read_record(alloc, &words)?.map(Some))
