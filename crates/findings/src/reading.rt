@@ -15,8 +15,14 @@ use crate::codes::code_of;
 use crate::finding::{Dep, Finding};
 use crate::lists::{DepList, EventList};
 use crate::writing::{Memory, good_finding, text};
-use spy_words::parts_of;
 use std::alloc::{AllocError, Global};
+
+/// The parts of a text, cut at each such byte.
+fn parts_of(alloc: Global, text: &[u8], byte: u8) -> Result<Vec<&[u8]>, AllocError>
+    ensures { IfOk result (λ v. map (λ w. w.now) v.items ≡ parts byte text.now) }
+{
+    text.split(|b| *b == byte).collect(alloc)
+}
 
 /// Why no report was read.
 #[derive(Clone, Copy, Debug, PartialEq, Eq)]

@@ -1,4 +1,4 @@
--- A record that was taken apart into cells.
+-- A record that was taken apart into cells, and one that is put together.
 use Rattle.std.proofs.Common.{◌≡◌, ℕ, List, [], ◌∷◌, ◌++◌, ◌-◌, ◌≤◌, map, length, take, drop, get_or, arith, refl, sym, ap, ◌∙◌, append_assoc, append-nil}
 use Rattle.std.specs.Prelude.{decimal}
 use Rattle.std.proofs.lemmas.List.{take_all}
@@ -8,13 +8,18 @@ use Rattle.spy_grammar.specs.declared.cells.Cell.{Cell}
 use Rattle.spy_grammar.specs.declared.cells.Cell.TheVariants as cells
 use Rattle.spy_grammar.specs.declared.kinds.RecordKind.{RecordKind}
 use Rattle.spy_grammar.specs.declared.record.Record.{Record}
-use Rattle.spy_grammar.specs.Rows.{RowMeaning, entry, parts_of}
+use Rattle.spy_grammar.specs.Rows.{Row, RowMeaning, Makes, entry, applied, parts_of}
+use Rattle.spy_grammar.specs.Reading.{Left, read_row, read_record}
 use Rattle.spy_grammar.specs.Spelling.{Item, row_items, items_of, words_in, spelling}
 use Rattle.spy_grammar.specs.Cells.{with_cell, items_in, parts_items}
 
 pub parts_told : (k : RecordKind) (m : RowMeaning (entry k).row) → parts_items (k, m) ≡ row_items (entry k).row m
 unfolding parts_items
 parts_told k m = refl
+
+pub record_told : (name : List ℕ) (r : Row) (make : Makes r) (s : Left) → read_record (record { name = name; row = r; record_of = make }) s ≡ (applied r make (read_row r s).0, (read_row r s).1)
+unfolding read_record
+record_told name r make s = refl
 
 -- a record's line: its name, and each other word after a space
 pub spelled : (r : Record) → spelling r ≡ (entry (parts_of r).0).name ++ follow 32 (words_in (parts_items (parts_of r)))

@@ -1,4 +1,2 @@
 pub mod CellLaws
-pub mod WordByWordLaws
 pub mod RowLaws
-pub mod EmptyWords

@@ -1,6 +1,6 @@
 -- A record as its kind and six cells, the words after the first from the left: so that one table serves all that goes through records.
 use Rattle.std.specs.Prelude.{List, [], ◌∷◌}
-use Rattle.spy_words.specs.Classes.{number, id, event, points, fields, waits, split, access, coherence, layout}
+use Rattle.spy_words.specs.Classes.{any_number, id, points, fields, waits, split, access, coherence, layout}
 use Rattle.spy_grammar.specs.declared.cells.Cell.{Cell}
 use Rattle.spy_grammar.specs.declared.cells.Cell.TheVariants as cells
 use Rattle.spy_grammar.specs.Rows.{Parts, entry}
@@ -9,9 +9,8 @@ use Rattle.spy_grammar.specs.Spelling.{Item, word, ids, row_items}
 -- What a cell holds, before further items.
 abbrev pub with_cell : Cell → List Item → List Item
 with_cell cells.No is = is
-with_cell (cells.Number n) is = word number n ∷ is
+with_cell (cells.Number n) is = word any_number n ∷ is
 with_cell (cells.Id n) is = word id n ∷ is
-with_cell (cells.Event n) is = word event n ∷ is
 with_cell (cells.Points set) is = word points set.now ∷ is
 with_cell (cells.Fields ns) is = word fields ns.now ∷ is
 with_cell (cells.Waits ns) is = word waits ns.now ∷ is

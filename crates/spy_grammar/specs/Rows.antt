@@ -2,7 +2,7 @@
 use Rattle.std.specs.Prelude.{ℕ, List, codes, Result, Err}
 use Rattle.spy_words.specs.declared.fault.LineFault.{LineFault}
 use Rattle.spy_words.specs.declared.fault.LineFault.TheVariants.{Word}
-use Rattle.spy_words.specs.Classes.{Class, number, id, event, points, fields, waits, split, access, coherence, layout, Meaning}
+use Rattle.spy_words.specs.Classes.{Class, any_number, id, event, points, fields, waits, split, access, coherence, layout, Meaning}
 use Rattle.spy_words.specs.Reading.{text_at}
 use Rattle.spy_grammar.specs.declared.kinds.TheConstants.{KINDS}
 use Rattle.spy_grammar.specs.declared.kinds.RecordKind.{RecordKind}
@@ -37,26 +37,26 @@ pub record Entry : Type 0 where
 
 -- The table: the first word of each kind, the classes of the words after it, and the record that they mean.
 abbrev pub entry : RecordKind → Entry
-entry kinds.Header = record { name = codes "legion-spy"; row = number & no_more; record_of = records.Header }
+entry kinds.Header = record { name = codes "legion-spy"; row = any_number & no_more; record_of = records.Header }
 entry kinds.Ispace = record { name = codes "ispace"; row = id & points & no_more; record_of = records.Ispace }
 entry kinds.Part = record { name = codes "part"; row = id & id & split & no_more; record_of = records.Part }
-entry kinds.Sub = record { name = codes "sub"; row = id & number & id & no_more; record_of = records.Sub }
+entry kinds.Sub = record { name = codes "sub"; row = id & any_number & id & no_more; record_of = records.Sub }
 entry kinds.Fields = record { name = codes "fields"; row = id & fields & no_more; record_of = records.Fields }
 entry kinds.Tree = record { name = codes "tree"; row = id & id & id & no_more; record_of = records.Tree }
 entry kinds.Redop = record { name = codes "redop"; row = id & no_more; record_of = records.Redop }
 entry kinds.Task = record { name = codes "task"; row = id & no_more; record_of = records.Task }
 entry kinds.Req = record { name = codes "req"; row = id & id & id & fields & access & coherence & no_more; record_of = records.Req }
-entry kinds.Fill = record { name = codes "fill"; row = id & id & id & fields & number & no_more; record_of = records.Fill }
+entry kinds.Fill = record { name = codes "fill"; row = id & id & id & fields & any_number & no_more; record_of = records.Fill }
 entry kinds.Serial = record { name = codes "serial"; row = some_ids; record_of = records.Serial }
 entry kinds.Inst = record { name = codes "inst"; row = id & id & id & fields & layout & no_more; record_of = records.Inst }
 entry kinds.Map = record { name = codes "map"; row = id & id & fields & id & no_more; record_of = records.Map }
 entry kinds.Run = record { name = codes "run"; row = id & event & waits & no_more; record_of = records.Run }
 entry kinds.Copy = record { name = codes "copy"; row = id & id & id & fields & event & waits & no_more; record_of = records.Copy }
-entry kinds.Put = record { name = codes "put"; row = id & id & fields & number & event & waits & no_more; record_of = records.Put }
+entry kinds.Put = record { name = codes "put"; row = id & id & fields & any_number & event & waits & no_more; record_of = records.Put }
 entry kinds.Reset = record { name = codes "reset"; row = id & id & fields & event & waits & no_more; record_of = records.Reset }
 entry kinds.Fold = record { name = codes "fold"; row = id & id & id & fields & event & waits & no_more; record_of = records.Fold }
 entry kinds.Merge = record { name = codes "merge"; row = event & waits & no_more; record_of = records.Merge }
-entry kinds.End = record { name = codes "end"; row = number & no_more; record_of = records.End }
+entry kinds.End = record { name = codes "end"; row = any_number & no_more; record_of = records.End }
 
 -- The record that the words of a row mean.
 abbrev pub applied : (r : Row) → Makes r → RowMeaning r → Record

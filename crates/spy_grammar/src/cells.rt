@@ -14,8 +14,8 @@ use spy_words::{InstKind, Nums, PrivWord, Set};
 pub enum Cell<'a> {
     No,
     Number(u32),
+    /// An id or an event.
     Id(u32),
-    Event(u32),
     Points(&'a Set),
     Fields(&'a Nums),
     Waits(&'a Nums),
@@ -47,12 +47,12 @@ pub fn cells_of(rec: &Record) -> (RecordKind, [Cell<'_>; 6])
         Record::Serial { items } => (RecordKind::Serial, [Ids(items), No, No, No, No, No]),
         Record::Inst { id, tree, space, fields, kind } => (RecordKind::Inst, [Id(*id), Id(*tree), Id(*space), Fields(fields), Layout(*kind), No]),
         Record::Map { task, req, fields, inst } => (RecordKind::Map, [Id(*task), Id(*req), Fields(fields), Id(*inst), No, No]),
-        Record::Run { task, done, waits } => (RecordKind::Run, [Id(*task), Event(*done), Waits(waits), No, No, No]),
-        Record::Copy { src, dst, space, fields, done, waits } => (RecordKind::Copy, [Id(*src), Id(*dst), Id(*space), Fields(fields), Event(*done), Waits(waits)]),
-        Record::Put { inst, space, fields, n, done, waits } => (RecordKind::Put, [Id(*inst), Id(*space), Fields(fields), Number(*n), Event(*done), Waits(waits)]),
-        Record::Reset { inst, space, fields, done, waits } => (RecordKind::Reset, [Id(*inst), Id(*space), Fields(fields), Event(*done), Waits(waits), No]),
-        Record::Fold { src, dst, space, fields, done, waits } => (RecordKind::Fold, [Id(*src), Id(*dst), Id(*space), Fields(fields), Event(*done), Waits(waits)]),
-        Record::Merge { done, waits } => (RecordKind::Merge, [Event(*done), Waits(waits), No, No, No, No]),
+        Record::Run { task, done, waits } => (RecordKind::Run, [Id(*task), Id(*done), Waits(waits), No, No, No]),
+        Record::Copy { src, dst, space, fields, done, waits } => (RecordKind::Copy, [Id(*src), Id(*dst), Id(*space), Fields(fields), Id(*done), Waits(waits)]),
+        Record::Put { inst, space, fields, n, done, waits } => (RecordKind::Put, [Id(*inst), Id(*space), Fields(fields), Number(*n), Id(*done), Waits(waits)]),
+        Record::Reset { inst, space, fields, done, waits } => (RecordKind::Reset, [Id(*inst), Id(*space), Fields(fields), Id(*done), Waits(waits), No]),
+        Record::Fold { src, dst, space, fields, done, waits } => (RecordKind::Fold, [Id(*src), Id(*dst), Id(*space), Fields(fields), Id(*done), Waits(waits)]),
+        Record::Merge { done, waits } => (RecordKind::Merge, [Id(*done), Waits(waits), No, No, No, No]),
         Record::End { n } => (RecordKind::End, [Number(*n), No, No, No, No, No]),
     }
 }

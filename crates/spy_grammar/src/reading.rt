@@ -1,25 +1,21 @@
 //! A line, read.
 
-ghost use Rattle.std.specs.Prelude.{◌≡◌, ◌⊎◌, ◌∷◌, ℕ, List, true, IfOk, Some, None, Ok, Err, map};
-ghost use Rattle.spy_grammar.specs.EmptyWords.{bare_from};
-ghost use Rattle.spy_words.specs.Reading.{parts};
+ghost use Rattle.std.specs.Prelude.{◌≡◌, ◌⊎◌, true, IfOk, Some, None, Ok, Err};
 ghost use Rattle.spy_words.specs.declared.fault.LineFault.TheVariants.{Memory};
 ghost use Rattle.spy_words.specs.Faults.{Gives};
 ghost use Rattle.spy_grammar.specs.declared.record.Record.{Record};
 ghost use Rattle.spy_grammar.specs.Rows.{entry};
-ghost use Rattle.spy_grammar.specs.Reading.{is_passed_over, kind_record, line_at, record_at};
+ghost use Rattle.spy_grammar.specs.Reading.{is_passed_over, line_at, record_at, read_record};
 ghost use Rattle.spy_grammar.specs.Spelling.{spelling, Good};
-ghost use Rattle.spy_grammar.specs.WordByWord.{read_record};
 
 use crate::kinds::{RecordKind, kind_of};
 use crate::record::Record;
 use crate::row::RowReader;
-use memchr::memchr;
-use spy_words::{LineFault, Read, parts_of};
+use spy_words::{LineFault, Pieces, Read};
 use std::alloc::{AllocError, Global};
 
 /// The record of a kind, from the words after the first: the format's table.
-#[tactic(auto, using(crate::proofs::WordByWordLaws::record_told))]
+#[tactic(auto, using(crate::proofs::CellLaws::record_told))]
 #[rattlefmt::skip]
 fn read_words(kind: RecordKind, row: &mut RowReader<'_>) -> Result<Record, AllocError>
     ensures { IfOk result (λ rec. read_record (entry kind) row.old ≡ (rec, row.new)) }
@@ -38,70 +34,27 @@ fn read_words(kind: RecordKind, row: &mut RowReader<'_>) -> Result<Record, Alloc
         RecordKind::Serial => Ok(Record::Serial { items: row.ids()? }),
         RecordKind::Inst => Ok(Record::Inst { id: row.id(), tree: row.id(), space: row.id(), fields: row.fields()?, kind: row.layout() }),
         RecordKind::Map => Ok(Record::Map { task: row.id(), req: row.id(), fields: row.fields()?, inst: row.id() }),
-        RecordKind::Run => Ok(Record::Run { task: row.id(), done: row.event(), waits: row.waits()? }),
-        RecordKind::Copy => Ok(Record::Copy { src: row.id(), dst: row.id(), space: row.id(), fields: row.fields()?, done: row.event(), waits: row.waits()? }),
-        RecordKind::Put => Ok(Record::Put { inst: row.id(), space: row.id(), fields: row.fields()?, n: row.number(), done: row.event(), waits: row.waits()? }),
-        RecordKind::Reset => Ok(Record::Reset { inst: row.id(), space: row.id(), fields: row.fields()?, done: row.event(), waits: row.waits()? }),
-        RecordKind::Fold => Ok(Record::Fold { src: row.id(), dst: row.id(), space: row.id(), fields: row.fields()?, done: row.event(), waits: row.waits()? }),
-        RecordKind::Merge => Ok(Record::Merge { done: row.event(), waits: row.waits()? }),
+        RecordKind::Run => Ok(Record::Run { task: row.id(), done: row.id(), waits: row.waits()? }),
+        RecordKind::Copy => Ok(Record::Copy { src: row.id(), dst: row.id(), space: row.id(), fields: row.fields()?, done: row.id(), waits: row.waits()? }),
+        RecordKind::Put => Ok(Record::Put { inst: row.id(), space: row.id(), fields: row.fields()?, n: row.number(), done: row.id(), waits: row.waits()? }),
+        RecordKind::Reset => Ok(Record::Reset { inst: row.id(), space: row.id(), fields: row.fields()?, done: row.id(), waits: row.waits()? }),
+        RecordKind::Fold => Ok(Record::Fold { src: row.id(), dst: row.id(), space: row.id(), fields: row.fields()?, done: row.id(), waits: row.waits()? }),
+        RecordKind::Merge => Ok(Record::Merge { done: row.id(), waits: row.waits()? }),
         RecordKind::End => Ok(Record::End { n: row.number() }),
     }
 }
 
-#[tactic(auto, using(crate::proofs::WordByWordLaws::kind_read))]
-fn read_kind(alloc: Global, kind: RecordKind, words: &[&[u8]]) -> Read<Record>
-    ensures { IfOk result (λ read. read ≡ kind_record kind (map (λ w. w.now) words.now)) }
+#[tactic(auto, unfolding(crate::specs::Reading::record_at))]
+fn read_record(alloc: Global, words: Pieces<'_>) -> Read<Record>
+    ensures { IfOk result (λ read. read ≡ record_at words.entry) }
 {
     let mut row = RowReader::new(alloc, words);
-    let rec = read_words(kind, &mut row)?;
-    Ok(row.end(rec))
-}
-
-fn read_record(alloc: Global, words: &[&[u8]]) -> Read<Record>
-    ensures { IfOk result (λ read. read ≡ record_at (map (λ w. w.now) words.now)) }
-{
-    let [name, rest @ ..] = words else {
-        return Ok(Err(LineFault::Word));
-    };
-    match kind_of(name) {
-        Ok(kind) => read_kind(alloc, kind, rest),
-        Err(fault) => Ok(Err(fault)),
-    }
-}
-
-/// Whether a word of the line is empty: a space stands beside another, or at an end.
-fn has_empty_word(line: &[u8]) -> bool
-    ensures { result ≡ bare_from true line.now }
-{
-    let mut bare = true;
-    let mut rest = line;
-    while let [b, more @ ..] = rest {
-        if *b == b' ' && bare {
-            return true;
+    match kind_of(row.next()) {
+        Ok(kind) => {
+            let rec = read_words(kind, &mut row)?;
+            Ok(row.end(rec))
         }
-        bare = *b == b' ';
-        rest = more;
-    }
-    bare
-}
-
-fn first_word(line: &[u8]) -> &[u8]
-    ensures { (rest : List (List ℕ)) × (parts 32 line.now ≡ result.now ∷ rest) }
-{
-    match memchr(b' ', line) {
-        Some(end) => &line[..end],
-        None => line,
-    }
-}
-
-/// The fault of a line with an empty word, which has no shape in any class.
-fn fault_of_empty(line: &[u8]) -> LineFault
-    requires { bare_from true line.now ≡ true }
-    ensures { record_at (parts 32 line.now) ≡ Err result }
-{
-    match kind_of(first_word(line)) {
-        Ok(_) => LineFault::Form,
-        Err(fault) => fault,
+        Err(fault) => Ok(Err(fault)),
     }
 }
 
@@ -113,12 +66,7 @@ fn any_line(alloc: Global, line: &[u8]) -> Read<Option<Record>>
     if let [] | [b'#', ..] = line {
         return Ok(Ok(None));
     }
-    // Else a line of spaces would have as many words as bytes.
-    if has_empty_word(line) {
-        return Ok(Err(fault_of_empty(line)));
-    }
-    let words = parts_of(alloc, line, b' ')?;
-    Ok(read_record(alloc, &words)?.map(Some))
+    Ok(read_record(alloc, Pieces::of(line, b' '))?.map(Some))
 }
 
 /// What a line, without its line feed, says: nothing if it is blank or a comment.

@@ -1,14 +1,13 @@
 //! The words after the first, read one after the other.
-#![tactic(auto, unfolding(crate::specs::WordByWord::read_word, crate::specs::WordByWord::read_ids, spy_words::specs::Reading::meaning_at))]
+#![tactic(auto, unfolding(crate::specs::Reading::read_word, crate::specs::Reading::read_ids, spy_words::specs::Reading::meaning_at))]
 
-ghost use Rattle.std.specs.Prelude.{◌≡◌, ◌∷◌, [], IfOk, None, map, drop};
-ghost use Rattle.spy_words.specs.declared.fault.LineFault.TheVariants.{Form};
-ghost use Rattle.spy_words.specs.Classes.{number, id, event, points, fields, waits, split, access, coherence, layout};
-ghost use Rattle.spy_grammar.specs.WordByWord.{Left, read_word, read_ids, ended, next_word};
+ghost use Rattle.std.specs.Prelude.{◌≡◌, IfOk, None, drop};
+ghost use Rattle.spy_words.specs.Classes.{any_number, id, points, fields, waits, split, access, coherence, layout};
+ghost use Rattle.spy_grammar.specs.Reading.{Left, read_word, read_ids, ended, next_word};
 
 use spy_words::{
-    InstKind, LineFault, Nums, PrivWord, Set, access_of, ascending, coherence_text, either, ids_of,
-    keep, layout_of, list_of, list_or_none, number_of, spans_of, split_text, told,
+    InstKind, LineFault, Nums, Pieces, PrivWord, Set, access_of, ascending, at_least_one,
+    coherence_text, each_of, either, keep, layout_of, list_of, meet, number_of, split_text, told,
 };
 use std::alloc::{AllocError, Global};
 use std::marker::Model;
@@ -19,23 +18,22 @@ use std::marker::Model;
 #[derive(Drop)]
 pub struct RowReader<'a> {
     alloc: Global,
-    words: &'a [&'a [u8]],
+    words: Pieces<'a>,
     met: Option<LineFault>,
 }
 
 impl<'a> Model for RowReader<'a> {
-    ghost use Rattle.std.specs.Prelude.{map};
-    ghost use Rattle.spy_grammar.specs.WordByWord.{Left};
+    ghost use Rattle.spy_grammar.specs.Reading.{Left};
 
     ghost Value = { Left };
 
-    ghost view = { λ r. record { words = map (λ w. w.now) r.words.now; met = r.met } };
+    ghost view = { λ r. record { words = r.words; met = r.met } };
 }
 
 impl<'a> RowReader<'a> {
     /// All words are still to be read.
-    pub fn new(alloc: Global, words: &'a [&'a [u8]]) -> RowReader<'a>
-        ensures { result ≡ record { words = map (λ w. w.now) words.now; met = None } }
+    pub fn new(alloc: Global, words: Pieces<'a>) -> RowReader<'a>
+        ensures { result ≡ record { words = words.entry; met = None } }
     {
         RowReader {
             alloc,
@@ -45,36 +43,24 @@ impl<'a> RowReader<'a> {
     }
 
     /// The next word. Past the last it is the empty word, which has no shape in any class.
-    fn next(&mut self) -> &'a [u8]
+    pub fn next(&mut self) -> &'a [u8]
         ensures word { result.now ≡ next_word self.old.words }
         ensures rest { self.new ≡ record self.old { words = drop 1 self.old.words } }
     {
-        let [word, rest @ ..] = self.words else {
-            return b"";
-        };
-        self.words = rest;
-        word
+        self.words.next().unwrap_or(b"")
     }
 
-    /// A number.
+    /// Any number.
     pub fn number(&mut self) -> u32
-        ensures { read_word number self.old ≡ (result, self.new) }
+        ensures { read_word any_number self.old ≡ (result, self.new) }
     {
         let read = number_of(0, self.next());
         keep(&mut self.met, read, 0)
     }
 
-    /// An id.
+    /// An id, or an event.
     pub fn id(&mut self) -> u32
         ensures { read_word id self.old ≡ (result, self.new) }
-    {
-        let read = number_of(1, self.next());
-        keep(&mut self.met, read, 0)
-    }
-
-    /// An event.
-    pub fn event(&mut self) -> u32
-        ensures { read_word event self.old ≡ (result, self.new) }
     {
         let read = number_of(1, self.next());
         keep(&mut self.met, read, 0)
@@ -84,7 +70,7 @@ impl<'a> RowReader<'a> {
     pub fn points(&mut self) -> Result<Set, AllocError>
         ensures { IfOk result (λ x. read_word points self.old ≡ (x, self.new)) }
     {
-        let read = spans_of(self.alloc, self.next())?;
+        let read = ascending(list_of(self.alloc, 0, self.next())?);
         Ok(Set::from_pairs(keep(&mut self.met, read, Vec::new(self.alloc))))
     }
 
@@ -92,7 +78,7 @@ impl<'a> RowReader<'a> {
     pub fn fields(&mut self) -> Result<Nums, AllocError>
         ensures { IfOk result (λ x. read_word fields self.old ≡ (x, self.new)) }
     {
-        let read = ascending(list_of(self.alloc, 0, self.next())?);
+        let read = ascending(at_least_one(list_of(self.alloc, 0, self.next())?));
         Ok(Nums::from_vec(keep(&mut self.met, read, Vec::new(self.alloc))))
     }
 
@@ -100,7 +86,7 @@ impl<'a> RowReader<'a> {
     pub fn waits(&mut self) -> Result<Nums, AllocError>
         ensures { IfOk result (λ x. read_word waits self.old ≡ (x, self.new)) }
     {
-        let read = list_or_none(self.alloc, 1, self.next())?;
+        let read = list_of(self.alloc, 1, self.next())?;
         Ok(Nums::from_vec(keep(&mut self.met, read, Vec::new(self.alloc))))
     }
 
@@ -136,24 +122,21 @@ impl<'a> RowReader<'a> {
         keep(&mut self.met, read, InstKind::Plain)
     }
 
-    /// All words that are left, as ids.
+    /// All words that are left, as ids, of which there is at least one.
     pub fn ids(&mut self) -> Result<Nums, AllocError>
         ensures { IfOk result (λ x. read_ids self.old ≡ (x, self.new)) }
     {
-        let read = ids_of(self.alloc, self.words)?;
-        self.words = &[];
-        Ok(keep(&mut self.met, read, Nums::from_vec(Vec::new(self.alloc))))
+        let read = at_least_one(each_of(self.alloc, 1, &mut self.words)?);
+        Ok(Nums::from_vec(keep(&mut self.met, read, Vec::new(self.alloc))))
     }
 
     /// What was read, unless a fault was met or words are left.
-    pub fn end<T: Drop>(self, value: T) -> Result<T, LineFault>
+    pub fn end<T: Drop>(mut self, value: T) -> Result<T, LineFault>
         ensures { result ≡ ended (value, self.entry) }
     {
-        let read = if self.words.is_empty() {
-            Ok(value)
-        } else {
-            Err(LineFault::Form)
-        };
-        told(self.met, read)
+        if self.words.next().is_some() {
+            meet(&mut self.met, LineFault::Form);
+        }
+        told(self.met, value)
     }
 }

@@ -12,7 +12,7 @@ use crate::kinds::name_text;
 use crate::record::Record;
 use spy_words::{
     InstKind, Part, PrivWord, are_fit, ascend, coherence_text, push_access, push_after,
-    push_layout, push_list, push_or_dash, push_u64, split_text,
+    push_layout, push_list, push_u64, split_text,
 };
 use std::alloc::{AllocError, Global};
 
@@ -34,7 +34,7 @@ fn is_good(cell: &Cell<'_>) -> bool
     match *cell {
         No | Split(_) | Coherence(_) => true,
         Number(n) => n.is_fit(0),
-        Id(n) | Event(n) => n.is_fit(1),
+        Id(n) => n.is_fit(1),
         Points(set) => are_fit(0, set.as_slice()) && ascend(set.as_slice()),
         Fields(numbers) => {
             let numbers = numbers.as_slice();
@@ -77,10 +77,9 @@ fn push_word(out: &mut Vec<u8>, cell: &Cell<'_>) -> Result<(), AllocError>
         _ => out.push(b' ')?,
     }
     match *cell {
-        Number(n) | Id(n) | Event(n) => push_u64(out, u64::from(n)),
-        Points(set) => push_or_dash(out, set.as_slice()),
-        Fields(numbers) => push_list(out, numbers.as_slice()),
-        Waits(numbers) => push_or_dash(out, numbers.as_slice()),
+        Number(n) | Id(n) => push_u64(out, u64::from(n)),
+        Points(set) => push_list(out, set.as_slice()),
+        Fields(numbers) | Waits(numbers) => push_list(out, numbers.as_slice()),
         Split(disjoint) => out.extend_from_slice(split_text(disjoint)),
         Access(access) => push_access(out, access),
         Coherence(atomic) => out.extend_from_slice(coherence_text(atomic)),

@@ -1,4 +1,3 @@
-pub mod MetFaults
 pub mod Joins
 pub mod Numbers
 pub mod ClassLaws

@@ -1,5 +1,5 @@
 -- A number and its word, both ways.
-use Rattle.std.proofs.Common.{◌≡◌, ℕ, zero, suc, ◌+◌, ◌*◌, ◌-◌, ◌^◌, ◌<◌, ◌≤◌, ltb, Bool, true, false, cond, not, ◌||◌, List, [], ◌∷◌, length, get_or, take, min, Ok, Err, refl, sym, subst, ◌∙◌, arith, rules}
+use Rattle.std.proofs.Common.{◌≡◌, ℕ, zero, suc, ◌+◌, ◌*◌, ◌-◌, ◌^◌, ◌<◌, Bool, true, false, List, [], ◌∷◌, length, get_or, take, min, Ok, refl, sym, subst, ◌∙◌, arith, rules}
 use Rattle.std.specs.Prelude.{decimal}
 use Rattle.std.specs.Char.{is_ascii_digit}
 use Rattle.std.specs.Int.{IsInRange}
@@ -12,8 +12,6 @@ use Rattle.std.proofs.lemmas.Int.Digits.{digits_value_more}
 use Rattle.std.proofs.lemmas.List.Folds.{list_all_at}
 use Rattle.std.proofs.lemmas.Str.{digit_value_digit}
 use Rattle.std.proofs.lemmas.Str.Parse.{IsNumeralModel, numerals_by_value}
-use Rattle.spy_words.specs.declared.fault.LineFault.{LineFault}
-use Rattle.spy_words.specs.declared.fault.LineFault.TheVariants.{Form, Number}
 use Rattle.spy_words.specs.Classes.{IsNumberFrom}
 use Rattle.spy_words.specs.Reading.{is_digits, has_leading_zero, number_from}
 use Rattle.spy_words.proofs.Joins.{Above}
@@ -46,27 +44,18 @@ digits_above (b ∷ w) all =
 
 -- ---- numbers
 
-tests_passed : {A : Type 0} (a b : Bool) (e f : LineFault) (x y : A) → cond (not a) (Err e) (cond b (Err f) (Ok x)) ≡ Ok y → (a ≡ true) × (b ≡ false) × (x ≡ y)
-tests_passed true true e f x y h = absurd cc
-tests_passed true false e f x y h = (refl, refl, cc)
-tests_passed false b e f x y h = absurd cc
-
-in_bounds : (lz : Bool) (v least : ℕ) → (lz || ltb v least || not (ltb v (2 ^ 32))) ≡ false → (lz ≡ false) × (least ≤ v) × (v < 2 ^ 32)
-in_bounds true v least e = absurd cc
-in_bounds false v least e = (refl, grind (arith, nat_tests), grind (arith, nat_tests))
-
 pub number_takes : (least : ℕ) (w : List ℕ) (n : ℕ) → number_from least w ≡ Ok n → (w ≡ decimal n) × IsNumberFrom least n
 unfolding number_from
 number_takes least w n e =
-    let t = tests_passed (is_digits w) (has_leading_zero w || ltb (digits_value 10 w) least || not (ltb (digits_value 10 w) (2 ^ 32))) Form Number (digits_value 10 w) n e in
-    let b = in_bounds (has_leading_zero w) (digits_value 10 w) least t.1 in
-    let digits : is_digits w ≡ true = t.0 in
-    let plain : has_leading_zero w ≡ false = b.0 in
+    let value : digits_value 10 w ≡ n = grind (arith, nat_tests) in
+    let digits : is_digits w ≡ true = grind (arith, nat_tests) in
+    let plain : has_leading_zero w ≡ false = grind (arith, nat_tests) in
+    let range : IsNumberFrom least (digits_value 10 w) = (grind (arith, nat_tests), grind (arith, nat_tests)) in
     let all : list_all is_ascii_digit w ≡ true = grind (arith, nat_tests) in
     let some : 0 < length w = grind (arith, nat_tests) in
     let first : get_or w 0 0 ≡ 48 → length w ≡ 1 = λ e. grind (arith, nat_tests) in
-    let text : decimal (digits_value 10 w) ≡ w = decimal-digits_value own w all some first (omega (arith, b.2)) in
-    subst (λ (m : ℕ). (w ≡ decimal m) × IsNumberFrom least m) t.2 (sym text, (b.1, b.2))
+    let text : decimal (digits_value 10 w) ≡ w = decimal-digits_value own w all some first (omega (arith, range.1)) in
+    subst (λ (m : ℕ). (w ≡ decimal m) × IsNumberFrom least m) value (sym text, range)
 
 no_leading_zero : (n : ℕ) → n < 2 ^ 32 → has_leading_zero (decimal n) ≡ false
 no_leading_zero zero lt = rw (decimal_digit 0 (omega arith)) refl

@@ -6,11 +6,9 @@ use Rattle.spy_words.specs.declared.access.PrivWord.TheVariants as privileges
 use Rattle.spy_words.specs.declared.access.InstKind.{InstKind}
 use Rattle.spy_words.specs.declared.access.InstKind.TheVariants as instances
 
--- The classes of words.
+-- The classes of words. The numbers of a class begin at a least one.
 pub data Class : Type 0 where
-  number : Class
-  id : Class
-  event : Class
+  number : ℕ → Class
   points : Class
   fields : Class
   waits : Class
@@ -18,6 +16,16 @@ pub data Class : Type 0 where
   access : Class
   coherence : Class
   layout : Class
+
+-- Any number, an id, and an event.
+abbrev pub any_number : Class
+any_number = number 0
+
+abbrev pub id : Class
+id = number 1
+
+abbrev pub event : Class
+event = number 1
 
 -- Words, each after such a byte.
 abbrev pub follow : ℕ → List (List ℕ) → List ℕ
@@ -28,14 +36,10 @@ follow c (w ∷ ws) = c ∷ w ++ follow c ws
 abbrev pub span_word : ℕ × ℕ → List ℕ
 span_word p = if p.0 == p.1 then decimal p.0 else decimal p.0 ++ 45 ∷ decimal p.1
 
--- A list: its parts, with one comma between each two.
+-- A list: its parts, with one comma between each two, or a dash for none.
 abbrev pub list_word : {A : Type 0} → (A → List ℕ) → List A → List ℕ
-list_word spell xs = join_with_byte 44 (map spell xs)
-
--- A list, or a dash for none.
-abbrev pub list_or_dash : {A : Type 0} → (A → List ℕ) → List A → List ℕ
-list_or_dash spell [] = 45 ∷ []
-list_or_dash spell (x ∷ xs) = list_word spell (x ∷ xs)
+list_word spell [] = 45 ∷ []
+list_word spell (x ∷ xs) = join_with_byte 44 (map spell (x ∷ xs))
 
 -- Whether a partition is disjoint.
 abbrev pub split_word : Bool → List ℕ
@@ -78,18 +82,14 @@ ascends before (x ∷ y ∷ xs) = before x y && ascends before (y ∷ xs)
 abbrev pub span_before : ℕ × ℕ → ℕ × ℕ → Bool
 span_before p q = nat_lt p.1 q.0
 
--- An operator, where there is one, has an id.
+-- An operator, where there is one, has an id. The same for a kind of instance.
 abbrev pub HasOperator : PrivWord → Type 0
-HasOperator privileges.Ro = Unit {0}
-HasOperator privileges.Rw = Unit {0}
-HasOperator privileges.Wd = Unit {0}
 HasOperator (privileges.Red op) = IsNumberFrom 1 op
+HasOperator _ = Unit {0}
 
--- The same for a kind of instance.
 abbrev pub HoldsOperator : InstKind → Type 0
-HoldsOperator instances.Plain = Unit {0}
-HoldsOperator instances.Home = Unit {0}
 HoldsOperator (instances.Red op) = IsNumberFrom 1 op
+HoldsOperator _ = Unit {0}
 
 -- What is said of a class: what its words mean, the one word that has a meaning, which meanings have a word, and what stands in where there is none.
 pub record About : Type 1 where
@@ -100,12 +100,10 @@ pub record About : Type 1 where
 
 -- The table of the classes.
 abbrev pub about : Class → About
-about number = record { Meaning = ℕ; word = decimal; IsGood = IsNumberFrom 0; stand_in = 0 }
-about id = record { Meaning = ℕ; word = decimal; IsGood = IsNumberFrom 1; stand_in = 0 }
-about event = record { Meaning = ℕ; word = decimal; IsGood = IsNumberFrom 1; stand_in = 0 }
-about points = record { Meaning = List (ℕ × ℕ); word = list_or_dash span_word; IsGood = λ ps. AllByRecursion IsSpan ps × IsTrue (ascends span_before ps); stand_in = [] }
+about (number least) = record { Meaning = ℕ; word = decimal; IsGood = IsNumberFrom least; stand_in = 0 }
+about points = record { Meaning = List (ℕ × ℕ); word = list_word span_word; IsGood = λ ps. AllByRecursion IsSpan ps × IsTrue (ascends span_before ps); stand_in = [] }
 about fields = record { Meaning = List ℕ; word = list_word decimal; IsGood = λ ns. AllByRecursion (IsNumberFrom 0) ns × IsTrue (ascends nat_lt ns) × (ns ≢ []); stand_in = [] }
-about waits = record { Meaning = List ℕ; word = list_or_dash decimal; IsGood = AllByRecursion (IsNumberFrom 1); stand_in = [] }
+about waits = record { Meaning = List ℕ; word = list_word decimal; IsGood = AllByRecursion (IsNumberFrom 1); stand_in = [] }
 about split = record { Meaning = Bool; word = split_word; IsGood = λ b. Unit {0}; stand_in = false }
 about access = record { Meaning = PrivWord; word = access_word; IsGood = HasOperator; stand_in = privileges.Ro }
 about coherence = record { Meaning = Bool; word = coherence_word; IsGood = λ b. Unit {0}; stand_in = false }

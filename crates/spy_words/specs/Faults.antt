@@ -1,5 +1,5 @@
 -- Which fault is told of several, and what it is to give what reading gives.
-use Rattle.std.specs.Prelude.{◌≡◌, ℕ, Bool, List, [], ◌∷◌, Option, Some, None, Result, Ok, Err, nat_lt, if◌then◌else◌}
+use Rattle.std.specs.Prelude.{◌≡◌, ℕ, Bool, List, [], ◌∷◌, ◌++◌, Option, Some, None, Result, Ok, Err, nat_lt, if◌then◌else◌}
 use Rattle.spy_words.specs.declared.fault.LineFault.{LineFault}
 use Rattle.spy_words.specs.declared.fault.LineFault.TheVariants.{Word, Form, Number, Order, Memory}
 
@@ -15,6 +15,31 @@ rank Memory = 4
 abbrev pub worse : LineFault → LineFault → LineFault
 worse f g = if nat_lt (rank g) (rank f) then g else f
 
+-- The fault that is told of those met so far and one more.
+abbrev pub met_with : Option LineFault → LineFault → Option LineFault
+met_with None f = Some f
+met_with (Some e) f = Some (worse e f)
+
+-- A value, unless a fault was met.
+abbrev pub unless_met : {A : Type 0} → Option LineFault → A → Result A LineFault
+unless_met None x = Ok x
+unless_met (Some f) x = Err f
+
+-- What is kept of a word that was read: its value, or a stand-in, and the fault that was met so far.
+abbrev pub kept : {A : Type 0} → Option LineFault → Result A LineFault → A → A × Option LineFault
+kept met (Ok x) other = (x, met)
+kept met (Err f) other = (other, met_with met f)
+
+-- The same of a part of a list: its value behind the others, or none.
+abbrev pub with_part : {A : Type 0} → List A × Option LineFault → Result A LineFault → List A × Option LineFault
+with_part p (Ok x) = (p.0 ++ x ∷ [], p.1)
+with_part p (Err f) = (p.0, met_with p.1 f)
+
+-- What each word says, after what was read before.
+abbrev pub each_after : {A : Type 0} → List A × Option LineFault → (List ℕ → Result A LineFault) → List (List ℕ) → Result (List A) LineFault
+each_after p read [] = unless_met p.1 p.0
+each_after p read (w ∷ ws) = each_after (with_part p (read w)) read ws
+
 -- Both values, or the fault that is told.
 abbrev pub both : {A B : Type 0} → Result A LineFault → Result B LineFault → Result (A × B) LineFault
 both (Ok a) (Ok b) = Ok (a, b)
@@ -27,35 +52,15 @@ abbrev pub map_ok : {A B : Type 0} → (A → B) → Result A LineFault → Resu
 map_ok f (Ok a) = Ok (f a)
 map_ok f (Err e) = Err e
 
--- The value, if it passes a test of order.
-abbrev pub in_order : {A : Type 0} → (A → Bool) → Result A LineFault → Result A LineFault
-in_order test (Ok a) = if test a then Ok a else Err Order
-in_order test (Err e) = Err e
-
--- What each word says, or the fault that is told.
-abbrev pub each : {A : Type 0} → (List ℕ → Result A LineFault) → List (List ℕ) → Result (List A) LineFault
-each read [] = Ok []
-each read (w ∷ ws) = map_ok (λ p. p.0 ∷ p.1) (both (read w) (each read ws))
-
--- What is read after a fault may have been met.
-abbrev pub after : {A : Type 0} → Option LineFault → Result A LineFault → Result A LineFault
-after None read = read
-after (Some f) (Ok x) = Err f
-after (Some f) (Err g) = Err (worse f g)
-
--- What is kept of a word that was read: its value, or a stand-in, and the fault that was met so far.
-abbrev pub kept : {A : Type 0} → Option LineFault → Result A LineFault → A → A × Option LineFault
-kept met (Ok x) other = (x, met)
-kept None (Err f) other = (other, Some f)
-kept (Some e) (Err f) other = (other, Some (worse e f))
+-- The value, if it passes a test, or else this fault.
+abbrev pub tested : {A : Type 0} → LineFault → (A → Bool) → Result A LineFault → Result A LineFault
+tested f test (Ok a) = if test a then Ok a else Err f
+tested f test (Err e) = Err e
 
 -- A call that failed tells the fault that reading gives, unless memory ran out.
 abbrev pub Fails : {Y : Type 0} → LineFault → Result Y LineFault → Type 0
 Fails Memory read = Unit {0}
-Fails Word read = read ≡ Err Word
-Fails Form read = read ≡ Err Form
-Fails Number read = read ≡ Err Number
-Fails Order read = read ≡ Err Order
+Fails f read = read ≡ Err f
 
 -- What a call returned, seen by `view`, is what reading gives, unless memory ran out.
 abbrev pub Gives : {X Y : Type 0} → (X → Y) → Result X LineFault → Result Y LineFault → Type 0

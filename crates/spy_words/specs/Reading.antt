@@ -1,5 +1,5 @@
 -- What a word of each class says, or its fault.
-use Rattle.std.specs.Prelude.{ℕ, ◌^◌, Bool, true, false, not, ◌||◌, ◌&&◌, ◌==◌, nat_eq, nat_lt, List, [], ◌∷◌, length, drop, slice_index, Result, Ok, Err, if◌then◌else◌, codes}
+use Rattle.std.specs.Prelude.{ℕ, ◌^◌, Bool, true, false, not, ◌||◌, ◌&&◌, ◌==◌, nat_eq, nat_lt, List, [], ◌∷◌, length, drop, slice_index, None, Result, Ok, Err, if◌then◌else◌, codes}
 use Rattle.std.specs.List.{slice_split, list_all, starts_with}
 use Rattle.std.specs.Str.{bytes_eq}
 use Rattle.std.specs.Char.{is_ascii_digit}
@@ -7,9 +7,9 @@ use Rattle.std.specs.Str.Parse.{digits_value}
 use Rattle.spy_words.specs.declared.access.PrivWord.TheVariants as privileges
 use Rattle.spy_words.specs.declared.access.InstKind.TheVariants as instances
 use Rattle.spy_words.specs.declared.fault.LineFault.{LineFault}
-use Rattle.spy_words.specs.declared.fault.LineFault.TheVariants.{Form, Number}
-use Rattle.spy_words.specs.Classes.{Class, number, id, event, points, fields, waits, split, access, coherence, layout, Meaning, split_word, access_word, coherence_word, layout_word, ascends, span_before}
-use Rattle.spy_words.specs.Faults.{both, map_ok, in_order, each}
+use Rattle.spy_words.specs.declared.fault.LineFault.TheVariants.{Form, Number, Order}
+use Rattle.spy_words.specs.Classes.{Class, number, points, fields, waits, split, access, coherence, layout, Meaning, split_word, access_word, coherence_word, layout_word, ascends, span_before}
+use Rattle.spy_words.specs.Faults.{both, map_ok, tested, each_after}
 
 -- The parts of a text, cut at each such byte.
 abbrev pub parts : ℕ → List ℕ → List (List ℕ)
@@ -37,20 +37,25 @@ goes_up p = nat_lt p.0 p.1
 -- A number alone, or two of which the second exceeds the first.
 abbrev pub span_among : ℕ → List (List ℕ) → Result (ℕ × ℕ) LineFault
 span_among least (v ∷ []) = map_ok (λ n. (n, n)) (number_from least v)
-span_among least (v ∷ w ∷ []) = in_order goes_up (both (number_from least v) (number_from least w))
+span_among least (v ∷ w ∷ []) = tested Order goes_up (both (number_from least v) (number_from least w))
 span_among least vs = Err Form
 
 -- A run of points: a number from the least up, or two with a dash between.
 unfoldable pub span_from : ℕ → List ℕ → Result (ℕ × ℕ) LineFault
 span_from least w = span_among least (parts 45 w)
 
--- A list: what stands between commas.
-unfoldable pub list_at : {A : Type 0} → (List ℕ → Result A LineFault) → List ℕ → Result (List A) LineFault
-list_at read w = each read (parts 44 w)
+-- What each word says, or the fault that is told of theirs.
+abbrev pub each : {A : Type 0} → (List ℕ → Result A LineFault) → List (List ℕ) → Result (List A) LineFault
+each read ws = each_after ([], None) read ws
 
--- A list, or none for a dash.
-unfoldable pub list_or_none_at : {A : Type 0} → (List ℕ → Result A LineFault) → List ℕ → Result (List A) LineFault
-list_or_none_at read w = if bytes_eq w (codes "-") then Ok [] else list_at read w
+-- A list: what stands between commas, or none for a dash.
+unfoldable pub list_at : {A : Type 0} → (List ℕ → Result A LineFault) → List ℕ → Result (List A) LineFault
+list_at read w = if bytes_eq w (codes "-") then Ok [] else each read (parts 44 w)
+
+-- At least one.
+abbrev pub has_some : {A : Type 0} → List A → Bool
+has_some [] = false
+has_some (x ∷ xs) = true
 
 -- The first of some values with this text, or what else reading gives.
 abbrev pub text_at : {A : Type 0} → (A → List ℕ) → List A → List ℕ → Result A LineFault → Result A LineFault
@@ -63,12 +68,10 @@ operator_at w = if starts_with nat_eq w (codes "red:") then number_from 1 (drop 
 
 -- What a word of a class means.
 unfoldable pub meaning_at : (c : Class) → List ℕ → Result (Meaning c) LineFault
-meaning_at number w = number_from 0 w
-meaning_at id w = number_from 1 w
-meaning_at event w = number_from 1 w
-meaning_at points w = in_order (ascends span_before) (list_or_none_at (span_from 0) w)
-meaning_at fields w = in_order (ascends nat_lt) (list_at (number_from 0) w)
-meaning_at waits w = list_or_none_at (number_from 1) w
+meaning_at (number least) w = number_from least w
+meaning_at points w = tested Order (ascends span_before) (list_at (span_from 0) w)
+meaning_at fields w = tested Order (ascends nat_lt) (tested Form has_some (list_at (number_from 0) w))
+meaning_at waits w = list_at (number_from 1) w
 meaning_at split w = text_at split_word (true ∷ false ∷ []) w (Err Form)
 meaning_at access w = text_at access_word (privileges.Ro ∷ privileges.Rw ∷ privileges.Wd ∷ []) w (map_ok (λ op. privileges.Red op) (operator_at w))
 meaning_at coherence w = text_at coherence_word (true ∷ false ∷ []) w (Err Form)
@@ -76,5 +79,4 @@ meaning_at layout w = text_at layout_word (instances.Plain ∷ instances.Home �
 
 -- Ids, at least one, each a word.
 abbrev pub ids_at : List (List ℕ) → Result (List ℕ) LineFault
-ids_at [] = Err Form
-ids_at (w ∷ ws) = each (number_from 1) (w ∷ ws)
+ids_at ws = tested Form has_some (each (number_from 1) ws)

@@ -2,7 +2,7 @@
 
 ghost use Rattle.std.specs.Prelude.{◌≡◌};
 ghost use Rattle.spy_words.specs.declared.fault.LineFault.TheVariants.{Memory};
-ghost use Rattle.spy_words.specs.Faults.{worse, kept, after};
+ghost use Rattle.spy_words.specs.Faults.{worse, met_with, kept, unless_met};
 
 use std::alloc::AllocError;
 
@@ -36,26 +36,32 @@ pub fn worse_of(a: LineFault, b: LineFault) -> LineFault
     if (b as u8) < (a as u8) { b } else { a }
 }
 
-/// The value that was read, or a stand-in and a fault more that was met.
+/// Meets a fault more.
+pub fn meet(met: &mut Option<LineFault>, fault: LineFault)
+    ensures { met.new ≡ met_with met.old fault }
+{
+    *met = Some(met.map_or(fault, |first| worse_of(first, fault)));
+}
+
+/// The value that was read, or a stand-in where a fault more is met.
 pub fn keep<T: Drop>(met: &mut Option<LineFault>, read: Result<T, LineFault>, other: T) -> T
     ensures { kept met.old read other ≡ (result, met.new) }
 {
     match read {
         Ok(value) => value,
         Err(fault) => {
-            *met = Some(met.map_or(fault, |first| worse_of(first, fault)));
+            meet(met, fault);
             other
         }
     }
 }
 
-/// What was read, unless a fault was met before that is told.
-pub fn told<T: Drop>(met: Option<LineFault>, read: Result<T, LineFault>) -> Result<T, LineFault>
-    ensures { result ≡ after met read }
+/// The value, unless a fault was met.
+pub fn told<T: Drop>(met: Option<LineFault>, value: T) -> Result<T, LineFault>
+    ensures { result ≡ unless_met met value }
 {
-    match (met, read) {
-        (None, read) => read,
-        (Some(first), Ok(_)) => Err(first),
-        (Some(first), Err(fault)) => Err(worse_of(first, fault)),
+    match met {
+        None => Ok(value),
+        Some(fault) => Err(fault),
     }
 }

@@ -4,62 +4,47 @@ ghost use Rattle.std.specs.Prelude.{◌≡◌};
 
 use std::marker::Model;
 
-/// A list of numbers of a line: fields, events or items.
+/// A list that a word spells.
 #[derive(Debug, Drop)]
-pub struct Nums {
-    items: Vec<u32>,
+pub struct Listed<T> {
+    items: Vec<T>,
 }
 
-impl Model for Nums {
-    ghost use Rattle.std.specs.Prelude.{List, ℕ};
+/// Numbers of a line: fields, events or items.
+pub type Nums = Listed<u32>;
 
-    ghost Value = { List ℕ };
+/// A set of points as a line spells it: its parts in order, each a first and a last point.
+pub type Set = Listed<(u64, u64)>;
 
-    ghost view = { λ n. n.items.items };
+impl<T> Model for Listed<T> {
+    ghost use Rattle.std.specs.Prelude.{List};
+
+    ghost Value = { List T };
+
+    ghost view = { λ l. l.items.items };
 }
 
-impl Nums {
-    /// These numbers. None is looked at.
-    pub fn from_vec(items: Vec<u32>) -> Nums
+impl<T> Listed<T> {
+    /// These items. None is looked at.
+    pub fn from_vec(items: Vec<T>) -> Listed<T>
         ensures { result ≡ items.items }
     {
-        Nums { items }
+        Listed { items }
     }
 
-    /// The numbers in order.
-    pub fn as_slice(&self) -> &[u32]
+    /// The items in order.
+    pub fn as_slice(&self) -> &[T]
         ensures { result.now ≡ self.now }
     {
         &self.items
     }
 }
 
-/// A set of points as a line spells it: its parts in order, each a first and a last point.
-#[derive(Debug, Drop)]
-pub struct Set {
-    pairs: Vec<(u64, u64)>,
-}
-
-impl Model for Set {
-    ghost use Rattle.std.specs.Prelude.{List, ℕ};
-
-    ghost Value = { List (ℕ × ℕ) };
-
-    ghost view = { λ s. s.pairs.items };
-}
-
-impl Set {
+impl Listed<(u64, u64)> {
     /// The set of these parts. No part is looked at.
     pub fn from_pairs(pairs: Vec<(u64, u64)>) -> Set
         ensures { result ≡ pairs.items }
     {
-        Set { pairs }
-    }
-
-    /// The parts in order.
-    pub fn as_slice(&self) -> &[(u64, u64)]
-        ensures { result.now ≡ self.now }
-    {
-        &self.pairs
+        Listed::from_vec(pairs)
     }
 }

@@ -1,22 +1,23 @@
 //! Words that hold a list: numbers, or runs of points.
 
-ghost use Rattle.std.specs.Prelude.{◌≡◌, ◌↔◌, ◌++◌, IsTrue, IfOk, OnOk, map, decimal, nat_lt, List, ℕ, Bool, Result};
+ghost use Rattle.std.specs.Prelude.{◌≡◌, [], ◌↔◌, ◌++◌, IsTrue, IfOk, OnOk, map, decimal, nat_lt, List, ℕ, Bool, Result};
 ghost use Rattle.std.specs.List.{AllByRecursion};
 ghost use Rattle.spy_words.specs.declared.fault.LineFault.{LineFault};
-ghost use Rattle.spy_words.specs.Classes.{ascends, points, follow, span_before, span_word, list_word, list_or_dash, IsNumberFrom, IsSpan};
-ghost use Rattle.spy_words.specs.Faults.{each, in_order, map_ok};
-ghost use Rattle.spy_words.specs.Reading.{ids_at, list_at, list_or_none_at, meaning_at, number_from, span_among, span_from};
+ghost use Rattle.spy_words.specs.declared.fault.LineFault.TheVariants.{Form, Order};
+ghost use Rattle.spy_words.specs.Classes.{ascends, follow, span_before, span_word, list_word, IsNumberFrom, IsSpan};
+ghost use Rattle.spy_words.specs.Faults.{map_ok, tested};
+ghost use Rattle.spy_words.specs.Reading.{each, has_some, list_at, number_from, span_among, span_from};
 
-use crate::fault::{LineFault, keep, told, worse_of};
-use crate::lists::Nums;
-use crate::words::{number_of, parts_of, push_u64};
+use crate::cut::Pieces;
+use crate::fault::{LineFault, meet, told, worse_of};
+use crate::words::{number_of, push_u64};
 use std::alloc::{AllocError, Global};
 
 /// What is read of some text, where memory suffices.
 pub type Read<T> = Result<Result<T, LineFault>, AllocError>;
 
 /// A part of a list: a number, or a run of points.
-pub trait Part: Copy + Default + Drop {
+pub trait Part: Copy + Drop {
     /// The part that a word says, its numbers from a least one on.
     ghost reading: { ℕ → List ℕ → Result Self LineFault };
 
@@ -30,8 +31,8 @@ pub trait Part: Copy + Default + Drop {
     ghost before: { Self → Self → Bool };
 
     /// The part that a word says, its numbers from the least up.
-    fn read(alloc: Global, least: u32, word: &[u8]) -> Read<Self>
-        ensures { IfOk result (λ read. read ≡ reading least word.now) };
+    fn read(least: u32, word: &[u8]) -> Result<Self, LineFault>
+        ensures { result ≡ reading least word.now };
 
     /// Writes the part.
     fn push(self, out: &mut Vec<u8>) -> Result<(), AllocError>
@@ -55,8 +56,8 @@ impl Part for u32 {
 
     ghost before = { nat_lt };
 
-    fn read(_alloc: Global, least: u32, word: &[u8]) -> Read<u32> {
-        Ok(number_of(least, word))
+    fn read(least: u32, word: &[u8]) -> Result<u32, LineFault> {
+        number_of(least, word)
     }
 
     fn push(self, out: &mut Vec<u8>) -> Result<(), AllocError> {
@@ -82,8 +83,8 @@ impl Part for (u64, u64) {
     ghost before = { span_before };
 
     #[tactic(auto, unfolding(crate::specs::Reading::span_from))]
-    fn read(alloc: Global, least: u32, word: &[u8]) -> Read<(u64, u64)> {
-        Ok(span_of(least, &parts_of(alloc, word, b'-')?))
+    fn read(least: u32, word: &[u8]) -> Result<(u64, u64), LineFault> {
+        span_of(least, Pieces::of(word, b'-'))
     }
 
     fn push(self, out: &mut Vec<u8>) -> Result<(), AllocError> {
@@ -105,62 +106,67 @@ impl Part for (u64, u64) {
 }
 
 /// A run of points, from its words.
-fn span_of(least: u32, words: &[&[u8]]) -> Result<(u64, u64), LineFault>
-    ensures { result ≡ span_among least (map (λ w. w.now) words.now) }
+fn span_of(least: u32, mut words: Pieces<'_>) -> Result<(u64, u64), LineFault>
+    ensures { result ≡ span_among least words.entry }
 {
-    match words {
-        [only] => {
+    match (words.next(), words.next(), words.next()) {
+        (Some(only), None, _) => {
             let point = u64::from(number_of(least, only)?);
             Ok((point, point))
         }
-        [first, last] => match (number_of(least, first), number_of(least, last)) {
-            (Ok(first), Ok(last)) if first < last => Ok((u64::from(first), u64::from(last))),
-            (Ok(_), Ok(_)) => Err(LineFault::Order),
-            (Err(fault), Ok(_)) | (Ok(_), Err(fault)) => Err(fault),
-            (Err(first), Err(last)) => Err(worse_of(first, last)),
-        },
+        (Some(first), Some(last), None) => {
+            match (number_of(least, first), number_of(least, last)) {
+                (Ok(first), Ok(last)) if first < last => Ok((u64::from(first), u64::from(last))),
+                (Ok(_), Ok(_)) => Err(LineFault::Order),
+                (Err(fault), Ok(_)) | (Ok(_), Err(fault)) => Err(fault),
+                (Err(first), Err(last)) => Err(worse_of(first, last)),
+            }
+        }
         _ => Err(LineFault::Form),
     }
 }
 
-/// What each word says.
-#[tactic(auto, using(crate::proofs::MetFaults::each_end))]
-fn each_of<T: Part>(alloc: Global, least: u32, words: &[&[u8]]) -> Read<Vec<T>>
-    ensures { IfOk result (λ read. map_ok (λ v. v.items) read ≡ each (T.reading least) (map (λ w. w.now) words.now)) }
+/// What each word says, or the fault that is told of theirs. No word is left then.
+pub fn each_of<T: Part>(alloc: Global, least: u32, words: &mut Pieces<'_>) -> Read<Vec<T>>
+    ensures read { IfOk result (λ read. map_ok (λ v. v.items) read ≡ each (T.reading least) words.old) }
+    ensures rest { OnOk result (words.new ≡ []) }
 {
+    // Room for one: most lists have one part, and a log may have millions of them.
+    let mut items = Vec::with_capacity(alloc, 1)?;
     let mut met = None;
-    let mut items = Vec::new(alloc);
-    let mut rest = words;
-    while let [word, more @ ..] = rest {
-        let read = T::read(alloc, least, word)?;
-        items.push(keep(&mut met, read, T::default()))?;
-        rest = more;
+    while let Some(word) = words.next() {
+        match T::read(least, word) {
+            Ok(item) => items.push(item)?,
+            Err(fault) => meet(&mut met, fault),
+        }
     }
-    Ok(told(met, Ok(items)))
+    Ok(told(met, items))
 }
 
-/// The parts between commas.
+/// The parts between commas, or none for a dash.
 #[tactic(auto, unfolding(crate::specs::Reading::list_at))]
 pub fn list_of<T: Part>(alloc: Global, least: u32, word: &[u8]) -> Read<Vec<T>>
     ensures { IfOk result (λ read. map_ok (λ v. v.items) read ≡ list_at (T.reading least) word.now) }
 {
-    each_of(alloc, least, &parts_of(alloc, word, b',')?)
-}
-
-/// The parts between commas, or none for a dash.
-#[tactic(auto, unfolding(crate::specs::Reading::list_or_none_at))]
-pub fn list_or_none<T: Part>(alloc: Global, least: u32, word: &[u8]) -> Read<Vec<T>>
-    ensures { IfOk result (λ read. map_ok (λ v. v.items) read ≡ list_or_none_at (T.reading least) word.now) }
-{
     if word == b"-".as_slice() {
         return Ok(Ok(Vec::new(alloc)));
     }
-    list_of(alloc, least, word)
+    each_of(alloc, least, &mut Pieces::of(word, b','))
+}
+
+/// The parts that were read, if there are some.
+pub fn at_least_one<T: Part>(read: Result<Vec<T>, LineFault>) -> Result<Vec<T>, LineFault>
+    ensures { map_ok (λ v. v.items) result ≡ tested Form has_some (map_ok (λ v. v.items) read) }
+{
+    match read {
+        Ok(parts) if parts.is_empty() => Err(LineFault::Form),
+        read => read,
+    }
 }
 
 /// The parts that were read, if they ascend.
 pub fn ascending<T: Part>(read: Result<Vec<T>, LineFault>) -> Result<Vec<T>, LineFault>
-    ensures { map_ok (λ v. v.items) result ≡ in_order (ascends T.before) (map_ok (λ v. v.items) read) }
+    ensures { map_ok (λ v. v.items) result ≡ tested Order (ascends T.before) (map_ok (λ v. v.items) read) }
 {
     match read {
         Ok(parts) if !ascend(&parts) => Err(LineFault::Order),
@@ -215,43 +221,15 @@ pub fn push_after<T: Part>(out: &mut Vec<u8>, byte: u8, parts: &[T]) -> Result<(
     Ok(())
 }
 
-/// Writes a list.
+/// Writes a list, or a dash for none.
 #[tactic(auto, using(crate::proofs::Joins::join_follow, std::proofs::Common::append_assoc))]
 pub fn push_list<T: Part>(out: &mut Vec<u8>, parts: &[T]) -> Result<(), AllocError>
     ensures { OnOk result (out.new.items ≡ out.old.items ++ list_word T.text parts.now) }
 {
     let Some((first, rest)) = parts.split_first() else {
+        out.push(b'-')?;
         return Ok(());
     };
     first.push(out)?;
     push_after(out, b',', rest)
-}
-
-/// Writes a list, or a dash for none.
-pub fn push_or_dash<T: Part>(out: &mut Vec<u8>, parts: &[T]) -> Result<(), AllocError>
-    ensures { OnOk result (out.new.items ≡ out.old.items ++ list_or_dash T.text parts.now) }
-{
-    if parts.is_empty() {
-        out.push(b'-')?;
-        return Ok(());
-    }
-    push_list(out, parts)
-}
-
-/// The runs of a set of points.
-#[tactic(auto, unfolding(crate::specs::Reading::meaning_at))]
-pub fn spans_of(alloc: Global, word: &[u8]) -> Read<Vec<(u64, u64)>>
-    ensures { IfOk result (λ read. map_ok (λ v. v.items) read ≡ meaning_at points word.now) }
-{
-    Ok(ascending(list_or_none(alloc, 0, word)?))
-}
-
-/// The ids that these words are, at least one.
-pub fn ids_of(alloc: Global, words: &[&[u8]]) -> Read<Nums>
-    ensures { IfOk result (λ read. read ≡ ids_at (map (λ w. w.now) words.now)) }
-{
-    if words.is_empty() {
-        return Ok(Err(LineFault::Form));
-    }
-    Ok(each_of(alloc, 1, words)?.map(Nums::from_vec))
 }

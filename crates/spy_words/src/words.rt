@@ -1,23 +1,16 @@
 //! Single words: numbers, and words of a few fixed texts.
 
-ghost use Rattle.std.specs.Prelude.{◌≡◌, ◌∷◌, [], ◌++◌, true, false, if◌then◌else◌, Err, IfOk, OnOk, codes, decimal, map};
+ghost use Rattle.std.specs.Prelude.{◌≡◌, ◌∷◌, [], ◌++◌, true, false, if◌then◌else◌, Err, OnOk, codes, decimal};
 ghost use Rattle.spy_words.specs.declared.fault.LineFault.TheVariants.{Form};
 ghost use Rattle.std.specs.Char.{is_ascii_digit};
 ghost use Rattle.std.specs.List.{list_all};
 ghost use Rattle.spy_words.specs.Classes.{split_word, access, access_word, coherence_word, layout, layout_word};
-ghost use Rattle.spy_words.specs.Reading.{parts, meaning_at, number_from, operator_at, text_at};
+ghost use Rattle.spy_words.specs.Reading.{meaning_at, number_from, operator_at, text_at};
 
 use crate::access::{InstKind, PrivWord};
 use crate::fault::LineFault;
 use itoa::Buffer;
-use std::alloc::{AllocError, Global};
-
-/// The parts of a text, cut at each such byte.
-pub fn parts_of(alloc: Global, text: &[u8], byte: u8) -> Result<Vec<&[u8]>, AllocError>
-    ensures { IfOk result (λ v. map (λ w. w.now) v.items ≡ parts byte text.now) }
-{
-    text.split(|b| *b == byte).collect(alloc)
-}
+use std::alloc::AllocError;
 
 fn all_digits(word: &[u8]) -> bool
     ensures { result ≡ list_all is_ascii_digit word.now }

@@ -1,0 +1,51 @@
+//! A text, cut into pieces at one byte.
+
+ghost use Rattle.std.specs.Prelude.{◌≡◌, drop, slice_get};
+ghost use Rattle.std.specs.Option.{option_map};
+ghost use Rattle.spy_words.specs.Reading.{parts};
+
+use memchr::memchr;
+use std::marker::Model;
+
+/// The pieces of a text that are still to come.
+#[derive(Drop)]
+pub struct Pieces<'a> {
+    byte: u8,
+    rest: Option<&'a [u8]>,
+}
+
+impl<'a> Model for Pieces<'a> {
+    ghost use Rattle.std.specs.Prelude.{List, [], ℕ};
+    ghost use Rattle.std.specs.Option.{option_map_or};
+    ghost use Rattle.spy_words.specs.Reading.{parts};
+
+    ghost Value = { List (List ℕ) };
+
+    ghost view = { λ p. option_map_or (λ text. parts p.byte text.now) p.rest [] };
+}
+
+impl<'a> Pieces<'a> {
+    /// The pieces of a text, cut at each such byte.
+    pub fn of(text: &'a [u8], byte: u8) -> Pieces<'a>
+        ensures { result ≡ parts byte text.now }
+    {
+        Pieces {
+            byte,
+            rest: Some(text),
+        }
+    }
+
+    /// The next piece.
+    pub fn next(&mut self) -> Option<&'a [u8]>
+        ensures piece { option_map (λ piece. piece.now) result ≡ slice_get self.old 0 }
+        ensures rest { self.new ≡ drop 1 self.old }
+    {
+        let text = self.rest?;
+        let Some(end) = memchr(self.byte, text) else {
+            self.rest = None;
+            return Some(text);
+        };
+        self.rest = Some(&text[end + 1..]);
+        Some(&text[..end])
+    }
+}
