@@ -85,11 +85,10 @@ pub fn read_records(alloc: Global, list: &LineList) -> Result<Vec<Lined>, SpellE
     ensures fault { (line : ℕ) (code : Code) → result ≡ Err (SpellEnd.Fault line code) → lines_fault 1 list.now ≡ Some (record { line = line; code = code }) }
 {
     let mut records = Vec::new(alloc);
-    for k in 0..list.len() {
-        let Some(text) = list.line(k) else {
-            unreachable!();
-        };
-        add_line(alloc, &mut records, k as u32 + 1, text)?;
+    let mut line = 1;
+    for text in list.iter() {
+        add_line(alloc, &mut records, line, text)?;
+        line += 1;
     }
     Ok(records)
 }

@@ -8,5 +8,5 @@ mod lines;
 mod tests;
 
 pub use law::one_list_of_lines;
-pub use line_list::LineList;
+pub use line_list::{LineIter, LineList};
 pub use lines::{Lines, Memory, NoNewline};

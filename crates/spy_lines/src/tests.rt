@@ -65,6 +65,18 @@ fn any_cut_gives_the_same_list(rt: HostRuntime) {
 }
 
 #[test]
+fn lines_come_in_order(rt: HostRuntime) {
+    let list = fed(&rt, rt.alloc(), b"\nab\n\ncde\n", 4).expect(&rt, "lines");
+    let mut lines = list.iter();
+    assert_eq!(rt; lines.next(), Some(b"".as_slice()));
+    assert_eq!(rt; lines.next(), Some(b"ab".as_slice()));
+    assert_eq!(rt; lines.next(), Some(b"".as_slice()));
+    assert_eq!(rt; lines.next(), Some(b"cde".as_slice()));
+    assert!(rt; lines.next().is_none());
+    assert!(rt; lines.next().is_none());
+}
+
+#[test]
 fn no_bytes_are_no_lines(rt: HostRuntime) {
     let list = Lines::new(rt.alloc()).finish().expect(&rt, "lines");
     assert_eq!(rt; list.len(), 0);
@@ -111,15 +123,18 @@ fn a_large_text_in_small_and_large_pieces(rt: HostRuntime) -> Result<(), Fail> {
     for cut in [1, 7, 65_536] {
         let list = fed(&rt, rt.alloc(), &bytes, cut).expect(&rt, "lines");
         assert_eq!(rt; list.len(), count as usize);
+        let mut lines = list.iter();
         let mut wanted = Vec::new(rt.alloc());
         for k in 0..count {
             wanted.clear();
             push_line(&mut wanted, k)?;
             assert!(rt;
-                list.line(k as usize) == Some(wanted.as_slice()),
+                lines.next() == Some(wanted.as_slice()),
                 "line {k} in pieces of {cut}"
             );
         }
+        assert!(rt; lines.next().is_none());
+        assert!(rt; list.line(count as usize - 1) == Some(wanted.as_slice()));
     }
     Ok(())
 }
