@@ -1,37 +1,33 @@
 -- What it means for the tables of a log that no fault is shown of it.
-use Rattle.std.proofs.Common.{◌≡◌, ℕ, ◌+◌, inl, inr, Bool, true, false, not, List, [], ◌∷◌, ◌++◌, sym, subst, append_assoc, append-nil, Some, None}
-use Rattle.std.specs.Prelude.{find, cond, option_map, is_some}
+use Rattle.std.proofs.Common.{◌≡◌, ℕ, inl, inr, Bool, true, false, not, List, [], ◌∷◌, ◌++◌, sym, subst, append_assoc, append-nil, None, is_some}
 use Rattle.std.specs.List.{AllByRecursion, list_all}
-use Rattle.std.proofs.lemmas.Bool.{cases_Bool, not-false}
+use Rattle.std.proofs.lemmas.Bool.{not-false, or_parts}
+use Rattle.std.proofs.lemmas.List.Elements.{recursion_from_All, Contains-get_or}
 use Rattle.std.proofs.lemmas.List.Sums.{fold-append}
 use Rattle.spy_grammar.specs.declared.code.Code.{Code}
 use Rattle.spy_grammar.specs.declared.record.Record.{Record}
 use Rattle.spy_grammar.specs.declared.record.Lined.{Lined}
 use Rattle.semantics.specs.declared.tables.Req.{Req}
-use Rattle.spy_grammar.specs.Spelling.{Good}
-use Rattle.semantics.specs.Records.{records_of, Hold, Reads}
+use Rattle.semantics.specs.Records.{records_of}
 use Rattle.semantics.specs.Tables.{Tables, with_record, no_tables, tables_of}
 use Rattle.semantics.specs.Steps.{mapped}
-use Rattle.semantics.specs.Rules.{repeats_event, waits_for_none}
-use Rattle.semantics.specs.Faults.{Command, Check, tried, first_broken, records_fault, log_fault, header_fault, ended_fault, count_fault, serial_fault, map_fault}
-use Rattle.log_laws.proofs.Members.{Member, none_found, both_none, unmapped_none, all_at}
+use Rattle.semantics.specs.Rules.{is_declared, names, repeats_event, waits_for_none}
+use Rattle.semantics.specs.Faults.{Command, Check, tried, records_fault, log_fault, header_fault, ended_fault, count_fault, serial_fault, map_fault}
+use Rattle.log_laws.proofs.Members.{Member, member_of, none_found, both_none, unmapped_none, all_at}
 use Rattle.log_laws.proofs.Sane.{Keeps, AreSane, with_kept, nothing_sane}
 
 -- A record of the log breaks no rule.
 abbrev pub Unbroken : List Record → List Lined → Record → Type 0
 Unbroken log earlier r = AllByRecursion (λ (p : Code × Bool). p.1 ≡ false) (tried log (records_of earlier) (tables_of earlier) r)
 
-unbroken : (rs : List (Code × Bool)) → first_broken rs ≡ None → AllByRecursion (λ (p : Code × Bool). p.1 ≡ false) rs
-unbroken [] e = tt
-unbroken (r ∷ rs) e = elim (cases_Bool r.1) [
-  | inl broken ↦
-      let bad : Some r.0 ≡ None = subst (λ b. option_map (λ (p : Code × Bool). p.0) (cond b (Some r) (find (λ (p : Code × Bool). p.1) rs)) ≡ None) broken e in
-      absurd cc
-  | inr kept ↦ (kept, unbroken rs (subst (λ b. option_map (λ (p : Code × Bool). p.0) (cond b (Some r) (find (λ (p : Code × Bool). p.1) rs)) ≡ None) kept e))
-]
-
-one_more : (earlier : List Lined) (l : Lined) → tables_of (earlier ++ l ∷ []) ≡ with_record (tables_of earlier) l.line l.rec
-one_more earlier l = fold-append (λ t (l : Lined). with_record t l.line l.rec) no_tables earlier (l ∷ [])
+-- Where no record breaks a rule, the first does not, nor do the later.
+unbroken : (log : List Record) (earlier : List Lined) (l : Lined) (rest : List Lined) → records_fault log earlier (l ∷ rest) ≡ None
+    → Unbroken log earlier l.rec × (records_fault log (earlier ++ l ∷ []) rest ≡ None)
+unbroken log earlier l rest e =
+    let parts = both_none _ (records_fault log (earlier ++ l ∷ []) rest) e in
+    let rules = tried log (records_of earlier) (tables_of earlier) l.rec in
+    let none = unmapped_none _ _ (unmapped_none _ _ parts.0) in
+    (recursion_from_All (λ (p : Code × Bool). p.1 ≡ false) rules (λ k d lt. none_found (λ (p : Code × Bool). p.1) rules _ none (member_of rules _ (Contains-get_or rules k d lt))), parts.1)
 
 -- What holds of no tables, and stays with each good record that breaks no rule, holds of the tables of the log. (`G` is what is known of each record by itself.)
 pub by_records : (G : Record → Type 0) (P : Tables → Type 0) (log : List Record)
@@ -39,23 +35,21 @@ pub by_records : (G : Record → Type 0) (P : Tables → Type 0) (log : List Rec
     → (earlier rest : List Lined) → AllByRecursion G (records_of rest) → records_fault log earlier rest ≡ None → P (tables_of earlier) → P (tables_of (earlier ++ rest))
 by_records G P log step earlier [] good e h = subst (λ ls. P (tables_of ls)) (sym (append-nil earlier)) h
 by_records G P log step earlier (l ∷ rest) good e h =
-    let parts = both_none _ (records_fault log (earlier ++ l ∷ []) rest) e in
-    let kept : Unbroken log earlier l.rec = unbroken (tried log (records_of earlier) (tables_of earlier) l.rec) (unmapped_none _ _ parts.0) in
-    let next : P (tables_of (earlier ++ l ∷ [])) = subst P (sym (one_more earlier l)) (step earlier l kept good.0 h) in
+    let parts = unbroken log earlier l rest e in
+    let one_more = fold-append (λ t (l : Lined). with_record t l.line l.rec) no_tables earlier (l ∷ []) in
+    let next : P (tables_of (earlier ++ l ∷ [])) = subst P (sym one_more) (step earlier l parts.0 good.0 h) in
     subst (λ ls. P (tables_of ls)) (append_assoc earlier (l ∷ []) rest) (by_records G P log step (earlier ++ l ∷ []) rest good.1 parts.1 next)
 
 -- Each record of a log without a broken rule breaks none at its place.
 pub each_unbroken : (log : List Record) (earlier rest : List Lined) → records_fault log earlier rest ≡ None → (r : Record) → Member (records_of rest) r → (before : List Lined) × Unbroken log before r
 each_unbroken log earlier [] e r m = absurd m
-each_unbroken log earlier (l ∷ rest) e r m =
-    let parts = both_none _ (records_fault log (earlier ++ l ∷ []) rest) e in
-    elim m [
-      | inl is ↦ (earlier, subst (Unbroken log earlier) (sym is) (unbroken (tried log (records_of earlier) (tables_of earlier) l.rec) (unmapped_none _ _ parts.0)))
-      | inr later ↦ each_unbroken log (earlier ++ l ∷ []) rest parts.1 r later
-    ]
+each_unbroken log earlier (l ∷ rest) e r (inl is) = (earlier, subst (Unbroken log earlier) (sym is) (unbroken log earlier l rest e).0)
+each_unbroken log earlier (l ∷ rest) e r (inr later) = each_unbroken log (earlier ++ l ∷ []) rest (unbroken log earlier l rest e).1 r later
 
 pub keeps_of : (log : List Record) (earlier : List Lined) (r : Record) → Unbroken log earlier r → Keeps (tables_of earlier) r
-keeps_of log earlier r u = record { names = u.1.1.0; own = u.1.1.1.1.1.1.1.1.1.1.1.1.0; tree = u.1.1.1.1.1.1.1.1.1.1.1.1.1.0 }
+keeps_of log earlier r u =
+    let known = or_parts (not (list_all (is_declared (tables_of earlier)) (names r))) _ u.1.1.0 in
+    record { declared = not-false _ known.0; named = known.1; own = u.1.1.1.1.1.1.1.1.1.1.1.1.0; tree = u.1.1.1.1.1.1.1.1.1.1.1.1.1.0 }
 
 pub event_is_new : (log : List Record) (earlier : List Lined) (r : Record) → Unbroken log earlier r → repeats_event (tables_of earlier) r ≡ false
 event_is_new log earlier r u = u.1.1.1.1.1.1.1.1.1.1.1.1.1.1.1.1.1.1.1.0
@@ -66,7 +60,6 @@ events_are_completed log earlier r u = u.1.1.1.1.1.1.1.1.1.1.1.1.1.1.1.1.1.1.1.1
 -- What it means, part by part, that a command shows no fault of a log.
 pub record IsFaultless (command : Command) (log : List Lined) : Type 0 where
   pub records : records_fault (records_of log) [] log ≡ None
-  pub serial : serial_fault (tables_of log) ≡ None
   pub maps : map_fault command (tables_of log) ≡ None
 
 pub faultless : (command : Command) (lines : ℕ) (log : List Lined) → log_fault command lines log ≡ None → IsFaultless command log
@@ -76,18 +69,14 @@ faultless command lines log e =
     let ended = both_none (ended_fault lines log) _ header.1 in
     let count = both_none (count_fault log) _ ended.1 in
     let records = both_none (records_fault (records_of log) [] log) _ count.1 in
-    let serial = both_none (serial_fault (tables_of log)) _ records.1 in
-    record { records = records.0; serial = serial.0; maps = serial.1 }
+    record { records = records.0; maps = (both_none (serial_fault (tables_of log)) _ records.1).1 }
 
 pub sane : (command : Command) (log : List Lined) → IsFaultless command log → AreSane (tables_of log)
-sane command log f = by_records (λ r. Unit {0}) AreSane (records_of log) (λ earlier l u g. with_kept (tables_of earlier) l.line l.rec (keeps_of (records_of log) earlier l.rec u)) [] log (nothing_known (records_of log)) f.records nothing_sane
-  where
-    nothing_known : (rs : List Record) → AllByRecursion (λ r. Unit {0}) rs
-    nothing_known [] = tt
-    nothing_known (r ∷ rs) = (tt, nothing_known rs)
+sane command log f = by_records (λ r. Unit {0}) AreSane (records_of log) (λ earlier l u _. with_kept (tables_of earlier) l.line l.rec (keeps_of (records_of log) earlier l.rec u))
+    [] log (recursion_from_All _ (records_of log) (λ k d lt. tt)) f.records nothing_sane
 
 -- Each field of a requirement is mapped.
 pub all_mapped : (log : List Lined) → IsFaultless Check log → (r : Req) (field : ℕ) → Member (tables_of log).reqs r → Member r.fields field → is_some (mapped (tables_of log) r field) ≡ true
 all_mapped log f r field m is =
-    let none : not (list_all (λ n. is_some (mapped (tables_of log) r n)) r.fields) ≡ false = none_found (λ (r : Req). not (list_all (λ n. is_some (mapped (tables_of log) r n)) r.fields)) (tables_of log).reqs r (unmapped_none _ _ f.maps) m in
+    let none = none_found (λ (r : Req). not (list_all (λ n. is_some (mapped (tables_of log) r n)) r.fields)) (tables_of log).reqs r (unmapped_none _ _ f.maps) m in
     all_at (λ n. is_some (mapped (tables_of log) r n)) r.fields field (not-false _ none) is

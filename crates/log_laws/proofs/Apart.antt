@@ -1,14 +1,15 @@
 -- Lists in which nothing stands twice.
-use Rattle.std.proofs.Common.{◌≡◌, ◌≢◌, true, ℕ, zero, suc, ◌<◌, ◌≤◌, ◌+◌, ◌-◌, inl, inr, Bool, List, [], ◌∷◌, ◌++◌, cond, refl, sym, ap, ◌∙◌, subst, append-nil, arith, get_or, AllPairs}
-use Rattle.std.specs.Prelude.{map, flat_map, filter, nat_lt}
-use Rattle.std.proofs.lemmas.Bool.{and_parts, ltb-true, cases_Bool, cases_eq}
+use Rattle.std.proofs.Common.{◌≡◌, ◌≢◌, true, ℕ, zero, suc, ◌<◌, ◌≤◌, ◌+◌, ◌-◌, inl, inr, Bool, ◌⊎◌, List, [], ◌∷◌, ◌++◌, refl, sym, ap, ◌∙◌, subst, arith, get_or, AllPairs, map, flat_map, filter, nat_lt}
+use Rattle.std.proofs.lemmas.Bool.{and_parts, ltb-true, cases_eq}
 use Rattle.std.proofs.lemmas.List.Elements.{Contains-get_or}
-use Rattle.std.proofs.lemmas.List.Kept.{AllPairs-cons}
-use Rattle.spy_words.specs.Classes.{ascends, span_before, IsSpan}
+use Rattle.std.proofs.lemmas.List.Kept.{AllPairs-cons, AllPairs-filter}
+use Rattle.std.proofs.lemmas.List.Recursion.{same_from_clauses}
+use Rattle.spy_words.specs.Classes as classes
+use Rattle.spy_words.specs.Classes.{IsGood, IsNumberFrom, ascends, span_before, IsSpan}
 use Rattle.std.specs.List.{AllByRecursion}
 use Rattle.semantics.specs.Tables.{numbers_from, points_of}
 use Rattle.semantics.specs.Kinds.{grid}
-use Rattle.log_laws.proofs.Members.{Member, member_of, contains_of, member_append, member_map, member_flat, member_filter}
+use Rattle.log_laws.proofs.Members.{Member, member_of, contains_of, only, member_append, member_map, member_flat}
 
 abbrev pub Apart : {X : Type 0} → List X → Type 0
 Apart [] = Unit {0}
@@ -38,12 +39,28 @@ pub pairs_where : {X : Type 0} (R : X → X → Type 0) (xs : List X) → ((x y 
 pairs_where R [] h = tt
 pairs_where R (x ∷ xs) h = (λ y m. h x y (inl refl) (inr m), pairs_where R xs (λ a b m n. h a b (inr m) (inr n)))
 
+pub pairs_so : {X : Type 0} (R S : X → X → Type 0) (xs : List X) → ((x y : X) → Member xs x → Member xs y → R x y → S x y) → PairsBy R xs → PairsBy S xs
+pairs_so R S [] so h = tt
+pairs_so R S (x ∷ xs) so h = (λ y m. so x y (inl refl) (inr m) (h.0 y m), pairs_so R S xs (λ a b m n. so a b (inr m) (inr n)) h.1)
+
+pub pairs_more : {X : Type 0} (R : X → X → Type 0) (xs : List X) (y : X) → PairsBy R xs → ((x : X) → Member xs x → R x y) → PairsBy R (xs ++ y ∷ [])
+pairs_more R xs y h new = pairs_append R xs (y ∷ []) h (λ z m. absurd m, tt) (λ x z m n. subst (R x) (sym (only n)) (new x m))
+
+-- Two members are one, or one of them is the earlier.
+pub pairs_of : {X : Type 0} (R : X → X → Type 0) (xs : List X) → PairsBy R xs → (x y : X) → Member xs x → Member xs y → (x ≡ y) ⊎ (R x y ⊎ R y x)
+pairs_of R [] h x y m n = absurd m
+pairs_of R (z ∷ xs) h x y (inl a) (inl b) = inl (a ∙ sym b)
+pairs_of R (z ∷ xs) h x y (inl a) (inr n) = inr (inl (subst (λ z. R z y) (sym a) (h.0 y n)))
+pairs_of R (z ∷ xs) h x y (inr m) (inl b) = inr (inr (subst (λ z. R z x) (sym b) (h.0 x m)))
+pairs_of R (z ∷ xs) h x y (inr m) (inr n) = pairs_of R xs h.1 x y m n
+
+pub apart_by : {X : Type 0} (R : X → X → Type 0) → ((x : X) → R x x → ⊥) → (xs : List X) → PairsBy R xs → Apart xs
+apart_by R none [] h = tt
+apart_by R none (x ∷ xs) h = (λ m. none x (h.0 x m), apart_by R none xs h.1)
+
 pub all_apart : {X : Type 0} (xs : List X) → Apart xs → AllPairs (λ x y. x ≢ y) xs
-all_apart xs h = all_pairs (λ x y. x ≢ y) xs (pairs xs h)
-  where
-    pairs : {X : Type 0} (xs : List X) → Apart xs → PairsBy (λ x y. x ≢ y) xs
-    pairs [] h = tt
-    pairs (x ∷ xs) h = (λ y m e. h.0 (subst (Member xs) (sym e) m), pairs xs h.1)
+all_apart [] h = λ i j d lt within. absurd (omega (arith, within))
+all_apart (x ∷ xs) h = AllPairs-cons (λ x y. x ≢ y) x xs (λ k d within e. h.0 (subst (Member xs) (sym e) (member_of xs (get_or xs k d) (Contains-get_or xs k d within)))) (all_apart xs h.1)
 
 pub apart_from : {X : Type 0} (xs : List X) → AllPairs (λ x y. x ≢ y) xs → Apart xs
 apart_from [] h = tt
@@ -64,14 +81,11 @@ apart_map f [] one h = tt
 apart_map f (x ∷ xs) one h = (λ m. let r = member_map f xs (f x) m in h.0 (subst (Member xs) (sym (one x r.0 r.2)) r.1), apart_map f xs one h.1)
 
 pub apart_filter : {X : Type 0} (p : X → Bool) (xs : List X) → Apart xs → Apart (filter p xs)
-apart_filter p [] h = tt
-apart_filter p (x ∷ xs) h = elim (cases_Bool (p x)) as (λ _. Apart (filter p (x ∷ xs))) [
-  | inl passes ↦ subst (λ b. Apart (cond b (x ∷ filter p xs) (filter p xs))) (sym passes) (λ m. h.0 (member_filter p xs x m).0, apart_filter p xs h.1)
-  | inr fails ↦ subst (λ b. Apart (cond b (x ∷ filter p xs) (filter p xs))) (sym fails) (apart_filter p xs h.1)
-]
+apart_filter p xs h = apart_from (filter p xs) (AllPairs-filter (λ x y. x ≢ y) p xs (all_apart xs h))
 
 -- Lists made of different elements have nothing in common.
-pub apart_flat : {X Y : Type 0} (f : X → List Y) (xs : List X) → ((x : X) → Member xs x → Apart (f x)) → ((x y : X) (z : Y) → Member xs x → Member xs y → Member (f x) z → Member (f y) z → x ≡ y) → Apart xs → Apart (flat_map f xs)
+pub apart_flat : {X Y : Type 0} (f : X → List Y) (xs : List X) → ((x : X) → Member xs x → Apart (f x)) → ((x y : X) (z : Y) → Member xs x → Member xs y → Member (f x) z → Member (f y) z → x ≡ y)
+    → Apart xs → Apart (flat_map f xs)
 apart_flat f [] each one h = tt
 apart_flat f (x ∷ xs) each one h = apart_append (f x) (flat_map f xs) (each x (inl refl)) (apart_flat f xs (λ y m. each y (inr m)) (λ y z w a b. one y z w (inr a) (inr b)) h.1)
     (λ z m n. let r = member_flat f xs z n in h.0 (subst (Member xs) (sym (one x r.0 z (inl refl) (inr r.1) m r.2)) r.1))
@@ -97,35 +111,39 @@ pub numbers_apart : (first n : ℕ) → Apart (numbers_from first n)
 numbers_apart first zero = tt
 numbers_apart first (suc n) = (λ m. omega (arith, (number_between (first + 1) n first m).0), numbers_apart (first + 1) n)
 
--- The points of a set that is spelled are not below its first.
-point_after : (p : ℕ × ℕ) (ps : List (ℕ × ℕ)) → AllByRecursion IsSpan (p ∷ ps) → ascends span_before (p ∷ ps) ≡ true → (x : ℕ) → Member (points_of (p ∷ ps)) x → p.0 ≤ x
-point_after p [] good up x m = elim (member_append (numbers_from p.0 (p.1 + 1 - p.0)) [] x m) [ inl l ↦ (number_between p.0 (p.1 + 1 - p.0) x l).0 | inr none ↦ absurd none ]
-point_after p (q ∷ ps) good up x m = elim (member_append (numbers_from p.0 (p.1 + 1 - p.0)) (points_of (q ∷ ps)) x m) [
-  | inl l ↦ (number_between p.0 (p.1 + 1 - p.0) x l).0
-  | inr r ↦ let parts = and_parts (span_before p q) (ascends span_before (q ∷ ps)) up in let later = point_after q ps good.1 parts.1 x r in omega (arith, later, ltb-true p.1 q.0 parts.0, good.0.0)
-]
+-- Where each element stands before the next, it stands before each later one.
+module _ {X : Type 0} (before : X → X → Bool) (P : X → Type 0) (R : X → X → Type 0) (tells : (x y : X) → P y → before x y ≡ true → R x y) (trans : (x y z : X) → R x y → R y z → R x z) where
+  ascending : (xs : List X) → AllByRecursion P xs → ascends before xs ≡ true → PairsBy R xs
+  ascending [] good up = tt
+  ascending (x ∷ []) good up = (λ y m. absurd m, tt)
+  ascending (x ∷ y ∷ xs) good up =
+      let parts = and_parts (before x y) (ascends before (y ∷ xs)) up in
+      let first = tells x y good.1.0 parts.0 in
+      let rest = ascending (y ∷ xs) good.1 parts.1 in
+      (λ z m. elim m [ inl is ↦ subst (R x) (sym is) first | inr later ↦ trans x y z first (rest.0 z later) ], rest)
 
-pub points_apart : (ps : List (ℕ × ℕ)) → AllByRecursion IsSpan ps → ascends span_before ps ≡ true → Apart (points_of ps)
-points_apart [] good up = tt
-points_apart (p ∷ []) good up = subst Apart (sym (append-nil (numbers_from p.0 (p.1 + 1 - p.0)))) (numbers_apart p.0 (p.1 + 1 - p.0))
-points_apart (p ∷ q ∷ ps) good up =
-    let parts = and_parts (span_before p q) (ascends span_before (q ∷ ps)) up in
-    apart_append (numbers_from p.0 (p.1 + 1 - p.0)) (points_of (q ∷ ps)) (numbers_apart p.0 (p.1 + 1 - p.0)) (points_apart (q ∷ ps) good.1 parts.1)
-    (λ x m n. let low = number_between p.0 (p.1 + 1 - p.0) x m in let high = point_after q ps good.1 parts.1 x n in omega (arith, low.1, high, ltb-true p.1 q.0 parts.0, good.0.0))
+pub fields_apart : (ns : List ℕ) → IsGood classes.fields ns → Apart ns
+fields_apart ns good = apart_by (λ m n. m < n) (λ n lt. omega arith) ns (ascending nat_lt (IsNumberFrom 0) _ (λ m n _ lt. ltb-true m n lt) (λ k m n a b. omega arith) ns good.0 good.1)
 
--- ---- fields
+-- The points from the first to the last of a span.
+abbrev span : ℕ × ℕ → List ℕ
+span p = numbers_from p.0 (p.1 + 1 - p.0)
 
-field_after : (n : ℕ) (ns : List ℕ) → ascends nat_lt (n ∷ ns) ≡ true → (m : ℕ) → Member ns m → n < m
-field_after n [] up m h = absurd h
-field_after n (k ∷ ns) up m h =
-    let parts = and_parts (nat_lt n k) (ascends nat_lt (k ∷ ns)) up in
-    let first : n < k = ltb-true n k parts.0 in
-    elim h [ inl e ↦ omega (arith, first, e) | inr later ↦ omega (arith, first, field_after k ns parts.1 m later) ]
+spans_apart : (ps : List (ℕ × ℕ)) → PairsBy (λ p q. (p.1 < q.0) × (q.0 ≤ q.1)) ps → Apart (points_of ps)
+spans_apart [] up = tt
+spans_apart (p ∷ ps) up = apart_append (span p) (points_of ps) (numbers_apart p.0 (p.1 + 1 - p.0)) (spans_apart ps up.1) (λ x m n.
+    let all : points_of ps ≡ flat_map span ps = same_from_clauses points_of (flat_map span) (λ p xs. span p ++ xs) refl (λ p ps. refl) (λ p ps. refl) ps in
+    let later = member_flat span ps x (subst (λ xs. Member xs x) all n) in
+    omega (arith, number_between p.0 (p.1 + 1 - p.0) x m, number_between later.0.0 (later.0.1 + 1 - later.0.0) x later.2, up.0 later.0 later.1))
 
-pub fields_apart : (ns : List ℕ) → ascends nat_lt ns ≡ true → Apart ns
-fields_apart [] up = tt
-fields_apart (n ∷ []) up = (λ m. m, tt)
-fields_apart (n ∷ k ∷ ns) up = (λ m. omega (arith, field_after n (k ∷ ns) up n m), fields_apart (k ∷ ns) (and_parts (nat_lt n k) (ascends nat_lt (k ∷ ns)) up).1)
+pub points_apart : (ps : List (ℕ × ℕ)) → IsGood classes.points ps → Apart (points_of ps)
+points_apart ps good = spans_apart ps (ascending span_before IsSpan _ (λ p q good lt. (ltb-true p.1 q.0 lt, good.0)) (λ p q r a b. (omega arith, b.1)) ps good.0 good.1)
+
+pub member_grid : (points fields : List ℕ) (p : ℕ × ℕ) → Member (grid points fields) p → Member points p.0 × Member fields p.1
+member_grid points fields p m =
+    let at = member_flat (λ x. map (λ f. (x, f)) fields) points p m in
+    let of = member_map (λ f. (at.0, f)) fields p at.2 in
+    subst (λ (p : ℕ × ℕ). Member points p.0 × Member fields p.1) (sym of.2) (at.1, of.1)
 
 pub grid_apart : (points fields : List ℕ) → Apart points → Apart fields → Apart (grid points fields)
 grid_apart points fields p f = apart_flat (λ x. map (λ g. (x, g)) fields) points (λ x m. apart_map (λ g. (x, g)) fields (λ a b e. ap (λ (q : ℕ × ℕ). q.1) e) f)

@@ -1,188 +1,146 @@
 -- Cycles: each node on one is stuck, and the walk from a stuck node ends in one.
-use Rattle.std.proofs.Common.{◌≡◌, ◌≢◌, ℕ, zero, suc, ◌+◌, ◌<◌, ◌==◌, Bool, Bool, true, false, List, [], ◌∷◌, ◌++◌, length, get_or, take, drop, Some, None, ◌↔◌, inl, inr, refl, sym, ap, subst, arith, append_assoc, Contains, AllPairs, slice_get}
-use Rattle.std.specs.List.{list_any, list_all}
-use Rattle.std.proofs.lemmas.Bool.{both_ways, and_cases, false_from_ne_true, cases_Bool, eqb-true, eqb-false, eq-eqb}
-use Rattle.std.proofs.lemmas.List.{append-nil, take-append-drop}
-use Rattle.std.proofs.lemmas.List.Elements.{Contains-get_or, All-contains, All-contains_itself, All-filter, filter_passes}
-use Rattle.std.proofs.lemmas.Option.{slice_get-get_or, slice_get_read}
+use Rattle.std.proofs.Common.{◌≡◌, ◌≢◌, ℕ, zero, suc, ◌+◌, ◌<◌, ◌==◌, Bool, true, false, List, [], ◌∷◌, ◌++◌, length, get_or, take, drop, Some, None, ◌↔◌, inl, inr, refl, sym, ap, subst, arith, append_assoc, append-nil, take-append-drop, AllPairs, slice_get, ◌∙◌, Contains}
+use Rattle.std.specs.List.{list_any}
+use Rattle.std.proofs.lemmas.Bool.{false≢true, both_ways, false_from_ne_true, true_from_ne_false, cases_Bool, eqb-true, eqb-false}
+use Rattle.std.proofs.lemmas.Bool.Decides.{nat_tests}
+use Rattle.std.proofs.lemmas.List.Elements.{Contains-get_or}
+use Rattle.std.proofs.lemmas.Grind.{common_steps}
+use Rattle.std.proofs.lemmas.Map.Views.{any-filter_same}
+use Rattle.std.proofs.lemmas.Option.{gets, slice_get-get_or, same_Some}
 use Rattle.semantics.specs.Points.{is_in}
 use Rattle.semantics.specs.Events.{Node, WaitsOn, IsChain, IsCycle, AreLinked}
 use Rattle.semantics.specs.ReplayOrder.{positions, waits_at, has_event, replay_order, is_stuck, stuck_nodes, stuck_wait, up_to, walk, from_least, cycle_from, shown_cycle}
-use Rattle.log_laws.proofs.Lists.{nothing_in, contains_first, contains_cases, split_at, pairs_from, all_pairs_with_first, all_pairs_with_last, all_pairs_front, few, any_tells, any_from, is_in_decides, one_fails, find_cases, filter_keeps, numbers_within, numbers_listed}
-use Rattle.log_laws.proofs.Rounds.{AreApart, event_at, is_met, ready_is_new, replay, before_met, stuck_unless_listed}
+use Rattle.log_laws.proofs.Members.{Member, contains_of, member_filter, any_at, any_found, is_in_of, member_in, find_any, found_at}
+use Rattle.log_laws.proofs.Apart.{Apart, all_apart, number_within, number_in}
+use Rattle.log_laws.proofs.Lists.{split_at, one_fails, few}
+use Rattle.log_laws.proofs.Rounds.{is_met, not_before_itself, replay, listed}
 
-chain_more : (nodes : List Node) (start : ℕ) (between : List ℕ) (mid end : ℕ) → IsChain nodes start between mid → WaitsOn nodes end mid → IsChain nodes start (between ++ mid ∷ []) end
-chain_more nodes start [] mid end chain waits = (chain, waits)
-chain_more nodes start (next ∷ between) mid end chain waits = (chain.0, chain_more nodes next between mid end chain.1 waits)
+apart_turned : (k : ℕ) (ks : List ℕ) → AllPairs (λ a b. a ≢ b) (k ∷ ks) → AllPairs (λ a b. a ≢ b) (ks ++ k ∷ [])
+apart_turned k ks h x y d lt within e = grind (arith, common_steps, h (suc x) (suc y) d, h zero (suc x) d)
 
--- A cycle may begin at its second node, and so at any.
-turned_by_one : (nodes : List Node) (k : ℕ) (ks : List ℕ) → IsCycle nodes (k ∷ ks) → IsCycle nodes (ks ++ k ∷ [])
-turned_by_one nodes k [] h = h
-turned_by_one nodes k (j ∷ ks) h = (
-  all_pairs_with_last (λ a b. a ≢ b) (j ∷ ks) k (λ x y d lt within. h.0 (suc x) (suc y) d (omega arith) (omega arith)) (λ i g e. (pairs_from (λ a b. a ≢ b) (k ∷ j ∷ ks) h.0).0 i g (sym e)),
-  chain_more nodes j ks k j h.1.1 h.1.0,
-)
+apart_front : (xs ys : List ℕ) → AllPairs (λ a b. a ≢ b) (xs ++ ys) → AllPairs (λ a b. a ≢ b) xs
+apart_front xs ys h i j d lt within = grind (arith, common_steps, h i j d)
 
-turned : (nodes : List Node) (front back : List ℕ) → IsCycle nodes (front ++ back) → IsCycle nodes (back ++ front)
-turned nodes [] back h = subst (IsCycle nodes) (sym (append-nil back)) h
-turned nodes (k ∷ front) back h =
-    let by_one = subst (IsCycle nodes) (append_assoc front back (k ∷ [])) (turned_by_one nodes k (front ++ back) h) in
-    subst (IsCycle nodes) (append_assoc back (k ∷ []) front) (turned nodes front (back ++ k ∷ []) by_one)
+module _ (nodes : List Node) where
+  chain_more : (start : ℕ) (between : List ℕ) (mid end : ℕ) → IsChain nodes start between mid → WaitsOn nodes end mid → IsChain nodes start (between ++ mid ∷ []) end
+  chain_more start [] mid end chain waits = (chain, waits)
+  chain_more start (next ∷ between) mid end chain waits = (chain.0, chain_more next between mid end chain.1 waits)
 
-turned_at : (nodes : List Node) (n : ℕ) (ks : List ℕ) → IsCycle nodes ks → IsCycle nodes (drop n ks ++ take n ks)
-turned_at nodes n ks h = turned nodes (take n ks) (drop n ks) (subst (IsCycle nodes) (sym (take-append-drop n ks)) h)
+  -- A cycle may begin at its second node, and so at any.
+  turned_by_one : (k : ℕ) (ks : List ℕ) → IsCycle nodes (k ∷ ks) → IsCycle nodes (ks ++ k ∷ [])
+  turned_by_one k [] h = h
+  turned_by_one k (j ∷ ks) h = (apart_turned k (j ∷ ks) h.0, chain_more j ks k j h.1.1 h.1.0)
 
-from_least_cycle : (nodes : List Node) (ks : List ℕ) → IsCycle nodes ks → IsCycle nodes (from_least ks)
-from_least_cycle nodes [] h = h
-from_least_cycle nodes (k ∷ ks) h = turned_at nodes _ (k ∷ ks) h
+  turned : (front back : List ℕ) → IsCycle nodes (front ++ back) → IsCycle nodes (back ++ front)
+  turned [] back h = rw (append-nil back) h
+  turned (k ∷ front) back h =
+      let by_one = rw (append_assoc front back (k ∷ [])) at (turned_by_one k (front ++ back) h) in
+      rw (append_assoc back (k ∷ []) front) at (turned front (back ++ k ∷ []) by_one)
 
--- A node on a cycle comes before itself, so no round takes it.
-pub cycle_is_stuck : (nodes : List Node) → AreApart nodes → (ks : List ℕ) → IsCycle nodes ks → (k : ℕ) → Contains ks k → is_stuck nodes k ≡ true
-cycle_is_stuck nodes apart ks cycle k h =
-    let cut = split_at ks k h in
-    let from_k : IsCycle nodes (k ∷ (cut.1 ++ cut.0)) = turned nodes cut.0 (k ∷ cut.1) (subst (IsCycle nodes) cut.2 cycle) in
-    stuck_unless_listed nodes k (λ listed.
-    let order = split_at (replay_order nodes) k listed in
-    ready_is_new nodes order.0 k ((replay nodes).ready order.0 k order.1 order.2) (before_met nodes apart order.0 k order.1 order.2 k (cut.1 ++ cut.0) from_k.1))
+  from_least_cycle : (ks : List ℕ) → IsCycle nodes ks → IsCycle nodes (from_least ks)
+  from_least_cycle [] h = h
+  from_least_cycle (k ∷ ks) h = turned (take _ (k ∷ ks)) (drop _ (k ∷ ks)) (rw take-append-drop h)
 
-record IsStuck (nodes : List Node) (k : ℕ) : Type 0 where
-  within : k < length nodes
-  is : is_stuck nodes k ≡ true
+  pub stuck_in : (k : ℕ) → k < length nodes → is_stuck nodes k ≡ true → Member (stuck_nodes nodes) k
+  stuck_in k lt is = member_in (stuck_nodes nodes) k
+      (any-filter_same (λ j. j == k) (is_stuck nodes) true (λ j e. rw (eqb-true j k e) is) (positions nodes) ∙ is_in_of (positions nodes) k (number_in (length nodes) k lt))
 
-stuck_listed : (nodes : List Node) (k : ℕ) → IsStuck nodes k → Contains (stuck_nodes nodes) k
-stuck_listed nodes k stuck = filter_keeps (is_stuck nodes) (positions nodes) k (numbers_listed (length nodes) k stuck.within) stuck.is
+  stuck_from : (k : ℕ) → Member (stuck_nodes nodes) k → (k < length nodes) × (is_stuck nodes k ≡ true)
+  stuck_from k m = let at = member_filter (is_stuck nodes) (positions nodes) k m in (number_within (length nodes) k at.0, at.1)
 
-stuck_from_listed : (nodes : List Node) (k : ℕ) → Contains (stuck_nodes nodes) k → IsStuck nodes k
-stuck_from_listed nodes k h = record {
-  within = numbers_within (length nodes) k (All-contains (Contains (positions nodes)) (stuck_nodes nodes) k (All-filter (is_stuck nodes) (Contains (positions nodes)) (positions nodes) (All-contains_itself (positions nodes))) h);
-  is = All-contains (λ j. is_stuck nodes j ≡ true) (stuck_nodes nodes) k (filter_passes (is_stuck nodes) (positions nodes)) h;
-}
+  -- Whether a node lists the event of another.
+  abbrev lists : ℕ → ℕ → Bool
+  lists k j = list_any (λ event. has_event nodes event j) (waits_at nodes k)
 
--- A step of the walk: a stuck node that this one waits on.
-record Next (nodes : List Node) (k : ℕ) : Type 0 where
-  node : ℕ
-  is : stuck_wait nodes k ≡ Some node
-  stuck : IsStuck nodes node
-  waits : WaitsOn nodes k node
+  waits_on : (k j event : ℕ) (by on : Node) → slice_get nodes k ≡ Some by → slice_get nodes j ≡ Some on → Contains by.waits event → has_event nodes event j ≡ true → WaitsOn nodes k j
+  waits_on k j event by on by_is on_is waits has =
+      let same : event ≡ on.done = sym (eqb-true on.done event (rw on_is at has)) in
+      record { on = on; by = by; on_is = on_is; by_is = by_is; listed = subst (Contains by.waits) same waits }
 
--- An event of which no node was taken is that of a stuck node.
-stuck_with_event : (nodes : List Node) (event : ℕ) → ((m : Node) × Contains nodes m × (m.done ≡ event)) → is_met nodes (replay_order nodes) event ≡ false → (j : ℕ) × IsStuck nodes j × (has_event nodes event j ≡ true)
-stuck_with_event nodes event (m, (j, within, at), is) unmet =
-    let at_j : slice_get nodes j ≡ Some m = slice_get_read nodes (length nodes) j m refl within (sym at) in
-    let has : has_event nodes event j ≡ true = rw at_j (eq-eqb m.done event is) in
-    let never : Contains (replay_order nodes) j → ⊥ = λ h. both_ways (is_met nodes (replay_order nodes) event) unmet (any_from (has_event nodes event) (replay_order nodes) j h has) in
-    (j, record { within = within; is = stuck_unless_listed nodes j never }, has)
+  -- Each node of a list waits on the one in front of it, and the first on this one.
+  abbrev Trail : ℕ → List ℕ → Type 0
+  Trail k [] = Unit {0}
+  Trail k (w ∷ ws) = WaitsOn nodes w k × Trail w ws
 
--- A stuck node lists an event of which no node was taken.
-unmet_event : (nodes : List Node) (k : ℕ) → IsStuck nodes k → (event : ℕ) × Contains (waits_at nodes k) event × (is_met nodes (replay_order nodes) event ≡ false)
-unmet_event nodes k stuck = elim (and_cases (is_stuck nodes k) (list_all (is_met nodes (replay_order nodes)) (waits_at nodes k)) ((replay nodes).full k stuck.within)) [
-  | inl listed ↦ absurd (both_ways (is_stuck nodes k) listed stuck.is)
-  | inr unmet ↦ one_fails (is_met nodes (replay_order nodes)) (waits_at nodes k) unmet
-]
+  -- Where the walk comes to a node again, the nodes from there on are a first part of those walked, and make a chain.
+  up_to_chain : (k start : ℕ) (ws : List ℕ) (end : ℕ) → Trail start ws → Member ws k → WaitsOn nodes end k → IsChain nodes start (up_to k ws) end × (back : List ℕ) × (ws ≡ up_to k ws ++ back)
+  up_to_chain k start [] end trail m waits = absurd m
+  up_to_chain k start (w ∷ ws) end trail m waits = elim (cases_Bool (w == k)) [
+    | inl here ↦ rw here ((trail.0, rw (eqb-true w k here) waits), ws, refl)
+    | inr not_here ↦ elim m [
+      | inl is ↦ absurd (eqb-false w k not_here (sym is))
+      | inr later ↦ let r = up_to_chain k w ws end trail.1 later waits in rw not_here ((trail.0, r.0), r.1, ap (λ ns. w ∷ ns) r.2)
+    ]
+  ]
 
--- Whether a node lists the event of another.
-abbrev lists : List Node → ℕ → ℕ → Bool
-lists nodes k j = list_any (λ event. has_event nodes event j) (waits_at nodes k)
+  -- The walk so far: stuck nodes, each once.
+  abbrev IsWalk : ℕ → List ℕ → Type 0
+  IsWalk k walked = Apart walked × ((j : ℕ) → Member walked j → Member (stuck_nodes nodes) j) × Trail k walked
 
-next : (nodes : List Node) → AreLinked nodes → (k : ℕ) → IsStuck nodes k → Next nodes k
-next nodes linked k stuck =
-    let none : Node = record { done = 0; waits = [] } in
-    let by : Node = get_or nodes k none in
-    let by_is : slice_get nodes k ≡ Some by = slice_get-get_or nodes k none stuck.within in
-    let waits : waits_at nodes k ≡ by.waits = rw by_is refl in
-    let event = unmet_event nodes k stuck in
-    let listed = subst (λ events. Contains events event.0) waits event.1 in
-    let some = stuck_with_event nodes event.0 (linked.linked by event.0 (Contains-get_or nodes k none stuck.within) listed) event.2 in
-    elim (find_cases (lists nodes k) (stuck_nodes nodes)) [
-      | inl first ↦
-          let one = any_tells (λ e. has_event nodes e first.0) (waits_at nodes k) first.3 in
-          let there = event_at nodes one.0 first.0 one.2 in
-          record { node = first.0; is = first.1; stuck = stuck_from_listed nodes first.0 first.2; waits = record { on = there.0; by = by; on_is = there.1; by_is = by_is; listed = rw (there.2, ← waits) one.1 } }
-      | inr none_is ↦ absurd (both_ways (lists nodes k some.0) (none_is.1 some.0 (stuck_listed nodes some.0 some.1)) (any_from (λ e. has_event nodes e some.0) (waits_at nodes k) event.0 event.1 some.2))
+  closed : (walked : List ℕ) (k : ℕ) → IsWalk k walked → Member walked k → IsCycle nodes (up_to k walked)
+  closed [] k so_far m = absurd m
+  closed (w ∷ ws) k so_far m =
+      let front = up_to_chain k k (w ∷ ws) w so_far.2 m so_far.2.0 in
+      (apart_front (up_to k (w ∷ ws)) front.1 (subst (AllPairs (λ a b. a ≢ b)) front.2 (all_apart (w ∷ ws) so_far.0)), front.0.1)
+
+  none_from : (ks : List ℕ) → (cycle_from nodes ks ≡ None) ↔ ((k : ℕ) → Member ks k → ⊥)
+  none_from [] = (λ e k m. m, λ h. refl)
+  none_from (k ∷ ks) = (λ e. absurd (cc e), λ h. absurd (h k (inl refl)))
+
+  pub none_shown : (shown_cycle nodes ≡ None) ↔ ((k : ℕ) → k < length nodes → is_stuck nodes k ≡ false)
+  unfolding shown_cycle
+  none_shown = (
+    λ e k lt. false_from_ne_true (is_stuck nodes k) (λ stuck. (none_from (stuck_nodes nodes)).0 e k (stuck_in k lt stuck)),
+    λ h. (none_from (stuck_nodes nodes)).1 (λ k m. let at = stuck_from k m in both_ways (is_stuck nodes k) (h k at.0) at.1),
+  )
+
+  module _ (linked : AreLinked nodes) where
+    -- A node on a cycle comes before itself, so no round takes it.
+    pub cycle_is_stuck : (ks : List ℕ) → IsCycle nodes ks → (k : ℕ) → Member ks k → is_stuck nodes k ≡ true
+    cycle_is_stuck ks cycle k m =
+        let cut = split_at ks k m in
+        let from_k : IsCycle nodes (k ∷ (cut.1 ++ cut.0)) = turned cut.0 (k ∷ cut.1) (subst (IsCycle nodes) cut.2 cycle) in
+        true_from_ne_false (is_stuck nodes k) (λ free. not_before_itself (replay nodes).taken linked k (listed nodes k free) (cut.1 ++ cut.0, from_k.1))
+
+    -- A stuck node waits on a stuck node: the next of the walk.
+    next : (k : ℕ) → Member (stuck_nodes nodes) k → (j : ℕ) × (stuck_wait nodes k ≡ Some j) × Member (stuck_nodes nodes) j × WaitsOn nodes k j
+    next k m =
+        let stuck = stuck_from k m in
+        let none : Node = record { done = 0; waits = [] } in
+        let by : Node = get_or nodes k none in
+        let by_is : slice_get nodes k ≡ Some by = slice_get-get_or nodes k none stuck.0 in
+        let waits : (event : ℕ) → Member (waits_at nodes k) event → Contains by.waits event = λ event m. contains_of by.waits event (rw by_is at m) in
+        let unmet = one_fails (is_met nodes (replay_order nodes)) (waits_at nodes k) (rw stuck.1 at ((replay nodes).full k stuck.0)) in
+        let some = linked.linked by unmet.0 (Contains-get_or nodes k none stuck.0) (waits unmet.0 unmet.1) in
+        let j : ℕ = some.1.0 in
+        let has : has_event nodes unmet.0 j ≡ true = grind (arith, nat_tests, gets, some.1.1, some.1.2, some.2) in
+        let j_stuck = true_from_ne_false (is_stuck nodes j) (λ free. false≢true (sym unmet.2 ∙ any_at (has_event nodes unmet.0) (replay_order nodes) j (listed nodes j free) has)) in
+        let listed_there : lists k j ≡ true = any_at (λ event. has_event nodes event j) (waits_at nodes k) unmet.0 unmet.1 has in
+        let first = find_any (lists k) (stuck_nodes nodes) (any_at (lists k) (stuck_nodes nodes) j (stuck_in j some.1.1 j_stuck) listed_there) in
+        let found = found_at (lists k) (stuck_nodes nodes) first.0 first.1 in
+        let one = any_found (λ event. has_event nodes event first.0) (waits_at nodes k) found.1 in
+        let on_is = slice_get-get_or nodes first.0 none (stuck_from first.0 found.0).0 in
+        (first.0, first.1, found.0, waits_on k first.0 one.0 by (get_or nodes first.0 none) by_is on_is (waits one.0 one.1) one.2)
+
+    -- The walk meets no more nodes than there are, so it comes to one again.
+    walk_cycle : (n : ℕ) (walked : List ℕ) (k : ℕ) → IsWalk k walked → Member (stuck_nodes nodes) k → length walked + n ≡ length nodes + 1 → IsCycle nodes (walk nodes n walked k)
+    walk_cycle zero walked k so_far stuck many = absurd (omega (arith, many, few walked (length nodes) so_far.0 (λ j m. (stuck_from j (so_far.1 j m)).0)))
+    walk_cycle (suc n) walked k so_far stuck many = elim (cases_Bool (is_in walked k)) [
+      | inl back ↦ rw back (closed walked k so_far (member_in walked k back))
+      | inr new ↦
+          let step = next k stuck in
+          let apart : Apart (k ∷ walked) = (λ m. both_ways (is_in walked k) new (is_in_of walked k m), so_far.0) in
+          let all_stuck : (j : ℕ) → Member (k ∷ walked) j → Member (stuck_nodes nodes) j = λ j m. elim m [ inl is ↦ rw is stuck | inr before ↦ so_far.1 j before ] in
+          rw (new, step.1) (walk_cycle n (k ∷ walked) step.0 (apart, all_stuck, (step.3, so_far.2)) step.2 (omega (arith, many)))
     ]
 
--- Each node of a list waits on the one in front of it, and the first on this one.
-abbrev Trail : List Node → ℕ → List ℕ → Type 0
-Trail nodes k [] = Unit {0}
-Trail nodes k (w ∷ ws) = WaitsOn nodes w k × Trail nodes w ws
+    pub stuck_cycle : (k : ℕ) → Member (stuck_nodes nodes) k → IsCycle nodes (walk nodes (length nodes + 1) [] k)
+    stuck_cycle k stuck = walk_cycle (length nodes + 1) [] k (tt, λ j m. absurd m, tt) stuck (omega arith)
 
--- Where the walk comes to a node again, the nodes from there on make a chain.
-chain_up_to : (nodes : List Node) (k start : ℕ) (ws : List ℕ) (end : ℕ) → Trail nodes start ws → Contains ws k → WaitsOn nodes end k → IsChain nodes start (up_to k ws) end
-chain_up_to nodes k start [] end trail h waits = absurd (nothing_in k h)
-chain_up_to nodes k start (w ∷ ws) end trail h waits = elim (cases_Bool (w == k)) [
-  | inl here ↦ rw here (trail.0, subst (WaitsOn nodes end) (sym (eqb-true w k here)) waits)
-  | inr not_here ↦ elim (contains_cases w k ws h) [
-    | inl is ↦ absurd (eqb-false w k not_here is)
-    | inr later ↦ rw not_here (trail.0, chain_up_to nodes k w ws end trail.1 later waits)
-  ]
-]
+    shown_from : (ks : List ℕ) → ((k : ℕ) → Member ks k → Member (stuck_nodes nodes) k) → (c : List ℕ) → cycle_from nodes ks ≡ Some c → IsCycle nodes c
+    shown_from [] all c e = absurd (cc e)
+    shown_from (k ∷ ks) all c e = subst (IsCycle nodes) (same_Some _ c e) (from_least_cycle _ (stuck_cycle k (all k (inl refl))))
 
--- They are a first part of the nodes walked.
-up_to_front : (k : ℕ) (ws : List ℕ) → (back : List ℕ) × (ws ≡ up_to k ws ++ back)
-up_to_front k [] = ([], refl)
-up_to_front k (w ∷ ws) = elim (cases_Bool (w == k)) [
-  | inl here ↦ (ws, rw here refl)
-  | inr not_here ↦ let r = up_to_front k ws in (r.0, rw not_here (ap (λ ns. w ∷ ns) r.1))
-]
-
--- The walk so far.
-record IsWalk (nodes : List Node) (walked : List ℕ) (k : ℕ) : Type 0 where
-  apart : AllPairs (λ a b. a ≢ b) walked
-  within : (j : ℕ) → Contains walked j → j < length nodes
-  trail : Trail nodes k walked
-  stuck : IsStuck nodes k
-
-closed : (nodes : List Node) (walked : List ℕ) (k : ℕ) → IsWalk nodes walked k → Contains walked k → IsCycle nodes (up_to k walked)
-closed nodes [] k so_far h = absurd (nothing_in k h)
-closed nodes (w ∷ ws) k so_far h =
-    let front = up_to_front k (w ∷ ws) in (
-      all_pairs_front (λ a b. a ≢ b) (up_to k (w ∷ ws)) front.0 (subst (AllPairs (λ a b. a ≢ b)) front.1 so_far.apart),
-      (chain_up_to nodes k k (w ∷ ws) w so_far.trail h so_far.trail.0).1,
-    )
-
--- The walk meets no more nodes than there are, so it comes to one again.
-walk_cycle : (nodes : List Node) → AreLinked nodes → (n : ℕ) (walked : List ℕ) (k : ℕ) → IsWalk nodes walked k → length walked + n ≡ length nodes + 1 → IsCycle nodes (walk nodes n walked k)
-walk_cycle nodes linked zero walked k so_far many = let bound = few walked (length nodes) so_far.apart so_far.within in absurd (omega arith)
-walk_cycle nodes linked (suc n) walked k so_far many = elim (cases_Bool (is_in walked k)) [
-  | inl back ↦ rw back (closed nodes walked k so_far ((is_in_decides walked k).0 back))
-  | inr new ↦
-      let step = next nodes linked k so_far.stuck in
-      let further : IsWalk nodes (k ∷ walked) step.node = record {
-        apart = all_pairs_with_first (λ a b. a ≢ b) k walked (λ j h e. both_ways (is_in walked k) new ((is_in_decides walked k).1 (subst (Contains walked) (sym e) h))) so_far.apart;
-        within = λ j h. elim (contains_cases k j walked h) [ inl e ↦ subst (λ i. i < length nodes) e so_far.stuck.within | inr g ↦ so_far.within j g ];
-        trail = (step.waits, so_far.trail);
-        stuck = step.stuck;
-      } in
-      rw (new, step.is) (walk_cycle nodes linked n (k ∷ walked) step.node further (omega arith))
-]
-
-pub stuck_cycle : (nodes : List Node) → AreLinked nodes → (k : ℕ) → k < length nodes → is_stuck nodes k ≡ true → IsCycle nodes (walk nodes (length nodes + 1) [] k)
-stuck_cycle nodes linked k within stuck =
-    walk_cycle nodes linked (length nodes + 1) [] k (record { apart = λ i j d lt less. absurd (omega arith); within = λ j h. absurd (nothing_in j h); trail = tt; stuck = record { within = within; is = stuck } }) (omega arith)
-
-first_stuck : (nodes : List Node) (k : ℕ) (ks : List ℕ) → stuck_nodes nodes ≡ k ∷ ks → IsStuck nodes k
-first_stuck nodes k ks is = stuck_from_listed nodes k (subst (λ ns. Contains ns k) (sym is) (contains_first k ks))
-
-shown_from : (nodes : List Node) → AreLinked nodes → (ks : List ℕ) → stuck_nodes nodes ≡ ks → (c : List ℕ) → cycle_from nodes ks ≡ Some c → IsCycle nodes c
-shown_from nodes linked [] is c e = absurd (cc e)
-shown_from nodes linked (k ∷ ks) is c e =
-    let stuck = first_stuck nodes k ks is in
-    let same : from_least (walk nodes (length nodes + 1) [] k) ≡ c = cc e in
-    subst (IsCycle nodes) same (from_least_cycle nodes (walk nodes (length nodes + 1) [] k) (stuck_cycle nodes linked k stuck.within stuck.is))
-
-pub shown_is_cycle : (nodes : List Node) → AreLinked nodes → (c : List ℕ) → shown_cycle nodes ≡ Some c → IsCycle nodes c
-unfolding shown_cycle
-shown_is_cycle nodes linked c e = shown_from nodes linked (stuck_nodes nodes) refl c e
-
-none_from : (nodes : List Node) (ks : List ℕ) → stuck_nodes nodes ≡ ks → (cycle_from nodes ks ≡ None) ↔ ((k : ℕ) → k < length nodes → is_stuck nodes k ≡ false)
-none_from nodes [] is = (
-  λ e k within. false_from_ne_true (is_stuck nodes k) (λ stuck. nothing_in k (subst (λ ns. Contains ns k) is (stuck_listed nodes k (record { within = within; is = stuck })))),
-  λ h. refl,
-)
-none_from nodes (k ∷ ks) is =
-    let stuck = first_stuck nodes k ks is in
-    (λ e. absurd (cc e), λ h. absurd (both_ways (is_stuck nodes k) (h k stuck.within) stuck.is))
-
-pub none_shown : (nodes : List Node) → (shown_cycle nodes ≡ None) ↔ ((k : ℕ) → k < length nodes → is_stuck nodes k ≡ false)
-unfolding shown_cycle
-none_shown nodes = none_from nodes (stuck_nodes nodes) refl
+    pub shown_is_cycle : (c : List ℕ) → shown_cycle nodes ≡ Some c → IsCycle nodes c
+    unfolding shown_cycle
+    shown_is_cycle = shown_from (stuck_nodes nodes) (λ k m. m)

@@ -3,11 +3,9 @@ pub mod Apart
 pub mod Lists
 pub mod Rounds
 pub mod Cycles
-pub mod Swap
 pub mod Reorder
 pub mod Sane
 pub mod Admitted
-pub mod GoodRecords
 pub mod Strict
 pub mod StepLists
 pub mod Tidy

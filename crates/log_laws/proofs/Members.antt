@@ -1,15 +1,14 @@
 -- Members of lists, and tests that find them.
-use Rattle.std.proofs.Common.{◌≡◌, ℕ, zero, suc, ◌⊎◌, inl, inr, Bool, true, false, ◌||◌, ◌==◌, List, [], ◌∷◌, ◌++◌, map, Contains, cond, refl, sym, ap, ◌∙◌, arith, Option, Some, None, subst}
-use Rattle.std.specs.Prelude.{filter, flat_map, find, option_map, slice_get}
+use Rattle.std.proofs.Common.{◌≡◌, ℕ, zero, suc, ◌⊎◌, inl, inr, Bool, true, false, ◌==◌, List, [], ◌∷◌, ◌++◌, map, Contains, refl, sym, ap, ◌∙◌, arith, Option, Some, None, subst, filter, flat_map, find, option_map, slice_get}
 use Rattle.std.specs.Option.{option_or}
 use Rattle.std.specs.List.{list_any, list_all, filter_map, cons_option}
-use Rattle.std.proofs.lemmas.Bool.{and_parts, or_parts, or_cases, cases_Bool, eq-eqb, eqb-true}
-use Rattle.std.proofs.lemmas.List.Folds.{find-append}
+use Rattle.std.proofs.lemmas.Bool.{true≢false, cases_Bool, cond_both, eq-eqb, eqb-true, false_from_ne_true}
+use Rattle.std.proofs.lemmas.List.Concat.{flat_map_single}
+use Rattle.std.proofs.lemmas.List.Elements.{Contains-append_left, Contains-append_right, Contains-append_cases, All-contains, All-filter, All-contains_itself, filter_passes}
+use Rattle.std.proofs.lemmas.List.Folds.{Any-from_list_any, list_any-from_Any, find-append}
+use Rattle.std.proofs.lemmas.List.Recursion.{and_at}
+use Rattle.std.proofs.lemmas.Option.{same_Some, slice_get_within, get_or_from_slice_get}
 use Rattle.semantics.specs.Points.{is_in, meets}
-
-or_true : (b : Bool) → (b || true) ≡ true
-or_true true = refl
-or_true false = refl
 
 abbrev pub Member : {X : Type 0} → List X → X → Type 0
 Member [] x = ⊥
@@ -26,9 +25,15 @@ contains_of (y ∷ ys) x (inl e) = (0, omega arith, sym e)
 contains_of (y ∷ ys) x (inr m) = let c = contains_of ys x m in (suc c.0, omega (arith, c.1), c.2)
 
 pub member_at : {X : Type 0} (xs : List X) (k : ℕ) (x : X) → slice_get xs k ≡ Some x → Member xs x
-member_at [] k x e = absurd cc
-member_at (y ∷ ys) zero x e = inl (sym (let same : y ≡ x = cc in same))
-member_at (y ∷ ys) (suc k) x e = inr (member_at ys k x e)
+member_at xs k x e = member_of xs x (k, slice_get_within xs k x e, get_or_from_slice_get xs k x x e)
+
+pub only : {X : Type 0} {x y : X} → Member (x ∷ []) y → y ≡ x
+only (inl is) = is
+only (inr none) = absurd none
+
+-- What holds of each member.
+abbrev pub Each : {X : Type 0} → (X → Type 0) → List X → Type 0
+Each {X} P xs = (x : X) → Member xs x → P x
 
 -- ---- options
 
@@ -47,23 +52,16 @@ unmapped_none f (Some a) e = absurd cc
 -- ---- joined, mapped and filtered lists
 
 pub member_left : {X : Type 0} (xs ys : List X) (x : X) → Member xs x → Member (xs ++ ys) x
-member_left [] ys x m = absurd m
-member_left (z ∷ xs) ys x (inl e) = inl e
-member_left (z ∷ xs) ys x (inr m) = inr (member_left xs ys x m)
+member_left xs ys x m = member_of (xs ++ ys) x (Contains-append_left xs ys x (contains_of xs x m))
 
 pub member_right : {X : Type 0} (xs ys : List X) (x : X) → Member ys x → Member (xs ++ ys) x
-member_right [] ys x m = m
-member_right (z ∷ xs) ys x m = inr (member_right xs ys x m)
+member_right xs ys x m = member_of (xs ++ ys) x (Contains-append_right xs ys x (contains_of ys x m))
 
 pub member_append : {X : Type 0} (xs ys : List X) (x : X) → Member (xs ++ ys) x → Member xs x ⊎ Member ys x
-member_append [] ys x m = inr m
-member_append (z ∷ xs) ys x (inl e) = inl (inl e)
-member_append (z ∷ xs) ys x (inr m) = elim (member_append xs ys x m) [ inl l ↦ inl (inr l) | inr r ↦ inr r ]
+member_append xs ys x m = elim (Contains-append_cases xs ys x (contains_of (xs ++ ys) x m)) [ inl l ↦ inl (member_of xs x l) | inr r ↦ inr (member_of ys x r) ]
 
-pub member_map : {X Y : Type 0} (f : X → Y) (xs : List X) (y : Y) → Member (map f xs) y → (x : X) × Member xs x × (y ≡ f x)
-member_map f [] y m = absurd m
-member_map f (x ∷ xs) y (inl e) = (x, inl refl, e)
-member_map f (x ∷ xs) y (inr m) = let r = member_map f xs y m in (r.0, inr r.1, r.2)
+pub each_more : {X : Type 0} (P : X → Type 0) (xs : List X) (y : X) → Each P xs → P y → Each P (xs ++ y ∷ [])
+each_more P xs y h new x m = elim (member_append xs (y ∷ []) x m) [ inl old ↦ h x old | inr last ↦ subst P (sym (only last)) new ]
 
 pub member_flat : {X Y : Type 0} (f : X → List Y) (xs : List X) (y : Y) → Member (flat_map f xs) y → (x : X) × Member xs x × Member (f x) y
 member_flat f [] y m = absurd m
@@ -72,67 +70,49 @@ member_flat f (x ∷ xs) y m = elim (member_append (f x) (flat_map f xs) y m) [
   | inr r ↦ let rest = member_flat f xs y r in (rest.0, inr rest.1, rest.2)
 ]
 
-pub map_member : {X Y : Type 0} (f : X → Y) (xs : List X) (x : X) → Member xs x → Member (map f xs) (f x)
-map_member f [] x m = absurd m
-map_member f (y ∷ ys) x (inl e) = inl (ap f e)
-map_member f (y ∷ ys) x (inr m) = inr (map_member f ys x m)
-
 pub flat_member : {X Y : Type 0} (f : X → List Y) (xs : List X) (x : X) (y : Y) → Member xs x → Member (f x) y → Member (flat_map f xs) y
 flat_member f [] x y m n = absurd m
 flat_member f (z ∷ xs) x y (inl e) n = member_left (f z) (flat_map f xs) y (subst (λ w. Member (f w) y) e n)
 flat_member f (z ∷ xs) x y (inr m) n = member_right (f z) (flat_map f xs) y (flat_member f xs x y m n)
 
+pub member_map : {X Y : Type 0} (f : X → Y) (xs : List X) (y : Y) → Member (map f xs) y → (x : X) × Member xs x × (y ≡ f x)
+member_map f xs y m = let r = member_flat (λ x. f x ∷ []) xs y (subst (λ ys. Member ys y) (sym (flat_map_single f xs)) m) in (r.0, r.1, only r.2)
+
+pub map_member : {X Y : Type 0} (f : X → Y) (xs : List X) (x : X) → Member xs x → Member (map f xs) (f x)
+map_member f xs x m = subst (λ ys. Member ys (f x)) (flat_map_single f xs) (flat_member (λ x. f x ∷ []) xs x (f x) m (inl refl))
+
 pub member_filter_map : {X Y : Type 0} (f : X → Option Y) (xs : List X) (y : Y) → Member (filter_map f xs) y → (x : X) × Member xs x × (f x ≡ Some y)
 member_filter_map f [] y m = absurd m
-member_filter_map f (x ∷ xs) y m = elim (none_or_some (f x)) [
-  | inl none ↦ let r = member_filter_map f xs y (subst (λ o. Member (cons_option o (filter_map f xs)) y) none m) in (r.0, inr r.1, r.2)
-  | inr some ↦ elim (subst (λ o. Member (cons_option o (filter_map f xs)) y) some.1 m) [
-    | inl is ↦ (x, inl refl, some.1 ∙ ap (λ z. Some z) (sym is))
-    | inr later ↦ let r = member_filter_map f xs y later in (r.0, inr r.1, r.2)
-  ]
-]
+member_filter_map f (x ∷ xs) y m = elim (first_or_later (f x) (filter_map f xs) m) [ inl is ↦ (x, inl refl, is) | inr later ↦ let r = member_filter_map f xs y later in (r.0, inr r.1, r.2) ]
+  where
+    first_or_later : {Y : Type 0} {y : Y} (o : Option Y) (ys : List Y) → Member (cons_option o ys) y → (o ≡ Some y) ⊎ Member ys y
+    first_or_later None ys m = inr m
+    first_or_later (Some z) ys (inl is) = inl (ap (λ y. Some y) (sym is))
+    first_or_later (Some z) ys (inr m) = inr m
 
 pub filter_map_member : {X Y : Type 0} (f : X → Option Y) (xs : List X) (x : X) (y : Y) → Member xs x → f x ≡ Some y → Member (filter_map f xs) y
 filter_map_member f [] x y m e = absurd m
-filter_map_member f (z ∷ xs) x y (inl is) e = subst (λ o. Member (cons_option o (filter_map f xs)) y) (sym (ap f (sym is) ∙ e)) (inl refl)
-filter_map_member f (z ∷ xs) x y (inr m) e = elim (none_or_some (f z)) [
-  | inl none ↦ subst (λ o. Member (cons_option o (filter_map f xs)) y) (sym none) (filter_map_member f xs x y m e)
-  | inr some ↦ subst (λ o. Member (cons_option o (filter_map f xs)) y) (sym some.1) (inr (filter_map_member f xs x y m e))
-]
+filter_map_member f (z ∷ xs) x y (inl is) e = rw (ap f (sym is) ∙ e) (inl refl)
+filter_map_member f (z ∷ xs) x y (inr m) e = elim (none_or_some (f z)) [ inl none ↦ rw none (filter_map_member f xs x y m e) | inr some ↦ rw some.1 (inr (filter_map_member f xs x y m e)) ]
 
 pub member_filter : {X : Type 0} (p : X → Bool) (xs : List X) (x : X) → Member (filter p xs) x → Member xs x × (p x ≡ true)
-member_filter p [] x m = absurd m
-member_filter p (y ∷ ys) x m = elim (cases_Bool (p y)) [
-  | inl e ↦ elim (subst (λ b. Member (cond b (y ∷ filter p ys) (filter p ys)) x) e m) [
-    | inl is ↦ (inl is, ap p is ∙ e)
-    | inr later ↦ let r = member_filter p ys x later in (inr r.0, r.1)
-  ]
-  | inr e ↦ let r = member_filter p ys x (subst (λ b. Member (cond b (y ∷ filter p ys) (filter p ys)) x) e m) in (inr r.0, r.1)
-]
+member_filter p xs x m =
+    let c = contains_of (filter p xs) x m in
+    (member_of xs x (All-contains (Contains xs) (filter p xs) x (All-filter p (Contains xs) xs (All-contains_itself xs)) c), All-contains (λ x. p x ≡ true) (filter p xs) x (filter_passes p xs) c)
 
 -- ---- tests
 
 pub any_at : {X : Type 0} (p : X → Bool) (xs : List X) (x : X) → Member xs x → p x ≡ true → list_any p xs ≡ true
-any_at p [] x m e = absurd m
-any_at p (y ∷ ys) x (inl is) e = rw (sym is, e) refl
-any_at p (y ∷ ys) x (inr m) e = rw (any_at p ys x m e) (or_true (p y))
+any_at p xs x m e = let c = contains_of xs x m in list_any-from_Any p xs (c.0, x, c.1, c.2, e)
 
 pub none_at : {X : Type 0} (p : X → Bool) (xs : List X) (x : X) → list_any p xs ≡ false → Member xs x → p x ≡ false
-none_at p [] x e m = absurd m
-none_at p (y ∷ ys) x e (inl is) = ap p is ∙ (or_parts (p y) (list_any p ys) e).0
-none_at p (y ∷ ys) x e (inr m) = none_at p ys x (or_parts (p y) (list_any p ys) e).1 m
+none_at p xs x e m = false_from_ne_true (p x) (λ is. true≢false (sym (any_at p xs x m is) ∙ e))
 
 pub any_found : {X : Type 0} (p : X → Bool) (xs : List X) → list_any p xs ≡ true → (x : X) × Member xs x × (p x ≡ true)
-any_found p [] e = absurd cc
-any_found p (y ∷ ys) e = elim (or_cases (p y) (list_any p ys) e) [
-  | inl here ↦ (y, inl refl, here)
-  | inr later ↦ let r = any_found p ys later in (r.0, inr r.1, r.2)
-]
+any_found p xs e = let a = Any-from_list_any p xs e in (a.1, member_of xs a.1 (a.0, a.2, a.3), a.4)
 
 pub all_at : {X : Type 0} (p : X → Bool) (xs : List X) (x : X) → list_all p xs ≡ true → Member xs x → p x ≡ true
-all_at p [] x e m = absurd m
-all_at p (y ∷ ys) x e (inl is) = ap p is ∙ (and_parts (p y) (list_all p ys) e).0
-all_at p (y ∷ ys) x e (inr m) = all_at p ys x (and_parts (p y) (list_all p ys) e).1 m
+all_at p xs x e m = let c = contains_of xs x m in ap p (sym c.2) ∙ and_at (list_all p) p refl (λ x xs. refl) xs c.0 x c.1 e
 
 pub is_in_of : (ns : List ℕ) (n : ℕ) → Member ns n → is_in ns n ≡ true
 is_in_of ns n m = any_at (λ k. k == n) ns n m (eq-eqb n n refl)
@@ -145,21 +125,14 @@ meets_of ns ms n a b = any_at (is_in ms) ns n a (is_in_of ms n b)
 
 -- What is found is a member that passes the test, and where there is one it is found.
 pub found_at : {X : Type 0} (p : X → Bool) (xs : List X) (x : X) → find p xs ≡ Some x → Member xs x × (p x ≡ true)
-found_at p [] x e = absurd cc
-found_at p (y ∷ ys) x e = elim (cases_Bool (p y)) [
-  | inl passes ↦
-      let same : ◌≡◌ {A = Option _} (Some y) (Some x) = subst (λ b. cond b (Some y) (find p ys) ≡ Some x) passes e in
-      let is : y ≡ x = cc in
-      (inl (sym is), ap p (sym is) ∙ passes)
-  | inr fails ↦ let r = found_at p ys x (subst (λ b. cond b (Some y) (find p ys) ≡ Some x) fails e) in (inr r.0, r.1)
-]
+found_at p [] x = λ e. absurd cc
+found_at p (y ∷ ys) x = cond_both (p y) (Some y) (find p ys) (λ o. o ≡ Some x → Member (y ∷ ys) x × (p x ≡ true))
+    (λ passes e. let is = same_Some y x e in (inl (sym is), ap p (sym is) ∙ passes))
+    (λ fails e. let r = found_at p ys x e in (inr r.0, r.1))
 
 pub find_any : {X : Type 0} (p : X → Bool) (xs : List X) → list_any p xs ≡ true → (x : X) × (find p xs ≡ Some x)
 find_any p [] e = absurd cc
-find_any p (y ∷ ys) e = elim (cases_Bool (p y)) [
-  | inl passes ↦ (y, rw passes refl)
-  | inr fails ↦ let r = find_any p ys (subst (λ b. (b || list_any p ys) ≡ true) fails e) in (r.0, ap (λ b. cond b (Some y) (find p ys)) fails ∙ r.1)
-]
+find_any p (y ∷ ys) e = elim (cases_Bool (p y)) [ inl passes ↦ (y, rw passes refl) | inr fails ↦ rw fails (find_any p ys (rw fails at e)) ]
 
 -- What is found in a list is found in a longer one.
 pub find_still : {X : Type 0} (p : X → Bool) (xs ys : List X) (x : X) → find p xs ≡ Some x → find p (xs ++ ys) ≡ Some x
@@ -167,8 +140,4 @@ find_still p xs ys x e = find-append p xs ys ∙ rw e refl
 
 -- Where nothing is found, no member passes the test.
 pub none_found : {X : Type 0} (p : X → Bool) (xs : List X) (x : X) → find p xs ≡ None → Member xs x → p x ≡ false
-none_found p [] x e m = absurd m
-none_found p (y ∷ ys) x e m = elim (cases_Bool (p y)) [
-  | inl passes ↦ let bad : Some y ≡ None = subst (λ b. cond b (Some y) (find p ys) ≡ None) passes e in absurd cc
-  | inr fails ↦ elim m [ inl is ↦ ap p is ∙ fails | inr later ↦ none_found p ys x (subst (λ b. cond b (Some y) (find p ys) ≡ None) fails e) later ]
-]
+none_found p xs x e m = false_from_ne_true (p x) (λ is. let bad = sym e ∙ (find_any p xs (any_at p xs x m is)).1 in absurd cc)

@@ -1,154 +1,106 @@
 -- The rounds in which nodes are taken, and the replay order.
-use Rattle.std.proofs.Common.{◌≡◌, ◌≢◌, ℕ, zero, suc, ◌<◌, ◌==◌, Bool, true, false, not, List, [], ◌∷◌, ◌++◌, length, Option, Some, None, ◌↔◌, ◌⊎◌, inl, inr, refl, sym, ap, subst, ◌∙◌, arith, append_assoc, Contains, AllPairs, slice_get}
-use Rattle.std.specs.List.{find, list_any, list_all}
-use Rattle.std.specs.Option.{option_map, unwrap_or}
-use Rattle.std.proofs.lemmas.Bool.{false≢true, both_ways, not-true, not-false, not_from_false, and_parts, false_from_ne_true, eqb-true, cases_order}
-use Rattle.std.proofs.lemmas.List.{append-nil}
-use Rattle.std.proofs.lemmas.List.Elements.{Contains-append_left}
-use Rattle.std.proofs.lemmas.Option.{slice_get_within, get_or_from_slice_get}
+use Rattle.std.proofs.Common.{find, Bool, ◌==◌, ◌≡◌, ◌≢◌, ℕ, zero, suc, ◌+◌, ◌<◌, ◌≤◌, true, false, List, [], ◌∷◌, ◌++◌, length, get_or, take, Some, ◌↔◌, inl, inr, refl, subst, arith, Contains, AllPairs, slice_get}
+use Rattle.std.specs.List.{list_any, list_all}
+use Rattle.std.proofs.lemmas.Bool.{not-false, false_from_ne_true}
+use Rattle.std.proofs.lemmas.Bool.Decides.{nat_tests}
+use Rattle.std.proofs.lemmas.Grind.{common_steps}
+use Rattle.std.proofs.lemmas.List.{get_or_at, get_or_default, length-append, length-take-le, length_push}
+use Rattle.std.proofs.lemmas.List.Folds.{Any-from_list_any, list_any_at}
+use Rattle.std.proofs.lemmas.Option.{gets, slice_get_cases}
 use Rattle.semantics.specs.Points.{is_in}
-use Rattle.semantics.specs.Events.{Node, WaitsOn, IsChain}
+use Rattle.semantics.specs.Events.{Node, WaitsOn, IsChain, Before, AreLinked}
 use Rattle.semantics.specs.ReplayOrder.{positions, waits_at, has_event, is_ready, after_rounds, replay_order, is_stuck}
-use Rattle.log_laws.proofs.Lists.{nothing_in, contains_cases, split_at, all_pairs_with_last, fewer, any_tells, is_in_decides, all_pass, find_cases, numbers_within, numbers_listed}
-
--- The nodes' events are all different.
-abbrev pub AreApart : List Node → Type 0
-AreApart nodes = AllPairs (λ (m : Node) n. m.done ≢ n.done) nodes
-
--- A position whose event is this one has a node.
-pub event_at : (nodes : List Node) (event k : ℕ) → has_event nodes event k ≡ true → (m : Node) × (slice_get nodes k ≡ Some m) × (m.done ≡ event)
-event_at nodes event k h = by_node (slice_get nodes k) refl h where
-  by_node : (found : Option Node) → slice_get nodes k ≡ found → unwrap_or (option_map (λ e. e == event) (option_map (λ (n : Node). n.done) found)) false ≡ true → (m : Node) × (slice_get nodes k ≡ Some m) × (m.done ≡ event)
-  by_node None is h = absurd (false≢true h)
-  by_node (Some m) is h = (m, is, eqb-true m.done event h)
-
-apart_at : (nodes : List Node) → AreApart nodes → (i j : ℕ) (m n : Node) → i < j → slice_get nodes i ≡ Some m → slice_get nodes j ≡ Some n → m.done ≢ n.done
-apart_at nodes apart i j m n lt at_i at_j = rw (get_or_from_slice_get nodes i m m at_i, get_or_from_slice_get nodes j n m at_j) at (apart i j m lt (slice_get_within nodes j n at_j))
+use Rattle.log_laws.proofs.Members.{Member, member_of, contains_of, none_or_some, all_at, is_in_of, member_in, found_at, none_found}
+use Rattle.log_laws.proofs.Apart.{apart_from, number_within, number_in}
+use Rattle.log_laws.proofs.Lists.{few}
 
 -- No event is at two positions.
-one_place : (nodes : List Node) → AreApart nodes → (i j : ℕ) (m n : Node) → slice_get nodes i ≡ Some m → slice_get nodes j ≡ Some n → m.done ≡ n.done → i ≡ j
-one_place nodes apart i j m n at_i at_j same = elim (cases_order i j) [
-  | inl is ↦ is
-  | inr (inl lt) ↦ absurd (apart_at nodes apart i j m n lt at_i at_j same)
-  | inr (inr lt) ↦ absurd (apart_at nodes apart j i n m lt at_j at_i (sym same))
-]
+one_place : (nodes : List Node) → AreLinked nodes → (i j : ℕ) (n : Node) → has_event nodes n.done i ≡ true → slice_get nodes j ≡ Some n → i ≡ j
+one_place nodes linked i j n has at = grind (arith, nat_tests, gets, slice_get_cases nodes i, linked.apart i j n, linked.apart j i n)
 
 -- Whether a node with this event was taken.
 abbrev pub is_met : List Node → List ℕ → ℕ → Bool
 is_met nodes taken event = list_any (has_event nodes event) taken
 
--- A node that may be taken was not taken yet.
-pub ready_is_new : (nodes : List Node) (taken : List ℕ) (k : ℕ) → is_ready nodes taken k ≡ true → Contains taken k → ⊥
-ready_is_new nodes taken k ready h =
-    let new = (and_parts (not (is_in taken k)) (list_all (is_met nodes taken) (waits_at nodes k)) ready).0 in
-    both_ways (is_in taken k) (not-true (is_in taken k) new) ((is_in_decides taken k).1 h)
+-- Nodes that are taken one after the other.
+pub record AreTaken (nodes : List Node) (ks : List ℕ) : Type 0 where
+  pub at : (i d : ℕ) → i < length ks → (get_or ks i d < length nodes) × (is_ready nodes (take i ks) (get_or ks i d) ≡ true)
 
--- What it waits on was taken.
-waits_were_taken : (nodes : List Node) → AreApart nodes → (taken : List ℕ) (k j : ℕ) → is_ready nodes taken k ≡ true → WaitsOn nodes k j → Contains taken j
-waits_were_taken nodes apart taken k j ready w =
-    let met = (and_parts (not (is_in taken k)) (list_all (is_met nodes taken) (waits_at nodes k)) ready).1 in
-    let listed : Contains (waits_at nodes k) w.on.done = rw w.by_is w.listed in
-    let found = any_tells (has_event nodes w.on.done) taken (all_pass (is_met nodes taken) (waits_at nodes k) w.on.done met listed) in
-    let there = event_at nodes w.on.done found.0 found.2 in
-    subst (Contains taken) (one_place nodes apart found.0 j there.0 w.on there.1 w.on_is there.2) found.1
+taken_more : (nodes : List Node) (ks : List ℕ) (k : ℕ) → AreTaken nodes ks → k < length nodes → is_ready nodes ks k ≡ true → AreTaken nodes (ks ++ k ∷ [])
+taken_more nodes ks k h within ready = record { at = λ i d lt. grind (arith, common_steps, h.at i d) }
 
--- Nodes that are taken one after the other, behind those taken before.
-abbrev AreTaken : List Node → List ℕ → List ℕ → Type 0
-AreTaken nodes taken [] = Unit {0}
-AreTaken nodes taken (k ∷ ks) = (k < length nodes) × (is_ready nodes taken k ≡ true) × AreTaken nodes (taken ++ k ∷ []) ks
+module _ {nodes : List Node} {ks : List ℕ} (h : AreTaken nodes ks) where
+  -- No node is taken twice.
+  pub once : AllPairs (λ a b. a ≢ b) ks
+  once i j d lt within e = grind (arith, common_steps, nat_tests, h.at j d within, list_any_at (λ m. m == get_or ks j d) (take j ks) i d, length-take-le j ks)
 
--- No node is taken twice.
-apart_taken : (nodes : List Node) (taken ks : List ℕ) → AreTaken nodes taken ks → AllPairs (λ a b. a ≢ b) taken → AllPairs (λ a b. a ≢ b) (taken ++ ks)
-apart_taken nodes taken [] h apart = subst (AllPairs (λ a b. a ≢ b)) (sym (append-nil taken)) apart
-apart_taken nodes taken (k ∷ ks) h apart =
-    let more = all_pairs_with_last (λ a b. a ≢ b) taken k apart (λ j g e. ready_is_new nodes taken k h.1 (subst (Contains taken) e g)) in
-    subst (AllPairs (λ a b. a ≢ b)) (append_assoc taken (k ∷ []) ks) (apart_taken nodes (taken ++ k ∷ []) ks h.2 more)
+  pub taken_within : (k : ℕ) → Member ks k → k < length nodes
+  taken_within k m = let at = contains_of ks k m in subst (λ j. j < length nodes) at.2 (h.at at.0 k at.1).0
 
-taken_within : (nodes : List Node) (taken ks : List ℕ) → AreTaken nodes taken ks → (k : ℕ) → Contains ks k → k < length nodes
-taken_within nodes taken [] h k g = absurd (nothing_in k g)
-taken_within nodes taken (j ∷ ks) h k g = elim (contains_cases j k ks g) [
-  | inl is ↦ subst (λ i. i < length nodes) is h.0
-  | inr later ↦ taken_within nodes (taken ++ j ∷ []) ks h.2 k later
-]
+  no_more : length ks ≤ length nodes
+  no_more = few ks (length nodes) (apart_from ks once) taken_within
 
--- Each node could be taken behind those in front of it.
-ready_at : (nodes : List Node) (taken front : List ℕ) (k : ℕ) (back : List ℕ) → AreTaken nodes taken (front ++ k ∷ back) → is_ready nodes (taken ++ front) k ≡ true
-ready_at nodes taken [] k back h = subst (λ ks. is_ready nodes ks k ≡ true) (sym (append-nil taken)) h.1
-ready_at nodes taken (j ∷ front) k back h = subst (λ ks. is_ready nodes ks k ≡ true) (append_assoc taken (j ∷ []) front) (ready_at nodes (taken ++ j ∷ []) front k back h.2)
+  module _ (linked : AreLinked nodes) where
+    -- What comes before a node stands in front of it.
+    waits_before : (i d j : ℕ) → i < length ks → WaitsOn nodes (get_or ks i d) j → (n : ℕ) × (n < i) × (get_or ks n j ≡ j)
+    waits_before i d j lt w =
+        let all_met : list_all (is_met nodes (take i ks)) (waits_at nodes (get_or ks i d)) ≡ true = grind (arith, h.at i d lt) in
+        let met = all_at (is_met nodes (take i ks)) (waits_at nodes (get_or ks i d)) w.on.done all_met (rw w.by_is (member_of w.by.waits w.on.done w.listed)) in
+        let found = Any-from_list_any (has_event nodes w.on.done) (take i ks) met in
+        let same : found.1 ≡ j = one_place nodes linked found.1 j w.on found.4 w.on_is in
+        (found.0, omega (arith, found.2, length-take-le i ks), grind (arith, common_steps, found.2, found.3, same, get_or_default (take i ks) found.0 j found.1))
 
--- Where no node may be taken, none is.
-idle : (nodes : List Node) (n : ℕ) (taken : List ℕ) → find (is_ready nodes taken) (positions nodes) ≡ None → after_rounds nodes n taken ≡ taken
-idle nodes zero taken h = refl
-idle nodes (suc n) taken h = rw h (idle nodes n taken h)
+    stands_before : (i d j : ℕ) → i < length ks → (between : List ℕ) → IsChain nodes j between (get_or ks i d) → (n : ℕ) × (n < i) × (get_or ks n j ≡ j)
+    stands_before i d j lt [] waits = waits_before i d j lt waits
+    stands_before i d j lt (m ∷ between) chain =
+        let next = stands_before i d m lt between chain.1 in
+        let first = waits_before next.0 m j (omega arith) (rw next.2 chain.0) in
+        (first.0, omega arith, first.2)
 
--- What so many rounds add: a node each, or else all that may be taken.
-record Rounds (nodes : List Node) (n : ℕ) (taken : List ℕ) : Type 0 where
-  added : List ℕ
-  is : after_rounds nodes n taken ≡ taken ++ added
-  good : AreTaken nodes taken added
-  full : (length added ≡ n) ⊎ ((k : ℕ) → k < length nodes → is_ready nodes (taken ++ added) k ≡ false)
+    pub in_turn : (i j d : ℕ) → i ≤ j → j < length ks → Before nodes (get_or ks j d) (get_or ks i d) → ⊥
+    in_turn i j d le lt before =
+        let at = stands_before i d (get_or ks j d) (omega arith) before.0 before.1 in
+        once at.0 j d (omega arith) lt (grind (arith, get_or_default ks at.0 d (get_or ks j d), at.2))
 
-rounds : (nodes : List Node) (n : ℕ) (taken : List ℕ) → Rounds nodes n taken
-rounds nodes zero taken = record { added = []; is = sym (append-nil taken); good = tt; full = inl refl }
-rounds nodes (suc n) taken = elim (find_cases (is_ready nodes taken) (positions nodes)) [
-  | inl r ↦
-      let rest = rounds nodes n (taken ++ r.0 ∷ []) in
-      let joined : (taken ++ r.0 ∷ []) ++ rest.added ≡ taken ++ r.0 ∷ rest.added = append_assoc taken (r.0 ∷ []) rest.added in
-      record {
-        added = r.0 ∷ rest.added;
-        is = rw r.1 (rest.is ∙ joined);
-        good = (numbers_within (length nodes) r.0 r.2, r.3, rest.good);
-        full = elim rest.full [ inl e ↦ inl (ap suc e) | inr f ↦ inr (λ k within. subst (λ ks. is_ready nodes ks k ≡ false) joined (f k within)) ];
-      }
-  | inr r ↦ record {
-    added = [];
-    is = rw r.0 (idle nodes n taken r.0) ∙ sym (append-nil taken);
-    good = tt;
-    full = inr (λ k within. subst (λ ks. is_ready nodes ks k ≡ false) (sym (append-nil taken)) (r.1 k (numbers_listed (length nodes) k within)));
-  }
-]
+    pub not_before_itself : (k : ℕ) → Member ks k → Before nodes k k → ⊥
+    not_before_itself k m before = let at = contains_of ks k m in in_turn at.0 at.0 k (omega arith) at.1 (rw at.2 before)
 
 -- What the proofs know of the replay order.
 pub record IsReplay (nodes : List Node) (ks : List ℕ) : Type 0 where
-  pub once : AllPairs (λ a b. a ≢ b) ks
-  pub within : (k : ℕ) → Contains ks k → k < length nodes
-  pub ready : (front : List ℕ) (k : ℕ) (back : List ℕ) → ks ≡ front ++ k ∷ back → is_ready nodes front k ≡ true
+  pub taken : AreTaken nodes ks
   pub full : (k : ℕ) → k < length nodes → is_ready nodes ks k ≡ false
+
+-- Each round takes a node that may be taken. So many rounds more leave none, where there is room for no more than so many.
+rounds : (nodes : List Node) (n : ℕ) (ks : List ℕ) → AreTaken nodes ks → ((k : ℕ) → k < length nodes → is_ready nodes ks k ≡ true → length nodes ≤ length ks + n) → IsReplay nodes (after_rounds nodes n ks)
+rounds nodes zero ks h room = record {
+  taken = h;
+  full = λ k lt. false_from_ne_true (is_ready nodes ks k) (λ ready. omega (arith, room k lt ready, length_push ks k, no_more (taken_more nodes ks k h lt ready)));
+}
+rounds nodes (suc n) ks h room = elim (none_or_some (find (is_ready nodes ks) (positions nodes))) [
+  | inl none ↦ rw none (rounds nodes n ks h (λ k lt ready. grind (arith, none_found (is_ready nodes ks) (positions nodes) k none (number_in (length nodes) k lt))))
+  | inr some ↦
+      let found = found_at (is_ready nodes ks) (positions nodes) some.0 some.1 in
+      let lt : some.0 < length nodes = number_within (length nodes) some.0 found.0 in
+      rw some.1 (rounds nodes n (ks ++ some.0 ∷ []) (taken_more nodes ks some.0 h lt found.1) (λ k _ _. omega (arith, room some.0 lt found.1, length_push ks some.0)))
+]
 
 pub replay : (nodes : List Node) → IsReplay nodes (replay_order nodes)
 unfolding replay_order
-replay nodes =
-    let r = rounds nodes (length nodes) [] in
-    let once : AllPairs (λ a b. a ≢ b) r.added = apart_taken nodes [] r.added r.good (λ i j d lt within. absurd (omega arith)) in
-    let within : (k : ℕ) → Contains r.added k → k < length nodes = taken_within nodes [] r.added r.good in
-    subst (IsReplay nodes) (sym r.is) (record {
-      once = once;
-      within = within;
-      ready = λ front k back e. ready_at nodes [] front k back (subst (AreTaken nodes []) e r.good);
-      full = λ k lt. elim r.full [
-        | inl all ↦ false_from_ne_true (is_ready nodes r.added k) (λ ready. let many = fewer r.added (length nodes) k once within lt (ready_is_new nodes r.added k ready) in omega arith)
-        | inr none ↦ none k lt
-      ];
-    })
+replay nodes = rounds nodes (length nodes) [] (record { at = λ i d lt. absurd (omega arith) }) (λ k lt ready. omega arith)
 
--- What comes before a node stands in front of it.
-pub before_met : (nodes : List Node) → AreApart nodes → (front : List ℕ) (k : ℕ) (back : List ℕ) → replay_order nodes ≡ front ++ k ∷ back → (j : ℕ) (between : List ℕ) → IsChain nodes j between k → Contains front j
-before_met nodes apart front k back is j [] waits = waits_were_taken nodes apart front k j ((replay nodes).ready front k back is) waits
-before_met nodes apart front k back is j (m ∷ between) chain =
-    let cut = split_at front m (before_met nodes apart front k back is m between chain.1) in
-    let is_too : replay_order nodes ≡ cut.0 ++ m ∷ (cut.1 ++ k ∷ back) = is ∙ ap (λ ks. ks ++ k ∷ back) cut.2 ∙ append_assoc cut.0 (m ∷ cut.1) (k ∷ back) in
-    let met = waits_were_taken nodes apart cut.0 m j ((replay nodes).ready cut.0 m (cut.1 ++ k ∷ back) is_too) chain.0 in
-    subst (λ ks. Contains ks j) (sym cut.2) (Contains-append_left cut.0 (m ∷ cut.1) j met)
+pub before_met : (nodes : List Node) → AreLinked nodes → (front : List ℕ) (k : ℕ) (back : List ℕ) → replay_order nodes ≡ front ++ k ∷ back → (j : ℕ) → Before nodes j k → Contains front j
+before_met nodes linked front k back is j before =
+    let taken = subst (AreTaken nodes) is (replay nodes).taken in
+    let within : length front < length (front ++ k ∷ back) = omega (arith, length-append front (k ∷ back)) in
+    let at = stands_before taken linked (length front) k j within before.0 (rw (get_or_at front k back k (length front) refl) before.1) in
+    (at.0, at.1, grind (arith, common_steps, at.1, at.2))
 
 -- A node is stuck, or in the replay order.
-pub stuck_is_not_listed : (nodes : List Node) (k : ℕ) → is_stuck nodes k ≡ true → Contains (replay_order nodes) k → ⊥
-stuck_is_not_listed nodes k stuck h = both_ways (is_in (replay_order nodes) k) (not-true (is_in (replay_order nodes) k) stuck) ((is_in_decides (replay_order nodes) k).1 h)
-
-pub stuck_unless_listed : (nodes : List Node) (k : ℕ) → (Contains (replay_order nodes) k → ⊥) → is_stuck nodes k ≡ true
-stuck_unless_listed nodes k h = not_from_false (is_in (replay_order nodes) k) (false_from_ne_true (is_in (replay_order nodes) k) (λ t. h ((is_in_decides (replay_order nodes) k).0 t)))
+pub listed : (nodes : List Node) (k : ℕ) → is_stuck nodes k ≡ false → Member (replay_order nodes) k
+listed nodes k free = member_in (replay_order nodes) k (not-false (is_in (replay_order nodes) k) free)
 
 pub listed_decides : (nodes : List Node) (k : ℕ) → Contains (replay_order nodes) k ↔ ((k < length nodes) × (is_stuck nodes k ≡ false))
 listed_decides nodes k = (
-  λ h. ((replay nodes).within k h, false_from_ne_true (is_stuck nodes k) (λ stuck. stuck_is_not_listed nodes k stuck h)),
-  λ h. (is_in_decides (replay_order nodes) k).0 (not-false (is_in (replay_order nodes) k) h.1),
+  λ h. (taken_within (replay nodes).taken k (member_of (replay_order nodes) k h), rw (is_in_of (replay_order nodes) k (member_of (replay_order nodes) k h)) refl),
+  λ h. contains_of (replay_order nodes) k (listed nodes k h.1),
 )

@@ -1,15 +1,11 @@
 use Rattle.std.proofs.Common.{[]}
-use Rattle.log_laws.proofs.Rounds.{replay, listed_decides, before_met}
+use Rattle.log_laws.proofs.Rounds.{replay, once, listed_decides, before_met}
 use Rattle.log_laws.proofs.order_laws.replay_order_lists.Goals as goal
 
-pub returns-clause-once : goal.returns-clause-once
-returns-clause-once c = λ nodes. (replay nodes).once
-
-pub returns-clause-nodes : goal.returns-clause-nodes
-returns-clause-nodes c = listed_decides
-
-pub returns-clause-behind : goal.returns-clause-behind
-returns-clause-behind c = λ nodes linked front k back is j waits. before_met nodes linked.apart front k back is j [] waits
-
-pub returns-clause-before : goal.returns-clause-before
-returns-clause-before c = λ nodes linked front k back is j before. before_met nodes linked.apart front k back is j before.0 before.1
+pub returns : goal.returns
+returns c = record {
+  once = λ nodes. once (replay nodes).taken;
+  nodes = listed_decides;
+  behind = λ nodes linked front k back is j waits. before_met nodes linked front k back is j ([], waits);
+  before = λ nodes linked. before_met nodes linked;
+}

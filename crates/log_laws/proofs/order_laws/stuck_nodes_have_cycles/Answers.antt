@@ -1,16 +1,11 @@
-use Rattle.std.proofs.Common.{[], length, ◌+◌}
-use Rattle.semantics.specs.ReplayOrder.{walk}
-use Rattle.log_laws.proofs.Cycles.{cycle_is_stuck, stuck_cycle, shown_is_cycle, none_shown}
+use Rattle.log_laws.proofs.Members.{member_of}
+use Rattle.log_laws.proofs.Cycles.{cycle_is_stuck, stuck_in, stuck_cycle, shown_is_cycle, none_shown}
 use Rattle.log_laws.proofs.order_laws.stuck_nodes_have_cycles.Goals as goal
 
-pub returns-clause-stuck : goal.returns-clause-stuck
-returns-clause-stuck c = λ nodes linked k within stuck. (walk nodes (length nodes + 1) [] k, stuck_cycle nodes linked k within stuck)
-
-pub returns-clause-on_cycle : goal.returns-clause-on_cycle
-returns-clause-on_cycle c = λ nodes linked. cycle_is_stuck nodes linked.apart
-
-pub returns-clause-shown : goal.returns-clause-shown
-returns-clause-shown c = shown_is_cycle
-
-pub returns-clause-none : goal.returns-clause-none
-returns-clause-none c = none_shown
+pub returns : goal.returns
+returns c = record {
+  stuck = λ nodes linked k within stuck. (_, stuck_cycle nodes linked k (stuck_in nodes k within stuck));
+  on_cycle = λ nodes linked ks cycle k h. cycle_is_stuck nodes linked ks cycle k (member_of ks k h);
+  shown = shown_is_cycle;
+  none = none_shown;
+}
