@@ -11,7 +11,7 @@ mod writing;
 
 pub use finding::{Dep, Finding};
 pub use law::{one_code_text, one_text};
-pub use lists::{DepList, EventList, ListOf};
+pub use lists::{DepList, EventList};
 pub use reading::{TextFault, read_text};
 pub use spy_grammar::Code;
 pub use writing::{Memory, good_finding, text};

@@ -1,65 +1,10 @@
 //! Lists that a report holds.
 
-ghost use Rattle.std.specs.Prelude.{◌≡◌, length, slice_get};
-
 use crate::finding::Dep;
-use std::marker::Model;
-
-/// Items in order.
-#[derive(Debug, Drop)]
-pub struct ListOf<T> {
-    items: Vec<T>,
-}
+use spy_words::ListOf;
 
 /// Events, in the order of a cycle.
 pub type EventList = ListOf<u32>;
 
 /// Pairs of items that interfere.
 pub type DepList = ListOf<Dep>;
-
-impl<T> Model for ListOf<T> {
-    ghost use Rattle.std.specs.Prelude.{List};
-
-    ghost Value = { List T };
-
-    ghost view = { λ l. l.items.items };
-}
-
-impl<T> ListOf<T> {
-    /// The list of these items.
-    pub fn from_vec(items: Vec<T>) -> ListOf<T>
-        ensures { result ≡ items.items }
-    {
-        ListOf { items }
-    }
-
-    /// The items, handed back.
-    pub fn into_vec(self) -> Vec<T>
-        ensures { result.items ≡ self }
-    {
-        self.items
-    }
-
-    /// The items in order.
-    pub(crate) fn as_slice(&self) -> &[T]
-        ensures { result.now ≡ self.now }
-    {
-        &self.items
-    }
-
-    /// How many items there are.
-    pub fn len(&self) -> usize
-        ensures { result ≡ length self.now }
-    {
-        self.items.len()
-    }
-
-    /// The item at place `k`, from 0, or `None` past the last.
-    pub fn at(&self, k: usize) -> Option<T>
-    where
-        T: Copy,
-        ensures { result ≡ slice_get self.now k }
-    {
-        self.items.get(k).copied()
-    }
-}

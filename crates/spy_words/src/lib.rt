@@ -11,7 +11,7 @@ mod words;
 pub use access::{InstKind, PrivWord};
 pub use cut::Pieces;
 pub use fault::{LineFault, keep, meet, told};
-pub use lists::{Listed, Nums, Set};
+pub use lists::{ListOf, Nums, Set};
 pub use parts::{
     Part, Read, are_fit, ascend, ascending, at_least_one, each_of, list_of, push_after, push_list,
 };

@@ -1,22 +1,22 @@
-//! Lists that a word spells.
+//! Lists that a word or a report holds.
 
-ghost use Rattle.std.specs.Prelude.{◌≡◌};
+ghost use Rattle.std.specs.Prelude.{◌≡◌, length, slice_get};
 
 use std::marker::Model;
 
-/// A list that a word spells.
+/// Items in order.
 #[derive(Debug, Drop)]
-pub struct Listed<T> {
+pub struct ListOf<T> {
     items: Vec<T>,
 }
 
 /// Numbers of a line: fields, events or items.
-pub type Nums = Listed<u32>;
+pub type Nums = ListOf<u32>;
 
 /// A set of points as a line spells it: its parts in order, each a first and a last point.
-pub type Set = Listed<(u64, u64)>;
+pub type Set = ListOf<(u64, u64)>;
 
-impl<T> Model for Listed<T> {
+impl<T> Model for ListOf<T> {
     ghost use Rattle.std.specs.Prelude.{List};
 
     ghost Value = { List T };
@@ -24,12 +24,19 @@ impl<T> Model for Listed<T> {
     ghost view = { λ l. l.items.items };
 }
 
-impl<T> Listed<T> {
-    /// These items. None is looked at.
-    pub fn from_vec(items: Vec<T>) -> Listed<T>
+impl<T> ListOf<T> {
+    /// The list of these items. None is looked at.
+    pub fn from_vec(items: Vec<T>) -> ListOf<T>
         ensures { result ≡ items.items }
     {
-        Listed { items }
+        ListOf { items }
+    }
+
+    /// The items, handed back.
+    pub fn into_vec(self) -> Vec<T>
+        ensures { result.items ≡ self }
+    {
+        self.items
     }
 
     /// The items in order.
@@ -38,13 +45,29 @@ impl<T> Listed<T> {
     {
         &self.items
     }
+
+    /// How many items there are.
+    pub fn len(&self) -> usize
+        ensures { result ≡ length self.now }
+    {
+        self.items.len()
+    }
+
+    /// The item at place `k`, from 0, or `None` past the last.
+    pub fn at(&self, k: usize) -> Option<T>
+    where
+        T: Copy,
+        ensures { result ≡ slice_get self.now k }
+    {
+        self.items.get(k).copied()
+    }
 }
 
-impl Listed<(u64, u64)> {
+impl ListOf<(u64, u64)> {
     /// The set of these parts. No part is looked at.
     pub fn from_pairs(pairs: Vec<(u64, u64)>) -> Set
         ensures { result ≡ pairs.items }
     {
-        Listed::from_vec(pairs)
+        ListOf::from_vec(pairs)
     }
 }
