@@ -16,6 +16,3 @@ pub use reading::read_line;
 pub use record::{Lined, Record};
 pub use spy_words::{InstKind, LineFault, Nums, PrivWord, Set};
 pub use writing::{Memory, good, write_record};
-
-#[cfg(test)]
-mod tests;

@@ -6,6 +6,8 @@ mod answers;
 #[cfg(test)]
 mod devices;
 #[cfg(test)]
+mod lines;
+#[cfg(test)]
 mod logs;
 #[cfg(test)]
 mod ordered;
