@@ -1,4 +1,4 @@
--- Lists in which nothing stands twice.
+-- A relation of the elements of a list to the later ones, such as that they differ.
 use Rattle.std.proofs.Common.{◌≡◌, ◌≢◌, true, ℕ, zero, suc, ◌<◌, ◌≤◌, ◌+◌, ◌-◌, inl, inr, Bool, ◌⊎◌, List, [], ◌∷◌, ◌++◌, refl, sym, ap, ◌∙◌, subst, arith, get_or, AllPairs, map, flat_map, filter, nat_lt}
 use Rattle.std.proofs.lemmas.Bool.{and_parts, ltb-true, cases_eq}
 use Rattle.std.proofs.lemmas.List.Elements.{Contains-get_or}
@@ -11,10 +11,6 @@ use Rattle.semantics.specs.Tables.{numbers_from, points_of}
 use Rattle.semantics.specs.Kinds.{grid}
 use Rattle.log_laws.proofs.Members.{Member, member_of, contains_of, only, member_append, member_map, member_flat}
 
-abbrev pub Apart : {X : Type 0} → List X → Type 0
-Apart [] = Unit {0}
-Apart (x ∷ xs) = (Member xs x → ⊥) × Apart xs
-
 -- A relation of each element to each later one.
 abbrev pub PairsBy : {X : Type 0} → (X → X → Type 0) → List X → Type 0
 PairsBy R [] = Unit {0}
@@ -23,6 +19,13 @@ PairsBy R (x ∷ xs) = ((y : _) → Member xs y → R x y) × PairsBy R xs
 pub all_pairs : {X : Type 0} (R : X → X → Type 0) (xs : List X) → PairsBy R xs → AllPairs R xs
 all_pairs R [] h = λ i j d lt within. absurd (omega (arith, within))
 all_pairs R (x ∷ xs) h = AllPairs-cons R x xs (λ k d within. h.0 (get_or xs k d) (member_of xs (get_or xs k d) (Contains-get_or xs k d within))) (all_pairs R xs h.1)
+
+pub pairs_from : {X : Type 0} (R : X → X → Type 0) (xs : List X) → AllPairs R xs → PairsBy R xs
+pairs_from R [] h = tt
+pairs_from R (x ∷ xs) h = (
+  λ y m. let c = contains_of xs y m in subst (R x) c.2 (h zero (suc c.0) y (omega arith) (omega (arith, c.1))),
+  pairs_from R xs (λ i j d lt within. h (suc i) (suc j) d (omega (arith, lt)) (omega (arith, within))),
+)
 
 pub pairs_append : {X : Type 0} (R : X → X → Type 0) (xs ys : List X) → PairsBy R xs → PairsBy R ys → ((x y : X) → Member xs x → Member ys y → R x y) → PairsBy R (xs ++ ys)
 pairs_append R [] ys h g between = g
@@ -54,41 +57,27 @@ pairs_of R (z ∷ xs) h x y (inl a) (inr n) = inr (inl (subst (λ z. R z y) (sym
 pairs_of R (z ∷ xs) h x y (inr m) (inl b) = inr (inr (subst (λ z. R z x) (sym b) (h.0 x m)))
 pairs_of R (z ∷ xs) h x y (inr m) (inr n) = pairs_of R xs h.1 x y m n
 
-pub apart_by : {X : Type 0} (R : X → X → Type 0) → ((x : X) → R x x → ⊥) → (xs : List X) → PairsBy R xs → Apart xs
-apart_by R none [] h = tt
-apart_by R none (x ∷ xs) h = (λ m. none x (h.0 x m), apart_by R none xs h.1)
+pub pairs_flat : {X Y : Type 0} (R : Y → Y → Type 0) (f : X → List Y) (xs : List X) → ((x : X) → Member xs x → PairsBy R (f x))
+    → PairsBy (λ x y. (a b : Y) → Member (f x) a → Member (f y) b → R a b) xs → PairsBy R (flat_map f xs)
+pairs_flat R f [] each h = tt
+pairs_flat R f (x ∷ xs) each h = pairs_append R (f x) (flat_map f xs) (each x (inl refl)) (pairs_flat R f xs (λ y m. each y (inr m)) h.1)
+    (λ a b m n. let r = member_flat f xs b n in h.0 r.0 r.1 a b m r.2)
 
-pub all_apart : {X : Type 0} (xs : List X) → Apart xs → AllPairs (λ x y. x ≢ y) xs
-all_apart [] h = λ i j d lt within. absurd (omega (arith, within))
-all_apart (x ∷ xs) h = AllPairs-cons (λ x y. x ≢ y) x xs (λ k d within e. h.0 (subst (Member xs) (sym e) (member_of xs (get_or xs k d) (Contains-get_or xs k d within)))) (all_apart xs h.1)
+-- ---- lists in which nothing stands twice
 
-pub apart_from : {X : Type 0} (xs : List X) → AllPairs (λ x y. x ≢ y) xs → Apart xs
-apart_from [] h = tt
-apart_from (x ∷ xs) h = (
-  λ m. let c = contains_of xs x m in h zero (suc c.0) x (omega arith) (omega (arith, c.1)) (sym c.2),
-  apart_from xs (λ i j d lt within. h (suc i) (suc j) d (omega (arith, lt)) (omega (arith, within))),
-)
-
-pub apart_append : {X : Type 0} (xs ys : List X) → Apart xs → Apart ys → ((x : X) → Member xs x → Member ys x → ⊥) → Apart (xs ++ ys)
-apart_append [] ys h g none = g
-apart_append (x ∷ xs) ys h g none = (
-  λ m. elim (member_append xs ys x m) [ inl l ↦ h.0 l | inr r ↦ none x (inl refl) r ],
-  apart_append xs ys h.1 g (λ z m. none z (inr m)),
-)
+abbrev pub Apart : {X : Type 0} → List X → Type 0
+Apart xs = PairsBy (λ x y. x ≢ y) xs
 
 pub apart_map : {X Y : Type 0} (f : X → Y) (xs : List X) → ((x y : X) → f x ≡ f y → x ≡ y) → Apart xs → Apart (map f xs)
-apart_map f [] one h = tt
-apart_map f (x ∷ xs) one h = (λ m. let r = member_map f xs (f x) m in h.0 (subst (Member xs) (sym (one x r.0 r.2)) r.1), apart_map f xs one h.1)
+apart_map f xs one h = pairs_map (λ x y. x ≢ y) f xs (pairs_so (λ x y. x ≢ y) (λ x y. f x ≢ f y) xs (λ x y _ _ d e. d (one x y e)) h)
 
 pub apart_filter : {X : Type 0} (p : X → Bool) (xs : List X) → Apart xs → Apart (filter p xs)
-apart_filter p xs h = apart_from (filter p xs) (AllPairs-filter (λ x y. x ≢ y) p xs (all_apart xs h))
+apart_filter p xs h = pairs_from (λ x y. x ≢ y) (filter p xs) (AllPairs-filter (λ x y. x ≢ y) p xs (all_pairs (λ x y. x ≢ y) xs h))
 
 -- Lists made of different elements have nothing in common.
 pub apart_flat : {X Y : Type 0} (f : X → List Y) (xs : List X) → ((x : X) → Member xs x → Apart (f x)) → ((x y : X) (z : Y) → Member xs x → Member xs y → Member (f x) z → Member (f y) z → x ≡ y)
     → Apart xs → Apart (flat_map f xs)
-apart_flat f [] each one h = tt
-apart_flat f (x ∷ xs) each one h = apart_append (f x) (flat_map f xs) (each x (inl refl)) (apart_flat f xs (λ y m. each y (inr m)) (λ y z w a b. one y z w (inr a) (inr b)) h.1)
-    (λ z m n. let r = member_flat f xs z n in h.0 (subst (Member xs) (sym (one x r.0 z (inl refl) (inr r.1) m r.2)) r.1))
+apart_flat f xs each one h = pairs_flat (λ x y. x ≢ y) f xs each (pairs_so (λ x y. x ≢ y) _ xs (λ x y m n d a b i j e. d (one x y a m n i (subst (Member (f y)) (sym e) j))) h)
 
 -- ---- numbers
 
@@ -109,7 +98,7 @@ number_in n k h = number_from 0 n k (omega arith) (omega (arith, h))
 
 pub numbers_apart : (first n : ℕ) → Apart (numbers_from first n)
 numbers_apart first zero = tt
-numbers_apart first (suc n) = (λ m. omega (arith, (number_between (first + 1) n first m).0), numbers_apart (first + 1) n)
+numbers_apart first (suc n) = (λ m is e. omega (arith, (number_between (first + 1) n m is).0, e), numbers_apart (first + 1) n)
 
 -- Where each element stands before the next, it stands before each later one.
 module _ {X : Type 0} (before : X → X → Bool) (P : X → Type 0) (R : X → X → Type 0) (tells : (x y : X) → P y → before x y ≡ true → R x y) (trans : (x y z : X) → R x y → R y z → R x z) where
@@ -123,21 +112,18 @@ module _ {X : Type 0} (before : X → X → Bool) (P : X → Type 0) (R : X → 
       (λ z m. elim m [ inl is ↦ subst (R x) (sym is) first | inr later ↦ trans x y z first (rest.0 z later) ], rest)
 
 pub fields_apart : (ns : List ℕ) → IsGood classes.fields ns → Apart ns
-fields_apart ns good = apart_by (λ m n. m < n) (λ n lt. omega arith) ns (ascending nat_lt (IsNumberFrom 0) _ (λ m n _ lt. ltb-true m n lt) (λ k m n a b. omega arith) ns good.0 good.1)
+fields_apart ns good = pairs_so (λ m n. m < n) (λ m n. m ≢ n) ns (λ m n _ _ lt e. omega arith)
+    (ascending nat_lt (IsNumberFrom 0) _ (λ m n _ lt. ltb-true m n lt) (λ k m n a b. omega arith) ns good.0 good.1)
 
--- The points from the first to the last of a span.
 abbrev span : ℕ × ℕ → List ℕ
 span p = numbers_from p.0 (p.1 + 1 - p.0)
 
-spans_apart : (ps : List (ℕ × ℕ)) → PairsBy (λ p q. (p.1 < q.0) × (q.0 ≤ q.1)) ps → Apart (points_of ps)
-spans_apart [] up = tt
-spans_apart (p ∷ ps) up = apart_append (span p) (points_of ps) (numbers_apart p.0 (p.1 + 1 - p.0)) (spans_apart ps up.1) (λ x m n.
-    let all : points_of ps ≡ flat_map span ps = same_from_clauses points_of (flat_map span) (λ p xs. span p ++ xs) refl (λ p ps. refl) (λ p ps. refl) ps in
-    let later = member_flat span ps x (subst (λ xs. Member xs x) all n) in
-    omega (arith, number_between p.0 (p.1 + 1 - p.0) x m, number_between later.0.0 (later.0.1 + 1 - later.0.0) x later.2, up.0 later.0 later.1))
-
 pub points_apart : (ps : List (ℕ × ℕ)) → IsGood classes.points ps → Apart (points_of ps)
-points_apart ps good = spans_apart ps (ascending span_before IsSpan _ (λ p q good lt. (ltb-true p.1 q.0 lt, good.0)) (λ p q r a b. (omega arith, b.1)) ps good.0 good.1)
+points_apart ps good =
+    let all : points_of ps ≡ flat_map span ps = same_from_clauses points_of (flat_map span) (λ p xs. span p ++ xs) refl (λ p ps. refl) (λ p ps. refl) ps in
+    let rise = ascending span_before IsSpan (λ p q. (p.1 < q.0) × (q.0 ≤ q.1)) (λ p q good lt. (ltb-true p.1 q.0 lt, good.0)) (λ p q r a b. (omega arith, b.1)) ps good.0 good.1 in
+    subst Apart (sym all) (pairs_flat (λ x y. x ≢ y) span ps (λ p _. numbers_apart p.0 (p.1 + 1 - p.0)) (pairs_so _ _ ps (λ p q _ _ up a b m n e.
+    omega (arith, number_between p.0 (p.1 + 1 - p.0) a m, number_between q.0 (q.1 + 1 - q.0) b n, up, e)) rise))
 
 pub member_grid : (points fields : List ℕ) (p : ℕ × ℕ) → Member (grid points fields) p → Member points p.0 × Member fields p.1
 member_grid points fields p m =

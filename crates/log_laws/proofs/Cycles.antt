@@ -11,7 +11,7 @@ use Rattle.semantics.specs.Points.{is_in}
 use Rattle.semantics.specs.Events.{Node, WaitsOn, IsChain, IsCycle, AreLinked}
 use Rattle.semantics.specs.ReplayOrder.{positions, waits_at, has_event, replay_order, is_stuck, stuck_nodes, stuck_wait, up_to, walk, from_least, cycle_from, shown_cycle}
 use Rattle.log_laws.proofs.Members.{Member, contains_of, member_filter, any_at, any_found, is_in_of, member_in, find_any, found_at}
-use Rattle.log_laws.proofs.Apart.{Apart, all_apart, number_within, number_in}
+use Rattle.log_laws.proofs.Apart.{Apart, all_pairs, number_within, number_in}
 use Rattle.log_laws.proofs.Lists.{split_at, one_fails, few}
 use Rattle.log_laws.proofs.Rounds.{is_met, not_before_itself, replay, listed}
 
@@ -81,7 +81,7 @@ module _ (nodes : List Node) where
   closed [] k so_far m = absurd m
   closed (w ∷ ws) k so_far m =
       let front = up_to_chain k k (w ∷ ws) w so_far.2 m so_far.2.0 in
-      (apart_front (up_to k (w ∷ ws)) front.1 (subst (AllPairs (λ a b. a ≢ b)) front.2 (all_apart (w ∷ ws) so_far.0)), front.0.1)
+      (apart_front (up_to k (w ∷ ws)) front.1 (subst (AllPairs (λ a b. a ≢ b)) front.2 (all_pairs _ (w ∷ ws) so_far.0)), front.0.1)
 
   none_from : (ks : List ℕ) → (cycle_from nodes ks ≡ None) ↔ ((k : ℕ) → Member ks k → ⊥)
   none_from [] = (λ e k m. m, λ h. refl)
@@ -129,7 +129,7 @@ module _ (nodes : List Node) where
       | inl back ↦ rw back (closed walked k so_far (member_in walked k back))
       | inr new ↦
           let step = next k stuck in
-          let apart : Apart (k ∷ walked) = (λ m. both_ways (is_in walked k) new (is_in_of walked k m), so_far.0) in
+          let apart : Apart (k ∷ walked) = (λ j m e. both_ways (is_in walked k) new (is_in_of walked k (subst (Member walked) (sym e) m)), so_far.0) in
           let all_stuck : (j : ℕ) → Member (k ∷ walked) j → Member (stuck_nodes nodes) j = λ j m. elim m [ inl is ↦ rw is stuck | inr before ↦ so_far.1 j before ] in
           rw (new, step.1) (walk_cycle n (k ∷ walked) step.0 (apart, all_stuck, (step.3, so_far.2)) step.2 (omega (arith, many)))
     ]

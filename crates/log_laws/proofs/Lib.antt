@@ -9,7 +9,6 @@ pub mod Admitted
 pub mod Strict
 pub mod StepLists
 pub mod Tidy
-pub mod MovesApart
 pub mod ReadLogs
 pub mod Linked
 pub mod Replay

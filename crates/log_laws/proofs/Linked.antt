@@ -1,19 +1,18 @@
 -- The nodes of an admitted log are linked: their events differ, and each event that is awaited is that of a node.
-use Rattle.std.proofs.Common.{eqb-true, ◌≡◌, ◌==◌, ◌≢◌, ℕ, true, false, not, List, [], ◌∷◌, sym, subst, Some, None, Option, refl}
+use Rattle.std.proofs.Common.{eqb-true, ◌≡◌, ◌==◌, ◌≢◌, ℕ, true, false, not, List, [], sym, subst, Some, None, Option, refl}
 use Rattle.std.specs.Option.{option_map_or}
 use Rattle.std.specs.List.{filter_map, list_any, list_all}
 use Rattle.std.proofs.lemmas.Bool.{false≢true, not-false}
 use Rattle.spy_grammar.specs.declared.record.Lined.{Lined}
-use Rattle.semantics.specs.declared.tables.LogNode.{LogNode}
 use Rattle.semantics.specs.Records.{records_of}
 use Rattle.semantics.specs.Tables.{tables_of}
 use Rattle.semantics.specs.Events.{Node, graph_of, AreLinked}
 use Rattle.semantics.specs.Rules.{node_of, completes}
 use Rattle.semantics.specs.Faults.{Command}
-use Rattle.log_laws.proofs.Members.{Member, member_of, contains_of, member_filter_map, filter_map_member, map_member, any_found, all_at}
-use Rattle.log_laws.proofs.Apart.{Apart, all_pairs, pairs_map, PairsBy}
+use Rattle.log_laws.proofs.Members.{Member, member_of, contains_of, member_filter_map, filter_map_member, any_found, all_at}
+use Rattle.log_laws.proofs.Apart.{all_pairs}
 use Rattle.log_laws.proofs.Admitted.{IsFaultless, each_unbroken, events_are_completed}
-use Rattle.log_laws.proofs.Strict.{AreStrict, done_in}
+use Rattle.log_laws.proofs.Strict.{AreStrict}
 
 -- The nodes of a log are those of its records.
 abbrev pub NodesAreOfRecords : Type 0
@@ -24,13 +23,9 @@ node_with : (event : ℕ) (o : Option Node) → option_map_or (λ (n : Node). n.
 node_with event None e = absurd (false≢true e)
 node_with event (Some n) e = (n, refl, eqb-true n.done event e)
 
-events_differ : (nodes : List LogNode) → Apart (done_in nodes) → PairsBy (λ (m n : LogNode). m.done ≢ n.done) nodes
-events_differ [] h = tt
-events_differ (n ∷ nodes) h = (λ m is e. h.0 (rw e (map_member (λ (n : LogNode). n.done) nodes m is)), events_differ nodes h.1)
-
 pub linked : NodesAreOfRecords → (command : Command) (log : List Lined) → IsFaultless command log → AreStrict (tables_of log) → AreLinked (graph_of (tables_of log).nodes)
 linked nodes_are command log f strict = record {
-  apart = all_pairs (λ (m n : Node). m.done ≢ n.done) (graph_of (tables_of log).nodes) (pairs_map _ _ (tables_of log).nodes (events_differ (tables_of log).nodes strict.events));
+  apart = all_pairs (λ (m n : Node). m.done ≢ n.done) (graph_of (tables_of log).nodes) strict.events;
   linked = λ n event is wait.
       let at = member_filter_map node_of (records_of log) n (rw nodes_are at (member_of _ n is)) in
       let kept = each_unbroken (records_of log) [] log f.records at.0 at.1 in

@@ -1,5 +1,5 @@
 -- Lists in which an element is left out, and how many different numbers there are below a bound.
-use Rattle.std.proofs.Common.{take, drop, ◌+◌, take-append-drop, ◌≡◌, ℕ, ◌<◌, ◌≤◌, List, [], ◌∷◌, ◌++◌, length, inl, inr, refl, sym, subst, zero, suc, arith, eqb, AllPairs, ◌↔◌, ◌⊎◌, Bool, false}
+use Rattle.std.proofs.Common.{take, drop, ◌+◌, take-append-drop, ◌≡◌, ℕ, ◌<◌, ◌≤◌, List, [], ◌∷◌, ◌++◌, length, inl, inr, refl, sym, subst, arith, eqb, ◌↔◌, ◌⊎◌, Bool, false}
 use Rattle.std.specs.List.{list_all}
 use Rattle.std.proofs.lemmas.Bool.{and_cases, eqb-true}
 use Rattle.std.proofs.lemmas.Bool.Decides.{Decides-eqb}
@@ -7,17 +7,10 @@ use Rattle.std.proofs.lemmas.List.{drop_more}
 use Rattle.std.proofs.lemmas.Map.Made.{IsDistinct-from_AllPairs}
 use Rattle.std.proofs.lemmas.Map.Steps.{length-le_from_distinct_below}
 use Rattle.log_laws.proofs.Members.{Member, contains_of, member_left, member_right, member_append, any_found}
-use Rattle.log_laws.proofs.Apart.{Apart, PairsBy, all_apart}
+use Rattle.log_laws.proofs.Apart.{Apart, PairsBy, all_pairs}
 
 pub split_at : {X : Type 0} (xs : List X) (x : X) → Member xs x → (front : List X) × (back : List X) × (xs ≡ front ++ x ∷ back)
 split_at xs x m = let at = contains_of xs x m in (take at.0 xs, drop (at.0 + 1) xs, grind (arith, take-append-drop at.0 xs, drop_more xs at.0 x, at.1, at.2))
-
-pub pairs_from : {X : Type 0} (R : X → X → Type 0) (xs : List X) → AllPairs R xs → PairsBy R xs
-pairs_from R [] h = tt
-pairs_from R (x ∷ xs) h = (
-  λ y m. let c = contains_of xs y m in subst (R x) c.2 (h zero (suc c.0) y (omega arith) (omega (arith, c.1))),
-  pairs_from R xs (λ i j d lt within. h (suc i) (suc j) d (omega arith) (omega arith)),
-)
 
 pub pairs_parts : {X : Type 0} (R : X → X → Type 0) (xs ys : List X) → PairsBy R (xs ++ ys) → PairsBy R xs × PairsBy R ys × ((x y : X) → Member xs x → Member ys y → R x y)
 pairs_parts R [] ys h = (tt, h, λ x y m n. absurd m)
@@ -53,5 +46,5 @@ one_fails p (y ∷ xs) e = elim (and_cases (p y) (list_all p xs) e) [
 
 -- Different numbers below a bound are no more than the bound.
 pub few : (ns : List ℕ) (n : ℕ) → Apart ns → ((m : ℕ) → Member ns m → m < n) → length ns ≤ n
-few ns n apart within = length-le_from_distinct_below ns n (IsDistinct-from_AllPairs {eq = eqb} Decides-eqb ns (all_apart ns apart))
+few ns n apart within = length-le_from_distinct_below ns n (IsDistinct-from_AllPairs {eq = eqb} Decides-eqb ns (all_pairs _ ns apart))
     (λ m h. let r = any_found (eqb m) ns h in within m (subst (Member ns) (sym (eqb-true m r.0 r.2)) r.1))

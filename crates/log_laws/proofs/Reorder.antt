@@ -11,8 +11,8 @@ use Rattle.semantics.specs.Execution.{State, effect, sees, executed, ReadsIn}
 use Rattle.semantics.specs.Interleavings.{is_read, IsInterleaving}
 use Rattle.semantics.specs.Races.{access, conflicts, IsCalm, IsTidy, IsRaceFree}
 use Rattle.log_laws.proofs.Members.{Member, member_of, contains_of, member_left}
-use Rattle.log_laws.proofs.Apart.{PairsBy, pairs_append}
-use Rattle.log_laws.proofs.Lists.{split_at, pairs_from, pairs_parts, left_out_same}
+use Rattle.log_laws.proofs.Apart.{PairsBy, pairs_append, pairs_from}
+use Rattle.log_laws.proofs.Lists.{split_at, pairs_parts, left_out_same}
 use Rattle.log_laws.proofs.StepLists.{MayFollow}
 
 pub record Agrees (xs ys : List Step) : Type 0 where

@@ -1,5 +1,5 @@
 -- The steps of a log without a cycle, taken node by node in replay order, are an interleaving.
-use Rattle.std.proofs.Common.{flat_map, slice_get, ◌≢◌, get_or, Contains, AllPairs, arith, ◌≡◌, ℕ, ◌<◌, inl, inr, true, false, List, [], ◌∷◌, length, refl, sym, ap, ◌∙◌}
+use Rattle.std.proofs.Common.{slice_get, ◌≢◌, get_or, Contains, AllPairs, arith, ◌≡◌, ℕ, ◌<◌, inl, inr, true, false, List, [], length, sym, ap, ◌∙◌}
 use Rattle.std.proofs.lemmas.Bool.{true≢false, false_from_ne_true}
 use Rattle.std.proofs.lemmas.List.{length-map}
 use Rattle.semantics.specs.declared.moves.Move.{Move}
@@ -13,9 +13,8 @@ use Rattle.semantics.specs.ReplayOrder.{replay_order, is_stuck}
 use Rattle.semantics.specs.Steps.{Step, id_of, moves_of, steps_by}
 use Rattle.semantics.specs.Interleavings.{is_read, IsInterleaving}
 use Rattle.log_laws.proofs.Members.{Member, member_of, contains_of, member_at, member_flat, flat_member, none_or_some}
-use Rattle.log_laws.proofs.Apart.{Apart, PairsBy, all_pairs, all_apart, pairs_append, pairs_map, pairs_where, number_in, number_within}
+use Rattle.log_laws.proofs.Apart.{Apart, PairsBy, all_pairs, pairs_from, pairs_append, pairs_map, pairs_where, pairs_flat, number_in, number_within}
 use Rattle.log_laws.proofs.StepLists.{moves_at, steps_at, MayFollow, step_at}
-use Rattle.log_laws.proofs.Lists.{pairs_from}
 use Rattle.log_laws.proofs.Tidy.{is_of, a_read, no_read}
 use Rattle.log_laws.proofs.Rounds.{once, taken_within, in_turn, not_before_itself, replay, listed}
 use Rattle.log_laws.proofs.Cycles.{stuck_in, stuck_cycle}
@@ -41,12 +40,6 @@ at_position t P none some k = elim (none_or_some (slice_get t.nodes k)) [
 
 -- ---- the steps in replay order
 
-pairs_flat : {X Y : Type 0} (R : Y → Y → Type 0) (f : X → List Y) (xs : List X) → ((x : X) → Member xs x → PairsBy R (f x))
-    → PairsBy (λ x z. (v w : Y) → Member (f x) v → Member (f z) w → R v w) xs → PairsBy R (flat_map f xs)
-pairs_flat R f [] each between = tt
-pairs_flat R f (x ∷ xs) each between = pairs_append R (f x) (flat_map f xs) (each x (inl refl)) (pairs_flat R f xs (λ z m. each z (inr m)) between.1)
-    (λ v w m n. let z = member_flat f xs w n in between.0 z.0 z.1 v w m z.2)
-
 -- All steps of some nodes are steps of more nodes.
 among : (t : Tables) (ks ls : List ℕ) → ((k : ℕ) → Member ks k → Member ls k) → (x : Step) → Contains (steps_by t ks) x → Contains (steps_by t ls) x
 among t ks ls more x c =
@@ -65,7 +58,7 @@ module _ (t : Tables) (linked : AreLinked (graph_of t.nodes)) (moves : (k : ℕ)
 
   within_node : (k : ℕ) → Member order k → PairsBy (MayFollow t) (steps_at t k)
   within_node k m = pairs_map (MayFollow t) (λ m. record { node = k; move = m }) (moves_at t k) (pairs_from _ (moves_at t k) (λ i j d lt within. may_follow _ _
-      (λ e. all_apart (moves_at t k) (moves k) i j d lt within (ap (λ (x : Step). x.move) e))
+      (λ e. all_pairs _ (moves_at t k) (moves k) i j d lt within (ap (λ (x : Step). x.move) e))
       (not_before_itself (replay nodes).taken linked k m)
       (λ same. all_pairs ReadsFirst (moves_at t k) (at_position t (PairsBy ReadsFirst) tt (λ n at. reads_first t n.op) k) i j d lt within)))
 

@@ -11,7 +11,7 @@ use Rattle.semantics.specs.Points.{is_in}
 use Rattle.semantics.specs.Events.{Node, WaitsOn, IsChain, Before, AreLinked}
 use Rattle.semantics.specs.ReplayOrder.{positions, waits_at, has_event, is_ready, after_rounds, replay_order, is_stuck}
 use Rattle.log_laws.proofs.Members.{Member, member_of, contains_of, none_or_some, all_at, is_in_of, member_in, found_at, none_found}
-use Rattle.log_laws.proofs.Apart.{apart_from, number_within, number_in}
+use Rattle.log_laws.proofs.Apart.{pairs_from, number_within, number_in}
 use Rattle.log_laws.proofs.Lists.{few}
 
 -- No event is at two positions.
@@ -38,7 +38,7 @@ module _ {nodes : List Node} {ks : List ℕ} (h : AreTaken nodes ks) where
   taken_within k m = let at = contains_of ks k m in subst (λ j. j < length nodes) at.2 (h.at at.0 k at.1).0
 
   no_more : length ks ≤ length nodes
-  no_more = few ks (length nodes) (apart_from ks once) taken_within
+  no_more = few ks (length nodes) (pairs_from _ ks once) taken_within
 
   module _ (linked : AreLinked nodes) where
     -- What comes before a node stands in front of it.

@@ -19,7 +19,7 @@ use Rattle.semantics.specs.Reads.{req_at}
 use Rattle.semantics.specs.Steps.{inst_at}
 use Rattle.semantics.specs.Rules.{is_declared, names, space_id, lacks_req, interferes_with_own, is_of_wrong_tree}
 use Rattle.log_laws.proofs.Members.{Member, Each, each_more, none_at, all_at, meets_of, find_any, find_still}
-use Rattle.log_laws.proofs.Apart.{Apart, apart_by, PairsBy, pairs_so, pairs_more, pairs_of, member_grid}
+use Rattle.log_laws.proofs.Apart.{Apart, PairsBy, pairs_so, pairs_more, pairs_of, member_grid}
 
 -- Two requirements agree, if they share a place.
 abbrev pub AgreeWhere : Tables → Req → Req → Type 0
@@ -111,4 +111,4 @@ two_reqs t sane q r a b item = elim (pairs_of (FitTogether t) t.reqs sane.reqs q
 ]
 
 pub reqs_apart : (t : Tables) → AreSane t → Apart t.reqs
-reqs_apart t sane = apart_by (FitTogether t) (λ r fit. omega (arith, (fit refl).0)) t.reqs sane.reqs
+reqs_apart t sane = pairs_so (FitTogether t) (λ q r. q ≢ r) t.reqs (λ q r _ _ fit e. omega (arith, (fit (ap (λ (r : Req). r.item) e)).0, ap (λ (r : Req). r.number) e)) sane.reqs

@@ -1,5 +1,5 @@
 -- In the tables of an admitted log no space has a point twice, no requirement or operation a field twice, and no two nodes have one event.
-use Rattle.std.proofs.Common.{◌≡◌, ℕ, inl, inr, false, ◌==◌, List, [], ◌∷◌, ◌++◌, sym, ◌∙◌, subst, find, map, true≢false, eq-eqb}
+use Rattle.std.proofs.Common.{◌≡◌, ◌≢◌, ap, ℕ, inl, inr, false, ◌==◌, List, [], ◌∷◌, ◌++◌, sym, ◌∙◌, subst, find, true≢false, eq-eqb}
 use Rattle.std.specs.List.{AllByRecursion, list_any}
 use Rattle.std.proofs.lemmas.List.{map-append}
 use Rattle.spy_grammar.specs.declared.record.Record.{Record}
@@ -12,11 +12,12 @@ use Rattle.semantics.specs.declared.tables.Op.{Op}
 use Rattle.semantics.specs.declared.tables.Op.TheVariants as operations
 use Rattle.semantics.specs.Records.{records_of}
 use Rattle.semantics.specs.Tables.{Tables, Space, with_record, tables_of}
+use Rattle.semantics.specs.Events.{Node, graph_of}
 use Rattle.semantics.specs.Points.{points_in}
 use Rattle.semantics.specs.Rules.{repeats_event}
 use Rattle.semantics.specs.Faults.{Command}
-use Rattle.log_laws.proofs.Members.{Each, each_more, only, member_map, none_at, found_at, none_or_some}
-use Rattle.log_laws.proofs.Apart.{Apart, apart_append, points_apart, fields_apart}
+use Rattle.log_laws.proofs.Members.{Each, each_more, member_map, none_at, found_at, none_or_some}
+use Rattle.log_laws.proofs.Apart.{Apart, PairsBy, pairs_more, points_apart, fields_apart}
 use Rattle.log_laws.proofs.Admitted.{IsFaultless, by_records, event_is_new}
 
 -- An operation has no field twice.
@@ -27,23 +28,20 @@ HasFieldsApart (operations.Reset inst space fields) = Apart fields
 HasFieldsApart (operations.Fold src dst space fields) = Apart fields
 HasFieldsApart _ = Unit {0}
 
-abbrev pub done_in : List LogNode → List ℕ
-done_in nodes = map (λ (n : LogNode). n.done) nodes
-
 pub record AreStrict (t : Tables) : Type 0 where
   pub spaces : Each (λ (s : Space). Apart s.points) t.spaces
   pub fields : Each (λ (r : Req). Apart r.fields) t.reqs
   pub operations : Each (λ (n : LogNode). HasFieldsApart n.op) t.nodes
-  pub events : Apart (done_in t.nodes)
+  pub events : PairsBy (λ (m : Node) n. m.done ≢ n.done) (graph_of t.nodes)
 
 with_node : (t : Tables) (n : LogNode) → list_any (λ (m : LogNode). n.done == m.done) t.nodes ≡ false → HasFieldsApart n.op → AreStrict t → AreStrict (record t { nodes = t.nodes ++ n ∷ [] })
 with_node t n e fields h = record {
   spaces = h.spaces;
   fields = h.fields;
   operations = each_more (λ (n : LogNode). HasFieldsApart n.op) t.nodes n h.operations fields;
-  events = subst Apart (sym (map-append (λ (n : LogNode). n.done) t.nodes (n ∷ []))) (apart_append (done_in t.nodes) (n.done ∷ []) h.events (λ m. m, tt) (λ x m last.
-      let r = member_map (λ (m : LogNode). m.done) t.nodes x m in
-      true≢false (sym (eq-eqb n.done r.0.done (sym (only last) ∙ r.2)) ∙ none_at (λ (m : LogNode). n.done == m.done) t.nodes r.0 e r.1)));
+  events = subst (PairsBy (λ (m : Node) n. m.done ≢ n.done)) (sym (map-append _ t.nodes (n ∷ []))) (pairs_more (λ (m : Node) n. m.done ≢ n.done) (graph_of t.nodes) _ h.events (λ m is same.
+      let r = member_map _ t.nodes m is in
+      true≢false (sym (eq-eqb n.done r.0.done (sym same ∙ ap (λ (m : Node). m.done) r.2)) ∙ none_at (λ (m : LogNode). n.done == m.done) t.nodes r.0 e r.1)));
 }
 
 with_good : (t : Tables) (line : ℕ) (r : Record) → Good r → repeats_event t r ≡ false → AreStrict t → AreStrict (with_record t line r)

@@ -4,7 +4,7 @@ use Rattle.log_laws.proofs.Apart.{Apart}
 use Rattle.log_laws.proofs.Admitted.{faultless, sane, all_mapped}
 use Rattle.log_laws.proofs.Strict.{strict}
 use Rattle.log_laws.proofs.Linked.{linked}
-use Rattle.log_laws.proofs.MovesApart.{moves_once}
+use Rattle.log_laws.proofs.Tidy.{moves_once}
 use Rattle.log_laws.proofs.Replay.{at_position, interleaves}
 use Rattle.log_laws.proofs.step_laws.replay_is_an_interleaving.Goals as goal
 
@@ -13,5 +13,5 @@ returns c lines log good none no_cycle =
     let t = tables_of log in
     let f = faultless Check lines log none in
     let clear = strict Check log good f in
-    let apart = at_position t Apart tt (λ n m. moves_once t (sane Check log f) clear (all_mapped log f) n.op (clear.operations n m)) in
+    let apart = at_position t Apart tt (λ n m. moves_once t (sane Check log f) (all_mapped log f) clear n.op (clear.operations n m)) in
     interleaves t (linked c.nodes_are_of_records.ensures Check log f clear) apart no_cycle
