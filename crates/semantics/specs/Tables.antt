@@ -9,6 +9,12 @@ use Rattle.spy_words.specs.declared.access.PrivWord.TheVariants as words
 use Rattle.spy_grammar.specs.declared.record.Record.{Record}
 use Rattle.spy_grammar.specs.declared.record.Record.TheVariants as records
 use Rattle.spy_grammar.specs.declared.record.Lined.{Lined}
+pub use Rattle.semantics.specs.declared.tables.Part.{Part}
+pub use Rattle.semantics.specs.declared.tables.Sub.{Sub}
+pub use Rattle.semantics.specs.declared.tables.FieldSpace.{FieldSpace}
+pub use Rattle.semantics.specs.declared.tables.Tree.{Tree}
+pub use Rattle.semantics.specs.declared.tables.Serial.{Serial}
+pub use Rattle.semantics.specs.declared.tables.Map.{Map}
 use Rattle.semantics.specs.declared.tables.Item.{Item}
 use Rattle.semantics.specs.declared.tables.ItemBody.{ItemBody}
 use Rattle.semantics.specs.declared.tables.ItemBody.TheVariants as bodies
@@ -22,41 +28,6 @@ use Rattle.semantics.specs.declared.tables.Op.TheVariants as operations
 pub record Space : Type 0 where
   pub id : ℕ
   pub points : List ℕ
-
--- A partition: the space that it splits, and whether its subspaces have to be disjoint.
-pub record Part : Type 0 where
-  pub id : ℕ
-  pub space : ℕ
-  pub disjoint : Bool
-
--- A subspace: the space that a partition has at a colour.
-pub record Sub : Type 0 where
-  pub part : ℕ
-  pub colour : ℕ
-  pub space : ℕ
-
--- A field space: its fields, ascending.
-pub record FieldSpace : Type 0 where
-  pub id : ℕ
-  pub fields : List ℕ
-
--- A region tree: its root space and its field space.
-pub record Tree : Type 0 where
-  pub id : ℕ
-  pub space : ℕ
-  pub fspace : ℕ
-
--- Items that a line lists in serial order.
-pub record Serial : Type 0 where
-  pub line : ℕ
-  pub ids : List ℕ
-
--- The instance to which some fields of a requirement are mapped. The requirement is named by the position of its item, and by its number there.
-pub record Map : Type 0 where
-  pub item : ℕ
-  pub number : ℕ
-  pub fields : List ℕ
-  pub inst : ℕ
 
 -- All that a log declares.
 pub record Tables : Type 0 where

@@ -10,5 +10,5 @@ mod worked;
 pub use laws::nodes_are_of_records;
 pub use moves::Move;
 pub use places::{Cell, Place};
-pub use tables::{Inst, Item, ItemBody, LogNode, Op, Req};
+pub use tables::{FieldSpace, Inst, Item, ItemBody, LogNode, Map, Op, Part, Req, Serial, Sub, Tree};
 pub use worked::worked_logs;

@@ -3,6 +3,53 @@
 use privilege::{Coherence, Priv};
 use spy_grammar::{InstKind, Nums};
 
+/// A partition: the space that it splits, and whether its subspaces have to be disjoint.
+#[derive(Clone, Copy, Debug, PartialEq, Eq)]
+pub struct Part {
+    pub id: u32,
+    pub space: u32,
+    pub disjoint: bool,
+}
+
+/// A subspace: the space that a partition has at a colour.
+#[derive(Clone, Copy, Debug, PartialEq, Eq)]
+pub struct Sub {
+    pub part: u32,
+    pub colour: u32,
+    pub space: u32,
+}
+
+/// A field space: its fields, ascending.
+#[derive(Debug, Drop)]
+pub struct FieldSpace {
+    pub id: u32,
+    pub fields: Nums,
+}
+
+/// A region tree: its root space and its field space.
+#[derive(Clone, Copy, Debug, PartialEq, Eq)]
+pub struct Tree {
+    pub id: u32,
+    pub space: u32,
+    pub fspace: u32,
+}
+
+/// Items that a line lists in serial order.
+#[derive(Debug, Drop)]
+pub struct Serial {
+    pub line: u32,
+    pub ids: Nums,
+}
+
+/// The instance to which some fields of a requirement are mapped. The requirement is named by the position of its item, and by its number there.
+#[derive(Debug, Drop)]
+pub struct Map {
+    pub item: usize,
+    pub number: u32,
+    pub fields: Nums,
+    pub inst: u32,
+}
+
 /// What an item is.
 #[derive(Debug, Drop)]
 pub enum ItemBody {
