@@ -1,0 +1,4 @@
+pub mod Ascending
+pub mod Mapped
+pub mod Runs
+pub mod Views

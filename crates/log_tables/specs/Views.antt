@@ -1,0 +1,50 @@
+-- How entries are seen, and what records have to have.
+use Rattle.std.specs.Prelude.{ℕ, List}
+use Rattle.spy_grammar.specs.declared.record.Record.{Record}
+use Rattle.spy_grammar.specs.declared.record.Record.TheVariants.{Header, Ispace, Part, Sub, Fields, Tree, Redop, Task, Req, Fill, Serial, Inst, Map, Run, Copy, Put, Reset, Fold, Merge, End}
+use Rattle.std.specs.List.Sorted.{IsStrictlyIncreasing}
+use Rattle.point_set.specs.Runs.{AreRuns}
+use Rattle.semantics.specs.Tables as tables
+use Rattle.log_tables.specs.declared.entries.Space as spaces
+
+-- A space is seen as its id and its points.
+abbrev pub space_seen : {P : Type 0} → (P → List ℕ) → spaces.Space P → tables.Space
+space_seen points s = record { id = s.id; points = points s.set }
+
+-- The runs of a record's set ascend, and so do the fields of a field space, a requirement or an instance.
+abbrev pub Ascends : Record → Type 0
+Ascends (Ispace id set) = AreRuns set
+Ascends (Fields id fields) = IsStrictlyIncreasing fields
+Ascends (Req task tree space fields access atomic) = IsStrictlyIncreasing fields
+Ascends (Inst id tree space fields kind) = IsStrictlyIncreasing fields
+Ascends _ = Unit {0}
+
+-- The record is about spaces, partitions, fields, trees or operators.
+abbrev pub IsOfRegions : Record → Type 0
+IsOfRegions (Ispace id set) = Unit {0}
+IsOfRegions (Part id space disjoint) = Unit {0}
+IsOfRegions (Sub part colour space) = Unit {0}
+IsOfRegions (Fields id fields) = Unit {0}
+IsOfRegions (Tree id space fspace) = Unit {0}
+IsOfRegions (Redop id) = Unit {0}
+IsOfRegions _ = ⊥
+
+-- The record is about items, requirements, instances or maps.
+abbrev pub IsOfItems : Record → Type 0
+IsOfItems (Task id) = Unit {0}
+IsOfItems (Req task tree space fields access atomic) = Unit {0}
+IsOfItems (Fill id tree space fields n) = Unit {0}
+IsOfItems (Serial ids) = Unit {0}
+IsOfItems (Inst id tree space fields kind) = Unit {0}
+IsOfItems (Map task number fields inst) = Unit {0}
+IsOfItems _ = ⊥
+
+-- The record is about a node of the recorded run.
+abbrev pub IsOfNodes : Record → Type 0
+IsOfNodes (Run task done waits) = Unit {0}
+IsOfNodes (Copy src dst space fields done waits) = Unit {0}
+IsOfNodes (Put inst space fields n done waits) = Unit {0}
+IsOfNodes (Reset inst space fields done waits) = Unit {0}
+IsOfNodes (Fold src dst space fields done waits) = Unit {0}
+IsOfNodes (Merge done waits) = Unit {0}
+IsOfNodes _ = ⊥

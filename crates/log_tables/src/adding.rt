@@ -1,0 +1,202 @@
+//! One record more.
+
+ghost use Rattle.std.specs.Prelude.{◌≡◌, ◌<◌, ◌≤◌, ◌+◌, ◌-◌, ◌^◌, length, OnOk, IfOk};
+ghost use Rattle.semantics.specs.Tables.{with_record, privilege_of, coherence_of, points_of};
+ghost use Rattle.log_tables.specs.Views.{Ascends, IsOfRegions, IsOfItems, IsOfNodes};
+ghost use Rattle.spy_grammar.specs.declared.record.Record.TheVariants as records;
+ghost use Rattle.std.specs.List.Sorted.{IsStrictlyIncreasing};
+ghost use Rattle.point_set.specs.Runs.{AreRuns};
+
+use crate::draft::Draft;
+use bumpalo::Bump;
+use privilege::{Coherence, Priv};
+use region_tree::{ArenaSet, Memory};
+use semantics::{Inst, ItemBody, Op, Req};
+use spy_grammar::Record;
+use spy_words::{Nums, PrivWord};
+use std::alloc::{AllocError, Global};
+
+/// A list of the same numbers.
+fn copied(alloc: Global, numbers: &Nums) -> Result<Nums, AllocError>
+    ensures { IfOk result (λ copy. copy ≡ numbers.now) }
+{
+    Ok(Nums::from_vec(Vec::from_slice(alloc, numbers.as_slice())?))
+}
+
+/// The privilege that a word spells.
+pub(crate) fn priv_of(word: PrivWord) -> Priv
+    ensures { result ≡ privilege_of word }
+{
+    match word {
+        PrivWord::Ro => Priv::Ro,
+        PrivWord::Rw => Priv::Rw,
+        PrivWord::Wd => Priv::Wd,
+        PrivWord::Red(op) => Priv::Red(op),
+    }
+}
+
+/// The coherence, by whether it is atomic.
+fn coherence_word(atomic: bool) -> Coherence
+    ensures { result ≡ coherence_of atomic }
+{
+    if atomic {
+        Coherence::Atomic
+    } else {
+        Coherence::Exclusive
+    }
+}
+
+/// The set of these runs, in the arena.
+fn placed<'a, P: ArenaSet<'a>>(bump: &'a Bump, runs: &[(u64, u64)]) -> Result<P, Memory>
+    requires { AreRuns runs.now }
+    ensures { IfOk result (λ set. P.points set ≡ points_of runs.now) }
+{
+    let set = P::place(bump, runs)?;
+    Ok(set)
+}
+
+impl<'a, P: ArenaSet<'a>> Draft<P> {
+    /// What a record on spaces, partitions, trees and operators declares.
+    fn add_region(&mut self, alloc: Global, bump: &'a Bump, line: u32, rec: &Record) -> Result<(), Memory>
+        requires ascends { Ascends rec.now }
+        requires kind { IsOfRegions rec.now }
+        ensures { OnOk result (self.new ≡ with_record self.old line rec.now) }
+    {
+        match rec {
+            Record::Ispace { id, set } => {
+                let set = placed(bump, set.as_slice())?;
+                self.add_space(*id, set)?;
+            }
+            Record::Part { id, space, disjoint } => self.add_part(*id, *space, *disjoint)?,
+            Record::Sub { part, colour, space } => self.add_sub(*part, *colour, *space)?,
+            Record::Fields { id, fields } => {
+                let fields = copied(alloc, fields)?;
+                self.add_field_space(*id, fields)?;
+            }
+            Record::Tree { id, space, fspace } => self.add_tree(*id, *space, *fspace)?,
+            Record::Redop { id } => self.add_operator(*id)?,
+            _ => {}
+        }
+        Ok(())
+    }
+
+    /// One requirement of a task more.
+    fn add_req_of(&mut self, line: u32, task: u32, tree: u32, space: u32, fields: Nums, access: PrivWord, atomic: bool) -> Result<(), AllocError>
+        requires few { length self.old.reqs < 2 ^ 32 - 1 }
+        requires ascend { IsStrictlyIncreasing fields }
+        ensures { OnOk result (self.new ≡ with_record self.old line (records.Req task tree space fields access atomic)) }
+    {
+        let item = self.place(task);
+        let number = self.req_count(item) as u32 + 1;
+        self.add_req(Req {
+            item,
+            number,
+            line,
+            tree,
+            space,
+            fields,
+            access: priv_of(access),
+            coherence: coherence_word(atomic),
+        })
+    }
+
+    /// What a record on items declares.
+    fn add_of_items(&mut self, alloc: Global, line: u32, rec: &Record) -> Result<(), Memory>
+        requires ascends { Ascends rec.now }
+        requires few { length self.old.reqs < 2 ^ 32 - 1 }
+        requires kind { IsOfItems rec.now }
+        ensures { OnOk result (self.new ≡ with_record self.old line rec.now) }
+    {
+        match rec {
+            Record::Task { id } => self.add_item(*id, line, ItemBody::Task)?,
+            Record::Req { task, tree, space, fields, access, atomic } => {
+                let fields = copied(alloc, fields)?;
+                self.add_req_of(line, *task, *tree, *space, fields, *access, *atomic)?;
+            }
+            Record::Fill { id, tree, space, fields, n } => {
+                let fields = copied(alloc, fields)?;
+                self.add_item(*id, line, ItemBody::Fill { tree: *tree, space: *space, fields, n: *n })?;
+            }
+            Record::Serial { items } => {
+                let ids = copied(alloc, items)?;
+                self.add_serial(line, ids)?;
+            }
+            Record::Inst { id, tree, space, fields, kind } => {
+                let fields = copied(alloc, fields)?;
+                self.add_inst(Inst { id: *id, tree: *tree, space: *space, fields, kind: *kind })?;
+            }
+            Record::Map { task, req, fields, inst } => {
+                let item = self.place(*task);
+                let fields = copied(alloc, fields)?;
+                self.add_map(item, *req, fields, *inst)?;
+            }
+            _ => {}
+        }
+        Ok(())
+    }
+
+    /// What a record on nodes declares.
+    fn add_of_nodes(&mut self, alloc: Global, line: u32, rec: &Record) -> Result<(), Memory>
+        requires { IsOfNodes rec.now }
+        ensures { OnOk result (self.new ≡ with_record self.old line rec.now) }
+    {
+        match rec {
+            Record::Run { task, done, waits } => {
+                let item = self.place(*task);
+                let waits = copied(alloc, waits)?;
+                self.add_node(line, *done, waits, Op::Run { item })?;
+            }
+            Record::Copy { src, dst, space, fields, done, waits } => {
+                let fields = copied(alloc, fields)?;
+                let waits = copied(alloc, waits)?;
+                self.add_node(line, *done, waits, Op::Copy { src: *src, dst: *dst, space: *space, fields })?;
+            }
+            Record::Put { inst, space, fields, n, done, waits } => {
+                let fields = copied(alloc, fields)?;
+                let waits = copied(alloc, waits)?;
+                self.add_node(line, *done, waits, Op::Put { inst: *inst, space: *space, fields, n: *n })?;
+            }
+            Record::Reset { inst, space, fields, done, waits } => {
+                let fields = copied(alloc, fields)?;
+                let waits = copied(alloc, waits)?;
+                self.add_node(line, *done, waits, Op::Reset { inst: *inst, space: *space, fields })?;
+            }
+            Record::Fold { src, dst, space, fields, done, waits } => {
+                let fields = copied(alloc, fields)?;
+                let waits = copied(alloc, waits)?;
+                self.add_node(line, *done, waits, Op::Fold { src: *src, dst: *dst, space: *space, fields })?;
+            }
+            Record::Merge { done, waits } => {
+                let waits = copied(alloc, waits)?;
+                self.add_node(line, *done, waits, Op::Merge)?;
+            }
+            _ => {}
+        }
+        Ok(())
+    }
+
+    /// What one record more declares.
+    pub fn add(&mut self, alloc: Global, bump: &'a Bump, line: u32, rec: &Record) -> Result<(), Memory>
+        requires ascends { Ascends rec.now }
+        requires few { length self.old.reqs < 2 ^ 32 - 1 }
+        ensures ok { OnOk result (self.new ≡ with_record self.old line rec.now) }
+        ensures few { OnOk result (length self.new.reqs ≤ length self.old.reqs + 1) }
+    {
+        match rec {
+            Record::Header { .. } | Record::End { .. } => Ok(()),
+            Record::Ispace { .. }
+            | Record::Part { .. }
+            | Record::Sub { .. }
+            | Record::Fields { .. }
+            | Record::Tree { .. }
+            | Record::Redop { .. } => self.add_region(alloc, bump, line, rec),
+            Record::Task { .. }
+            | Record::Req { .. }
+            | Record::Fill { .. }
+            | Record::Serial { .. }
+            | Record::Inst { .. }
+            | Record::Map { .. } => self.add_of_items(alloc, line, rec),
+            _ => self.add_of_nodes(alloc, line, rec),
+        }
+    }
+}

@@ -1,0 +1,171 @@
+//! Tables of a log, as they grow.
+
+ghost use Rattle.std.specs.Prelude.{◌≡◌, ◌++◌, ◌∷◌, [], ◌^◌, ◌<◌, length, OnOk};
+ghost use Rattle.std.specs.List.Sorted.{IsStrictlyIncreasing};
+ghost use Rattle.semantics.specs.Tables.{no_tables, with_item, with_node};
+
+use crate::entries::{Space, SubKey};
+use crate::maps::Maps;
+use crate::rows::Rows;
+use crate::reqs::Reqs;
+use crate::two_rows::TwoRows;
+use point_set::PointSet;
+use semantics::{FieldSpace, Inst, Item, ItemBody, LogNode, Map, Op, Part, Req, Serial, Sub, Tree};
+use spy_words::Nums;
+use std::alloc::{AllocError, Global};
+use std::marker::Model;
+
+/// What the records of a log declare so far.
+#[derive(Drop)]
+pub struct Draft<P: PointSet> {
+    pub(crate) spaces: Rows<u32, Space<P>>,
+    pub(crate) parts: TwoRows<u32, u32, Part>,
+    pub(crate) subs: TwoRows<SubKey, u32, Sub>,
+    pub(crate) field_spaces: Rows<u32, FieldSpace>,
+    pub(crate) trees: TwoRows<u32, u32, Tree>,
+    pub(crate) operators: Rows<u32, u32>,
+    pub(crate) items: TwoRows<u32, Option<u32>, Item>,
+    pub(crate) reqs: Reqs,
+    pub(crate) serials: Vec<Serial>,
+    pub(crate) insts: Rows<u32, Inst>,
+    pub(crate) maps: Maps,
+    pub(crate) nodes: TwoRows<u32, Option<usize>, LogNode>,
+}
+
+impl<P: PointSet> Model for Draft<P> {
+    ghost use Rattle.std.specs.Prelude.{map};
+    ghost use Rattle.semantics.specs.Tables.{Tables};
+    ghost use Rattle.log_tables.specs.Ascending.{FieldsAscend};
+    ghost use Rattle.log_tables.specs.Views.{space_seen};
+
+    ghost Value = { Tables };
+
+    ghost view = { λ d. record {
+        spaces = map (space_seen P.points) d.spaces; parts = d.parts; subs = d.subs;
+        field_spaces = d.field_spaces; trees = d.trees; operators = d.operators;
+        items = d.items; reqs = d.reqs; serials = d.serials.items; insts = d.insts;
+        maps = d.maps; nodes = d.nodes
+    } };
+
+    ghost invariant = { λ d. FieldsAscend d.field_spaces d.reqs d.insts };
+}
+
+#[tactic(auto, using(crate::proofs::Ascending::space_more, crate::proofs::Ascending::req_more, crate::proofs::Ascending::inst_more))]
+impl<P: PointSet> Draft<P> {
+    /// Nothing is declared.
+    pub fn new(alloc: Global) -> Draft<P>
+        ensures { result ≡ no_tables }
+    {
+        Draft {
+            spaces: Rows::new(alloc),
+            parts: TwoRows::new(alloc),
+            subs: TwoRows::new(alloc),
+            field_spaces: Rows::new(alloc),
+            trees: TwoRows::new(alloc),
+            operators: Rows::new(alloc),
+            items: TwoRows::new(alloc),
+            reqs: Reqs::new(alloc),
+            serials: Vec::new(alloc),
+            insts: Rows::new(alloc),
+            maps: Maps::new(alloc),
+            nodes: TwoRows::new(alloc),
+        }
+    }
+
+    pub(crate) fn add_space(&mut self, id: u32, set: P) -> Result<(), AllocError>
+    where
+        P: Drop,
+        ensures { OnOk result (self.new ≡ record self.old { spaces = self.old.spaces ++ record { id = id; points = P.points set } ∷ [] }) }
+    {
+        self.spaces.push(Space { id, set })
+    }
+
+    pub(crate) fn add_part(&mut self, id: u32, space: u32, disjoint: bool) -> Result<(), AllocError>
+        ensures { OnOk result (self.new ≡ record self.old { parts = self.old.parts ++ record { id = id; space = space; disjoint = disjoint } ∷ [] }) }
+    {
+        self.parts.push(Part {
+            id,
+            space,
+            disjoint,
+        })
+    }
+
+    pub(crate) fn add_sub(&mut self, part: u32, colour: u32, space: u32) -> Result<(), AllocError>
+        ensures { OnOk result (self.new ≡ record self.old { subs = self.old.subs ++ record { part = part; colour = colour; space = space } ∷ [] }) }
+    {
+        self.subs.push(Sub {
+            part,
+            colour,
+            space,
+        })
+    }
+
+    pub(crate) fn add_field_space(&mut self, id: u32, fields: Nums) -> Result<(), AllocError>
+        requires { IsStrictlyIncreasing fields }
+        ensures { OnOk result (self.new ≡ record self.old { field_spaces = self.old.field_spaces ++ record { id = id; fields = fields } ∷ [] }) }
+    {
+        self.field_spaces.push(FieldSpace { id, fields })
+    }
+
+    pub(crate) fn add_tree(&mut self, id: u32, space: u32, fspace: u32) -> Result<(), AllocError>
+        ensures { OnOk result (self.new ≡ record self.old { trees = self.old.trees ++ record { id = id; space = space; fspace = fspace } ∷ [] }) }
+    {
+        self.trees.push(Tree { id, space, fspace })
+    }
+
+    pub(crate) fn add_operator(&mut self, id: u32) -> Result<(), AllocError>
+        ensures { OnOk result (self.new ≡ record self.old { operators = self.old.operators ++ id ∷ [] }) }
+    {
+        self.operators.push(id)
+    }
+
+    pub(crate) fn add_item(&mut self, id: u32, line: u32, body: ItemBody) -> Result<(), AllocError>
+        ensures { OnOk result (self.new ≡ with_item self.old line id body) }
+    {
+        self.items.push(Item { id, line, body })
+    }
+
+    pub(crate) fn add_req(&mut self, req: Req) -> Result<(), AllocError>
+        requires few { length self.old.reqs < 2 ^ 32 }
+        requires ascend { IsStrictlyIncreasing req.fields }
+        ensures { OnOk result (self.new ≡ record self.old { reqs = self.old.reqs ++ req ∷ [] }) }
+    {
+        self.reqs.push(req)
+    }
+
+    pub(crate) fn add_serial(&mut self, line: u32, ids: Nums) -> Result<(), AllocError>
+        ensures { OnOk result (self.new ≡ record self.old { serials = self.old.serials ++ record { line = line; ids = ids } ∷ [] }) }
+    {
+        self.serials.push(Serial { line, ids })?;
+        Ok(())
+    }
+
+    pub(crate) fn add_inst(&mut self, inst: Inst) -> Result<(), AllocError>
+        requires { IsStrictlyIncreasing inst.fields }
+        ensures { OnOk result (self.new ≡ record self.old { insts = self.old.insts ++ inst ∷ [] }) }
+    {
+        self.insts.push(inst)
+    }
+
+    pub(crate) fn add_map(&mut self, item: usize, number: u32, fields: Nums, inst: u32) -> Result<(), AllocError>
+        ensures { OnOk result (self.new ≡ record self.old { maps = self.old.maps ++ record { item = item; number = number; fields = fields; inst = inst } ∷ [] }) }
+    {
+        self.maps.push(Map {
+            item,
+            number,
+            fields,
+            inst,
+        })
+    }
+
+    pub(crate) fn add_node(&mut self, line: u32, done: u32, waits: Nums, op: Op) -> Result<(), AllocError>
+        ensures { OnOk result (self.new ≡ with_node self.old line done waits op) }
+    {
+        self.nodes.push(LogNode {
+            line,
+            done,
+            waits,
+            op,
+        })
+    }
+}

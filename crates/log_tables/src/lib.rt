@@ -1,0 +1,19 @@
+//! What a log declares, as it is looked up.
+#![tactic(auto)]
+
+mod adding;
+mod declared;
+mod draft;
+mod entries;
+mod lookups;
+mod maps;
+mod reqs;
+mod rows;
+mod two_rows;
+
+pub use draft::Draft;
+pub use entries::{ReqKey, Space, SubKey};
+pub use maps::{FieldKey, Maps};
+pub use rows::{Keyed, Rows};
+pub use two_rows::{AlsoKeyed, TwoRows};
+pub use reqs::Reqs;

@@ -1,0 +1,129 @@
+//! Rows that are looked up by a key.
+
+ghost use Rattle.std.specs.Prelude.{◌≡◌, ◌++◌, ◌∷◌, [], OnOk, OnErr, IsOk, ◌<◌, ◌≤◌, ◌+◌, Some, None, find, length, slice_get, option_and_then, if◌then◌else◌};
+ghost use Rattle.std.specs.List.{list_any, position_from};
+ghost use Rattle.std.specs.Option.{option_copied, option_or};
+ghost use Rattle.indexmap.specs.IndexMap.{get, spare};
+
+use indexmap::IndexMap;
+use std::alloc::{AllocError, Global};
+use std::hash::Hash;
+use std::marker::Model;
+
+/// What has a key.
+pub trait Keyed<K> {
+    ghost key_of: { Self → K };
+
+    fn key(&self) -> K
+        ensures { result ≡ key_of self.now };
+}
+
+/// Rows in the order in which they were added, which contracts see as a list. A row is looked up by its key in constant time: of rows with one key, the first.
+#[derive(Drop)]
+pub struct Rows<K: Copy + Eq + Hash, T: Keyed<K>> {
+    rows: Vec<T>,
+    places: IndexMap<K, usize>,
+}
+
+impl<K: Copy + Eq + Hash, T: Keyed<K>> Model for Rows<K, T> {
+    ghost use Rattle.std.specs.Prelude.{◌≡◌, List};
+    ghost use Rattle.std.specs.List.{position_from};
+    ghost use Rattle.indexmap.specs.IndexMap.{get};
+
+    ghost Value = { List T };
+
+    ghost view = { λ r. r.rows.items };
+
+    ghost invariant = { λ r. (q : K) → get K.eq r.places q ≡ position_from (λ x. K.eq (T.key_of x) q) 0 r.rows.items };
+}
+
+/// Notes a value of a key, if the key has none yet.
+pub(crate) fn note_first<K: Copy + Eq + Hash, V: Copy>(
+    values: &mut IndexMap<K, V>,
+    key: K,
+    value: V,
+) -> Result<(), AllocError>
+    ensures ok { OnOk result ((q : K) → get K.eq values.new q ≡ option_or (get K.eq values.old q) (if K.eq key q then Some value else None)) }
+    ensures err { OnErr result ((q : K) → get K.eq values.new q ≡ get K.eq values.old q) }
+    ensures room { 0 < spare values.old → IsOk result }
+    ensures spare { spare values.old ≤ spare values.new + 1 }
+{
+    if !values.contains_key(&key) {
+        values.insert(key, value)?;
+    }
+    Ok(())
+}
+
+/// The row at a place.
+pub(crate) fn row_at<T>(rows: &[T], place: Option<usize>) -> Option<&T>
+    ensures { option_copied result ≡ option_and_then (slice_get rows.now) place }
+{
+    rows.get(place?)
+}
+
+impl<K: Copy + Eq + Hash, T: Keyed<K>> Rows<K, T> {
+    /// No rows.
+    pub fn new(alloc: Global) -> Rows<K, T>
+        ensures { result ≡ [] }
+    {
+        Rows {
+            rows: Vec::new(alloc),
+            places: IndexMap::new(alloc),
+        }
+    }
+
+    /// The rows.
+    pub fn as_slice(&self) -> &[T]
+        ensures { result.now ≡ self.now }
+    {
+        &self.rows
+    }
+
+    /// How many rows there are.
+    pub fn len(&self) -> usize
+        ensures { result ≡ length self.now }
+    {
+        self.rows.len()
+    }
+
+    /// The rows, handed back.
+    pub fn into_vec(self) -> Vec<T>
+        ensures { result.items ≡ self }
+    {
+        self.rows
+    }
+
+    /// The place of the first row with this key.
+    pub fn place(&self, key: K) -> Option<usize>
+        ensures { result ≡ position_from (λ x. K.eq (T.key_of x) key) 0 self.now }
+    {
+        self.places.get(&key).copied()
+    }
+
+    /// Whether a row has this key.
+    pub fn has(&self, key: K) -> bool
+        ensures { result ≡ list_any (λ x. K.eq (T.key_of x) key) self.now }
+    {
+        self.places.contains_key(&key)
+    }
+
+    /// The first row with this key.
+    pub fn get(&self, key: K) -> Option<&T>
+        ensures { option_copied result ≡ find (λ x. K.eq (T.key_of x) key) self.now }
+    {
+        row_at(&self.rows, self.place(key))
+    }
+
+    /// One row more.
+    pub fn push(&mut self, row: T) -> Result<(), AllocError>
+    where
+        T: Drop,
+        ensures ok { OnOk result (self.new ≡ self.old ++ row ∷ []) }
+        ensures err { OnErr result (self.new ≡ self.old) }
+    {
+        self.rows.reserve(1)?;
+        note_first(&mut self.places, row.key(), self.rows.len())?;
+        self.rows.push(row)?;
+        Ok(())
+    }
+}
