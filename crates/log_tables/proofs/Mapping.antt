@@ -2,7 +2,6 @@
 use Rattle.std.proofs.Common.{◌≡◌, ℕ, ◌+◌, ◌<◌, ◌==◌, Bool, true, false, ◌&&◌, ◌||◌, cond, List, [], ◌∷◌, ◌++◌, take, get_or, length, find, Option, Some, None, refl, ap, ◌∙◌, sym}
 use Rattle.std.specs.Option.{option_or, option_map}
 use Rattle.std.proofs.lemmas.List.Folds.{list_any_more, find-append}
-use Rattle.std.proofs.lemmas.Bool.{cases_Bool}
 use Rattle.semantics.specs.declared.tables.Map.{Map}
 use Rattle.semantics.specs.Points.{is_in}
 use Rattle.log_tables.specs.declared.maps.FieldKey.{FieldKey}
@@ -35,7 +34,7 @@ pub mapped_more : (maps : List Map) (m : Map) (k : FieldKey) → option_or (inst
 mapped_more maps m k =
     let p : Map → Bool = λ (x : Map). names_field x.item x.number x.fields k in
     sym (
-      ap (option_map (λ (x : Map). x.inst)) (find-append p maps (m ∷ []))
-      ∙ or_map (find p maps) (find p (m ∷ []))
-      ∙ ap (option_or (inst_mapped maps k)) (one_map m (p m))
+    ap (option_map (λ (x : Map). x.inst)) (find-append p maps (m ∷ []))
+    ∙ or_map (find p maps) (find p (m ∷ []))
+    ∙ ap (option_or (inst_mapped maps k)) (one_map m (p m))
     )

@@ -1,5 +1,5 @@
 -- Places of rows, and the rows at them.
-use Rattle.std.proofs.Common.{◌≡◌, ℕ, suc, zero, ◌+◌, ◌-◌, ◌≤◌, Bool, true, false, ◌||◌, List, [], ◌∷◌, ◌++◌, map, Option, Some, None, is_some, length, cond, refl, sym, ap, ◌∙◌, inl, inr, arith, find, slice_get, All, subst, Bor, IfSome}
+use Rattle.std.proofs.Common.{◌≡◌, ℕ, suc, ◌+◌, ◌-◌, ◌≤◌, Bool, ◌||◌, List, [], ◌∷◌, ◌++◌, map, Option, Some, None, is_some, length, cond, refl, sym, ap, inl, inr, arith, find, slice_get, All, subst, Bor, IfSome}
 use Rattle.std.specs.List.{list_any, position_from}
 use Rattle.std.specs.Option.{option_and_then, option_or, option_map, option_copied}
 use Rattle.std.proofs.lemmas.Bool.{cases_Bool}

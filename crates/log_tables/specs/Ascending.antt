@@ -1,5 +1,5 @@
 -- Lists of fields that ascend.
-use Rattle.std.specs.Prelude.{ℕ, List, All}
+use Rattle.std.specs.Prelude.{List, All}
 use Rattle.std.specs.List.Sorted.{IsStrictlyIncreasing}
 use Rattle.semantics.specs.declared.tables.FieldSpace.{FieldSpace}
 use Rattle.semantics.specs.declared.tables.Req.{Req}

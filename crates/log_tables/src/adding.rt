@@ -57,7 +57,13 @@ fn placed<'a, P: ArenaSet<'a>>(bump: &'a Bump, runs: &[(u64, u64)]) -> Result<P,
 
 impl<'a, P: ArenaSet<'a>> Draft<P> {
     /// What a record on spaces, partitions, trees and operators declares.
-    fn add_region(&mut self, alloc: Global, bump: &'a Bump, line: u32, rec: &Record) -> Result<(), Memory>
+    fn add_region(
+        &mut self,
+        alloc: Global,
+        bump: &'a Bump,
+        line: u32,
+        rec: &Record,
+    ) -> Result<(), Memory>
         requires ascends { Ascends rec.now }
         requires kind { IsOfRegions rec.now }
         ensures { OnOk result (self.new ≡ with_record self.old line rec.now) }
@@ -67,8 +73,16 @@ impl<'a, P: ArenaSet<'a>> Draft<P> {
                 let set = placed(bump, set.as_slice())?;
                 self.add_space(*id, set)?;
             }
-            Record::Part { id, space, disjoint } => self.add_part(*id, *space, *disjoint)?,
-            Record::Sub { part, colour, space } => self.add_sub(*part, *colour, *space)?,
+            Record::Part {
+                id,
+                space,
+                disjoint,
+            } => self.add_part(*id, *space, *disjoint)?,
+            Record::Sub {
+                part,
+                colour,
+                space,
+            } => self.add_sub(*part, *colour, *space)?,
             Record::Fields { id, fields } => {
                 let fields = copied(alloc, fields)?;
                 self.add_field_space(*id, fields)?;
@@ -81,7 +95,16 @@ impl<'a, P: ArenaSet<'a>> Draft<P> {
     }
 
     /// One requirement of a task more.
-    fn add_req_of(&mut self, line: u32, task: u32, tree: u32, space: u32, fields: Nums, access: PrivWord, atomic: bool) -> Result<(), AllocError>
+    fn add_req_of(
+        &mut self,
+        line: u32,
+        task: u32,
+        tree: u32,
+        space: u32,
+        fields: Nums,
+        access: PrivWord,
+        atomic: bool,
+    ) -> Result<(), AllocError>
         requires few { length self.old.reqs < 2 ^ 32 - 1 }
         requires ascend { IsStrictlyIncreasing fields }
         ensures { OnOk result (self.new ≡ with_record self.old line (records.Req task tree space fields access atomic)) }
@@ -109,23 +132,62 @@ impl<'a, P: ArenaSet<'a>> Draft<P> {
     {
         match rec {
             Record::Task { id } => self.add_item(*id, line, ItemBody::Task)?,
-            Record::Req { task, tree, space, fields, access, atomic } => {
+            Record::Req {
+                task,
+                tree,
+                space,
+                fields,
+                access,
+                atomic,
+            } => {
                 let fields = copied(alloc, fields)?;
                 self.add_req_of(line, *task, *tree, *space, fields, *access, *atomic)?;
             }
-            Record::Fill { id, tree, space, fields, n } => {
+            Record::Fill {
+                id,
+                tree,
+                space,
+                fields,
+                n,
+            } => {
                 let fields = copied(alloc, fields)?;
-                self.add_item(*id, line, ItemBody::Fill { tree: *tree, space: *space, fields, n: *n })?;
+                self.add_item(
+                    *id,
+                    line,
+                    ItemBody::Fill {
+                        tree: *tree,
+                        space: *space,
+                        fields,
+                        n: *n,
+                    },
+                )?;
             }
             Record::Serial { items } => {
                 let ids = copied(alloc, items)?;
                 self.add_serial(line, ids)?;
             }
-            Record::Inst { id, tree, space, fields, kind } => {
+            Record::Inst {
+                id,
+                tree,
+                space,
+                fields,
+                kind,
+            } => {
                 let fields = copied(alloc, fields)?;
-                self.add_inst(Inst { id: *id, tree: *tree, space: *space, fields, kind: *kind })?;
+                self.add_inst(Inst {
+                    id: *id,
+                    tree: *tree,
+                    space: *space,
+                    fields,
+                    kind: *kind,
+                })?;
             }
-            Record::Map { task, req, fields, inst } => {
+            Record::Map {
+                task,
+                req,
+                fields,
+                inst,
+            } => {
                 let item = self.place(*task);
                 let fields = copied(alloc, fields)?;
                 self.add_map(item, *req, fields, *inst)?;
@@ -146,25 +208,91 @@ impl<'a, P: ArenaSet<'a>> Draft<P> {
                 let waits = copied(alloc, waits)?;
                 self.add_node(line, *done, waits, Op::Run { item })?;
             }
-            Record::Copy { src, dst, space, fields, done, waits } => {
+            Record::Copy {
+                src,
+                dst,
+                space,
+                fields,
+                done,
+                waits,
+            } => {
                 let fields = copied(alloc, fields)?;
                 let waits = copied(alloc, waits)?;
-                self.add_node(line, *done, waits, Op::Copy { src: *src, dst: *dst, space: *space, fields })?;
+                self.add_node(
+                    line,
+                    *done,
+                    waits,
+                    Op::Copy {
+                        src: *src,
+                        dst: *dst,
+                        space: *space,
+                        fields,
+                    },
+                )?;
             }
-            Record::Put { inst, space, fields, n, done, waits } => {
+            Record::Put {
+                inst,
+                space,
+                fields,
+                n,
+                done,
+                waits,
+            } => {
                 let fields = copied(alloc, fields)?;
                 let waits = copied(alloc, waits)?;
-                self.add_node(line, *done, waits, Op::Put { inst: *inst, space: *space, fields, n: *n })?;
+                self.add_node(
+                    line,
+                    *done,
+                    waits,
+                    Op::Put {
+                        inst: *inst,
+                        space: *space,
+                        fields,
+                        n: *n,
+                    },
+                )?;
             }
-            Record::Reset { inst, space, fields, done, waits } => {
+            Record::Reset {
+                inst,
+                space,
+                fields,
+                done,
+                waits,
+            } => {
                 let fields = copied(alloc, fields)?;
                 let waits = copied(alloc, waits)?;
-                self.add_node(line, *done, waits, Op::Reset { inst: *inst, space: *space, fields })?;
+                self.add_node(
+                    line,
+                    *done,
+                    waits,
+                    Op::Reset {
+                        inst: *inst,
+                        space: *space,
+                        fields,
+                    },
+                )?;
             }
-            Record::Fold { src, dst, space, fields, done, waits } => {
+            Record::Fold {
+                src,
+                dst,
+                space,
+                fields,
+                done,
+                waits,
+            } => {
                 let fields = copied(alloc, fields)?;
                 let waits = copied(alloc, waits)?;
-                self.add_node(line, *done, waits, Op::Fold { src: *src, dst: *dst, space: *space, fields })?;
+                self.add_node(
+                    line,
+                    *done,
+                    waits,
+                    Op::Fold {
+                        src: *src,
+                        dst: *dst,
+                        space: *space,
+                        fields,
+                    },
+                )?;
             }
             Record::Merge { done, waits } => {
                 let waits = copied(alloc, waits)?;
@@ -176,7 +304,13 @@ impl<'a, P: ArenaSet<'a>> Draft<P> {
     }
 
     /// What one record more declares.
-    pub fn add(&mut self, alloc: Global, bump: &'a Bump, line: u32, rec: &Record) -> Result<(), Memory>
+    pub fn add(
+        &mut self,
+        alloc: Global,
+        bump: &'a Bump,
+        line: u32,
+        rec: &Record,
+    ) -> Result<(), Memory>
         requires ascends { Ascends rec.now }
         requires few { length self.old.reqs < 2 ^ 32 - 1 }
         ensures ok { OnOk result (self.new ≡ with_record self.old line rec.now) }

@@ -6,8 +6,8 @@ ghost use Rattle.semantics.specs.Tables.{no_tables, with_item, with_node};
 
 use crate::entries::{Space, SubKey};
 use crate::maps::Maps;
-use crate::rows::Rows;
 use crate::reqs::Reqs;
+use crate::rows::Rows;
 use crate::two_rows::TwoRows;
 use point_set::PointSet;
 use semantics::{FieldSpace, Inst, Item, ItemBody, LogNode, Map, Op, Part, Req, Serial, Sub, Tree};
@@ -41,10 +41,18 @@ impl<P: PointSet> Model for Draft<P> {
     ghost Value = { Tables };
 
     ghost view = { λ d. record {
-        spaces = map (space_seen P.points) d.spaces; parts = d.parts; subs = d.subs;
-        field_spaces = d.field_spaces; trees = d.trees; operators = d.operators;
-        items = d.items; reqs = d.reqs; serials = d.serials.items; insts = d.insts;
-        maps = d.maps; nodes = d.nodes
+      spaces = map (space_seen P.points) d.spaces;
+      parts = d.parts;
+      subs = d.subs;
+      field_spaces = d.field_spaces;
+      trees = d.trees;
+      operators = d.operators;
+      items = d.items;
+      reqs = d.reqs;
+      serials = d.serials.items;
+      insts = d.insts;
+      maps = d.maps;
+      nodes = d.nodes;
     } };
 
     ghost invariant = { λ d. FieldsAscend d.field_spaces d.reqs d.insts };
@@ -147,7 +155,13 @@ impl<P: PointSet> Draft<P> {
         self.insts.push(inst)
     }
 
-    pub(crate) fn add_map(&mut self, item: usize, number: u32, fields: Nums, inst: u32) -> Result<(), AllocError>
+    pub(crate) fn add_map(
+        &mut self,
+        item: usize,
+        number: u32,
+        fields: Nums,
+        inst: u32,
+    ) -> Result<(), AllocError>
         ensures { OnOk result (self.new ≡ record self.old { maps = self.old.maps ++ record { item = item; number = number; fields = fields; inst = inst } ∷ [] }) }
     {
         self.maps.push(Map {
@@ -158,7 +172,13 @@ impl<P: PointSet> Draft<P> {
         })
     }
 
-    pub(crate) fn add_node(&mut self, line: u32, done: u32, waits: Nums, op: Op) -> Result<(), AllocError>
+    pub(crate) fn add_node(
+        &mut self,
+        line: u32,
+        done: u32,
+        waits: Nums,
+        op: Op,
+    ) -> Result<(), AllocError>
         ensures { OnOk result (self.new ≡ with_node self.old line done waits op) }
     {
         self.nodes.push(LogNode {

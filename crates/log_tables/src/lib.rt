@@ -14,6 +14,6 @@ mod two_rows;
 pub use draft::Draft;
 pub use entries::{ReqKey, Space, SubKey};
 pub use maps::{FieldKey, Maps};
+pub use reqs::Reqs;
 pub use rows::{Keyed, Rows};
 pub use two_rows::{AlsoKeyed, TwoRows};
-pub use reqs::Reqs;

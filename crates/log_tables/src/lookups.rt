@@ -13,8 +13,8 @@ ghost use Rattle.log_tables.specs.Mapped.{inst_mapped};
 
 use crate::draft::Draft;
 use crate::maps::FieldKey;
-use point_set::PointSet;
 use crate::rows::Rows;
+use point_set::PointSet;
 use semantics::{FieldSpace, Inst, Item, LogNode, Map, Part, Req, Serial, Sub, Tree};
 
 fn place_in(items: &Rows<u32, Item>, id: u32) -> usize

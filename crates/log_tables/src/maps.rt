@@ -95,7 +95,13 @@ impl Maps {
     {
         self.rows.reserve(1)?;
         self.insts.reserve(map.fields.len())?;
-        note_fields(&mut self.insts, map.item, map.number, map.fields.as_slice(), map.inst)?;
+        note_fields(
+            &mut self.insts,
+            map.item,
+            map.number,
+            map.fields.as_slice(),
+            map.inst,
+        )?;
         self.rows.push(map)?;
         Ok(())
     }

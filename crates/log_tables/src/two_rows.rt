@@ -25,7 +25,8 @@ pub struct TwoRows<K: Copy + Eq + Hash, L: Copy + Eq + Hash, T: Keyed<K> + AlsoK
     places: IndexMap<L, usize>,
 }
 
-impl<K: Copy + Eq + Hash, L: Copy + Eq + Hash, T: Keyed<K> + AlsoKeyed<L>> Model for TwoRows<K, L, T> {
+impl<K: Copy + Eq + Hash, L: Copy + Eq + Hash, T: Keyed<K> + AlsoKeyed<L>> Model
+    for TwoRows<K, L, T> {
     ghost use Rattle.std.specs.Prelude.{◌≡◌, List};
     ghost use Rattle.std.specs.List.{position_from};
     ghost use Rattle.indexmap.specs.IndexMap.{get};

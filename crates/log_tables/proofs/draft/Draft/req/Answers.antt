@@ -1,4 +1,4 @@
-use Rattle.std.proofs.Common.{ℕ, ◌==◌, ◌&&◌}
+use Rattle.std.proofs.Common.{◌==◌, ◌&&◌}
 use Rattle.std.specs.List.Sorted.{IsStrictlyIncreasing}
 use Rattle.semantics.specs.declared.tables.Req.{Req}
 use Rattle.log_tables.proofs.Places.{all_found_behind}
