@@ -12,7 +12,8 @@ use Rattle.privilege.specs.declared.kinds.Priv.TheVariants as privileges
 use Rattle.privilege.specs.Interference.{agree}
 use Rattle.semantics.specs.declared.tables.Req.{Req}
 use Rattle.semantics.specs.declared.tables.Inst.{Inst}
-use Rattle.semantics.specs.Tables.{Tables, Space, Map, with_record, no_tables, place_of, reqs_before}
+use Rattle.semantics.specs.declared.tables.Map.{Map}
+use Rattle.semantics.specs.Tables.{Tables, Space, with_record, no_tables, place_of, reqs_before}
 use Rattle.semantics.specs.Points.{meets, points_in}
 use Rattle.semantics.specs.Kinds.{grid, req_grid}
 use Rattle.semantics.specs.Reads.{req_at}

@@ -14,7 +14,8 @@ use Rattle.semantics.specs.declared.tables.Req.{Req}
 use Rattle.semantics.specs.declared.tables.LogNode.{LogNode}
 use Rattle.semantics.specs.declared.tables.Op.{Op}
 use Rattle.semantics.specs.declared.tables.Op.TheVariants as operations
-use Rattle.semantics.specs.Tables.{Tables, Map}
+use Rattle.semantics.specs.declared.tables.Map.{Map}
+use Rattle.semantics.specs.Tables.{Tables}
 use Rattle.semantics.specs.Points.{is_in, points_in}
 use Rattle.semantics.specs.Kinds.{reqs_of, grid, req_grid}
 use Rattle.semantics.specs.Steps.{id_of, mapped, mapped_cell, reads_by, changes_by, at_cells, run_moves, moves_of, steps}
