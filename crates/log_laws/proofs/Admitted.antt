@@ -12,7 +12,7 @@ use Rattle.semantics.specs.Records.{records_of}
 use Rattle.semantics.specs.Tables.{Tables, with_record, no_tables, tables_of}
 use Rattle.semantics.specs.Steps.{mapped}
 use Rattle.semantics.specs.Rules.{is_declared, names, repeats_event, waits_for_none}
-use Rattle.semantics.specs.Faults.{Command, Check, tried, records_fault, log_fault, header_fault, ended_fault, count_fault, serial_fault, map_fault}
+use Rattle.semantics.specs.Faults.{Command, Check, tried, records_fault, declaration_fault, log_fault, header_fault, ended_fault, count_fault, serial_fault, map_fault}
 use Rattle.log_laws.proofs.Members.{Member, member_of, none_found, both_none, unmapped_none, all_at}
 use Rattle.log_laws.proofs.Sane.{Keeps, AreSane, with_kept, nothing_sane}
 
@@ -65,11 +65,10 @@ pub record IsFaultless (command : Command) (log : List Lined) : Type 0 where
 pub faultless : (command : Command) (lines : ℕ) (log : List Lined) → log_fault command lines log ≡ None → IsFaultless command log
 unfolding log_fault
 faultless command lines log e =
-    let header = both_none (header_fault lines log) _ e in
+    let both = both_none (declaration_fault lines log) _ e in
+    let header = both_none (header_fault lines log) _ both.0 in
     let ended = both_none (ended_fault lines log) _ header.1 in
-    let count = both_none (count_fault log) _ ended.1 in
-    let records = both_none (records_fault (records_of log) [] log) _ count.1 in
-    record { records = records.0; maps = (both_none (serial_fault (tables_of log)) _ records.1).1 }
+    record { records = (both_none (count_fault log) _ ended.1).1; maps = (both_none (serial_fault (tables_of log)) _ both.1).1 }
 
 pub sane : (command : Command) (log : List Lined) → IsFaultless command log → AreSane (tables_of log)
 sane command log f = by_records (λ r. Unit {0}) AreSane (records_of log) (λ earlier l u _. with_kept (tables_of earlier) l.line l.rec (keeps_of (records_of log) earlier l.rec u))

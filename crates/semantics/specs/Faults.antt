@@ -13,7 +13,7 @@ use Rattle.semantics.specs.Tables.{Tables, Serial, tables_of}
 use Rattle.semantics.specs.Points.{is_in}
 use Rattle.semantics.specs.SerialOrder.{turned_pair}
 use Rattle.semantics.specs.Steps.{mapped, id_of}
-use Rattle.semantics.specs.TextFaults.{Fault}
+use Rattle.semantics.specs.declared.faults.Fault.{Fault}
 use Rattle.semantics.specs.Rules as rules
 
 -- This code at a line.
@@ -96,6 +96,10 @@ records_fault log earlier (l ∷ rest) =
     option_or (option_map (λ code. at_line code l.line) (first_broken (tried log (records_of earlier) (tables_of earlier) l.rec)))
     (records_fault log (earlier ++ l ∷ []) rest)
 
+-- The fault of a log's frame, or else of its single records: where there is none, it has tables.
+abbrev pub declaration_fault : ℕ → List Lined → Option Fault
+declaration_fault lines log = option_or (header_fault lines log) (option_or (ended_fault lines log) (option_or (count_fault log) (records_fault (records_of log) [] log)))
+
 -- The line that lists an item in serial order, and 0 if none does.
 abbrev pub serial_line : Tables → ℕ → ℕ
 serial_line t item = option_map_or (λ (s : Serial). s.line) (find (λ (s : Serial). is_in s.ids (id_of t item)) t.serials) 0
@@ -121,9 +125,4 @@ map_fault _ t = None
 
 -- The fault that a command shows of a log.
 unfoldable pub log_fault : Command → ℕ → List Lined → Option Fault
-log_fault command lines log =
-    option_or (header_fault lines log)
-    (option_or (ended_fault lines log)
-    (option_or (count_fault log)
-    (option_or (records_fault (records_of log) [] log)
-    (option_or (serial_fault (tables_of log)) (map_fault command (tables_of log))))))
+log_fault command lines log = option_or (declaration_fault lines log) (option_or (serial_fault (tables_of log)) (map_fault command (tables_of log)))

@@ -20,7 +20,8 @@ use Rattle.semantics.specs.ReplayOrder.{done_at, shown_cycle}
 use Rattle.semantics.specs.Steps.{id_of}
 use Rattle.semantics.specs.Races.{IsRaceFree}
 use Rattle.semantics.specs.Reads.{Seen, want_of, IsRight, Differs, shown_difference}
-use Rattle.semantics.specs.TextFaults.{Fault, text_fault}
+use Rattle.semantics.specs.declared.faults.Fault.{Fault}
+use Rattle.semantics.specs.TextFaults.{text_fault}
 use Rattle.semantics.specs.Rules.{is_task, size_of, total}
 use Rattle.semantics.specs.Faults.{Command, Check, Ordered, Deps, log_fault}
 use Rattle.semantics.specs.Shown.{task_pairs, AreKept, IsShownPair, IsShownRace}

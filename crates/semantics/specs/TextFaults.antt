@@ -8,12 +8,8 @@ use Rattle.spy_grammar.specs.declared.code.Code.{Code}
 use Rattle.spy_grammar.specs.declared.code.Code.TheVariants as codes
 use Rattle.spy_grammar.specs.declared.record.Record.{Record}
 use Rattle.spy_grammar.specs.Reading.{line_at}
+use Rattle.semantics.specs.declared.faults.Fault.{Fault}
 use Rattle.semantics.specs.Records.{parts_of, line_count}
-
--- A broken rule, by its code, and the line that is shown with it.
-pub record Fault : Type 0 where
-  pub line : ℕ
-  pub code : Code
 
 -- too-long: the input has more than 67,108,864 bytes.
 abbrev pub is_too_long : List ℕ → Bool

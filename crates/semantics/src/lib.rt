@@ -1,12 +1,14 @@
 //! What a log means: definitions, and no algorithm. `log_laws` has laws over them.
 #![tactic(auto)]
 
+mod faults;
 mod laws;
 mod moves;
 mod places;
 mod tables;
 mod worked;
 
+pub use faults::Fault;
 pub use laws::nodes_are_of_records;
 pub use moves::Move;
 pub use places::{Cell, Place};

@@ -18,7 +18,8 @@ use Rattle.spy_grammar.specs.declared.record.Lined.{Lined}
 use Rattle.semantics.specs.Records.{text_of, records_of, lined, parts_of, line_count, Hold, Reads}
 use Rattle.semantics.specs.Tables.{tables_of}
 use Rattle.semantics.specs.Events.{Node, graph_of}
-use Rattle.semantics.specs.TextFaults.{Fault, ends_within_line, lines_fault, text_fault}
+use Rattle.semantics.specs.declared.faults.Fault.{Fault}
+use Rattle.semantics.specs.TextFaults.{ends_within_line, lines_fault, text_fault}
 use Rattle.thin_logs.specs.TaskOrder.{IsShown, IsOrdered, writes_in}
 use Rattle.thin_logs.specs.Thin.{ThinLog, thin_records, writes_of, runs_of, IsThin}
 use Rattle.log_decl.specs.TaskTables.{TaskTables, task_tables}

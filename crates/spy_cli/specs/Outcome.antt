@@ -8,7 +8,8 @@ use Rattle.findings.specs.declared.finding.Finding.TheVariants as findings
 use Rattle.findings.specs.Texts as reports
 use Rattle.semantics.specs.Records.{Reads, records_of, text_of}
 use Rattle.semantics.specs.Events.{Node}
-use Rattle.semantics.specs.TextFaults.{Fault, text_fault}
+use Rattle.semantics.specs.declared.faults.Fault.{Fault}
+use Rattle.semantics.specs.TextFaults.{text_fault}
 use Rattle.thin_logs.specs.Thin.{ThinLog, IsThin, IsThinLog, thin_records, writes_of, runs_of}
 use Rattle.thin_logs.specs.TaskOrder.{IsShown, IsOrdered, pair_count}
 use Rattle.spy_cli.specs.declared.command.Command.{Command}

@@ -11,7 +11,7 @@ use Rattle.findings.specs.declared.finding.Finding.TheVariants as findings
 use Rattle.findings.specs.Texts as reports
 use Rattle.semantics.specs.Records.{Hold, records_of}
 use Rattle.semantics.specs.TextFaults.{lines_fault}
-use Rattle.semantics.specs.TextFaults.{Fault as Shown}
+use Rattle.semantics.specs.declared.faults.Fault.{Fault as Shown}
 use Rattle.spy_cli.specs.declared.command.Command.{Command}
 use Rattle.spy_cli.specs.declared.status.Status.{Status}
 use Rattle.spy_cli.specs.declared.status.Status.TheVariants as statuses

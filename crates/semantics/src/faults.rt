@@ -1,0 +1,10 @@
+//! What is wrong with a log.
+
+use spy_grammar::Code;
+
+/// A broken rule, by its code, and the line that is shown with it.
+#[derive(Clone, Copy, Debug, PartialEq, Eq)]
+pub struct Fault {
+    pub line: u32,
+    pub code: Code,
+}
