@@ -22,7 +22,7 @@ use Rattle.semantics.specs.declared.faults.Fault.{Fault}
 use Rattle.semantics.specs.TextFaults.{ends_within_line, lines_fault, text_fault}
 use Rattle.thin_logs.specs.TaskOrder.{IsShown, IsOrdered, writes_in}
 use Rattle.thin_logs.specs.Thin.{ThinLog, thin_records, writes_of, runs_of, IsThin}
-use Rattle.log_decl.specs.TaskTables.{TaskTables, task_tables}
+use Rattle.thin_decl.specs.TaskTables.{TaskTables, task_tables}
 use Rattle.spy_cli.specs.declared.command.Command.{Command}
 use Rattle.spy_cli.specs.declared.command.Command.TheVariants as commands
 use Rattle.spy_cli.specs.declared.status.Status.{Status}

@@ -17,13 +17,13 @@ use crate::earlier::{count_pairs, first_unordered_of};
 use crate::reading::{SpellEnd, read_records};
 use crate::status::Status;
 use findings::{Finding, text};
-use log_decl::{DeclEnd, Log, Req, declare};
 use log_laws::read_logs_are_good;
 use privilege::Priv;
 use spy_grammar::{Code, Lined, write_record};
 use spy_io::Memory;
 use spy_lines::{LineList, Lines};
 use std::alloc::{AllocError, Global};
+use thin_decl::{DeclEnd, Log, Req, declare};
 use thin_logs::thin_tables;
 
 /// What is answered: how the call ends if its text is written, and that text.

@@ -8,7 +8,7 @@ use Rattle.spy_grammar.specs.declared.record.Lined.{Lined}
 use Rattle.semantics.specs.Records.{records_of}
 use Rattle.semantics.specs.Tables.{Tables, with_record, no_tables, tables_of}
 use Rattle.thin_logs.specs.Thin.{ThinTask, ThinLog, task_records, run_records, thin_records, IsThinLog}
-use Rattle.log_decl.specs.TaskTables.{task_tables, with_task_record, no_task_tables}
+use Rattle.thin_decl.specs.TaskTables.{task_tables, with_task_record, no_task_tables}
 
 -- A record that declares no items or nodes but tasks and runs.
 abbrev IsPlain : Record → Type 0

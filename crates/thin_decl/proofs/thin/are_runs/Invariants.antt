@@ -1,7 +1,7 @@
 use Rattle.std.proofs.Common.{◌≡◌, ◌+◌, ◌≤◌, length}
 use Rattle.semantics.specs.Records.{records_of}
-use Rattle.log_decl.specs.ThinTest.{are_runs_from}
-use Rattle.log_decl.proofs.thin.are_runs.Given as goal
+use Rattle.thin_decl.specs.ThinTest.{are_runs_from}
+use Rattle.thin_decl.proofs.thin.are_runs.Given as goal
 
 abbrev pub invariant-loop-rest : goal.invariant-loop-rest
 invariant-loop-rest l = record {

@@ -13,7 +13,7 @@ use Rattle.spy_grammar.specs.declared.record.Record.TheVariants as records
 use Rattle.spy_grammar.specs.declared.record.Lined.{Lined}
 use Rattle.semantics.specs.Records.{records_of}
 use Rattle.thin_logs.specs.Thin.{ThinTask, access_of, task_records, run_records, WaitsBack, IsThin, IsThinLog}
-use Rattle.log_decl.specs.ThinTest.{is_header_record, last_of_set, last_in, is_one_number, is_fields_record, is_tree_record, is_task_of, is_req_of, is_run_of, is_end_of, are_tasks_from, are_runs_from, is_within, is_only_end, are_parts, is_body, has_region, is_thin_test, reads_whole}
+use Rattle.thin_decl.specs.ThinTest.{is_header_record, last_of_set, last_in, is_one_number, is_fields_record, is_tree_record, is_task_of, is_req_of, is_run_of, is_end_of, are_tasks_from, are_runs_from, is_within, is_only_end, are_parts, is_body, has_region, is_thin_test, reads_whole}
 
 -- ---- single records
 

@@ -1,8 +1,8 @@
 use Rattle.std.proofs.Common.{◌≡◌, ◌≤◌, length, take}
 use Rattle.std.specs.Prelude.{fold}
 use Rattle.spy_grammar.specs.declared.record.Lined.{Lined}
-use Rattle.log_decl.specs.TaskTables.{with_task_record, no_task_tables}
-use Rattle.log_decl.proofs.declaring.declare.Given as goal
+use Rattle.thin_decl.specs.TaskTables.{with_task_record, no_task_tables}
+use Rattle.thin_decl.proofs.declaring.declare.Given as goal
 
 abbrev pub invariant-loop-record : goal.invariant-loop-record
 invariant-loop-record l = record {

@@ -6,8 +6,8 @@ ghost use Rattle.spy_grammar.specs.declared.code.Code.TheVariants.{Unbuilt};
 ghost use Rattle.semantics.specs.Records.{records_of};
 ghost use Rattle.semantics.specs.Tables.{tables_of};
 ghost use Rattle.thin_logs.specs.Thin.{IsThinLog};
-ghost use Rattle.log_decl.specs.TaskTables.{task_tables};
-ghost use Rattle.log_decl.specs.declared.declaring.DeclEnd.TheVariants.{Memory};
+ghost use Rattle.thin_decl.specs.TaskTables.{task_tables};
+ghost use Rattle.thin_decl.specs.declared.declaring.DeclEnd.TheVariants.{Memory};
 
 use crate::log_tables::Log;
 use crate::thin::is_thin;

@@ -1,6 +1,6 @@
 use Rattle.std.proofs.Common.{◌∙◌}
-use Rattle.log_decl.proofs.Steps.{req_added}
-use Rattle.log_decl.proofs.log_tables.Log.add.Goals as goal
+use Rattle.thin_decl.proofs.Steps.{req_added}
+use Rattle.thin_decl.proofs.log_tables.Log.add.Goals as goal
 
 pub returns-in_ok-add_req-in-Req-clause-added : goal.returns-in_ok-add_req-in-Req-clause-added
 returns-in_ok-add_req-in-Req-clause-added c =

@@ -5,7 +5,7 @@ ghost use Rattle.std.specs.List.{list_all};
 ghost use Rattle.std.specs.Option.{option_map_or};
 ghost use Rattle.semantics.specs.Records.{records_of};
 ghost use Rattle.thin_logs.specs.Thin.{IsThinLog};
-ghost use Rattle.log_decl.specs.ThinTest.{is_header_record, last_in, last_of_set, is_fields_record, is_tree_record, is_task_of, is_req_of, is_run_of, is_end_of, is_one_number, are_tasks_from, are_runs_from, is_within, is_body, is_thin_test};
+ghost use Rattle.thin_decl.specs.ThinTest.{is_header_record, last_in, last_of_set, is_fields_record, is_tree_record, is_task_of, is_req_of, is_run_of, is_end_of, is_one_number, are_tasks_from, are_runs_from, is_within, is_body, is_thin_test};
 
 use spy_grammar::{Lined, PrivWord, Record};
 

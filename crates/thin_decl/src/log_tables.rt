@@ -2,7 +2,7 @@
 
 ghost use Rattle.std.specs.Prelude.{◌≡◌, ◌++◌, ◌∷◌, [], ◌+◌, ◌-◌, ◌^◌, ◌<◌, ◌≤◌, ◌==◌, length, position, IfOk, OnOk};
 ghost use Rattle.semantics.specs.Tables.{place_of, reqs_before, privilege_of, coherence_of};
-ghost use Rattle.log_decl.specs.TaskTables.{with_task_record, no_task_tables};
+ghost use Rattle.thin_decl.specs.TaskTables.{with_task_record, no_task_tables};
 
 use privilege::{Coherence, Priv};
 use semantics::{Item, ItemBody, LogNode, Op, Req};
@@ -19,7 +19,7 @@ pub struct Log {
 }
 
 impl Model for Log {
-    ghost use Rattle.log_decl.specs.TaskTables.{TaskTables};
+    ghost use Rattle.thin_decl.specs.TaskTables.{TaskTables};
 
     ghost Value = { TaskTables };
 

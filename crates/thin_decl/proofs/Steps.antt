@@ -7,10 +7,10 @@ use Rattle.spy_grammar.specs.declared.record.Record.TheVariants.{Req}
 use Rattle.spy_grammar.specs.declared.record.Lined.{Lined}
 use Rattle.semantics.specs.Records.{records_of}
 use Rattle.semantics.specs.Tables.{place_of, reqs_before, privilege_of, coherence_of}
-use Rattle.log_decl.specs.TaskTables.{TaskTables, with_task_record}
+use Rattle.thin_decl.specs.TaskTables.{TaskTables, with_task_record}
 use Rattle.privilege.specs.declared.kinds.Priv.{Priv}
 use Rattle.privilege.specs.declared.kinds.Coherence.{Coherence}
-use Rattle.log_decl.specs.ThinTest.{is_task_of, is_req_of, are_tasks_from}
+use Rattle.thin_decl.specs.ThinTest.{is_task_of, is_req_of, are_tasks_from}
 
 pub req_added : (t : TaskTables) (line item count task tree space : ℕ) (numbers fields : List ℕ) (word : PrivWord) (atomic : Bool) (access : Priv) (coherence : Coherence) (rec : Record)
     → item ≡ place_of t.items task → count ≡ reqs_before t.reqs item → numbers ≡ fields → access ≡ privilege_of word → coherence ≡ coherence_of atomic → rec ≡ Req task tree space fields word atomic
