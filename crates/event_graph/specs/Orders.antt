@@ -2,8 +2,8 @@
 use Rattle.std.specs.Prelude.{◌≡◌, ℕ, List, map, Some, unwrap_or, slice_get}
 use Rattle.semantics.specs.Events.{Node, IsCycle}
 use Rattle.semantics.specs.ReplayOrder.{done_at, waits_at, replay_order, shown_cycle}
-use Rattle.event_graph.specs.declared.no_order.Stuck.{Stuck}
-use Rattle.event_graph.specs.declared.no_order.Stuck.TheVariants.{Cycle, Memory}
+use Rattle.event_graph.specs.declared.stuck.Stuck.{Stuck}
+use Rattle.event_graph.specs.declared.stuck.Stuck.TheVariants.{Cycle, Memory}
 
 -- The node at position `on` has the event that the node at position `node` lists in place `k`.
 pub record IsWait (nodes : List Node) (node k on : ℕ) : Type 0 where

@@ -1,6 +1,6 @@
 //! The graph of the nodes of a recorded run.
 
-ghost use Rattle.std.specs.Prelude.{◌≡◌, ◌≢◌, ℕ, length, map, ◌<◌, ◌≤◌, ◌^◌, None, option_map, All, Contains, IfOk, IfErr, IfSome, IfNone, Some, ◌↔◌};
+ghost use Rattle.std.specs.Prelude.{◌≡◌, ◌≢◌, ℕ, length, map, ◌<◌, ◌≤◌, ◌^◌, None, option_map, All, Contains, IfOk, IfErr, IfSome, IfNone, Some, slice_get, ◌↔◌};
 ghost use Rattle.semantics.specs.Events.{AreLinked, WaitsOn};
 ghost use Rattle.semantics.specs.ReplayOrder.{done_at, waits_at, replay_order, shown_cycle};
 ghost use Rattle.event_graph.specs.Orders.{IsOrderOf, IsWait, IsWhy, ShowsCycle, event_at};
@@ -8,11 +8,11 @@ ghost use Rattle.event_graph.specs.Orders.{IsOrderOf, IsWait, IsWhy, ShowsCycle,
 use crate::cycle_walk::{from_its_least, waits_of, walk_from};
 use crate::marks::{first_unmarked, marks_of};
 use crate::memory::Memory;
-use crate::no_order::Stuck;
 use crate::node::{EventList, NodeIn};
+use crate::order::Order;
 use crate::places::{place_of, places_at, places_of};
-use crate::replay::Order;
 use crate::rounds::order_by;
+use crate::stuck::Stuck;
 use crate::waiters::waiters_of;
 use log_laws::{replay_order_lists, stuck_nodes_have_cycles};
 use std::alloc::{AllocError, Global};
@@ -66,7 +66,9 @@ impl Graph {
     /// How many nodes there are.
     pub fn len(&self) -> usize
         ensures count { result ≡ length self.now }
+        // What every graph keeps.
         ensures few { length self.now < 2 ^ 32 }
+        ensures linked { AreLinked self.now }
     {
         self.nodes.len()
     }
@@ -96,7 +98,9 @@ impl Graph {
     /// The nodes that a node waits on, as it lists them.
     pub fn waits_of(&self, alloc: Global, node: usize) -> Result<Vec<usize>, Memory>
         requires { node < length self.now }
-        ensures { IfOk result (λ v. (k : ℕ) → Contains v.items k ↔ WaitsOn self.now node k) }
+        ensures each { IfOk result (λ v. length v.items ≡ length (waits_at self.now node)) }
+        ensures listed { IfOk result (λ v. (k on : ℕ) → slice_get v.items k ≡ Some on → IsWait self.now node k on) }
+        ensures waits { IfOk result (λ v. (on : ℕ) → Contains v.items on ↔ WaitsOn self.now node on) }
     {
         let events = waits_of(self.nodes.as_slice(), node);
         let found = places_at(alloc, &self.places, events)?;

@@ -14,7 +14,7 @@ pub enum Stuck {
 
 impl From<AllocError> for Stuck {
     ghost use Rattle.std.specs.Prelude.{◌≡◌};
-    ghost use Rattle.event_graph.specs.declared.no_order.Stuck.TheVariants.{Memory};
+    ghost use Rattle.event_graph.specs.declared.stuck.Stuck.TheVariants.{Memory};
 
     ghost from_gives = { λ _ e. e ≡ Memory };
 

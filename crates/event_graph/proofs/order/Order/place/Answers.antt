@@ -1,7 +1,7 @@
 use Rattle.std.proofs.Common.{◌∙◌, ◌==◌, sym, ap, slice_get, position, List, ℕ}
 use Rattle.std.proofs.lemmas.Iterator.Adapters.{position_from-zero}
 use Rattle.event_graph.proofs.Inverted.{found_place}
-use Rattle.event_graph.proofs.replay.Order.place.Goals as goal
+use Rattle.event_graph.proofs.order.Order.place.Goals as goal
 
 pub returns-clause-place : goal.returns-clause-place
 returns-clause-place c =
