@@ -45,6 +45,8 @@ fn number_at(numbers: &[usize], k: usize) -> Option<usize>
 }
 
 impl Order {
+    ghost use Rattle.event_graph.specs.Inverse.{AreInverse};
+
     /// The order of `count` nodes, as they stand here.
     pub(crate) fn of(alloc: Global, count: usize, nodes: Vec<usize>) -> Result<Order, AllocError>
         requires within { All (λ n. n < count) nodes.items }
@@ -61,6 +63,13 @@ impl Order {
         ensures { result.now ≡ self.now }
     {
         self.nodes.as_slice()
+    }
+
+    /// For each node its place, from 0.
+    pub fn places(&self) -> &[usize]
+        ensures { AreInverse self.now result.now }
+    {
+        self.places.as_slice()
     }
 
     /// The `k`-th node, from 0, or `None` past the last.
