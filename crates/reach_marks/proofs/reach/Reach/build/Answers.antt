@@ -1,7 +1,4 @@
-use Rattle.std.proofs.Common.{◌≡◌, ◌∙◌, ◌<◌, ℕ, List, length, arith, ap, subst, sym}
-use Rattle.semantics.specs.ReplayOrder.{replay_order}
-use Rattle.event_graph.specs.Inverse.{AreInverse}
-use Rattle.reach_marks.specs.Places.{ArePlacesIn}
+use Rattle.std.proofs.Common.{◌∙◌, ℕ, List, length, arith, ap}
 use Rattle.reach_marks.proofs.Replayed.{no_more_than, all_sound, all_listed, placed_in, marks_right}
 use Rattle.reach_marks.proofs.reach.Reach.build.Goals as goal
 

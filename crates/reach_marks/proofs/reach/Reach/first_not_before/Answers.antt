@@ -1,4 +1,4 @@
-use Rattle.std.proofs.Common.{◌≡◌, ◌∙◌, ◌<◌, ℕ, List, length, get_or, not, arith, ap, sym, subst, All}
+use Rattle.std.proofs.Common.{◌∙◌, ◌<◌, ℕ, List, length, get_or, not, arith, ap, sym, subst, All}
 use Rattle.std.proofs.lemmas.List.{get_or_default}
 use Rattle.reach_marks.specs.Blocks.{row_has}
 use Rattle.reach_marks.specs.Reached.{Marks, before_in}
