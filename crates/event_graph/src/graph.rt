@@ -99,7 +99,8 @@ impl Graph {
     pub fn waits_of(&self, alloc: Global, node: usize) -> Result<Vec<usize>, Memory>
         requires { node < length self.now }
         ensures each { IfOk result (λ v. length v.items ≡ length (waits_at self.now node)) }
-        ensures listed { IfOk result (λ v. (k on : ℕ) → slice_get v.items k ≡ Some on → IsWait self.now node k on) }
+        ensures listed { IfOk result (λ v. (k on : ℕ) → slice_get v.items k ≡ Some on
+            → IsWait self.now node k on) }
         ensures waits { IfOk result (λ v. (on : ℕ) → Contains v.items on ↔ WaitsOn self.now node on) }
     {
         let events = waits_of(self.nodes.as_slice(), node);

@@ -5,7 +5,7 @@ ghost use Rattle.std.specs.Prelude.{◌≡◌, ◌≢◌, ℕ, ◌<◌, ◌==◌
 use std::alloc::{AllocError, Global};
 use std::marker::Model;
 
-/// The nodes of a graph, each once, in the order in which they are replayed. A node is named by its position in the graph.
+/// The nodes of a graph, each once, in the order in which they are replayed. A node is named by its position.
 #[derive(Debug, Drop)]
 pub struct Order {
     nodes: Vec<usize>,
@@ -28,7 +28,8 @@ fn places_in(alloc: Global, count: usize, nodes: &[usize]) -> Result<Vec<usize>,
     requires within { All (λ n. n < count) nodes.now }
     requires apart { AllPairs (λ m n. m ≢ n) nodes.now }
     ensures each { IfOk result (λ v. length v.items ≡ count) }
-    ensures placed { IfOk result (λ v. (p : ℕ) → p < length nodes.now → slice_index v.items (slice_index nodes.now p) ≡ p) }
+    ensures placed { IfOk result (λ v. (p : ℕ) → p < length nodes.now
+        → slice_index v.items (slice_index nodes.now p) ≡ p) }
 {
     let mut places = vec![in alloc; 0; count]?;
     for p in 0..nodes.len() {

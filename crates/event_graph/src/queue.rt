@@ -10,7 +10,8 @@ use std::collections::BTreeSet;
 
 /// The nodes that wait on nothing.
 pub(crate) fn first_ready(alloc: Global, pending: &[usize]) -> Result<BTreeSet<usize>, AllocError>
-    ensures { IfOk result (λ ready. (q : ℕ) → (contains nat_cmp ready q ≡ true) ↔ ((q < length pending.now) × (slice_index pending.now q ≡ 0))) }
+    ensures { IfOk result (λ ready. (q : ℕ) → (contains nat_cmp ready q ≡ true)
+        ↔ ((q < length pending.now) × (slice_index pending.now q ≡ 0))) }
 {
     let mut ready = BTreeSet::new(alloc);
     for (i, left) in pending.iter().enumerate() {
@@ -26,7 +27,8 @@ pub(crate) fn next_ready(ready: &mut BTreeSet<usize>) -> Option<usize>
     ensures none { IfNone result ((q : ℕ) → contains nat_cmp ready.old q ≡ false) }
     ensures member { IfSome result (λ k. contains nat_cmp ready.old k ≡ true) }
     ensures least { IfSome result (λ k. (q : ℕ) → q < k → contains nat_cmp ready.old q ≡ false) }
-    ensures rest { IfSome result (λ k. (q : ℕ) → contains nat_cmp ready.new q ≡ (contains nat_cmp ready.old q && not (k == q))) }
+    ensures rest { IfSome result (λ k. (q : ℕ)
+        → contains nat_cmp ready.new q ≡ (contains nat_cmp ready.old q && not (k == q))) }
 {
     ready.pop_first()
 }
@@ -38,8 +40,10 @@ fn take_wait(
     s: usize,
 ) -> Result<(), AllocError>
     requires { 0 < slice_index pending.old.items s }
-    ensures counts { OnOk result ((q : ℕ) → slice_index pending.new.items q + (if s == q then 1 else 0) ≡ slice_index pending.old.items q) }
-    ensures queue { OnOk result ((q : ℕ) → contains nat_cmp ready.new q ≡ (contains nat_cmp ready.old q || ((s == q) && (slice_index pending.new.items q == 0)))) }
+    ensures counts { OnOk result ((q : ℕ)
+        → slice_index pending.new.items q + (if s == q then 1 else 0) ≡ slice_index pending.old.items q) }
+    ensures queue { OnOk result ((q : ℕ) → contains nat_cmp ready.new q
+        ≡ (contains nat_cmp ready.old q || ((s == q) && (slice_index pending.new.items q == 0)))) }
 {
     pending[s] -= 1;
     if pending[s] == 0 {
@@ -55,8 +59,10 @@ pub(crate) fn release(
     waiting: &[usize],
 ) -> Result<(), AllocError>
     requires { (s : ℕ) → times s waiting.now ≤ slice_index pending.old.items s }
-    ensures counts { OnOk result ((s : ℕ) → slice_index pending.new.items s + times s waiting.now ≡ slice_index pending.old.items s) }
-    ensures queue { OnOk result ((s : ℕ) → contains nat_cmp ready.new s ≡ (contains nat_cmp ready.old s || (not (slice_index pending.old.items s == 0) && (slice_index pending.new.items s == 0)))) }
+    ensures counts { OnOk result ((s : ℕ)
+        → slice_index pending.new.items s + times s waiting.now ≡ slice_index pending.old.items s) }
+    ensures queue { OnOk result ((s : ℕ) → contains nat_cmp ready.new s ≡ (contains nat_cmp ready.old s
+        || (not (slice_index pending.old.items s == 0) && (slice_index pending.new.items s == 0)))) }
 {
     for s in waiting {
         take_wait(pending, ready, *s)?;

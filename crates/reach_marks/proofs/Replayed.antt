@@ -159,6 +159,7 @@ module _ (nodes : List Node) (order : List ℕ) (is : order ≡ replay_order nod
   marks_right places rows placed h each whole = record {
     places = subst (λ ks. ArePlacesIn (length nodes) ks places) is placed;
     within = λ a b e. let w = seen_within places rows a b e in (omega (arith, w, placed.each), omega (arith, w, placed.each));
+    later = λ a b e. let w = seen_within places rows a b e in h.within (get_or places b 0) (get_or places a 0) (sym (before_seen places rows a b w.0 w.1) ∙ e);
     exact = λ a b lt less.
         let pa = whole a lt in
         let pb = whole b less in
