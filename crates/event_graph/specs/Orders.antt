@@ -21,7 +21,7 @@ abbrev pub event_at : List Node → ℕ → ℕ
 event_at nodes k = unwrap_or (done_at nodes k) 0
 
 -- There is a cycle, and these are the events of the one that is shown.
-pub record ShowsCycle (nodes : List Node) (events : List ℕ) : Type 0 where
+pub record AreCycleEvents (nodes : List Node) (events : List ℕ) : Type 0 where
   pub cycle : List ℕ
   pub is_cycle : IsCycle nodes cycle
   pub shown : shown_cycle nodes ≡ Some cycle
@@ -29,5 +29,5 @@ pub record ShowsCycle (nodes : List Node) (events : List ℕ) : Type 0 where
 
 -- Why nodes have no order.
 abbrev pub IsWhy : List Node → Stuck → Type 0
-IsWhy nodes (Cycle events) = ShowsCycle nodes events
+IsWhy nodes (Cycle events) = AreCycleEvents nodes events
 IsWhy nodes Memory = Unit {0}

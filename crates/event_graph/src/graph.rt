@@ -3,7 +3,7 @@
 ghost use Rattle.std.specs.Prelude.{◌≡◌, ◌≢◌, ℕ, length, map, ◌<◌, ◌≤◌, ◌^◌, None, option_map, All, Contains, IfOk, IfErr, IfSome, IfNone, Some, slice_get, ◌↔◌};
 ghost use Rattle.semantics.specs.Events.{AreLinked, WaitsOn};
 ghost use Rattle.semantics.specs.ReplayOrder.{done_at, waits_at, replay_order, shown_cycle};
-ghost use Rattle.event_graph.specs.Orders.{IsOrderOf, IsWait, IsWhy, ShowsCycle, event_at};
+ghost use Rattle.event_graph.specs.Orders.{IsOrderOf, IsWait, IsWhy, AreCycleEvents, event_at};
 
 use crate::cycle_walk::{from_its_least, waits_of, walk_from};
 use crate::marks::{first_unmarked, marks_of};
@@ -153,7 +153,7 @@ impl Graph {
     // The events of the cycle that is shown.
     fn shown(&self, alloc: Global, cycle: &[usize]) -> Result<EventList, AllocError>
         requires { shown_cycle self.now ≡ Some cycle.now }
-        ensures { IfOk result (ShowsCycle self.now) }
+        ensures { IfOk result (AreCycleEvents self.now) }
     {
         stuck_nodes_have_cycles();
         let events = events_at(alloc, self.nodes.as_slice(), cycle)?;
