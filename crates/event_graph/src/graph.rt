@@ -1,0 +1,174 @@
+//! The graph of the nodes of a recorded run.
+
+ghost use Rattle.std.specs.Prelude.{◌≡◌, ◌≢◌, ℕ, length, map, ◌<◌, ◌≤◌, ◌^◌, None, option_map, All, Contains, IfOk, IfErr, IfSome, IfNone, Some, slice_get, ◌↔◌};
+ghost use Rattle.semantics.specs.Events.{AreLinked, WaitsOn};
+ghost use Rattle.semantics.specs.ReplayOrder.{done_at, waits_at, replay_order, shown_cycle};
+ghost use Rattle.event_graph.specs.Orders.{IsOrderOf, IsWait, IsWhy, AreCycleEvents, event_at};
+
+use crate::cycle_walk::{from_its_least, waits_of, walk_from};
+use crate::marks::{first_unmarked, marks_of};
+use crate::memory::Memory;
+use crate::node::{EventList, NodeIn};
+use crate::order::Order;
+use crate::places::{place_of, places_at, places_of};
+use crate::rounds::order_by;
+use crate::stuck::Stuck;
+use crate::waiters::waiters_of;
+use log_laws::{replay_order_lists, stuck_nodes_have_cycles};
+use std::alloc::{AllocError, Global};
+use std::collections::HashMap;
+use std::marker::Model;
+
+/// Nodes and their waits. A node is named by its position, or by its event.
+#[derive(Drop)]
+pub struct Graph {
+    nodes: Vec<NodeIn>,
+    places: HashMap<u32, usize>,
+}
+
+impl Model for Graph {
+    ghost use Rattle.std.specs.Prelude.{List, nat_eq, length, ◌<◌, ◌^◌};
+    ghost use Rattle.std.specs.HashMap.{get};
+    ghost use Rattle.semantics.specs.Events.{Node};
+    ghost use Rattle.event_graph.specs.EventPlaces.{IsIndexed};
+
+    ghost Value = { List Node };
+
+    ghost view = { λ g. g.nodes.items };
+
+    ghost invariant = { λ g. (length g.nodes.items < 2 ^ 32) × IsIndexed g.nodes.items (get nat_eq g.places) };
+}
+
+/// The events of these nodes.
+fn events_at(alloc: Global, nodes: &[NodeIn], ks: &[usize]) -> Result<EventList, AllocError>
+    requires { All (λ k. k < length nodes.now) ks.now }
+    ensures { IfOk result (λ v. v ≡ map (event_at nodes.now) ks.now) }
+{
+    let mut events = Vec::with_capacity(alloc, ks.len())?;
+    for k in ks {
+        let node = &nodes[*k];
+        events.push(node.done)?;
+    }
+    Ok(EventList::from_vec(events))
+}
+
+impl Graph {
+    /// The graph of these nodes.
+    pub fn build(alloc: Global, nodes: Vec<NodeIn>) -> Result<Graph, Memory>
+        requires few { length nodes.items < 2 ^ 32 }
+        requires linked { AreLinked nodes.items }
+        ensures { IfOk result (λ g. g ≡ nodes.items) }
+    {
+        let places = places_of(alloc, nodes.as_slice())?;
+        Ok(Graph { nodes, places })
+    }
+
+    /// How many nodes there are.
+    pub fn len(&self) -> usize
+        ensures count { result ≡ length self.now }
+        // What every graph keeps.
+        ensures few { length self.now < 2 ^ 32 }
+        ensures linked { AreLinked self.now }
+    {
+        self.nodes.len()
+    }
+
+    /// The node of an event, or `None` where no node has it.
+    pub fn node_of(&self, event: u32) -> Option<usize>
+        ensures some { IfSome result (λ k. done_at self.now k ≡ Some event) }
+        ensures none { IfNone result ((k : ℕ) → done_at self.now k ≢ Some event) }
+    {
+        self.places.get(&event).copied()
+    }
+
+    /// The node whose event a node lists in place `k`, from 0, or `None` where it is no node or lists no more.
+    pub fn wait_at(&self, node: usize, k: usize) -> Option<usize>
+        ensures some { IfSome result (IsWait self.now node k) }
+        ensures none { IfNone result (length (waits_at self.now node) ≤ k) }
+    {
+        if node < self.nodes.len() {
+            let events = waits_of(self.nodes.as_slice(), node);
+            if k < events.len() {
+                return Some(place_of(&self.places, events[k]));
+            }
+        }
+        None
+    }
+
+    /// The nodes that a node waits on, as it lists them.
+    pub fn waits_of(&self, alloc: Global, node: usize) -> Result<Vec<usize>, Memory>
+        requires { node < length self.now }
+        ensures each { IfOk result (λ v. length v.items ≡ length (waits_at self.now node)) }
+        ensures listed { IfOk result (λ v. (k on : ℕ) → slice_get v.items k ≡ Some on
+            → IsWait self.now node k on) }
+        ensures waits { IfOk result (λ v. (on : ℕ) → Contains v.items on ↔ WaitsOn self.now node on) }
+    {
+        let events = waits_of(self.nodes.as_slice(), node);
+        let found = places_at(alloc, &self.places, events)?;
+        Ok(found)
+    }
+
+    // The nodes that are ever taken, in replay order.
+    fn taken(&self, alloc: Global) -> Result<Vec<usize>, AllocError>
+        ensures { IfOk result (λ v. v.items ≡ replay_order self.now) }
+    {
+        let waiters = waiters_of(alloc, self.nodes.as_slice(), &self.places)?;
+        order_by(alloc, self.nodes.as_slice(), waiters.as_slice())
+    }
+
+    // The cycle that is shown, if these are the nodes that are ever taken.
+    fn cycle(&self, alloc: Global, taken: &[usize]) -> Result<Option<Vec<usize>>, AllocError>
+        requires { taken.now ≡ replay_order self.now }
+        ensures { IfOk result (λ o. option_map (λ c. c.items) o ≡ shown_cycle self.now) }
+    {
+        let marks = marks_of(alloc, self.nodes.len(), taken)?;
+        match first_unmarked(marks.as_slice()) {
+            Some(start) => {
+                let round = walk_from(
+                    alloc,
+                    self.nodes.as_slice(),
+                    &self.places,
+                    marks.as_slice(),
+                    start,
+                )?;
+                let turned = from_its_least(alloc, round.as_slice())?;
+                Ok(Some(turned))
+            }
+            None => Ok(None),
+        }
+    }
+
+    // The order of all nodes, if these are they.
+    fn whole(&self, alloc: Global, taken: Vec<usize>) -> Result<Order, AllocError>
+        requires taken { taken.items ≡ replay_order self.now }
+        requires none { shown_cycle self.now ≡ None }
+        ensures { IfOk result (IsOrderOf self.now) }
+    {
+        replay_order_lists();
+        stuck_nodes_have_cycles();
+        let order = Order::of(alloc, self.nodes.len(), taken)?;
+        Ok(order)
+    }
+
+    // The events of the cycle that is shown.
+    fn shown(&self, alloc: Global, cycle: &[usize]) -> Result<EventList, AllocError>
+        requires { shown_cycle self.now ≡ Some cycle.now }
+        ensures { IfOk result (AreCycleEvents self.now) }
+    {
+        stuck_nodes_have_cycles();
+        let events = events_at(alloc, self.nodes.as_slice(), cycle)?;
+        Ok(events)
+    }
+
+    /// The order in which the nodes are replayed; where there is a cycle, the events of the one that is shown.
+    pub fn order(&self, alloc: Global) -> Result<Order, Stuck>
+        ensures order { IfOk result (IsOrderOf self.now) }
+        ensures stuck { IfErr result (IsWhy self.now) }
+    {
+        let taken = self.taken(alloc)?;
+        match self.cycle(alloc, taken.as_slice())? {
+            None => Ok(self.whole(alloc, taken)?),
+            Some(cycle) => Err(Stuck::Cycle(self.shown(alloc, cycle.as_slice())?)),
+        }
+    }
+}

@@ -1,0 +1,24 @@
+//! The graph of the nodes of a recorded run, and the order in which they are replayed.
+#![tactic(auto)]
+
+mod cycle_walk;
+mod graph;
+mod linked;
+mod marks;
+mod memory;
+mod node;
+mod order;
+mod places;
+mod queue;
+mod rounds;
+mod stuck;
+#[cfg(test)]
+mod tests;
+mod waiters;
+
+pub use graph::Graph;
+pub use linked::are_linked;
+pub use memory::Memory;
+pub use node::{EventList, NodeIn};
+pub use order::Order;
+pub use stuck::Stuck;

@@ -1,0 +1,69 @@
+//! Where the node of each event stands.
+
+ghost use Rattle.std.specs.Prelude.{◌≡◌, ◌≢◌, ℕ, nat_eq, map, All, AllPairs, IfOk, IsSome, is_some, true, Some, length, ◌<◌, slice_index};
+ghost use Rattle.std.specs.HashMap.{get};
+ghost use Rattle.std.specs.List.{position_from};
+ghost use Rattle.semantics.specs.Events.{Node};
+ghost use Rattle.event_graph.specs.EventPlaces.{ArePlaces};
+
+use crate::node::NodeIn;
+use std::alloc::{AllocError, Global};
+use std::collections::HashMap;
+
+/// For each event the first place at which it stands.
+pub(crate) fn first_places(alloc: Global, events: &[u32]) -> Result<HashMap<u32, usize>, AllocError>
+    ensures { IfOk result (λ places. (e : ℕ) → get nat_eq places e ≡ position_from (nat_eq e) 0 events.now) }
+{
+    let mut places = HashMap::new(alloc);
+    // From the back, so that the first of equal events is written last.
+    for i in (0..events.len()).rev() {
+        places.insert(events[i], i)?;
+    }
+    Ok(places)
+}
+
+/// The event of each node.
+pub(crate) fn events_of(alloc: Global, nodes: &[NodeIn]) -> Result<Vec<u32>, AllocError>
+    ensures { IfOk result (λ v. v.items ≡ map (λ n. n.done) nodes.now) }
+{
+    nodes.iter().map(|n| n.done).collect(alloc)
+}
+
+/// Where the node of each event stands.
+pub(crate) fn places_of(alloc: Global, nodes: &[NodeIn]) -> Result<HashMap<u32, usize>, AllocError>
+    requires { AllPairs (λ m n. m.done ≢ n.done) nodes.now }
+    ensures { IfOk result (λ places. ArePlaces nodes.now (get nat_eq places)) }
+{
+    let events = events_of(alloc, nodes)?;
+    let places = first_places(alloc, events.as_slice())?;
+    Ok(places)
+}
+
+/// The node of an event that is known.
+pub(crate) fn place_of(places: &HashMap<u32, usize>, event: u32) -> usize
+    requires { IsSome (get nat_eq places.now event) }
+    ensures { get nat_eq places.now event ≡ Some result }
+{
+    match places.get(&event) {
+        Some(p) => *p,
+        None => unreachable!(),
+    }
+}
+
+/// Where the nodes of these events stand.
+pub(crate) fn places_at(
+    alloc: Global,
+    places: &HashMap<u32, usize>,
+    events: &[u32],
+) -> Result<Vec<usize>, AllocError>
+    requires { All (λ e. is_some (get nat_eq places.now e) ≡ true) events.now }
+    ensures each { IfOk result (λ v. length v.items ≡ length events.now) }
+    ensures places { IfOk result (λ v. (i : ℕ) → i < length events.now
+        → get nat_eq places.now (slice_index events.now i) ≡ Some (slice_index v.items i)) }
+{
+    let mut found = Vec::with_capacity(alloc, events.len())?;
+    for event in events {
+        found.push(place_of(places, *event))?;
+    }
+    Ok(found)
+}

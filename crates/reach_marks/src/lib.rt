@@ -1,0 +1,20 @@
+//! Which nodes of a graph are before which, marked in blocks of 1,024 by their places in the replay order.
+#![tactic(auto)]
+
+mod bits;
+mod block;
+mod joining;
+mod laws;
+mod memory;
+mod mixed;
+mod reach;
+mod row;
+mod rows;
+mod search;
+#[cfg(test)]
+mod tests;
+mod waits;
+
+pub use laws::before_is_transitive;
+pub use memory::Memory;
+pub use reach::Reach;

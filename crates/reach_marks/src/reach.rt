@@ -1,0 +1,83 @@
+//! Which node is before which.
+
+ghost use Rattle.std.specs.Prelude.{◌≡◌, ℕ, ◌<◌, length, IfOk, All, not, position};
+ghost use Rattle.event_graph.specs.Orders.{IsOrderOf};
+
+use crate::memory::Memory;
+use crate::mixed::mixed_in;
+use crate::row::Row;
+use crate::rows::rows_of;
+use crate::search::first_outside;
+use event_graph::{Graph, Order};
+use log_laws::{replay_order_lists, stuck_nodes_have_cycles};
+use std::alloc::Global;
+use std::marker::Model;
+
+/// For each node its place in the replay order, and for each place the places of the nodes before its node.
+#[derive(Drop)]
+pub struct Reach {
+    places: Vec<usize>,
+    rows: Vec<Row>,
+}
+
+impl Model for Reach {
+    ghost use Rattle.reach_marks.specs.Reached.{Marks, AreSound, marks_of};
+
+    ghost Value = { Marks };
+
+    ghost view = { λ r. marks_of r.places.items r.rows.items };
+
+    ghost invariant = { λ r. AreSound r.places.items r.rows.items };
+}
+
+impl Reach {
+    ghost use Rattle.reach_marks.specs.Reached.{before_in, AreMarksOf};
+    ghost use Rattle.reach_marks.specs.Counts.{mixed_pairs};
+
+    /// The marks of a graph, of which this is the order.
+    pub fn build(alloc: Global, graph: &Graph, order: &Order) -> Result<Reach, Memory>
+        requires { IsOrderOf graph.now order.now }
+        ensures { IfOk result (AreMarksOf graph.now) }
+    {
+        let _linked = graph.len();
+        replay_order_lists();
+        stuck_nodes_have_cycles();
+        let places = Vec::from_slice(alloc, order.places())?;
+        let rows = rows_of(alloc, graph, order.as_slice(), places.as_slice())?;
+        Ok(Reach { places, rows })
+    }
+
+    /// How many nodes there are.
+    pub fn len(&self) -> usize
+        ensures { result ≡ length self.now.places }
+    {
+        self.places.len()
+    }
+
+    /// Whether node `a` is before node `b`.
+    pub fn before(&self, a: usize, b: usize) -> bool
+        requires a { a < length self.now.places }
+        requires b { b < length self.now.places }
+        ensures { result ≡ before_in self.now a b }
+    {
+        let row = &self.rows[self.places[b]];
+        row.has(self.places[a])
+    }
+
+    /// The least index in `group` whose node is not before node `b`.
+    pub fn first_not_before(&self, group: &[usize], b: usize) -> Option<usize>
+        requires group { All (λ a. a < length self.now.places) group.now }
+        requires b { b < length self.now.places }
+        ensures { result ≡ position (λ a. not (before_in self.now a b)) group.now }
+    {
+        let row = &self.rows[self.places[b]];
+        first_outside(row, self.places.as_slice(), group)
+    }
+
+    /// How many pairs of a node and a block there are of which some node of the block is before the node and some is not.
+    pub fn mixed(&self) -> u64
+        ensures { result ≡ mixed_pairs self.now }
+    {
+        mixed_in(self.places.as_slice(), self.rows.as_slice())
+    }
+}
