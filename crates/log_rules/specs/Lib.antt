@@ -1,0 +1,4 @@
+pub mod Gathered
+pub mod Left
+pub mod Listing
+pub mod Own
