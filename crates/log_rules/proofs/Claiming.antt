@@ -12,7 +12,8 @@ use Rattle.semantics.specs.Tables.{Tables, place_of, privilege_of}
 use Rattle.semantics.specs.Points.{is_in, meets, points_in}
 use Rattle.semantics.specs.Rules.{interferes_with_own}
 use Rattle.log_rules.specs.declared.claims.OwnPlace.{OwnPlace}
-use Rattle.log_rules.specs.Own.{clashes, claims_at, clashes_at, same_place}
+use Rattle.log_rules.specs.declared.claims.Claims.{Claims}
+use Rattle.log_rules.specs.Own.{AreClaims, clashes, claims_at, clashes_at, clashes_row, same_place}
 use Rattle.log_rules.proofs.Members.{meets-turned}
 use Rattle.log_rules.proofs.Tests.{list_any-alike, list_any-false, list_any-and, list_any-list_any}
 
@@ -121,3 +122,9 @@ interferes_with_own-by_place t task tree space fields access atomic =
     ∙ row_told (r.item == I) (r.tree == tree) (not (agree r.access a)) (is_in (points_in t r.space)) (is_in r.fields) P fields)
     ∙ list_any-list_any (λ r x. list_any (row r x) fields) t.reqs P
     ∙ list_any-alike _ _ P (λ x. list_any-list_any (λ r f. row r x f) t.reqs fields)
+
+-- The claims tell it.
+pub interferes_with_own-by_claims : (t : Tables) (c : Claims) (task tree space : ℕ) (fields : List ℕ) (access : PrivWord) (atomic : Bool) → AreClaims t c → list_any (clashes_row c (place_of t.items task) tree fields (privilege_of access)) (points_in t space) ≡ interferes_with_own t (records.Req task tree space fields access atomic)
+interferes_with_own-by_claims t c task tree space fields access atomic are =
+    list_any-alike _ _ (points_in t space) (λ x. list_any-alike _ _ fields (λ f. are (record { item = place_of t.items task; tree = tree; point = x; field = f }) (privilege_of access)))
+    ∙ sym (interferes_with_own-by_place t task tree space fields access atomic)

@@ -1,11 +1,15 @@
 -- Records that list items in serial order.
-use Rattle.std.specs.Prelude.{◌≡◌, ℕ, ◌+◌, ◌==◌, nat_eq, Bool, true, false, not, ◌&&◌, ◌||◌, List, Option, MatchOption}
+use Rattle.std.specs.Prelude.{◌≡◌, ℕ, ◌+◌, ◌==◌, nat_eq, Bool, true, false, not, ◌&&◌, ◌||◌, List, [], Option, MatchOption, unwrap_or}
 use Rattle.std.specs.HashSet.{HashSet, contains}
 use Rattle.std.specs.List.{list_any, list_all}
 use Rattle.spy_grammar.specs.declared.record.Record.{Record}
 use Rattle.semantics.specs.Points.{is_in}
-use Rattle.semantics.specs.Rules.{has_repeat, items_declared}
+use Rattle.semantics.specs.Rules.{has_repeat, items_declared, items_listed}
 use Rattle.log_rules.specs.Gathered.{list_count}
+
+-- The items that a record lists in serial order.
+abbrev pub ids_listed : Record → List ℕ
+ids_listed r = unwrap_or (items_listed r) []
 
 -- A set has exactly the numbers of a list.
 abbrev pub IsSetOf : List ℕ → (ℕ → Bool) → Type 0

@@ -1,14 +1,19 @@
 //! The serial order that a log lists.
 
-ghost use Rattle.std.specs.Prelude.{◌≡◌, ◌+◌, ◌==◌, ◌||◌, nat_eq, ℕ, IfOk, OnOk};
+ghost use Rattle.std.specs.Prelude.{◌≡◌, ◌+◌, ◌==◌, ◌||◌, nat_eq, ℕ, List, IfOk, OnOk};
 ghost use Rattle.std.specs.HashSet.{contains};
 ghost use Rattle.std.specs.List.{list_any, list_all};
 ghost use Rattle.semantics.specs.Points.{is_in};
 ghost use Rattle.semantics.specs.Records.{records_of};
-ghost use Rattle.semantics.specs.Rules.{items_declared};
+ghost use Rattle.semantics.specs.Rules.{items_declared, is_bad_serial};
+ghost use Rattle.spy_grammar.specs.declared.record.Record.{Record};
+ghost use Rattle.log_rules.specs.Tallied.{IsTally};
 ghost use Rattle.log_rules.specs.Listing.{TellsRepeat, lists_badly};
 
+use crate::tally::Tally;
 use crate::whole_log::WholeLog;
+use log_tables::Draft;
+use point_set::PointSet;
 use spy_grammar::{Lined, Record};
 use std::alloc::{AllocError, Global};
 use std::collections::HashSet;
@@ -73,7 +78,7 @@ fn is_next(number: usize, before: usize) -> bool
 }
 
 /// Whether a record lists items badly after so many records that list the items of a set.
-pub(crate) fn lists_badly(
+fn lists_badly(
     alloc: Global,
     whole: &WholeLog,
     before: usize,
@@ -90,4 +95,24 @@ pub(crate) fn lists_badly(
         finds_any(listed, ids)
             || (is_next(whole.lists(), before) && !are_listed(whole.log(), listed, &here)),
     )
+}
+
+/// Whether a record lists an item that is listed already, or is the last to list items and leaves one out.
+pub fn is_bad_serial<P: PointSet>(
+    alloc: Global,
+    whole: &WholeLog,
+    draft: &Draft<P>,
+    tally: &Tally,
+    rec: &Record,
+) -> Result<bool, AllocError>
+    ensures { (earlier : List Record) → IsTally earlier draft.now tally.now → IfOk result (λ bad. bad ≡ is_bad_serial whole.now draft.now rec.now) }
+{
+    match rec {
+        Record::Serial { items } => {
+            let before = draft.serials().len();
+            let bad = lists_badly(alloc, whole, before, &tally.listed, items.as_slice())?;
+            Ok(bad)
+        }
+        _ => Ok(false),
+    }
 }
