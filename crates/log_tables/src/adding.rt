@@ -24,7 +24,7 @@ fn copied(alloc: Global, numbers: &Nums) -> Result<Nums, AllocError>
 }
 
 /// The privilege that a word spells.
-pub(crate) fn priv_of(word: PrivWord) -> Priv
+pub fn priv_of(word: PrivWord) -> Priv
     ensures { result ≡ privilege_of word }
 {
     match word {

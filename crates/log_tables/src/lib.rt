@@ -11,6 +11,7 @@ mod reqs;
 mod rows;
 mod two_rows;
 
+pub use adding::priv_of;
 pub use draft::Draft;
 pub use entries::{ReqKey, Space, SubKey};
 pub use maps::{FieldKey, Maps};

@@ -1,0 +1,130 @@
+-- How claimed places tell whether a requirement interferes with those of its task.
+use Rattle.std.proofs.Common.{◌≡◌, ℕ, ◌+◌, ◌<◌, ◌==◌, Bool, true, false, not, ◌&&◌, ◌||◌, cond, List, [], ◌∷◌, take, length, get_or, Option, Some, refl, sym, ap, ◌∙◌, inl, inr}
+use Rattle.std.specs.List.{list_any}
+use Rattle.std.proofs.lemmas.Bool.{cases_Bool, eqb-true}
+use Rattle.std.proofs.lemmas.List.Folds.{list_any_more}
+use Rattle.privilege.specs.declared.kinds.Priv.{Priv}
+use Rattle.privilege.specs.Interference.{agree}
+use Rattle.spy_words.specs.declared.access.PrivWord.{PrivWord}
+use Rattle.spy_grammar.specs.declared.record.Record.TheVariants as records
+use Rattle.semantics.specs.declared.tables.Req.{Req}
+use Rattle.semantics.specs.Tables.{Tables, place_of, privilege_of}
+use Rattle.semantics.specs.Points.{is_in, meets, points_in}
+use Rattle.semantics.specs.Rules.{interferes_with_own}
+use Rattle.log_rules.specs.declared.claims.OwnPlace.{OwnPlace}
+use Rattle.log_rules.specs.declared.claims.Claims.{Claims}
+use Rattle.log_rules.specs.Own.{AreClaims, clashes, claims_at, clashes_at, clashes_row, same_place}
+use Rattle.log_rules.proofs.Members.{meets-turned}
+use Rattle.log_rules.proofs.Tests.{list_any-alike, list_any-false, list_any-and, list_any-list_any}
+
+-- Places that are one.
+and_left : (a b : Bool) → (a && b) ≡ true → a ≡ true
+and_left true b h = refl
+and_left false b h = h
+
+and_right : (a b : Bool) → (a && b) ≡ true → b ≡ true
+and_right true b h = h
+and_right false b h = absurd (no h)
+  where
+    no : false ≡ true → ⊥
+    no e = cc
+
+place_of_parts : (i j s t p q f g : ℕ) → i ≡ j → s ≡ t → p ≡ q → f ≡ g → (let x : OwnPlace = record { item = i; tree = s; point = p; field = f } in x) ≡ record { item = j; tree = t; point = q; field = g }
+place_of_parts i j s t p q f g a b c d = cc
+
+same_place-true : (j k : OwnPlace) → same_place j k ≡ true → j ≡ k
+same_place-true j k h =
+    let point = (j.point == k.point) && (j.field == k.field) in
+    let tree = (j.tree == k.tree) && point in
+    let rest = and_right (j.item == k.item) tree h in
+    let last = and_right (j.tree == k.tree) point rest in
+    place_of_parts j.item k.item j.tree k.tree j.point k.point j.field k.field
+    (eqb-true j.item k.item (and_left (j.item == k.item) tree h))
+    (eqb-true j.tree k.tree (and_left (j.tree == k.tree) point rest))
+    (eqb-true j.point k.point (and_left (j.point == k.point) (j.field == k.field) last))
+    (eqb-true j.field k.field (and_right (j.point == k.point) (j.field == k.field) last))
+
+or_false : (b : Bool) → b ≡ (b || false)
+or_false true = refl
+or_false false = refl
+
+-- One requirement more at a place.
+pub clashes-put : (old : OwnPlace → Option (Option Priv)) (j k : OwnPlace) (claim : Option Priv) (new : Option (Option Priv)) (access a : Priv) → new ≡ cond (same_place j k) (Some claim) (old k) → clashes (Some claim) a ≡ (clashes (old j) a || not (agree access a)) → clashes new a ≡ (clashes (old k) a || (same_place j k && not (agree access a)))
+clashes-put old j k claim new access a is joins =
+    elim (cases_Bool (same_place j k)) [
+      | inl same ↦
+          ap (λ o. clashes o a) (is ∙ ap (λ b. cond b (Some claim) (old k)) same)
+          ∙ joins
+          ∙ ap (λ p. clashes (old p) a || not (agree access a)) (same_place-true j k same)
+          ∙ sym (ap (λ b. clashes (old k) a || (b && not (agree access a))) same)
+      | inr other ↦
+          ap (λ o. clashes o a) (is ∙ ap (λ b. cond b (Some claim) (old k)) other)
+          ∙ or_false (clashes (old k) a)
+          ∙ sym (ap (λ b. clashes (old k) a || (b && not (agree access a))) other)
+    ]
+
+or_assoc : (a b c : Bool) → ((a || b) || c) ≡ (a || (b || c))
+or_assoc true b c = refl
+or_assoc false b c = refl
+
+one_more : (i t p fs f n : Bool) → ((i && (t && ((p || false) && (fs && n)))) || ((i && (t && (p && f))) && n)) ≡ (i && (t && ((p || false) && ((fs || f) && n))))
+one_more false t p fs f n = refl
+one_more true false p fs f n = refl
+one_more true true false fs f n = refl
+one_more true true true true f true = refl
+one_more true true true true true false = refl
+one_more true true true true false false = refl
+one_more true true true false f n = refl
+
+-- One field more at a point.
+pub claims_at-field : (old mid new : Bool) (item tree point field : ℕ) (fields : List ℕ) (i : ℕ) (access : Priv) (k : OwnPlace) (a : Priv) → i < length fields → field ≡ get_or fields i 0 → mid ≡ (old || claims_at item tree (point ∷ []) (take i fields) access k a) → new ≡ (mid || (same_place (record { item = item; tree = tree; point = point; field = field }) k && not (agree access a))) → new ≡ (old || claims_at item tree (point ∷ []) (take (i + 1) fields) access k a)
+claims_at-field old mid new item tree point field fields i access k a lt is before after =
+    let n = not (agree access a) in
+    let one : OwnPlace = record { item = item; tree = tree; point = point; field = field } in
+    after
+    ∙ ap (λ b. b || (same_place one k && n)) before
+    ∙ or_assoc old (claims_at item tree (point ∷ []) (take i fields) access k a) (same_place one k && n)
+    ∙ ap (λ b. old || b)
+    (one_more (item == k.item) (tree == k.tree) (point == k.point) (is_in (take i fields) k.field) (field == k.field) n
+    ∙ ap (λ b. (item == k.item) && ((tree == k.tree) && (((point == k.point) || false) && (b && n))))
+    (ap (λ f. is_in (take i fields) k.field || (f == k.field)) is
+    ∙ sym (list_any_more (λ m. m == k.field) fields i 0 lt)
+    )
+    )
+
+turned : (a b : Bool) → (a && b) ≡ (b && a)
+turned true true = refl
+turned true false = refl
+turned false true = refl
+turned false false = refl
+
+-- One requirement, place by place.
+row_told : (a b d : Bool) (ns ms : ℕ → Bool) (P F : List ℕ) → (a && (b && (list_any ns P && (list_any ms F && d)))) ≡ list_any (λ x. list_any (λ f. a && (b && (ns x && (ms f && d)))) F) P
+row_told false b d ns ms P F = sym (list_any-alike _ (λ x. false) P (λ x. list_any-false F) ∙ list_any-false P)
+row_told true false d ns ms P F = sym (list_any-alike _ (λ x. false) P (λ x. list_any-false F) ∙ list_any-false P)
+row_told true true d ns ms P F = sym (
+    list_any-alike (λ x. list_any (λ f. ns x && (ms f && d)) F) (λ x. (list_any ms F && d) && ns x) P
+    (λ x. list_any-and (ns x) (λ f. ms f && d) F ∙ ap (λ b. ns x && b) (list_any-alike (λ f. ms f && d) (λ f. d && ms f) F (λ f. turned (ms f) d) ∙ list_any-and d ms F ∙ turned d (list_any ms F)) ∙ turned (ns x) (list_any ms F && d))
+    ∙ list_any-and (list_any ms F && d) ns P ∙ turned (list_any ms F && d) (list_any ns P)
+    )
+
+-- Whether a requirement interferes with those of its task is told place by place.
+pub interferes_with_own-by_place : (t : Tables) (task tree space : ℕ) (fields : List ℕ) (access : PrivWord) (atomic : Bool) → interferes_with_own t (records.Req task tree space fields access atomic) ≡ list_any (λ x. list_any (λ f. clashes_at t (record { item = place_of t.items task; tree = tree; point = x; field = f }) (privilege_of access)) fields) (points_in t space)
+interferes_with_own-by_place t task tree space fields access atomic =
+    let I = place_of t.items task in
+    let P = points_in t space in
+    let a = privilege_of access in
+    let row : Req → ℕ → ℕ → Bool = λ r x f. claims_at r.item r.tree (points_in t r.space) r.fields r.access (record { item = I; tree = tree; point = x; field = f }) a in
+    list_any-alike _ (λ r. list_any (λ x. list_any (λ f. row r x f) fields) P) t.reqs
+    (λ r.
+    ap (λ b. (r.item == I) && ((r.tree == tree) && (b && (meets r.fields fields && not (agree r.access a))))) (meets-turned (points_in t r.space) P)
+    ∙ ap (λ b. (r.item == I) && ((r.tree == tree) && (meets P (points_in t r.space) && (b && not (agree r.access a))))) (meets-turned r.fields fields)
+    ∙ row_told (r.item == I) (r.tree == tree) (not (agree r.access a)) (is_in (points_in t r.space)) (is_in r.fields) P fields)
+    ∙ list_any-list_any (λ r x. list_any (row r x) fields) t.reqs P
+    ∙ list_any-alike _ _ P (λ x. list_any-list_any (λ r f. row r x f) t.reqs fields)
+
+-- The claims tell it.
+pub interferes_with_own-by_claims : (t : Tables) (c : Claims) (task tree space : ℕ) (fields : List ℕ) (access : PrivWord) (atomic : Bool) → AreClaims t c → list_any (clashes_row c (place_of t.items task) tree fields (privilege_of access)) (points_in t space) ≡ interferes_with_own t (records.Req task tree space fields access atomic)
+interferes_with_own-by_claims t c task tree space fields access atomic are =
+    list_any-alike _ _ (points_in t space) (λ x. list_any-alike _ _ fields (λ f. are (record { item = place_of t.items task; tree = tree; point = x; field = f }) (privilege_of access)))
+    ∙ sym (interferes_with_own-by_place t task tree space fields access atomic)

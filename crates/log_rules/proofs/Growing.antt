@@ -1,0 +1,235 @@
+-- What one record more adds to tables, and what it leaves as it was.
+use Rattle.std.proofs.Common.{◌≡◌, ℕ, ◌+◌, ◌*◌, ◌-◌, ◌<◌, ◌≤◌, ◌==◌, ◌^◌, nat_lt, Bool, true, false, not, ◌&&◌, ◌||◌, List, [], ◌∷◌, ◌++◌, map, min, find, flat_map, length, Option, Some, None, is_some, unwrap_or, refl, sym, ap, ◌∙◌, append_assoc, lit<, inl, inr, arith}
+use Rattle.std.specs.List.{list_any, list_all}
+use Rattle.std.specs.Option.{option_map_or, option_or}
+use Rattle.std.proofs.lemmas.Bool.{cases_Bool}
+use Rattle.std.proofs.lemmas.Bool.Decides.{nat_tests}
+use Rattle.std.proofs.lemmas.List.Folds.{list_any-append, list_all-append, find-append}
+use Rattle.privilege.specs.declared.kinds.Priv.{Priv}
+use Rattle.privilege.specs.Interference.{agree}
+use Rattle.spy_grammar.specs.declared.record.Record.{Record}
+use Rattle.spy_grammar.specs.declared.record.Record.TheVariants.{Ispace, Req, Fill, Serial, Inst, Copy, Put, Reset, Fold}
+use Rattle.semantics.specs.declared.tables.Req as reqs
+use Rattle.semantics.specs.declared.tables.Inst as insts
+use Rattle.semantics.specs.declared.tables.Serial as serials
+use Rattle.semantics.specs.Tables.{Tables, Space, points_of, place_of, privilege_of, coherence_of, reqs_before, with_record}
+use Rattle.semantics.specs.Points.{is_in, points_in}
+use Rattle.semantics.specs.SerialOrder.{listed}
+use Rattle.semantics.specs.Rules.{total, size_of, accesses, is_declared, space_id, names, names_unknown, lacks_req, has_many_points, has_many_cells, has_many_accesses}
+use Rattle.log_rules.specs.declared.claims.OwnPlace.{OwnPlace}
+use Rattle.log_rules.specs.Counts.{point_total, cell_total, access_total, points_asked, cells_asked, asked, cut}
+use Rattle.log_rules.specs.Listing.{IsSetOf, ids_listed}
+use Rattle.log_rules.specs.Own.{claims_at, clashes_at, claimed}
+use Rattle.log_rules.specs.Tallied.{knows_space, AreKnown, MayCount}
+use Rattle.log_rules.proofs.Limits.{accesses-asked}
+
+nil : {A : Type 0} (xs : List A) → xs ≡ xs ++ []
+nil [] = refl
+nil (x ∷ xs) = ap (λ ys. x ∷ ys) (nil xs)
+
+-- ---- Spaces that are declared keep their points.
+
+record Grows (t u : Tables) : Type 0 where
+  points : (id : ℕ) → is_declared t (space_id id) ≡ true → points_in u id ≡ points_in t id
+  declared : (id : ℕ) → is_declared t (space_id id) ≡ true → is_declared u (space_id id) ≡ true
+
+found_first : (id : ℕ) (xs ys : List Space) → list_any (λ (s : Space). s.id == id) xs ≡ true → find (λ (s : Space). s.id == id) (xs ++ ys) ≡ find (λ (s : Space). s.id == id) xs
+found_first id [] ys h = absurd (no h)
+  where
+    no : false ≡ true → ⊥
+    no e = cc
+found_first id (x ∷ xs) ys h =
+    elim (cases_Bool (x.id == id)) [
+      | inl hit ↦ rw hit refl
+      | inr miss ↦ let rest : list_any (λ (s : Space). s.id == id) xs ≡ true = ap (λ b. b || list_any (λ (s : Space). s.id == id) xs) (sym miss) ∙ h in rw miss (found_first id xs ys rest)
+    ]
+
+grows : (t : Tables) (line : ℕ) (r : Record) → Grows t (with_record t line r)
+grows t line (Ispace id set) = record {
+  points = λ other known. ap (λ o. option_map_or (λ (s : Space). s.points) o []) (found_first other t.spaces (record { id = id; points = points_of set } ∷ []) known);
+  declared = λ other known.
+      list_any-append (λ (s : Space). s.id == other) t.spaces (record { id = id; points = points_of set } ∷ [])
+      ∙ ap (λ b. b || list_any (λ (s : Space). s.id == other) (record { id = id; points = points_of set } ∷ [])) known;
+}
+grows t line _ = record { points = λ other known. refl; declared = λ other known. known }
+
+-- ---- Sums over lists.
+
+total-append : (xs ys : List ℕ) → total (xs ++ ys) ≡ total xs + total ys
+total-append [] ys = omega arith
+total-append (x ∷ xs) ys = let h = total-append xs ys in omega (arith, h)
+
+total-map-append : {A : Type 0} (f : A → ℕ) (xs ys : List A) → total (map f (xs ++ ys)) ≡ total (map f xs) + total (map f ys)
+total-map-append f [] ys = omega arith
+total-map-append f (x ∷ xs) ys = let h = total-map-append f xs ys in omega (arith, h)
+
+and_left : (a b : Bool) → (a && b) ≡ true → a ≡ true
+and_left true b h = refl
+and_left false b h = h
+
+and_right : (a b : Bool) → (a && b) ≡ true → b ≡ true
+and_right true b h = h
+and_right false b h = absurd (no h)
+  where
+    no : false ≡ true → ⊥
+    no e = cc
+
+total-known : {A : Type 0} (p : A → Bool) (f g : A → ℕ) (xs : List A) → ((x : A) → p x ≡ true → f x ≡ g x) → list_all p xs ≡ true → total (map f xs) ≡ total (map g xs)
+total-known p f g [] same all = refl
+total-known p f g (x ∷ xs) same all =
+    let head = same x (and_left (p x) (list_all p xs) all) in
+    let tail = total-known p f g xs same (and_right (p x) (list_all p xs) all) in
+    omega (arith, head, tail)
+
+any-known : {A : Type 0} (p f g : A → Bool) (xs : List A) → ((x : A) → p x ≡ true → f x ≡ g x) → list_all p xs ≡ true → list_any f xs ≡ list_any g xs
+any-known p f g [] same all = refl
+any-known p f g (x ∷ xs) same all = rw (same x (and_left (p x) (list_all p xs) all), any-known p f g xs same (and_right (p x) (list_all p xs) all)) refl
+
+all-known : {A : Type 0} (p q : A → Bool) (xs : List A) → ((x : A) → p x ≡ true → q x ≡ true) → list_all p xs ≡ true → list_all q xs ≡ true
+all-known p q [] then all = refl
+all-known p q (x ∷ xs) then all = ap (λ b. b && list_all q xs) (then x (and_left (p x) (list_all p xs) all)) ∙ all-known p q xs then (and_right (p x) (list_all p xs) all)
+
+all-snoc : {A : Type 0} (p : A → Bool) (xs : List A) (x : A) → list_all p xs ≡ true → p x ≡ true → list_all p (xs ++ x ∷ []) ≡ true
+all-snoc p [] x all here = ap (λ b. b && true) here
+all-snoc p (y ∷ ys) x all here = ap (λ b. b && list_all p (ys ++ x ∷ [])) (and_left (p y) (list_all p ys) all) ∙ all-snoc p ys x (and_right (p y) (list_all p ys) all) here
+
+within : (sum more limit old : ℕ) → old ≡ sum → nat_lt limit (sum + more) ≡ false → limit < 2 ^ 128 - 1 → cut (old + more) ≡ sum + more
+within sum more limit old is fits small = let low : sum + more ≤ limit = under (sum + more) limit fits in omega arith
+  where
+    under : (n m : ℕ) → nat_lt m n ≡ false → n ≤ m
+    under n m h = grind (arith, nat_tests)
+
+-- ---- The record's own names are declared.
+
+knows_all : (t : Tables) (r : Record) → names_unknown t r ≡ false → list_all (is_declared t) (names r) ≡ true
+knows_all t r h = told (list_all (is_declared t) (names r)) (lacks_req t r) h
+  where
+    told : (a b : Bool) → (not a || b) ≡ false → a ≡ true
+    told true b h = refl
+    told false b h = sym h
+
+second : (a b : Bool) (c : Bool) → (a && (b && c)) ≡ true → b ≡ true
+second a b c h = and_left b c (and_right a (b && c) h)
+
+third : (a b c d : Bool) → (a && (b && (c && d))) ≡ true → c ≡ true
+third a b c d h = second b c d (and_right a (b && (c && d)) h)
+
+knows_asked : (t : Tables) (r : Record) → list_all (is_declared t) (names r) ≡ true → knows_space t r ≡ true
+knows_asked t (Req task tree space fields access atomic) h = third _ _ _ _ h
+knows_asked t (Fill id tree space fields n) h = second _ _ _ h
+knows_asked t (Copy src dst space fields done waits) h = third _ _ _ _ h
+knows_asked t (Put inst space fields n done waits) h = second _ _ _ h
+knows_asked t (Reset inst space fields done waits) h = second _ _ _ h
+knows_asked t (Fold src dst space fields done waits) h = third _ _ _ _ h
+knows_asked t _ h = refl
+
+-- ---- Points, cells and accesses.
+
+pub point_total-add : (t : Tables) (line : ℕ) (r : Record) → point_total (with_record t line r) ≡ point_total t + points_asked r
+point_total-add t line (Ispace id set) = let h = total-map-append (λ (s : Space). length s.points) t.spaces (record { id = id; points = points_of set } ∷ []) in omega (arith, h)
+point_total-add t line _ = omega arith
+
+size-grows : (t u : Tables) (space : ℕ) (fields : List ℕ) → Grows t u → is_declared t (space_id space) ≡ true → size_of u space fields ≡ size_of t space fields
+size-grows t u space fields g known = ap (λ (xs : List ℕ). length xs * length fields) (g.points space known)
+
+cells_grow : (t u : Tables) → Grows t u → list_all (λ (i : insts.Inst). is_declared t (space_id i.space)) t.insts ≡ true → total (map (λ (i : insts.Inst). size_of u i.space i.fields) t.insts) ≡ cell_total t
+cells_grow t u g known = total-known (λ (i : insts.Inst). is_declared t (space_id i.space)) (λ (i : insts.Inst). size_of u i.space i.fields) (λ (i : insts.Inst). size_of t i.space i.fields) t.insts (λ (i : insts.Inst) here. size-grows t u i.space i.fields g here) known
+
+pub cell_total-add : (t : Tables) (line : ℕ) (r : Record) → list_all (λ (i : insts.Inst). is_declared t (space_id i.space)) t.insts ≡ true → names_unknown t r ≡ false → cell_total (with_record t line r) ≡ cell_total t + cells_asked t r
+cell_total-add t line (Inst id tree space fields kind) known named =
+    let h = total-map-append (λ (i : insts.Inst). size_of t i.space i.fields) t.insts (record { id = id; tree = tree; space = space; fields = fields; kind = kind } ∷ []) in
+    omega (arith, h)
+cell_total-add t line (Ispace id set) known named = let h = cells_grow t (with_record t line (Ispace id set)) (grows t line (Ispace id set)) known in omega (arith, h)
+cell_total-add t line _ known named = omega arith
+
+accesses-grow : (t u : Tables) (r : Record) → Grows t u → knows_space t r ≡ true → accesses u r ≡ accesses t r
+accesses-grow t u r g known = accesses-asked u r ∙ by (asked r) known ∙ sym (accesses-asked t r)
+  where
+    by : (o : Option (ℕ × List ℕ)) → option_map_or (λ p. is_declared t (space_id p.0)) o true ≡ true → option_map_or (λ p. size_of u p.0 p.1) o 0 ≡ option_map_or (λ p. size_of t p.0 p.1) o 0
+    by None h = refl
+    by (Some p) h = size-grows t u p.0 p.1 g h
+
+pub access_total-add : (earlier : List Record) (t : Tables) (line : ℕ) (r : Record) → list_all (knows_space t) earlier ≡ true → names_unknown t r ≡ false → access_total (with_record t line r) (earlier ++ r ∷ []) ≡ access_total t earlier + accesses t r
+access_total-add earlier t line r known named =
+    let u = with_record t line r in
+    let g = grows t line r in
+    let h = total-map-append (accesses u) earlier (r ∷ []) in
+    let e = total-known (knows_space t) (accesses u) (accesses t) earlier (λ x here. accesses-grow t u x g here) known in
+    let l = accesses-grow t u r g (knows_asked t r (knows_all t r named)) in
+    omega (arith, h, e, l)
+
+-- ---- Sets and claims.
+
+is_in-append : (xs ys : List ℕ) (n : ℕ) → is_in (xs ++ ys) n ≡ (is_in xs n || is_in ys n)
+is_in-append xs ys n = list_any-append (λ m. m == n) xs ys
+
+flat_map-append : (xs ys : List serials.Serial) → flat_map (λ (s : serials.Serial). s.ids) (xs ++ ys) ≡ flat_map (λ (s : serials.Serial). s.ids) xs ++ flat_map (λ (s : serials.Serial). s.ids) ys
+flat_map-append [] ys = refl
+flat_map-append (x ∷ xs) ys = ap (λ (zs : List ℕ). x.ids ++ zs) (flat_map-append xs ys) ∙ sym (append_assoc x.ids (flat_map (λ (s : serials.Serial). s.ids) xs) (flat_map (λ (s : serials.Serial). s.ids) ys))
+
+or_false : (b : Bool) → b ≡ (b || false)
+or_false true = refl
+or_false false = refl
+
+pub listed-add : (t : Tables) (line : ℕ) (r : Record) (n : ℕ) → is_in (listed (with_record t line r)) n ≡ (is_in (listed t) n || is_in (ids_listed r) n)
+listed-add t line (Serial ids) n =
+    ap (λ (xs : List ℕ). is_in xs n) (flat_map-append t.serials (record { line = line; ids = ids } ∷ []))
+    ∙ is_in-append (listed t) (ids ++ []) n
+    ∙ ap (λ (xs : List ℕ). is_in (listed t) n || is_in xs n) (sym (nil ids))
+listed-add t line _ n = or_false (is_in (listed t) n)
+
+pub clashes_at-add : (t : Tables) (line : ℕ) (r : Record) (k : OwnPlace) (a : Priv) → list_all (λ (q : reqs.Req). is_declared t (space_id q.space)) t.reqs ≡ true → clashes_at (with_record t line r) k a ≡ (clashes_at t k a || claimed t r k a)
+clashes_at-add t line (Req task tree space fields access atomic) k a known =
+    let one : reqs.Req = record { item = place_of t.items task; number = reqs_before t.reqs (place_of t.items task) + 1; line = line; tree = tree; space = space; fields = fields; access = privilege_of access; coherence = coherence_of atomic } in
+    list_any-append (λ (q : reqs.Req). claims_at q.item q.tree (points_in t q.space) q.fields q.access k a) t.reqs (one ∷ [])
+    ∙ ap (λ b. clashes_at t k a || b) (sym (or_false (claims_at (place_of t.items task) tree (points_in t space) fields (privilege_of access) k a)))
+clashes_at-add t line (Ispace id set) k a known =
+    let u = with_record t line (Ispace id set) in
+    let g = grows t line (Ispace id set) in
+    any-known (λ (q : reqs.Req). is_declared t (space_id q.space)) (λ (q : reqs.Req). claims_at q.item q.tree (points_in u q.space) q.fields q.access k a) (λ (q : reqs.Req). claims_at q.item q.tree (points_in t q.space) q.fields q.access k a) t.reqs
+    (λ (q : reqs.Req) here. ap (λ (xs : List ℕ). claims_at q.item q.tree xs q.fields q.access k a) (g.points q.space here)) known
+    ∙ or_false (clashes_at t k a)
+clashes_at-add t line _ k a known = or_false (clashes_at t k a)
+
+-- ---- What is known stays known.
+
+reqs_known : (t : Tables) (line : ℕ) (r : Record) → list_all (λ (q : reqs.Req). is_declared t (space_id q.space)) t.reqs ≡ true → list_all (is_declared t) (names r) ≡ true → list_all (λ (q : reqs.Req). is_declared (with_record t line r) (space_id q.space)) (with_record t line r).reqs ≡ true
+reqs_known t line (Req task tree space fields access atomic) known named = all-snoc (λ (q : reqs.Req). is_declared t (space_id q.space)) t.reqs _ known (third _ _ _ _ named)
+reqs_known t line (Ispace id set) known named = all-known (λ (q : reqs.Req). is_declared t (space_id q.space)) _ t.reqs (λ (q : reqs.Req) here. (grows t line (Ispace id set)).declared q.space here) known
+reqs_known t line _ known named = known
+
+insts_known : (t : Tables) (line : ℕ) (r : Record) → list_all (λ (i : insts.Inst). is_declared t (space_id i.space)) t.insts ≡ true → list_all (is_declared t) (names r) ≡ true → list_all (λ (i : insts.Inst). is_declared (with_record t line r) (space_id i.space)) (with_record t line r).insts ≡ true
+insts_known t line (Inst id tree space fields kind) known named = all-snoc (λ (i : insts.Inst). is_declared t (space_id i.space)) t.insts _ known (second _ _ _ named)
+insts_known t line (Ispace id set) known named = all-known (λ (i : insts.Inst). is_declared t (space_id i.space)) _ t.insts (λ (i : insts.Inst) here. (grows t line (Ispace id set)).declared i.space here) known
+insts_known t line _ known named = known
+
+still_asked : (t u : Tables) (o : Option (ℕ × List ℕ)) → Grows t u → option_map_or (λ p. is_declared t (space_id p.0)) o true ≡ true → option_map_or (λ p. is_declared u (space_id p.0)) o true ≡ true
+still_asked t u None g h = refl
+still_asked t u (Some p) g h = g.declared p.0 h
+
+pub AreKnown-add : (earlier : List Record) (t : Tables) (line : ℕ) (r : Record) → AreKnown earlier t → names_unknown t r ≡ false → AreKnown (earlier ++ r ∷ []) (with_record t line r)
+AreKnown-add earlier t line r known named =
+    let u = with_record t line r in
+    let g = grows t line r in
+    let named_all = knows_all t r named in
+    record {
+      reqs = reqs_known t line r known.reqs named_all;
+      insts = insts_known t line r known.insts named_all;
+      accesses =
+          all-snoc (knows_space u) earlier r
+          (all-known (knows_space t) (knows_space u) earlier (λ x here. still_asked t u (asked x) g here) known.accesses)
+          (still_asked t u (asked r) g (knows_asked t r named_all));
+    }
+
+-- ---- Sums within their limits are exact.
+
+pub points-exact : (t : Tables) (r : Record) (old : ℕ) → old ≡ point_total t → old < 2 ^ 128 → has_many_points t r ≡ false → cut (old + points_asked r) ≡ point_total t + points_asked r
+points-exact t (Ispace id set) old is small fits = within (point_total t) (length (points_of set)) 1048576 old is fits (lit< tt)
+points-exact t _ old is small fits = omega arith
+
+pub cells-exact : (t : Tables) (r : Record) (old : ℕ) → old ≡ cell_total t → old < 2 ^ 128 → has_many_cells t r ≡ false → cut (old + cells_asked t r) ≡ cell_total t + cells_asked t r
+cells-exact t (Inst id tree space fields kind) old is small fits = within (cell_total t) (size_of t space fields) 1048576 old is fits (lit< tt)
+cells-exact t _ old is small fits = omega arith
+
+pub accesses-exact : (earlier : List Record) (t : Tables) (r : Record) (old : ℕ) → old ≡ access_total t earlier → has_many_accesses earlier t r ≡ false → cut (old + accesses t r) ≡ access_total t earlier + accesses t r
+accesses-exact earlier t r old is fits = within (access_total t earlier) (accesses t r) 4194304 old is fits (lit< tt)

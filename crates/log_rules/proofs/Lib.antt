@@ -1,0 +1,11 @@
+pub mod Ascending
+pub mod Claiming
+pub mod Climbs
+pub mod Growing
+pub mod Limits
+pub mod Listings
+pub mod Mappings
+pub mod Members
+pub mod Noding
+pub mod Repeats
+pub mod Tests

@@ -1,0 +1,49 @@
+-- Sums that are counted, and their limits.
+use Rattle.std.proofs.Common.{◌≡◌, ℕ, zero, suc, ◌+◌, ◌-◌, ◌*◌, ◌<◌, ◌≤◌, nat_lt, Bool, List, [], ◌∷◌, ◌++◌, map, min, take, length, get_or, Option, Some, None, refl, sym, ap, ◌∙◌, arith}
+use Rattle.std.specs.Option.{option_map_or}
+use Rattle.std.proofs.lemmas.Bool.Decides.{nat_tests}
+use Rattle.std.proofs.lemmas.List.{take_more}
+use Rattle.spy_grammar.specs.declared.record.Record.{Record}
+use Rattle.spy_grammar.specs.declared.record.Record.TheVariants.{Req, Fill, Copy, Put, Reset, Fold}
+use Rattle.semantics.specs.Tables.{Tables, numbers_from, points_of}
+use Rattle.semantics.specs.Rules.{total, size_of, accesses}
+use Rattle.log_rules.specs.Counts.{cut, asked}
+
+pub cut-add : (a b m : ℕ) → min (min a m + b) m ≡ min (a + b) m
+cut-add a b m = omega arith
+
+pub cut-both : (a b m : ℕ) → min (a + min b m) m ≡ min (a + b) m
+cut-both a b m = omega arith
+
+length-numbers_from : (a n : ℕ) → length (numbers_from a n) ≡ n
+length-numbers_from a zero = refl
+length-numbers_from a (suc n) = ap (λ k. suc k) (length-numbers_from (a + 1) n)
+
+length-app : (xs ys : List ℕ) → length (xs ++ ys) ≡ length xs + length ys
+length-app [] ys = omega arith
+length-app (x ∷ xs) ys = let h = length-app xs ys in omega (arith, h)
+
+points_of-snoc : (runs : List (ℕ × ℕ)) (r : ℕ × ℕ) → length (points_of (runs ++ r ∷ [])) ≡ length (points_of runs) + (r.1 + 1 - r.0)
+points_of-snoc [] r =
+    let h = length-app (numbers_from r.0 (r.1 + 1 - r.0)) [] in
+    let n = length-numbers_from r.0 (r.1 + 1 - r.0) in
+    omega (arith, h, n)
+points_of-snoc (s ∷ runs) r =
+    let first : List ℕ = numbers_from s.0 (s.1 + 1 - s.0) in
+    let h = length-app first (points_of (runs ++ r ∷ [])) in
+    let g = length-app first (points_of runs) in
+    let rest = points_of-snoc runs r in
+    omega (arith, h, g, rest)
+
+pub points_of_more : (runs : List (ℕ × ℕ)) (i : ℕ) (d : ℕ × ℕ) → i < length runs → length (points_of (take (i + 1) runs)) ≡ length (points_of (take i runs)) + ((get_or runs i d).1 + 1 - (get_or runs i d).0)
+points_of_more runs i d lt = ap (λ (xs : List (ℕ × ℕ)). length (points_of xs)) (take_more runs i d lt) ∙ points_of-snoc (take i runs) (get_or runs i d)
+
+-- The accesses of a record by the space and the fields that it names.
+pub accesses-asked : (t : Tables) (r : Record) → accesses t r ≡ option_map_or (λ p. size_of t p.0 p.1) (asked r) 0
+accesses-asked t (Req task tree space fields access atomic) = refl
+accesses-asked t (Fill id tree space fields n) = refl
+accesses-asked t (Copy src dst space fields done waits) = refl
+accesses-asked t (Put inst space fields n done waits) = refl
+accesses-asked t (Reset inst space fields done waits) = refl
+accesses-asked t (Fold src dst space fields done waits) = refl
+accesses-asked t _ = refl

@@ -1,0 +1,45 @@
+-- Tests of the members of lists.
+use Rattle.std.proofs.Common.{◌≡◌, Bool, true, false, ◌&&◌, ◌||◌, cond, List, [], ◌∷◌, find, Some, is_some, refl, sym, ap, ◌∙◌, inl, inr}
+use Rattle.std.specs.List.{list_any, list_all}
+use Rattle.std.specs.Option.{option_map}
+use Rattle.std.proofs.lemmas.Bool.{cases_Bool}
+
+pub list_any-alike : {X : Type 0} (p q : X → Bool) (xs : List X) → ((x : X) → p x ≡ q x) → list_any p xs ≡ list_any q xs
+list_any-alike p q [] e = refl
+list_any-alike p q (x ∷ xs) e = rw (e x, list_any-alike p q xs e) refl
+
+pub list_all-alike : {X : Type 0} (p q : X → Bool) (xs : List X) → ((x : X) → p x ≡ q x) → list_all p xs ≡ list_all q xs
+list_all-alike p q [] e = refl
+list_all-alike p q (x ∷ xs) e = rw (e x, list_all-alike p q xs e) refl
+
+pub list_any-false : {X : Type 0} (xs : List X) → list_any (λ x. false) xs ≡ false
+list_any-false [] = refl
+list_any-false (x ∷ xs) = list_any-false xs
+
+pub list_any-and : {X : Type 0} (b : Bool) (p : X → Bool) (xs : List X) → list_any (λ x. b && p x) xs ≡ (b && list_any p xs)
+list_any-and true p xs = refl
+list_any-and false p xs = list_any-false xs
+
+crossed : (a b c d : Bool) → ((a || b) || (c || d)) ≡ ((a || c) || (b || d))
+crossed true b c d = refl
+crossed false true true d = refl
+crossed false true false d = refl
+crossed false false true d = refl
+crossed false false false d = refl
+
+pub list_any-or : {X : Type 0} (p q : X → Bool) (xs : List X) → list_any (λ x. p x || q x) xs ≡ (list_any p xs || list_any q xs)
+list_any-or p q [] = refl
+list_any-or p q (x ∷ xs) = rw (list_any-or p q xs) (crossed (p x) (q x) (list_any p xs) (list_any q xs))
+
+pub list_any-list_any : {X Y : Type 0} (R : X → Y → Bool) (xs : List X) (ys : List Y) → list_any (λ x. list_any (R x) ys) xs ≡ list_any (λ y. list_any (λ x. R x y) xs) ys
+list_any-list_any R [] ys = sym (list_any-false ys)
+list_any-list_any R (x ∷ xs) ys = rw (list_any-list_any R xs ys) (sym (list_any-or (R x) (λ y. list_any (λ z. R z y) xs) ys))
+
+pub is_some-find : {X Y : Type 0} (f : X → Y) (p : X → Bool) (xs : List X) → is_some (option_map f (find p xs)) ≡ list_any p xs
+is_some-find f p [] = refl
+is_some-find f p (x ∷ xs) =
+    elim (cases_Bool (p x)) [
+      | inl hit ↦ ap (λ b. is_some (option_map f (cond b (Some x) (find p xs)))) hit ∙ sym (ap (λ b. b || list_any p xs) hit)
+      | inr miss ↦
+          ap (λ b. is_some (option_map f (cond b (Some x) (find p xs)))) miss ∙ is_some-find f p xs ∙ sym (ap (λ b. b || list_any p xs) miss)
+    ]

@@ -1,0 +1,9 @@
+use Rattle.std.proofs.Common.{◌≡◌, ◌||◌, [], ◌∷◌, take}
+use Rattle.log_rules.specs.declared.claims.OwnPlace.{OwnPlace}
+use Rattle.log_rules.specs.Own.{clashes_in, claims_at}
+use Rattle.privilege.specs.declared.kinds.Priv.{Priv}
+use Rattle.log_rules.proofs.claims.Claims.claim_at_point.Given as goal
+
+abbrev pub invariant-loop-field : goal.invariant-loop-field
+invariant-loop-field l =
+    (k : OwnPlace) (a : Priv) → clashes_in l.self k a ≡ (clashes_in l.initial.self k a || claims_at l.item l.tree (l.point ∷ []) (take l.field-index l.fields) l.access k a)

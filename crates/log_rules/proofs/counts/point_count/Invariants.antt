@@ -1,0 +1,7 @@
+use Rattle.std.proofs.Common.{◌≡◌, take, length}
+use Rattle.semantics.specs.Tables.{points_of}
+use Rattle.log_rules.specs.Counts.{cut}
+use Rattle.log_rules.proofs.counts.point_count.Given as goal
+
+abbrev pub invariant-loop-run : goal.invariant-loop-run
+invariant-loop-run l = l.count ≡ cut (length (points_of (take l.run-index l.runs)))

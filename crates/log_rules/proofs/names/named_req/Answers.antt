@@ -1,0 +1,6 @@
+use Rattle.std.proofs.Common.{◌∙◌, ap}
+use Rattle.semantics.specs.Reads.{req_at}
+use Rattle.log_rules.proofs.names.named_req.Goals as goal
+
+pub returns-clause-req : goal.returns-clause-req
+returns-clause-req g c = c.req.ensures.req ∙ ap (λ p. req_at c.args.draft.now p c.args.number) c.place.ensures

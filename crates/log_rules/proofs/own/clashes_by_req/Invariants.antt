@@ -1,0 +1,8 @@
+use Rattle.std.proofs.Common.{◌≡◌, false, take}
+use Rattle.std.specs.List.{list_any}
+use Rattle.semantics.specs.Points.{points_in}
+use Rattle.log_rules.specs.Own.{clashes_with}
+use Rattle.log_rules.proofs.own.clashes_by_req.Given as goal
+
+abbrev pub invariant-loop-req : goal.invariant-loop-req
+invariant-loop-req g l = list_any (clashes_with l.draft l.item l.tree (points_in l.draft l.space) l.fields l.access) (take l.req-index l.draft.reqs) ≡ false

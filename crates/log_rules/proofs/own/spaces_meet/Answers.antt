@@ -1,0 +1,9 @@
+use Rattle.std.proofs.Common.{◌∙◌, ap, sym, ℕ, List}
+use Rattle.semantics.specs.Points.{meets, points_in}
+use Rattle.log_rules.proofs.Tests.{list_any-false}
+use Rattle.log_rules.proofs.own.spaces_meet.Goals as goal
+
+pub returns-in-None : goal.returns-in-None
+returns-in-None g c =
+    let ours = points_in c.args.draft.now c.args.ours in
+    sym (ap (λ (xs : List ℕ). meets ours xs) c.in-None.ensures ∙ list_any-false ours)

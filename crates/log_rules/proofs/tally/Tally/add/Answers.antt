@@ -1,0 +1,30 @@
+use Rattle.std.proofs.Common.{◌≡◌, ◌+◌, ◌-◌, ◌^◌, ◌||◌, ap, sym, ◌∙◌}
+use Rattle.semantics.specs.Points.{is_in}
+use Rattle.semantics.specs.Rules.{accesses}
+use Rattle.log_rules.specs.Counts.{cut, points_asked, cells_asked}
+use Rattle.log_rules.specs.Listing.{ids_listed}
+use Rattle.log_rules.specs.Own.{claimed}
+use Rattle.log_rules.proofs.Limits.{cut-both}
+use Rattle.log_rules.proofs.Growing.{AreKnown-add, point_total-add, cell_total-add, access_total-add, points-exact, cells-exact, accesses-exact, listed-add, clashes_at-add}
+use Rattle.log_rules.proofs.tally.Tally.add.Goals as goal
+
+pub returns : goal.returns
+returns g c = λ earlier line is may.
+    let t = c.args.draft.now in
+    let r = c.args.rec.now in
+    let old = c.args.self.now in
+    let most = 2 ^ 128 - 1 in
+    record {
+      points =
+          c.raised-self.ensures.sum ∙ ap (λ m. cut (old.points + m)) c.points_asked.ensures
+          ∙ cut-both old.points (points_asked r) most ∙ points-exact t r old.points is.points c.raised-self.ensures.fits may.points ∙ sym (point_total-add t line r);
+      cells =
+          c.raised-self-2.ensures.sum ∙ ap (λ m. cut (old.cells + m)) c.cells_asked.ensures
+          ∙ cut-both old.cells (cells_asked t r) most ∙ cells-exact t r old.cells is.cells c.raised-self-2.ensures.fits may.cells ∙ sym (cell_total-add t line r is.known.insts may.known);
+      accesses =
+          c.raised-self-3.ensures.sum ∙ ap (λ m. cut (old.accesses + m)) c.accesses.ensures
+          ∙ cut-both old.accesses (accesses t r) most ∙ accesses-exact earlier t r old.accesses is.accesses may.accesses ∙ sym (access_total-add earlier t line r is.known.accesses may.known);
+      lists = λ n. c.in_ok-note_listed.ensures n ∙ ap (λ b. b || is_in (ids_listed r) n) (is.lists n) ∙ sym (listed-add t line r n);
+      claims = λ k a. c.in_ok-note_claims.ensures k a ∙ ap (λ b. b || claimed t r k a) (is.claims k a) ∙ sym (clashes_at-add t line r k a is.known.reqs);
+      known = AreKnown-add earlier t line r is.known may.known;
+    }

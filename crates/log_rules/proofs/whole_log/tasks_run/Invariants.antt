@@ -1,0 +1,8 @@
+use Rattle.std.proofs.Common.{take, nat_eq}
+use Rattle.std.specs.HashSet.{contains}
+use Rattle.semantics.specs.Records.{records_of}
+use Rattle.log_rules.specs.Gathered.{AreRun}
+use Rattle.log_rules.proofs.whole_log.tasks_run.Given as goal
+
+abbrev pub invariant-loop-l : goal.invariant-loop-l
+invariant-loop-l l = AreRun (records_of (take l.l-index l.log)) (contains nat_eq l.run)

@@ -1,0 +1,49 @@
+-- What the limits on a log count.
+use Rattle.std.specs.Prelude.{◌≡◌, ℕ, ◌-◌, ◌^◌, min, List, map, length, Option, Some, None}
+use Rattle.std.specs.Borrow.{Bor}
+use Rattle.std.specs.Option.{option_map}
+use Rattle.spy_grammar.specs.declared.record.Record.{Record}
+use Rattle.spy_grammar.specs.declared.record.Record.TheVariants.{Ispace, Inst, Req, Fill, Copy, Put, Reset, Fold}
+use Rattle.semantics.specs.declared.tables.Inst as insts
+use Rattle.semantics.specs.Tables.{Tables, Space, points_of}
+use Rattle.semantics.specs.Rules.{total, size_of, accesses}
+
+-- The points of all spaces together.
+abbrev pub point_total : Tables → ℕ
+point_total t = total (map (λ (s : Space). length s.points) t.spaces)
+
+-- The cells of all instances together.
+abbrev pub cell_total : Tables → ℕ
+cell_total t = total (map (λ (i : insts.Inst). size_of t i.space i.fields) t.insts)
+
+-- The accesses that some records ask for together.
+abbrev pub access_total : Tables → List Record → ℕ
+access_total t earlier = total (map (accesses t) earlier)
+
+-- The points that a record declares.
+abbrev pub points_asked : Record → ℕ
+points_asked (Ispace id set) = length (points_of set)
+points_asked _ = 0
+
+-- The cells that a record declares.
+abbrev pub cells_asked : Tables → Record → ℕ
+cells_asked t (Inst id tree space fields kind) = size_of t space fields
+cells_asked t _ = 0
+
+-- The space and the fields whose accesses a record asks for.
+abbrev pub asked : Record → Option (ℕ × List ℕ)
+asked (Req task tree space fields access atomic) = Some (space, fields)
+asked (Fill id tree space fields n) = Some (space, fields)
+asked (Copy src dst space fields done waits) = Some (space, fields)
+asked (Put inst space fields n done waits) = Some (space, fields)
+asked (Reset inst space fields done waits) = Some (space, fields)
+asked (Fold src dst space fields done waits) = Some (space, fields)
+asked _ = None
+
+-- The code's answer is this one.
+abbrev pub Asks : Option (ℕ × Bor (List ℕ)) → Option (ℕ × List ℕ) → Type 0
+Asks found is = option_map (λ (p : ℕ × Bor (List ℕ)). (p.0, p.1.now)) found ≡ is
+
+-- A number, cut to what 128 bits hold.
+abbrev pub cut : ℕ → ℕ
+cut n = min n (2 ^ 128 - 1)

@@ -1,0 +1,6 @@
+pub mod Counts
+pub mod Gathered
+pub mod Left
+pub mod Listing
+pub mod Own
+pub mod Tallied

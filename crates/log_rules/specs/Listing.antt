@@ -1,0 +1,27 @@
+-- Records that list items in serial order.
+use Rattle.std.specs.Prelude.{◌≡◌, ℕ, ◌+◌, ◌==◌, nat_eq, Bool, true, false, not, ◌&&◌, ◌||◌, List, [], Option, MatchOption, unwrap_or}
+use Rattle.std.specs.HashSet.{HashSet, contains}
+use Rattle.std.specs.List.{list_any, list_all}
+use Rattle.spy_grammar.specs.declared.record.Record.{Record}
+use Rattle.semantics.specs.Points.{is_in}
+use Rattle.semantics.specs.Rules.{has_repeat, items_declared, items_listed}
+use Rattle.log_rules.specs.Gathered.{list_count}
+
+-- The items that a record lists in serial order.
+abbrev pub ids_listed : Record → List ℕ
+ids_listed r = unwrap_or (items_listed r) []
+
+-- A set has exactly the numbers of a list.
+abbrev pub IsSetOf : List ℕ → (ℕ → Bool) → Type 0
+IsSetOf ids set = (n : ℕ) → set n ≡ is_in ids n
+
+-- Whether a record lists items badly, given the records of the log, how many records list items before, and the items that those list.
+abbrev pub lists_badly : List Record → ℕ → (ℕ → Bool) → List ℕ → Bool
+lists_badly log before listed ids =
+    has_repeat ids || list_any listed ids
+    || ((list_count log == before + 1) && not (list_all (λ r. list_all (λ id. listed id || is_in ids id) (items_declared r)) log))
+
+module _ {S : Type 0} where
+  -- The numbers of a list as a set, or none where one of them stands there twice.
+  abbrev pub TellsRepeat : List ℕ → Option (HashSet ℕ S) → Type 0
+  TellsRepeat ids found = MatchOption found (has_repeat ids ≡ true) (λ set. (has_repeat ids ≡ false) × IsSetOf ids (contains nat_eq set))

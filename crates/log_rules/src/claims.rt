@@ -1,0 +1,173 @@
+//! Places that the requirements of tasks claim.
+
+ghost use Rattle.std.specs.Prelude.{◌≡◌, ◌==◌, ◌&&◌, ◌||◌, false, not, List, [], ◌∷◌, OnOk, Some};
+ghost use Rattle.std.specs.HashMap.{get};
+ghost use Rattle.std.specs.List.{list_any};
+ghost use Rattle.std.specs.Option.{option_copied};
+ghost use Rattle.log_rules.specs.Own.{clashes, clashes_in, same_place, claims_at, clashes_row};
+ghost use Rattle.log_rules.specs.declared.claims.OwnPlace.{OwnPlace};
+ghost use Rattle.privilege.specs.Interference.{agree};
+ghost use Rattle.privilege.specs.declared.kinds.Priv.{Priv};
+
+use crate::points::Points;
+use point_set::PointSet;
+use privilege::{Coherence, Kind, Priv, kind};
+use std::alloc::{AllocError, Global};
+use std::collections::HashMap;
+
+/// A place of the requirements of one task, which is named by its position among the items.
+#[derive(Clone, Copy, Debug, PartialEq, Eq, Hash)]
+pub(crate) struct OwnPlace {
+    pub item: usize,
+    pub tree: u32,
+    pub point: u64,
+    pub field: u32,
+}
+
+/// What is claimed at each place: a privilege that agrees with exactly those that all requirements there agree with, or none where no privilege does.
+#[derive(Drop)]
+pub(crate) struct Claims {
+    places: HashMap<OwnPlace, Option<Priv>>,
+}
+
+/// Whether two privileges agree.
+pub(crate) fn agree(p: Priv, q: Priv) -> bool
+    ensures { result ≡ agree p q }
+{
+    match kind(p, Coherence::Exclusive, q, Coherence::Exclusive) {
+        Kind::Free => true,
+        _ => false,
+    }
+}
+
+/// What is kept of a place with one requirement more.
+fn joined(kept: Option<Option<Priv>>, access: Priv) -> Option<Priv>
+    ensures { (a : Priv) → clashes (Some result) a ≡ (clashes kept a || not (agree access a)) }
+{
+    match kept {
+        None => Some(access),
+        Some(None) => None,
+        Some(Some(other)) => {
+            if agree(other, access) {
+                Some(other)
+            } else {
+                None
+            }
+        }
+    }
+}
+
+impl Claims {
+    /// No place is claimed.
+    pub fn new(alloc: Global) -> Claims
+        ensures { (k : OwnPlace) (a : Priv) → clashes_in result k a ≡ false }
+    {
+        Claims {
+            places: HashMap::new(alloc),
+        }
+    }
+
+    /// Whether a privilege clashes with what is claimed at a place.
+    fn clashes(&self, place: OwnPlace, access: Priv) -> bool
+        ensures { result ≡ clashes_in self.now place access }
+    {
+        match self.places.get(&place) {
+            Some(Some(kept)) => !agree(*kept, access),
+            Some(None) => true,
+            None => false,
+        }
+    }
+
+    /// Whether a privilege clashes at a point and some of these fields.
+    fn clashes_at_point(
+        &self,
+        item: usize,
+        tree: u32,
+        point: u64,
+        fields: &[u32],
+        access: Priv,
+    ) -> bool
+        ensures { result ≡ clashes_row self.now item tree fields.now access point }
+    {
+        fields.iter().any(|field| {
+            self.clashes(
+                OwnPlace {
+                    item,
+                    tree,
+                    point,
+                    field: *field,
+                },
+                access,
+            )
+        })
+    }
+
+    /// Whether a privilege clashes at some of these points and fields.
+    pub fn clashes_any<P: PointSet>(
+        &self,
+        item: usize,
+        tree: u32,
+        set: &P,
+        fields: &[u32],
+        access: Priv,
+    ) -> bool
+        ensures { result ≡ list_any (clashes_row self.now item tree fields.now access) (P.points set.now) }
+    {
+        for point in Points::of(set) {
+            if self.clashes_at_point(item, tree, point, fields, access) {
+                return true;
+            }
+        }
+        false
+    }
+
+    /// One requirement more at a place.
+    fn claim(&mut self, place: OwnPlace, access: Priv) -> Result<(), AllocError>
+        ensures { OnOk result ((k : OwnPlace) (a : Priv) → clashes_in self.new k a ≡ (clashes_in self.old k a || (same_place place k && not (agree access a)))) }
+    {
+        let kept = self.places.get(&place).copied();
+        let claim = joined(kept, access);
+        self.places.insert(place, claim)?;
+        Ok(())
+    }
+
+    /// One requirement more at a point and these fields.
+    fn claim_at_point(
+        &mut self,
+        item: usize,
+        tree: u32,
+        point: u64,
+        fields: &[u32],
+        access: Priv,
+    ) -> Result<(), AllocError>
+        ensures { OnOk result ((k : OwnPlace) (a : Priv) → clashes_in self.new k a ≡ (clashes_in self.old k a || claims_at item tree (point ∷ []) fields.now access k a)) }
+    {
+        for field in fields {
+            let place = OwnPlace {
+                item,
+                tree,
+                point,
+                field: *field,
+            };
+            self.claim(place, access)?;
+        }
+        Ok(())
+    }
+
+    /// One requirement more at these points and fields.
+    pub fn claim_all<P: PointSet>(
+        &mut self,
+        item: usize,
+        tree: u32,
+        set: &P,
+        fields: &[u32],
+        access: Priv,
+    ) -> Result<(), AllocError>
+        ensures { OnOk result ((k : OwnPlace) (a : Priv) → clashes_in self.new k a ≡ (clashes_in self.old k a || claims_at item tree (P.points set.now) fields.now access k a)) }
+    {
+        for point in Points::of(set) {
+            self.claim_at_point(item, tree, point, fields, access)?;
+        }
+        Ok(())
+    }
+}

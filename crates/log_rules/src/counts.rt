@@ -1,0 +1,111 @@
+//! How much a record asks for, in points, cells and accesses.
+
+ghost use Rattle.std.specs.Prelude.{◌≡◌, ◌+◌, ◌-◌, ◌<◌, ◌^◌, ℕ, length, nat_lt};
+ghost use Rattle.semantics.specs.Tables.{points_of};
+ghost use Rattle.semantics.specs.Rules.{is_late, size_of, accesses};
+ghost use Rattle.log_rules.specs.Counts.{cut, asked, points_asked, cells_asked, Asks};
+
+use log_tables::Draft;
+use point_set::PointSet;
+use spy_grammar::{Nums, Record};
+
+/// How many records may stand before one that is not the end.
+const MOST_RECORDS: usize = 131_072;
+
+/// Whether so many records after the header stand before a record that it is late, and is not the end.
+pub fn is_late(before: usize, rec: &Record) -> bool
+    ensures { result ≡ is_late before rec.now }
+{
+    match rec {
+        Record::End { .. } => false,
+        _ => before > MOST_RECORDS,
+    }
+}
+
+/// Whether a sum is above a limit.
+pub(crate) fn exceeds(before: u128, more: u128, limit: u128) -> bool
+    ensures { (n : ℕ) → more ≡ cut n → limit < 2 ^ 128 - 1 → result ≡ nat_lt limit (before + n) }
+{
+    raised(before, more) > limit
+}
+
+/// A sum with something more, as far as it fits.
+pub(crate) fn raised(sum: u128, more: u128) -> u128
+    ensures sum { result ≡ cut (sum + more) }
+    ensures fits { sum < 2 ^ 128 }
+{
+    sum.saturating_add(more)
+}
+
+/// How many points lie from one to another.
+fn run_length(run: (u64, u64)) -> u128
+    ensures { result ≡ run.1 + 1 - run.0 }
+{
+    (run.1 as u128 + 1).saturating_sub(run.0 as u128)
+}
+
+/// How many points some runs have.
+fn point_count(runs: &[(u64, u64)]) -> u128
+    ensures { result ≡ cut (length (points_of runs.now)) }
+{
+    let mut count = 0u128;
+    for run in runs {
+        count = raised(count, run_length(*run));
+    }
+    count
+}
+
+/// How many points a record declares.
+pub(crate) fn points_asked(rec: &Record) -> u128
+    ensures { result ≡ cut (points_asked rec.now) }
+{
+    match rec {
+        Record::Ispace { set, .. } => point_count(set.as_slice()),
+        _ => 0,
+    }
+}
+
+/// How many points and fields there are together.
+fn size_of<P: PointSet>(draft: &Draft<P>, space: u32, fields: &Nums) -> u128
+    ensures { result ≡ cut (size_of draft.now space fields.now) }
+{
+    match draft.set(space) {
+        Some(set) => set.count().saturating_mul(fields.len() as u128),
+        None => 0,
+    }
+}
+
+/// How many cells a record declares.
+pub(crate) fn cells_asked<P: PointSet>(draft: &Draft<P>, rec: &Record) -> u128
+    ensures { result ≡ cut (cells_asked draft.now rec.now) }
+{
+    match rec {
+        Record::Inst { space, fields, .. } => size_of(draft, *space, fields),
+        _ => 0,
+    }
+}
+
+/// The space and the fields whose accesses a record asks for.
+fn asked(rec: &Record) -> Option<(u32, &Nums)>
+    ensures { Asks result (asked rec.now) }
+{
+    match rec {
+        Record::Req { space, fields, .. }
+        | Record::Fill { space, fields, .. }
+        | Record::Copy { space, fields, .. }
+        | Record::Put { space, fields, .. }
+        | Record::Reset { space, fields, .. }
+        | Record::Fold { space, fields, .. } => Some((*space, fields)),
+        _ => None,
+    }
+}
+
+/// How many accesses a record asks for.
+pub(crate) fn accesses<P: PointSet>(draft: &Draft<P>, rec: &Record) -> u128
+    ensures { result ≡ cut (accesses draft.now rec.now) }
+{
+    match asked(rec) {
+        Some((space, fields)) => size_of(draft, space, fields),
+        None => 0,
+    }
+}

@@ -1,0 +1,29 @@
+//! Events that earlier records complete, and tasks that they run.
+
+ghost use Rattle.std.specs.Prelude.{◌≡◌};
+ghost use Rattle.semantics.specs.Rules.{is_run_again, repeats_event};
+
+use crate::whole_log::done_of;
+use log_tables::Draft;
+use point_set::PointSet;
+use spy_grammar::Record;
+
+/// Whether a record runs a task that is run already.
+pub fn is_run_again<P: PointSet>(draft: &Draft<P>, rec: &Record) -> bool
+    ensures { result ≡ is_run_again draft.now rec.now }
+{
+    match rec {
+        Record::Run { task, .. } => draft.is_run(draft.place(*task)),
+        _ => false,
+    }
+}
+
+/// Whether a record completes an event that an earlier record completes.
+pub fn repeats_event<P: PointSet>(draft: &Draft<P>, rec: &Record) -> bool
+    ensures { result ≡ repeats_event draft.now rec.now }
+{
+    match done_of(rec) {
+        Some(event) => draft.is_done(event),
+        None => false,
+    }
+}

@@ -1,0 +1,29 @@
+//! Lists of fields that ascend.
+
+ghost use Rattle.std.specs.Prelude.{◌≡◌};
+ghost use Rattle.std.specs.List.Sorted.{IsStrictlyIncreasing};
+ghost use Rattle.semantics.specs.Points.{is_in, is_within, meets};
+
+/// Whether a field is in a list, by a binary search.
+pub(crate) fn is_in(fields: &[u32], field: u32) -> bool
+    requires { IsStrictlyIncreasing fields.now }
+    ensures { result ≡ is_in fields.now field }
+{
+    fields.binary_search(&field).is_ok()
+}
+
+/// Whether each of some fields is in the other list, by a binary search for each.
+pub(crate) fn is_within(ours: &[u32], theirs: &[u32]) -> bool
+    requires { IsStrictlyIncreasing theirs.now }
+    ensures { result ≡ is_within ours.now theirs.now }
+{
+    ours.iter().all(|field| is_in(theirs, *field))
+}
+
+/// Whether some field of the first list is in the second, by a binary search for each.
+pub(crate) fn finds_any(ours: &[u32], theirs: &[u32]) -> bool
+    requires { IsStrictlyIncreasing theirs.now }
+    ensures { result ≡ meets ours.now theirs.now }
+{
+    ours.iter().any(|field| is_in(theirs, *field))
+}

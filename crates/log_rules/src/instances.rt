@@ -1,0 +1,324 @@
+//! Instances: of which tree and kind they are, and what they cover.
+
+ghost use Rattle.std.specs.Prelude.{◌≡◌, ◌==◌, ◌&&◌, ◌||◌, false, [], not};
+ghost use Rattle.std.specs.List.{list_any};
+ghost use Rattle.std.specs.Option.{option_map, option_map_or};
+ghost use Rattle.log_tables.specs.Mapped.{names_field};
+ghost use Rattle.semantics.specs.Points.{points_in, tree_at, is_within, meets};
+ghost use Rattle.semantics.specs.Steps.{inst_at};
+ghost use Rattle.semantics.specs.Rules.{is_of_wrong_tree, is_of_wrong_kind, is_not_covered, is_mapped_again, is_reduction, reduces_in, tree_of_inst, is_of_tree, fits, lacks, named_req};
+
+use crate::fields::is_within;
+use crate::names::named_req;
+use log_tables::Draft;
+use point_set::PointSet;
+use privilege::Priv;
+use spy_grammar::{InstKind, Nums, Record};
+
+/// The tree of an instance.
+fn tree_of_inst<P: PointSet>(draft: &Draft<P>, id: u32) -> Option<u32>
+    ensures { result ≡ tree_of_inst draft.now id }
+{
+    match draft.inst(id) {
+        Some(inst) => Some(inst.tree),
+        None => None,
+    }
+}
+
+/// Whether an instance is of this tree.
+fn is_of_tree<P: PointSet>(draft: &Draft<P>, tree: Option<u32>, id: u32) -> bool
+    ensures { result ≡ is_of_tree draft.now tree id }
+{
+    match (draft.inst(id), tree) {
+        (Some(inst), Some(tree)) => inst.tree == tree,
+        _ => false,
+    }
+}
+
+/// Whether an instance is of another tree than a requirement.
+fn is_apart<P: PointSet>(draft: &Draft<P>, task: u32, number: u32, inst: u32) -> bool
+    ensures { result ≡ not (is_of_tree draft.now (option_map (λ r. r.tree) (named_req draft.now task number)) inst) }
+{
+    match named_req(draft, task, number) {
+        Some(req) => !is_of_tree(draft, Some(req.tree), inst),
+        None => !is_of_tree(draft, None, inst),
+    }
+}
+
+/// Whether two instances are of different trees.
+fn are_apart<P: PointSet>(draft: &Draft<P>, src: u32, dst: u32) -> bool
+    ensures { result ≡ not (is_of_tree draft.now (tree_of_inst draft.now src) dst) }
+{
+    !is_of_tree(draft, tree_of_inst(draft, src), dst)
+}
+
+/// Whether an instance is of another tree than its requirement, or two instances are of different trees.
+pub fn is_of_wrong_tree<P: PointSet>(draft: &Draft<P>, rec: &Record) -> bool
+    ensures { result ≡ is_of_wrong_tree draft.now rec.now }
+{
+    match rec {
+        Record::Map {
+            task,
+            req,
+            inst,
+            ..
+        } => is_apart(draft, *task, *req, *inst),
+        Record::Copy { src, dst, .. } | Record::Fold { src, dst, .. } => are_apart(
+            draft, *src, *dst,
+        ),
+        _ => false,
+    }
+}
+
+fn is_reduction(kind: InstKind) -> bool
+    ensures { result ≡ is_reduction kind }
+{
+    match kind {
+        InstKind::Red(_) => true,
+        _ => false,
+    }
+}
+
+/// Whether this is a reduction instance.
+fn reduces_in<P: PointSet>(draft: &Draft<P>, id: u32) -> bool
+    ensures { result ≡ reduces_in draft.now id }
+{
+    match draft.inst(id) {
+        Some(inst) => is_reduction(inst.kind),
+        None => false,
+    }
+}
+
+/// Whether a requirement with this privilege may be mapped to an instance of this kind.
+fn fits(access: Priv, kind: InstKind) -> bool
+    ensures { result ≡ fits access kind }
+{
+    match access {
+        Priv::Red(op) => match kind {
+            InstKind::Red(other) => op == other,
+            _ => true,
+        },
+        _ => !is_reduction(kind),
+    }
+}
+
+/// Whether a requirement with this privilege may be mapped to this instance.
+fn fits_inst<P: PointSet>(draft: &Draft<P>, access: Priv, id: u32) -> bool
+    ensures { result ≡ option_map_or (λ i. fits access i.kind) (inst_at draft.now id) false }
+{
+    match draft.inst(id) {
+        Some(inst) => fits(access, inst.kind),
+        None => false,
+    }
+}
+
+/// Whether a requirement may be mapped to this instance.
+fn fits_req<P: PointSet>(draft: &Draft<P>, task: u32, number: u32, inst: u32) -> bool
+    ensures { result ≡ option_map_or (λ r. option_map_or (λ i. fits r.access i.kind) (inst_at draft.now inst) false) (named_req draft.now task number) false }
+{
+    match named_req(draft, task, number) {
+        Some(req) => fits_inst(draft, req.access, inst),
+        None => false,
+    }
+}
+
+/// Whether an instance is of a kind that cannot be used so, or a copy has one instance as source and target.
+pub fn is_of_wrong_kind<P: PointSet>(draft: &Draft<P>, rec: &Record) -> bool
+    ensures { result ≡ is_of_wrong_kind draft.now rec.now }
+{
+    match rec {
+        Record::Map {
+            task,
+            req,
+            inst,
+            ..
+        } => !fits_req(draft, *task, *req, *inst),
+        Record::Copy { src, dst, .. } => {
+            reduces_in(draft, *src) || reduces_in(draft, *dst) || *src == *dst
+        }
+        Record::Put { inst, .. } => reduces_in(draft, *inst),
+        Record::Reset { inst, .. } => !reduces_in(draft, *inst),
+        Record::Fold { src, dst, .. } => !reduces_in(draft, *src) || reduces_in(draft, *dst),
+        _ => false,
+    }
+}
+
+/// Whether a set has no points.
+fn is_empty<P: PointSet>(set: &P) -> bool
+    ensures { result ≡ is_within (P.points set.now) [] }
+{
+    match set.first() {
+        Some(_) => false,
+        None => true,
+    }
+}
+
+/// Whether each point of a set is in another one.
+fn is_set_within<P: PointSet>(ours: &P, theirs: &P) -> bool
+    ensures { result ≡ is_within (P.points ours.now) (P.points theirs.now) }
+{
+    ours.within(theirs)
+}
+
+/// Whether a space has no points.
+fn is_vacant<P: PointSet>(draft: &Draft<P>, space: u32) -> bool
+    ensures { result ≡ is_within (points_in draft.now space) [] }
+{
+    match draft.set(space) {
+        Some(set) => is_empty(set),
+        None => true,
+    }
+}
+
+/// Whether each point of a space is in another one.
+fn is_space_within<P: PointSet>(draft: &Draft<P>, ours: u32, theirs: u32) -> bool
+    ensures { result ≡ is_within (points_in draft.now ours) (points_in draft.now theirs) }
+{
+    match (draft.set(ours), draft.set(theirs)) {
+        (Some(ours), Some(theirs)) => is_set_within(ours, theirs),
+        (Some(ours), None) => is_empty(ours),
+        (None, _) => true,
+    }
+}
+
+/// Whether an instance lacks a point of a space, or one of these fields.
+fn lacks<P: PointSet>(draft: &Draft<P>, space: u32, fields: &Nums, id: u32) -> bool
+    ensures { result ≡ lacks draft.now (points_in draft.now space) fields.now id }
+{
+    match draft.inst(id) {
+        Some(inst) => {
+            !(is_space_within(draft, space, inst.space)
+                && is_within(fields.as_slice(), inst.fields.as_slice()))
+        }
+        None => true,
+    }
+}
+
+/// Whether one of two instances lacks a point of a space, or one of these fields.
+fn either_lacks<P: PointSet>(
+    draft: &Draft<P>,
+    space: u32,
+    fields: &Nums,
+    src: u32,
+    dst: u32,
+) -> bool
+    ensures { result ≡ (lacks draft.now (points_in draft.now space) fields.now src || lacks draft.now (points_in draft.now space) fields.now dst) }
+{
+    lacks(draft, space, fields, src) || lacks(draft, space, fields, dst)
+}
+
+/// Whether an instance lacks one of these fields.
+fn lacks_field<P: PointSet>(draft: &Draft<P>, fields: &Nums, id: u32) -> bool
+    ensures { result ≡ lacks draft.now [] fields.now id }
+{
+    match draft.inst(id) {
+        Some(inst) => !is_within(fields.as_slice(), inst.fields.as_slice()),
+        None => true,
+    }
+}
+
+/// Whether an instance lacks a point of a requirement, or one of these fields.
+fn lacks_of_req<P: PointSet>(
+    draft: &Draft<P>,
+    task: u32,
+    number: u32,
+    fields: &Nums,
+    inst: u32,
+) -> bool
+    ensures { result ≡ lacks draft.now (option_map_or (λ r. points_in draft.now r.space) (named_req draft.now task number) []) fields.now inst }
+{
+    match named_req(draft, task, number) {
+        Some(req) => lacks(draft, req.space, fields, inst),
+        None => lacks_field(draft, fields, inst),
+    }
+}
+
+/// Whether a space has a point outside the root space of a tree.
+fn exceeds_root<P: PointSet>(draft: &Draft<P>, tree: u32, space: u32) -> bool
+    ensures { result ≡ not (is_within (points_in draft.now space) (option_map_or (λ r. points_in draft.now r.space) (tree_at draft.now tree) [])) }
+{
+    match draft.tree(tree) {
+        Some(tree) => !is_space_within(draft, space, tree.space),
+        None => !is_vacant(draft, space),
+    }
+}
+
+/// Whether an instance has a point outside the root space of its tree, or lacks a point or a field of what is done with it.
+pub fn is_not_covered<P: PointSet>(draft: &Draft<P>, rec: &Record) -> bool
+    ensures { result ≡ is_not_covered draft.now rec.now }
+{
+    match rec {
+        Record::Inst { tree, space, .. } => exceeds_root(draft, *tree, *space),
+        Record::Map {
+            task,
+            req,
+            fields,
+            inst,
+        } => lacks_of_req(draft, *task, *req, fields, *inst),
+        Record::Copy {
+            src,
+            dst,
+            space,
+            fields,
+            ..
+        }
+        | Record::Fold {
+            src,
+            dst,
+            space,
+            fields,
+            ..
+        } => { either_lacks(draft, *space, fields, *src, *dst) }
+        Record::Put {
+            inst,
+            space,
+            fields,
+            ..
+        }
+        | Record::Reset {
+            inst,
+            space,
+            fields,
+            ..
+        } => { lacks(draft, *space, fields, *inst) }
+        _ => false,
+    }
+}
+
+/// Whether a field of an item's requirement is mapped.
+fn is_mapped<P: PointSet>(draft: &Draft<P>, item: usize, number: u32, field: u32) -> bool
+    ensures { result ≡ list_any (λ m. names_field m.item m.number m.fields (record { item = item; number = number; field = field })) draft.now.maps }
+{
+    draft.inst_of(item, number, field).is_some()
+}
+
+/// Whether one of some fields of an item's requirement is mapped, field by field.
+fn finds_mapped<P: PointSet>(draft: &Draft<P>, item: usize, number: u32, fields: &[u32]) -> bool
+    ensures { result ≡ list_any (λ f. list_any (λ m. names_field m.item m.number m.fields (record { item = item; number = number; field = f })) draft.now.maps) fields.now }
+{
+    fields
+        .iter()
+        .any(|field| is_mapped(draft, item, number, *field))
+}
+
+/// Whether one of some fields of an item's requirement is mapped.
+fn is_any_mapped<P: PointSet>(draft: &Draft<P>, item: usize, number: u32, fields: &Nums) -> bool
+    ensures { result ≡ list_any (λ m. (m.item == item) && ((m.number == number) && meets m.fields fields.now)) draft.now.maps }
+{
+    finds_mapped(draft, item, number, fields.as_slice())
+}
+
+/// Whether a map maps a field that its requirement has mapped already.
+pub fn is_mapped_again<P: PointSet>(draft: &Draft<P>, rec: &Record) -> bool
+    ensures { result ≡ is_mapped_again draft.now rec.now }
+{
+    match rec {
+        Record::Map {
+            task,
+            req,
+            fields,
+            ..
+        } => is_any_mapped(draft, draft.place(*task), *req, fields),
+        _ => false,
+    }
+}

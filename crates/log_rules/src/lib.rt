@@ -1,0 +1,27 @@
+//! The rules that each record of a log has to keep, given what the earlier records declare. Each rule is one small test, named as its definition is.
+#![tactic(auto)]
+
+mod claims;
+mod counts;
+mod events;
+mod fields;
+mod instances;
+mod names;
+mod own;
+mod points;
+mod requirements;
+mod serial;
+mod spaces;
+mod tally;
+mod whole_log;
+
+pub use counts::is_late;
+pub use events::{is_run_again, repeats_event};
+pub use instances::{is_mapped_again, is_not_covered, is_of_wrong_kind, is_of_wrong_tree};
+pub use names::{names_unknown, repeats_id};
+pub use own::interferes_with_own;
+pub use requirements::{has_wrong_fields, is_not_in_tree};
+pub use serial::is_bad_serial;
+pub use spaces::{is_late_sub, is_no_root, is_sub_again, is_too_deep};
+pub use tally::{Tally, has_many_accesses, has_many_cells, has_many_points};
+pub use whole_log::{WholeLog, has_no_run, waits_for_none};

@@ -1,0 +1,147 @@
+//! What is kept count of along a log, and the limits on it.
+
+ghost use Rattle.std.specs.Prelude.{◌≡◌, ◌||◌, nat_eq, ℕ, List, [], ◌++◌, ◌∷◌, OnOk};
+ghost use Rattle.std.specs.HashSet.{contains};
+ghost use Rattle.privilege.specs.declared.kinds.Priv.{Priv};
+ghost use Rattle.spy_grammar.specs.declared.record.Record.{Record};
+ghost use Rattle.semantics.specs.Points.{is_in, points_in};
+ghost use Rattle.semantics.specs.Tables.{no_tables, with_record, place_of, privilege_of};
+ghost use Rattle.semantics.specs.Rules.{has_many_points, has_many_cells, has_many_accesses};
+ghost use Rattle.log_rules.specs.declared.claims.OwnPlace.{OwnPlace};
+ghost use Rattle.log_rules.specs.Own.{clashes_in, claims_at, claimed};
+ghost use Rattle.log_rules.specs.Listing.{ids_listed};
+ghost use Rattle.log_rules.specs.Tallied.{IsTally, MayCount};
+
+use crate::claims::Claims;
+use crate::counts::{accesses, cells_asked, exceeds, points_asked, raised};
+use crate::serial::note_all;
+use log_tables::{Draft, priv_of};
+use point_set::PointSet;
+use spy_grammar::{Nums, PrivWord, Record};
+use std::alloc::{AllocError, Global};
+use std::collections::HashSet;
+
+/// How many points the spaces of a log may have together.
+const MOST_POINTS: u128 = 1_048_576;
+
+/// How many cells the instances of a log may have together.
+const MOST_CELLS: u128 = 1_048_576;
+
+/// How many accesses the records of a log may ask for together.
+const MOST_ACCESSES: u128 = 4_194_304;
+
+/// What the records so far add up to: their points, cells and accesses, the items that they list in serial order, and the places that the requirements of each task claim.
+#[derive(Drop)]
+pub struct Tally {
+    pub(crate) points: u128,
+    pub(crate) cells: u128,
+    pub(crate) accesses: u128,
+    pub(crate) listed: HashSet<u32>,
+    pub(crate) claims: Claims,
+}
+
+/// Notes the items that a record lists.
+fn note_listed(listed: &mut HashSet<u32>, rec: &Record) -> Result<(), AllocError>
+    ensures { OnOk result ((n : ℕ) → contains nat_eq listed.new n ≡ (contains nat_eq listed.old n || is_in (ids_listed rec.now) n)) }
+{
+    match rec {
+        Record::Serial { items } => note_all(listed, items.as_slice()),
+        _ => note_all(listed, &[]),
+    }
+}
+
+/// Notes the places of a requirement.
+fn claim_req<P: PointSet>(
+    claims: &mut Claims,
+    draft: &Draft<P>,
+    task: u32,
+    tree: u32,
+    space: u32,
+    fields: &Nums,
+    access: PrivWord,
+) -> Result<(), AllocError>
+    ensures { OnOk result ((k : OwnPlace) (a : Priv) → clashes_in claims.new k a ≡ (clashes_in claims.old k a || claims_at (place_of draft.now.items task) tree (points_in draft.now space) fields.now (privilege_of access) k a)) }
+{
+    let item = draft.place(task);
+    let access = priv_of(access);
+    match draft.set(space) {
+        Some(set) => claims.claim_all(item, tree, set, fields.as_slice(), access),
+        None => Ok(()),
+    }
+}
+
+/// Notes the places of a record, if it is a requirement.
+fn note_claims<P: PointSet>(
+    claims: &mut Claims,
+    draft: &Draft<P>,
+    rec: &Record,
+) -> Result<(), AllocError>
+    ensures { OnOk result ((k : OwnPlace) (a : Priv) → clashes_in claims.new k a ≡ (clashes_in claims.old k a || claimed draft.now rec.now k a)) }
+{
+    match rec {
+        Record::Req {
+            task,
+            tree,
+            space,
+            fields,
+            access,
+            ..
+        } => { claim_req(claims, draft, *task, *tree, *space, fields, *access) }
+        _ => Ok(()),
+    }
+}
+
+impl Tally {
+    /// The tally of no records.
+    pub fn new(alloc: Global) -> Tally
+        ensures { IsTally [] no_tables result }
+    {
+        Tally {
+            points: 0,
+            cells: 0,
+            accesses: 0,
+            listed: HashSet::new(alloc),
+            claims: Claims::new(alloc),
+        }
+    }
+
+    /// Counts one record more, given what the records before it declare. Want of memory leaves the tally of no use.
+    pub fn add<P: PointSet>(&mut self, draft: &Draft<P>, rec: &Record) -> Result<(), AllocError>
+        ensures { OnOk result ((earlier : List Record) (line : ℕ) → IsTally earlier draft.now self.old → MayCount earlier draft.now rec.now
+            → IsTally (earlier ++ rec.now ∷ []) (with_record draft.now line rec.now) self.new) }
+    {
+        self.points = raised(self.points, points_asked(rec));
+        self.cells = raised(self.cells, cells_asked(draft, rec));
+        self.accesses = raised(self.accesses, accesses(draft, rec));
+        note_listed(&mut self.listed, rec)?;
+        note_claims(&mut self.claims, draft, rec)?;
+        Ok(())
+    }
+}
+
+/// Whether the spaces up to a record have too many points together.
+pub fn has_many_points<P: PointSet>(draft: &Draft<P>, tally: &Tally, rec: &Record) -> bool
+    ensures { (earlier : List Record) → IsTally earlier draft.now tally.now → result ≡ has_many_points draft.now rec.now }
+{
+    match rec {
+        Record::Ispace { .. } => exceeds(tally.points, points_asked(rec), MOST_POINTS),
+        _ => false,
+    }
+}
+
+/// Whether the instances up to a record have too many cells together.
+pub fn has_many_cells<P: PointSet>(draft: &Draft<P>, tally: &Tally, rec: &Record) -> bool
+    ensures { (earlier : List Record) → IsTally earlier draft.now tally.now → result ≡ has_many_cells draft.now rec.now }
+{
+    match rec {
+        Record::Inst { .. } => exceeds(tally.cells, cells_asked(draft, rec), MOST_CELLS),
+        _ => false,
+    }
+}
+
+/// Whether the records up to this one ask for too many accesses together.
+pub fn has_many_accesses<P: PointSet>(draft: &Draft<P>, tally: &Tally, rec: &Record) -> bool
+    ensures { (earlier : List Record) → IsTally earlier draft.now tally.now → result ≡ has_many_accesses earlier draft.now rec.now }
+{
+    exceeds(tally.accesses, accesses(draft, rec), MOST_ACCESSES)
+}
