@@ -12,5 +12,7 @@ pub use faults::Fault;
 pub use laws::nodes_are_of_records;
 pub use moves::Move;
 pub use places::{Cell, Place};
-pub use tables::{FieldSpace, Inst, Item, ItemBody, LogNode, Map, Op, Part, Req, Serial, Sub, Tree};
+pub use tables::{
+    FieldSpace, Inst, Item, ItemBody, LogNode, Map, Op, Part, Req, Serial, Sub, Tree,
+};
 pub use worked::worked_logs;
