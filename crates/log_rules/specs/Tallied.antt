@@ -1,5 +1,5 @@
 -- What is kept count of along a log.
-use Rattle.std.specs.Prelude.{◌≡◌, ℕ, nat_eq, Bool, true, false, List, Option, Some, None}
+use Rattle.std.specs.Prelude.{◌≡◌, ◌≤◌, ℕ, nat_eq, Bool, true, false, List, Option, Some, None}
 use Rattle.std.specs.HashSet.{contains}
 use Rattle.std.specs.List.{list_all}
 use Rattle.std.specs.Option.{option_map_or}
@@ -24,7 +24,7 @@ pub record AreKnown (earlier : List Record) (t : Tables) : Type 0 where
   pub insts : list_all (λ (i : insts.Inst). is_declared t (space_id i.space)) t.insts ≡ true
   pub accesses : list_all (knows_space t) earlier ≡ true
 
--- The tally is that of these records, whose tables these are.
+-- The tally is that of these records, whose tables these are, and they keep the limit on accesses.
 pub record IsTally (earlier : List Record) (t : Tables) (tally : Tally) : Type 0 where
   pub points : tally.points ≡ point_total t
   pub cells : tally.cells ≡ cell_total t
@@ -32,6 +32,7 @@ pub record IsTally (earlier : List Record) (t : Tables) (tally : Tally) : Type 0
   pub lists : IsSetOf (listed t) (contains nat_eq tally.listed)
   pub claims : AreClaims t tally.claims
   pub known : AreKnown earlier t
+  pub within : access_total t earlier ≤ 4194304
 
 -- The record keeps the rules on names and the limits, so that it may be counted.
 pub record MayCount (earlier : List Record) (t : Tables) (r : Record) : Type 0 where

@@ -1,4 +1,6 @@
-use Rattle.std.proofs.Common.{◌≡◌, ◌+◌, ◌-◌, ◌^◌, ◌||◌, ap, sym, ◌∙◌}
+use Rattle.std.proofs.lemmas.Bool.{cases_lt}
+use Rattle.std.proofs.lemmas.Bool.Decides.{nat_tests}
+use Rattle.std.proofs.Common.{◌≡◌, ℕ, ◌≤◌, nat_lt, false, inl, inr, arith, ◌+◌, ◌-◌, ◌^◌, ◌||◌, ap, sym, ◌∙◌}
 use Rattle.semantics.specs.Points.{is_in}
 use Rattle.semantics.specs.Rules.{accesses}
 use Rattle.log_rules.specs.Counts.{cut, points_asked, cells_asked}
@@ -7,6 +9,9 @@ use Rattle.log_rules.specs.Own.{claimed}
 use Rattle.log_rules.proofs.Limits.{cut-both}
 use Rattle.log_rules.proofs.Growing.{AreKnown-add, point_total-add, cell_total-add, access_total-add, points-exact, cells-exact, accesses-exact, listed-add, clashes_at-add}
 use Rattle.log_rules.proofs.tally.Tally.add.Goals as goal
+
+within_limit : (a b n : ℕ) → nat_lt 4194304 (a + b) ≡ false → n ≡ a + b → n ≤ 4194304
+within_limit a b n few is = elim (cases_lt 4194304 (a + b)) [ inl lt ↦ grind (arith, nat_tests) | inr le ↦ omega arith ]
 
 pub returns : goal.returns
 returns g c = λ earlier line is may.
@@ -27,4 +32,5 @@ returns g c = λ earlier line is may.
       lists = λ n. c.in_ok-note_listed.ensures n ∙ ap (λ b. b || is_in (ids_listed r) n) (is.lists n) ∙ sym (listed-add t line r n);
       claims = λ k a. c.in_ok-note_claims.ensures k a ∙ ap (λ b. b || claimed t r k a) (is.claims k a) ∙ sym (clashes_at-add t line r k a is.known.reqs);
       known = AreKnown-add earlier t line r is.known may.known;
+      within = within_limit _ (accesses t r) _ may.accesses (access_total-add earlier t line r is.known.accesses may.known);
     }
