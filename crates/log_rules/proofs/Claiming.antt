@@ -18,11 +18,11 @@ use Rattle.log_rules.proofs.Members.{meets-turned}
 use Rattle.log_rules.proofs.Tests.{list_any-alike, list_any-false, list_any-and, list_any-list_any}
 
 -- Places that are one.
-and_left : (a b : Bool) → (a && b) ≡ true → a ≡ true
+pub and_left : (a b : Bool) → (a && b) ≡ true → a ≡ true
 and_left true b h = refl
 and_left false b h = h
 
-and_right : (a b : Bool) → (a && b) ≡ true → b ≡ true
+pub and_right : (a b : Bool) → (a && b) ≡ true → b ≡ true
 and_right true b h = h
 and_right false b h = absurd (no h)
   where

@@ -59,7 +59,7 @@ total-append : (xs ys : List ℕ) → total (xs ++ ys) ≡ total xs + total ys
 total-append [] ys = omega arith
 total-append (x ∷ xs) ys = let h = total-append xs ys in omega (arith, h)
 
-total-map-append : {A : Type 0} (f : A → ℕ) (xs ys : List A) → total (map f (xs ++ ys)) ≡ total (map f xs) + total (map f ys)
+pub total-map-append : {A : Type 0} (f : A → ℕ) (xs ys : List A) → total (map f (xs ++ ys)) ≡ total (map f xs) + total (map f ys)
 total-map-append f [] ys = omega arith
 total-map-append f (x ∷ xs) ys = let h = total-map-append f xs ys in omega (arith, h)
 

@@ -4,6 +4,7 @@ pub mod Climbs
 pub mod Growing
 pub mod Limits
 pub mod Listings
+pub mod Loading
 pub mod Mappings
 pub mod Members
 pub mod Noding

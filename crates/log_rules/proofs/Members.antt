@@ -25,7 +25,7 @@ rises xs up i j le lt =
 apart : (a b : ℕ) → (a ≡ b → ⊥) → (a == b) ≡ false
 apart a b ne = grind (arith, nat_tests)
 
-get_or_any : (xs : List ℕ) (k d : ℕ) → k < length xs → get_or xs k d ≡ get_or xs k 0
+pub get_or_any : (xs : List ℕ) (k d : ℕ) → k < length xs → get_or xs k d ≡ get_or xs k 0
 get_or_any xs k d lt = sym (get_or_from_slice_get xs k (get_or xs k d) 0 (slice_get-get_or xs k d lt))
 
 -- What a binary search tells.

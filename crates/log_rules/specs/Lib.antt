@@ -2,5 +2,6 @@ pub mod Counts
 pub mod Gathered
 pub mod Left
 pub mod Listing
+pub mod Loads
 pub mod Own
 pub mod Tallied

@@ -1,6 +1,6 @@
 //! Look-ups in the tables.
 
-ghost use Rattle.std.specs.Prelude.{◌≡◌, ◌==◌, ◌≤◌, length, map};
+ghost use Rattle.std.specs.Prelude.{All, ◌≡◌, ◌==◌, ◌≤◌, length, map};
 ghost use Rattle.std.specs.Option.{option_copied, option_map};
 ghost use Rattle.semantics.specs.Tables.{place_of, reqs_before};
 ghost use Rattle.semantics.specs.Points.{tree_at, part_at};
@@ -121,7 +121,8 @@ impl<P: PointSet> Draft<P> {
 
     /// The requirements, in the order of their lines.
     pub fn reqs(&self) -> &[Req]
-        ensures { result.now ≡ self.now.reqs }
+        ensures reqs { result.now ≡ self.now.reqs }
+        ensures ascend { All (λ r. IsStrictlyIncreasing r.fields) result.now }
     {
         self.reqs.as_slice()
     }

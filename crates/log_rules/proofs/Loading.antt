@@ -1,0 +1,165 @@
+-- How counts of places tell the load of a log.
+use Rattle.std.proofs.Common.{◌≡◌, ℕ, suc, ◌+◌, ◌-◌, ◌<◌, ◌≤◌, ◌==◌, ◌^◌, Bool, true, false, ◌&&◌, ◌||◌, cond, List, [], ◌∷◌, ◌++◌, map, min, filter, flat_map, take, length, get_or, Contains, Option, Some, None, unwrap_or, refl, sym, ap, ◌∙◌, zero-add, inl, inr, arith}
+use Rattle.std.specs.List.{list_any, AllPairs}
+use Rattle.std.specs.List.Sorted.{IsStrictlyIncreasing}
+use Rattle.std.proofs.lemmas.Bool.{cases_Bool, eqb-true}
+use Rattle.std.proofs.lemmas.Bool.Decides.{nat_tests}
+use Rattle.std.proofs.lemmas.List.{take_more, get_or-take, length-take}
+use Rattle.std.proofs.lemmas.List.Filters.{length-filter_more}
+use Rattle.std.proofs.lemmas.List.Folds.{list_any_more}
+use Rattle.std.proofs.lemmas.List.Kept.{AllPairs-from_increasing}
+use Rattle.semantics.specs.declared.tables.Req.{Req}
+use Rattle.semantics.specs.declared.tables.Inst.{Inst}
+use Rattle.semantics.specs.Tables.{Tables}
+use Rattle.semantics.specs.Points.{is_in, points_in}
+use Rattle.semantics.specs.Kinds.{grid, covers}
+use Rattle.semantics.specs.Rules.{total, load_of, reduces}
+use Rattle.log_rules.specs.declared.load.LoadPlace.{LoadPlace}
+use Rattle.log_rules.specs.Counts.{cut}
+use Rattle.log_rules.specs.Loads.{one, same_load_place, is_held, covers_place, load_at, row_load, inst_load}
+use Rattle.log_rules.proofs.Claiming.{and_left, and_right}
+use Rattle.log_rules.proofs.Growing.{total-map-append}
+use Rattle.log_rules.proofs.Members.{Decides-is_in, get_or_any}
+
+-- ---- Places that are one.
+
+place_of_parts : (s t p q f g : ℕ) → s ≡ t → p ≡ q → f ≡ g → (let x : LoadPlace = record { tree = s; point = p; field = f } in x) ≡ record { tree = t; point = q; field = g }
+place_of_parts s t p q f g a b c = cc
+
+same_load_place-true : (j k : LoadPlace) → same_load_place j k ≡ true → j ≡ k
+same_load_place-true j k h =
+    let rest = and_right (j.tree == k.tree) ((j.point == k.point) && (j.field == k.field)) h in
+    place_of_parts j.tree k.tree j.point k.point j.field k.field
+      (eqb-true j.tree k.tree (and_left (j.tree == k.tree) ((j.point == k.point) && (j.field == k.field)) h))
+      (eqb-true j.point k.point (and_left (j.point == k.point) (j.field == k.field) rest))
+      (eqb-true j.field k.field (and_right (j.point == k.point) (j.field == k.field) rest))
+
+-- One more at a place.
+pub load-put : (old : LoadPlace → Option ℕ) (j k : LoadPlace) (count : ℕ) (new : Option ℕ) → new ≡ cond (same_load_place j k) (Some count) (old k) → count ≡ cut (unwrap_or (old j) 0 + 1) → cut (unwrap_or new 0) ≡ cut (unwrap_or (old k) 0 + one (same_load_place j k))
+load-put old j k count new is more =
+    elim (cases_Bool (same_load_place j k)) [
+      | inl same ↦
+          let e : unwrap_or new 0 ≡ count = ap (λ o. unwrap_or o 0) (is ∙ ap (λ b. cond b (Some count) (old k)) same) in
+          let o : unwrap_or (old j) 0 ≡ unwrap_or (old k) 0 = ap (λ p. unwrap_or (old p) 0) (same_load_place-true j k same) in
+          let n : one (same_load_place j k) ≡ 1 = ap one same in
+          omega (arith, e, o, n, more)
+      | inr other ↦
+          let e : unwrap_or new 0 ≡ unwrap_or (old k) 0 = ap (λ o. unwrap_or o 0) (is ∙ ap (λ b. cond b (Some count) (old k)) other) in
+          let n : one (same_load_place j k) ≡ 0 = ap one other in
+          omega (arith, e, n)
+    ]
+
+-- ---- Fields and points that stand once.
+
+apart : (a b : ℕ) → a < b → (a == b) ≡ false
+apart a b lt = grind (arith, nat_tests)
+
+not_true : (b : Bool) → (b ≡ true → ⊥) → b ≡ false
+not_true true h = absurd (h refl)
+not_true false h = refl
+
+fresh_field : (fields : List ℕ) (i n : ℕ) → IsStrictlyIncreasing fields → i < length fields → (get_or fields i 0 == n) ≡ true → is_in (take i fields) n ≡ false
+fresh_field fields i n up lt here =
+    not_true (is_in (take i fields) n) (λ h.
+      let c = (Decides-is_in (take i fields) n).0 h in
+      let l = length-take i fields in
+      let low : c.0 < i = omega (arith, c.1, l) in
+      let e : get_or fields c.0 n ≡ n = sym (get_or-take i fields c.0 n low) ∙ c.2 in
+      let f : get_or fields i 0 ≡ n = eqb-true (get_or fields i 0) n here in
+      let below : get_or fields c.0 n < get_or fields i n = AllPairs-from_increasing fields up c.0 i n low lt in
+      let same : get_or fields i n ≡ get_or fields i 0 = get_or_any fields i n lt in
+      omega arith)
+
+split_field : (t p fs e : Bool) → (e ≡ true → fs ≡ false) → one (t && ((p || false) && fs)) + one (t && (p && e)) ≡ one (t && ((p || false) && (fs || e)))
+split_field false p fs e h = refl
+split_field true false fs e h = refl
+split_field true true true true h = absurd (no (h refl))
+  where
+    no : true ≡ false → ⊥
+    no e = cc
+split_field true true true false h = refl
+split_field true true false e h = zero-add (one e)
+
+pub load-field : (old mid new : ℕ) (tree point : ℕ) (fields : List ℕ) (i : ℕ) (k : LoadPlace) → IsStrictlyIncreasing fields → i < length fields → cut mid ≡ cut (old + one (is_held tree (point ∷ []) (take i fields) k)) → cut new ≡ cut (mid + one (same_load_place (record { tree = tree; point = point; field = get_or fields i 0 }) k)) → cut new ≡ cut (old + one (is_held tree (point ∷ []) (take (i + 1) fields) k))
+load-field old mid new tree point fields i k up lt before after =
+    let field = get_or fields i 0 in
+    let split = split_field (tree == k.tree) (point == k.point) (is_in (take i fields) k.field) (field == k.field) (fresh_field fields i k.field up lt) in
+    let more : one (is_held tree (point ∷ []) (take (i + 1) fields) k) ≡ one ((tree == k.tree) && (((point == k.point) || false) && (is_in (take i fields) k.field || (field == k.field)))) =
+        ap (λ b. one ((tree == k.tree) && (((point == k.point) || false) && b))) (list_any_more (λ m. m == k.field) fields i 0 lt)
+    in
+    omega (arith, before, after, split, more)
+
+split_point : (t e r f : Bool) → (e ≡ true → r ≡ false) → one (t && ((e || false) && f)) + one (t && (r && f)) ≡ one (t && ((e || r) && f))
+split_point false e r f h = refl
+split_point true true true f h = absurd (no (h refl))
+  where
+    no : true ≡ false → ⊥
+    no e = cc
+split_point true true false true h = refl
+split_point true true false false h = refl
+split_point true false r f h = zero-add (one (r && f))
+
+fresh_point : (p : ℕ) (rest : List ℕ) (n : ℕ) → AllPairs (λ a b. a < b) (p ∷ rest) → (p == n) ≡ true → is_in rest n ≡ false
+fresh_point p rest n up here =
+    not_true (is_in rest n) (λ h.
+      let c = (Decides-is_in rest n).0 h in
+      let below : p < get_or rest c.0 n = up 0 (suc c.0) n (omega arith) (omega (arith, c.1)) in
+      let f : p ≡ n = eqb-true p n here in
+      omega (arith, c.2))
+
+pub load-point : (mid new goal tree p : ℕ) (rest fields : List ℕ) (k : LoadPlace) → AllPairs (λ a b. a < b) (p ∷ rest) → cut (mid + one (is_held tree (p ∷ rest) fields k)) ≡ goal → cut new ≡ cut (mid + one (is_held tree (p ∷ []) fields k)) → cut (new + one (is_held tree rest fields k)) ≡ goal
+load-point mid new goal tree p rest fields k up before after =
+    let split = split_point (tree == k.tree) (p == k.point) (is_in rest k.point) (is_in fields k.field) (fresh_point p rest k.point up) in
+    omega (arith, before, after, split)
+
+pub rest_ascends : (p : ℕ) (rest : List ℕ) → AllPairs (λ a b. a < b) (p ∷ rest) → AllPairs (λ a b. a < b) rest
+rest_ascends p rest up i j d lt below = up (suc i) (suc j) d (omega arith) (omega arith)
+
+none_held : (b : Bool) → one (b && false) ≡ 0
+none_held true = refl
+none_held false = refl
+
+pub load-end : (new goal tree : ℕ) (fields : List ℕ) (k : LoadPlace) → cut (new + one (is_held tree [] fields k)) ≡ goal → cut new ≡ goal
+load-end new goal tree fields k h = let n : one (is_held tree [] fields k) ≡ 0 = none_held (tree == k.tree) in omega (arith, h, n)
+
+-- ---- Requirements, one by one.
+
+pub load-req : (t : Tables) (k : LoadPlace) (reqs : List Req) (i : ℕ) (d : Req) (mid new : ℕ) → i < length reqs → cut mid ≡ cut (load_at t k (take i reqs)) → cut new ≡ cut (mid + one (reduces (get_or reqs i d).access && covers_place t k (get_or reqs i d))) → cut new ≡ cut (load_at t k (take (i + 1) reqs))
+load-req t k reqs i d mid new lt before after =
+    let more = length-filter_more (λ (r : Req). reduces r.access && covers_place t k r) reqs i d lt in
+    omega (arith, before, after, more)
+
+-- ---- Sums.
+
+pub total_more : {A : Type 0} (f : A → ℕ) (xs : List A) (i : ℕ) (d : A) → i < length xs → total (map f (take (i + 1) xs)) ≡ total (map f (take i xs)) + f (get_or xs i d)
+total_more f xs i d lt =
+    let more : total (map f (take (i + 1) xs)) ≡ total (map f (take i xs ++ get_or xs i d ∷ [])) = ap (λ ys. total (map f ys)) (take_more xs i d lt) in
+    let split = total-map-append f (take i xs) (get_or xs i d ∷ []) in
+    omega (arith, more, split)
+
+cut-total : {A : Type 0} (f g : A → ℕ) (xs : List A) → ((x : A) → cut (f x) ≡ cut (g x)) → cut (total (map f xs)) ≡ cut (total (map g xs))
+cut-total f g [] same = refl
+cut-total f g (x ∷ xs) same =
+    let head = same x in
+    let tail = cut-total f g xs same in
+    omega (arith, head, tail)
+
+total-map-map : {A B : Type 0} (g : B → ℕ) (h : A → B) (xs : List A) → total (map g (map h xs)) ≡ total (map (λ x. g (h x)) xs)
+total-map-map g h [] = refl
+total-map-map g h (x ∷ xs) = ap (λ n. g (h x) + n) (total-map-map g h xs)
+
+total-grid : (g : ℕ × ℕ → ℕ) (points fields : List ℕ) → total (map g (grid points fields)) ≡ total (map (λ x. total (map (λ f. g (x, f)) fields)) points)
+total-grid g [] fields = refl
+total-grid g (x ∷ xs) fields =
+    let split = total-map-append g (map (λ f. (x, f)) fields) (grid xs fields) in
+    let head = total-map-map g (λ f. (x, f)) fields in
+    let tail = total-grid g xs fields in
+    omega (arith, split, head, tail)
+
+pub loads-told : (t : Tables) (count : LoadPlace → ℕ) (insts : List Inst) → ((k : LoadPlace) → cut (count k) ≡ cut (load_at t k t.reqs)) → cut (total (map (inst_load count t) insts)) ≡ cut (total (map (load_of t) insts))
+loads-told t count insts are =
+    cut-total (inst_load count t) (load_of t) insts (λ (i : Inst).
+      let exact = λ (k : LoadPlace). load_at t k t.reqs in
+      cut-total (row_load count i.tree i.fields) (row_load exact i.tree i.fields) (points_in t i.space) (λ x.
+        cut-total (λ f. count (record { tree = i.tree; point = x; field = f })) (λ f. exact (record { tree = i.tree; point = x; field = f })) i.fields (λ f. are (record { tree = i.tree; point = x; field = f })))
+      ∙ ap cut (sym (total-grid (λ p. exact (record { tree = i.tree; point = p.0; field = p.1 })) (points_in t i.space) i.fields)))

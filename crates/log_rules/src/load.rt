@@ -1,0 +1,199 @@
+//! The load of a log: for each cell of each instance, the requirements that reduce at the place of the cell.
+
+ghost use Rattle.std.specs.Prelude.{◌≡◌, ◌+◌, ◌^◌, ◌<◌, ◌&&◌, [], ◌∷◌, map, All, IfOk, OnOk};
+ghost use Rattle.std.specs.List.Sorted.{IsStrictlyIncreasing};
+ghost use Rattle.semantics.specs.Points.{points_in};
+ghost use Rattle.semantics.specs.Rules.{total, has_much_load, reduces};
+ghost use Rattle.log_rules.specs.declared.load.LoadPlace.{LoadPlace};
+ghost use Rattle.log_rules.specs.Counts.{cut};
+ghost use Rattle.log_rules.specs.Loads.{load_in, one, same_load_place, is_held, covers_place, load_at, row_load, inst_load};
+
+use crate::counts::{exceeds, raised};
+use crate::points::Points;
+use log_tables::Draft;
+use point_set::PointSet;
+use privilege::Priv;
+use semantics::{Inst, Req};
+use spy_grammar::Record;
+use std::alloc::{AllocError, Global};
+use std::collections::HashMap;
+
+/// How much load a log may have.
+const MOST_LOAD: u128 = 67_108_864;
+
+/// A place.
+#[derive(Clone, Copy, Debug, PartialEq, Eq, Hash)]
+pub(crate) struct LoadPlace {
+    pub tree: u32,
+    pub point: u64,
+    pub field: u32,
+}
+
+/// How many requirements reduce at each place.
+#[derive(Drop)]
+pub(crate) struct Loads {
+    counts: HashMap<LoadPlace, u128>,
+}
+
+/// Whether a privilege reduces.
+fn reduces(access: Priv) -> bool
+    ensures { result ≡ reduces access }
+{
+    match access {
+        Priv::Red(_) => true,
+        _ => false,
+    }
+}
+
+impl Loads {
+    /// No requirement reduces anywhere.
+    fn new(alloc: Global) -> Loads
+        ensures { (k : LoadPlace) → load_in result k ≡ 0 }
+    {
+        Loads {
+            counts: HashMap::new(alloc),
+        }
+    }
+
+    /// How many requirements reduce at a place.
+    fn at(&self, place: LoadPlace) -> u128
+        ensures { result ≡ load_in self.now place }
+    {
+        match self.counts.get(&place) {
+            Some(count) => *count,
+            None => 0,
+        }
+    }
+
+    /// One requirement more at a place.
+    fn add(&mut self, place: LoadPlace) -> Result<(), AllocError>
+        ensures { OnOk result ((k : LoadPlace) → cut (load_in self.new k) ≡ cut (load_in self.old k + one (same_load_place place k))) }
+    {
+        let count = raised(self.at(place), 1);
+        self.counts.insert(place, count)?;
+        Ok(())
+    }
+
+    /// One requirement more at a point and these fields.
+    fn add_at_point(&mut self, tree: u32, point: u64, fields: &[u32]) -> Result<(), AllocError>
+        requires { IsStrictlyIncreasing fields.now }
+        ensures { OnOk result ((k : LoadPlace) → cut (load_in self.new k) ≡ cut (load_in self.old k + one (is_held tree (point ∷ []) fields.now k))) }
+    {
+        for field in fields {
+            let place = LoadPlace {
+                tree,
+                point,
+                field: *field,
+            };
+            self.add(place)?;
+        }
+        Ok(())
+    }
+
+    /// One requirement more at these points and fields.
+    fn add_all<P: PointSet>(&mut self, tree: u32, set: &P, fields: &[u32]) -> Result<(), AllocError>
+        requires { IsStrictlyIncreasing fields.now }
+        ensures { OnOk result ((k : LoadPlace) → cut (load_in self.new k) ≡ cut (load_in self.old k + one (is_held tree (P.points set.now) fields.now k))) }
+    {
+        for point in Points::of(set) {
+            self.add_at_point(tree, point, fields)?;
+        }
+        Ok(())
+    }
+
+    /// One requirement more at the fields of a space.
+    fn add_space<P: PointSet>(&mut self, draft: &Draft<P>, tree: u32, space: u32, fields: &[u32]) -> Result<(), AllocError>
+        requires { IsStrictlyIncreasing fields.now }
+        ensures { OnOk result ((k : LoadPlace) → cut (load_in self.new k) ≡ cut (load_in self.old k + one (is_held tree (points_in draft.now space) fields.now k))) }
+    {
+        match draft.set(space) {
+            Some(set) => self.add_all(tree, set, fields),
+            None => Ok(()),
+        }
+    }
+
+    /// One requirement more, if it reduces.
+    fn add_req<P: PointSet>(&mut self, draft: &Draft<P>, req: &Req) -> Result<(), AllocError>
+        requires { IsStrictlyIncreasing req.now.fields }
+        ensures { OnOk result ((k : LoadPlace) → cut (load_in self.new k) ≡ cut (load_in self.old k + one (reduces req.now.access && covers_place draft.now k req.now))) }
+    {
+        if reduces(req.access) {
+            self.add_space(draft, req.tree, req.space, req.fields.as_slice())
+        } else {
+            Ok(())
+        }
+    }
+
+    /// How many requirements of a log reduce at each place.
+    fn of<P: PointSet>(alloc: Global, draft: &Draft<P>) -> Result<Loads, AllocError>
+        ensures { IfOk result (λ loads. (k : LoadPlace) → cut (load_in loads k) ≡ cut (load_at draft.now k draft.now.reqs)) }
+    {
+        let mut loads = Loads::new(alloc);
+        for req in draft.reqs() {
+            loads.add_req(draft, req)?;
+        }
+        Ok(loads)
+    }
+
+    /// The load at a point and these fields.
+    fn at_point(&self, tree: u32, point: u64, fields: &[u32]) -> u128
+        ensures { result ≡ cut (row_load (load_in self.now) tree fields.now point) }
+    {
+        let mut load = 0u128;
+        for field in fields {
+            let place = LoadPlace {
+                tree,
+                point,
+                field: *field,
+            };
+            load = raised(load, self.at(place));
+        }
+        load
+    }
+
+    /// The load at these points and fields.
+    fn at_all<P: PointSet>(&self, tree: u32, set: &P, fields: &[u32]) -> u128
+        ensures { result ≡ cut (total (map (row_load (load_in self.now) tree fields.now) (P.points set.now))) }
+    {
+        let mut load = 0u128;
+        for point in Points::of(set) {
+            load = raised(load, self.at_point(tree, point, fields));
+        }
+        load
+    }
+
+    /// The load of an instance.
+    fn of_inst<P: PointSet>(&self, draft: &Draft<P>, inst: &Inst) -> u128
+        ensures { result ≡ cut (inst_load (load_in self.now) draft.now inst.now) }
+    {
+        match draft.set(inst.space) {
+            Some(set) => self.at_all(inst.tree, set, inst.fields.as_slice()),
+            None => 0,
+        }
+    }
+
+    /// The load of some instances.
+    fn of_insts<P: PointSet>(&self, draft: &Draft<P>, insts: &[Inst]) -> u128
+        ensures { result ≡ cut (total (map (inst_load (load_in self.now) draft.now) insts.now)) }
+    {
+        let mut load = 0u128;
+        for inst in insts {
+            load = raised(load, self.of_inst(draft, inst));
+        }
+        load
+    }
+}
+
+/// Whether a record ends a log whose instances have too much load together.
+pub fn has_much_load<P: PointSet>(alloc: Global, draft: &Draft<P>, rec: &Record) -> Result<bool, AllocError>
+    ensures { IfOk result (λ much. much ≡ has_much_load draft.now rec.now) }
+{
+    match rec {
+        Record::End { .. } => {
+            let loads = Loads::of(alloc, draft)?;
+            let load = loads.of_insts(draft, draft.insts());
+            Ok(exceeds(0, load, MOST_LOAD))
+        }
+        _ => Ok(false),
+    }
+}
