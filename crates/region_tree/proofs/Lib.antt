@@ -6,3 +6,4 @@ pub mod Finding
 pub mod Claiming
 pub mod Ways
 pub mod Aliases
+pub mod Joining

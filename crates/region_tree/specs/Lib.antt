@@ -5,3 +5,4 @@ pub mod Ancestors
 pub mod Faults
 pub mod Claims
 pub mod Paths
+pub mod RunsFrom
