@@ -1,6 +1,5 @@
 -- Claims, run by run and subspace by subspace.
-use Rattle.std.proofs.Common.{Less, Equal, Greater, ◌≡◌, ◌≢◌, ℕ, ◌+◌, ◌-◌, ◌<◌, ◌≤◌, ◌^◌, Bool, true, false, List, [], ◌∷◌, ◌++◌, zero, suc, nat_eq, All, length, get_or, take, Option, Some, None, Contains, IsTrue, MatchOption, slice_get, subst, refl, sym, ap, ◌∙◌, inl, inr, ◌⊎◌, ◌↔◌, arith}
-use Rattle.std.specs.List.{AllPairs}
+use Rattle.std.proofs.Common.{Less, Equal, Greater, ◌≡◌, ℕ, ◌+◌, ◌-◌, ◌<◌, ◌≤◌, ◌^◌, Bool, true, false, List, [], ◌∷◌, ◌++◌, zero, suc, nat_eq, All, length, get_or, take, Option, Some, None, Contains, IsTrue, MatchOption, slice_get, subst, refl, sym, ap, ◌∙◌, inl, inr, ◌⊎◌, ◌↔◌, arith}
 use Rattle.std.specs.List.Sorted.{IsPermutation}
 use Rattle.std.specs.declared.cmp.Ordering.{Ordering}
 use Rattle.std.specs.Ordering.{nat_cmp, ordering_then, is_lt}
@@ -16,8 +15,8 @@ use Rattle.region_tree.proofs.Aliases.{in_or_not}
 use Rattle.region_tree.specs.declared.claims.Claim.{Claim}
 use Rattle.region_tree.specs.declared.decls.SubDecl.{SubDecl}
 use Rattle.region_tree.specs.Regions.{Regions, points_of}
-use Rattle.region_tree.specs.Faults.{is_disjoint, MeetsEarlier, IsFaulty}
-use Rattle.region_tree.specs.Claims.{IsRunEnd, IsRun, IsIn, IsClaim, Claims, ClaimsNothing, ClaimsAll, AreClaims, AddsRuns, IsBefore, AreInOrder, AreOwn, Clash, Overlap, AreApart, SomeOverlap, MeetsSome, IsFirstMeeting}
+use Rattle.region_tree.specs.Faults.{is_disjoint, IsFaulty}
+use Rattle.region_tree.specs.Claims.{IsRunEnd, IsRun, IsIn, Claims, ClaimsNothing, ClaimsAll, AreClaims, AddsRuns, IsBefore, AreInOrder, AreOwn, Clash, Overlap, AreApart, SomeOverlap, MeetsSome, IsFirstMeeting}
 
 -- the points below a number are claimed, and the number is no point
 pub record ClaimedBelow (old new : List Claim) (part sub : ℕ) (points : List ℕ) (low : ℕ) : Type 0 where

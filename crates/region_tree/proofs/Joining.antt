@@ -1,6 +1,6 @@
 -- Runs that touch, joined.
-use Rattle.std.proofs.Common.{◌≡◌, ℕ, zero, suc, ◌+◌, ◌<◌, ◌≤◌, List, [], ◌∷◌, ◌++◌, All, length, get_or, refl, sym, ap, ◌∙◌, inl, inr, arith, add-one, append_assoc}
-use Rattle.std.proofs.lemmas.List.Elements.{All-nil, All-cons, All-head, All-tail}
+use Rattle.std.proofs.Common.{◌≡◌, ℕ, zero, suc, ◌+◌, ◌<◌, ◌≤◌, List, [], ◌∷◌, ◌++◌, All, length, get_or, sym, ap, ◌∙◌, arith, add-one, append_assoc}
+use Rattle.std.proofs.lemmas.List.Elements.{All-nil, All-cons, All-tail}
 use Rattle.point_set.specs.Runs.{run_points, points_of, AreRuns}
 use Rattle.point_set.proofs.Maximal.{joined_run}
 use Rattle.region_tree.specs.RunsFrom.{AreRunsFrom}

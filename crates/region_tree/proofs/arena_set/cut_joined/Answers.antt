@@ -1,4 +1,4 @@
-use Rattle.std.proofs.Common.{◌≡◌, ◌+◌, ◌∷◌, ◌++◌, ℕ, List, subst, ap, ◌∙◌, length, arith}
+use Rattle.std.proofs.Common.{◌≡◌, ◌+◌, ◌∷◌, ◌++◌, ℕ, List, subst, ap, ◌∙◌, arith}
 use Rattle.point_set.specs.Runs.{run_points, points_of}
 use Rattle.region_tree.specs.RunsFrom.{AreRunsFrom}
 use Rattle.region_tree.proofs.Joining.{points_joined, order_joined}

@@ -1,4 +1,4 @@
-use Rattle.std.proofs.Common.{◌≡◌, ◌+◌, get_or, take, Some, List, sym, subst, arith}
+use Rattle.std.proofs.Common.{◌≡◌, ◌+◌, get_or, take, List, sym, subst, arith}
 use Rattle.std.proofs.lemmas.List.{take_all}
 use Rattle.region_tree.specs.declared.claims.Claim.{Claim}
 use Rattle.region_tree.specs.Claims.{AreApart}

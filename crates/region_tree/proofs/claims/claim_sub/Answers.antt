@@ -1,6 +1,4 @@
-use Rattle.std.proofs.Common.{◌+◌}
 use Rattle.std.proofs.lemmas.Result.{on_ok_weaker}
-use Rattle.region_tree.specs.Claims.{AddsRuns, AreClaims}
 use Rattle.region_tree.proofs.Claiming.{claims_more, claims_same}
 use Rattle.region_tree.proofs.claims.claim_sub.Goals as goal
 

@@ -1,4 +1,4 @@
-use Rattle.std.proofs.Common.{◌≡◌, ◌+◌, ℕ, List, length, MatchOption, subst, sym, ap}
+use Rattle.std.proofs.Common.{◌+◌, ℕ, List, length, MatchOption, subst, sym, ap}
 use Rattle.region_tree.specs.declared.claims.Claim.{Claim}
 use Rattle.region_tree.specs.Claims.{AreOwn, AreApart, SomeOverlap}
 use Rattle.region_tree.proofs.Claiming.{claims_permuted, are_own, meeting_from}

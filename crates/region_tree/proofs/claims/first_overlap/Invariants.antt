@@ -1,4 +1,4 @@
-use Rattle.std.proofs.Common.{◌-◌, ◌<◌, ◌≤◌}
+use Rattle.std.proofs.Common.{◌-◌, ◌<◌}
 use Rattle.region_tree.specs.Claims.{AreApart, SomeOverlap}
 use Rattle.region_tree.proofs.claims.first_overlap.Given as goal
 

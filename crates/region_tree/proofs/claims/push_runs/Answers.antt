@@ -1,4 +1,4 @@
-use Rattle.std.proofs.Common.{◌≡◌, ◌+◌, Some, subst, refl}
+use Rattle.std.proofs.Common.{◌+◌, Some, subst, refl}
 use Rattle.point_set.specs.Least.{IsLeastFrom}
 use Rattle.region_tree.specs.declared.claims.Claim.{Claim}
 use Rattle.region_tree.proofs.Claiming.{least_from, none_below, run_more, runs_all}

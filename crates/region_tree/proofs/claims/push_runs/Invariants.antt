@@ -1,8 +1,6 @@
-use Rattle.std.proofs.Common.{◌≡◌, ℕ, ◌+◌, ◌-◌, ◌<◌, ◌^◌, ◌⊎◌, Contains}
+use Rattle.std.proofs.Common.{ℕ, ◌-◌, ◌^◌}
 use Rattle.std.specs.Option.{option_map_or}
 use Rattle.point_set.specs.Least.{IsLeastFrom}
-use Rattle.region_tree.specs.declared.claims.Claim.{Claim}
-use Rattle.region_tree.specs.Claims.{IsRun, IsIn}
 use Rattle.region_tree.proofs.Claiming.{ClaimedBelow}
 use Rattle.region_tree.proofs.claims.push_runs.Given as goal
 

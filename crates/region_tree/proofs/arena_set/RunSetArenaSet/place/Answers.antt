@@ -1,5 +1,5 @@
 use Rattle.std.proofs.Common.{◌≡◌, List, ℕ, [], ◌∷◌, ◌++◌, true, false, refl, sym, subst, ap, ◌∙◌, append-nil}
-use Rattle.point_set.specs.Runs.{points_of, AreRuns}
+use Rattle.point_set.specs.Runs.{AreRuns}
 use Rattle.region_tree.specs.RunsFrom.{AreRunsFrom}
 use Rattle.region_tree.proofs.Joining.{from_zero, are_runs, only_rest, order_behind, points_behind}
 use Rattle.region_tree.proofs.arena_set.RunSetArenaSet.place.Goals as goal
