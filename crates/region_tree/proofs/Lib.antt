@@ -7,3 +7,4 @@ pub mod Claiming
 pub mod Ways
 pub mod Aliases
 pub mod Joining
+pub mod Growth

@@ -6,3 +6,4 @@ pub mod Faults
 pub mod Claims
 pub mod Paths
 pub mod RunsFrom
+pub mod Growing
