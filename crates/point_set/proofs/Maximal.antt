@@ -70,7 +70,7 @@ range-append a (suc m) n =
     let k : suc m + n ≡ suc (m + n) = omega arith in
     rw (k, ← e) (ap (λ ps. a ∷ ps) (range-append (a + 1) m n))
 
-joined_run : (run next : ℕ × ℕ) → run.0 ≤ run.1 → next.0 ≤ next.1 → next.0 ≡ run.1 + 1 → run_points (run.0, next.1) ≡ run_points run ++ run_points next
+pub joined_run : (run next : ℕ × ℕ) → run.0 ≤ run.1 → next.0 ≤ next.1 → next.0 ≡ run.1 + 1 → run_points (run.0, next.1) ≡ run_points run ++ run_points next
 joined_run run next le le' e =
     let n : next.1 + 1 - run.0 ≡ (run.1 + 1 - run.0) + (next.1 + 1 - next.0) = omega arith in
     let at : next.0 ≡ run.0 + (run.1 + 1 - run.0) = omega arith in

@@ -1,10 +1,8 @@
 //! Ascending slices of points.
 
-ghost use Rattle.std.specs.Prelude.{◌≡◌, ◌+◌, ◌<◌, ◌≤◌, ◌↔◌, length, Contains, IsTrue};
-ghost use Rattle.std.specs.List.Sorted.{IsStrictlyIncreasing};
-ghost use Rattle.point_set.specs.Least.{IsLeastFrom, IsLeastCommon, IsLeastOutside};
-
-use std::cmp::Ordering;
+ghost use Rattle.std.specs.Prelude.{◌<◌, ◌≤◌, ◌↔◌, length, IsTrue};
+ghost use Rattle.std.specs.List.Sorted.{IsPartitionPoint, IsStrictlyIncreasing};
+ghost use Rattle.point_set.specs.Least.{IsGreatestOf, IsLeastFrom, IsLeastGap, IsPlaceOfGap};
 
 /// Whether each point is below the next.
 pub(crate) fn is_ascending(points: &[u64]) -> bool
@@ -13,50 +11,57 @@ pub(crate) fn is_ascending(points: &[u64]) -> bool
     points.is_sorted_by(|p, q| p < q)
 }
 
-/// The least point from `p` on, by a binary search.
+/// The place of the first point from `p` on, by a binary search.
+fn place_from(points: &[u64], p: u64) -> usize
+    requires { IsStrictlyIncreasing points.now }
+    ensures below { IsPartitionPoint (λ q. q < p) (λ q. p ≤ q) points.now result }
+    ensures within { result ≤ length points.now }
+{
+    points.partition_point(|q| *q < p)
+}
+
+/// The least point from `p` on.
 pub(crate) fn next_from(points: &[u64], p: u64) -> Option<u64>
     requires { IsStrictlyIncreasing points.now }
     ensures { IsLeastFrom points.now p result }
 {
-    let below = points.partition_point(|q| *q < p);
-    points.get(below).copied()
+    points.get(place_from(points, p)).copied()
 }
 
-/// The least point of both, by one pass over both.
-pub(crate) fn first_common(ours: &[u64], theirs: &[u64]) -> Option<u64>
-    requires ours { IsStrictlyIncreasing ours.now }
-    requires theirs { IsStrictlyIncreasing theirs.now }
-    ensures { IsLeastCommon ours.now theirs.now result }
+/// The greatest point, which stands last.
+pub(crate) fn last(points: &[u64]) -> Option<u64>
+    requires { IsStrictlyIncreasing points.now }
+    ensures { IsGreatestOf points.now result }
 {
-    let mut i = 0;
-    let mut j = 0;
-    while i < ours.len() && j < theirs.len() {
-        match ours[i].cmp(&theirs[j]) {
-            Ordering::Less => i += 1,
-            Ordering::Equal => return Some(ours[i]),
-            Ordering::Greater => j += 1,
-        }
-    }
-    None
+    points.last().copied()
 }
 
-/// The least point of ours that is not theirs, by one pass over both.
-pub(crate) fn outside(ours: &[u64], theirs: &[u64]) -> Option<u64>
-    requires ours { IsStrictlyIncreasing ours.now }
-    requires theirs { IsStrictlyIncreasing theirs.now }
-    ensures { IsLeastOutside ours.now theirs.now result }
+/// The first place from `below` on at which the points have passed over a number, where those from `below` on are `p` and more. A binary search.
+fn place_of_gap(points: &[u64], p: u64, below: usize) -> usize
+    requires ascending { IsStrictlyIncreasing points.now }
+    requires below { IsPartitionPoint (λ q. q < p) (λ q. p ≤ q) points.now below }
+    requires within { below ≤ length points.now }
+    ensures { IsPlaceOfGap points.now p below result }
 {
-    let mut i = 0;
-    let mut j = 0;
-    while i < ours.len() && j < theirs.len() {
-        match ours[i].cmp(&theirs[j]) {
-            Ordering::Less => return Some(ours[i]),
-            Ordering::Equal => {
-                i += 1;
-                j += 1;
-            }
-            Ordering::Greater => j += 1,
+    let mut low = below;
+    let mut high = points.len();
+    while low < high {
+        let middle = low + (high - low) / 2;
+        if points[middle] - p == (middle - below) as u64 {
+            low = middle + 1;
+        } else {
+            high = middle;
         }
     }
-    ours.get(i).copied()
+    low
+}
+
+/// The least number from `p` on that is no point, by two binary searches.
+pub(crate) fn gap_from(points: &[u64], p: u64) -> Option<u64>
+    requires { IsStrictlyIncreasing points.now }
+    ensures { IsLeastGap points.now p result }
+{
+    let below = place_from(points, p);
+    let gap = place_of_gap(points, p, below);
+    p.checked_add((gap - below) as u64)
 }

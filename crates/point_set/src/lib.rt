@@ -4,6 +4,9 @@
 mod ascending;
 mod law;
 mod point_list;
+mod points;
+mod run_set;
+mod run_slice;
 mod runs;
 mod set;
 #[cfg(test)]
@@ -11,4 +14,6 @@ mod tests;
 
 pub use law::{maximal_runs_are_apart, points_of_runs_ascend};
 pub use point_list::PointList;
+pub use points::{Points, points_in};
+pub use run_set::RunSet;
 pub use set::PointSet;

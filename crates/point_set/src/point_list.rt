@@ -2,13 +2,13 @@ ghost use Rattle.std.specs.Prelude.{◌≡◌, ◌^◌, ◌<◌, ◌↔◌, All,
 ghost use Rattle.std.specs.List.Sorted.{IsStrictlyIncreasing};
 ghost use Rattle.point_set.specs.Runs.{AreRuns, points_of, maximal_runs};
 
-use crate::ascending::{first_common, is_ascending, next_from, outside};
+use crate::ascending::{gap_from, is_ascending, last, next_from};
 use crate::runs::{run_at, run_count};
 use crate::set::PointSet;
 
 /// The points themselves, in an ascending slice, cut into runs that are as long as can be.
 ///
-/// `has`, `first` and `next_from` are binary searches. `first_common`, `meets`, `outside` and `within` take at most one pass over both slices. `run_count` takes one pass, and `run(k)` one up to the end of run `k`: asking for each of many runs in turn takes quadratic time, and going over the points by `next_from` does not.
+/// `has`, `first`, `next_from` and `gap_from` are binary searches, and `count` and `last` take one step. `run_count` takes one pass, and `run(k)` one up to the end of run `k`: asking for each of many runs in turn takes quadratic time, and going over the points by `next_from` does not.
 #[derive(Clone, Copy, Debug)]
 pub struct PointList<'a> {
     points: &'a [u64],
@@ -50,16 +50,16 @@ impl<'a> PointSet for PointList<'a> {
         self.points.len() as u128
     }
 
+    fn last(&self) -> Option<u64> {
+        last(self.points)
+    }
+
     fn next_from(&self, p: u64) -> Option<u64> {
         next_from(self.points, p)
     }
 
-    fn first_common(&self, other: &Self) -> Option<u64> {
-        first_common(self.points, other.points)
-    }
-
-    fn outside(&self, other: &Self) -> Option<u64> {
-        outside(self.points, other.points)
+    fn gap_from(&self, p: u64) -> Option<u64> {
+        gap_from(self.points, p)
     }
 
     fn run_count(&self) -> usize {

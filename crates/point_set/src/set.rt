@@ -1,14 +1,14 @@
 ghost use Rattle.std.specs.Prelude.{◌≡◌, ℕ, ◌^◌, ◌<◌, ◌↔◌, List, length, slice_get, All, Contains, IsTrue};
 ghost use Rattle.std.specs.List.{Any};
 ghost use Rattle.std.specs.List.Sorted.{IsStrictlyIncreasing};
-ghost use Rattle.point_set.specs.Least.{IsLeastOf, IsLeastFrom, IsLeastCommon, IsLeastOutside};
+ghost use Rattle.point_set.specs.Least.{IsLeastOf, IsGreatestOf, IsLeastFrom, IsLeastGap, IsLeastCommon, IsLeastOutside};
 ghost use Rattle.point_set.specs.Runs.{AreRuns, points_of};
 
 /// A set of points, which contracts see as the ascending list of them. No call takes memory.
 ///
 /// The points are also cut into runs of consecutive numbers. Where to cut is for the implementation to choose, so two runs may touch.
 ///
-/// What a call costs is for the implementation to say. A call of `run` may take a pass over the points, so code that serves any set goes over its points by `first` and `next_from`.
+/// What a call costs is for the implementation to say. A call of `run` may take a pass over the points, so code that serves any set goes over its points by `first` and `next_from`, and over its runs by `next_from` and `gap_from`.
 pub trait PointSet: Sized {
     // The points, in ascending order.
     ghost points: { Self → List ℕ };
@@ -34,9 +34,17 @@ pub trait PointSet: Sized {
         self.next_from(0)
     }
 
+    /// The greatest point, or `None` of the empty set.
+    fn last(&self) -> Option<u64>
+        ensures { IsGreatestOf (points self.now) result };
+
     /// The least point from `p` on, or `None` if each point is below `p`.
     fn next_from(&self, p: u64) -> Option<u64>
         ensures { IsLeastFrom (points self.now) p result };
+
+    /// The least number from `p` on that is no point, or `None` if each `u64` from `p` on is one.
+    fn gap_from(&self, p: u64) -> Option<u64>
+        ensures { IsLeastGap (points self.now) p result };
 
     /// Whether a point is in both sets.
     fn meets(&self, other: &Self) -> bool
@@ -46,12 +54,46 @@ pub trait PointSet: Sized {
     }
 
     /// The least point that is in both sets, or `None` if there is none.
+    ///
+    /// Each step passes over a gap of either set. So it takes two searches for each run of the set that has fewer, where runs that touch count as one.
     fn first_common(&self, other: &Self) -> Option<u64>
-        ensures { IsLeastCommon (points self.now) (points other.now) result };
+        ensures { IsLeastCommon (points self.now) (points other.now) result }
+    {
+        let mut from = 0;
+        loop {
+            let Some(ours) = self.next_from(from) else {
+                return None;
+            };
+            let Some(theirs) = other.next_from(ours) else {
+                return None;
+            };
+            if theirs == ours {
+                return Some(ours);
+            }
+            from = theirs;
+        }
+    }
 
     /// The least point that is not in `other`, or `None` if there is none.
+    ///
+    /// Each step passes over a run of `other` and a gap of both sets. So it takes two searches for each run of the set that has fewer, where runs that touch count as one.
     fn outside(&self, other: &Self) -> Option<u64>
-        ensures { IsLeastOutside (points self.now) (points other.now) result };
+        ensures { IsLeastOutside (points self.now) (points other.now) result }
+    {
+        let mut from = 0;
+        loop {
+            let Some(ours) = self.next_from(from) else {
+                return None;
+            };
+            let Some(gap) = other.gap_from(ours) else {
+                return None;
+            };
+            if gap == ours {
+                return Some(ours);
+            }
+            from = gap;
+        }
+    }
 
     /// Whether each point is in `other` too.
     fn within(&self, other: &Self) -> bool

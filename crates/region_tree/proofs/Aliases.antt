@@ -19,7 +19,7 @@ use Rattle.region_tree.proofs.Firsts.{find_place}
 at_contains : {X : Type 0} (xs : List X) (x : X) (h : Contains xs x) → slice_get xs h.0 ≡ Some x
 at_contains xs x h = slice_get-get_or xs h.0 x h.1 ∙ ap (λ y. Some y) h.2
 
-in_or_not : (xs : List ℕ) (p : ℕ) → Contains xs p ⊎ (Contains xs p → ⊥)
+pub in_or_not : (xs : List ℕ) (p : ℕ) → Contains xs p ⊎ (Contains xs p → ⊥)
 in_or_not xs p =
     let test : ℕ → Bool = λ x. x == p in
     let d = Decides-contains xs p (list_any test xs) (Decides-by_or test (λ x. x ≡ p) (list_any test) (λ x. Decides-eqb x p) refl (λ _ _. refl) xs) in

@@ -1,210 +1,359 @@
--- Claims, point by point and subspace by subspace.
-use Rattle.std.proofs.Common.{◌≡◌, ℕ, ◌+◌, ◌<◌, ◌≤◌, Bool, true, false, cond, List, [], Option, Some, None, Contains, IsTrue, Result, Ok, Err, IfOk, ◌==◌, slice_get, subst, refl, sym, ap, ◌∙◌, inl, inr, eq-eqb, arith}
-use Rattle.std.proofs.lemmas.Bool.{cases_Bool, cases_lt, cases_eq, eqb-true, and_parts, and_from, cond-true, cond-false, both_ways}
-use Rattle.std.specs.Bool.{OnTrue, OnFalse}
-use Rattle.std.specs.List.{list_any}
-use Rattle.std.proofs.lemmas.Option.{same_Some, none-some}
-use Rattle.point_set.specs.Least.{IsLeastOf, IsLeastFrom, IsLeastOutside}
+-- Claims, run by run and subspace by subspace.
+use Rattle.std.proofs.Common.{Less, Equal, Greater, ◌≡◌, ℕ, ◌+◌, ◌-◌, ◌<◌, ◌≤◌, ◌^◌, Bool, true, false, List, [], ◌∷◌, ◌++◌, zero, suc, nat_eq, All, length, get_or, take, Option, Some, None, Contains, IsTrue, MatchOption, slice_get, subst, refl, sym, ap, ◌∙◌, inl, inr, ◌⊎◌, ◌↔◌, arith}
+use Rattle.std.specs.List.Sorted.{IsPermutation}
+use Rattle.std.specs.declared.cmp.Ordering.{Ordering}
+use Rattle.std.specs.Ordering.{nat_cmp, ordering_then, is_lt}
+use Rattle.std.specs.Option.{option_eq}
+use Rattle.std.proofs.lemmas.Bool.{cases_lt, cases_eq, eqb-true, eq-eqb, both_ways}
+use Rattle.std.proofs.lemmas.Cmp.{ranked}
+use Rattle.std.proofs.lemmas.List.{take_more, get_or_default, get_or-take, length-take}
+use Rattle.std.proofs.lemmas.List.Elements.{All-contains, Contains-get_or, Contains-append_left, Contains-append_right, Contains-append_cases}
+use Rattle.std.proofs.lemmas.List.Sorted.{Contains-permutation, IsPermutation-sym}
+use Rattle.std.proofs.lemmas.Option.{same_Some, none-some, slice_get_within}
+use Rattle.point_set.specs.Least.{IsLeastOf, IsLeastFrom, IsLeastGap}
+use Rattle.region_tree.proofs.Aliases.{in_or_not}
+use Rattle.region_tree.specs.declared.claims.Claim.{Claim}
 use Rattle.region_tree.specs.declared.decls.SubDecl.{SubDecl}
 use Rattle.region_tree.specs.Regions.{Regions, points_of}
-use Rattle.region_tree.specs.Faults.{is_disjoint, MeetsEarlier}
-use Rattle.region_tree.specs.Claims.{same_claim, Claims, AreClaims, AddsPoints, IsFree, ClaimsNothing, ClaimsAll}
+use Rattle.region_tree.specs.Faults.{is_disjoint, IsFaulty}
+use Rattle.region_tree.specs.Claims.{IsRunEnd, IsRun, IsIn, Claims, ClaimsNothing, ClaimsAll, AreClaims, AddsRuns, IsBefore, AreInOrder, AreOwn, Clash, Overlap, AreApart, SomeOverlap, MeetsSome, IsFirstMeeting}
 
--- the points below a number
-abbrev pub Below : List ℕ → ℕ → ℕ → Type 0
-Below points low p = Contains points p × (p < low)
+-- the points below a number are claimed, and the number is no point
+pub record ClaimedBelow (old new : List Claim) (part sub : ℕ) (points : List ℕ) (low : ℕ) : Type 0 where
+  pub kept : (c : Claim) → Contains old c → Contains new c
+  pub sound : (c : Claim) → Contains new c → Contains old c ⊎ ((c.part ≡ part) × (c.sub ≡ sub) × IsRun points c.first c.last)
+  pub whole : (p : ℕ) → Contains points p → p < low → (c : Claim) × Contains new c × (c.sub ≡ sub) × IsIn c p
+  pub bare : 0 < low → ¬ Contains points low
 
-same_parts : (a b : ℕ × ℕ) → same_claim a b ≡ true → (a.0 ≡ b.0) × (a.1 ≡ b.1)
-same_parts a b e = let h = and_parts (a.0 == b.0) (a.1 == b.1) e in (eqb-true a.0 b.0 h.0, eqb-true a.1 b.1 h.1)
+pub none_below : (old : List Claim) (part sub : ℕ) (points : List ℕ) → ClaimedBelow old old part sub points 0
+none_below old part sub points = record {
+  kept = λ c h. h;
+  sound = λ c h. inl h;
+  whole = λ p h lt. absurd (omega (arith, lt));
+  bare = λ lt. absurd (omega (arith, lt));
+}
 
-same_from : (a b : ℕ × ℕ) → a.0 ≡ b.0 → a.1 ≡ b.1 → same_claim a b ≡ true
-same_from a b e f = and_from (a.0 == b.0) (a.1 == b.1) (eq-eqb a.0 b.0 e) (eq-eqb a.1 b.1 f)
-
--- before the first point
 pub least_from : (points : List ℕ) (o : Option ℕ) → IsLeastOf points o → IsLeastFrom points 0 o
 least_from points (Some p) least = ((least.0, omega arith), λ q h. least.1 q h.0)
 least_from points None least = λ q h. least q h.0
 
-pub adds_none : (old : ℕ × ℕ → Bool) (part : ℕ) (points : List ℕ) → AddsPoints old old part (Below points 0)
-adds_none old part points claim = (λ h. inl h, λ h. elim h [ inl o ↦ o | inr n ↦ absurd (omega (arith, n.1.1)) ])
+in_one : (c e : Claim) → Contains (c ∷ []) e → c ≡ e
+in_one c e h =
+    let z : h.0 ≡ 0 = omega (arith, h.1) in
+    subst (λ k. get_or (c ∷ []) k e ≡ e) z h.2
 
-pub free_none : (old : ℕ × ℕ → Bool) (part : ℕ) (points : List ℕ) → IsFree old part (Below points 0)
-free_none old part points p h = absurd (omega (arith, h.1))
+-- one run more, from the next point on
+pub run_more : (old now new : List Claim) (part sub : ℕ) (points : List ℕ) (low : ℕ) (c : Claim) → ClaimedBelow old now part sub points low → IsLeastFrom points low (Some c.first) → IsRunEnd points c.first c.last → c.part ≡ part → c.sub ≡ sub → new ≡ now ++ c ∷ [] → ClaimedBelow old new part sub points (c.last + 1)
+run_more old now new part sub points low c below least end of_part of_sub is =
+    let begins : (p : ℕ) → p + 1 ≡ c.first → ¬ Contains points p = λ p at has. elim (cases_lt p low) [
+      | inl lt ↦ let same : low ≡ c.first = omega (arith, least.0.1, lt, at) in below.bare (omega (arith, lt)) (subst (Contains points) (sym same) least.0.0)
+      | inr le ↦ omega (arith, least.1 p (has, le), at)
+    ] in
+    rw is (record {
+      kept = λ e h. Contains-append_left now (c ∷ []) e (below.kept e h);
+      sound = λ e h. elim (Contains-append_cases now (c ∷ []) e h) [
+        | inl before ↦ below.sound e before
+        | inr here ↦ let same = in_one c e here in inr (ap (λ (x : Claim). x.part) (sym same) ∙ of_part, ap (λ (x : Claim). x.sub) (sym same) ∙ of_sub, subst (λ (x : Claim). IsRun points x.first x.last) same (record { end = end; begins = begins }))
+      ];
+      whole = λ p has lt. elim (cases_lt p low) [
+        | inl before ↦ let w = below.whole p has before in (w.0, Contains-append_left now (c ∷ []) w.0 w.1, w.2, w.3)
+        | inr le ↦ (c, Contains-append_right now (c ∷ []) c (0, omega arith, refl), of_sub, (least.1 p (has, le), omega (arith, lt)))
+      ];
+      bare = λ _. end.ends;
+    })
 
--- below the next point there is none that is not below this number
-lower : (points : List ℕ) (low point p : ℕ) → IsLeastFrom points low (Some point) → Contains points p → p < point → p < low
-lower points low point p least has lt =
-    elim (cases_lt p low) [ inl less ↦ less | inr le ↦ absurd (let h : point ≤ p = least.1 p (has, le) in omega arith) ]
+pub runs_all : (old new : List Claim) (part sub : ℕ) (points : List ℕ) (low : ℕ) (next : Option ℕ) → ClaimedBelow old new part sub points low → IsLeastFrom points low next → ((p : ℕ) → next ≡ Some p → ⊥) → AddsRuns old new part sub points
+runs_all old new part sub points low (Some p) below least none = absurd (none p refl)
+runs_all old new part sub points low None below least none = record {
+  kept = below.kept;
+  sound = below.sound;
+  whole = λ p has. below.whole p has (elim (cases_lt p low) [ inl lt ↦ lt | inr le ↦ absurd (least p (has, le)) ]);
+}
 
--- one point more
-pub adds_more : (old now new : ℕ × ℕ → Bool) (part : ℕ) (points : List ℕ) (low point : ℕ) → AddsPoints old now part (Below points low) → IsLeastFrom points low (Some point) → ((q : ℕ × ℕ) → new q ≡ cond (same_claim (part, point) q) true (now q)) → AddsPoints old new part (Below points (point + 1))
-adds_more old now new part points low point so_far least step claim =
-    let here = same_claim (part, point) claim in (
-      λ is. elim (cases_Bool here) [
-        | inl hit ↦
-            let h = same_parts (part, point) claim hit in
-            inr (sym h.0, (subst (Contains points) h.1 least.0.0, omega (arith, h.1)))
-        | inr miss ↦
-            elim ((so_far claim).0 (sym (step claim ∙ cond-false here true (now claim) miss) ∙ is)) [
-              | inl o ↦ inl o
-              | inr n ↦ inr (n.0, (n.1.0, omega (arith, n.1.1, least.0.1)))
-            ]
-      ],
-      λ h. step claim ∙ elim (cases_Bool here) [
-        | inl hit ↦ cond-true here true (now claim) hit
-        | inr miss ↦
-            cond-false here true (now claim) miss
-            ∙ (so_far claim).1 (elim h [
-              | inl o ↦ inl o
-              | inr n ↦
-                  inr (
-                    n.0,
-                    (
-                      n.1.0,
-                      elim (cases_eq claim.1 point) [
-                        | inl e ↦ absurd (both_ways here miss (same_from (part, point) claim (sym n.0) (sym e)))
-                        | inr ne ↦ lower points low point claim.1 least n.1.0 (omega (arith, n.1.1))
-                      ],
-                    ),
-                  )
-            ])
-      ],
-    )
+-- where a run ends, before a gap or at the greatest `u64`
+ends_before_gap : (points : List ℕ) (first gap : ℕ) → Contains points first → IsLeastGap points first (Some gap) → ((p : ℕ) → first ≤ p → p < gap → Contains points p) → IsRunEnd points first (gap - 1)
+ends_before_gap points first gap has least filled =
+    let past : first < gap = elim (cases_lt first gap) [ inl lt ↦ lt | inr le ↦ let same : gap ≡ first = omega (arith, least.0.1, le) in absurd (least.0.0 (subst (Contains points) (sym same) has)) ] in
+    let next : gap - 1 + 1 ≡ gap = omega (arith, past) in
+    record { order = omega (arith, past); filled = λ p from to. filled p from (omega (arith, to, past)); ends = λ h. least.0.0 (subst (Contains points) next h) }
 
-pub free_more : (old now : ℕ × ℕ → Bool) (part : ℕ) (points : List ℕ) (low point : ℕ) → AddsPoints old now part (Below points low) → IsLeastFrom points low (Some point) → IsFree old part (Below points low) → now (part, point) ≡ false → IsFree old part (Below points (point + 1))
-free_more old now part points low point so_far least free none p h is =
-    elim (cases_eq p point) [
-      | inl e ↦ both_ways (now (part, p)) (ap (λ q. now (part, q)) e ∙ none) ((so_far (part, p)).1 (inl is))
-      | inr ne ↦ free p (h.0, lower points low point p least h.0 (omega (arith, h.1))) is
+pub ends_nowhere : (points : List ℕ) (first : ℕ) → Contains points first → first < 2 ^ 64 → IsLeastGap points first None → All (λ p. p < 2 ^ 64) points → IsRunEnd points first 18446744073709551615
+ends_nowhere points first has fits none bounded = record {
+  order = omega (arith, fits);
+  filled = λ p from to. elim (in_or_not points p) [ inl found ↦ found | inr missed ↦ absurd (none p (missed, from, omega (arith, to))) ];
+  ends = λ h. let far : 18446744073709551615 + 1 < 2 ^ 64 = All-contains (λ p. p < 2 ^ 64) points (18446744073709551615 + 1) bounded h in omega (arith, far);
+}
+
+pub ends_at_gap : (points : List ℕ) (first gap : ℕ) → Contains points first → IsLeastGap points first (Some gap) → IsRunEnd points first (gap - 1)
+ends_at_gap points first gap has least =
+    ends_before_gap points first gap has least
+    (λ p from lt. elim (in_or_not points p) [ inl found ↦ found | inr missed ↦ absurd (omega (arith, lt, least.1 p (missed, from, omega (arith, lt, least.0.2)))) ])
+
+-- what subspaces claim, one subspace more
+pub claims_more : (d : Regions) (i part : ℕ) (points : List ℕ) (old new : List Claim) → AreClaims d i old → ClaimsAll d i part points → AddsRuns old new part i points → AreClaims d (i + 1) new
+claims_more d i part points old new before all added = record {
+  sound = λ c h. elim (added.sound c h) [
+    | inl o ↦ let k = before.sound c o in (omega (arith, k.0), k.1)
+    | inr n ↦ (omega (arith, n.1), (all.0, ap (slice_get d.subs) n.1 ∙ all.1, all.2 ∙ sym n.0, subst (λ k. IsTrue (is_disjoint d k)) (sym n.0) all.3, subst (λ ps. IsRun ps c.first c.last) (sym all.4) n.2))
+  ];
+  whole = λ j of p lt claim. elim (cases_eq j i) [
+    | inl e ↦
+        let same : claim.0 ≡ all.0 = same_Some claim.0 all.0 (sym claim.1 ∙ ap (slice_get d.subs) e ∙ all.1) in
+        let has : Contains points p = subst (λ ps. Contains ps p) (ap (λ (s : SubDecl). points_of d s.space) same ∙ all.4) claim.4 in
+        let w = added.whole p has in
+        (w.0, w.1, w.2 ∙ sym e, w.3)
+    | inr ne ↦ let w = before.whole j of p (omega (arith, lt)) claim in (w.0, added.kept w.0 w.1, w.2, w.3)
+  ];
+}
+
+pub claims_same : (d : Regions) (i : ℕ) (claims : List Claim) → AreClaims d i claims → ClaimsNothing d i → AreClaims d (i + 1) claims
+claims_same d i claims before none = record {
+  sound = λ c h. let k = before.sound c h in (omega (arith, k.0), k.1);
+  whole = λ j of p lt claim. elim (cases_eq j i) [
+    | inl e ↦ absurd (none of p (subst (λ k. Claims d k of p) e claim))
+    | inr ne ↦ before.whole j of p (omega (arith, lt)) claim
+  ];
+}
+
+pub no_claims : (d : Regions) → AreClaims d 0 []
+no_claims d = record { sound = λ c h. absurd (omega (arith, h.1)); whole = λ j of p lt claim. absurd (omega (arith, lt)) }
+
+pub claims_permuted : (d : Regions) (n : ℕ) (xs ys : List Claim) → IsPermutation xs ys → AreClaims d n xs → AreClaims d n ys
+claims_permuted d n xs ys perm are = record {
+  sound = λ c h. are.sound c (Contains-permutation ys xs c (IsPermutation-sym xs ys perm) h);
+  whole = λ j of p lt claim. let w = are.whole j of p lt claim in (w.0, Contains-permutation xs ys w.0 perm w.1, w.2, w.3);
+}
+
+-- claims of one subspace that share a point are one
+same_first : (points : List ℕ) (f l g m p : ℕ) → IsRun points f l → IsRun points g m → f ≤ p → p ≤ l → g ≤ p → p ≤ m → f ≤ g
+same_first points f l g m p one two fp pl gp pm = elim (cases_lt g f) [
+  | inl lt ↦ absurd (one.begins (f - 1) (omega (arith, lt)) (two.end.filled (f - 1) (omega (arith, lt)) (omega (arith, fp, pm))))
+  | inr le ↦ le
+]
+
+same_last : (points : List ℕ) (f l g m p : ℕ) → IsRun points f l → IsRun points g m → f ≤ p → p ≤ l → g ≤ p → p ≤ m → m ≤ l
+same_last points f l g m p one two fp pl gp pm = elim (cases_lt l m) [
+  | inl lt ↦ absurd (one.end.ends (two.end.filled (l + 1) (omega (arith, gp, pl)) (omega (arith, lt))))
+  | inr le ↦ le
+]
+
+pub are_own : (d : Regions) (n : ℕ) (claims : List Claim) → AreClaims d n claims → AreOwn claims
+are_own d n claims are = record {
+  some = λ c h. (are.sound c h).1.4.end.order;
+  one = λ a b in_a in_b sub p at bt.
+      let x = (are.sound a in_a).1 in
+      let y = (are.sound b in_b).1 in
+      let same : x.0 ≡ y.0 = same_Some x.0 y.0 (sym x.1 ∙ ap (slice_get d.subs) sub ∙ y.1) in
+      let points = points_of d x.0.space in
+      let ours : IsRun points a.first a.last = x.4 in
+      let theirs : IsRun points b.first b.last = subst (λ (s : SubDecl). IsRun (points_of d s.space) b.first b.last) (sym same) y.4 in
+      let part : a.part ≡ b.part = sym x.2 ∙ ap (λ (s : SubDecl). s.part) same ∙ y.2 in
+      let first : a.first ≡ b.first = omega (arith, same_first points a.first a.last b.first b.last p ours theirs at.0 at.1 bt.0 bt.1, same_first points b.first b.last a.first a.last p theirs ours bt.0 bt.1 at.0 at.1) in
+      let last : a.last ≡ b.last = omega (arith, same_last points a.first a.last b.first b.last p ours theirs at.0 at.1 bt.0 bt.1, same_last points b.first b.last a.first a.last p theirs ours bt.0 bt.1 at.0 at.1) in
+      λ i. record { part = part i; first = first i; last = last i; sub = sub i };
+}
+
+-- what a sort by partition and first point gives
+not_less : (a b : Claim) (o p : Ordering) → o ≡ nat_cmp b.part a.part → p ≡ nat_cmp b.first a.first → is_lt (ordering_then o p) ≡ false → IsBefore a b
+not_less a b Less p e f h = absurd (let no : ⊥ = cc in no)
+not_less a b Equal Less e f h = absurd (let no : ⊥ = cc in no)
+not_less a b Equal Equal e f h = (omega (arith, ranked b.part a.part Equal e), λ same. omega (arith, ranked b.first a.first Equal f))
+not_less a b Equal Greater e f h = (omega (arith, ranked b.part a.part Equal e), λ same. omega (arith, ranked b.first a.first Greater f))
+not_less a b Greater p e f h = let lt = ranked b.part a.part Greater e in (omega (arith, lt), λ same. absurd (omega (arith, lt, same)))
+
+before_through : (a b c : Claim) → IsBefore a b → IsBefore b c → IsBefore a c
+before_through a b c h k = (omega (arith, h.0, k.0), λ e. omega (arith, h.1 (omega (arith, h.0, k.0, e)), k.1 (omega (arith, h.0, k.0, e))))
+
+before_by : (claims : List Claim) (j n : ℕ) (d : Claim) → ((k : ℕ) (e : Claim) → k + 1 < length claims → IsBefore (get_or claims k e) (get_or claims (k + 1) e)) → j + 1 + n < length claims → IsBefore (get_or claims j d) (get_or claims (j + 1 + n) d)
+before_by claims j zero d next lt = let e : j + 1 + 0 ≡ j + 1 = omega arith in rw e (next j d (omega arith))
+before_by claims j (suc n) d next lt =
+    let e : j + 1 + suc n ≡ j + 1 + n + 1 = omega arith in
+    rw e (before_through (get_or claims j d) (get_or claims (j + 1 + n) d) (get_or claims (j + 1 + n + 1) d) (before_by claims j n d next (omega arith)) (next (j + 1 + n) d (omega arith)))
+
+pub in_order : (claims : List Claim) → ((k : ℕ) (e : Claim) → k + 1 < length claims → is_lt (ordering_then (nat_cmp (get_or claims (k + 1) e).part (get_or claims k e).part) (nat_cmp (get_or claims (k + 1) e).first (get_or claims k e).first)) ≡ false) → AreInOrder claims
+in_order claims sorted i j d lt within =
+    let e : i + 1 + (j - (i + 1)) ≡ j = omega arith in
+    subst (λ k. IsBefore (get_or claims i d) (get_or claims k d)) e
+    (before_by claims i (j - (i + 1)) d (λ k c less. not_less (get_or claims k c) (get_or claims (k + 1) c) _ _ refl refl (sorted k c less)) (omega arith))
+
+-- the last of the claims of subspaces before a limit
+abbrev pub IsLastOf : List Claim → ℕ → Option Claim → Type 0
+IsLastOf claims limit None = (a : Claim) → Contains claims a → a.sub < limit → ⊥
+IsLastOf claims limit (Some b) = Contains claims b × (b.sub < limit) × ((a : Claim) → Contains claims a → a.sub < limit → IsBefore a b)
+
+pub apart_from_none : (limit : ℕ) → AreApart [] limit
+apart_from_none limit a b in_a in_b lt_a lt_b o = omega (arith, in_a.1)
+
+pub last_of_none : (limit : ℕ) → IsLastOf [] limit None
+last_of_none limit a h lt = omega (arith, h.1)
+
+overlap_back : (a b : Claim) → Overlap a b → Overlap b a
+overlap_back a b o = (sym o.0, λ e. o.1 (sym e), (o.2.0, o.2.2, o.2.1))
+
+-- a claim overlaps none of those before it, if it does not clash with the last of them
+free : (claims seen : List Claim) (limit : ℕ) (last : Option Claim) (c : Claim) → AreOwn claims → ((a : Claim) → Contains seen a → Contains claims a) → ((a : Claim) → Contains seen a → IsBefore a c) → AreApart seen limit → IsLastOf seen limit last → ((b : Claim) → last ≡ Some b → ¬ Clash b c) → (a : Claim) → Contains seen a → a.sub < limit → ¬ Overlap a c
+free claims seen limit None c own into before apart is none a in_a lt o = is a in_a lt
+free claims seen limit (Some b) c own into before apart is none a in_a lt o =
+    let to_b = is.2 a in_a lt in
+    let to_c = before b is.0 in
+    let part : a.part ≡ b.part = omega (arith, to_b.0, to_c.0, o.0) in
+    let part_c : b.part ≡ c.part = omega (arith, to_b.0, to_c.0, o.0) in
+    let at : IsIn a b.first = (to_b.1 part, omega (arith, to_c.1 part_c, o.2.1.1, o.2.2.0)) in
+    let bt : IsIn b b.first = (omega arith, own.some b (into b is.0)) in
+    elim (cases_eq a.sub b.sub) [
+      | inl e ↦
+          let same : a ≡ b = own.one a b (into a in_a) (into b is.0) e b.first at bt in
+          let high : c.first ≤ b.last = subst (λ (x : Claim). c.first ≤ x.last) same (omega (arith, o.2.1.1, o.2.2.0)) in
+          none b refl (part_c, high, λ f. o.1 (e ∙ sym f))
+      | inr ne ↦ apart a b in_a is.0 lt is.1 (part, ne, (b.first, at, bt))
     ]
 
--- a point that is claimed already was claimed before
-pub taken_before : (old now : ℕ × ℕ → Bool) (part : ℕ) (points : List ℕ) (low point : ℕ) → AddsPoints old now part (Below points low) → IsLeastFrom points low (Some point) → now (part, point) ≡ true → (p : ℕ) × Contains points p × IsTrue (old (part, p))
-taken_before old now part points low point so_far least is =
-    elim ((so_far (part, point)).0 is) [ inl o ↦ (point, least.0.0, o) | inr n ↦ absurd (omega (arith, n.1.1, least.0.1)) ]
+one_more : (seen : List Claim) (c e : Claim) → Contains (seen ++ c ∷ []) e → Contains seen e ⊎ (c ≡ e)
+one_more seen c e h = elim (Contains-append_cases seen (c ∷ []) e h) [ inl before ↦ inl before | inr here ↦ inr (in_one c e here) ]
 
--- past the last point
-pub adds_all : (old new : ℕ × ℕ → Bool) (part : ℕ) (points : List ℕ) (low : ℕ) → AddsPoints old new part (Below points low) → IsLeastFrom points low None → AddsPoints old new part (Contains points)
-adds_all old new part points low so_far none claim = (
-  λ is. elim ((so_far claim).0 is) [ inl o ↦ inl o | inr n ↦ inr (n.0, n.1.0) ],
-  λ h. (so_far claim).1 (elim h [
-    | inl o ↦ inl o
-    | inr n ↦ inr (n.0, (n.1, elim (cases_lt claim.1 low) [ inl lt ↦ lt | inr le ↦ absurd (none claim.1 (n.1, le)) ]))
-  ]),
-)
+apart_with : (seen : List Claim) (limit : ℕ) (c : Claim) → AreApart seen limit → (c.sub < limit → (a : Claim) → Contains seen a → a.sub < limit → ¬ Overlap a c) → AreApart (seen ++ c ∷ []) limit
+apart_with seen limit c apart none a b in_a in_b lt_a lt_b o =
+    elim (one_more seen c a in_a) [
+      | inl a_before ↦ elim (one_more seen c b in_b) [
+        | inl b_before ↦ apart a b a_before b_before lt_a lt_b o
+        | inr b_is ↦ none (subst (λ (x : Claim). x.sub < limit) (sym b_is) lt_b) a a_before lt_a (subst (Overlap a) (sym b_is) o)
+      ]
+      | inr a_is ↦ elim (one_more seen c b in_b) [
+        | inl b_before ↦ none (subst (λ (x : Claim). x.sub < limit) (sym a_is) lt_a) b b_before lt_b (overlap_back c b (subst (λ (x : Claim). Overlap x b) (sym a_is) o))
+        | inr b_is ↦ o.1 (ap (λ (x : Claim). x.sub) (sym a_is ∙ b_is))
+      ]
+    ]
 
-pub free_all : (old : ℕ × ℕ → Bool) (part : ℕ) (points : List ℕ) (low : ℕ) → IsFree old part (Below points low) → IsLeastFrom points low None → IsFree old part (Contains points)
-free_all old part points low free none p has is =
-    elim (cases_lt p low) [ inl lt ↦ free p (has, lt) is | inr le ↦ none p (has, le) ]
-
--- one subspace more
-pub claims_more : (d : Regions) (i : ℕ) (s : SubDecl) (old new : ℕ × ℕ → Bool) → AreClaims d i old → slice_get d.subs i ≡ Some s → IsTrue (is_disjoint d s.part) → AddsPoints old new s.part (Contains (points_of d s.space)) → AreClaims d (i + 1) new
-claims_more d i s old new before at disjoint added claim = (
-  λ is. elim ((added claim).0 is) [
-    | inl o ↦ let h = (before claim).0 o in (h.0, omega (arith, h.1), h.2)
-    | inr n ↦ (i, omega arith, (s, at, sym n.0, disjoint, n.1))
-  ],
-  λ h. (added claim).1 (elim (cases_eq h.0 i) [
-    | inl e ↦
-        let z : h.2.0 ≡ s = same_Some h.2.0 s (sym h.2.1 ∙ ap (slice_get d.subs) e ∙ at) in
-        inr (sym h.2.2 ∙ ap (λ (t : SubDecl). t.part) z, subst (λ (t : SubDecl). Contains (points_of d t.space) claim.1) z h.2.4)
-    | inr ne ↦ inl ((before claim).1 (h.0, omega (arith, h.1), h.2))
-  ]),
-)
-
-pub claims_same : (d : Regions) (i : ℕ) (old : ℕ × ℕ → Bool) → AreClaims d i old → ((claim : ℕ × ℕ) → ¬ Claims d i claim) → AreClaims d (i + 1) old
-claims_same d i old before none claim = (
-  λ is. let h = (before claim).0 is in (h.0, omega (arith, h.1), h.2),
-  λ h. elim (cases_eq h.0 i) [
-    | inl e ↦ absurd (none claim (subst (λ j. Claims d j claim) e h.2))
-    | inr ne ↦ (before claim).1 (h.0, omega (arith, h.1), h.2)
+last_kept : (seen : List Claim) (limit : ℕ) (c : Claim) → ((a : Claim) → Contains seen a → IsBefore a c) → c.sub < limit → IsLastOf (seen ++ c ∷ []) limit (Some c)
+last_kept seen limit c before lt = (
+  Contains-append_right seen (c ∷ []) c (0, omega arith, refl),
+  lt,
+  λ a h less. elim (one_more seen c a h) [
+    | inl earlier ↦ before a earlier
+    | inr is ↦ subst (λ (x : Claim). IsBefore x c) is (omega arith, λ e. omega arith)
   ],
 )
+
+last_passed : (seen : List Claim) (limit : ℕ) (last : Option Claim) (c : Claim) → IsLastOf seen limit last → limit ≤ c.sub → IsLastOf (seen ++ c ∷ []) limit last
+last_passed seen limit None c is far = λ a h lt. elim (one_more seen c a h) [
+  | inl earlier ↦ is a earlier lt
+  | inr same ↦ absurd (omega (arith, far, lt, ap (λ (x : Claim). x.sub) same))
+]
+last_passed seen limit (Some b) c is far = (
+  Contains-append_left seen (c ∷ []) b is.0,
+  is.1,
+  λ a h lt. elim (one_more seen c a h) [
+    | inl earlier ↦ is.2 a earlier lt
+    | inr same ↦ absurd (omega (arith, far, lt, ap (λ (x : Claim). x.sub) same))
+  ],
+)
+
+-- the claims seen so far are claims, and stand before the next
+seen_is : (claims : List Claim) (k : ℕ) (a : Claim) → Contains (take k claims) a → (j : ℕ) × (j < k) × (j < length claims) × (get_or claims j a ≡ a)
+seen_is claims k a h =
+    let lt : h.0 < k = omega (arith, h.1, length-take k claims) in
+    (h.0, lt, omega (arith, h.1, length-take k claims), sym (get_or-take k claims h.0 a lt) ∙ h.2)
+
+seen_in : (claims : List Claim) (k : ℕ) (a : Claim) → Contains (take k claims) a → Contains claims a
+seen_in claims k a h = let s = seen_is claims k a h in (s.0, s.2, s.3)
+
+seen_before : (claims : List Claim) (k : ℕ) (d : Claim) → AreInOrder claims → k < length claims → (a : Claim) → Contains (take k claims) a → IsBefore a (get_or claims k d)
+seen_before claims k d order within a h =
+    let s = seen_is claims k a h in
+    let there = order s.0 k a s.1 within in
+    subst (λ (x : Claim). IsBefore a x) (get_or_default claims k a d within) (subst (λ (x : Claim). IsBefore x (get_or claims k a)) s.3 there)
+
+-- what one step of the pass keeps
+pub apart_more : (claims : List Claim) (k limit : ℕ) (d : Claim) (last : Option Claim) → AreInOrder claims → AreOwn claims → k < length claims → AreApart (take k claims) limit → IsLastOf (take k claims) limit last → ((b : Claim) → last ≡ Some b → ¬ Clash b (get_or claims k d)) → AreApart (take (k + 1) claims) limit
+apart_more claims k limit d last order own within apart is none =
+    rw (take_more claims k d within)
+    (apart_with (take k claims) limit (get_or claims k d) apart
+    (λ kept. free claims (take k claims) limit last (get_or claims k d) own (seen_in claims k) (seen_before claims k d order within) apart is none))
+
+pub apart_passed : (claims : List Claim) (k limit : ℕ) (d : Claim) → k < length claims → AreApart (take k claims) limit → limit ≤ (get_or claims k d).sub → AreApart (take (k + 1) claims) limit
+apart_passed claims k limit d within apart far =
+    rw (take_more claims k d within) (apart_with (take k claims) limit (get_or claims k d) apart (λ kept. absurd (omega (arith, kept, far))))
+
+pub last_more : (claims : List Claim) (k limit : ℕ) (d : Claim) → AreInOrder claims → k < length claims → (get_or claims k d).sub < limit → IsLastOf (take (k + 1) claims) limit (Some (get_or claims k d))
+last_more claims k limit d order within kept = rw (take_more claims k d within) (last_kept (take k claims) limit (get_or claims k d) (seen_before claims k d order within) kept)
+
+pub last_same : (claims : List Claim) (k limit : ℕ) (d : Claim) (last : Option Claim) → k < length claims → IsLastOf (take k claims) limit last → limit ≤ (get_or claims k d).sub → IsLastOf (take (k + 1) claims) limit last
+last_same claims k limit d last within is far = rw (take_more claims k d within) (last_passed (take k claims) limit last (get_or claims k d) is far)
+
+pub overlap_found : (claims : List Claim) (k limit : ℕ) (d b : Claim) → AreInOrder claims → AreOwn claims → k < length claims → IsLastOf (take k claims) limit (Some b) → (get_or claims k d).sub < limit → Clash b (get_or claims k d) → SomeOverlap claims limit
+overlap_found claims k limit d b order own within is kept clash =
+    let c = get_or claims k d in
+    let here = Contains-get_or claims k d within in
+    let to = seen_before claims k d order within b is.0 in
+    (b, c, seen_in claims k b is.0, here, is.1, kept, (clash.0, λ e. clash.2 (sym e), (c.first, (to.1 clash.0, clash.1), (omega arith, own.some c here))))
+
+pub apart_of_none : (claims : List Claim) → AreApart claims 0
+apart_of_none claims a b in_a in_b lt_a lt_b o = omega (arith, lt_a)
 
 -- what claims say of meetings
-pub none_met : (d : Regions) (i : ℕ) (s : SubDecl) (old : ℕ × ℕ → Bool) → AreClaims d i old → slice_get d.subs i ≡ Some s → IsFree old s.part (Contains (points_of d s.space)) → (j : ℕ) → ¬ MeetsEarlier d i j
-none_met d i s old before at free j h =
-    let m = h.1 in
-    let z : m.0 ≡ s = same_Some m.0 s (sym m.3 ∙ at) in
-    let part : m.1.part ≡ s.part = sym m.5.0 ∙ ap (λ (t : SubDecl). t.part) z in
-    let disjoint : IsTrue (is_disjoint d m.1.part) = subst (λ k. IsTrue (is_disjoint d k)) m.5.0 m.5.1 in
-    free h.0 (subst (λ (t : SubDecl). Contains (points_of d t.space) h.0) z m.5.2) ((before (s.part, h.0)).1 (j, m.2, (m.1, m.4, part, disjoint, m.5.3)))
+pub met_not : (d : Regions) (n limit : ℕ) (claims : List Claim) → AreClaims d n claims → length d.subs ≤ n → AreApart claims limit → (i : ℕ) → i < limit → ¬ MeetsSome d i
+met_not d n limit claims are all apart i lt h =
+    let m = h.1.1 in
+    let p = h.1.0 in
+    let s = m.0 in
+    let t = m.1 in
+    let within = slice_get_within d.subs i s m.3 in
+    let a = are.whole i s.part p (omega (arith, within, all)) (s, m.3, refl, m.5.1, m.5.2) in
+    let b = are.whole h.0 s.part p (omega (arith, within, all, m.2)) (t, m.4, sym m.5.0, m.5.1, m.5.3) in
+    let x = (are.sound a.0 a.1).1 in
+    let y = (are.sound b.0 b.1).1 in
+    let same_a : x.0 ≡ s = same_Some x.0 s (sym x.1 ∙ ap (slice_get d.subs) a.2 ∙ m.3) in
+    let same_b : y.0 ≡ t = same_Some y.0 t (sym y.1 ∙ ap (slice_get d.subs) b.2 ∙ m.4) in
+    let part : a.0.part ≡ b.0.part = sym x.2 ∙ ap (λ (u : SubDecl). u.part) same_a ∙ m.5.0 ∙ ap (λ (u : SubDecl). u.part) (sym same_b) ∙ y.2 in
+    apart a.0 b.0 a.1 b.1 (omega (arith, a.2, lt)) (omega (arith, b.2, lt, m.2)) (part, λ e. omega (arith, e, a.2, b.2, m.2), (p, a.3, b.3))
 
-pub some_met : (d : Regions) (i : ℕ) (s : SubDecl) (old : ℕ × ℕ → Bool) (p : ℕ) → AreClaims d i old → slice_get d.subs i ≡ Some s → IsTrue (is_disjoint d s.part) → Contains (points_of d s.space) p → IsTrue (old (s.part, p)) → (j : ℕ) × MeetsEarlier d i j
-some_met d i s old p before at disjoint has is =
-    let h = (before (s.part, p)).0 is in
-    (h.0, (p, (s, h.2.0, h.1, at, h.2.1, (sym h.2.2, disjoint, has, h.2.4))))
+met_by : (d : Regions) (n : ℕ) (claims : List Claim) (a b : Claim) → AreClaims d n claims → Contains claims a → Contains claims b → Overlap a b → b.sub < a.sub → MeetsSome d a.sub
+met_by d n claims a b are in_a in_b o lt =
+    let x = (are.sound a in_a).1 in
+    let y = (are.sound b in_b).1 in
+    (b.sub, (o.2.0, (x.0, y.0, lt, x.1, y.1, (x.2 ∙ o.0 ∙ sym y.2, subst (λ k. IsTrue (is_disjoint d k)) (sym x.2) x.3, x.4.end.filled o.2.0 o.2.1.0 o.2.1.1, y.4.end.filled o.2.0 o.2.2.0 o.2.2.1))))
 
-pub nothing_met : (d : Regions) (i : ℕ) → ((claim : ℕ × ℕ) → ¬ Claims d i claim) → (j : ℕ) → ¬ MeetsEarlier d i j
-nothing_met d i none j h = let m = h.1 in none (m.0.part, h.0) (m.0, m.3, refl, m.5.1, m.5.2)
-
-pub none_left : (points : List ℕ) (low : ℕ) (next : Option ℕ) → IsLeastFrom points low next → ((p : ℕ) → next ≡ Some p → ⊥) → IsLeastFrom points low None
-none_left points low None least not_some = least
-none_left points low (Some p) least not_some = absurd (not_some p refl)
-
-pub nothing_at : (d : Regions) (i : ℕ) → slice_get d.subs i ≡ None → ClaimsNothing d i
-nothing_at d i none claim h = none-some h.0 (sym none ∙ h.1)
-
-pub nothing_shared : (d : Regions) (i : ℕ) (s : SubDecl) → slice_get d.subs i ≡ Some s → is_disjoint d s.part ≡ false → ClaimsNothing d i
-nothing_shared d i s at none claim h =
-    let z : h.0 ≡ s = same_Some h.0 s (sym h.1 ∙ at) in
-    both_ways (is_disjoint d h.0.part) (ap (λ (t : SubDecl). is_disjoint d t.part) z ∙ none) h.3
-
-pub nothing_inside : (d : Regions) (i : ℕ) (s : SubDecl) → slice_get d.subs i ≡ Some s → points_of d s.space ≡ [] → ClaimsNothing d i
-nothing_inside d i s at none claim h =
-    let z : h.0 ≡ s = same_Some h.0 s (sym h.1 ∙ at) in
-    let there : Contains [] claim.1 = subst (λ ps. Contains ps claim.1) (ap (λ (t : SubDecl). points_of d t.space) z ∙ none) h.4 in
-    absurd (omega (arith, there.1))
-
--- the same, of what a subspace claims
-pub claims_all : (d : Regions) (i part : ℕ) (points : List ℕ) (old new : ℕ × ℕ → Bool) → ClaimsAll d i part points → AreClaims d i old → AddsPoints old new part (Contains points) → AreClaims d (i + 1) new
-claims_all d i part points old new h before added =
-    let disjoint : IsTrue (is_disjoint d h.0.part) = subst (λ k. IsTrue (is_disjoint d k)) (sym h.2) h.3 in
-    claims_more d i h.0 old new before h.1 disjoint (rw (h.2, h.4) added)
-
-pub none_met_all : (d : Regions) (i part : ℕ) (points : List ℕ) (old : ℕ × ℕ → Bool) → ClaimsAll d i part points → AreClaims d i old → IsFree old part (Contains points) → (j : ℕ) → ¬ MeetsEarlier d i j
-none_met_all d i part points old h before free = none_met d i h.0 old before h.1 (rw (h.2, h.4) free)
-
-pub some_met_all : (d : Regions) (i part : ℕ) (points : List ℕ) (old : ℕ × ℕ → Bool) → ClaimsAll d i part points → AreClaims d i old → (p : ℕ) × Contains points p × IsTrue (old (part, p)) → (j : ℕ) × MeetsEarlier d i j
-some_met_all d i part points old h before taken =
-    let disjoint : IsTrue (is_disjoint d h.0.part) = subst (λ k. IsTrue (is_disjoint d k)) (sym h.2) h.3 in
-    some_met d i h.0 old taken.0 before h.1 disjoint (subst (λ ps. Contains ps taken.0) (sym h.4) taken.1) (subst (λ k. IsTrue (old (k, taken.0))) (sym h.2) taken.2)
-
--- what a call says of its answer, with more said
-pub on_true : {E : Type 0} (r : Result Bool E) (P Q : Type 0) → (P → Q) → IfOk r (λ b. OnTrue b P) → IfOk r (λ b. OnTrue b Q)
-on_true (Ok true) P Q f h = f h
-on_true (Ok false) P Q f h = h
-on_true (Err e) P Q f h = h
-
-pub on_false : {E : Type 0} (r : Result Bool E) (P Q : Type 0) → (P → Q) → IfOk r (λ b. OnFalse b P) → IfOk r (λ b. OnFalse b Q)
-on_false (Ok true) P Q f h = h
-on_false (Ok false) P Q f h = f h
-on_false (Err e) P Q f h = h
-
--- before the first subspace nothing is claimed
-pub no_claims : (d : Regions) (keys : List (ℕ × ℕ)) → keys ≡ [] → AreClaims d 0 (λ claim. list_any (same_claim claim) keys)
-no_claims d keys e claim = (
-  λ is. absurd (let no_key : false ≡ true = ap (list_any (same_claim claim)) (sym e) ∙ is in cc),
-  λ h. absurd (omega (arith, h.1)),
-)
-
--- points of a set that lie in another, from the first on
-abbrev pub LieIn : List ℕ → List ℕ → ℕ → Type 0
-LieIn points whole low = (q : ℕ) → Contains points q → q < low → Contains whole q
-
-pub lie_in_more : (points whole : List ℕ) (low point : ℕ) → LieIn points whole low → IsLeastFrom points low (Some point) → Contains whole point → LieIn points whole (point + 1)
-lie_in_more points whole low point so_far least has q there lt =
-    elim (cases_eq q point) [
-      | inl e ↦ subst (Contains whole) (sym e) has
-      | inr ne ↦ so_far q there (lower points low point q least there (omega (arith, lt)))
+pub met_some : (d : Regions) (n limit : ℕ) (claims : List Claim) → AreClaims d n claims → SomeOverlap claims limit → (i : ℕ) × (i < limit) × MeetsSome d i
+met_some d n limit claims are some =
+    let a = some.0 in
+    let b = some.1 in
+    let o = some.6 in
+    elim (cases_lt b.sub a.sub) [
+      | inl lt ↦ (a.sub, some.4, met_by d n claims a b are some.2 some.3 o lt)
+      | inr le ↦ (b.sub, some.5, met_by d n claims b a are some.3 some.2 (overlap_back a b o) (let ne : (a.sub ≡ b.sub → ⊥) = o.1 in omega (arith, le)))
     ]
 
-pub outside_here : (points whole : List ℕ) (low point : ℕ) → LieIn points whole low → IsLeastFrom points low (Some point) → ¬ (Contains whole point) → IsLeastOutside points whole (Some point)
-outside_here points whole low point so_far least missing = (
-  (least.0.0, missing),
-  λ q h. elim (cases_lt q low) [ inl lt ↦ absurd (h.1 (so_far q h.0 lt)) | inr le ↦ least.1 q (h.0, le) ],
+pub meeting_from : (d : Regions) (claims : List Claim) (o : Option ℕ) → AreClaims d (length d.subs) claims → MatchOption o (AreApart claims (length d.subs)) (λ i. AreApart claims i × SomeOverlap claims (i + 1)) → IsFirstMeeting d o
+meeting_from d claims None are apart = λ i h. met_not d (length d.subs) (length d.subs) claims are (omega arith) apart i (slice_get_within d.subs i h.1.1.0 h.1.1.3) h
+meeting_from d claims (Some i) are h =
+    let before = met_not d (length d.subs) i claims are (omega arith) h.0 in
+    let m = met_some d (length d.subs) (i + 1) claims are h.1 in (
+      elim (cases_lt m.0 i) [
+        | inl lt ↦ absurd (before m.0 lt m.2)
+        | inr le ↦ let e : m.0 ≡ i = omega (arith, le, m.1) in subst (MeetsSome d) e m.2
+      ],
+      before,
+    )
+
+-- whether the first meeting is here, where no subspace before is faulty
+pub meets_here : (d : Regions) (i : ℕ) (o : Option ℕ) → IsFirstMeeting d o → ((k : ℕ) → k < i → ¬ IsFaulty d k) → IsTrue (option_eq nat_eq o (Some i)) ↔ MeetsSome d i
+meets_here d i None first before = (λ no. absurd (let f : ⊥ = cc in f), λ h. absurd (first i h))
+meets_here d i (Some k) first before = (
+  λ yes. subst (MeetsSome d) (eqb-true k i yes) first.0,
+  λ h. elim (cases_lt k i) [
+    | inl lt ↦ absurd (before k lt (inr first.0))
+    | inr le ↦ elim (cases_lt i k) [
+      | inl lt ↦ absurd (first.1 i lt h)
+      | inr to ↦ let e : k ≡ i = omega (arith, le, to) in eq-eqb k i e
+    ]
+  ],
 )
 
-pub outside_none : (points whole : List ℕ) (low : ℕ) → LieIn points whole low → IsLeastFrom points low None → IsLeastOutside points whole None
-outside_none points whole low so_far none q h =
-    elim (cases_lt q low) [ inl lt ↦ h.1 (so_far q h.0 lt) | inr le ↦ none q (h.0, le) ]
+-- what the test of a claim and the last one before it tells
+pub no_clash : (last : Option Claim) (c : Claim) (r : Bool) → MatchOption last (r ≡ false) (λ b. IsTrue r ↔ Clash b c) → r ≡ false → (b : Claim) → last ≡ Some b → ¬ Clash b c
+no_clash None c r h told b e = absurd (none-some b e)
+no_clash (Some x) c r h told b e = λ clash. both_ways r told (h.1 (subst (λ (y : Claim). Clash y c) (sym (same_Some x b e)) clash))
+
+pub a_clash : (last : Option Claim) (c : Claim) (r : Bool) → MatchOption last (r ≡ false) (λ b. IsTrue r ↔ Clash b c) → r ≡ true → (b : Claim) × (last ≡ Some b) × Clash b c
+a_clash None c r h told = absurd (both_ways r h told)
+a_clash (Some x) c r h told = (x, refl, h.0 told)

@@ -6,3 +6,5 @@ pub mod Finding
 pub mod Claiming
 pub mod Ways
 pub mod Aliases
+pub mod Joining
+pub mod Growth

@@ -5,3 +5,5 @@ pub mod Ancestors
 pub mod Faults
 pub mod Claims
 pub mod Paths
+pub mod RunsFrom
+pub mod Growing

@@ -1,12 +1,13 @@
 //! Sets of points that lie in an arena.
 
-ghost use Rattle.std.specs.Prelude.{◌≡◌, ◌++◌, OnOk, IfOk};
+ghost use Rattle.std.specs.Prelude.{◌≡◌, ◌+◌, ◌<◌, ◌↔◌, ℕ, [], ◌∷◌, ◌++◌, length, OnOk, IfOk, IfNone, IfSome, IsTrue};
 ghost use Rattle.point_set.specs.Runs.{AreRuns, points_of, run_points};
+ghost use Rattle.region_tree.specs.RunsFrom.{AreRunsFrom};
 
 use crate::memory::Memory;
 use bumpalo::Bump;
 use bumpalo::collections::into_bump_slice;
-use point_set::{PointList, PointSet, points_of_runs_ascend};
+use point_set::{PointList, PointSet, RunSet, points_of_runs_ascend};
 
 /// A set of points that is made from runs, and lies in an arena as long as the arena is not reset.
 pub trait ArenaSet<'a>: PointSet + Copy {
@@ -36,6 +37,48 @@ impl<'a> ArenaSet<'a> for PointList<'a> {
         }
         points_of_runs_ascend();
         match PointList::over(into_bump_slice(points)) {
+            Some(set) => Ok(set),
+            None => unreachable!(),
+        }
+    }
+}
+
+/// Whether `next` follows `last` with no number between them.
+fn touches(last: u64, next: u64) -> bool
+    ensures { IsTrue result ↔ (next ≡ last + 1) }
+{
+    last.checked_add(1) == Some(next)
+}
+
+/// The first run, with those behind it that touch one another joined to it, and the runs behind these.
+fn cut_joined(runs: &[(u64, u64)]) -> Option<((u64, u64), &[(u64, u64)])>
+    requires { AreRunsFrom 0 runs.now }
+    ensures none { IfNone result (runs.now ≡ []) }
+    ensures points { IfSome result (λ cut. points_of runs.now ≡ run_points cut.0 ++ points_of cut.1.now) }
+    ensures order { IfSome result (λ cut. (low : ℕ) → AreRunsFrom low runs.now → AreRunsFrom low (cut.0 ∷ cut.1.now)) }
+    ensures shorter { IfSome result (λ cut. length cut.1.now < length runs.now) }
+{
+    let (first, mut rest) = runs.split_first()?;
+    let mut last = first.1;
+    while let Some((next, behind)) = rest.split_first()
+        && touches(last, next.0)
+    {
+        last = next.1;
+        rest = behind;
+    }
+    Some(((first.0, last), rest))
+}
+
+/// Joins runs that touch, so that each search among them counts once what a set has in a row.
+impl<'a> ArenaSet<'a> for RunSet<'a> {
+    fn place(bump: &'a Bump, runs: &[(u64, u64)]) -> Result<RunSet<'a>, Memory> {
+        let mut joined = Vec::new(bump);
+        let mut rest = runs;
+        while let Some((run, behind)) = cut_joined(rest) {
+            joined.push(run)?;
+            rest = behind;
+        }
+        match RunSet::over(into_bump_slice(joined)) {
             Some(set) => Ok(set),
             None => unreachable!(),
         }

@@ -1,19 +1,26 @@
-//! Points that subspaces of disjoint partitions claim.
+//! Runs of points that subspaces of disjoint partitions claim.
 
-ghost use Rattle.std.specs.Prelude.{◌≡◌, ◌+◌, ℕ, IfOk, IsTrue, Contains, MatchOption};
+ghost use Rattle.std.specs.Prelude.{◌≡◌, ◌+◌, false, ◌↔◌, length, Contains, IfOk, OnOk, IsTrue, MatchOption};
 ghost use Rattle.std.specs.Bool.{OnTrue, OnFalse};
-ghost use Rattle.std.specs.HashSet.{contains};
+ghost use Rattle.std.specs.List.Sorted.{IsPermutation};
 ghost use Rattle.point_set.specs.Least.{IsLeastFrom};
-ghost use Rattle.region_tree.specs.Faults.{MeetsEarlier};
-ghost use Rattle.region_tree.specs.Claims.{same_claim, AreClaims, AddsPoints, IsFree, ClaimsNothing, ClaimsAll};
+ghost use Rattle.region_tree.specs.Claims.{IsRunEnd, AddsRuns, ClaimsNothing, ClaimsAll, AreClaims, AreInOrder, AreOwn, Clash, AreApart, SomeOverlap, IsFirstMeeting};
 
 use crate::finder::Finder;
 use point_set::PointSet;
-use std::alloc::AllocError;
-use std::collections::HashSet;
+use std::alloc::{AllocError, Global};
+
+/// The points from `first` to `last` that the subspace at place `sub` claims for its partition.
+#[derive(Clone, Copy, Debug)]
+pub(crate) struct Claim {
+    pub part: u32,
+    pub first: u64,
+    pub last: u64,
+    pub sub: usize,
+}
 
 /// The least point behind this one.
-pub(crate) fn next_after<P: PointSet>(set: &P, point: u64) -> Option<u64>
+fn next_after<P: PointSet>(set: &P, point: u64) -> Option<u64>
     ensures { IsLeastFrom (P.points set.now) (point + 1) result }
 {
     match point.checked_add(1) {
@@ -22,24 +29,38 @@ pub(crate) fn next_after<P: PointSet>(set: &P, point: u64) -> Option<u64>
     }
 }
 
-/// Claims the points of a set for a partition, up to one that is claimed already. Whether there was none.
-fn claim<P: PointSet>(
-    claimed: &mut HashSet<(u32, u64)>,
+/// The last of the points that follow one another from this one on.
+fn run_end<P: PointSet>(set: &P, first: u64) -> u64
+    requires { Contains (P.points set.now) first }
+    ensures { IsRunEnd (P.points set.now) first result }
+{
+    match set.gap_from(first) {
+        Some(gap) => gap - 1,
+        None => u64::MAX,
+    }
+}
+
+/// Claims the runs of a set for a subspace.
+fn push_runs<P: PointSet>(
+    claims: &mut Vec<Claim>,
     part: u32,
+    sub: usize,
     set: &P,
-) -> Result<bool, AllocError>
-    ensures added { IfOk result (λ free. OnTrue free (AddsPoints (contains same_claim claimed.old) (contains same_claim claimed.new) part (Contains (P.points set.now)))) }
-    ensures free { IfOk result (λ free. OnTrue free (IsFree (contains same_claim claimed.old) part (Contains (P.points set.now)))) }
-    ensures taken { IfOk result (λ free. OnFalse free ((p : ℕ) × Contains (P.points set.now) p × IsTrue (contains same_claim claimed.old (part, p)))) }
+) -> Result<(), AllocError>
+    ensures { OnOk result (AddsRuns claims.old.items claims.new.items part sub (P.points set.now)) }
 {
     let mut next = set.first();
-    while let Some(point) = next {
-        if !claimed.insert((part, point))? {
-            return Ok(false);
-        }
-        next = next_after(set, point);
+    while let Some(first) = next {
+        let last = run_end(set, first);
+        claims.push(Claim {
+            part,
+            first,
+            last,
+            sub,
+        })?;
+        next = next_after(set, last);
     }
-    Ok(true)
+    Ok(())
 }
 
 /// What subspace `i` claims: the points of its set, for its partition, where that is disjoint.
@@ -54,19 +75,101 @@ fn claims_of<'t, P: PointSet>(finder: &Finder<'t, P>, i: usize) -> Option<(u32, 
     Some((sub.part, set))
 }
 
-/// Claims what subspace `i` claims, if it meets no earlier one. Whether it meets none.
-pub(crate) fn claim_sub<P: PointSet>(
+/// Adds what subspace `i` claims to what those before it claim.
+fn claim_sub<P: PointSet>(
     finder: &Finder<P>,
     i: usize,
-    claimed: &mut HashSet<(u32, u64)>,
-) -> Result<bool, AllocError>
-    requires { AreClaims finder.now i (contains same_claim claimed.old) }
-    ensures claims { IfOk result (λ free. OnTrue free (AreClaims finder.now (i + 1) (contains same_claim claimed.new))) }
-    ensures free { IfOk result (λ free. OnTrue free ((j : ℕ) → ¬ MeetsEarlier finder.now i j)) }
-    ensures met { IfOk result (λ free. OnFalse free ((j : ℕ) × MeetsEarlier finder.now i j)) }
+    claims: &mut Vec<Claim>,
+) -> Result<(), AllocError>
+    requires { AreClaims finder.now i claims.old.items }
+    ensures { OnOk result (AreClaims finder.now (i + 1) claims.new.items) }
 {
     match claims_of(finder, i) {
-        Some((part, set)) => claim(claimed, part, set),
-        None => Ok(true),
+        Some((part, set)) => push_runs(claims, part, i, set),
+        None => Ok(()),
     }
+}
+
+/// What all subspaces claim, one after the other.
+fn all_claims<P: PointSet>(alloc: Global, finder: &Finder<P>) -> Result<Vec<Claim>, AllocError>
+    ensures { IfOk result (λ v. AreClaims finder.now (length finder.now.subs) v.items) }
+{
+    let mut claims = Vec::new(alloc);
+    for i in 0..finder.subs().len() {
+        claim_sub(finder, i, &mut claims)?;
+    }
+    Ok(claims)
+}
+
+/// Puts claims in the order of their partitions, and of their first points.
+fn sort(claims: &mut Vec<Claim>)
+    ensures claims { IsPermutation claims.old.items claims.new.items }
+    ensures order { AreInOrder claims.new.items }
+{
+    claims.sort_unstable_by_key(|claim| (claim.part, claim.first));
+}
+
+/// Whether a claim clashes with the last one before it, if there is one.
+fn clashes(last: Option<Claim>, claim: &Claim) -> bool
+    ensures { MatchOption last (result ≡ false) (λ before. IsTrue result ↔ Clash before claim.now) }
+{
+    match last {
+        Some(before) => {
+            before.part == claim.part && claim.first <= before.last && claim.sub != before.sub
+        }
+        None => false,
+    }
+}
+
+/// Whether no two of the claims of the subspaces before `limit` overlap, by one pass.
+fn are_apart(claims: &[Claim], limit: usize) -> bool
+    requires order { AreInOrder claims.now }
+    requires own { AreOwn claims.now }
+    ensures apart { OnTrue result (AreApart claims.now limit) }
+    ensures overlap { OnFalse result (SomeOverlap claims.now limit) }
+{
+    let mut last: Option<Claim> = None;
+    for claim in claims {
+        if claim.sub < limit {
+            if clashes(last, claim) {
+                return false;
+            }
+            last = Some(*claim);
+        }
+    }
+    true
+}
+
+/// The first subspace with a claim that overlaps one of an earlier subspace, of those before `count`. Each step of a binary search is one pass.
+fn first_overlap(claims: &[Claim], count: usize) -> Option<usize>
+    requires order { AreInOrder claims.now }
+    requires own { AreOwn claims.now }
+    ensures { MatchOption result (AreApart claims.now count) (λ i. AreApart claims.now i × SomeOverlap claims.now (i + 1)) }
+{
+    if are_apart(claims, count) {
+        return None;
+    }
+    let mut low = 0;
+    let mut high = count;
+    while high - low > 1 {
+        let middle = low + (high - low) / 2;
+        if are_apart(claims, middle) {
+            low = middle;
+        } else {
+            high = middle;
+        }
+    }
+    Some(low)
+}
+
+/// The first subspace that meets an earlier one of its disjoint partition. It sorts the runs of all such subspaces, and goes over them once where none meets another.
+pub(crate) fn first_meeting<P: PointSet>(
+    alloc: Global,
+    finder: &Finder<P>,
+) -> Result<Option<usize>, AllocError>
+    ensures { IfOk result (IsFirstMeeting finder.now) }
+{
+    let mut claims = all_claims(alloc, finder)?;
+    sort(&mut claims);
+    Ok(first_overlap(claims.as_slice(), finder.subs().len()))
 }

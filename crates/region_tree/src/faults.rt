@@ -1,31 +1,15 @@
 //! Subspaces that are not within the space that is cut, or not disjoint.
 
-ghost use Rattle.std.specs.Prelude.{◌≡◌, ℕ, ◌+◌, ◌<◌, MatchOption, Some, None, Err, OnOk};
-ghost use Rattle.std.specs.HashSet.{contains};
-ghost use Rattle.point_set.specs.Least.{IsLeast, IsLeastOutside};
-ghost use Rattle.region_tree.specs.Claims.{same_claim, AreClaims};
+ghost use Rattle.std.specs.Prelude.{◌≡◌, ℕ, ◌<◌, ◌↔◌, MatchOption, Some, None, Err, OnOk, IsTrue};
+ghost use Rattle.point_set.specs.Least.{IsLeast};
+ghost use Rattle.region_tree.specs.Claims.{MeetsSome};
 ghost use Rattle.region_tree.specs.Faults.{IsOutside, Meets, MeetsEarlier, IsFaulty, FirstNotWithin, FirstNotDisjoint};
 
-use crate::claims::{claim_sub, next_after};
+use crate::claims::first_meeting;
 use crate::finder::Finder;
 use crate::place_fault::PlaceFault;
 use point_set::PointSet;
 use std::alloc::Global;
-use std::collections::HashSet;
-
-/// The least point of `ours` that `whole` has not. It asks `whole` for each point, since many small sets may lie in a large one.
-fn first_outside<P: PointSet>(ours: &P, whole: &P) -> Option<u64>
-    ensures { IsLeastOutside (P.points ours.now) (P.points whole.now) result }
-{
-    let mut next = ours.first();
-    while let Some(point) = next {
-        if !whole.has(point) {
-            return Some(point);
-        }
-        next = next_after(ours, point);
-    }
-    None
-}
 
 /// The least point of subspace `i` that the space which its partition cuts has not.
 fn outside<P: PointSet>(finder: &Finder<P>, i: usize) -> Option<u64>
@@ -34,7 +18,7 @@ fn outside<P: PointSet>(finder: &Finder<P>, i: usize) -> Option<u64>
     let sub = finder.sub_at(i)?;
     let ours = finder.set(sub.space)?;
     match finder.whole_set(sub.part) {
-        Some(whole) => first_outside(ours, whole),
+        Some(whole) => ours.outside(whole),
         None => ours.first(),
     }
 }
@@ -65,14 +49,9 @@ fn first_met<P: PointSet>(finder: &Finder<P>, i: usize) -> Option<(usize, u64)>
     None
 }
 
-/// Refuses subspace `i` if it is faulty, and else claims its points.
-fn judge_sub<P: PointSet>(
-    finder: &Finder<P>,
-    i: usize,
-    claimed: &mut HashSet<(u32, u64)>,
-) -> Result<(), PlaceFault>
-    requires { AreClaims finder.now i (contains same_claim claimed.old) }
-    ensures claims { OnOk result (AreClaims finder.now (i + 1) (contains same_claim claimed.new)) }
+/// Refuses subspace `i` if it is faulty, where `meets` says whether it meets an earlier one.
+fn judge_sub<P: PointSet>(finder: &Finder<P>, i: usize, meets: bool) -> Result<(), PlaceFault>
+    requires { IsTrue meets ↔ MeetsSome finder.now i }
     ensures ok { OnOk result (¬ IsFaulty finder.now i) }
     ensures not_within { (sub point : ℕ) → result ≡ Err (PlaceFault.NotWithin sub point) → (sub ≡ i) × IsLeast (IsOutside finder.now i) (Some point) }
     ensures not_disjoint { (sub other point : ℕ) → result ≡ Err (PlaceFault.NotDisjoint sub other point) → (sub ≡ i) × IsLeast (IsOutside finder.now i) None × IsLeast (MeetsEarlier finder.now i) (Some other) × IsLeast (Meets finder.now i other) (Some point) }
@@ -80,7 +59,7 @@ fn judge_sub<P: PointSet>(
     if let Some(point) = outside(finder, i) {
         return Err(PlaceFault::NotWithin { sub: i, point });
     }
-    if claim_sub(finder, i, claimed)? {
+    if !meets {
         return Ok(());
     }
     match first_met(finder, i) {
@@ -99,9 +78,9 @@ pub(crate) fn judge<P: PointSet>(alloc: Global, finder: &Finder<P>) -> Result<()
     ensures not_within { (sub point : ℕ) → result ≡ Err (PlaceFault.NotWithin sub point) → FirstNotWithin finder.now sub point }
     ensures not_disjoint { (sub other point : ℕ) → result ≡ Err (PlaceFault.NotDisjoint sub other point) → FirstNotDisjoint finder.now sub other point }
 {
-    let mut claimed = HashSet::new(alloc);
+    let meeting = first_meeting(alloc, finder)?;
     for i in 0..finder.subs().len() {
-        judge_sub(finder, i, &mut claimed)?;
+        judge_sub(finder, i, meeting == Some(i))?;
     }
     Ok(())
 }

@@ -1,43 +1,48 @@
 use super::*;
 use bumpalo::Bump;
-use point_set::{PointList, PointSet};
+use point_set::{PointList, RunSet};
 use std::alloc::Global;
 use std::process::Abort;
 use std::test::Fail;
 
-/// A space with these points.
-fn space<'a>(bump: &'a Bump, id: u32, points: &[u64]) -> Result<SpaceDecl<PointList<'a>>, Fail> {
-    let points = bump.try_alloc_slice_copy(points)?;
-    let set = PointList::over(points).ok_or("points that do not ascend")?;
+/// A space with the points of these runs.
+fn space<'a, P: ArenaSet<'a>>(
+    bump: &'a Bump,
+    id: u32,
+    runs: &[(u64, u64)],
+) -> Result<SpaceDecl<P>, Fail> {
+    if RunSet::over(runs).is_none() {
+        return Err(Fail::from("runs that are not in order"));
+    }
+    let set = P::place(bump, runs)?;
     Ok(SpaceDecl { id, set })
 }
 
 /// Spaces 1, 2 and so on, with these points.
-fn spaces<'a>(
+fn spaces<'a, P: ArenaSet<'a>>(
     alloc: Global,
     bump: &'a Bump,
-    sets: &[&[u64]],
-) -> Result<Vec<SpaceDecl<PointList<'a>>>, Fail> {
+    sets: &[&[(u64, u64)]],
+) -> Result<Vec<SpaceDecl<P>>, Fail> {
     let mut spaces = Vec::new(alloc);
     let mut id = 0u32;
-    for points in sets {
+    for runs in sets {
         id = id.saturating_add(1);
-        spaces.push(space(bump, id, points)?)?;
+        spaces.push(space(bump, id, runs)?)?;
     }
     Ok(spaces)
 }
 
 /// Space 1 of ten points, cut by a disjoint partition into 2 and 3, and by another into 4 and 5.
-fn two_partitions<'a>(
+fn two_partitions<'a, P: ArenaSet<'a>>(
     alloc: Global,
     bump: &'a Bump,
-    fourth: &[u64],
-) -> Result<Decls<PointList<'a>>, Fail> {
-    let whole = [0, 1, 2, 3, 4, 5, 6, 7, 8, 9];
+    fourth: &[(u64, u64)],
+) -> Result<Decls<P>, Fail> {
     let spaces = spaces(
         alloc,
         bump,
-        &[&whole, &whole[..5], &whole[5..], fourth, &whole[..4]],
+        &[&[(0, 9)], &[(0, 4)], &[(5, 9)], fourth, &[(0, 3)]],
     )?;
     let parts = [
         PartDecl {
@@ -77,9 +82,8 @@ fn two_partitions<'a>(
 }
 
 /// Space 1 cut into two parts that share point 5, though they are declared disjoint.
-fn shared_point<'a>(alloc: Global, bump: &'a Bump) -> Result<Decls<PointList<'a>>, Fail> {
-    let whole = [0, 1, 2, 3, 4, 5, 6, 7, 8, 9];
-    let spaces = spaces(alloc, bump, &[&whole, &whole[..6], &whole[5..]])?;
+fn shared_point<'a, P: ArenaSet<'a>>(alloc: Global, bump: &'a Bump) -> Result<Decls<P>, Fail> {
+    let spaces = spaces(alloc, bump, &[&[(0, 9)], &[(0, 5)], &[(5, 9)]])?;
     let parts = [PartDecl {
         id: 1,
         space: 1,
@@ -101,14 +105,14 @@ fn shared_point<'a>(alloc: Global, bump: &'a Bump) -> Result<Decls<PointList<'a>
 }
 
 /// A row of spaces, each the only subspace of the one before, so that the last is `depth` steps deep.
-fn chain<'a>(alloc: Global, bump: &'a Bump, depth: u32) -> Result<Decls<PointList<'a>>, Fail> {
+fn chain<'a, P: ArenaSet<'a>>(alloc: Global, bump: &'a Bump, depth: u32) -> Result<Decls<P>, Fail> {
     let mut spaces = Vec::new(alloc);
     let mut parts = Vec::new(alloc);
     let mut subs = Vec::new(alloc);
-    spaces.push(space(bump, 0, &[7])?)?;
+    spaces.push(space(bump, 0, &[(7, 7)])?)?;
     for level in 0..depth {
         let below = level.saturating_add(1);
-        spaces.push(space(bump, below, &[7])?)?;
+        spaces.push(space(bump, below, &[(7, 7)])?)?;
         parts.push(PartDecl {
             id: level,
             space: level,
@@ -124,9 +128,9 @@ fn chain<'a>(alloc: Global, bump: &'a Bump, depth: u32) -> Result<Decls<PointLis
 }
 
 /// What `alias` says of two spaces.
-fn alias_of<'a>(
+fn alias_of<'a, P: ArenaSet<'a>>(
     alloc: Global,
-    forest: &Forest<'a, PointList<'a>>,
+    forest: &Forest<'a, P>,
     a: u32,
     b: u32,
 ) -> Result<Option<u64>, Fail> {
@@ -136,10 +140,10 @@ fn alias_of<'a>(
 }
 
 /// Asks for the steps to a space.
-fn ask_path<'a>(
+fn ask_path<'a, P: ArenaSet<'a>>(
     rt: &impl Abort,
     alloc: Global,
-    forest: &Forest<'a, PointList<'a>>,
+    forest: &Forest<'a, P>,
     space: u32,
     steps: &[Step],
 ) -> Result<(), Fail> {
@@ -150,10 +154,10 @@ fn ask_path<'a>(
 }
 
 /// Asks for the points that pairs of spaces share.
-fn ask_shared<'a>(
+fn ask_shared<'a, P: ArenaSet<'a>>(
     rt: &impl Abort,
     alloc: Global,
-    forest: &Forest<'a, PointList<'a>>,
+    forest: &Forest<'a, P>,
 ) -> Result<(), Fail> {
     for (a, b, shared) in [
         (3, 4, Some(7)),
@@ -168,7 +172,7 @@ fn ask_shared<'a>(
 }
 
 /// Asks which spaces lie below which.
-fn ask_under<'a>(rt: &impl Abort, forest: &Forest<'a, PointList<'a>>) {
+fn ask_under<'a, P: ArenaSet<'a>>(rt: &impl Abort, forest: &Forest<'a, P>) {
     for (space, root, is_under) in [
         (3, 1, true),
         (3, 3, true),
@@ -180,34 +184,35 @@ fn ask_under<'a>(rt: &impl Abort, forest: &Forest<'a, PointList<'a>>) {
     }
 }
 
-#[test]
-fn forest_answers(rt: HostRuntime) -> Result<(), Fail> {
-    let arena = Bump::new(rt.alloc());
-    let decls = two_partitions(rt.alloc(), &arena, &[7])?;
-    assert!(rt; tied(&decls));
-    let forest = Forest::place(rt.alloc(), &arena, &decls)
-        .ok()
-        .ok_or("refused")?;
-    ask_shared(&rt, rt.alloc(), &forest)?;
-    ask_under(&rt, &forest);
-    ask_path(&rt, rt.alloc(), &forest, 1, &[])?;
-    ask_path(&rt, rt.alloc(), &forest, 4, &[Step { part: 2, colour: 0 }])?;
-    assert!(rt; forest.path_of(rt.alloc(), 6)?.is_none());
+/// Asks a placed forest all that it tells.
+fn ask_forest<'a, P: ArenaSet<'a>>(
+    rt: &impl Abort,
+    alloc: Global,
+    forest: &Forest<'a, P>,
+) -> Result<(), Fail> {
+    ask_shared(rt, alloc, forest)?;
+    ask_under(rt, forest);
+    ask_path(rt, alloc, forest, 1, &[])?;
+    ask_path(rt, alloc, forest, 4, &[Step { part: 2, colour: 0 }])?;
+    assert!(rt; forest.path_of(alloc, 6)?.is_none());
     assert_eq!(rt; forest.set_of(5).ok_or("no such space")?.count(), 4);
     assert!(rt; forest.set_of(6).is_none());
     Ok(())
 }
 
-#[test]
-fn least_faults(rt: HostRuntime) -> Result<(), Fail> {
-    let bump = Bump::new(rt.alloc());
-    let decls = two_partitions(rt.alloc(), &bump, &[7, 10])?;
+/// Asks why declarations are refused.
+fn ask_faults<'a, P: ArenaSet<'a> + 'a>(
+    rt: &impl Abort,
+    alloc: Global,
+    bump: &'a Bump,
+) -> Result<(), Fail> {
+    let decls = two_partitions::<P>(alloc, bump, &[(7, 7), (10, 10)])?;
     assert!(rt; tied(&decls));
-    let refused = Forest::place(rt.alloc(), &bump, &decls).err();
+    let refused = Forest::place(alloc, bump, &decls).err();
     assert!(rt; refused == Some(PlaceFault::NotWithin { sub: 2, point: 10 }));
-    let decls = shared_point(rt.alloc(), &bump)?;
+    let decls = shared_point::<P>(alloc, bump)?;
     assert!(rt; tied(&decls));
-    let refused = Forest::place(rt.alloc(), &bump, &decls).err();
+    let refused = Forest::place(alloc, bump, &decls).err();
     assert!(rt;
         refused
             == Some(PlaceFault::NotDisjoint {
@@ -220,24 +225,56 @@ fn least_faults(rt: HostRuntime) -> Result<(), Fail> {
 }
 
 #[test]
+fn forest_answers(rt: HostRuntime) -> Result<(), Fail> {
+    let arena = Bump::new(rt.alloc());
+    let decls = two_partitions::<PointList>(rt.alloc(), &arena, &[(7, 7)])?;
+    assert!(rt; tied(&decls));
+    let of_lists = Forest::place(rt.alloc(), &arena, &decls)
+        .ok()
+        .ok_or("refused")?;
+    ask_forest(&rt, rt.alloc(), &of_lists)?;
+    let decls = two_partitions::<RunSet>(rt.alloc(), &arena, &[(7, 7)])?;
+    assert!(rt; tied(&decls));
+    let of_runs = Forest::place(rt.alloc(), &arena, &decls)
+        .ok()
+        .ok_or("refused")?;
+    ask_forest(&rt, rt.alloc(), &of_runs)
+}
+
+#[test]
+fn least_faults(rt: HostRuntime) -> Result<(), Fail> {
+    let bump = Bump::new(rt.alloc());
+    ask_faults::<PointList>(&rt, rt.alloc(), &bump)?;
+    ask_faults::<RunSet>(&rt, rt.alloc(), &bump)
+}
+
+#[test]
 fn depth_limit(rt: HostRuntime) -> Result<(), Fail> {
     let bump = Bump::new(rt.alloc());
-    let deep = chain(rt.alloc(), &bump, 64)?;
+    let deep = chain::<RunSet>(rt.alloc(), &bump, 64)?;
     assert!(rt; tied(&deep));
     let forest = Forest::place(rt.alloc(), &bump, &deep)
         .ok()
         .ok_or("refused")?;
     let path = forest.path_of(rt.alloc(), 64)?.ok_or("no such space")?;
     assert_eq!(rt; path.steps().len(), 64);
-    assert!(rt; !tied(&chain(rt.alloc(), &bump, 65)?));
+    assert!(rt; !tied(&chain::<RunSet>(rt.alloc(), &bump, 65)?));
+    Ok(())
+}
+
+/// Asks what a set made of runs says, two of which touch.
+fn ask_placed<'a, P: ArenaSet<'a>>(rt: &impl Abort, bump: &'a Bump) -> Result<(), Fail> {
+    let set = space::<P>(bump, 0, &[(3, 4), (5, 5), (7, 7)])?.set;
+    assert_eq!(rt; set.count(), 4);
+    assert!(rt; set.has(5) && set.has(7) && !set.has(6));
+    assert_eq!(rt; set.run_count(), 2);
+    assert_eq!(rt; set.run(0), Some((3, 5)));
     Ok(())
 }
 
 #[test]
 fn placed_runs(rt: HostRuntime) -> Result<(), Fail> {
     let bump = Bump::new(rt.alloc());
-    let set = PointList::place(&bump, &[(3, 5), (7, 7)])?;
-    assert_eq!(rt; set.count(), 4);
-    assert!(rt; set.has(5) && set.has(7) && !set.has(6));
-    Ok(())
+    ask_placed::<PointList>(&rt, &bump)?;
+    ask_placed::<RunSet>(&rt, &bump)
 }

@@ -5,8 +5,8 @@ use Rattle.region_tree.proofs.faults.outside.Goals as goal
 
 pub returns-in-Some : goal.returns-in-Some
 returns-in-Some g c =
-    outside_from c.args.finder.now c.args.i c.in_ok-sub.sub c.first_outside.result (sym c.in_ok-sub.ensures)
-    (rw (c.in_ok-ours.ensures.points, c.in-Some.ensures) c.first_outside.ensures)
+    outside_from c.args.finder.now c.args.i c.in_ok-sub.sub c.outside.result (sym c.in_ok-sub.ensures)
+    (rw (c.in_ok-ours.ensures.points, c.in-Some.ensures) c.outside.ensures)
 
 pub returns-in-None : goal.returns-in-None
 returns-in-None g c =
