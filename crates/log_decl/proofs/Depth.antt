@@ -17,7 +17,7 @@ use Rattle.semantics.specs.declared.tables.Sub as subs
 use Rattle.semantics.specs.Points.{part_at, space_above, upward, spaces_above}
 use Rattle.semantics.specs.Rules.{is_too_deep}
 use Rattle.log_decl.specs.Decls.{decls_of, part_decl, sub_decl}
-use Rattle.log_decl.specs.Growing.{IsGrown}
+use Rattle.region_tree.specs.Growing.{IsGrown}
 
 pub eq_turned : (a b : ℕ) → (a == b) ≡ (b == a)
 eq_turned a b = grind (arith, nat_tests)

@@ -31,7 +31,7 @@ or_none None = refl
 or_none (Some x) = refl
 
 -- The first broken rule of two lists.
-broken-append : (xs ys : List (Code × Bool)) → first_broken (xs ++ ys) ≡ option_or (first_broken xs) (first_broken ys)
+pub broken-append : (xs ys : List (Code × Bool)) → first_broken (xs ++ ys) ≡ option_or (first_broken xs) (first_broken ys)
 broken-append xs ys =
     ap (option_map (λ (p : Code × Bool). p.0)) (find-append (λ (p : Code × Bool). p.1) xs ys)
     ∙ or_map (λ (p : Code × Bool). p.0) (find (λ (p : Code × Bool). p.1) xs) (find (λ (p : Code × Bool). p.1) ys)

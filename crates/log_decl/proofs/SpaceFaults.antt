@@ -16,7 +16,7 @@ use Rattle.semantics.specs.Tables.{Tables, with_record, tables_of}
 use Rattle.semantics.specs.Faults.{at_line}
 use Rattle.semantics.specs.Rules as rules
 use Rattle.log_decl.specs.Decls.{decls_of, sub_decl}
-use Rattle.log_decl.specs.Growing.{IsGrown}
+use Rattle.region_tree.specs.Growing.{IsGrown}
 use Rattle.log_decl.specs.SubLines.{sub_line, sub_lines}
 use Rattle.log_decl.specs.Walk.{other_broken, space_broken, spaces_fault, Keep}
 use Rattle.log_decl.proofs.Growing.{extends_tables, tables_by}

@@ -21,11 +21,11 @@ use Rattle.semantics.specs.Tables.{Tables, Space, with_record, tables_of}
 use Rattle.semantics.specs.Faults.{first_broken}
 use Rattle.semantics.specs.Rules as rules
 use Rattle.log_decl.specs.Decls.{decls_of, space_decl, part_decl, sub_decl}
-use Rattle.log_decl.specs.Growing.{IsGrown, MaySub, with_space, with_part, with_sub}
+use Rattle.region_tree.specs.Growing.{IsGrown, MaySub, with_space, with_part, with_sub}
 use Rattle.log_decl.specs.Walk.{other_broken, tried_before}
 use Rattle.log_decl.proofs.Depth.{depth_told}
 use Rattle.log_decl.proofs.FirstFault.{none_at, or_left}
-use Rattle.log_decl.proofs.Growth.{grown_space, grown_part, grown_sub}
+use Rattle.region_tree.proofs.Growth.{grown_space, grown_part, grown_sub}
 use Rattle.log_decl.proofs.SubFaults.{found_any, space_is, part_is}
 
 -- Facts from tests.

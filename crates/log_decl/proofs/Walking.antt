@@ -1,8 +1,9 @@
 -- The walk, record by record.
-use Rattle.std.proofs.Common.{◌≡◌, ℕ, zero, suc, ◌+◌, ◌<◌, ◌≤◌, List, [], ◌∷◌, ◌++◌, map, length, get_or, take, slice_get, Option, Some, None, subst, refl, sym, ap, ◌∙◌, append_assoc, arith}
+use Rattle.std.proofs.Common.{◌≡◌, ℕ, zero, suc, ◌+◌, ◌<◌, ◌≤◌, List, [], ◌∷◌, ◌++◌, map, length, get_or, take, slice_get, Bool, true, false, is_some, Option, Some, None, subst, refl, sym, ap, ◌∙◌, append_assoc, arith}
 use Rattle.std.specs.Option.{option_or}
+use Rattle.std.proofs.lemmas.Bool.{false≢true}
 use Rattle.std.proofs.lemmas.Option.{slice_get-get_or}
-use Rattle.std.proofs.lemmas.List.{take_more, map-append}
+use Rattle.std.proofs.lemmas.List.{take_more, map-append, length-map, length-take}
 use Rattle.std.proofs.lemmas.List.Sums.{fold-append}
 use Rattle.spy_grammar.specs.declared.code.Code.{Code}
 use Rattle.spy_grammar.specs.declared.code.Code.TheVariants as codes
@@ -13,7 +14,8 @@ use Rattle.semantics.specs.Tables.{Tables, tables_of, with_record, no_tables}
 use Rattle.semantics.specs.Faults.{first_broken}
 use Rattle.semantics.specs.Rules as rules
 use Rattle.log_rules.specs.Counts.{access_total}
-use Rattle.log_rules.specs.Tallied.{MayCount}
+use Rattle.log_rules.specs.declared.tally.Tally.{Tally}
+use Rattle.log_rules.specs.Tallied.{IsTally, MayCount}
 use Rattle.log_decl.specs.Walk.{tried_before, tried_of_uses, tried_of_insts, tried_of_runs, tried_of_limits, tried_after, broken_of, other_broken, Keep, StandsAt}
 use Rattle.log_decl.proofs.FirstFault.{broken-append, none_at, or_left, or_right}
 
@@ -84,3 +86,21 @@ stands log k i t code l at tables keep within lt is e =
       within = within;
       here = (l, slice_get-get_or log i l lt ∙ ap (λ (x : Lined). Some x) (sym is), subst (λ (u : Tables). broken_of (records_of log) (records_of (take i log)) u l.rec ≡ Some code) tables e);
     })
+
+pub counted : (log : List Lined) (k i : ℕ) → k ≡ i → i ≤ length log → k ≡ length (records_of (take i log))
+counted log k i at le = at ∙ sym (length-map (take i log) (λ (x : Lined). x.rec) ∙ length_take i log le)
+  where
+    length_take : (i : ℕ) (xs : List Lined) → i ≤ length xs → length (take i xs) ≡ i
+    length_take i xs le = omega (arith, length-take i xs)
+
+pub stands_where : (log : List Lined) (k i : ℕ) (t : Tables) (o : Option Code) (l : Lined) → k ≡ i → t ≡ tables_of (take i log) → Keep (records_of log) [] (take i log) → access_total t (records_of (take i log)) ≤ 4194304
+    → i < length log → l ≡ get_or log i l → is_some o ≡ true → o ≡ broken_of (records_of log) (records_of (take i log)) t l.rec → StandsAt log k t o
+stands_where log k i t None l at tables keep within lt is some e = absurd (false≢true some)
+stands_where log k i t (Some code) l at tables keep within lt is some e = stands log k i t code l at tables keep within lt is (sym e)
+
+pub none_where : (o : Option Code) → is_some o ≡ false → o ≡ None
+none_where None e = refl
+none_where (Some code) e = absurd (false≢true (sym e))
+
+pub tally_more : (es rs : List Record) (u v : Tables) (tally : Tally) → IsTally es u tally → es ≡ rs → v ≡ u → IsTally rs v tally
+tally_more es rs u v tally is same here = subst (λ (w : Tables). IsTally rs w tally) (sym here) (subst (λ (xs : List Record). IsTally xs u tally) same is)

@@ -1,4 +1,3 @@
 pub mod Decls
-pub mod Growing
 pub mod SubLines
 pub mod Walk

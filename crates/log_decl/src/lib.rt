@@ -2,6 +2,5 @@
 #![tactic(auto)]
 
 mod frame;
-mod laws;
+mod walk;
 
-pub use laws::declarations_grow;

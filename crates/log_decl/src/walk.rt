@@ -11,7 +11,7 @@ ghost use Rattle.log_decl.specs.Walk.{tried_before, tried_of_uses, tried_of_inst
 
 use bumpalo::Bump;
 use log_rules::{
-    Tally, WholeLog, has_many_accesses, has_many_cells, has_many_points, has_no_run, has_wrong_fields,
+    Tally, WholeLog, has_many_accesses, has_many_cells, has_many_points, has_much_load, has_no_run, has_wrong_fields,
     interferes_with_own, is_bad_serial, is_late, is_late_sub, is_mapped_again, is_no_root, is_not_covered,
     is_not_in_tree, is_of_wrong_kind, is_of_wrong_tree, is_run_again, is_sub_again, is_too_deep, names_unknown,
     repeats_event, repeats_id, waits_for_none,
@@ -120,7 +120,7 @@ fn broken_limit<P: PointSet>(alloc: Global, draft: &Draft<P>, tally: &Tally, rec
         Ok(Some(Code::TooManyCells))
     } else if has_many_accesses(draft, tally, rec) {
         Ok(Some(Code::TooManyAccesses))
-    } else if { let _a = alloc; false } {
+    } else if has_much_load(alloc, draft, rec)? {
         Ok(Some(Code::TooMuchLoad))
     } else {
         Ok(None)
