@@ -10,8 +10,10 @@ ghost use Rattle.semantics.specs.Reads.{req_at};
 ghost use Rattle.std.specs.Prelude.{IfSome, find};
 ghost use Rattle.std.specs.List.Sorted.{IsStrictlyIncreasing};
 ghost use Rattle.log_tables.specs.Mapped.{inst_mapped};
+ghost use Rattle.log_tables.specs.Views.{space_seen};
 
 use crate::draft::Draft;
+use crate::entries::Space;
 use crate::maps::FieldKey;
 use crate::rows::Rows;
 use point_set::PointSet;
@@ -103,6 +105,20 @@ impl<P: PointSet> Draft<P> {
             number,
             field,
         })
+    }
+
+    /// The spaces, in the order of their lines.
+    pub fn spaces(&self) -> &[Space<P>]
+        ensures { map (space_seen P.points) result.now ≡ self.now.spaces }
+    {
+        self.spaces.as_slice()
+    }
+
+    /// The partitions, in the order of their lines.
+    pub fn parts(&self) -> &[Part]
+        ensures { result.now ≡ self.now.parts }
+    {
+        self.parts.rows().as_slice()
     }
 
     /// The subspaces, in the order of their lines.
