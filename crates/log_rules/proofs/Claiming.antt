@@ -15,7 +15,7 @@ use Rattle.log_rules.specs.declared.claims.OwnPlace.{OwnPlace}
 use Rattle.log_rules.specs.declared.claims.Claims.{Claims}
 use Rattle.log_rules.specs.Own.{AreClaims, clashes, claims_at, clashes_at, clashes_row, same_place}
 use Rattle.log_rules.proofs.Members.{meets-turned}
-use Rattle.log_rules.proofs.Tests.{list_any-alike, list_any-false, list_any-and, list_any-list_any}
+use Rattle.log_rules.proofs.ListTests.{list_any-alike, list_any-false, list_any-and, list_any-list_any}
 
 -- Places that are one.
 pub and_left : (a b : Bool) → (a && b) ≡ true → a ≡ true

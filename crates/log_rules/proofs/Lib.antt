@@ -3,10 +3,10 @@ pub mod Claiming
 pub mod Climbs
 pub mod Growing
 pub mod Limits
+pub mod ListTests
 pub mod Listings
 pub mod Loading
 pub mod Mappings
 pub mod Members
 pub mod Noding
 pub mod Repeats
-pub mod Tests

@@ -10,7 +10,7 @@ use Rattle.semantics.specs.SerialOrder.{listed}
 use Rattle.semantics.specs.Rules.{has_repeat, items_declared, is_bad_serial}
 use Rattle.log_rules.specs.Gathered.{list_count}
 use Rattle.log_rules.specs.Listing.{IsSetOf, lists_badly}
-use Rattle.log_rules.proofs.Tests.{list_any-alike, list_all-alike}
+use Rattle.log_rules.proofs.ListTests.{list_any-alike, list_all-alike}
 
 pub lists_badly-is : (log : List Record) (t : Tables) (set : ℕ → Bool) (ids : List ℕ) → IsSetOf (listed t) set → lists_badly log (length t.serials) set ids ≡ is_bad_serial log t (Serial ids)
 lists_badly-is log t set ids is =

@@ -13,7 +13,7 @@ use Rattle.std.proofs.lemmas.List.Folds.{list_any_at, list_any_none, Any-from_li
 use Rattle.std.proofs.lemmas.Option.{slice_get-get_or, get_or_from_slice_get}
 use Rattle.point_set.specs.Least.{IsLeastOf}
 use Rattle.semantics.specs.Points.{is_in, is_within, meets}
-use Rattle.log_rules.proofs.Tests.{list_any-alike, list_any-list_any}
+use Rattle.log_rules.proofs.ListTests.{list_any-alike, list_any-list_any}
 
 rises : (xs : List ℕ) → IsStrictlyIncreasing xs → (i j : ℕ) → i ≤ j → j < length xs → get_or xs i 0 ≤ get_or xs j 0
 rises xs up i j le lt =

@@ -1,7 +1,7 @@
 use Rattle.std.proofs.Common.{◌∙◌, ap, is_some}
 use Rattle.semantics.specs.declared.tables.Map.{Map}
 use Rattle.log_tables.specs.Mapped.{names_field}
-use Rattle.log_rules.proofs.Tests.{is_some-find}
+use Rattle.log_rules.proofs.ListTests.{is_some-find}
 use Rattle.log_rules.proofs.instances.is_mapped.Goals as goal
 
 pub returns : goal.returns

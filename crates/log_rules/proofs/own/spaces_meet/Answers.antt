@@ -1,6 +1,6 @@
 use Rattle.std.proofs.Common.{◌∙◌, ap, sym, ℕ, List}
 use Rattle.semantics.specs.Points.{meets, points_in}
-use Rattle.log_rules.proofs.Tests.{list_any-false}
+use Rattle.log_rules.proofs.ListTests.{list_any-false}
 use Rattle.log_rules.proofs.own.spaces_meet.Goals as goal
 
 pub returns-in-None : goal.returns-in-None
