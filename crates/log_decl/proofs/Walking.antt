@@ -29,12 +29,12 @@ first_of_all log es t r o1 o2 o3 o4 o5 e1 e2 e3 e4 e5 =
     let insts = tried_of_insts t r in
     let uses = tried_of_uses t r in
     rw (e1, e2, e3, e4, e5) (
-      ap (option_or (first_broken (tried_before es t r))) (
-        sym (
-          broken-append uses (insts ++ (runs ++ limits))
-          ∙ ap (option_or (first_broken uses)) (broken-append insts (runs ++ limits) ∙ ap (option_or (first_broken insts)) (broken-append runs limits))
-        )
-      )
+    ap (option_or (first_broken (tried_before es t r))) (
+    sym (
+    broken-append uses (insts ++ (runs ++ limits))
+    ∙ ap (option_or (first_broken uses)) (broken-append insts (runs ++ limits) ∙ ap (option_or (first_broken insts)) (broken-append runs limits))
+    )
+    )
     )
 
 -- A record that breaks none of them may be counted.
@@ -48,7 +48,7 @@ may_count log es t r e =
       known = none_at before 2 (codes.UnknownId, rules.names_unknown t r) first refl;
       points = none_at before 3 (codes.TooManyPoints, rules.has_many_points t r) first refl;
       cells = none_at after 13 (codes.TooManyCells, rules.has_many_cells t r) rest refl;
-      accesses = none_at after 14 (codes.TooManyAccesses, rules.has_many_accesses es t r) rest refl
+      accesses = none_at after 14 (codes.TooManyAccesses, rules.has_many_accesses es t r) rest refl;
     }
 
 -- One record more.

@@ -11,10 +11,7 @@ use std::alloc::AllocError;
 #[derive(Clone, Copy, Debug, PartialEq, Eq)]
 pub enum DeclEnd {
     /// The rule with this code is broken, and this line is shown with it.
-    Fault {
-        line: u32,
-        code: Code,
-    },
+    Fault { line: u32, code: Code },
     /// Memory ran out.
     Memory,
 }

@@ -19,7 +19,10 @@ use spy_grammar::{Code, Lined, Record};
 use std::alloc::{AllocError, Global};
 
 /// The declared spaces, for the forest.
-fn space_decls<P: PointSet + Copy>(alloc: Global, draft: &Draft<P>) -> Result<Vec<SpaceDecl<P>>, AllocError>
+fn space_decls<P: PointSet + Copy>(
+    alloc: Global,
+    draft: &Draft<P>,
+) -> Result<Vec<SpaceDecl<P>>, AllocError>
     ensures { IfOk result (λ spaces. map (seen P.points) spaces.items ≡ map space_decl draft.now.spaces) }
 {
     let mut spaces = Vec::new(alloc);

@@ -11,10 +11,10 @@ ghost use Rattle.log_decl.specs.Walk.{tried_before, tried_of_uses, tried_of_inst
 
 use bumpalo::Bump;
 use log_rules::{
-    Tally, WholeLog, has_many_accesses, has_many_cells, has_many_points, has_much_load, has_no_run, has_wrong_fields,
-    interferes_with_own, is_bad_serial, is_late, is_late_sub, is_mapped_again, is_no_root, is_not_covered,
-    is_not_in_tree, is_of_wrong_kind, is_of_wrong_tree, is_run_again, is_sub_again, is_too_deep, names_unknown,
-    repeats_event, repeats_id, waits_for_none,
+    Tally, WholeLog, has_many_accesses, has_many_cells, has_many_points, has_much_load, has_no_run,
+    has_wrong_fields, interferes_with_own, is_bad_serial, is_late, is_late_sub, is_mapped_again,
+    is_no_root, is_not_covered, is_not_in_tree, is_of_wrong_kind, is_of_wrong_tree, is_run_again,
+    is_sub_again, is_too_deep, names_unknown, repeats_event, repeats_id, waits_for_none,
 };
 use log_tables::Draft;
 use point_set::PointSet;
@@ -30,7 +30,12 @@ pub(crate) struct Walked {
 }
 
 /// The first rule on the number of records, on names and on spaces that a record breaks.
-fn broken_name<P: PointSet>(draft: &Draft<P>, tally: &Tally, before: usize, rec: &Record) -> Option<Code>
+fn broken_name<P: PointSet>(
+    draft: &Draft<P>,
+    tally: &Tally,
+    before: usize,
+    rec: &Record,
+) -> Option<Code>
     ensures { (earlier : List Record) → IsTally earlier draft.now tally.now → before ≡ length earlier → result ≡ first_broken (tried_before earlier draft.now rec.now) }
 {
     if is_late(before, rec) {
@@ -113,7 +118,12 @@ fn broken_run<P: PointSet>(
 }
 
 /// The first limit on work that a record breaks.
-fn broken_limit<P: PointSet>(alloc: Global, draft: &Draft<P>, tally: &Tally, rec: &Record) -> Result<Option<Code>, AllocError>
+fn broken_limit<P: PointSet>(
+    alloc: Global,
+    draft: &Draft<P>,
+    tally: &Tally,
+    rec: &Record,
+) -> Result<Option<Code>, AllocError>
     ensures { (earlier : List Record) → IsTally earlier draft.now tally.now → IfOk result (λ code. code ≡ first_broken (tried_of_limits earlier draft.now rec.now)) }
 {
     if has_many_cells(draft, tally, rec) {

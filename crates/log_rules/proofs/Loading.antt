@@ -30,9 +30,9 @@ same_load_place-true : (j k : LoadPlace) → same_load_place j k ≡ true → j 
 same_load_place-true j k h =
     let rest = and_right (j.tree == k.tree) ((j.point == k.point) && (j.field == k.field)) h in
     place_of_parts j.tree k.tree j.point k.point j.field k.field
-      (eqb-true j.tree k.tree (and_left (j.tree == k.tree) ((j.point == k.point) && (j.field == k.field)) h))
-      (eqb-true j.point k.point (and_left (j.point == k.point) (j.field == k.field) rest))
-      (eqb-true j.field k.field (and_right (j.point == k.point) (j.field == k.field) rest))
+    (eqb-true j.tree k.tree (and_left (j.tree == k.tree) ((j.point == k.point) && (j.field == k.field)) h))
+    (eqb-true j.point k.point (and_left (j.point == k.point) (j.field == k.field) rest))
+    (eqb-true j.field k.field (and_right (j.point == k.point) (j.field == k.field) rest))
 
 -- One more at a place.
 pub load-put : (old : LoadPlace → Option ℕ) (j k : LoadPlace) (count : ℕ) (new : Option ℕ) → new ≡ cond (same_load_place j k) (Some count) (old k) → count ≡ cut (unwrap_or (old j) 0 + 1) → cut (unwrap_or new 0) ≡ cut (unwrap_or (old k) 0 + one (same_load_place j k))
@@ -61,14 +61,14 @@ not_true false h = refl
 fresh_field : (fields : List ℕ) (i n : ℕ) → IsStrictlyIncreasing fields → i < length fields → (get_or fields i 0 == n) ≡ true → is_in (take i fields) n ≡ false
 fresh_field fields i n up lt here =
     not_true (is_in (take i fields) n) (λ h.
-      let c = (Decides-is_in (take i fields) n).0 h in
-      let l = length-take i fields in
-      let low : c.0 < i = omega (arith, c.1, l) in
-      let e : get_or fields c.0 n ≡ n = sym (get_or-take i fields c.0 n low) ∙ c.2 in
-      let f : get_or fields i 0 ≡ n = eqb-true (get_or fields i 0) n here in
-      let below : get_or fields c.0 n < get_or fields i n = AllPairs-from_increasing fields up c.0 i n low lt in
-      let same : get_or fields i n ≡ get_or fields i 0 = get_or_any fields i n lt in
-      omega arith)
+    let c = (Decides-is_in (take i fields) n).0 h in
+    let l = length-take i fields in
+    let low : c.0 < i = omega (arith, c.1, l) in
+    let e : get_or fields c.0 n ≡ n = sym (get_or-take i fields c.0 n low) ∙ c.2 in
+    let f : get_or fields i 0 ≡ n = eqb-true (get_or fields i 0) n here in
+    let below : get_or fields c.0 n < get_or fields i n = AllPairs-from_increasing fields up c.0 i n low lt in
+    let same : get_or fields i n ≡ get_or fields i 0 = get_or_any fields i n lt in
+    omega arith)
 
 split_field : (t p fs e : Bool) → (e ≡ true → fs ≡ false) → one (t && ((p || false) && fs)) + one (t && (p && e)) ≡ one (t && ((p || false) && (fs || e)))
 split_field false p fs e h = refl
@@ -85,7 +85,7 @@ load-field old mid new tree point fields i k up lt before after =
     let field = get_or fields i 0 in
     let split = split_field (tree == k.tree) (point == k.point) (is_in (take i fields) k.field) (field == k.field) (fresh_field fields i k.field up lt) in
     let more : one (is_held tree (point ∷ []) (take (i + 1) fields) k) ≡ one ((tree == k.tree) && (((point == k.point) || false) && (is_in (take i fields) k.field || (field == k.field)))) =
-        ap (λ b. one ((tree == k.tree) && (((point == k.point) || false) && b))) (list_any_more (λ m. m == k.field) fields i 0 lt)
+    ap (λ b. one ((tree == k.tree) && (((point == k.point) || false) && b))) (list_any_more (λ m. m == k.field) fields i 0 lt)
     in
     omega (arith, before, after, split, more)
 
@@ -102,10 +102,10 @@ split_point true false r f h = zero-add (one (r && f))
 fresh_point : (p : ℕ) (rest : List ℕ) (n : ℕ) → AllPairs (λ a b. a < b) (p ∷ rest) → (p == n) ≡ true → is_in rest n ≡ false
 fresh_point p rest n up here =
     not_true (is_in rest n) (λ h.
-      let c = (Decides-is_in rest n).0 h in
-      let below : p < get_or rest c.0 n = up 0 (suc c.0) n (omega arith) (omega (arith, c.1)) in
-      let f : p ≡ n = eqb-true p n here in
-      omega (arith, c.2))
+    let c = (Decides-is_in rest n).0 h in
+    let below : p < get_or rest c.0 n = up 0 (suc c.0) n (omega arith) (omega (arith, c.1)) in
+    let f : p ≡ n = eqb-true p n here in
+    omega (arith, c.2))
 
 pub load-point : (mid new goal tree p : ℕ) (rest fields : List ℕ) (k : LoadPlace) → AllPairs (λ a b. a < b) (p ∷ rest) → cut (mid + one (is_held tree (p ∷ rest) fields k)) ≡ goal → cut new ≡ cut (mid + one (is_held tree (p ∷ []) fields k)) → cut (new + one (is_held tree rest fields k)) ≡ goal
 load-point mid new goal tree p rest fields k up before after =
@@ -159,7 +159,7 @@ total-grid g (x ∷ xs) fields =
 pub loads-told : (t : Tables) (count : LoadPlace → ℕ) (insts : List Inst) → ((k : LoadPlace) → cut (count k) ≡ cut (load_at t k t.reqs)) → cut (total (map (inst_load count t) insts)) ≡ cut (total (map (load_of t) insts))
 loads-told t count insts are =
     cut-total (inst_load count t) (load_of t) insts (λ (i : Inst).
-      let exact = λ (k : LoadPlace). load_at t k t.reqs in
-      cut-total (row_load count i.tree i.fields) (row_load exact i.tree i.fields) (points_in t i.space) (λ x.
-        cut-total (λ f. count (record { tree = i.tree; point = x; field = f })) (λ f. exact (record { tree = i.tree; point = x; field = f })) i.fields (λ f. are (record { tree = i.tree; point = x; field = f })))
-      ∙ ap cut (sym (total-grid (λ p. exact (record { tree = i.tree; point = p.0; field = p.1 })) (points_in t i.space) i.fields)))
+    let exact = λ (k : LoadPlace). load_at t k t.reqs in
+    cut-total (row_load count i.tree i.fields) (row_load exact i.tree i.fields) (points_in t i.space) (λ x.
+    cut-total (λ f. count (record { tree = i.tree; point = x; field = f })) (λ f. exact (record { tree = i.tree; point = x; field = f })) i.fields (λ f. are (record { tree = i.tree; point = x; field = f })))
+    ∙ ap cut (sym (total-grid (λ p. exact (record { tree = i.tree; point = p.0; field = p.1 })) (points_in t i.space) i.fields)))

@@ -102,7 +102,13 @@ impl Loads {
     }
 
     /// One requirement more at the fields of a space.
-    fn add_space<P: PointSet>(&mut self, draft: &Draft<P>, tree: u32, space: u32, fields: &[u32]) -> Result<(), AllocError>
+    fn add_space<P: PointSet>(
+        &mut self,
+        draft: &Draft<P>,
+        tree: u32,
+        space: u32,
+        fields: &[u32],
+    ) -> Result<(), AllocError>
         requires { IsStrictlyIncreasing fields.now }
         ensures { OnOk result ((k : LoadPlace) → cut (load_in self.new k) ≡ cut (load_in self.old k + one (is_held tree (points_in draft.now space) fields.now k))) }
     {
@@ -185,7 +191,11 @@ impl Loads {
 }
 
 /// Whether a record ends a log whose instances have too much load together.
-pub fn has_much_load<P: PointSet>(alloc: Global, draft: &Draft<P>, rec: &Record) -> Result<bool, AllocError>
+pub fn has_much_load<P: PointSet>(
+    alloc: Global,
+    draft: &Draft<P>,
+    rec: &Record,
+) -> Result<bool, AllocError>
     ensures { IfOk result (λ much. much ≡ has_much_load draft.now rec.now) }
 {
     match rec {

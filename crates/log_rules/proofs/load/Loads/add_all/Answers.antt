@@ -11,11 +11,11 @@ loop-point-init g c =
     let set = c.args.set.now in
     let points = g.P.PointSet.points set in
     let start = c.into_iter-point-iterator.ensures.into_iter_gives ∙ c.of-point-items.ensures in
-    let P : List ℕ → Type 0 = λ xs. AllPairs (λ p q. p < q) xs in
-    ( tt
-    , tt
-    , subst P (sym start) (AllPairs-from_increasing points (g.met.P.PointSet.ascends set))
-    , λ k. ap (λ (xs : List ℕ). cut (load_in c.args.self.now k + one (is_held c.args.tree xs c.args.fields.now k))) start
+    let P : List ℕ → Type 0 = λ xs. AllPairs (λ p q. p < q) xs in (
+      tt,
+      tt,
+      subst P (sym start) (AllPairs-from_increasing points (g.met.P.PointSet.ascends set)),
+      λ k. ap (λ (xs : List ℕ). cut (load_in c.args.self.now k + one (is_held c.args.tree xs c.args.fields.now k))) start,
     )
 
 pub loop-point-preserved : goal.loop-point-preserved
@@ -26,13 +26,13 @@ loop-point-preserved g c =
     let rest = c.next.new.self in
     let steps : c.loop-point.point-iterator ≡ point ∷ rest = c.in-Some.ensures.steps in
     let P : List ℕ → Type 0 = λ xs. AllPairs (λ p q. p < q) xs in
-    let up = subst P steps c.loop-point.invariant.2 in
-    ( tt
-    , tt
-    , rest_ascends point rest up
-    , λ k.
-        let mid = load_in c.loop-point.self k in
-        load-point mid (load_in c.add_at_point.new.self k) _ tree point rest fields k up
+    let up = subst P steps c.loop-point.invariant.2 in (
+      tt,
+      tt,
+      rest_ascends point rest up,
+      λ k.
+          let mid = load_in c.loop-point.self k in
+          load-point mid (load_in c.add_at_point.new.self k) _ tree point rest fields k up
           (sym (ap (λ (xs : List ℕ). cut (mid + one (is_held tree xs fields k))) steps) ∙ c.loop-point.invariant.3 k)
-          (c.in_ok-add_at_point.ensures k)
+          (c.in_ok-add_at_point.ensures k),
     )

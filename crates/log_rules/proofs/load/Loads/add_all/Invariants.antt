@@ -10,5 +10,5 @@ invariant-loop-point g l =
     (goal.iterator-loop-point g).can_next l.point-iterator × (goal.iterator-loop-point g).is_finite l.point-iterator
     × AllPairs (λ p q. p < q) l.point-iterator
     × ((k : LoadPlace) →
-        cut (load_in l.self k + one (is_held l.tree l.point-iterator l.fields k))
-        ≡ cut (load_in l.initial.self k + one (is_held l.tree (g.P.PointSet.points l.set) l.fields k)))
+    cut (load_in l.self k + one (is_held l.tree l.point-iterator l.fields k))
+    ≡ cut (load_in l.initial.self k + one (is_held l.tree (g.P.PointSet.points l.set) l.fields k)))
