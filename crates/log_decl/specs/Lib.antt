@@ -1,3 +1,0 @@
-pub mod Decls
-pub mod SubLines
-pub mod Walk
