@@ -11,11 +11,12 @@ use Rattle.log_tables.specs.declared.entries.Space as spaces
 abbrev pub space_seen : {P : Type 0} → (P → List ℕ) → spaces.Space P → tables.Space
 space_seen points s = record { id = s.id; points = points s.set }
 
--- The runs of a record's set ascend, and so do the fields of a field space, a requirement or an instance.
+-- The runs of a record's set ascend, and so do the fields of a field space, a requirement, a fill or an instance.
 abbrev pub Ascends : Record → Type 0
 Ascends (Ispace id set) = AreRuns set
 Ascends (Fields id fields) = IsStrictlyIncreasing fields
 Ascends (Req task tree space fields access atomic) = IsStrictlyIncreasing fields
+Ascends (Fill id tree space fields n) = IsStrictlyIncreasing fields
 Ascends (Inst id tree space fields kind) = IsStrictlyIncreasing fields
 Ascends _ = Unit {0}
 

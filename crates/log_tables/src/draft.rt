@@ -3,6 +3,7 @@
 ghost use Rattle.std.specs.Prelude.{◌≡◌, ◌++◌, ◌∷◌, [], ◌^◌, ◌<◌, length, OnOk};
 ghost use Rattle.std.specs.List.Sorted.{IsStrictlyIncreasing};
 ghost use Rattle.semantics.specs.Tables.{no_tables, with_item, with_node};
+ghost use Rattle.log_tables.specs.Ascending.{body_fields};
 
 use crate::entries::{Space, SubKey};
 use crate::maps::Maps;
@@ -55,10 +56,10 @@ impl<P: PointSet> Model for Draft<P> {
       nodes = d.nodes;
     } };
 
-    ghost invariant = { λ d. FieldsAscend d.field_spaces d.reqs d.insts };
+    ghost invariant = { λ d. FieldsAscend d.field_spaces d.items d.reqs d.insts };
 }
 
-#[tactic(auto, using(crate::proofs::Ascending::space_more, crate::proofs::Ascending::req_more, crate::proofs::Ascending::inst_more))]
+#[tactic(auto, using(crate::proofs::Ascending::space_more, crate::proofs::Ascending::item_more, crate::proofs::Ascending::req_more, crate::proofs::Ascending::inst_more))]
 impl<P: PointSet> Draft<P> {
     /// Nothing is declared.
     pub fn new(alloc: Global) -> Draft<P>
@@ -128,6 +129,7 @@ impl<P: PointSet> Draft<P> {
     }
 
     pub(crate) fn add_item(&mut self, id: u32, line: u32, body: ItemBody) -> Result<(), AllocError>
+        requires { IsStrictlyIncreasing (body_fields body) }
         ensures { OnOk result (self.new ≡ with_item self.old line id body) }
     {
         self.items.push(Item { id, line, body })

@@ -9,6 +9,7 @@ ghost use Rattle.semantics.specs.Steps.{inst_at};
 ghost use Rattle.semantics.specs.Reads.{req_at};
 ghost use Rattle.std.specs.Prelude.{IfSome, find};
 ghost use Rattle.std.specs.List.Sorted.{IsStrictlyIncreasing};
+ghost use Rattle.log_tables.specs.Ascending.{body_fields};
 ghost use Rattle.log_tables.specs.Mapped.{inst_mapped};
 ghost use Rattle.log_tables.specs.Views.{space_seen};
 
@@ -130,7 +131,8 @@ impl<P: PointSet> Draft<P> {
 
     /// The items, in program order.
     pub fn items(&self) -> &[Item]
-        ensures { result.now ≡ self.now.items }
+        ensures items { result.now ≡ self.now.items }
+        ensures ascend { All (λ i. IsStrictlyIncreasing (body_fields i.body)) result.now }
     {
         self.items.rows().as_slice()
     }

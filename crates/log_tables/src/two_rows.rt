@@ -89,6 +89,7 @@ impl<K: Copy + Eq + Hash, L: Copy + Eq + Hash, T: Keyed<K> + AlsoKeyed<L>> TwoRo
     where
         T: Drop,
         ensures ok { OnOk result (self.new ≡ self.old ++ row ∷ []) }
+        ensures err { OnErr result (self.new ≡ self.old) }
     {
         self.places.reserve(1)?;
         let place = self.rows.len();

@@ -1,0 +1,49 @@
+-- How many pairs of tasks there are.
+use Rattle.std.proofs.Common.{◌≡◌, ℕ, ◌+◌, ◌-◌, ◌*◌, ◌<◌, ◌≤◌, inl, inr, Bool, true, false, List, [], ◌∷◌, length, refl, sym, ap, ◌∙◌, arith, map, filter, flat_map, ◌^◌, None}
+use Rattle.std.proofs.lemmas.Bool.{cases_Bool}
+use Rattle.std.proofs.lemmas.List.{length-map, length-append}
+use Rattle.semantics.specs.declared.tables.Item.{Item}
+use Rattle.semantics.specs.Tables.{Tables, numbers_from}
+use Rattle.semantics.specs.Kinds as kinds
+use Rattle.semantics.specs.Shown.{task_pairs}
+use Rattle.item_uses.specs.Usages.{Usage, usages}
+use Rattle.item_uses.proofs.Growing.{numbers_length}
+use Rattle.interference.specs.declared.pair.Pair.{Pair}
+use Rattle.interference.specs.Pairing.{pair_of, row, left}
+use Rattle.interference.specs.Tasks.{are_tasks}
+use Rattle.interference.proofs.AllPairs.{all_are}
+use Rattle.interference.proofs.Rows.{met_at, meeting, rows_step}
+
+length_filter : {X : Type 0} (p : X → Bool) (xs : List X) → length (filter p xs) ≤ length xs
+length_filter p [] = omega arith
+length_filter p (x ∷ xs) = elim (cases_Bool (p x)) [ inl t ↦ rw t (omega (arith, length_filter p xs)) | inr f ↦ rw f (omega (arith, length_filter p xs)) ]
+
+row_few : (us : List (List Usage)) (a from : ℕ) → length (row None us a from) ≤ length us
+row_few us a from = omega (arith, length-map (filter (met_at None us a) (numbers_from from (length us - from))) (meeting us a), length_filter (met_at None us a) (numbers_from from (length us - from)), numbers_length from (length us - from))
+
+flat_few : (f : ℕ → List Pair) (xs : List ℕ) → ((x : ℕ) → length (f x) ≤ 4294967295) → length (flat_map f xs) ≤ length xs * 4294967295
+flat_few f [] h = omega arith
+flat_few f (x ∷ xs) h = omega (arith, length-append (f x) (flat_map f xs), h x, flat_few f xs h)
+
+pub few_left : (q : Pair → Bool) (us : List (List Usage)) → length us < 2 ^ 32 → length (filter q (left None us 0 1)) < 2 ^ 64
+few_left q us small =
+    let all = flat_few (λ i. row None us i (i + 1)) (numbers_from 0 (length us - 0)) (λ a. omega (arith, row_few us a (a + 1), small)) in
+    omega (arith, length_filter q (left None us 0 1), ap length (sym (rows_step None us 0)), all, numbers_length 0 (length us - 0), small)
+
+-- ---- steps of the count
+
+pub count_here : (q : Pair → Bool) (it : List Pair) (p : Pair) (rest : List Pair) → it ≡ p ∷ rest → q p ≡ true → length (filter q it) ≡ 1 + length (filter q rest)
+count_here q it p rest e t = ap (λ ps. length (filter q ps)) e ∙ rw t (omega arith)
+
+pub count_past : (q : Pair → Bool) (it : List Pair) (p : Pair) (rest : List Pair) → it ≡ p ∷ rest → q p ≡ false → length (filter q it) ≡ length (filter q rest)
+count_past q it p rest e f = ap (λ ps. length (filter q ps)) e ∙ rw f refl
+
+kept_map : {X Y : Type 0} (f : X → Y) (p : Y → Bool) (xs : List X) → filter p (map f xs) ≡ map f (filter (λ x. p (f x)) xs)
+kept_map f p [] = refl
+kept_map f p (x ∷ xs) = elim (cases_Bool (p (f x))) [ inl t ↦ rw t (ap (λ ys. f x ∷ ys) (kept_map f p xs)) | inr e ↦ rw e (kept_map f p xs) ]
+
+pub task_pairs_are : (t : Tables) (us : List (List Usage)) (items : List Item) → usages t ≡ us → t.items ≡ items → length (filter (are_tasks items) (left None us 0 1)) ≡ length (task_pairs t)
+task_pairs_are t us items e is =
+    ap (λ its. length (filter (are_tasks its) (left None us 0 1))) (sym is)
+    ∙ ap (λ ps. length (filter (are_tasks t.items) ps)) (all_are t us e) ∙ ap length (kept_map (pair_of t) (are_tasks t.items) (kinds.pairs t))
+    ∙ length-map (task_pairs t) (pair_of t)

@@ -1,0 +1,4 @@
+pub mod AllPairs
+pub mod Counting
+pub mod Rows
+pub mod Turning

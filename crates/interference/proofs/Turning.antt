@@ -1,0 +1,162 @@
+-- The first pair that stands against the serial order.
+use Rattle.std.proofs.Common.{◌≡◌, ℕ, zero, suc, ◌+◌, ◌-◌, ◌<◌, inl, inr, Bool, true, false, not, nat_lt, ◌&&◌, List, [], ◌∷◌, ◌++◌, length, refl, sym, ap, ◌∙◌, arith, map, filter, flat_map, get_or, unwrap_or, subst, Option, Some, None, option_map, find, position, ◌==◌}
+use Rattle.std.specs.List.{position_or_len}
+use Rattle.std.proofs.lemmas.Bool.{cases_Bool, and_right, le-ltb, lt-ltb, eq-eqb, ne_eqb}
+use Rattle.std.proofs.lemmas.List.Elements.{filter-append}
+use Rattle.semantics.specs.Tables.{Tables, numbers_from}
+use Rattle.semantics.specs.Kinds.{is_free, is_before, item_kind, least_place}
+use Rattle.semantics.specs.Kinds as kinds
+use Rattle.semantics.specs.SerialOrder.{serial, serial_place, turned_pair}
+use Rattle.log_laws.proofs.Members.{Member, member_map, member_flat, member_filter, found_at, none_or_some}
+use Rattle.log_laws.proofs.Apart.{number_between}
+use Rattle.item_uses.specs.Usages.{Usage, usages_of, usages, usages_at}
+use Rattle.item_uses.specs.Sharing.{kind_between}
+use Rattle.item_uses.proofs.ItemKinds.{kind_is}
+use Rattle.item_uses.proofs.LeastPlaces.{place_is}
+use Rattle.item_uses.proofs.Bounded.{none_free}
+use Rattle.item_uses.proofs.Growing.{at_number, numbers_length}
+use Rattle.interference.specs.declared.pair.Pair.{Pair}
+use Rattle.interference.specs.Pairing.{pair_of, all_pairs, no_place, row, rows, left}
+use Rattle.interference.specs.Turned.{is_turned, turned}
+use Rattle.interference.proofs.AllPairs.{all_are}
+use Rattle.interference.proofs.Rows.{meeting}
+
+-- ---- the pairs against some places are those of all pairs that stand so
+
+abbrev against : List ℕ → Pair → Bool
+against places p = nat_lt (get_or places p.b 0) (get_or places p.a 0)
+
+kept_both : {X Y : Type 0} (m : X → Y) (q : Y → Bool) (f : X → Bool) (xs : List X) → map m (filter (λ x. q (m x) && f x) xs) ≡ filter q (map m (filter f xs))
+kept_both m q f [] = refl
+kept_both m q f (x ∷ xs) =
+    let rest = kept_both m q f xs in
+    elim (cases_Bool (f x)) [
+      | inl t ↦ elim (cases_Bool (q (m x))) [ inl e ↦ rw (t, e) (ap (λ ys. m x ∷ ys) rest) | inr e ↦ rw (t, e) rest ]
+      | inr n ↦ elim (cases_Bool (q (m x))) [ inl e ↦ rw (n, e) rest | inr e ↦ rw (n, e) rest ]
+    ]
+
+kept_flat : {X Y : Type 0} (q : Y → Bool) (g h : X → List Y) (xs : List X) → ((x : X) → h x ≡ filter q (g x)) → flat_map h xs ≡ filter q (flat_map g xs)
+kept_flat q g h [] same = refl
+kept_flat q g h (x ∷ xs) same = ap (λ ys. ys ++ flat_map h xs) (same x) ∙ ap (λ ys. filter q (g x) ++ ys) (kept_flat q g h xs same) ∙ sym (filter-append q (g x) (flat_map g xs))
+
+row_against : (places : List ℕ) (us : List (List Usage)) (a from : ℕ) → row (Some places) us a from ≡ filter (against places) (row None us a from)
+row_against places us a from = kept_both (meeting us a) (against places) (λ b. not (is_free (kind_between (usages_at us a) (usages_at us b)))) (numbers_from from (length us - from))
+
+left_against : (places : List ℕ) (us : List (List Usage)) (a from : ℕ) → left (Some places) us a from ≡ filter (against places) (left None us a from)
+left_against places us a from =
+    ap (λ ps. ps ++ rows (Some places) us (a + 1)) (row_against places us a from)
+    ∙ ap (λ ps. filter (against places) (row None us a from) ++ ps) (kept_flat (against places) (λ i. row None us i (i + 1)) (λ i. row (Some places) us i (i + 1)) (numbers_from (a + 1) (length us - (a + 1))) (λ i. row_against places us i (i + 1)))
+    ∙ sym (filter-append (against places) (row None us a from) (rows None us (a + 1)))
+
+find_kept : {X : Type 0} (p q : X → Bool) (xs : List X) → find p (filter q xs) ≡ find (λ x. p x && q x) xs
+find_kept p q [] = refl
+find_kept p q (x ∷ xs) =
+    let rest = find_kept p q xs in
+    elim (cases_Bool (q x)) [
+      | inl e ↦ elim (cases_Bool (p x)) [ inl t ↦ rw (e, t) refl | inr n ↦ rw (e, n) rest ]
+      | inr e ↦ elim (cases_Bool (p x)) [ inl t ↦ rw (e, t) rest | inr n ↦ rw (e, n) rest ]
+    ]
+
+first_against : (places : List ℕ) (us : List (List Usage)) → find (λ (p : Pair). is_before p.kind) (left (Some places) us 0 1) ≡ turned places (left None us 0 1)
+first_against places us = ap (find (λ (p : Pair). is_before p.kind)) (left_against places us 0 1) ∙ find_kept (λ (p : Pair). is_before p.kind) (against places) (left None us 0 1)
+
+-- ---- the first that is turned
+
+find_map : {X Y : Type 0} (f : X → Y) (p : Y → Bool) (xs : List X) → find p (map f xs) ≡ option_map f (find (λ x. p (f x)) xs)
+find_map f p [] = refl
+find_map f p (x ∷ xs) = elim (cases_Bool (p (f x))) [ inl t ↦ rw t refl | inr e ↦ rw e (find_map f p xs) ]
+
+find_same : {X : Type 0} (p q : X → Bool) (xs : List X) → ((x : X) → Member xs x → p x ≡ q x) → find p xs ≡ find q xs
+find_same p q [] h = refl
+find_same p q (x ∷ xs) h = elim (cases_Bool (q x)) [ inl t ↦ rw (h x (inl refl) ∙ t, t) refl | inr f ↦ rw (h x (inl refl) ∙ f, f) (find_same p q xs (λ y m. h y (inr m))) ]
+
+find_none : {X : Type 0} (p : X → Bool) (xs : List X) → ((x : X) → Member xs x → p x ≡ false) → find p xs ≡ None
+find_none p [] h = refl
+find_none p (x ∷ xs) h = rw (h x (inl refl)) (find_none p xs (λ y m. h y (inr m)))
+
+pub record OfPair (t : Tables) (p : ℕ × ℕ) : Type 0 where
+  pub order : p.0 < p.1
+  pub within : p.1 < length t.items
+  pub meets : is_free (item_kind t p.0 p.1) ≡ false
+
+pub pair_within : (t : Tables) (p : ℕ × ℕ) → Member (kinds.pairs t) p → OfPair t p
+pair_within t p m =
+    let at = member_flat (λ a. map (λ b. (a, b)) (filter (λ b. not (is_free (item_kind t a b))) (numbers_from (a + 1) (length t.items - (a + 1))))) (numbers_from 0 (length t.items)) p m in
+    let of = member_map (λ b. (at.0, b)) (filter (λ b. not (is_free (item_kind t at.0 b))) (numbers_from (at.0 + 1) (length t.items - (at.0 + 1)))) p at.2 in
+    let f = member_filter (λ b. not (is_free (item_kind t at.0 b))) (numbers_from (at.0 + 1) (length t.items - (at.0 + 1))) of.0 of.1 in
+    let n = number_between (at.0 + 1) (length t.items - (at.0 + 1)) of.0 f.0 in
+    subst (OfPair t) (sym of.2) (record { order = omega (arith, n.0); within = omega (arith, n.0, n.1); meets = not_so (is_free (item_kind t at.0 of.0)) f.1 })
+  where
+    not_so : (b : Bool) → not b ≡ true → b ≡ false
+    not_so false e = refl
+    not_so true e = absurd cc
+
+-- The test of the definitions.
+abbrev is_turned_pair : Tables → ℕ × ℕ → Bool
+is_turned_pair t p = is_before (item_kind t p.0 p.1) && nat_lt (serial_place t p.1) (serial_place t p.0)
+
+turned_is : (t : Tables) (places : List ℕ) → places ≡ map (serial_place t) (numbers_from 0 (length t.items)) → turned places (all_pairs t) ≡ option_map (pair_of t) (turned_pair t)
+turned_is t places is =
+    find_map (pair_of t) (is_turned places) (kinds.pairs t)
+    ∙ ap (option_map (pair_of t)) (find_same (λ p. is_turned places (pair_of t p)) (is_turned_pair t) (kinds.pairs t)
+    (λ p m. let w = pair_within t p m in
+    ap (λ n. is_before (item_kind t p.0 p.1) && nat_lt n (get_or places p.0 0)) (place_at p.1 w.within)
+    ∙ ap (λ n. is_before (item_kind t p.0 p.1) && nat_lt (serial_place t p.1) n) (place_at p.0 (omega (arith, w.order, w.within)))))
+  where
+    place_at : (i : ℕ) → i < length t.items → get_or places i 0 ≡ serial_place t i
+    place_at i lt = ap (λ ns. get_or ns i 0) is ∙ at_number (serial_place t) 0 (length t.items) i 0 lt ∙ ap (serial_place t) (omega arith)
+
+-- Where no line lists items, serial order is program order.
+place_number : (k n i : ℕ) → i < n → position_or_len (λ j. j == k + i) (numbers_from k n) ≡ i
+place_number k zero i lt = absurd (omega (arith, lt))
+place_number k (suc n) zero lt = let same : k ≡ k + 0 = omega arith in rw (eq-eqb k (k + 0) same) refl
+place_number k (suc n) (suc i) lt =
+    let other : (k ≡ k + suc i → ⊥) = λ e. omega (arith, e) in
+    let same : k + suc i ≡ k + 1 + i = omega arith in
+    let rest : position_or_len (λ j. j == k + suc i) (numbers_from (k + 1) n) ≡ i = rw same (place_number (k + 1) n i (omega (arith, lt))) in
+    rw (ne_eqb k (k + suc i) other, rest) (omega arith)
+
+position_number : (k n i : ℕ) → i < n → position (λ j. j == k + i) (numbers_from k n) ≡ Some i
+position_number k n i lt = rw (place_number k n i lt, numbers_length k n, lt-ltb i n lt) refl
+
+place_unlisted : (t : Tables) (i : ℕ) → length t.serials ≡ 0 → i < length t.items → serial_place t i ≡ i
+place_unlisted t i e lt =
+    let all : serial t ≡ numbers_from 0 (length t.items) = rw e refl in
+    let same : 0 + i ≡ i = omega arith in
+    let at : position (λ j. j == i) (numbers_from 0 (length t.items)) ≡ Some i = subst (λ m. position (λ j. j == m) (numbers_from 0 (length t.items)) ≡ Some i) same (position_number 0 (length t.items) i lt) in
+    ap (λ ns. unwrap_or (position (λ j. j == i) ns) (length ns)) all ∙ ap (λ o. unwrap_or o (length (numbers_from 0 (length t.items)))) at
+
+pub none_turned : (t : Tables) → length t.serials ≡ 0 → turned_pair t ≡ None
+none_turned t e = find_none (is_turned_pair t) (kinds.pairs t) (λ p m.
+    let w = pair_within t p m in
+    and_right (is_before (item_kind t p.0 p.1)) (nat_lt (serial_place t p.1) (serial_place t p.0))
+    (le-ltb (serial_place t p.1) (serial_place t p.0) (omega (arith, place_unlisted t p.0 e (omega (arith, w.order, w.within)), place_unlisted t p.1 e w.within, w.order))))
+
+-- What the search found is the pair of the definitions, with its place.
+has_place : (t : Tables) (a b : ℕ) → is_free (item_kind t a b) ≡ false → least_place t a b ≡ Some (unwrap_or (least_place t a b) no_place)
+has_place t a b e = elim (none_or_some (least_place t a b)) [
+  | inl none ↦ absurd (let free = kind_is t a b ∙ none_free (usages_of t a) (usages_of t b) (sym (place_is t a b) ∙ none) in let bad = sym e ∙ ap is_free free in cc)
+  | inr some ↦ rw some.1 refl
+]
+
+pub turned_found : (t : Tables) (p : Pair) → option_map (pair_of t) (turned_pair t) ≡ Some p → (turned_pair t ≡ Some (p.a, p.b)) × (least_place t p.a p.b ≡ Some p.place)
+turned_found t p e = by (turned_pair t) refl
+  where
+    by : (o : Option (ℕ × ℕ)) → turned_pair t ≡ o → (turned_pair t ≡ Some (p.a, p.b)) × (least_place t p.a p.b ≡ Some p.place)
+    by None f = absurd (let bad = rw f at e in cc)
+    by (Some q) f =
+        let is : pair_of t q ≡ p = (let x = rw f at e in cc) in
+        let w = pair_within t q (found_at (is_turned_pair t) (kinds.pairs t) q f).0 in
+        subst (λ (p : Pair). (turned_pair t ≡ Some (p.a, p.b)) × (least_place t p.a p.b ≡ Some p.place)) is (f, has_place t q.0 q.1 w.meets)
+
+pub none_found : (t : Tables) → option_map (pair_of t) (turned_pair t) ≡ None → turned_pair t ≡ None
+none_found t e = by (turned_pair t) refl
+  where
+    by : (o : Option (ℕ × ℕ)) → turned_pair t ≡ o → turned_pair t ≡ None
+    by None f = f
+    by (Some q) f = absurd (let bad = rw f at e in cc)
+
+-- What the search against the places of the serial order finds.
+pub first_is : (t : Tables) (us : List (List Usage)) (places : List ℕ) (o : Option Pair) → usages t ≡ us → places ≡ map (serial_place t) (numbers_from 0 (length t.items))
+    → o ≡ find (λ (p : Pair). is_before p.kind) (left (Some places) us 0 1) → option_map (pair_of t) (turned_pair t) ≡ o
+first_is t us places o e is found = sym (turned_is t places is) ∙ ap (turned places) (sym (all_are t us e)) ∙ sym (first_against places us) ∙ sym found

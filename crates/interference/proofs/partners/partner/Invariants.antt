@@ -1,0 +1,6 @@
+use Rattle.std.proofs.Common.{◌≡◌}
+use Rattle.interference.specs.Pairing.{row, asked_of}
+use Rattle.interference.proofs.partners.partner.Given as goal
+
+abbrev pub invariant-loop-b : goal.invariant-loop-b
+invariant-loop-b g l = row (asked_of l.asked) l.items l.a l.fn.from ≡ row (asked_of l.asked) l.items l.a l.b

@@ -1,0 +1,3 @@
+pub mod Pairing
+pub mod Tasks
+pub mod Turned

@@ -1,0 +1,13 @@
+//! The pairs of items of a log that interfere, and whether they keep the serial order.
+#![tactic(auto)]
+
+mod iterator;
+mod pair;
+mod partners;
+mod serial;
+mod tasks;
+
+pub use iterator::Pairs;
+pub use pair::Pair;
+pub use serial::{SerialBreaks, serial_ok};
+pub use tasks::task_pair_count;

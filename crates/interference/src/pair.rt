@@ -1,0 +1,13 @@
+//! A pair of items that interfere.
+
+use privilege::Kind;
+use semantics::Place;
+
+/// Two items that interfere, by their positions, the earlier first: their kind, and the least place at which they do.
+#[derive(Clone, Copy, Debug, PartialEq, Eq)]
+pub struct Pair {
+    pub a: usize,
+    pub b: usize,
+    pub kind: Kind,
+    pub place: Place,
+}

@@ -1,0 +1,55 @@
+//! Pairs of tasks that interfere.
+
+ghost use Rattle.std.specs.Prelude.{◌≡◌, ◌<◌, ◌^◌, false, length, slice_get};
+ghost use Rattle.std.specs.Option.{option_map_or};
+ghost use Rattle.semantics.specs.Tables.{Tables};
+ghost use Rattle.semantics.specs.Rules.{is_task};
+ghost use Rattle.semantics.specs.Shown.{task_pairs};
+ghost use Rattle.item_uses.specs.Usages.{usages};
+ghost use Rattle.item_uses.specs.Blocks.{AreBlocks};
+ghost use Rattle.interference.specs.Tasks.{are_tasks};
+
+use crate::iterator::Pairs;
+use crate::pair::Pair;
+use item_uses::{ItemUses, Span};
+use point_set::PointSet;
+use semantics::{Item, ItemBody};
+
+/// Whether the item at a position is a task.
+fn is_task_at(items: &[Item], item: usize) -> bool
+    ensures { result ≡ option_map_or (λ i. is_task i.body) (slice_get items.now item) false }
+{
+    match items.get(item) {
+        Some(item) => match item.body {
+            ItemBody::Task => true,
+            _ => false,
+        },
+        None => false,
+    }
+}
+
+/// Whether both items of a pair are tasks.
+fn are_tasks(items: &[Item], pair: Pair) -> bool
+    ensures { result ≡ are_tasks items.now pair }
+{
+    is_task_at(items, pair.a) && is_task_at(items, pair.b)
+}
+
+/// How many pairs of tasks interfere.
+pub fn task_pair_count<'a, P: PointSet + Copy>(
+    items: &[Item],
+    uses: &[ItemUses<'a, P>],
+    blocks: &[Span],
+) -> u64
+    requires blocks { AreBlocks blocks.now uses.now }
+    requires few { length uses.now < 2 ^ 32 }
+    ensures { (t : Tables) → usages t ≡ uses.now → t.items ≡ items.now → result ≡ length (task_pairs t) }
+{
+    let mut count = 0;
+    for pair in Pairs::of(uses, blocks) {
+        if are_tasks(items, pair) {
+            count += 1;
+        }
+    }
+    count
+}

@@ -1,0 +1,10 @@
+pub mod Bounded
+pub mod Ends
+pub mod Growing
+pub mod ItemKinds
+pub mod Least
+pub mod LeastPlaces
+pub mod OneMore
+pub mod Positions
+pub mod Shared
+pub mod Strongest

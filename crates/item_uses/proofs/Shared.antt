@@ -1,0 +1,118 @@
+-- The least number of two lists.
+use Rattle.std.proofs.Common.{◌≡◌, ◌==◌, ℕ, ◌<◌, ◌≤◌, inl, inr, Bool, true, false, List, [], ◌∷◌, length, get_or, Contains, refl, ap, arith, Option, Some, None, Result, Ok, Err, subst, nat_lt, filter, find, slice_get, sym, ◌∙◌}
+use Rattle.std.specs.List.Sorted.{IsStrictlyIncreasing, IsBinarySearchResult}
+use Rattle.std.specs.Ordering.{nat_cmp}
+use Rattle.std.specs.Result.{is_ok}
+use Rattle.std.proofs.lemmas.Bool.{cases_Bool, cases_eq, cases_lt, ltb-true, ltb-false, le-ltb, eq-eqb}
+use Rattle.std.proofs.lemmas.Bool.Decides.{nat_tests}
+use Rattle.std.proofs.lemmas.List.Sorted.{searched}
+use Rattle.std.proofs.lemmas.List.Kept.{AllPairs-from_increasing, IsStrictlyIncreasing-filter}
+use Rattle.std.proofs.lemmas.List.Folds.{list_any_at, list_any_none}
+use Rattle.std.proofs.lemmas.Option.{slice_get-get_or, get_or_from_slice_get}
+use Rattle.semantics.specs.Points.{is_in}
+use Rattle.point_set.specs.Least.{IsLeast, IsLeastCommon}
+use Rattle.log_laws.proofs.Members.{Member, member_of, contains_of, member_filter, is_in_of, member_in}
+use Rattle.item_uses.specs.Sharing.{least_number, less_or, least_shared}
+use Rattle.item_uses.proofs.Ends.{first_least}
+
+pub number_is_least : (ns : List ℕ) → IsLeast (Member ns) (least_number ns)
+number_is_least [] = λ q m. m
+number_is_least (n ∷ ns) = more n (least_number ns) ns (number_is_least ns)
+  where
+    pick : (n p : ℕ) (ns : List ℕ) → IsLeast (Member ns) (Some p) → (b : Bool) → nat_lt p n ≡ b → IsLeast (Member (n ∷ ns)) (Some (less_or n (Some p)))
+    pick n p ns h true e = rw e (inr h.0, λ q m. elim m [ inl is ↦ omega (arith, is, ltb-true p n e) | inr later ↦ h.1 q later ])
+    pick n p ns h false e = rw e (inl refl, λ q m. elim m [ inl is ↦ omega (arith, is) | inr later ↦ omega (arith, h.1 q later, ltb-false p n e) ])
+
+    more : (n : ℕ) (o : Option ℕ) (ns : List ℕ) → IsLeast (Member ns) o → IsLeast (Member (n ∷ ns)) (Some (less_or n o))
+    more n None ns h = (inl refl, λ q m. elim m [ inl is ↦ omega (arith, is) | inr later ↦ absurd (h q later) ])
+    more n (Some p) ns h = pick n p ns h (nat_lt p n) refl
+
+pub least_one : (P Q : ℕ → Type 0) → ((n : ℕ) → P n → Q n) → ((n : ℕ) → Q n → P n) → (o p : Option ℕ) → IsLeast P o → IsLeast Q p → o ≡ p
+least_one P Q to back None None h k = refl
+least_one P Q to back None (Some p) h k = absurd (h p (back p k.0))
+least_one P Q to back (Some o) None h k = absurd (k o (to o h.0))
+least_one P Q to back (Some o) (Some p) h k = ap (λ n. Some n) (omega (arith, h.1 p (back p k.0), k.1 o (to o h.0)))
+
+pub filter_member : {X : Type 0} (p : X → Bool) (xs : List X) (x : X) → Member xs x → p x ≡ true → Member (filter p xs) x
+filter_member p [] x m e = absurd m
+filter_member p (y ∷ ys) x (inl is) e = rw (ap p (sym is) ∙ e) (inl is)
+filter_member p (y ∷ ys) x (inr m) e = elim (cases_Bool (p y)) [ inl t ↦ rw t (inr (filter_member p ys x m e)) | inr f ↦ rw f (filter_member p ys x m e) ]
+
+shared_filter : (ns ms : List ℕ) (n : ℕ) → Member ns n → Member ms n → Member (filter (is_in ms) ns) n
+shared_filter ns ms n m k = filter_member (is_in ms) ns n m (is_in_of ms n k)
+
+-- What a search for the least number of both finds.
+pub shared_is : (ns ms : List ℕ) (o : Option ℕ) → IsLeastCommon ns ms o → o ≡ least_shared ns ms
+shared_is ns ms o h = least_one _ (Member (filter (is_in ms) ns))
+    (λ n both. shared_filter ns ms n (member_of ns n both.0) (member_of ms n both.1))
+    (λ n m. let r = member_filter (is_in ms) ns n m in (contains_of ns n r.0, contains_of ms n (member_in ms n r.1)))
+    o (least_shared ns ms) h (number_is_least (filter (is_in ms) ns))
+
+-- A number of both: the least of both is there, and no greater.
+pub shared_at : (ns ms : List ℕ) (n : ℕ) → Member ns n → Member ms n → (k : ℕ) × (least_shared ns ms ≡ Some k) × (k ≤ n)
+shared_at ns ms n m k = found (Member (filter (is_in ms) ns)) (least_shared ns ms) refl (number_is_least (filter (is_in ms) ns)) (shared_filter ns ms n m k)
+  where
+    found : (P : ℕ → Type 0) {n : ℕ} {l : Option ℕ} (o : Option ℕ) → l ≡ o → IsLeast P o → P n → (k : ℕ) × (l ≡ Some k) × (k ≤ n)
+    found P {n = n} None e h p = absurd (h n p)
+    found P {n = n} (Some k) e h p = (k, e, h.1 n p)
+
+pub shared_in : (ns ms : List ℕ) (k : ℕ) → least_shared ns ms ≡ Some k → Member ns k × Member ms k
+shared_in ns ms k e =
+    let l : IsLeast (Member (filter (is_in ms) ns)) (Some k) = subst (IsLeast (Member (filter (is_in ms) ns))) e (number_is_least (filter (is_in ms) ns)) in
+    let r = member_filter (is_in ms) ns k l.0 in
+    (r.0, member_in ms k r.1)
+
+-- ---- ascending lists
+
+-- What a binary search tells.
+rises : (xs : List ℕ) → IsStrictlyIncreasing xs → (i j : ℕ) → i ≤ j → j < length xs → get_or xs i 0 ≤ get_or xs j 0
+rises xs up i j le lt =
+    elim (cases_eq i j) [
+      | inl e ↦ let h : get_or xs i 0 ≡ get_or xs j 0 = ap (λ k. get_or xs k 0) e in omega arith
+      | inr ne ↦ let less : i < j = omega arith in let h : get_or xs i 0 < get_or xs j 0 = AllPairs-from_increasing xs up i j 0 less lt in omega arith
+    ]
+
+apart : (a b : ℕ) → (a ≡ b → ⊥) → (a == b) ≡ false
+apart a b ne = grind (arith, nat_tests)
+
+get_or_any : (xs : List ℕ) (k d : ℕ) → k < length xs → get_or xs k d ≡ get_or xs k 0
+get_or_any xs k d lt = sym (get_or_from_slice_get xs k (get_or xs k d) 0 (slice_get-get_or xs k d lt))
+
+pub is_in-search : (xs : List ℕ) (n : ℕ) (r : Result ℕ ℕ) → IsStrictlyIncreasing xs → IsBinarySearchResult (λ y. nat_cmp y n) xs r → is_ok r ≡ is_in xs n
+is_in-search xs n (Ok i) up found =
+    let h = searched xs n (Ok i) found (rises xs up) in
+    sym (list_any_at (λ m. m == n) xs i 0 h.0 (eq-eqb (get_or xs i 0) n h.1))
+is_in-search xs n (Err i) up found =
+    let h = searched xs n (Err i) found (rises xs up) in
+    sym (list_any_none (λ m. m == n) xs (λ k d lt. let e : get_or xs k d ≡ get_or xs k 0 = get_or_any xs k d lt in ap (λ m. m == n) e ∙ elim (cases_lt k i) [ inl low ↦ let g : get_or xs k 0 < n = h.1 k low in apart (get_or xs k 0) n (omega arith) | inr high ↦ let g : n < get_or xs k 0 = h.2 k high lt in apart (get_or xs k 0) n (omega arith) ]))
+
+-- The least number of an ascending list is its first.
+least_first : (ns : List ℕ) → IsStrictlyIncreasing ns → least_number ns ≡ slice_get ns 0
+least_first [] up = refl
+least_first (n ∷ ns) up = by (least_number ns) (number_is_least ns)
+  where
+    by : (o : Option ℕ) → IsLeast (Member ns) o → ◌≡◌ {A = Option ℕ} (Some (less_or n o)) (Some n)
+    by None h = refl
+    by (Some m) h = let least : n ≤ m = first_least (n ∷ ns) up m (contains_of (n ∷ ns) m (inr h.0)) in rw (le-ltb m n least) refl
+
+find_first : (p : ℕ → Bool) (ns : List ℕ) → find p ns ≡ slice_get (filter p ns) 0
+find_first p [] = refl
+find_first p (n ∷ ns) = elim (cases_Bool (p n)) [ inl t ↦ rw t refl | inr f ↦ rw f (find_first p ns) ]
+
+pub least_found : (ns ms : List ℕ) → IsStrictlyIncreasing ns → find (is_in ms) ns ≡ least_shared ns ms
+least_found ns ms up = find_first (is_in ms) ns ∙ sym (least_first (filter (is_in ms) ns) (IsStrictlyIncreasing-filter (is_in ms) ns up))
+
+-- It is the same from either side.
+pub shared_turned : (ns ms : List ℕ) → least_shared ns ms ≡ least_shared ms ns
+shared_turned ns ms = shared_is ms ns (least_shared ns ms) (turned (least_shared ns ms) (number_is_least (filter (is_in ms) ns)))
+  where
+    both : (n : ℕ) → Member (filter (is_in ms) ns) n → Contains ms n × Contains ns n
+    both n m = let r = member_filter (is_in ms) ns n m in (contains_of ms n (member_in ms n r.1), contains_of ns n r.0)
+
+    turned : (o : Option ℕ) → IsLeast (Member (filter (is_in ms) ns)) o → IsLeastCommon ms ns o
+    turned None h = λ q c. h q (shared_filter ns ms q (member_of ns q c.1) (member_of ms q c.0))
+    turned (Some k) h = (both k h.0, λ q c. h.1 q (shared_filter ns ms q (member_of ns q c.1) (member_of ms q c.0)))
+
+pub none_shared : (ns : List ℕ) → ◌≡◌ {A = Option ℕ} None (least_shared ns [])
+none_shared [] = refl
+none_shared (n ∷ ns) = none_shared ns

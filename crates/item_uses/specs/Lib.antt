@@ -1,0 +1,5 @@
+pub mod Blocks
+pub mod Gathered
+pub mod Sharing
+pub mod Spans
+pub mod Usages

@@ -1,0 +1,150 @@
+//! What the items of a log ask for, gathered from its tables.
+
+ghost use Rattle.std.specs.Prelude.{◌≡◌, ◌<◌, [], IfOk, OnOk, length, map};
+ghost use Rattle.std.specs.List.Sorted.{IsStrictlyIncreasing};
+ghost use Rattle.semantics.specs.Points.{points_in};
+ghost use Rattle.semantics.specs.Shown.{is_task_at};
+ghost use Rattle.log_tables.specs.Ascending.{body_fields};
+ghost use Rattle.item_uses.specs.Usages.{usage, usage_of, usages};
+ghost use Rattle.item_uses.specs.Gathered.{own_usages, with_usage};
+
+use crate::item::ItemUses;
+use crate::usage::Use;
+use bumpalo::Bump;
+use log_tables::Draft;
+use point_set::PointSet;
+use privilege::{Coherence, Priv};
+use semantics::{Item, ItemBody, Req};
+use std::alloc::{AllocError, Global};
+
+/// A requirement, with its fields in the arena.
+fn placed_use<'a, P: PointSet + Copy>(
+    bump: &'a Bump,
+    draft: &Draft<P>,
+    tree: u32,
+    space: u32,
+    fields: &[u32],
+    access: Priv,
+    coherence: Coherence,
+) -> Result<Use<'a, P>, AllocError>
+    requires { IsStrictlyIncreasing fields.now }
+    ensures { IfOk result (λ one. one ≡ usage tree (points_in draft.now space) fields.now access coherence) }
+{
+    let fields = bump.try_alloc_slice_copy(fields)?;
+    Ok(Use::new(tree, draft.set(space).copied(), fields, access, coherence))
+}
+
+/// What an item asks for by itself.
+fn own_uses<'a, P: PointSet + Copy>(
+    alloc: Global,
+    bump: &'a Bump,
+    draft: &Draft<P>,
+    item: &Item,
+) -> Result<ItemUses<'a, P>, AllocError>
+    requires { IsStrictlyIncreasing (body_fields item.now.body) }
+    ensures { IfOk result (λ uses. uses ≡ own_usages draft.now item.now) }
+{
+    let mut uses = ItemUses::new(alloc);
+    if let ItemBody::Fill {
+        tree,
+        space,
+        fields,
+        ..
+    } = &item.body
+    {
+        let one = placed_use(
+            bump,
+            draft,
+            *tree,
+            *space,
+            fields.as_slice(),
+            Priv::Wd,
+            Coherence::Exclusive,
+        )?;
+        uses.push(one)?;
+    }
+    Ok(uses)
+}
+
+/// What each item asks for by itself.
+fn own_uses_of_all<'a, P: PointSet + Copy>(
+    alloc: Global,
+    bump: &'a Bump,
+    draft: &Draft<P>,
+) -> Result<Vec<ItemUses<'a, P>>, AllocError>
+    ensures { IfOk result (λ items. items.items ≡ map (own_usages draft.now) draft.now.items) }
+{
+    let mut all = Vec::new(alloc);
+    for item in draft.items() {
+        all.push(own_uses(alloc, bump, draft, item)?)?;
+    }
+    Ok(all)
+}
+
+/// Whether the item at a position is a task.
+fn is_task_at<P: PointSet>(draft: &Draft<P>, item: usize) -> bool
+    ensures { result ≡ is_task_at draft.now item }
+{
+    match draft.items().get(item) {
+        Some(item) => match item.body {
+            ItemBody::Task => true,
+            _ => false,
+        },
+        None => false,
+    }
+}
+
+/// One requirement of an item more.
+fn add_req<'a, P: PointSet + Copy>(
+    bump: &'a Bump,
+    draft: &Draft<P>,
+    items: &mut Vec<ItemUses<'a, P>>,
+    req: &Req,
+) -> Result<(), AllocError>
+    requires each { length items.old.items ≡ length draft.now.items }
+    requires ascend { IsStrictlyIncreasing req.now.fields }
+    ensures { OnOk result (items.new.items
+        ≡ with_usage draft.now items.old.items req.now.item (usage_of draft.now req.now)) }
+{
+    if !is_task_at(draft, req.item) {
+        return Ok(());
+    }
+    let one = placed_use(
+        bump,
+        draft,
+        req.tree,
+        req.space,
+        req.fields.as_slice(),
+        req.access,
+        req.coherence,
+    )?;
+    items[req.item].push(one)
+}
+
+/// All requirements, each of its item.
+fn add_reqs<'a, P: PointSet + Copy>(
+    bump: &'a Bump,
+    draft: &Draft<P>,
+    items: &mut Vec<ItemUses<'a, P>>,
+) -> Result<(), AllocError>
+    requires { items.old.items ≡ map (own_usages draft.now) draft.now.items }
+    ensures { OnOk result (items.new.items ≡ usages draft.now) }
+{
+    for req in draft.reqs() {
+        add_req(bump, draft, items, req)?;
+    }
+    Ok(())
+}
+
+/// What each item of a log asks for, in program order. The fields lie in the arena.
+pub fn uses_of_items<'a, P: PointSet + Copy>(
+    alloc: Global,
+    bump: &'a Bump,
+    draft: &Draft<P>,
+) -> Result<Vec<ItemUses<'a, P>>, AllocError>
+    ensures { IfOk result (λ items. items.items ≡ usages draft.now) }
+{
+    let mut items = own_uses_of_all(alloc, bump, draft)?;
+    add_reqs(bump, draft, &mut items)?;
+    Ok(items)
+}

@@ -1,0 +1,19 @@
+//! What the items of a log ask for, and how two of them interfere.
+#![tactic(auto)]
+
+mod between;
+mod blocks;
+mod fields;
+mod gathering;
+mod item;
+mod laws;
+mod span;
+mod usage;
+
+pub use between::Interference;
+pub use blocks::spans_of_blocks;
+pub use gathering::uses_of_items;
+pub use item::ItemUses;
+pub use laws::items_interfere_by_requirements;
+pub use span::Span;
+pub use usage::Use;

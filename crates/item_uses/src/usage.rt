@@ -1,0 +1,182 @@
+//! What a requirement asks for.
+
+ghost use Rattle.std.specs.Prelude.{◌≡◌, ℕ, ◌≤◌, Contains, [], is_some, None, if◌then◌else◌};
+ghost use Rattle.std.specs.Option.{option_map_or};
+ghost use Rattle.std.specs.List.Sorted.{IsStrictlyIncreasing};
+ghost use Rattle.semantics.specs.Kinds.{is_free};
+ghost use Rattle.privilege.specs.Interference.{kind_of};
+ghost use Rattle.privilege.specs.declared.kinds.Kind.TheVariants as kinds;
+ghost use Rattle.item_uses.specs.Usages.{usage};
+ghost use Rattle.item_uses.specs.Spans.{IsWithin};
+ghost use Rattle.item_uses.specs.Sharing.{least_shared, place_at, shared_place, shared_kind, kind_place};
+
+use crate::between::Interference;
+use crate::fields::{first_field, last_field, shared_field};
+use crate::span::Span;
+use point_set::PointSet;
+use privilege::{Coherence, Kind, Priv, kind};
+use semantics::Place;
+use std::marker::Model;
+
+/// A requirement with its points, or a fill, which writes, is exclusive, and sees nothing of the old contents.
+#[derive(Drop)]
+pub struct Use<'a, P: PointSet + Copy> {
+    tree: u32,
+    // Without a set there are no points.
+    set: Option<P>,
+    fields: &'a [u32],
+    access: Priv,
+    coherence: Coherence,
+    span: Span,
+}
+
+impl<'a, P: PointSet + Copy> Model for Use<'a, P> {
+    ghost use Rattle.std.specs.Prelude.{[]};
+    ghost use Rattle.std.specs.Option.{option_map_or};
+    ghost use Rattle.std.specs.List.Sorted.{IsStrictlyIncreasing};
+    ghost use Rattle.item_uses.specs.Usages.{Usage, usage};
+    ghost use Rattle.item_uses.specs.Spans.{IsWithin};
+
+    ghost Value = { Usage };
+
+    ghost view = { λ u. usage u.tree (option_map_or P.points u.set []) u.fields.now u.access u.coherence };
+
+    ghost invariant = { λ u. IsStrictlyIncreasing u.fields.now
+        × IsWithin u.span (usage u.tree (option_map_or P.points u.set []) u.fields.now u.access u.coherence) };
+}
+
+/// A point of a set that none is less than.
+fn first_of<P: PointSet>(set: &P) -> u64
+    ensures { (x : ℕ) → Contains (P.points set.now) x → result ≤ x }
+{
+    match set.first() {
+        Some(first) => first,
+        None => u64::MAX,
+    }
+}
+
+/// A point of a set that none is greater than.
+fn last_of<P: PointSet>(set: &P) -> u64
+    ensures { (x : ℕ) → Contains (P.points set.now) x → x ≤ result }
+{
+    match set.last() {
+        Some(last) => last,
+        None => 0,
+    }
+}
+
+/// A first and a last number: each point of the set, where there is a set, is between them.
+fn ends_of<P: PointSet>(set: &Option<P>) -> (u64, u64)
+    ensures { (x : ℕ) → Contains (option_map_or P.points set.now []) x → (result.0 ≤ x) × (x ≤ result.1) }
+{
+    match set {
+        Some(set) => (first_of(set), last_of(set)),
+        None => (u64::MAX, 0),
+    }
+}
+
+/// The least point of two sets.
+#[tactic(auto, using(crate::proofs::Shared::shared_is))]
+fn shared_by_sets<P: PointSet>(ours: &P, theirs: &P) -> Option<u64>
+    ensures { result ≡ least_shared (P.points ours.now) (P.points theirs.now) }
+{
+    ours.first_common(theirs)
+}
+
+/// The least point of two sets, where there are both.
+#[tactic(auto, using(crate::proofs::Shared::none_shared))]
+fn shared_point<P: PointSet>(ours: &Option<P>, theirs: &Option<P>) -> Option<u64>
+    ensures { result ≡ least_shared (option_map_or P.points ours.now []) (option_map_or P.points theirs.now []) }
+{
+    let Some(ours) = ours else {
+        return None;
+    };
+    match theirs {
+        Some(theirs) => shared_by_sets(ours, theirs),
+        None => None,
+    }
+}
+
+/// The place of this point and field, where there are both.
+fn place_of(tree: u32, point: Option<u64>, field: Option<u32>) -> Option<Place>
+    ensures { result ≡ place_at tree point field }
+{
+    match (point, field) {
+        (Some(point), Some(field)) => Some(Place { tree, point, field }),
+        _ => None,
+    }
+}
+
+impl<'a, P: PointSet + Copy> Use<'a, P> {
+    /// The requirement of these fields at the points of this set, or at no point.
+    pub fn new(
+        tree: u32,
+        set: Option<P>,
+        fields: &'a [u32],
+        access: Priv,
+        coherence: Coherence,
+    ) -> Use<'a, P>
+        requires { IsStrictlyIncreasing fields.now }
+        ensures { result ≡ usage tree (option_map_or P.points set []) fields.now access coherence }
+    {
+        let (first_point, last_point) = ends_of(&set);
+        let span = Span {
+            first_tree: tree,
+            last_tree: tree,
+            first_point,
+            last_point,
+            first_field: first_field(fields),
+            last_field: last_field(fields),
+        };
+        Use {
+            tree,
+            set,
+            fields,
+            access,
+            coherence,
+            span,
+        }
+    }
+
+    /// Bounds on what it asks for.
+    pub(crate) fn span(&self) -> Span
+        ensures { IsWithin result self.now }
+    {
+        self.span
+    }
+
+    /// The least place of both.
+    fn shared(&self, other: &Use<'a, P>) -> Option<Place>
+        ensures { result ≡ shared_place self.now other.now }
+    {
+        if self.tree != other.tree {
+            return None;
+        }
+        if !self.span.overlaps(&other.span) {
+            return None;
+        }
+        place_of(
+            self.tree,
+            shared_point(&self.set, &other.set),
+            shared_field(self.fields, other.fields),
+        )
+    }
+
+    /// How the two interfere.
+    pub fn interference(&self, other: &Use<'a, P>) -> Interference
+        ensures kind { result.kind ≡ shared_kind self.now other.now }
+        ensures place { result.place ≡ kind_place self.now other.now }
+    {
+        let kind = kind(self.access, self.coherence, other.access, other.coherence);
+        if kind == Kind::Free {
+            return Interference::none();
+        }
+        match self.shared(other) {
+            Some(place) => Interference {
+                kind,
+                place: Some(place),
+            },
+            None => Interference::none(),
+        }
+    }
+}
