@@ -27,7 +27,9 @@ impl Model for Bag {
 /// An operator, and the bag of what was added by it.
 #[derive(Debug, Drop)]
 pub struct Group {
+    /// The operator.
     pub op: u32,
+    /// What was added by it.
     pub bag: Bag,
 }
 
@@ -94,6 +96,13 @@ impl Bag {
         ensures { result ≡ length self.now }
     {
         self.entries.len()
+    }
+
+    /// The contributions in order, each with its count.
+    pub fn as_slice(&self) -> &[(Contribution, u64)]
+        ensures { result.now ≡ self.now }
+    {
+        &self.entries
     }
 
     /// The contribution at place `k`, from 0, with its count, or `None` past the last.

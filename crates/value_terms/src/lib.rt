@@ -8,7 +8,7 @@ mod terms;
 mod value;
 mod worked;
 
-pub use bag::Bag;
+pub use bag::{Bag, Group};
 pub use laws::{
     bags_are_counts, changes_commute, same_values_are_equal, values_are_sums,
     values_stay_well_formed, weights_add_up,

@@ -111,6 +111,13 @@ impl Value {
         self.base
     }
 
+    /// The groups, the oldest first.
+    pub fn groups(&self) -> &[Group]
+        ensures { result.now ≡ self.now.groups }
+    {
+        &self.groups
+    }
+
     /// How many groups there are.
     pub fn group_count(&self) -> usize
         ensures { result ≡ length self.now.groups }
