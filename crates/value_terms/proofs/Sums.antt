@@ -7,10 +7,10 @@ use Rattle.value_terms.specs.declared.bag.Group.{Group}
 use Rattle.value_terms.specs.declared.terms.Base.{Base}
 use Rattle.value_terms.specs.declared.terms.Base.TheVariants.{Raw, Init, Ident, Const, Out}
 use Rattle.value_terms.specs.declared.terms.Contribution.{Contribution}
-use Rattle.value_terms.specs.Values.{Bag, Value, joined, total, weight_in, weight_of, extended, last_has, is_raw, plain, add, fold_parts, fold_in, with_bag, with_groups, IsWellFormedBag, NeighboursDiffer, IsWellFormed}
+use Rattle.value_terms.specs.Values.{Bag, Value, joined, total, weight_in, weight_of, extended, last_has, is_raw, plain, value_of, add, fold_parts, fold_in, with_bag, with_groups, IsWellFormedBag, NeighboursDiffer, IsWellFormed}
 use Rattle.value_terms.proofs.Changes.{extended_later}
 use Rattle.value_terms.proofs.Grouping.{appended, weight_extended}
-use Rattle.value_terms.proofs.Held.{seen_as, added_told}
+use Rattle.value_terms.proofs.Held.{added_told}
 use Rattle.value_terms.proofs.Placing.{joined_none}
 
 -- ---- adding one after another
@@ -54,12 +54,12 @@ others_differ : (g : Group) (groups : List Group) → NeighboursDiffer (g ∷ gr
 others_differ g [] differ = tt
 others_differ g (h ∷ groups) differ = differ.1
 
-groups_sum : (base : Base) (front groups : List Group) → is_raw base ≡ false → StartsAnew front groups → NeighboursDiffer groups → AllByRecursion (λ g. g.bag ≢ []) groups → AllByRecursion (λ g. IsWellFormedBag g.bag) groups → with_groups groups (seen_as base front) ≡ seen_as base (front ++ groups)
-groups_sum base front [] other anew differ some bags = ap (seen_as base) (sym (append-nil front))
+groups_sum : (base : Base) (front groups : List Group) → is_raw base ≡ false → StartsAnew front groups → NeighboursDiffer groups → AllByRecursion (λ g. g.bag ≢ []) groups → AllByRecursion (λ g. IsWellFormedBag g.bag) groups → with_groups groups (value_of base front) ≡ value_of base (front ++ groups)
+groups_sum base front [] other anew differ some bags = ap (value_of base) (sym (append-nil front))
 groups_sum base front (g ∷ groups) other anew differ some bags =
     let new = appended g.op g.bag g.bag front anew (sym (joined_none g.bag bags.0.ascends)) in
-    let one = bag_sums g.op g.bag (seen_as base front) ∙ sym (added_told g.op g.bag base front (front ++ g ∷ []) (seen_as base front) refl other some.0 new) in
-    ap (with_groups groups) one ∙ groups_sum base (front ++ g ∷ []) groups other (starts_anew front g groups differ) (others_differ g groups differ) some.1 bags.1 ∙ ap (seen_as base) (append_assoc front (g ∷ []) groups)
+    let one = bag_sums g.op g.bag (value_of base front) ∙ sym (added_told g.op g.bag base front (front ++ g ∷ []) (value_of base front) refl other some.0 new) in
+    ap (with_groups groups) one ∙ groups_sum base (front ++ g ∷ []) groups other (starts_anew front g groups differ) (others_differ g groups differ) some.1 bags.1 ∙ ap (value_of base) (append_assoc front (g ∷ []) groups)
 
 pub value_sums : (v : Value) → IsWellFormed v → with_groups v.groups (plain v.base) ≡ v
 value_sums v h = by_raw (is_raw v.base) refl where
@@ -71,7 +71,7 @@ value_sums v h = by_raw (is_raw v.base) refl where
   raw_is (Out t) is = cc is
 
   by_raw : (is : Bool) → is_raw v.base ≡ is → with_groups v.groups (plain v.base) ≡ v
-  by_raw true raw = let none = h.raw_is_plain (raw_is v.base raw) in ap (λ (gs : List Group). with_groups gs (plain v.base)) none ∙ ap (seen_as v.base) (sym none)
+  by_raw true raw = let none = h.raw_is_plain (raw_is v.base raw) in ap (λ (gs : List Group). with_groups gs (plain v.base)) none ∙ ap (value_of v.base) (sym none)
   by_raw false other = groups_sum v.base [] v.groups other (first_anew v.groups) h.neighbours_differ h.no_bag_is_empty h.bags where
     first_anew : (groups : List Group) → StartsAnew [] groups
     first_anew [] = tt

@@ -46,9 +46,13 @@ pub record Value : Type 0 where
 abbrev pub group_at : Value → ℕ → Option (ℕ × Bag)
 group_at v k = option_map (λ g. (g.op, g.bag)) (slice_get v.groups k)
 
+-- The value of a base and groups.
+abbrev pub value_of : Base → List Group → Value
+value_of base groups = record { base = base; groups = groups }
+
 -- A base to which nothing was added.
 abbrev pub plain : Base → Value
-plain base = record { base = base; groups = [] }
+plain base = value_of base []
 
 -- Whether a base is raw.
 abbrev pub is_raw : Base → Bool

@@ -39,9 +39,9 @@ impl Model for Value {
 
     ghost Value = { says.Value };
 
-    ghost view = { λ v. record { base = v.base; groups = v.groups.items } };
+    ghost view = { λ v. says.value_of v.base v.groups.items };
 
-    ghost invariant = { λ v. says.IsHeld (record { base = v.base; groups = v.groups.items }) × (v.weight ≡ says.weight_in v.groups.items) };
+    ghost invariant = { λ v. says.IsHeld (says.value_of v.base v.groups.items) × (v.weight ≡ says.weight_in v.groups.items) };
 }
 
 /// Whether a base is raw.
