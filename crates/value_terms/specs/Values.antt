@@ -37,7 +37,7 @@ unfoldable pub joined : Bag → Bag → Bag
 joined a [] = a
 joined a (e ∷ b) = joined (counted e.0 e.1 a) b
 
--- A value: a base, and the groups that were added to it, the oldest first.
+-- A value: a base, and the groups that were added to it, the oldest first. A group is an operator with the bag of what was added by it.
 pub record Value : Type 0 where
   pub base : Base
   pub groups : List Group

@@ -179,7 +179,7 @@ impl Value {
         Ok(())
     }
 
-    /// Folds a value in by an operator: what it was added by the same operator is added, and where it holds more than that the value is raw.
+    /// Folds a value in by an operator. The identity changes nothing, the identity with one group of the operator adds what that group holds, and any other value leaves a raw one.
     pub fn fold(&mut self, op: u32, from: &Value) -> Result<(), Memory>
         requires { weight_of self.old + weight_of from.now < 2 ^ 64 }
         ensures ok { OnOk result (self.new ≡ fold_in self.old op from.now) }
