@@ -11,7 +11,7 @@ use Rattle.semantics.specs.declared.tables.Req.{Req}
 use Rattle.semantics.specs.Records.{records_of}
 use Rattle.semantics.specs.Tables.{Tables, with_record, no_tables, tables_of}
 use Rattle.semantics.specs.Steps.{mapped}
-use Rattle.semantics.specs.Rules.{is_declared, names, repeats_event, waits_for_none}
+use Rattle.semantics.specs.Rules.{is_declared, names, repeats_id, repeats_event, waits_for_none, is_bad_serial}
 use Rattle.semantics.specs.Faults.{Command, Check, tried, records_fault, declaration_fault, log_fault, header_fault, ended_fault, count_fault, serial_fault, map_fault}
 use Rattle.log_laws.proofs.Members.{Member, member_of, none_found, both_none, unmapped_none, all_at}
 use Rattle.log_laws.proofs.Sane.{Keeps, AreSane, with_kept, nothing_sane}
@@ -51,24 +51,34 @@ keeps_of log earlier r u =
     let known = or_parts (not (list_all (is_declared (tables_of earlier)) (names r))) _ u.1.1.0 in
     record { declared = not-false _ known.0; named = known.1; own = u.1.1.1.1.1.1.1.1.1.1.1.1.0; tree = u.1.1.1.1.1.1.1.1.1.1.1.1.1.0 }
 
+pub id_is_new : (log : List Record) (earlier : List Lined) (r : Record) → Unbroken log earlier r → repeats_id (tables_of earlier) r ≡ false
+id_is_new log earlier r u = u.1.0
+
 pub event_is_new : (log : List Record) (earlier : List Lined) (r : Record) → Unbroken log earlier r → repeats_event (tables_of earlier) r ≡ false
 event_is_new log earlier r u = u.1.1.1.1.1.1.1.1.1.1.1.1.1.1.1.1.1.1.1.0
 
 pub events_are_completed : (log : List Record) (earlier : List Lined) (r : Record) → Unbroken log earlier r → waits_for_none log r ≡ false
 events_are_completed log earlier r u = u.1.1.1.1.1.1.1.1.1.1.1.1.1.1.1.1.1.1.1.1.0
 
+pub serial_is_good : (log : List Record) (earlier : List Lined) (r : Record) → Unbroken log earlier r → is_bad_serial log (tables_of earlier) r ≡ false
+serial_is_good log earlier r u = u.1.1.1.1.1.1.1.1.1.1.1.1.1.1.1.1.1.1.1.1.1.0
+
 -- What it means, part by part, that a command shows no fault of a log.
 pub record IsFaultless (command : Command) (log : List Lined) : Type 0 where
   pub records : records_fault (records_of log) [] log ≡ None
   pub maps : map_fault command (tables_of log) ≡ None
 
+pub no_broken_rule : (lines : ℕ) (log : List Lined) → declaration_fault lines log ≡ None → records_fault (records_of log) [] log ≡ None
+no_broken_rule lines log e =
+    let header = both_none (header_fault lines log) _ e in
+    let ended = both_none (ended_fault lines log) _ header.1 in
+    (both_none (count_fault log) _ ended.1).1
+
 pub faultless : (command : Command) (lines : ℕ) (log : List Lined) → log_fault command lines log ≡ None → IsFaultless command log
 unfolding log_fault
 faultless command lines log e =
     let both = both_none (declaration_fault lines log) _ e in
-    let header = both_none (header_fault lines log) _ both.0 in
-    let ended = both_none (ended_fault lines log) _ header.1 in
-    record { records = (both_none (count_fault log) _ ended.1).1; maps = (both_none (serial_fault (tables_of log)) _ both.1).1 }
+    record { records = no_broken_rule lines log both.0; maps = (both_none (serial_fault (tables_of log)) _ both.1).1 }
 
 pub sane : (command : Command) (log : List Lined) → IsFaultless command log → AreSane (tables_of log)
 sane command log f = by_records (λ r. Unit {0}) AreSane (records_of log) (λ earlier l u _. with_kept (tables_of earlier) l.line l.rec (keeps_of (records_of log) earlier l.rec u))

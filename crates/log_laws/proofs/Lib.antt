@@ -11,4 +11,5 @@ pub mod StepLists
 pub mod Tidy
 pub mod ReadLogs
 pub mod Linked
+pub mod Listed
 pub mod Replay

@@ -1,0 +1,122 @@
+-- In a log without a broken rule no two items have one id. Where lines list items, each item is listed once, and nothing else is.
+use Rattle.std.proofs.Common.{◌≡◌, ◌≢◌, ℕ, ◌+◌, ◌<◌, ◌==◌, inl, inr, Bool, true, false, ◌||◌, List, [], ◌∷◌, ◌++◌, filter, fold, length, refl, sym, ap, ◌∙◌, subst, arith, Some, None, is_some, IsSome, find, slice_get, flat_map, append-nil, length-append}
+use Rattle.std.specs.List.{list_any, list_all}
+use Rattle.std.proofs.lemmas.Bool.{true≢false, not-false, or_parts, eq-eqb}
+use Rattle.std.proofs.lemmas.Grind.{flat_map-append}
+use Rattle.std.proofs.lemmas.List.Elements.{recursion_from_All, Contains-get_or, filter-append}
+use Rattle.std.proofs.lemmas.List.Folds.{list_any-append}
+use Rattle.std.proofs.lemmas.Option.{slice_get_cases}
+use Rattle.spy_grammar.specs.declared.record.Record.{Record}
+use Rattle.spy_grammar.specs.declared.record.Record.TheVariants as records
+use Rattle.spy_grammar.specs.declared.record.Lined.{Lined}
+use Rattle.semantics.specs.declared.tables.Item.{Item}
+use Rattle.semantics.specs.declared.tables.ItemBody.{ItemBody}
+use Rattle.semantics.specs.declared.tables.Serial.{Serial}
+use Rattle.semantics.specs.Records.{records_of}
+use Rattle.semantics.specs.Tables.{Tables, with_item, with_record, no_tables, tables_of}
+use Rattle.semantics.specs.Points.{is_in, meets}
+use Rattle.semantics.specs.SerialOrder.{listed}
+use Rattle.semantics.specs.Steps.{id_of}
+use Rattle.semantics.specs.Rules.{is_declared, item_id, names, repeats_id, has_repeat, items_listed, items_declared, is_bad_serial}
+use Rattle.semantics.specs.Faults.{records_fault}
+use Rattle.log_laws.proofs.Members.{Member, Each, each_more, member_of, member_at, member_append, map_member, member_flat, any_at, find_any, none_at, all_at, is_in_of, member_in, meets_of}
+use Rattle.log_laws.proofs.Apart.{Apart, PairsBy, pairs_append, pairs_more}
+use Rattle.log_laws.proofs.Sane.{Keeps}
+use Rattle.log_laws.proofs.Admitted.{by_records, keeps_of, id_is_new, serial_is_good}
+
+-- Whether a record lists items.
+abbrev lists : Record → Bool
+lists r = is_some (items_listed r)
+
+-- No two items have one id, and each is declared by a record of the log. No id is listed twice, and each is that of an item. Once all lines that list items are read, they list each item of the log.
+pub record AreListed (log : List Record) (t : Tables) : Type 0 where
+  pub ids : PairsBy (λ (i j : Item). i.id ≢ j.id) t.items
+  pub of_log : Each (λ (i : Item). (r : Record) × Member log r × Member (items_declared r) i.id) t.items
+  pub once : Apart (listed t)
+  pub known : Each (λ id. is_declared t (item_id id) ≡ true) (listed t)
+  pub whole : 0 < length t.serials → length (filter lists log) ≡ length t.serials → (r : Record) (id : ℕ) → Member log r → Member (items_declared r) id → Member (listed t) id
+
+not_repeated : (ns : List ℕ) → has_repeat ns ≡ false → Apart ns
+not_repeated [] e = tt
+not_repeated (n ∷ ns) e =
+    let parts = or_parts (is_in ns n) (has_repeat ns) e in
+    (λ m is same. true≢false (sym (is_in_of ns n (subst (Member ns) (sym same) is)) ∙ parts.0), not_repeated ns parts.1)
+
+one_more_item : (log : List Record) (t : Tables) (line id : ℕ) (body : ItemBody) → (r : Record) × Member log r × Member (items_declared r) id → list_any (is_declared t) (item_id id ∷ []) ≡ false
+    → AreListed log t → AreListed log (with_item t line id body)
+one_more_item log t line id body of new h =
+    let fresh = none_at (is_declared t) (item_id id ∷ []) (item_id id) new (inl refl) in
+    record {
+      ids = pairs_more (λ (i j : Item). i.id ≢ j.id) t.items _ h.ids (λ i m same. true≢false (sym (eq-eqb i.id id same) ∙ none_at (λ (i : Item). i.id == id) t.items i fresh m));
+      of_log = each_more _ t.items _ h.of_log of;
+      once = h.once;
+      known = λ n m. list_any-append (λ (i : Item). i.id == n) t.items _ ∙ rw (h.known n m) refl;
+      whole = h.whole;
+    }
+
+one_more_line : (log : List Record) (t : Tables) (line : ℕ) (ids : List ℕ) → Keeps t (records.Serial ids) → is_bad_serial log t (records.Serial ids) ≡ false
+    → AreListed log t → AreListed log (with_record t line (records.Serial ids))
+one_more_line log t line ids k good h =
+    let s : Serial = record { line = line; ids = ids } in
+    let more : flat_map (λ (s : Serial). s.ids) (t.serials ++ s ∷ []) ≡ listed t ++ ids = flat_map-append (λ (s : Serial). s.ids) t.serials (s ∷ []) ∙ ap (λ ns. listed t ++ ns) (append-nil ids) in
+    let last = λ (r : Record). list_all (is_in (listed t ++ ids)) (items_declared r) in
+    let rules = or_parts (has_repeat ids || meets ids (listed t)) _ good in
+    let twice = or_parts (has_repeat ids) (meets ids (listed t)) rules.0 in
+    record {
+      ids = h.ids;
+      of_log = h.of_log;
+      once = subst Apart (sym more) (pairs_append (λ m n. m ≢ n) (listed t) ids h.once (not_repeated ids twice.0)
+          (λ m n a b same. true≢false (sym (meets_of ids (listed t) n b (subst (Member (listed t)) same a)) ∙ twice.1)));
+      known = λ n m. elim (member_append (listed t) ids n (subst (λ ns. Member ns n) more m)) [
+        | inl earlier ↦ h.known n earlier
+        | inr here ↦ all_at (is_declared t) (names (records.Serial ids)) (item_id n) k.declared (map_member (λ id. item_id id) ids n here)
+      ];
+      whole = λ _ count r id m is.
+          let all : list_all last log ≡ true = not-false _ (rw (eq-eqb (length (filter lists log)) (length t.serials + 1) (count ∙ length-append t.serials (s ∷ []))) at rules.1) in
+          subst (λ ns. Member ns id) (sym more) (member_in (listed t ++ ids) id (all_at (is_in (listed t ++ ids)) (items_declared r) id (all_at last log r all m) is));
+    }
+
+one_more : (log : List Record) (t : Tables) (line : ℕ) (r : Record) → Member log r → Keeps t r → repeats_id t r ≡ false → is_bad_serial log t r ≡ false
+    → AreListed log t → AreListed log (with_record t line r)
+one_more log t line (records.Task id) m k new good h = one_more_item log t line id _ (records.Task id, m, inl refl) new h
+one_more log t line (records.Fill id tree space fields n) m k new good h = one_more_item log t line id _ (records.Fill id tree space fields n, m, inl refl) new h
+one_more log t line (records.Serial ids) m k new good h = one_more_line log t line ids k good h
+one_more log t line _ m k new good h = record { ids = h.ids; of_log = h.of_log; once = h.once; known = h.known; whole = h.whole }
+
+pub are_listed : (log : List Lined) → records_fault (records_of log) [] log ≡ None → AreListed (records_of log) (tables_of log)
+are_listed log none =
+    let all = records_of log in
+    by_records (Member all) (AreListed all) all
+    (λ earlier l u m h. one_more all (tables_of earlier) l.line l.rec m (keeps_of all earlier l.rec u) (id_is_new all earlier l.rec u) (serial_is_good all earlier l.rec u) h)
+    [] log (recursion_from_All (Member all) all (λ k d lt. member_of all _ (Contains-get_or all k d lt))) none
+    (record { ids = tt; of_log = λ i m. absurd m; once = tt; known = λ n m. absurd m; whole = λ some. absurd (omega (arith, some)) })
+
+-- ---- all lines that list items
+
+line_added : (t : Tables) (line : ℕ) (r : Record) → length (with_record t line r).serials ≡ length t.serials + length (filter lists (r ∷ []))
+line_added t line (records.Serial ids) = length-append t.serials _
+line_added t line _ = omega arith
+
+lines_counted : (t : Tables) (log : List Lined) → length (fold (λ t (l : Lined). with_record t l.line l.rec) t log).serials ≡ length t.serials + length (filter lists (records_of log))
+lines_counted t [] = omega arith
+lines_counted t (l ∷ log) =
+    let split = ap length (filter-append lists (l.rec ∷ []) (records_of log)) ∙ length-append (filter lists (l.rec ∷ [])) _ in
+    omega (arith, lines_counted (with_record t l.line l.rec) log, line_added t l.line l.rec, split)
+
+-- The item at a position.
+item_at : (items : List Item) (k : ℕ) → k < length items → (i : Item) × (slice_get items k ≡ Some i)
+item_at items k lt = elim (slice_get_cases items k).1 [ inl at ↦ (at.0, at.2) | inr past ↦ absurd (omega (arith, lt, past.0)) ]
+
+pub each_listed : (log : List Lined) → records_fault (records_of log) [] log ≡ None → 0 < length (tables_of log).serials → (item : ℕ) → item < length (tables_of log).items
+    → Member (listed (tables_of log)) (id_of (tables_of log) item)
+each_listed log none some item lt =
+    let h = are_listed log none in
+    let i = item_at (tables_of log).items item lt in
+    let of = h.of_log i.0 (member_at (tables_of log).items item i.0 i.1) in
+    rw i.1 (h.whole some (omega (arith, lines_counted no_tables log)) of.0 i.0.id of.1 of.2)
+
+-- A line that lists an id is found.
+pub line_found : (serials : List Serial) (id : ℕ) → Member (flat_map (λ (s : Serial). s.ids) serials) id → IsSome (find (λ (s : Serial). is_in s.ids id) serials)
+line_found serials id m =
+    let at = member_flat (λ (s : Serial). s.ids) serials id m in
+    ap is_some (find_any (λ (s : Serial). is_in s.ids id) serials (any_at _ serials at.0 at.1 (is_in_of at.0.ids id at.2))).1
