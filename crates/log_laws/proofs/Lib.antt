@@ -12,4 +12,5 @@ pub mod Tidy
 pub mod ReadLogs
 pub mod Linked
 pub mod Listed
+pub mod SerialOrder
 pub mod Replay

@@ -22,7 +22,7 @@ use Rattle.semantics.specs.Faults.{records_fault}
 use Rattle.log_laws.proofs.Members.{Member, Each, each_more, member_of, member_at, member_append, map_member, member_flat, any_at, find_any, none_at, all_at, is_in_of, member_in, meets_of}
 use Rattle.log_laws.proofs.Apart.{Apart, PairsBy, pairs_append, pairs_more}
 use Rattle.log_laws.proofs.Sane.{Keeps}
-use Rattle.log_laws.proofs.Admitted.{by_records, keeps_of, id_is_new, serial_is_good}
+use Rattle.log_laws.proofs.Admitted.{Unbroken, by_records, keeps_of, id_is_new, serial_is_good}
 
 -- Whether a record lists items.
 abbrev lists : Record → Bool
@@ -36,12 +36,14 @@ pub record AreListed (log : List Record) (t : Tables) : Type 0 where
   pub known : Each (λ id. is_declared t (item_id id) ≡ true) (listed t)
   pub whole : 0 < length t.serials → length (filter lists log) ≡ length t.serials → (r : Record) (id : ℕ) → Member log r → Member (items_declared r) id → Member (listed t) id
 
+-- A list without a repeat has nothing twice.
 not_repeated : (ns : List ℕ) → has_repeat ns ≡ false → Apart ns
 not_repeated [] e = tt
 not_repeated (n ∷ ns) e =
     let parts = or_parts (is_in ns n) (has_repeat ns) e in
     (λ m is same. true≢false (sym (is_in_of ns n (subst (Member ns) (sym same) is)) ∙ parts.0), not_repeated ns parts.1)
 
+-- These facts stay with an item more, with a line more, and so with each record that breaks no rule.
 one_more_item : (log : List Record) (t : Tables) (line id : ℕ) (body : ItemBody) → (r : Record) × Member log r × Member (items_declared r) id → list_any (is_declared t) (item_id id ∷ []) ≡ false
     → AreListed log t → AreListed log (with_item t line id body)
 one_more_item log t line id body of new h =
@@ -83,16 +85,18 @@ one_more log t line (records.Fill id tree space fields n) m k new good h = one_m
 one_more log t line (records.Serial ids) m k new good h = one_more_line log t line ids k good h
 one_more log t line _ m k new good h = record { ids = h.ids; of_log = h.of_log; once = h.once; known = h.known; whole = h.whole }
 
+one_more_unbroken : (log : List Record) (earlier : List Lined) (l : Lined) → Unbroken log earlier l.rec → Member log l.rec
+    → AreListed log (tables_of earlier) → AreListed log (with_record (tables_of earlier) l.line l.rec)
+one_more_unbroken log earlier l u m = one_more log (tables_of earlier) l.line l.rec m (keeps_of log earlier l.rec u) (id_is_new log earlier l.rec u) (serial_is_good log earlier l.rec u)
+
 pub are_listed : (log : List Lined) → records_fault (records_of log) [] log ≡ None → AreListed (records_of log) (tables_of log)
-are_listed log none =
-    let all = records_of log in
-    by_records (Member all) (AreListed all) all
-    (λ earlier l u m h. one_more all (tables_of earlier) l.line l.rec m (keeps_of all earlier l.rec u) (id_is_new all earlier l.rec u) (serial_is_good all earlier l.rec u) h)
-    [] log (recursion_from_All (Member all) all (λ k d lt. member_of all _ (Contains-get_or all k d lt))) none
+are_listed log none = by_records (Member (records_of log)) (AreListed (records_of log)) (records_of log) (one_more_unbroken (records_of log))
+    [] log (recursion_from_All _ (records_of log) (λ k d lt. member_of (records_of log) _ (Contains-get_or (records_of log) k d lt))) none
     (record { ids = tt; of_log = λ i m. absurd m; once = tt; known = λ n m. absurd m; whole = λ some. absurd (omega (arith, some)) })
 
 -- ---- all lines that list items
 
+-- Each record that lists items adds a line to the tables.
 line_added : (t : Tables) (line : ℕ) (r : Record) → length (with_record t line r).serials ≡ length t.serials + length (filter lists (r ∷ []))
 line_added t line (records.Serial ids) = length-append t.serials _
 line_added t line _ = omega arith
@@ -104,9 +108,10 @@ lines_counted t (l ∷ log) =
     omega (arith, lines_counted (with_record t l.line l.rec) log, line_added t l.line l.rec, split)
 
 -- The item at a position.
-item_at : (items : List Item) (k : ℕ) → k < length items → (i : Item) × (slice_get items k ≡ Some i)
+pub item_at : (items : List Item) (k : ℕ) → k < length items → (i : Item) × (slice_get items k ≡ Some i)
 item_at items k lt = elim (slice_get_cases items k).1 [ inl at ↦ (at.0, at.2) | inr past ↦ absurd (omega (arith, lt, past.0)) ]
 
+-- Where a line lists items, each item is listed.
 pub each_listed : (log : List Lined) → records_fault (records_of log) [] log ≡ None → 0 < length (tables_of log).serials → (item : ℕ) → item < length (tables_of log).items
     → Member (listed (tables_of log)) (id_of (tables_of log) item)
 each_listed log none some item lt =

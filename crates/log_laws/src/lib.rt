@@ -10,7 +10,7 @@ mod step_laws;
 pub use answer_laws::{one_answer, swap_law};
 pub use order_laws::{replay_order_lists, stuck_nodes_have_cycles};
 pub use read_laws::{one_log, printed_logs_are_read, read_logs_are_good};
-pub use serial_laws::items_are_listed;
+pub use serial_laws::{item_ids_are_apart, items_are_listed, serial_order_lists};
 pub use step_laws::{
     faultless_logs_are_linked, faultless_logs_are_tidy, faultless_logs_have_one_answer,
     replay_is_an_interleaving,

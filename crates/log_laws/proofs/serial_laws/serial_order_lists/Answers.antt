@@ -1,0 +1,17 @@
+use Rattle.std.proofs.Common.{◌≢◌}
+use Rattle.semantics.specs.Tables.{tables_of}
+use Rattle.semantics.specs.SerialOrder.{serial}
+use Rattle.log_laws.proofs.Members.{member_of, contains_of}
+use Rattle.log_laws.proofs.Apart.{all_pairs}
+use Rattle.log_laws.proofs.Admitted.{no_broken_rule}
+use Rattle.log_laws.proofs.SerialOrder.{serial_has_each}
+use Rattle.log_laws.proofs.serial_laws.serial_order_lists.Goals as goal
+
+pub returns-clause-once : goal.returns-clause-once
+returns-clause-once c lines log none = all_pairs (λ a b. a ≢ b) (serial (tables_of log)) (serial_has_each log (no_broken_rule lines log none)).0
+
+pub returns-clause-items : goal.returns-clause-items
+returns-clause-items c lines log none item =
+    let is = (serial_has_each log (no_broken_rule lines log none)).1 item in
+    let order = serial (tables_of log) in
+    (λ m. is.0 (member_of order item m), λ lt. contains_of order item (is.1 lt))
