@@ -1,5 +1,5 @@
 -- Good records, by recursion along a log.
-use Rattle.std.proofs.Common.{◌≡◌, List, [], ◌∷◌, All, map}
+use Rattle.std.proofs.Common.{List, [], ◌∷◌, All}
 use Rattle.std.specs.List.{AllByRecursion}
 use Rattle.std.proofs.lemmas.List.Elements.{recursion_from_All}
 use Rattle.spy_grammar.specs.declared.record.Lined.{Lined}

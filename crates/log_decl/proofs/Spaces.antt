@@ -1,5 +1,5 @@
 -- Which spaces are declared, and their paths.
-use Rattle.std.proofs.Common.{◌≡◌, ◌≢◌, ◌⊎◌, inl, inr, ℕ, ◌==◌, true, false, Bool, nat_eq, List, [], ◌∷◌, ◌++◌, map, find, arith, Option, Some, ◌∙◌, sym, ap, subst}
+use Rattle.std.proofs.Common.{◌≡◌, ◌≢◌, ◌⊎◌, inl, inr, ℕ, ◌==◌, true, List, [], ◌∷◌, ◌++◌, map, find, arith, Option, Some, ◌∙◌, sym, ap, subst}
 use Rattle.std.specs.Option.{IsSome}
 use Rattle.std.proofs.lemmas.Grind.{common_steps}
 use Rattle.semantics.specs.Tables.{Space}

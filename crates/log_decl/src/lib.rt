@@ -7,10 +7,8 @@ mod log;
 mod mapping;
 mod paths;
 mod serial_order;
-#[cfg(test)]
-mod tests;
 
-pub use log::Log;
 pub use declaring::{are_log_records, declare};
+pub use log::Log;
 pub use log_faults::DeclEnd;
 pub use mapping::Unmapped;

@@ -16,8 +16,8 @@ ghost use Rattle.log_tables.specs.Views.{space_seen};
 ghost use Rattle.item_uses.specs.Blocks.{AreBlocks};
 ghost use Rattle.item_uses.specs.Usages.{usages};
 
-use crate::mapping::{Unmapped, first_unmapped, inst_mapped};
 use crate::found::{Found, found_in};
+use crate::mapping::{Unmapped, first_unmapped, inst_mapped};
 use bumpalo::Bump;
 use item_uses::{ItemUses, Span};
 use log_tables::{Draft, Space};

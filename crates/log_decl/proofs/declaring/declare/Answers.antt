@@ -12,13 +12,16 @@ of-requires g c κs =
     let is = c.deref.ensures.value in
     let tables = c.in-Ok.ensures.tables in (
       (refl, tt),
-      (record {
-        lines = c.args.lines;
-        log = log;
-        good = good_records log c.requires.good;
-        faultless = ap (λ (log : List Lined). declaration_fault c.args.lines log) (sym is) ∙ c.in-Ok.ensures.faultless;
-        tables = tables ∙ ap tables_of is;
-      }, c.in-Ok.ensures.forest ∙ ap decls_of (sym tables)),
+      (
+        record {
+          lines = c.args.lines;
+          log = log;
+          good = good_records log c.requires.good;
+          faultless = ap (λ (log : List Lined). declaration_fault c.args.lines log) (sym is) ∙ c.in-Ok.ensures.faultless;
+          tables = tables ∙ ap tables_of is;
+        },
+        c.in-Ok.ensures.forest ∙ ap decls_of (sym tables),
+      ),
     )
 
 pub returns-in-Ok-of-clause-faultless : goal.returns-in-Ok-of-clause-faultless

@@ -4,7 +4,6 @@ use Rattle.std.proofs.lemmas.Simd.{map-map}
 use Rattle.region_tree.specs.Regions.{Regions}
 use Rattle.semantics.specs.Tables.{Space}
 use Rattle.log_tables.specs.Views.{space_seen}
-use Rattle.log_faults.specs.Decls.{decls_of}
 use Rattle.log_decl.specs.Listing.{ArePlacesIn, line_listing}
 use Rattle.log_decl.specs.Pathways.{ArePathsOf}
 use Rattle.log_decl.proofs.found.found_in.Goals as goal

@@ -1,6 +1,5 @@
-use Rattle.std.proofs.Common.{◌∙◌, ap, sym, map, nat_eq, subst, Option, arith}
+use Rattle.std.proofs.Common.{◌∙◌, ap, sym, subst, arith}
 use Rattle.std.specs.Option.{IsSome}
-use Rattle.std.specs.HashMap.{get}
 use Rattle.std.proofs.lemmas.Grind.{common_steps}
 use Rattle.region_tree.specs.Regions.{space_of}
 use Rattle.semantics.specs.Points.{is_in}
@@ -17,7 +16,7 @@ returns-clause-declared g c =
     let is = λ (t : Tables). IsSome (space_of (decls_of t) space) in (
       λ some. subst is c.self.view_is (found.paths.declared space (grind (arith, common_steps, v, some))),
       λ known.
-      let there = subst is (sym c.self.view_is) known in
-      let path = found.paths.found space (ap (λ ids. is_in ids space) found.ids ∙ known_is_in space c.self.inside.draft.spaces there) there in
-      grind (arith, common_steps, v, path),
+          let there = subst is (sym c.self.view_is) known in
+          let path = found.paths.found space (ap (λ ids. is_in ids space) found.ids ∙ known_is_in space c.self.inside.draft.spaces there) there in
+          grind (arith, common_steps, v, path),
     )
