@@ -22,12 +22,12 @@ words-cell (cells.Events ns) ws = ap (λ vs. vs ++ ws) (sym (append-nil (map sma
 words-cell cell ws = refl
 
 -- the words of one cell more were written
-pub cell_written : (before out all : List ℕ) (cs : List Cell) (d : Cell) → 1 ≤ length cs → before ++ row_text (words_in cs) ≡ all → out ≡ before ++ row_text (with_cell (get_or cs 0 d) []) → out ++ row_text (words_in (take (length cs - 1) (drop 1 cs))) ≡ all
-cell_written before out all [] d some whole is = absurd (omega arith)
-cell_written before out all (c ∷ cs) d some whole is =
+pub cell_written : (before out all : List ℕ) (cs : List Cell) (x : Cell) → 1 ≤ length cs → x ≡ get_or cs 0 x → before ++ row_text (words_in cs) ≡ all → out ≡ before ++ row_text (with_cell x []) → out ++ row_text (words_in (take (length cs - 1) (drop 1 cs))) ≡ all
+cell_written before out all [] x some read whole is = absurd (omega arith)
+cell_written before out all (c ∷ cs) x some read whole is =
     let rest : take (length (c ∷ cs) - 1) cs ≡ cs = take_all _ cs (omega arith) in
     let split = ap row_text (words-cell c (words_in cs)) ∙ row_text-append (with_cell c []) (words_in cs) in
-    rw (rest, is, append_assoc) (ap (λ (x : List ℕ). before ++ x) (sym split) ∙ whole)
+    rw (rest, is, read, append_assoc) (ap (λ (w : List ℕ). before ++ w) (sym split) ∙ whole)
 
 -- one line more was written
 pub line_written : (before out all : List ℕ) (ds : List Dep) (d : Dep) → 1 ≤ length ds → before ++ lines_text (map dep_line ds) ≡ all → out ≡ before ++ line_text (dep_line (get_or ds 0 d)) ++ 10 ∷ [] → out ++ lines_text (map dep_line (take (length ds - 1) (drop 1 ds))) ≡ all

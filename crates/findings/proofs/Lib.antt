@@ -1,2 +1,4 @@
 pub mod CellLaws
+pub mod NumberLaws
+pub mod ValueLaws
 pub mod ReadLaws

@@ -1,54 +1,27 @@
 -- What is read of the text of a report is that report.
-use Rattle.std.proofs.Common.{◌≡◌, ℕ, ◌+◌, ◌-◌, ◌*◌, ◌^◌, ◌<◌, ◌≤◌, ltb, eqb, Bool, true, false, cond, List, [], ◌∷◌, ◌++◌, map, length, take, get_or, min, fold, codes, refl, sym, ap, subst, ◌∙◌, arith, append-nil, length-append, ◌≢◌}
+use Rattle.std.proofs.Common.{◌≡◌, ℕ, ◌-◌, ◌<◌, ◌≤◌, ltb, eqb, Bool, true, false, cond, List, [], ◌∷◌, ◌++◌, map, length, take, get_or, codes, refl, sym, ap, subst, ◌∙◌, arith, append-nil, length-append, ◌≢◌}
 use Rattle.std.specs.Prelude.{decimal}
-use Rattle.std.specs.Char.{digit_value}
 use Rattle.std.specs.List.{AllByRecursion, list_all}
 use Rattle.std.specs.Str.{bytes_eq}
-use Rattle.std.specs.Str.Parse.{AllDigits, digits_value, digits_value_after}
+use Rattle.std.specs.Str.Parse.{AllDigits}
 use Rattle.std.proofs.lemmas.Bool.{ne_eqb}
 use Rattle.std.proofs.lemmas.Bool.Decides.{nat_tests}
-use Rattle.std.proofs.lemmas.Fmt.{digits_decimal, digits_value-decimal}
+use Rattle.std.proofs.lemmas.Fmt.{digits_decimal}
 use Rattle.std.proofs.lemmas.List.{length-map, take-map}
 use Rattle.std.proofs.lemmas.List.Elements.{All-from_recursion}
 use Rattle.std.proofs.lemmas.List.Splits.{slice_split_none, slice_split_at}
-use Rattle.std.proofs.lemmas.Str.Parse.{IsNumeralModel, numerals_by_value, tells_digits}
 use Rattle.spy_grammar.specs.declared.code.Code.{Code}
 use Rattle.spy_grammar.specs.declared.code.Code.TheVariants.{TooLong}
 use Rattle.spy_words.specs.Reading.{parts}
 use Rattle.findings.specs.declared.finding.Dep.{Dep}
 use Rattle.findings.specs.declared.finding.Finding.{Finding}
-use Rattle.findings.specs.declared.finding.Finding.TheVariants.{Accepted, Ordered, Deps, Cycle, Race, Unordered, Fault, Usage, CannotRead}
+use Rattle.findings.specs.declared.finding.Finding.TheVariants.{Accepted, Ordered, Deps, Cycle, Race, Unordered, Differ, Fault, Usage, CannotRead}
 use Rattle.findings.specs.Codes.{code_text, code_at}
-use Rattle.findings.specs.Texts.{Word, says, small, large, names, Line, last_line, deps_of, dep_line, lines_of, word_text, row_text, line_text, lines_text, text_of, IsInRange, Fits, Good}
-use Rattle.findings.specs.Reading.{number_of, word_at, dep_at, events_at, report_at, last_place, report_in, finding_at}
-
--- ---- numbers
-
-own : IsNumeralModel (AllDigits 10) (digits_value 10)
-own = numerals_by_value (AllDigits 10) tells_digits
-
-digit_is : (b : ℕ) → digit_value b < 10 → (digit_value b ≡ b - 48) × (32 < b)
-digit_is b lt = (grind (arith, nat_tests), grind (arith, nat_tests))
-
-clamped : (greatest v : ℕ) (w : List ℕ) → AllDigits 10 w → fold (λ value b. min (value * 10 + (b - 48)) greatest) (min v greatest) w ≡ min (digits_value_after 10 v w) greatest
-clamped greatest v [] all = refl
-clamped greatest v (b ∷ w) all =
-    let digit = (digit_is b all.0).0 in
-    let step : min (min v greatest * 10 + (b - 48)) greatest ≡ min (v * 10 + digit_value b) greatest = omega (arith, digit) in
-    rw step (clamped greatest (v * 10 + digit_value b) w all.1)
-
-number_again : (greatest n : ℕ) → n ≤ greatest → n < 2 ^ 64 → number_of greatest (decimal n) ≡ n
-unfolding number_of
-number_again greatest n le lt =
-    let value : digits_value 10 (decimal n) ≡ n = digits_value-decimal own n lt in
-    let start : min 0 greatest ≡ 0 = omega arith in
-    subst (λ (m : ℕ). fold (λ value b. min (value * 10 + (b - 48)) greatest) m (decimal n) ≡ n) start (clamped greatest 0 (decimal n) (digits_decimal own n lt) ∙ rw value (omega arith))
-
-small_again : (n : ℕ) → n < 2 ^ 32 → number_of (2 ^ 32 - 1) (decimal n) ≡ n
-small_again n lt = number_again (2 ^ 32 - 1) n (omega arith) (omega arith)
-
-large_again : (n : ℕ) → n < 2 ^ 64 → number_of (2 ^ 64 - 1) (decimal n) ≡ n
-large_again n lt = number_again (2 ^ 64 - 1) n (omega arith) lt
+use Rattle.findings.specs.Texts.{Word, says, small, large, names, holds, Line, last_line, deps_of, dep_line, lines_of, word_text, row_text, line_text, lines_text, text_of, IsInRange, Fits, Good}
+use Rattle.findings.specs.Numbers.{word_at}
+use Rattle.findings.specs.Reading.{dep_at, events_at, report_at, last_place, report_in, finding_at}
+use Rattle.findings.proofs.NumberLaws.{own, digit_is, small_again, large_again}
+use Rattle.findings.proofs.ValueLaws.{Sums, HasNames, value_all, value_again}
 
 -- ---- words, which have no space
 
@@ -63,11 +36,14 @@ plain_by_test (b ∷ w) e =
 
 digits_plain : (w : List ℕ) → AllDigits 10 w → Plain w
 digits_plain [] all = tt
-digits_plain (b ∷ w) all = ((digit_is b all.0).1, digits_plain w all.1)
+digits_plain (b ∷ w) all = (let digit = digit_is b all.0 in omega arith, digits_plain w all.1)
 
 code_plain : (c : Code) → Plain (code_text c)
 code_plain TooLong = plain_by_test (code_text TooLong) refl
 code_plain c = plain_by_test (code_text c) refl
+
+names_plain : HasNames (λ b. 32 < b)
+names_plain = record { raw = plain_by_test (codes "raw") refl; init = plain_by_test (codes "init") refl; ident = plain_by_test (codes "ident") refl; const = plain_by_test (codes "const:") refl; out = plain_by_test (codes "out:") refl }
 
 -- no fixed text has a space
 is_plain : Word → Bool
@@ -80,6 +56,7 @@ word_plain (says w) e fits = plain_by_test w e
 word_plain (small n) e fits = digits_plain (decimal n) (digits_decimal own n (omega (arith, fits)))
 word_plain (large n) e fits = digits_plain (decimal n) (digits_decimal own n fits)
 word_plain (names c) e fits = code_plain c
+word_plain (holds v) e fits = value_all (λ b. 32 < b) (λ b digit. let d = digit_is b digit in omega arith) names_plain (omega arith) (omega arith) (omega arith) (omega arith) (omega arith) (omega arith) v fits
 
 -- ---- lines, parted into words
 
@@ -167,17 +144,18 @@ events_again : (ns : List ℕ) → AllByRecursion IsInRange (map small ns) → e
 events_again [] fits = refl
 events_again (n ∷ ns) fits = rw (small_again n fits.0, events_again ns fits.1) refl
 
-report_again : (f : Finding) → Fits (last_line f) → report_at (deps_of f) ((last_line f).name ∷ map word_text (last_line f).row) ≡ f
+report_again : Sums → (f : Finding) → Fits (last_line f) → report_at (deps_of f) ((last_line f).name ∷ map word_text (last_line f).row) ≡ f
 unfolding report_at
-report_again (Accepted tasks operations reads) fits = rw (small_again tasks fits.1.0, small_again operations fits.1.1.1.0, large_again reads fits.1.1.1.1.1.0) refl
-report_again (Ordered tasks pairs) fits = rw (small_again tasks fits.1.0, large_again pairs fits.1.1.1.0) refl
-report_again (Deps list items before turn) fits = rw (small_again items fits.1.0, large_again before fits.1.1.1.0, large_again turn fits.1.1.1.1.1.0) refl
-report_again (Cycle events) fits = rw (events_again events fits) refl
-report_again (Race a b inst point field) fits = rw (small_again a fits.0, small_again b fits.1.0, small_again inst fits.1.1.1.0, large_again point fits.1.1.1.1.1.0, small_again field fits.1.1.1.1.1.1.1.0) refl
-report_again (Unordered t u tree point field) fits = rw (small_again t fits.0, small_again u fits.1.0, small_again tree fits.1.1.1.0, large_again point fits.1.1.1.1.1.0, small_again field fits.1.1.1.1.1.1.1.0) refl
-report_again (Fault line code) fits = rw (small_again line fits.0, code_again code) refl
-report_again Usage fits = refl
-report_again CannotRead fits = refl
+report_again sums (Accepted tasks operations reads) fits = rw (small_again tasks fits.1.0, small_again operations fits.1.1.1.0, large_again reads fits.1.1.1.1.1.0) refl
+report_again sums (Ordered tasks pairs) fits = rw (small_again tasks fits.1.0, large_again pairs fits.1.1.1.0) refl
+report_again sums (Deps list items before turn) fits = rw (small_again items fits.1.0, large_again before fits.1.1.1.0, large_again turn fits.1.1.1.1.1.0) refl
+report_again sums (Cycle events) fits = rw (events_again events fits) refl
+report_again sums (Race a b inst point field) fits = rw (small_again a fits.0, small_again b fits.1.0, small_again inst fits.1.1.1.0, large_again point fits.1.1.1.1.1.0, small_again field fits.1.1.1.1.1.1.1.0) refl
+report_again sums (Unordered t u tree point field) fits = rw (small_again t fits.0, small_again u fits.1.0, small_again tree fits.1.1.1.0, large_again point fits.1.1.1.1.1.0, small_again field fits.1.1.1.1.1.1.1.0) refl
+report_again sums (Differ task req point field got want) fits = rw (small_again task fits.1.0, small_again req fits.1.1.1.0, large_again point fits.1.1.1.1.1.0, small_again field fits.1.1.1.1.1.1.1.0, value_again sums got fits.1.1.1.1.1.1.1.1.1.0, value_again sums want fits.1.1.1.1.1.1.1.1.1.1.1.0) refl
+report_again sums (Fault line code) fits = rw (small_again line fits.0, code_again code) refl
+report_again sums Usage fits = refl
+report_again sums CannotRead fits = refl
 
 -- ---- reports
 
@@ -201,28 +179,32 @@ ends : (ls : List Line) (l : Line) → map line_text (ls ++ l ∷ []) ++ [] ∷ 
 ends [] l = refl
 ends (k ∷ ls) l = ap (λ (xs : List (List ℕ)). line_text k ∷ xs) (ends ls l)
 
-pub read_again : (f : Finding) → Good f → finding_at (text_of f) ≡ f
+pub read_again : Sums → (f : Finding) → Good f → finding_at (text_of f) ≡ f
 unfolding finding_at text_of
-read_again f good =
+read_again sums f good =
     let all = all_plain f (deps_of f) good.0 in
     let lines = map line_text (map dep_line (deps_of f)) in
     let last = line_text (last_line f) in
     let parted : parts 10 (lines_text (lines_of f)) ≡ lines ++ last ∷ [] ∷ [] = lines_parted (lines_of f) all.0 ∙ ends (map dep_line (deps_of f)) (last_line f) in
     let place : last_place (lines ++ last ∷ [] ∷ []) ≡ length lines = omega (arith, length-append lines (last ∷ [] ∷ [])) in
-    ap report_in parted ∙ rw (place, front lines (last ∷ [] ∷ []), behind lines last ([] ∷ []), deps_again (deps_of f) all.1, line_parted (last_line f) (last_plain f all.2)) (report_again f all.2)
+    ap report_in parted ∙ rw (place, front lines (last ∷ [] ∷ []), behind lines last ([] ∷ []), deps_again (deps_of f) all.1, line_parted (last_line f) (last_plain f all.2)) (report_again sums f all.2)
+
+-- Every report is what its text says.
+abbrev pub AreReadAgain : Type 0
+AreReadAgain = (f : Finding) → Good f → finding_at (text_of f) ≡ f
 
 -- where what a text says does not have that text, no report has it
-pub no_report : (bytes : List ℕ) (said : Finding) → said ≡ finding_at bytes → (Good said × (bytes ≡ text_of said) → ⊥) → (f : Finding) → Good f → bytes ≢ text_of f
-no_report bytes said is other f good e =
-    let same : said ≡ f = is ∙ ap finding_at e ∙ read_again f good in
+pub no_report : AreReadAgain → (bytes : List ℕ) (said : Finding) → said ≡ finding_at bytes → (Good said × (bytes ≡ text_of said) → ⊥) → (f : Finding) → Good f → bytes ≢ text_of f
+no_report again bytes said is other f good e =
+    let same : said ≡ f = is ∙ ap finding_at e ∙ again f good in
     other (subst Good (sym same) good, e ∙ ap text_of (sym same))
 
 -- what lines say that a program holds, seen by `view`
 pub lines_told : {A : Type 0} (view : A → List ℕ) (lines : List A) (last : ℕ) (list : List Dep) (words : List (List ℕ)) → last ≡ length lines - 2 → list ≡ map (λ l. dep_at (parts 32 l)) (map view (take last lines)) → words ≡ parts 32 (word_at (map view lines) last) → report_at list words ≡ report_in (map view lines)
 lines_told view lines last list words is listed parted = rw (listed, parted, is, length-map lines view, take-map view (length lines - 2) lines) refl
 
-pub texts_apart : (f g : Finding) → Good f → Good g → text_of f ≡ text_of g → f ≡ g
-texts_apart f g good fine e = sym (read_again f good) ∙ ap finding_at e ∙ read_again g fine
+pub texts_apart : AreReadAgain → (f g : Finding) → Good f → Good g → text_of f ≡ text_of g → f ≡ g
+texts_apart again f g good fine e = sym (again f good) ∙ ap finding_at e ∙ again g fine
 
 pub codes_apart : (c d : Code) → code_text c ≡ code_text d → c ≡ d
 codes_apart c d e = sym (code_again c) ∙ ap code_at e ∙ code_again d

@@ -1,8 +1,8 @@
--- A line of a report as the program holds it: eight cells, each a word, no word, or all the events of a cycle.
-use Rattle.std.specs.Prelude.{List, [], ◌∷◌, ◌++◌, map}
+-- A line of a report as the program holds it: six cells, each a word, no word, or several words.
+use Rattle.std.specs.Prelude.{List, [], ◌∷◌, ◌++◌, map, codes}
 use Rattle.findings.specs.declared.cells.Cell.{Cell}
 use Rattle.findings.specs.declared.cells.Cell.TheVariants as cells
-use Rattle.findings.specs.Texts.{Word, says, small, large, names}
+use Rattle.findings.specs.Texts.{Word, says, small, large, names, holds}
 
 -- What a cell holds, before further words.
 abbrev pub with_cell : Cell → List Word → List Word
@@ -12,6 +12,8 @@ with_cell (cells.Small n) ws = small n ∷ ws
 with_cell (cells.Large n) ws = large n ∷ ws
 with_cell (cells.Names c) ws = names c ∷ ws
 with_cell (cells.Events ns) ws = map small ns.now ++ ws
+with_cell (cells.At point field) ws = says (codes "point") ∷ large point ∷ says (codes "field") ∷ small field ∷ ws
+with_cell (cells.Differs got want) ws = says (codes "got") ∷ holds got.now ∷ says (codes "want") ∷ holds want.now ∷ ws
 
 -- What cells hold.
 abbrev pub words_in : List Cell → List Word

@@ -1,27 +1,13 @@
 -- What the words of a text say if it is the text of a report. Of other texts it is some report that has another text.
-use Rattle.std.specs.Prelude.{ℕ, ◌+◌, ◌-◌, ◌*◌, ◌^◌, List, [], map, take, drop, min, fold, length, slice_index_or, codes, if◌then◌else◌}
+use Rattle.std.specs.Prelude.{ℕ, ◌-◌, ◌^◌, List, [], map, take, drop, length, slice_index_or, codes, if◌then◌else◌}
 use Rattle.std.specs.Str.{bytes_eq}
 use Rattle.spy_words.specs.Reading.{parts}
 use Rattle.findings.specs.declared.finding.Dep.{Dep}
 use Rattle.findings.specs.declared.finding.Finding.{Finding}
-use Rattle.findings.specs.declared.finding.Finding.TheVariants.{Accepted, Ordered, Deps, Cycle, Race, Unordered, Fault, Usage, CannotRead}
+use Rattle.findings.specs.declared.finding.Finding.TheVariants.{Accepted, Ordered, Deps, Cycle, Race, Unordered, Differ, Fault, Usage, CannotRead}
 use Rattle.findings.specs.Codes.{code_at}
-
--- The number that digits say, or the greatest where it is greater.
-unfoldable pub number_of : ℕ → List ℕ → ℕ
-number_of greatest w = fold (λ value b. min (value * 10 + (b - 48)) greatest) 0 w
-
--- The word at a place, from 0. Past the last it is the empty word.
-abbrev pub word_at : List (List ℕ) → ℕ → List ℕ
-word_at ws k = slice_index_or ws k []
-
--- The number of 32 bits that the word at a place says.
-abbrev pub small_at : List (List ℕ) → ℕ → ℕ
-small_at ws k = number_of (2 ^ 32 - 1) (word_at ws k)
-
--- The number of 64 bits that the word at a place says.
-abbrev pub large_at : List (List ℕ) → ℕ → ℕ
-large_at ws k = number_of (2 ^ 64 - 1) (word_at ws k)
+use Rattle.findings.specs.Numbers.{number_of, word_at, small_at, large_at}
+use Rattle.findings.specs.ValueReading.{value_at}
 
 -- The pair of items that the words of a line say.
 unfoldable pub dep_at : List (List ℕ) → Dep
@@ -40,6 +26,7 @@ report_at list ws =
     else if bytes_eq (word_at ws 0) (codes "cycle") then Cycle (events_at (drop 1 ws))
     else if bytes_eq (word_at ws 0) (codes "race") then Race (small_at ws 1) (small_at ws 2) (small_at ws 4) (large_at ws 6) (small_at ws 8)
     else if bytes_eq (word_at ws 0) (codes "unordered") then Unordered (small_at ws 1) (small_at ws 2) (small_at ws 4) (large_at ws 6) (small_at ws 8)
+    else if bytes_eq (word_at ws 0) (codes "differ") then Differ (small_at ws 2) (small_at ws 4) (large_at ws 6) (small_at ws 8) (value_at (word_at ws 10)) (value_at (word_at ws 12))
     else if bytes_eq (word_at ws 0) (codes "fault") then Fault (small_at ws 1) (code_at (word_at ws 2))
     else if bytes_eq (word_at ws 0) (codes "usage") then Usage
     else CannotRead

@@ -4,15 +4,18 @@ use Rattle.std.specs.List.{AllByRecursion}
 use Rattle.spy_grammar.specs.declared.code.Code.{Code}
 use Rattle.findings.specs.declared.finding.Dep.{Dep}
 use Rattle.findings.specs.declared.finding.Finding.{Finding}
-use Rattle.findings.specs.declared.finding.Finding.TheVariants.{Accepted, Ordered, Deps, Cycle, Race, Unordered, Fault, Usage, CannotRead}
+use Rattle.findings.specs.declared.finding.Finding.TheVariants.{Accepted, Ordered, Deps, Cycle, Race, Unordered, Differ, Fault, Usage, CannotRead}
+use Rattle.value_terms.specs.Values.{Value, IsHeld}
 use Rattle.findings.specs.Codes.{code_text}
+use Rattle.findings.specs.ValueTexts.{value_text}
 
--- A word of a report: a fixed text, a number of 32 bits or of 64, or a code.
+-- A word of a report: a fixed text, a number of 32 bits or of 64, a code, or a value.
 pub data Word : Type 0 where
   says : List ℕ → Word
   small : ℕ → Word
   large : ℕ → Word
   names : Code → Word
+  holds : Value → Word
 
 -- A line of a report: its first word, and the words after it.
 pub record Line : Type 0 where
@@ -27,6 +30,7 @@ last_line (Deps list items before turn) = record { name = codes "deps"; row = sa
 last_line (Cycle events) = record { name = codes "cycle"; row = map small events }
 last_line (Race a b inst point field) = record { name = codes "race"; row = small a ∷ small b ∷ says (codes "inst") ∷ small inst ∷ says (codes "point") ∷ large point ∷ says (codes "field") ∷ small field ∷ [] }
 last_line (Unordered t u tree point field) = record { name = codes "unordered"; row = small t ∷ small u ∷ says (codes "tree") ∷ small tree ∷ says (codes "point") ∷ large point ∷ says (codes "field") ∷ small field ∷ [] }
+last_line (Differ task req point field got want) = record { name = codes "differ"; row = says (codes "task") ∷ small task ∷ says (codes "req") ∷ small req ∷ says (codes "point") ∷ large point ∷ says (codes "field") ∷ small field ∷ says (codes "got") ∷ holds got ∷ says (codes "want") ∷ holds want ∷ [] }
 last_line (Fault line code) = record { name = codes "fault"; row = small line ∷ names code ∷ [] }
 last_line Usage = record { name = codes "usage"; row = [] }
 last_line CannotRead = record { name = codes "cannot"; row = says (codes "read") ∷ [] }
@@ -50,6 +54,7 @@ word_text (says w) = w
 word_text (small n) = decimal n
 word_text (large n) = decimal n
 word_text (names c) = code_text c
+word_text (holds v) = value_text v
 
 -- Words, each after a space.
 abbrev pub row_text : List Word → List ℕ
@@ -69,14 +74,15 @@ lines_text (l ∷ ls) = line_text l ++ 10 ∷ lines_text ls
 unfoldable pub text_of : Finding → List ℕ
 text_of f = lines_text (lines_of f)
 
--- A number lies in the range of its type.
+-- A number lies in the range of its type, and a value is one that the program holds.
 abbrev pub IsInRange : Word → Type 0
 IsInRange (says w) = Unit {0}
 IsInRange (small n) = n < 2 ^ 32
 IsInRange (large n) = n < 2 ^ 64
 IsInRange (names c) = Unit {0}
+IsInRange (holds v) = IsHeld v
 
--- The numbers of a line lie in the ranges of their types.
+-- So it is with all words of a line.
 abbrev pub Fits : Line → Type 0
 Fits l = AllByRecursion IsInRange l.row
 

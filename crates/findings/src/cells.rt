@@ -2,14 +2,17 @@
 
 ghost use Rattle.std.specs.Prelude.{◌≡◌, map};
 ghost use Rattle.std.specs.List.{AllByRecursion};
+ghost use Rattle.value_terms.specs.Values.{IsHeld};
+ghost use Rattle.findings.specs.declared.cells.Cell.TheVariants as cells;
 ghost use Rattle.findings.specs.Cells.{words_in};
 ghost use Rattle.findings.specs.Texts.{dep_line, last_line, small, Fits, IsInRange};
 
 use crate::cells::Cell::*;
 use crate::finding::{Dep, Finding};
 use spy_grammar::Code;
+use value_terms::Value;
 
-/// A word of a report, no word, or all the events of a cycle.
+/// A word of a report, no word, or several words.
 #[derive(Clone, Copy, Debug)]
 pub enum Cell<'a> {
     No,
@@ -17,11 +20,16 @@ pub enum Cell<'a> {
     Small(u32),
     Large(u64),
     Names(Code),
+    /// All the events of a cycle.
     Events(&'a [u32]),
+    /// A point and a field.
+    At(u64, u32),
+    /// The value that was read, and the one that the sequential program reads.
+    Differs(&'a Value, &'a Value),
 }
 
 /// The first word of a line, and the words after it.
-pub type Words<'a> = (&'static [u8], [Cell<'a>; 8]);
+pub type Words<'a> = (&'static [u8], [Cell<'a>; 6]);
 
 /// The line of a pair of items.
 #[rattlefmt::skip]
@@ -32,16 +40,27 @@ pub fn dep_words(dep: &Dep) -> Words<'_>
     ensures fits { Fits (dep_line dep.now) }
 {
     let Dep { before, a, b, tree, point, field } = dep;
-    let row = [Small(*a), Small(*b), Says(b"tree"), Small(*tree), Says(b"point"), Large(*point), Says(b"field"), Small(*field)];
+    let row = [Small(*a), Small(*b), Says(b"tree"), Small(*tree), At(*point, *field), No];
     (if *before { b"before" } else { b"turn" }, row)
 }
 
 /// Events, each a word.
-fn event_words(events: &[u32]) -> [Cell<'_>; 8]
+fn event_words(events: &[u32]) -> [Cell<'_>; 6]
     ensures words { words_in result ≡ map small events.now }
     ensures fits { AllByRecursion IsInRange (map small events.now) }
 {
-    [Events(events), No, No, No, No, No, No, No]
+    [Events(events), No, No, No, No, No]
+}
+
+/// Two values that differ, as cells of a line: each is one that the program holds.
+fn differing<'a>(got: &'a Value, want: &'a Value) -> Cell<'a>
+    ensures cell { result ≡ cells.Differs got.entry want.entry }
+    ensures got { IsHeld got.now }
+    ensures want { IsHeld want.now }
+{
+    got.rules();
+    want.rules();
+    Differs(got, want)
 }
 
 /// A report's own line, which is its last.
@@ -52,14 +71,15 @@ pub fn last_words(f: &Finding) -> Words<'_>
     ensures fits { Fits (last_line f.now) }
 {
     match f {
-        Finding::Accepted { tasks, operations, reads } => (b"accepted", [Says(b"tasks"), Small(*tasks), Says(b"operations"), Small(*operations), Says(b"reads"), Large(*reads), No, No]),
-        Finding::Ordered { tasks, pairs } => (b"ordered", [Says(b"tasks"), Small(*tasks), Says(b"pairs"), Large(*pairs), No, No, No, No]),
-        Finding::Deps { list: _, items, before, turn } => (b"deps", [Says(b"items"), Small(*items), Says(b"before"), Large(*before), Says(b"turn"), Large(*turn), No, No]),
+        Finding::Accepted { tasks, operations, reads } => (b"accepted", [Says(b"tasks"), Small(*tasks), Says(b"operations"), Small(*operations), Says(b"reads"), Large(*reads)]),
+        Finding::Ordered { tasks, pairs } => (b"ordered", [Says(b"tasks"), Small(*tasks), Says(b"pairs"), Large(*pairs), No, No]),
+        Finding::Deps { list: _, items, before, turn } => (b"deps", [Says(b"items"), Small(*items), Says(b"before"), Large(*before), Says(b"turn"), Large(*turn)]),
         Finding::Cycle { events } => (b"cycle", event_words(events.as_slice())),
-        Finding::Race { a, b, inst, point, field } => (b"race", [Small(*a), Small(*b), Says(b"inst"), Small(*inst), Says(b"point"), Large(*point), Says(b"field"), Small(*field)]),
-        Finding::Unordered { t, u, tree, point, field } => (b"unordered", [Small(*t), Small(*u), Says(b"tree"), Small(*tree), Says(b"point"), Large(*point), Says(b"field"), Small(*field)]),
-        Finding::Fault { line, code } => (b"fault", [Small(*line), Names(*code), No, No, No, No, No, No]),
-        Finding::Usage => (b"usage", [No, No, No, No, No, No, No, No]),
-        Finding::CannotRead => (b"cannot", [Says(b"read"), No, No, No, No, No, No, No]),
+        Finding::Race { a, b, inst, point, field } => (b"race", [Small(*a), Small(*b), Says(b"inst"), Small(*inst), At(*point, *field), No]),
+        Finding::Unordered { t, u, tree, point, field } => (b"unordered", [Small(*t), Small(*u), Says(b"tree"), Small(*tree), At(*point, *field), No]),
+        Finding::Differ { task, req, point, field, got, want } => (b"differ", [Says(b"task"), Small(*task), Says(b"req"), Small(*req), At(*point, *field), differing(got, want)]),
+        Finding::Fault { line, code } => (b"fault", [Small(*line), Names(*code), No, No, No, No]),
+        Finding::Usage => (b"usage", [No, No, No, No, No, No]),
+        Finding::CannotRead => (b"cannot", [Says(b"read"), No, No, No, No, No]),
     }
 }

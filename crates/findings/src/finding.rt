@@ -2,6 +2,7 @@
 
 use crate::lists::{DepList, EventList};
 use spy_grammar::Code;
+use value_terms::Value;
 
 /// A pair of items that interfere, and the least place at which they do.
 #[derive(Clone, Copy, Debug, PartialEq, Eq)]
@@ -36,6 +37,8 @@ pub enum Finding {
     Race { a: u32, b: u32, inst: u32, point: u64, field: u32 },
     /// Two tasks that interfere and are not ordered, and the least place at which they interfere.
     Unordered { t: u32, u: u32, tree: u32, point: u64, field: u32 },
+    /// A read of a requirement of a task, told by its place, that gets another value than the sequential program reads.
+    Differ { task: u32, req: u32, point: u64, field: u32, got: Value, want: Value },
     /// The rule that the log breaks, and the line that breaks it.
     Fault { line: u32, code: Code },
     /// The words of the command are not taken.

@@ -4,13 +4,25 @@ ghost use Rattle.std.specs.Prelude.{◌≡◌};
 ghost use Rattle.spy_grammar.specs.declared.code.Code.{Code};
 ghost use Rattle.findings.specs.declared.finding.Finding.{Finding};
 ghost use Rattle.findings.specs.Codes.{code_text};
+ghost use Rattle.findings.specs.Reading.{finding_at};
 ghost use Rattle.findings.specs.Texts.{text_of, Good};
 
+use value_terms::{values_are_sums, weights_add_up};
+
+/// What the text of a report says is that report.
+pub(crate) fn texts_are_read_again()
+    ensures { (f : Finding) → Good f → finding_at (text_of f) ≡ f }
+{
+    values_are_sums();
+    weights_add_up();
+}
+
 /// No two reports have one text.
-#[tactic(auto, using(crate::proofs::ReadLaws::texts_apart))]
 pub fn one_text()
     ensures { (f g : Finding) → Good f → Good g → text_of f ≡ text_of g → f ≡ g }
-{}
+{
+    texts_are_read_again();
+}
 
 /// No two codes have one text.
 #[tactic(auto, using(crate::proofs::ReadLaws::codes_apart))]

@@ -13,7 +13,10 @@ ghost use Rattle.spy_words.specs.Reading.{parts};
 
 use crate::codes::code_of;
 use crate::finding::{Dep, Finding};
+use crate::law::texts_are_read_again;
 use crate::lists::{DepList, EventList};
+use crate::numbers::{large_at, small_at, small_number, word_at};
+use crate::value_reading::value_at;
 use crate::writing::{Memory, good_finding, text};
 use std::alloc::{AllocError, Global};
 
@@ -33,65 +36,12 @@ pub enum TextFault {
     Memory,
 }
 
-impl From<AllocError> for TextFault {
-    ghost from_gives = { λ _ e. e ≡ faults.Memory };
-
-    fn from(_e: AllocError) -> TextFault {
-        TextFault::Memory
-    }
-}
-
 impl From<Memory> for TextFault {
     ghost from_gives = { λ _ e. e ≡ faults.Memory };
 
     fn from(_e: Memory) -> TextFault {
         TextFault::Memory
     }
-}
-
-/// The number that digits say, or the greatest where it is greater.
-#[tactic(auto, unfolding(crate::specs::Reading::number_of))]
-fn number_of(greatest: u64, word: &[u8]) -> u64
-    ensures value { result ≡ says.number_of greatest word.now }
-    ensures bound { result ≤ greatest }
-{
-    let mut value = 0u64;
-    let mut rest = word;
-    while let [b, more @ ..] = rest {
-        let next = u128::from(value) * 10 + u128::from(b.saturating_sub(b'0'));
-        value = next.min(u128::from(greatest)) as u64;
-        rest = more;
-    }
-    value
-}
-
-/// The number of 32 bits that a word says.
-fn small_number(word: &[u8]) -> u32
-    ensures { result ≡ says.number_of (2 ^ 32 - 1) word.now }
-{
-    number_of(u64::from(u32::MAX), word) as u32
-}
-
-/// The word at a place. Past the last it is the empty word.
-fn word_at<'a>(words: &[&'a [u8]], k: usize) -> &'a [u8]
-    ensures { result.now ≡ says.word_at (map (λ w. w.now) words.now) k }
-{
-    match words.get(k) {
-        Some(word) => word,
-        None => b"",
-    }
-}
-
-fn small_at(words: &[&[u8]], k: usize) -> u32
-    ensures { result ≡ says.small_at (map (λ w. w.now) words.now) k }
-{
-    small_number(word_at(words, k))
-}
-
-fn large_at(words: &[&[u8]], k: usize) -> u64
-    ensures { result ≡ says.large_at (map (λ w. w.now) words.now) k }
-{
-    number_of(u64::MAX, word_at(words, k))
 }
 
 /// The pair of items that the words of a line say.
@@ -129,7 +79,7 @@ fn events_at(alloc: Global, words: &[&[u8]]) -> Result<EventList, AllocError>
 /// The table, backwards: the report that the words of its own line say, if it lists these pairs.
 #[tactic(auto, unfolding(crate::specs::Reading::report_at))]
 #[rattlefmt::skip]
-fn report_at(alloc: Global, list: DepList, words: &[&[u8]]) -> Result<Finding, AllocError>
+fn report_at(alloc: Global, list: DepList, words: &[&[u8]]) -> Result<Finding, Memory>
     ensures { IfOk result (λ f. f ≡ says.report_at list (map (λ w. w.now) words.now)) }
 {
     let name = word_at(words, 0);
@@ -145,6 +95,10 @@ fn report_at(alloc: Global, list: DepList, words: &[&[u8]]) -> Result<Finding, A
         Ok(Finding::Race { a: small_at(words, 1), b: small_at(words, 2), inst: small_at(words, 4), point: large_at(words, 6), field: small_at(words, 8) })
     } else if name == b"unordered".as_slice() {
         Ok(Finding::Unordered { t: small_at(words, 1), u: small_at(words, 2), tree: small_at(words, 4), point: large_at(words, 6), field: small_at(words, 8) })
+    } else if name == b"differ".as_slice() {
+        let got = value_at(alloc, word_at(words, 10))?;
+        let want = value_at(alloc, word_at(words, 12))?;
+        Ok(Finding::Differ { task: small_at(words, 2), req: small_at(words, 4), point: large_at(words, 6), field: small_at(words, 8), got, want })
     } else if name == b"fault".as_slice() {
         Ok(Finding::Fault { line: small_at(words, 1), code: code_of(word_at(words, 2)) })
     } else if name == b"usage".as_slice() {
@@ -168,7 +122,7 @@ fn deps_at(alloc: Global, lines: &[&[u8]]) -> Result<DepList, AllocError>
 }
 
 /// The report that lines say. Behind the last line feed a text has one empty part.
-fn report_in(alloc: Global, lines: &[&[u8]]) -> Result<Finding, AllocError>
+fn report_in(alloc: Global, lines: &[&[u8]]) -> Result<Finding, Memory>
     ensures { IfOk result (λ f. f ≡ says.report_in (map (λ w. w.now) lines.now)) }
 {
     let last = lines.len().saturating_sub(2);
@@ -179,7 +133,7 @@ fn report_in(alloc: Global, lines: &[&[u8]]) -> Result<Finding, AllocError>
 
 /// The report that a text says.
 #[tactic(auto, unfolding(crate::specs::Reading::finding_at))]
-fn finding_at(alloc: Global, bytes: &[u8]) -> Result<Finding, AllocError>
+fn finding_at(alloc: Global, bytes: &[u8]) -> Result<Finding, Memory>
     ensures { IfOk result (λ f. f ≡ says.finding_at bytes.now) }
 {
     let lines = parts_of(alloc, bytes, b'\n')?;
@@ -198,13 +152,13 @@ fn has_text(alloc: Global, f: &Finding, bytes: &[u8]) -> Result<bool, Memory>
 }
 
 /// The one report that has this text.
-#[tactic(auto, using(crate::proofs::ReadLaws::read_again, crate::proofs::ReadLaws::no_report))]
 pub fn read_text(alloc: Global, bytes: &[u8]) -> Result<Finding, TextFault>
     // A report that is read has this text, and a report that has it is read, unless memory runs out.
     ensures found { (f : Finding) → result ≡ Ok f → (bytes.now ≡ text_of f) × Good f }
     ensures only { (f : Finding) → Good f → bytes.now ≡ text_of f → (result ≡ Ok f) ⊎ (result ≡ Err faults.Memory) }
     ensures none { result ≡ Err faults.NotAReport → (f : Finding) → Good f → bytes.now ≢ text_of f }
 {
+    texts_are_read_again();
     let f = finding_at(alloc, bytes)?;
     if has_text(alloc, &f, bytes)? {
         Ok(f)

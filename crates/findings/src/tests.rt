@@ -1,6 +1,7 @@
-use crate::{Dep, DepList, EventList, Finding, TextFault, good_finding, read_text, text};
+use crate::{Dep, DepList, EventList, Finding, TextFault, Value, good_finding, read_text, text};
 use std::alloc::Global;
 use std::test::Fail;
+use value_terms::{Base, Contribution};
 
 #[test]
 fn writes_what_it_reads(rt: HostRuntime) -> Result<(), Fail> {
@@ -20,6 +21,13 @@ fn writes_what_it_reads(rt: HostRuntime) -> Result<(), Fail> {
         "race 4294967295 4294967295 inst 4294967295 point 18446744073709551615 field 4294967295\n",
         "unordered 0 0 tree 0 point 0 field 0\n",
         "unordered 4294967295 4294967295 tree 4294967295 point 18446744073709551615 field 4294967295\n",
+        "differ task 0 req 0 point 0 field 0 got raw want raw\n",
+        "differ task 3 req 1 point 0 field 1 got out:1 want out:2\n",
+        "differ task 3 req 1 point 0 field 1 got init+1[1.1*2,2.1*1] want init+1[1.1*1,2.1*1]\n",
+        "differ task 3 req 1 point 0 field 1 got raw want init+1[1.1*1,2.1*1]\n",
+        "differ task 4294967295 req 4294967295 point 18446744073709551615 field 4294967295 got const:0 want const:4294967295\n",
+        "differ task 1 req 1 point 1 field 1 got ident want out:4294967295+4294967295[0.0*1,4294967295.4294967295*18446744073709551614]\n",
+        "differ task 1 req 1 point 1 field 1 got const:7+1[1.2*1,1.3*1,2.1*1]+2[1.1*1]+1[1.1*1] want ident+0[9.9*18446744073709551615]\n",
         "fault 0 too-long\n",
         "fault 4294967295 unmapped\n",
         "fault 1 unbuilt\n",
@@ -83,6 +91,35 @@ fn refuses_other_texts(rt: HostRuntime) {
         "unordered 1 2 tree 1 point 18446744073709551616 field 1\n",
         "unordered 1 2 tree 1 point 0 field 4294967296\n",
         "unordered 1 2 tree 1 point 0 field 1 1\n",
+        "differ task 4294967296 req 1 point 0 field 1 got raw want init\n",
+        "differ task 3 req 1 point 0 field 1 got raw want init\ndiffer task 3 req 1 point 0 field 1 got raw want init\n",
+        "differ task 3 req 1 point 0 field 1 got raw\n",
+        "differ task 3 req 1 point 0 field 1 got raw want\n",
+        "differ task 3 req 1 point 0 field 1 got raw want \n",
+        "differ task 3 req 1 point 0 field 1 got raw want Init\n",
+        "differ task 3 req 1 point 0 field 1 got raw want const:4294967296\n",
+        "differ task 3 req 1 point 0 field 1 got raw want const:\n",
+        "differ task 3 req 1 point 0 field 1 got raw want const\n",
+        "differ task 3 req 1 point 0 field 1 got raw want out:01\n",
+        "differ task 3 req 1 point 0 field 1 got raw want out:1:2\n",
+        "differ task 3 req 1 point 0 field 1 got raw want init+\n",
+        "differ task 3 req 1 point 0 field 1 got raw want init+1\n",
+        "differ task 3 req 1 point 0 field 1 got raw want init+1[]\n",
+        "differ task 3 req 1 point 0 field 1 got raw want init+1[1.1*1\n",
+        "differ task 3 req 1 point 0 field 1 got raw want init+1[1.1*1]]\n",
+        "differ task 3 req 1 point 0 field 1 got raw want init+1[1.1*1],\n",
+        "differ task 3 req 1 point 0 field 1 got raw want init+4294967296[1.1*1]\n",
+        "differ task 3 req 1 point 0 field 1 got raw want init+1[4294967296.1*1]\n",
+        "differ task 3 req 1 point 0 field 1 got raw want init+1[1.4294967296*1]\n",
+        "differ task 3 req 1 point 0 field 1 got raw want init+1[1.1*0]\n",
+        "differ task 3 req 1 point 0 field 1 got raw want init+1[1.1*18446744073709551616]\n",
+        "differ task 3 req 1 point 0 field 1 got raw want init+1[1.1*18446744073709551615,2.1*1]\n",
+        "differ task 3 req 1 point 0 field 1 got raw want init+1[1.1*18446744073709551615]+2[1.1*1]\n",
+        "differ task 3 req 1 point 0 field 1 got raw want init+1[2.1*1,1.1*1]\n",
+        "differ task 3 req 1 point 0 field 1 got raw want init+1[1.2*1,1.1*1]\n",
+        "differ task 3 req 1 point 0 field 1 got raw want init+1[1.1*1,1.1*1]\n",
+        "differ task 3 req 1 point 0 field 1 got raw want init+1[1.1*1]+1[2.1*1]\n",
+        "differ task 3 req 1 point 0 field 1 got raw+1[1.1*1] want init\n",
         "fault 4294967296 word\n",
         "fault 0 words\n",
         "fault 0 Word\n",
@@ -138,5 +175,100 @@ fn lists_give_what_they_hold(rt: HostRuntime) -> Result<(), Fail> {
     assert_eq!(rt; list.len(), 1);
     assert!(rt; list.at(0).is_some_and(|dep| dep.before && dep.field == 5));
     assert!(rt; list.at(1).is_none());
+    Ok(())
+}
+
+/// A contribution of a task's first requirement.
+fn first_of(task: u32) -> Contribution {
+    Contribution { task, req: 1 }
+}
+
+/// A value with contributions added, each by an operator and of a task.
+fn added(alloc: Global, base: Base, each: &[(u32, u32)]) -> Result<Value, Fail> {
+    let mut value = Value::of(alloc, base);
+    for (op, task) in each {
+        if value.weight() == u64::MAX {
+            return Err(Fail::new("too heavy"));
+        }
+        value.add(*op, first_of(*task))?;
+    }
+    Ok(value)
+}
+
+/// A value with another folded in.
+fn folded(mut value: Value, op: u32, from: &Value) -> Result<Value, Fail> {
+    if from.weight() > u64::MAX - value.weight() {
+        return Err(Fail::new("too heavy"));
+    }
+    value.fold(op, from)?;
+    Ok(value)
+}
+
+/// Whether a value and its copy have this text, which stands between `got` and `want` and at the end.
+#[rattlefmt::skip]
+fn is_written(alloc: Global, value: Value, report: &str) -> Result<bool, Fail> {
+    let want = value.copy_of(alloc)?;
+    if !want.same(&value) {
+        return Ok(false);
+    }
+    let f = Finding::Differ { task: 3, req: 1, point: 0, field: 1, got: value, want };
+    Ok(text(alloc, &f)?.as_slice() == report.as_bytes())
+}
+
+#[test]
+#[rattlefmt::skip]
+fn values_are_added_to(rt: HostRuntime) -> Result<(), Fail> {
+    let alloc = rt.alloc();
+    for (each, report) in [
+        (&[(1, 1), (2, 2), (1, 1)], "differ task 3 req 1 point 0 field 1 got init+1[1.1*1]+2[2.1*1]+1[1.1*1] want init+1[1.1*1]+2[2.1*1]+1[1.1*1]\n"),
+        (&[(1, 2), (1, 1), (1, 2)], "differ task 3 req 1 point 0 field 1 got init+1[1.1*1,2.1*2] want init+1[1.1*1,2.1*2]\n"),
+    ] {
+        assert!(rt; is_written(alloc, added(alloc, Base::Init, each)?, report)?, "at {report}");
+    }
+    let raw = added(alloc, Base::Raw, &[(1, 1)])?;
+    assert!(rt; is_written(alloc, raw, "differ task 3 req 1 point 0 field 1 got raw want raw\n")?);
+    let mut twice = Value::of(alloc, Base::Init);
+    twice.add_many(1, first_of(1), 2)?;
+    assert_eq!(rt; twice.weight(), 2);
+    assert!(rt; is_written(alloc, twice, "differ task 3 req 1 point 0 field 1 got init+1[1.1*2] want init+1[1.1*2]\n")?);
+    Ok(())
+}
+
+#[test]
+#[rattlefmt::skip]
+fn values_are_folded_in(rt: HostRuntime) -> Result<(), Fail> {
+    let alloc = rt.alloc();
+    for (base, each, to, report) in [
+        (Base::Ident, [].as_slice(), [].as_slice(), "differ task 3 req 1 point 0 field 1 got init want init\n"),
+        (Base::Raw, [].as_slice(), [].as_slice(), "differ task 3 req 1 point 0 field 1 got raw want raw\n"),
+        (Base::Ident, [(1, 1), (1, 1)].as_slice(), [].as_slice(), "differ task 3 req 1 point 0 field 1 got init+1[1.1*2] want init+1[1.1*2]\n"),
+        (Base::Ident, [(1, 4), (1, 0), (1, 3)].as_slice(), [(1, 1), (1, 1), (1, 4)].as_slice(), "differ task 3 req 1 point 0 field 1 got init+1[0.1*1,1.1*2,3.1*1,4.1*2] want init+1[0.1*1,1.1*2,3.1*1,4.1*2]\n"),
+        (Base::Ident, [(1, 4)].as_slice(), [(1, 1), (2, 1)].as_slice(), "differ task 3 req 1 point 0 field 1 got init+1[1.1*1]+2[1.1*1]+1[4.1*1] want init+1[1.1*1]+2[1.1*1]+1[4.1*1]\n"),
+        (Base::Ident, [(2, 1)].as_slice(), [].as_slice(), "differ task 3 req 1 point 0 field 1 got raw want raw\n"),
+        (Base::Ident, [(1, 1), (2, 1)].as_slice(), [].as_slice(), "differ task 3 req 1 point 0 field 1 got raw want raw\n"),
+        (Base::Init, [].as_slice(), [].as_slice(), "differ task 3 req 1 point 0 field 1 got raw want raw\n"),
+    ] {
+        let value = folded(added(alloc, Base::Init, to)?, 1, &added(alloc, base, each)?)?;
+        assert!(rt; is_written(alloc, value, report)?, "at {report}");
+    }
+    Ok(())
+}
+
+/// A read value, looked at group by group.
+#[test]
+fn values_give_what_they_hold(rt: HostRuntime) -> Result<(), Fail> {
+    let report = b"differ task 1 req 2 point 3 field 4 got out:5+6[7.8*9] want ident\n";
+    let Finding::Differ { got, want, .. } = read_text(rt.alloc(), report)? else {
+        return Err(Fail::new("another report"));
+    };
+    assert!(rt; got.base() == Base::Out(5) && want.base() == Base::Ident);
+    assert_eq!(rt; (got.group_count(), want.group_count()), (1, 0));
+    assert!(rt; got.group(1).is_none() && want.group(0).is_none());
+    let Some((op, bag)) = got.group(0) else {
+        return Err(Fail::new("no group"));
+    };
+    assert_eq!(rt; (op, bag.len()), (6, 1));
+    assert!(rt; bag.at(1).is_none());
+    assert_eq!(rt; bag.at(0), Some((Contribution { task: 7, req: 8 }, 9)));
     Ok(())
 }

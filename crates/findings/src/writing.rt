@@ -2,6 +2,7 @@
 
 ghost use Rattle.std.specs.Prelude.{◌≡◌, ◌↔◌, ◌++◌, ◌∷◌, [], not, map, count_by, IsTrue, IfOk, OnOk};
 ghost use Rattle.std.specs.List.{AllByRecursion};
+ghost use Rattle.findings.specs.declared.cells.Cell.TheVariants as cells;
 ghost use Rattle.findings.specs.Cells.{with_cell, words_in};
 ghost use Rattle.findings.specs.Texts as texts;
 ghost use Rattle.findings.specs.Texts.{small, dep_line, row_text, line_text, lines_text, Fits, IsWhole, Good};
@@ -10,8 +11,10 @@ use crate::cells::Cell::*;
 use crate::cells::{Cell, dep_words, last_words};
 use crate::codes;
 use crate::finding::{Dep, Finding};
+use crate::value_text::push_value;
 use spy_words::push_u64;
 use std::alloc::{AllocError, Global};
+use value_terms::Value;
 
 /// Memory ran out.
 #[derive(Clone, Copy, Debug, PartialEq, Eq)]
@@ -21,6 +24,14 @@ impl From<AllocError> for Memory {
     ghost from_gives = { λ _ e. Unit {0} };
 
     fn from(_e: AllocError) -> Memory {
+        Memory
+    }
+}
+
+impl From<value_terms::Memory> for Memory {
+    ghost from_gives = { λ _ e. Unit {0} };
+
+    fn from(_e: value_terms::Memory) -> Memory {
         Memory
     }
 }
@@ -101,12 +112,32 @@ fn push_events(out: &mut Vec<u8>, events: &[u32]) -> Result<(), AllocError>
     Ok(())
 }
 
+fn push_place(out: &mut Vec<u8>, point: u64, field: u32) -> Result<(), AllocError>
+    ensures { OnOk result (out.new.items ≡ out.old.items ++ row_text (with_cell (cells.At point field) [])) }
+{
+    out.extend_from_slice(b" point ")?;
+    push_u64(out, point)?;
+    out.extend_from_slice(b" field ")?;
+    push_u64(out, u64::from(field))
+}
+
+fn push_values(out: &mut Vec<u8>, got: &Value, want: &Value) -> Result<(), AllocError>
+    ensures { OnOk result (out.new.items ≡ out.old.items ++ row_text (with_cell (cells.Differs got.entry want.entry) [])) }
+{
+    out.extend_from_slice(b" got ")?;
+    push_value(out, got)?;
+    out.extend_from_slice(b" want ")?;
+    push_value(out, want)
+}
+
 fn push_cell(out: &mut Vec<u8>, cell: &Cell<'_>) -> Result<(), AllocError>
     ensures { OnOk result (out.new.items ≡ out.old.items ++ row_text (with_cell cell.now [])) }
 {
     match *cell {
         No => return Ok(()),
         Events(events) => return push_events(out, events),
+        At(point, field) => return push_place(out, point, field),
+        Differs(got, want) => return push_values(out, got, want),
         _ => out.push(b' ')?,
     }
     match *cell {
@@ -114,7 +145,7 @@ fn push_cell(out: &mut Vec<u8>, cell: &Cell<'_>) -> Result<(), AllocError>
         Small(n) => push_u64(out, u64::from(n)),
         Large(n) => push_u64(out, n),
         Names(code) => out.extend_from_slice(codes::text_of(code)),
-        No | Events(_) => Ok(()),
+        No | Events(_) | At(..) | Differs(..) => Ok(()),
     }
 }
 

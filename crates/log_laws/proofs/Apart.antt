@@ -96,9 +96,19 @@ number_from first (suc n) k low high = elim (cases_eq first k) [ inl e ↦ inl (
 pub number_in : (n k : ℕ) → k < n → Member (numbers_from 0 n) k
 number_in n k h = number_from 0 n k (omega arith) (omega (arith, h))
 
+-- Each number is below all that follow it.
+abbrev pub Rise : List ℕ → Type 0
+Rise ns = PairsBy (λ x y. x < y) ns
+
+pub rise_apart : (ns : List ℕ) → Rise ns → Apart ns
+rise_apart ns = pairs_so (λ x y. x < y) (λ x y. x ≢ y) ns (λ x y _ _ lt e. omega arith)
+
+pub numbers_rise : (first n : ℕ) → Rise (numbers_from first n)
+numbers_rise first zero = tt
+numbers_rise first (suc n) = (λ m is. omega (arith, (number_between (first + 1) n m is).0), numbers_rise (first + 1) n)
+
 pub numbers_apart : (first n : ℕ) → Apart (numbers_from first n)
-numbers_apart first zero = tt
-numbers_apart first (suc n) = (λ m is e. omega (arith, (number_between (first + 1) n m is).0, e), numbers_apart (first + 1) n)
+numbers_apart first n = rise_apart (numbers_from first n) (numbers_rise first n)
 
 -- Where each element stands before the next, it stands before each later one.
 module _ {X : Type 0} (before : X → X → Bool) (P : X → Type 0) (R : X → X → Type 0) (tells : (x y : X) → P y → before x y ≡ true → R x y) (trans : (x y z : X) → R x y → R y z → R x z) where
@@ -112,18 +122,20 @@ module _ {X : Type 0} (before : X → X → Bool) (P : X → Type 0) (R : X → 
       (λ z m. elim m [ inl is ↦ subst (R x) (sym is) first | inr later ↦ trans x y z first (rest.0 z later) ], rest)
 
 pub fields_apart : (ns : List ℕ) → IsGood classes.fields ns → Apart ns
-fields_apart ns good = pairs_so (λ m n. m < n) (λ m n. m ≢ n) ns (λ m n _ _ lt e. omega arith)
-    (ascending nat_lt (IsNumberFrom 0) _ (λ m n _ lt. ltb-true m n lt) (λ k m n a b. omega arith) ns good.0 good.1)
+fields_apart ns good = rise_apart ns (ascending nat_lt (IsNumberFrom 0) _ (λ m n _ lt. ltb-true m n lt) (λ k m n a b. omega arith) ns good.0 good.1)
 
-abbrev span : ℕ × ℕ → List ℕ
+abbrev pub span : ℕ × ℕ → List ℕ
 span p = numbers_from p.0 (p.1 + 1 - p.0)
 
-pub points_apart : (ps : List (ℕ × ℕ)) → IsGood classes.points ps → Apart (points_of ps)
-points_apart ps good =
+pub points_rise : (ps : List (ℕ × ℕ)) → IsGood classes.points ps → Rise (points_of ps)
+points_rise ps good =
     let all : points_of ps ≡ flat_map span ps = same_from_clauses points_of (flat_map span) (λ p xs. span p ++ xs) refl (λ p ps. refl) (λ p ps. refl) ps in
     let rise = ascending span_before IsSpan (λ p q. (p.1 < q.0) × (q.0 ≤ q.1)) (λ p q good lt. (ltb-true p.1 q.0 lt, good.0)) (λ p q r a b. (omega arith, b.1)) ps good.0 good.1 in
-    subst Apart (sym all) (pairs_flat (λ x y. x ≢ y) span ps (λ p _. numbers_apart p.0 (p.1 + 1 - p.0)) (pairs_so _ _ ps (λ p q _ _ up a b m n e.
-    omega (arith, number_between p.0 (p.1 + 1 - p.0) a m, number_between q.0 (q.1 + 1 - q.0) b n, up, e)) rise))
+    subst Rise (sym all) (pairs_flat (λ x y. x < y) span ps (λ p _. numbers_rise p.0 (p.1 + 1 - p.0)) (pairs_so _ _ ps (λ p q _ _ up a b m n.
+    omega (arith, number_between p.0 (p.1 + 1 - p.0) a m, number_between q.0 (q.1 + 1 - q.0) b n, up)) rise))
+
+pub points_apart : (ps : List (ℕ × ℕ)) → IsGood classes.points ps → Apart (points_of ps)
+points_apart ps good = rise_apart (points_of ps) (points_rise ps good)
 
 pub member_grid : (points fields : List ℕ) (p : ℕ × ℕ) → Member (grid points fields) p → Member points p.0 × Member fields p.1
 member_grid points fields p m =

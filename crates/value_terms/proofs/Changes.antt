@@ -3,11 +3,12 @@ use Rattle.std.proofs.Common.{◌≡◌, ℕ, inl, inr, Bool, true, false, List,
 use Rattle.std.proofs.lemmas.Bool.Decides.{eqb_tells, nat_tests}
 use Rattle.value_terms.specs.declared.terms.Base.{Base}
 use Rattle.value_terms.specs.declared.terms.Base.TheVariants.{Raw, Ident}
-use Rattle.value_terms.specs.Values.{Bag, Group, Value, extended, add, plain, fold_parts, fold_in}
+use Rattle.value_terms.specs.declared.bag.Group.{Group}
+use Rattle.value_terms.specs.Values.{Bag, Value, extended, add, plain, fold_parts, fold_in}
 use Rattle.value_terms.proofs.Counting.{joined_joined}
 
 -- A group that others follow stays.
-extended_later : (op : ℕ) (a b : Bag) (g h : Group) (groups : List Group) → extended op a (g ∷ extended op b (h ∷ groups)) ≡ g ∷ extended op a (extended op b (h ∷ groups))
+pub extended_later : (op : ℕ) (a b : Bag) (g h : Group) (groups : List Group) → extended op a (g ∷ extended op b (h ∷ groups)) ≡ g ∷ extended op a (extended op b (h ∷ groups))
 unfolding extended
 extended_later op a b g h [] = elim (eqb_tells h.op op) [ inl is ↦ rw is.0 | inr is ↦ rw is.0 ]
 extended_later op a b g h (k ∷ groups) = refl

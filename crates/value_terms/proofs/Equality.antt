@@ -6,7 +6,8 @@ use Rattle.std.proofs.lemmas.Bool.Decides.{Decides-and, Decides-like, Decides-eq
 use Rattle.value_terms.specs.declared.terms.Base.{Base}
 use Rattle.value_terms.specs.declared.terms.Base.TheVariants.{Raw, Init, Ident, Const, Out}
 use Rattle.value_terms.specs.declared.terms.Contribution.{Contribution}
-use Rattle.value_terms.specs.Values.{Group, Value, same_contribution, same_base, same_bag, same_value}
+use Rattle.value_terms.specs.declared.bag.Group.{Group}
+use Rattle.value_terms.specs.Values.{Value, same_contribution, same_base, same_bag, same_value}
 use Rattle.value_terms.proofs.Order.{same_decides}
 
 base_decides : (a b : Base) → Decides (same_base a b) (a ≡ b)

@@ -1,5 +1,9 @@
 pub mod Order
 pub mod Counting
+pub mod Placing
 pub mod Changes
 pub mod WellFormed
 pub mod Equality
+pub mod Grouping
+pub mod Held
+pub mod Sums

@@ -42,7 +42,7 @@ pub record Below (c d : Contribution) : Type 0 where
   pub before : comes_before c d ≡ true
   pub not_after : comes_before d c ≡ false
 
-below : (c d : Contribution) → comes_before c d ≡ true → Below c d
+pub below : (c d : Contribution) → comes_before c d ≡ true → Below c d
 below c d h = record { differ = (before_differ c d h).0; differ_too = (before_differ c d h).1; before = h; not_after = before_back c d h }
 
 pub compared : (c d : Contribution) → Same c d ⊎ (Below c d ⊎ Below d c)

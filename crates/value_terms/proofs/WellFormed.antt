@@ -5,7 +5,8 @@ use Rattle.std.proofs.lemmas.Bool.Decides.{eqb_tells}
 use Rattle.value_terms.specs.declared.terms.Base.{Base}
 use Rattle.value_terms.specs.declared.terms.Base.TheVariants.{Raw, Ident}
 use Rattle.value_terms.specs.declared.terms.Contribution.{Contribution}
-use Rattle.value_terms.specs.Values.{Bag, Group, Value, comes_before, count_in, counted, joined, group_of, extended, is_raw, plain, add, fold_parts, fold_in, CountsEach, IsWellFormedBag, NeighboursDiffer, IsWellFormed}
+use Rattle.value_terms.specs.declared.bag.Group.{Group}
+use Rattle.value_terms.specs.Values.{Bag, Value, comes_before, count_in, counted, joined, group_of, extended, is_raw, plain, add, fold_parts, fold_in, CountsEach, IsWellFormedBag, NeighboursDiffer, IsWellFormed}
 use Rattle.value_terms.proofs.Order.{compared}
 use Rattle.value_terms.proofs.Counting.{counts, counted_none, counted_same, counted_here, counted_later, all_after, rest_of, count_joined, equal_by_counts}
 
@@ -50,7 +51,7 @@ joined_some a [] h = h
 joined_some a (e ∷ b) h = joined_some (counted e.0 e.1 a) b (counted_some e.0 e.1 a)
 
 -- What holds of a new group, and stays when a bag is counted in, holds of all groups.
-extended_all : (P : Group → Type 0) (op : ℕ) (bag : Bag) (groups : List Group) → P (group_of op bag) → ((g : Group) → P g → P (record g { bag = joined g.bag bag })) → AllByRecursion P groups → AllByRecursion P (extended op bag groups)
+pub extended_all : (P : Group → Type 0) (op : ℕ) (bag : Bag) (groups : List Group) → P (group_of op bag) → ((g : Group) → P g → P (record g { bag = joined g.bag bag })) → AllByRecursion P groups → AllByRecursion P (extended op bag groups)
 unfolding extended
 extended_all P op bag [] new more h = (new, tt)
 extended_all P op bag (g ∷ []) new more h = elim (eqb_tells g.op op) [ inl is ↦ rw is.0 (more g h.0, tt) | inr is ↦ rw is.0 (h.0, (new, tt)) ]

@@ -1,3 +1,4 @@
 pub mod Values
+pub mod Foldings
 pub mod Computed
 pub mod WorkedValues

@@ -1,7 +1,7 @@
 -- Parts of worked values.
 use Rattle.std.specs.Prelude.{ℕ, [], ◌∷◌}
 use Rattle.value_terms.specs.declared.terms.Contribution.{Contribution}
-use Rattle.value_terms.specs.Values.{Group}
+use Rattle.value_terms.specs.declared.bag.Group.{Group}
 
 -- What the first requirement of the first task adds.
 abbrev pub from_first : Contribution

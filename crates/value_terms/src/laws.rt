@@ -1,10 +1,10 @@
 //! Laws over the definitions alone. A function here has nothing to do: its contract is the law.
 
-ghost use Rattle.std.specs.Prelude.{◌≡◌, ◌↔◌, ℕ, ◌+◌, true, []};
+ghost use Rattle.std.specs.Prelude.{◌≡◌, ◌↔◌, ℕ, ◌+◌, ◌≤◌, true, []};
 ghost use Rattle.value_terms.specs.declared.terms.Base.{Base};
 ghost use Rattle.value_terms.specs.declared.terms.Base.TheVariants as bases;
 ghost use Rattle.value_terms.specs.declared.terms.Contribution.{Contribution};
-ghost use Rattle.value_terms.specs.Values.{Bag, Value, count_in, joined, plain, add, fold_in, CountsEach, IsWellFormedBag, IsWellFormed, same_value};
+ghost use Rattle.value_terms.specs.Values.{Bag, Value, count_in, joined, plain, add, fold_in, total, weight_of, with_bag, with_groups, CountsEach, IsWellFormedBag, IsWellFormed, same_value};
 
 /// A bag is its counts: joining adds them, no two bags have the same, and a bag counted anew is itself.
 #[tactic(auto, using(crate::proofs::Counting::count_joined, crate::proofs::Counting::equal_by_counts, crate::proofs::WellFormed::joined_anew))]
@@ -30,6 +30,20 @@ pub fn values_stay_well_formed()
     ensures plain { (base : Base) → IsWellFormed (plain base) }
     ensures add { (op : ℕ) (bag : Bag) (v : Value) → CountsEach bag → IsWellFormed v → IsWellFormed (add op bag v) }
     ensures fold { (w : Value) (op : ℕ) (v : Value) → IsWellFormed w → IsWellFormed v → IsWellFormed (fold_in w op v) }
+{}
+
+/// Adding a bag is adding its entries one after another, and a value is what adding those of its groups makes of its base.
+#[tactic(auto, using(crate::proofs::Sums::bag_sums, crate::proofs::Sums::value_sums))]
+pub fn values_are_sums()
+    ensures bag { (op : ℕ) (bag : Bag) (v : Value) → with_bag op bag v ≡ add op bag v }
+    ensures value { (v : Value) → IsWellFormed v → with_groups v.groups (plain v.base) ≡ v }
+{}
+
+/// No change makes a value heavier than by what was added.
+#[tactic(auto, using(crate::proofs::Sums::weight_added, crate::proofs::Sums::weight_folded))]
+pub fn weights_add_up()
+    ensures add { (op : ℕ) (bag : Bag) (v : Value) → weight_of (add op bag v) ≤ weight_of v + total bag }
+    ensures fold { (w : Value) (op : ℕ) (v : Value) → weight_of (fold_in w op v) ≤ weight_of w + weight_of v }
 {}
 
 /// The test of two values tells whether they are equal.

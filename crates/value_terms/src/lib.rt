@@ -1,10 +1,18 @@
 //! Values as terms: what a place got last, and what reductions have added to it since.
 #![tactic(auto)]
 
+mod bag;
+mod groups;
 mod laws;
 mod terms;
+mod value;
 mod worked;
 
-pub use laws::{bags_are_counts, changes_commute, same_values_are_equal, values_stay_well_formed};
+pub use bag::{Bag, Group};
+pub use laws::{
+    bags_are_counts, changes_commute, same_values_are_equal, values_are_sums,
+    values_stay_well_formed, weights_add_up,
+};
 pub use terms::{Base, Contribution};
+pub use value::{Memory, Value};
 pub use worked::worked_values;

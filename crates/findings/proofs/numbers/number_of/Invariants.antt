@@ -1,6 +1,6 @@
 use Rattle.std.proofs.Common.{◌≡◌, ◌≤◌, ◌+◌, ◌-◌, ◌*◌, min, fold, length}
-use Rattle.findings.specs.Reading as says
-use Rattle.findings.proofs.reading.number_of.Given as goal
+use Rattle.findings.specs.Numbers as says
+use Rattle.findings.proofs.numbers.number_of.Given as goal
 
 abbrev pub invariant-loop-rest : goal.invariant-loop-rest
 invariant-loop-rest l = record {

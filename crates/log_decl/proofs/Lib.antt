@@ -1,0 +1,3 @@
+mod GoodRecords
+mod Numbers
+mod Spaces

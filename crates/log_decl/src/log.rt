@@ -1,0 +1,202 @@
+//! The log of a recorded run.
+
+ghost use Rattle.std.specs.Prelude.{◌≡◌, ◌<◌, ◌↔◌, map, length, slice_get, Some, None, IfOk, OnOk, IfErr, IsSome, IfSome, All};
+ghost use Rattle.std.specs.List.Sorted.{IsStrictlyIncreasing};
+ghost use Rattle.std.specs.Option.{option_and_then};
+ghost use Rattle.region_tree.specs.Regions.{space_of};
+ghost use Rattle.region_tree.specs.Paths.{IsPath};
+ghost use Rattle.semantics.specs.SerialOrder.{serial, serial_place};
+ghost use Rattle.semantics.specs.Steps.{mapped};
+ghost use Rattle.semantics.specs.Faults.{at_line, unmapped_fault};
+ghost use Rattle.spy_grammar.specs.declared.code.Code.TheVariants as codes;
+ghost use Rattle.log_faults.specs.Decls.{decls_of};
+ghost use Rattle.log_decl.specs.Faultless.{AreDeclared};
+ghost use Rattle.log_decl.specs.Listing.{item_line};
+ghost use Rattle.log_tables.specs.Views.{space_seen};
+ghost use Rattle.item_uses.specs.Blocks.{AreBlocks};
+ghost use Rattle.item_uses.specs.Usages.{usages};
+
+use crate::mapping::{Unmapped, first_unmapped, inst_mapped};
+use crate::found::{Found, found_in};
+use bumpalo::Bump;
+use item_uses::{ItemUses, Span};
+use log_tables::{Draft, Space};
+use point_set::PointSet;
+use region_tree::{ArenaSet, Forest, Memory, Path};
+use semantics::{Inst, Item, LogNode, Req};
+use std::alloc::Global;
+use std::marker::Model;
+
+/// What a log declares, whose records break no rule of its frame and no rule on single records. Contracts see it as the tables of these records.
+#[derive(Drop)]
+pub struct Log<'a, P: ArenaSet<'a>> {
+    draft: Draft<P>,
+    forest: Forest<'a, P>,
+    found: Found<'a, P>,
+}
+
+impl<'a, P: ArenaSet<'a>> Model for Log<'a, P> {
+    ghost use Rattle.std.specs.Prelude.{◌≡◌, nat_eq};
+    ghost use Rattle.std.specs.HashMap.{get};
+    ghost use Rattle.semantics.specs.Tables.{Tables};
+    ghost use Rattle.log_faults.specs.Decls.{decls_of};
+    ghost use Rattle.log_decl.specs.Faultless.{AreDeclared};
+    ghost use Rattle.log_decl.specs.Looked.{AreFound};
+    ghost use Rattle.item_uses.specs.Blocks.{AreBlocks};
+    ghost use Rattle.item_uses.specs.Usages.{usages};
+
+    ghost Value = { Tables };
+
+    ghost view = { λ l. l.draft };
+
+    ghost invariant = { λ l. AreDeclared l.draft × (l.forest ≡ decls_of l.draft)
+        × (l.found.uses.items ≡ usages l.draft) × AreBlocks l.found.blocks.items l.found.uses.items
+        × AreFound l.draft l.found.space_ids.items (get nat_eq l.found.paths) l.found.order.items l.found.places.items (get nat_eq l.found.lines) };
+}
+
+impl<'a, P: ArenaSet<'a>> Log<'a, P> {
+    /// The log that declares this, with its forest.
+    pub(crate) fn of(
+        alloc: Global,
+        bump: &'a Bump,
+        draft: Draft<P>,
+        forest: Forest<'a, P>,
+    ) -> Result<Log<'a, P>, Memory>
+        requires declared { AreDeclared draft }
+        requires forest { forest ≡ decls_of draft }
+        ensures { IfOk result (λ log. log ≡ draft) }
+    {
+        match found_in(alloc, bump, &draft, &forest) {
+            Ok(found) => Ok(Log {
+                draft,
+                forest,
+                found,
+            }),
+            Err(memory) => {
+                drop(draft);
+                Err(memory)
+            }
+        }
+    }
+
+    /// What every log keeps: its tables are those of records that break no rule of a log's frame and no rule on single records.
+    pub fn is_declared(&self)
+        ensures { AreDeclared self.now }
+    {
+        let _draft = &self.draft;
+    }
+
+    /// The items, in program order, the order of their lines.
+    pub fn items(&self) -> &[Item]
+        ensures { result.now ≡ self.now.items }
+    {
+        self.draft.items()
+    }
+
+    /// The requirements, in the order of their lines.
+    pub fn reqs(&self) -> &[Req]
+        ensures reqs { result.now ≡ self.now.reqs }
+        ensures ascend { All (λ r. IsStrictlyIncreasing r.fields) result.now }
+    {
+        self.draft.reqs()
+    }
+
+    /// The instances, in the order of their lines.
+    pub fn insts(&self) -> &[Inst]
+        ensures { result.now ≡ self.now.insts }
+    {
+        self.draft.insts()
+    }
+
+    /// The nodes of the recorded run, in the order of their lines.
+    pub fn nodes(&self) -> &[LogNode]
+        ensures { result.now ≡ self.now.nodes }
+    {
+        self.draft.nodes()
+    }
+
+    /// The positions of all items in serial order.
+    pub fn serial(&self) -> &[usize]
+        ensures { result.now ≡ serial self.now }
+    {
+        self.found.order.as_slice()
+    }
+
+    /// The place of an item in serial order.
+    pub fn serial_place(&self, item: usize) -> usize
+        requires { item < length self.now.items }
+        ensures { result ≡ serial_place self.now item }
+    {
+        self.found.places[item]
+    }
+
+    /// The line that lists an item in serial order, or `None` where no line lists items, or there is no such item.
+    pub fn serial_line(&self, item: usize) -> Option<u32>
+        ensures { result ≡ item_line self.now item }
+    {
+        let item = self.draft.items().get(item)?;
+        self.found.lines.get(&item.id).copied()
+    }
+
+    /// What each item asks for, in program order.
+    pub fn uses(&self) -> &[ItemUses<'a, P>]
+        ensures { result.now ≡ usages self.now }
+    {
+        self.found.uses.as_slice()
+    }
+
+    /// Bounds on what each 64 items ask for.
+    pub fn blocks(&self) -> &[Span]
+        ensures { AreBlocks result.now (usages self.now) }
+    {
+        self.found.blocks.as_slice()
+    }
+
+    /// The declared spaces with their sets, in the order of their lines.
+    pub fn space_sets(&self) -> &[Space<P>]
+        ensures { map (space_seen P.points) result.now ≡ self.now.spaces }
+    {
+        self.draft.spaces()
+    }
+
+    /// The ids of the declared spaces, in the order of their lines.
+    pub fn spaces(&self) -> &[u32]
+        ensures { result.now ≡ map (λ s. s.id) self.now.spaces }
+    {
+        self.found.space_ids.as_slice()
+    }
+
+    /// The forest of the spaces, partitions and subspaces.
+    pub fn forest(&self) -> &Forest<'a, P>
+        ensures { result.now ≡ decls_of self.now }
+    {
+        &self.forest
+    }
+
+    /// The path of a space in the forest, or `None` where the space is not declared.
+    pub fn path(&self, space: u32) -> Option<&Path>
+        ensures declared { IsSome result ↔ IsSome (space_of (decls_of self.now) space) }
+        ensures path { IfSome result (λ way. IsPath (decls_of self.now) way.now space) }
+    {
+        self.found.paths.get(&space)
+    }
+
+    /// The instance to which a field of a requirement is mapped, or `None` where no line maps it. The requirement is named by its position.
+    pub fn inst_of(&self, req: usize, field: u32) -> Option<u32>
+        ensures { result ≡ option_and_then (λ r. mapped self.now r field) (slice_get self.now.reqs req) }
+    {
+        let req = self.draft.reqs().get(req)?;
+        inst_mapped(&self.draft, req, field)
+    }
+
+    /// Whether each field of each requirement is mapped, or else the line of the first requirement of which one is not.
+    pub fn mapped(&self) -> Result<(), Unmapped>
+        ensures mapped { OnOk result (unmapped_fault self.now ≡ None) }
+        ensures unmapped { IfErr result (λ u. unmapped_fault self.now ≡ Some (at_line codes.Unmapped u.line)) }
+    {
+        match first_unmapped(&self.draft) {
+            Some(req) => Err(Unmapped { line: req.line }),
+            None => Ok(()),
+        }
+    }
+}

@@ -1,0 +1,11 @@
+pub mod Ascending
+pub mod Depth
+pub mod Ending
+pub mod FirstFault
+pub mod Growing
+pub mod Members
+pub mod Placing
+pub mod SpaceFaults
+pub mod Steady
+pub mod SubFaults
+pub mod Walking

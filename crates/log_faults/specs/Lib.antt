@@ -1,0 +1,4 @@
+pub mod Decls
+pub mod Lines
+pub mod SubLines
+pub mod Walk

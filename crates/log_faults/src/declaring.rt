@@ -1,0 +1,86 @@
+//! The declarations of a log, or the fault of its frame and records.
+
+ghost use Rattle.std.specs.Prelude.{◌≡◌, ◌<◌, ◌-◌, ◌^◌, ℕ, All, [], None, Some, Err, length, IfOk, OnOk};
+ghost use Rattle.spy_grammar.specs.declared.code.Code.{Code};
+ghost use Rattle.spy_grammar.specs.Spelling.{Good};
+ghost use Rattle.semantics.specs.Records.{records_of};
+ghost use Rattle.semantics.specs.Tables.{no_tables, tables_of};
+ghost use Rattle.semantics.specs.Faults.{at_line, declaration_fault, records_fault};
+ghost use Rattle.log_tables.specs.Views.{Ascends};
+ghost use Rattle.log_faults.specs.Decls.{decls_of};
+ghost use Rattle.log_faults.specs.Lines.{AreLines};
+
+use crate::decl_end::DeclEnd;
+use crate::declared::Declarations;
+use crate::frame::frame_fault;
+use crate::regions::placed_forest;
+use crate::walk::walk;
+use bumpalo::Bump;
+use log_rules::{Tally, WholeLog};
+use log_tables::Draft;
+use region_tree::{ArenaSet, Forest};
+use spy_grammar::Lined;
+use std::alloc::Global;
+
+/// Adds the records of a log to a draft in which nothing is declared, and gives their forest; or the fault of the first that breaks a rule.
+///
+/// Where the walk ends at a record that breaks a rule, a subspace before it may still be refused by the forest.
+fn grown_forest<'a, P: ArenaSet<'a>>(
+    draft: &mut Draft<P>,
+    alloc: Global,
+    bump: &'a Bump,
+    records: &[Lined],
+) -> Result<Forest<'a, P>, DeclEnd>
+    requires none { draft.old ≡ no_tables }
+    requires ascends { All (λ l. Ascends l.rec) records.now }
+    requires few { length records.now < 2 ^ 32 - 1 }
+    ensures tables { OnOk result (draft.new ≡ tables_of records.now) }
+    ensures forest { IfOk result (λ forest. forest ≡ decls_of (tables_of records.now)) }
+    ensures faultless { OnOk result (records_fault (records_of records.now) [] records.now ≡ None) }
+    ensures fault { (line : ℕ) (code : Code) → result ≡ Err (DeclEnd.Fault line code) → records_fault (records_of records.now) [] records.now ≡ Some (at_line code line) }
+{
+    let whole = WholeLog::new(alloc, records)?;
+    let mut tally = Tally::new(alloc);
+    let walked = walk(draft, &mut tally, alloc, bump, &whole, records)?;
+    let forest = placed_forest(alloc, bump, draft, &records[..walked.kept])?;
+    match walked.code {
+        Some(code) => Err(DeclEnd::Fault {
+            line: records[walked.kept].line,
+            code,
+        }),
+        None => Ok(forest),
+    }
+}
+
+/// What the records of a log declare, or the fault of its frame and records that is shown. `lines` is the number of lines.
+///
+/// Each record has a spelling, and the lines on which the records stand ascend. Want of memory is the only other answer.
+pub fn declarations<'a, P: ArenaSet<'a>>(
+    alloc: Global,
+    bump: &'a Bump,
+    records: &[Lined],
+    lines: u32,
+) -> Result<Declarations<'a, P>, DeclEnd>
+    requires good { All (λ l. Good l.rec) records.now }
+    requires lines { AreLines lines records.now }
+    ensures tables { IfOk result (λ d. d.draft ≡ tables_of records.now) }
+    ensures forest { IfOk result (λ d. d.forest ≡ decls_of (tables_of records.now)) }
+    ensures faultless { OnOk result (declaration_fault lines records.now ≡ None) }
+    ensures fault { (line : ℕ) (code : Code) → result ≡ Err (DeclEnd.Fault line code) → declaration_fault lines records.now ≡ Some (at_line code line) }
+{
+    if let Some(fault) = frame_fault(records, lines) {
+        return Err(DeclEnd::Fault {
+            line: fault.line,
+            code: fault.code,
+        });
+    }
+    let mut draft = Draft::new(alloc);
+    match grown_forest(&mut draft, alloc, bump, records) {
+        Ok(forest) => Ok(Declarations { draft, forest }),
+        Err(end) => {
+            // Dropped by a call, so that its many fields are no steps of this proof.
+            drop(draft);
+            Err(end)
+        }
+    }
+}

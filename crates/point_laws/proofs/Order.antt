@@ -1,0 +1,40 @@
+-- The points of a space, declared or not, are in ascending order.
+use Rattle.std.proofs.Common.{ℕ, inl, inr, ◌==◌, List, [], ◌∷◌, find, fold}
+use Rattle.std.specs.List.{AllByRecursion}
+use Rattle.spy_grammar.specs.declared.record.Record.{Record}
+use Rattle.spy_grammar.specs.declared.record.Record.TheVariants as records
+use Rattle.spy_grammar.specs.declared.record.Lined.{Lined}
+use Rattle.spy_grammar.specs.Spelling.{Good}
+use Rattle.semantics.specs.Records.{records_of}
+use Rattle.semantics.specs.Tables.{Tables, Space, with_record, no_tables, tables_of}
+use Rattle.semantics.specs.Points.{points_in}
+use Rattle.log_laws.proofs.Members.{Each, member_of, contains_of, each_more, found_at, none_or_some}
+use Rattle.log_laws.proofs.Apart.{Apart, Rise, rise_apart, all_pairs, pairs_from, points_rise}
+use Rattle.point_laws.specs.Alike.{HasPointsInOrder}
+
+-- ---- the tables of a log whose records are good
+
+abbrev SpacesRise : Tables → Type 0
+SpacesRise t = Each (λ (s : Space). Rise s.points) t.spaces
+
+with_good : (t : Tables) (line : ℕ) (r : Record) → Good r → SpacesRise t → SpacesRise (with_record t line r)
+with_good t line (records.Ispace id set) good h = each_more _ t.spaces _ h (points_rise set good.1.0)
+with_good t line _ good h = h
+
+all_good : (t : Tables) (log : List Lined) → AllByRecursion Good (records_of log) → SpacesRise t → SpacesRise (fold (λ t (l : Lined). with_record t l.line l.rec) t log)
+all_good t [] good h = h
+all_good t (l ∷ log) good h = all_good (with_record t l.line l.rec) log good.1 (with_good t l.line l.rec good.0 h)
+
+pub good_in_order : (log : List Lined) → AllByRecursion Good (records_of log) → HasPointsInOrder (tables_of log)
+good_in_order log good s c = all_pairs _ s.points (all_good no_tables log good (λ s m. absurd m) s (member_of (tables_of log).spaces s c))
+
+-- ---- any tables with points in order
+
+pub points_in_rise : (t : Tables) → HasPointsInOrder t → (id : ℕ) → Rise (points_in t id)
+points_in_rise t order id = elim (none_or_some (find (λ (s : Space). s.id == id) t.spaces)) [
+  | inl none ↦ rw none tt
+  | inr some ↦ rw some.1 (pairs_from _ some.0.points (order some.0 (contains_of t.spaces some.0 (found_at (λ (s : Space). s.id == id) t.spaces some.0 some.1).0)))
+]
+
+pub points_in_apart : (t : Tables) → HasPointsInOrder t → (id : ℕ) → Apart (points_in t id)
+points_in_apart t order id = rise_apart (points_in t id) (points_in_rise t order id)
