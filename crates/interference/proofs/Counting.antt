@@ -1,15 +1,14 @@
 -- How many pairs of tasks there are.
-use Rattle.std.proofs.Common.{◌≡◌, ℕ, ◌+◌, ◌-◌, ◌*◌, ◌<◌, ◌≤◌, inl, inr, Bool, true, false, List, [], ◌∷◌, length, refl, sym, ap, ◌∙◌, arith, map, filter, flat_map, ◌^◌, None}
+use Rattle.std.proofs.Common.{◌≡◌, ℕ, ◌+◌, ◌-◌, ◌*◌, ◌<◌, ◌≤◌, inl, inr, Bool, true, false, List, [], ◌∷◌, length, refl, sym, ap, ◌∙◌, arith, map, filter, flat_map, ◌^◌, None, subst}
 use Rattle.std.proofs.lemmas.Bool.{cases_Bool}
 use Rattle.std.proofs.lemmas.List.{length-map, length-append}
-use Rattle.semantics.specs.declared.tables.Item.{Item}
 use Rattle.semantics.specs.Tables.{Tables, numbers_from}
 use Rattle.semantics.specs.Kinds as kinds
 use Rattle.semantics.specs.Shown.{task_pairs}
 use Rattle.item_uses.specs.Usages.{Usage, usages}
-use Rattle.item_uses.proofs.Growing.{numbers_length}
+use Rattle.item_uses.proofs.Growing.{numbers_length, usages_length}
 use Rattle.interference.specs.declared.pair.Pair.{Pair}
-use Rattle.interference.specs.Pairing.{pair_of, row, left}
+use Rattle.interference.specs.Pairing.{pair_of, row, left, all_pairs}
 use Rattle.interference.specs.Tasks.{are_tasks}
 use Rattle.interference.proofs.AllPairs.{all_are}
 use Rattle.interference.proofs.Rows.{met_at, meeting, rows_step}
@@ -25,7 +24,7 @@ flat_few : (f : ℕ → List Pair) (xs : List ℕ) → ((x : ℕ) → length (f 
 flat_few f [] h = omega arith
 flat_few f (x ∷ xs) h = omega (arith, length-append (f x) (flat_map f xs), h x, flat_few f xs h)
 
-pub few_left : (q : Pair → Bool) (us : List (List Usage)) → length us < 2 ^ 32 → length (filter q (left None us 0 1)) < 2 ^ 64
+few_left : (q : Pair → Bool) (us : List (List Usage)) → length us < 2 ^ 32 → length (filter q (left None us 0 1)) < 2 ^ 64
 few_left q us small =
     let all = flat_few (λ i. row None us i (i + 1)) (numbers_from 0 (length us - 0)) (λ a. omega (arith, row_few us a (a + 1), small)) in
     omega (arith, length_filter q (left None us 0 1), ap length (sym (rows_step None us 0)), all, numbers_length 0 (length us - 0), small)
@@ -42,8 +41,10 @@ kept_map : {X Y : Type 0} (f : X → Y) (p : Y → Bool) (xs : List X) → filte
 kept_map f p [] = refl
 kept_map f p (x ∷ xs) = elim (cases_Bool (p (f x))) [ inl t ↦ rw t (ap (λ ys. f x ∷ ys) (kept_map f p xs)) | inr e ↦ rw e (kept_map f p xs) ]
 
-pub task_pairs_are : (t : Tables) (us : List (List Usage)) (items : List Item) → usages t ≡ us → t.items ≡ items → length (filter (are_tasks items) (left None us 0 1)) ≡ length (task_pairs t)
-task_pairs_are t us items e is =
-    ap (λ its. length (filter (are_tasks its) (left None us 0 1))) (sym is)
-    ∙ ap (λ ps. length (filter (are_tasks t.items) ps)) (all_are t us e) ∙ ap length (kept_map (pair_of t) (are_tasks t.items) (kinds.pairs t))
-    ∙ length-map (task_pairs t) (pair_of t)
+pub task_pairs_are : (t : Tables) → length (filter (are_tasks t.items) (all_pairs t)) ≡ length (task_pairs t)
+task_pairs_are t = ap length (kept_map (pair_of t) (are_tasks t.items) (kinds.pairs t)) ∙ length-map (task_pairs t) (pair_of t)
+
+pub few_pairs : (t : Tables) (q : Pair → Bool) → length t.items < 2 ^ 32 → length (filter q (all_pairs t)) < 2 ^ 64
+few_pairs t q small =
+    let few = few_left q (usages t) (omega (arith, usages_length t, small)) in
+    subst (λ ps. length (filter q ps) < 2 ^ 64) (all_are t (usages t) refl) few

@@ -9,12 +9,13 @@ use Rattle.semantics.specs.Kinds as kinds
 use Rattle.semantics.specs.SerialOrder.{serial, serial_place, turned_pair}
 use Rattle.log_laws.proofs.Members.{Member, member_map, member_flat, member_filter, found_at, none_or_some}
 use Rattle.log_laws.proofs.Apart.{number_between}
+use Rattle.log_decl.specs.Listing.{ArePlacesIn}
 use Rattle.item_uses.specs.Usages.{Usage, usages_of, usages, usages_at}
 use Rattle.item_uses.specs.Sharing.{kind_between}
 use Rattle.item_uses.proofs.ItemKinds.{kind_is}
 use Rattle.item_uses.proofs.LeastPlaces.{place_is}
 use Rattle.item_uses.proofs.Bounded.{none_free}
-use Rattle.item_uses.proofs.Growing.{at_number, numbers_length}
+use Rattle.item_uses.proofs.Growing.{numbers_length}
 use Rattle.interference.specs.declared.pair.Pair.{Pair}
 use Rattle.interference.specs.Pairing.{pair_of, all_pairs, no_place, row, rows, left}
 use Rattle.interference.specs.Turned.{is_turned, turned}
@@ -95,7 +96,7 @@ pair_within t p m =
 abbrev is_turned_pair : Tables → ℕ × ℕ → Bool
 is_turned_pair t p = is_before (item_kind t p.0 p.1) && nat_lt (serial_place t p.1) (serial_place t p.0)
 
-turned_is : (t : Tables) (places : List ℕ) → places ≡ map (serial_place t) (numbers_from 0 (length t.items)) → turned places (all_pairs t) ≡ option_map (pair_of t) (turned_pair t)
+turned_is : (t : Tables) (places : List ℕ) → ArePlacesIn (serial t) (length t.items) places → turned places (all_pairs t) ≡ option_map (pair_of t) (turned_pair t)
 turned_is t places is =
     find_map (pair_of t) (is_turned places) (kinds.pairs t)
     ∙ ap (option_map (pair_of t)) (find_same (λ p. is_turned places (pair_of t p)) (is_turned_pair t) (kinds.pairs t)
@@ -104,7 +105,7 @@ turned_is t places is =
     ∙ ap (λ n. is_before (item_kind t p.0 p.1) && nat_lt (serial_place t p.1) n) (place_at p.0 (omega (arith, w.order, w.within)))))
   where
     place_at : (i : ℕ) → i < length t.items → get_or places i 0 ≡ serial_place t i
-    place_at i lt = ap (λ ns. get_or ns i 0) is ∙ at_number (serial_place t) 0 (length t.items) i 0 lt ∙ ap (serial_place t) (omega arith)
+    place_at i lt = is.place i lt
 
 -- Where no line lists items, serial order is program order.
 place_number : (k n i : ℕ) → i < n → position_or_len (λ j. j == k + i) (numbers_from k n) ≡ i
@@ -157,6 +158,6 @@ none_found t e = by (turned_pair t) refl
     by (Some q) f = absurd (let bad = rw f at e in cc)
 
 -- What the search against the places of the serial order finds.
-pub first_is : (t : Tables) (us : List (List Usage)) (places : List ℕ) (o : Option Pair) → usages t ≡ us → places ≡ map (serial_place t) (numbers_from 0 (length t.items))
+pub first_is : (t : Tables) (us : List (List Usage)) (places : List ℕ) (o : Option Pair) → usages t ≡ us → ArePlacesIn (serial t) (length t.items) places
     → o ≡ find (λ (p : Pair). is_before p.kind) (left (Some places) us 0 1) → option_map (pair_of t) (turned_pair t) ≡ o
 first_is t us places o e is found = sym (turned_is t places is) ∙ ap (turned places) (sym (all_are t us e)) ∙ sym (first_against places us) ∙ sym found

@@ -81,7 +81,7 @@ impl<'l, 'a, P: PointSet + Copy> Iterator for Pairs<'l, 'a, P> {
 
 impl<'l, 'a, P: PointSet + Copy> Pairs<'l, 'a, P> {
     /// All pairs of items that interfere.
-    pub fn of(items: &'l [ItemUses<'a, P>], blocks: &'l [Span]) -> Pairs<'l, 'a, P>
+    pub(crate) fn of(items: &'l [ItemUses<'a, P>], blocks: &'l [Span]) -> Pairs<'l, 'a, P>
         requires { AreBlocks blocks.now items.now }
         ensures left { result ≡ left None items.now 0 1 }
         ensures pairs { (t : Tables) → usages t ≡ items.now → result ≡ all_pairs t }

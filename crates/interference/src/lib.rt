@@ -1,12 +1,14 @@
 //! The pairs of items of a log that interfere, and whether they keep the serial order.
 #![tactic(auto)]
 
+mod all;
 mod iterator;
 mod pair;
 mod partners;
 mod serial;
 mod tasks;
 
+pub use all::pairs;
 pub use iterator::Pairs;
 pub use pair::Pair;
 pub use serial::{SerialBreaks, serial_ok};

@@ -1,19 +1,18 @@
 //! Whether the serial order keeps the pairs of items that interfere.
 
-ghost use Rattle.std.specs.Prelude.{◌≡◌, true, find, length, Some, None, OnOk, IfErr};
-ghost use Rattle.semantics.specs.Tables.{Tables};
+ghost use Rattle.std.specs.Prelude.{◌≡◌, find, length, Some, None, OnOk, IfErr};
 ghost use Rattle.semantics.specs.Kinds.{is_before, least_place};
 ghost use Rattle.semantics.specs.SerialOrder.{turned_pair};
-ghost use Rattle.item_uses.specs.Usages.{usages};
 ghost use Rattle.item_uses.specs.Blocks.{AreBlocks};
 ghost use Rattle.interference.specs.Pairing.{left};
-ghost use Rattle.interference.specs.Turned.{IsSerialOf, turned};
 
 use crate::iterator::Pairs;
 use crate::pair::Pair;
 use item_uses::{ItemUses, Span};
+use log_decl::Log;
 use point_set::PointSet;
 use privilege::Kind;
+use region_tree::ArenaSet;
 use semantics::Place;
 
 /// A pair of items of kind `Before` that stands against the serial order, and its least place.
@@ -43,25 +42,15 @@ fn first_turned<'a, P: PointSet + Copy>(
 }
 
 /// Whether each pair of kind `Before` stands in the serial order as in program order: else the first that does not. Where no line lists items, nothing is looked at.
-pub fn serial_ok<'a, P: PointSet + Copy>(
-    items: &[ItemUses<'a, P>],
-    blocks: &[Span],
-    places: &[usize],
-    is_listed: bool,
-) -> Result<(), SerialBreaks>
-    requires blocks { AreBlocks blocks.now items.now }
-    requires each { is_listed ≡ true → length places.now ≡ length items.now }
-    ensures ok { (t : Tables) → usages t ≡ items.now → IsSerialOf t places.now is_listed
-        → OnOk result (turned_pair t ≡ None) }
-    ensures pair { (t : Tables) → usages t ≡ items.now → IsSerialOf t places.now is_listed
-        → IfErr result (λ e. turned_pair t ≡ Some (e.a, e.b)) }
-    ensures place { (t : Tables) → usages t ≡ items.now → IsSerialOf t places.now is_listed
-        → IfErr result (λ e. least_place t e.a e.b ≡ Some e.place) }
+pub fn serial_ok<'a, P: ArenaSet<'a>>(log: &Log<'a, P>) -> Result<(), SerialBreaks>
+    ensures ok { OnOk result (turned_pair log.now ≡ None) }
+    ensures pair { IfErr result (λ e. turned_pair log.now ≡ Some (e.a, e.b)) }
+    ensures place { IfErr result (λ e. least_place log.now e.a e.b ≡ Some e.place) }
 {
-    if !is_listed {
+    if !log.has_serial() {
         return Ok(());
     }
-    match first_turned(places, items, blocks) {
+    match first_turned(log.serial_places(), log.uses(), log.blocks()) {
         Some(pair) => Err(SerialBreaks {
             a: pair.a,
             b: pair.b,

@@ -2,17 +2,14 @@
 
 ghost use Rattle.std.specs.Prelude.{◌≡◌, ◌<◌, ◌^◌, false, length, slice_get};
 ghost use Rattle.std.specs.Option.{option_map_or};
-ghost use Rattle.semantics.specs.Tables.{Tables};
 ghost use Rattle.semantics.specs.Rules.{is_task};
 ghost use Rattle.semantics.specs.Shown.{task_pairs};
-ghost use Rattle.item_uses.specs.Usages.{usages};
-ghost use Rattle.item_uses.specs.Blocks.{AreBlocks};
 ghost use Rattle.interference.specs.Tasks.{are_tasks};
 
-use crate::iterator::Pairs;
+use crate::all::pairs;
 use crate::pair::Pair;
-use item_uses::{ItemUses, Span};
-use point_set::PointSet;
+use log_decl::Log;
+use region_tree::ArenaSet;
 use semantics::{Item, ItemBody};
 
 /// Whether the item at a position is a task.
@@ -36,17 +33,13 @@ fn are_tasks(items: &[Item], pair: Pair) -> bool
 }
 
 /// How many pairs of tasks interfere.
-pub fn task_pair_count<'a, P: PointSet + Copy>(
-    items: &[Item],
-    uses: &[ItemUses<'a, P>],
-    blocks: &[Span],
-) -> u64
-    requires blocks { AreBlocks blocks.now uses.now }
-    requires few { length uses.now < 2 ^ 32 }
-    ensures { (t : Tables) → usages t ≡ uses.now → t.items ≡ items.now → result ≡ length (task_pairs t) }
+pub fn task_pair_count<'a, P: ArenaSet<'a>>(log: &Log<'a, P>) -> u64
+    requires { length log.now.items < 2 ^ 32 }
+    ensures { result ≡ length (task_pairs log.now) }
 {
+    let items = log.items();
     let mut count = 0;
-    for pair in Pairs::of(uses, blocks) {
+    for pair in pairs(log) {
         if are_tasks(items, pair) {
             count += 1;
         }

@@ -4,13 +4,19 @@ use Rattle.std.specs.Prelude.{is_some}
 use Rattle.std.specs.List.{filter_map}
 use Rattle.std.proofs.lemmas.Bool.{eqb-true, and_cases, not-false, ltb-true}
 use Rattle.privilege.specs.declared.kinds.Kind.TheVariants.{Free}
+use Rattle.privilege.specs.declared.kinds.Priv.{Priv}
+use Rattle.privilege.specs.Interference.{agree}
 use Rattle.semantics.specs.declared.places.Place.{Place}
 use Rattle.semantics.specs.Kinds.{is_free}
 use Rattle.log_laws.proofs.Members.{Member, contains_of, member_flat, flat_member, member_map, map_member, member_filter_map, filter_map_member, none_or_some}
 use Rattle.item_uses.specs.declared.span.Span.{Span}
-use Rattle.item_uses.specs.Spans.{IsWithin, Bounds, overlap, spans_overlap}
+use Rattle.item_uses.specs.declared.accesses.Accesses.{Accesses}
+use Rattle.item_uses.specs.declared.accesses.Accesses.TheVariants.{Nothing, Same, Mixed}
+use Rattle.item_uses.specs.Accesses.{IsAmong, all_agree}
+use Rattle.item_uses.specs.Spans.{IsWithin, Bounds, overlap, spans_overlap, may_interfere}
 use Rattle.item_uses.specs.Usages.{Usage}
 use Rattle.item_uses.specs.Sharing.{least_shared, shared_place, shared_kind, usage_kind, kind_place, kind_between, place_between}
+use Rattle.item_uses.proofs.Agreeing.{agree_same}
 use Rattle.item_uses.proofs.Strongest.{AtMost, strongest_below, only_free}
 use Rattle.item_uses.proofs.Least.{place_is_least, IsLeastPlace}
 use Rattle.item_uses.proofs.Shared.{shared_in}
@@ -91,14 +97,27 @@ nothing_shared s z q r a b e = by (eqb q.tree r.tree) refl (least_shared q.point
           | inr fields ↦ not_both _ _ _ _ f fields g.0 g.1 g2.0 g2.1
         ])
 
-pub free_apart : (s z : Span) (qs rs : List Usage) → Bounds s qs → Bounds z rs → spans_overlap s z ≡ false → kind_between qs rs ≡ Free
-free_apart s z qs rs a b e = free_member qs rs (λ q r m n. ap is_free (none_kind q r (nothing_shared s z q r (a q (contains_of qs q m)) (b r (contains_of rs r n)) e)))
+agreed : (q r : Usage) → agree q.access r.access ≡ true → is_free (shared_kind q r) ≡ true
+agreed q r e = elim (none_or_some (shared_place q r)) [ inl none ↦ rw none refl | inr some ↦ rw (some.1, e) refl ]
+
+agreeing : (x y : Accesses) (p q : Priv) → IsAmong x p → IsAmong y q → all_agree x y ≡ true → agree p q ≡ true
+agreeing Nothing y p q a b e = absurd a
+agreeing (Same r) Nothing p q a b e = absurd b
+agreeing (Same r) (Same s) p q a b e = ap (λ x. agree x q) (sym (agree_same r p a) ∙ agree_same r s e) ∙ b
+agreeing (Same r) Mixed p q a b e = absurd cc
+agreeing Mixed y p q a b e = absurd cc
+
+free_within : (s z : Span) (q r : Usage) → IsWithin s q → IsWithin z r → may_interfere s z ≡ false → is_free (shared_kind q r) ≡ true
+free_within s z q r a b e = elim (and_cases (not (all_agree s.accesses z.accesses)) (spans_overlap s z) e) [
+  | inl same ↦ agreed q r (agreeing s.accesses z.accesses q.access r.access a.access b.access (not-false (all_agree s.accesses z.accesses) same))
+  | inr apart ↦ ap is_free (none_kind q r (nothing_shared s z q r a b apart))
+]
   where
     none_kind : (q r : Usage) → shared_place q r ≡ None → shared_kind q r ≡ Free
     none_kind q r e = rw e refl
 
-pub none_apart : (s z : Span) (qs rs : List Usage) → Bounds s qs → Bounds z rs → spans_overlap s z ≡ false → place_between qs rs ≡ None
-none_apart s z qs rs a b e = elim (none_or_some (place_between qs rs)) [
-  | inl none ↦ none
-  | inr some ↦ absurd (let bad = sym (some_not qs rs some.0 some.1) ∙ ap is_free (free_apart s z qs rs a b e) in cc)
-]
+pub free_apart : (s z : Span) (qs rs : List Usage) → Bounds s qs → Bounds z rs → may_interfere s z ≡ false → kind_between qs rs ≡ Free
+free_apart s z qs rs a b e = free_member qs rs (λ q r m n. free_within s z q r (a q (contains_of qs q m)) (b r (contains_of rs r n)) e)
+
+pub none_apart : (s z : Span) (qs rs : List Usage) → Bounds s qs → Bounds z rs → may_interfere s z ≡ false → place_between qs rs ≡ None
+none_apart s z qs rs a b e = (free_both qs rs).0 (free_apart s z qs rs a b e)

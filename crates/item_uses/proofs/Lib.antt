@@ -1,3 +1,4 @@
+pub mod Agreeing
 pub mod Bounded
 pub mod Ends
 pub mod Growing

@@ -1,3 +1,4 @@
+pub mod Accesses
 pub mod Blocks
 pub mod Gathered
 pub mod Sharing

@@ -66,7 +66,7 @@ impl<'a, P: PointSet + Copy> ItemUses<'a, P> {
         ensures { result ≡ false → (us : List Usage) → Bounds bounds.now us
             → kind_between self.now us ≡ kinds.Free }
     {
-        self.span.overlaps(bounds)
+        self.span.may_interfere(bounds)
     }
 
     /// How two items interfere: the kind, and the least place at which they do.
@@ -75,7 +75,7 @@ impl<'a, P: PointSet + Copy> ItemUses<'a, P> {
         ensures place { result.place ≡ place_between self.now other.now }
         ensures free { (result.kind ≡ kinds.Free) ↔ (result.place ≡ None) }
     {
-        if self.span.overlaps(&other.span) {
+        if self.span.may_interfere(&other.span) {
             interference_of_lists(&self.uses, &other.uses)
         } else {
             Interference::none()

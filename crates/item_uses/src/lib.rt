@@ -1,6 +1,7 @@
 //! What the items of a log ask for, and how two of them interfere.
 #![tactic(auto)]
 
+mod accesses;
 mod between;
 mod blocks;
 mod fields;
@@ -10,6 +11,7 @@ mod laws;
 mod span;
 mod usage;
 
+pub use accesses::Accesses;
 pub use between::Interference;
 pub use blocks::spans_of_blocks;
 pub use gathering::uses_of_items;

@@ -1,10 +1,12 @@
 //! Bounds on what requirements ask for.
 
-ghost use Rattle.std.specs.Prelude.{◌≡◌, Contains, ◌≤◌, ℕ, List};
+ghost use Rattle.std.specs.Prelude.{◌≡◌};
 ghost use Rattle.item_uses.specs.Usages.{Usage};
-ghost use Rattle.item_uses.specs.Spans.{IsWithin, spans_overlap};
+ghost use Rattle.item_uses.specs.Spans.{IsWithin, spans_overlap, may_interfere};
 
-/// Bounds on trees, points and fields: the least and the greatest of each. Nothing is within them where a first is greater than its last.
+use crate::accesses::Accesses;
+
+/// Bounds on trees, points and fields, the least and the greatest of each, and on privileges. Nothing is within them where a first is greater than its last.
 #[derive(Clone, Copy, Debug, PartialEq, Eq)]
 pub struct Span {
     pub first_tree: u32,
@@ -13,6 +15,7 @@ pub struct Span {
     pub last_point: u64,
     pub first_field: u32,
     pub last_field: u32,
+    pub accesses: Accesses,
 }
 
 impl Span {
@@ -28,6 +31,13 @@ impl Span {
             && other.last_field >= self.first_field
     }
 
+    /// Whether what is within the one may interfere with what is within the other.
+    pub fn may_interfere(&self, other: &Span) -> bool
+        ensures { result ≡ may_interfere self.now other.now }
+    {
+        !self.accesses.all_agree(other.accesses) && self.overlaps(other)
+    }
+
     /// The bounds that nothing is within.
     pub(crate) fn empty() -> Span {
         Span {
@@ -37,6 +47,7 @@ impl Span {
             last_point: 0,
             first_field: u32::MAX,
             last_field: 0,
+            accesses: Accesses::Nothing,
         }
     }
 
@@ -52,6 +63,7 @@ impl Span {
             last_point: self.last_point.max(other.last_point),
             first_field: self.first_field.min(other.first_field),
             last_field: self.last_field.max(other.last_field),
+            accesses: self.accesses.union(other.accesses),
         }
     }
 }

@@ -8,8 +8,9 @@ ghost use Rattle.privilege.specs.Interference.{kind_of};
 ghost use Rattle.privilege.specs.declared.kinds.Kind.TheVariants as kinds;
 ghost use Rattle.item_uses.specs.Usages.{usage};
 ghost use Rattle.item_uses.specs.Spans.{IsWithin};
-ghost use Rattle.item_uses.specs.Sharing.{least_shared, place_at, shared_place, shared_kind, kind_place};
+ghost use Rattle.item_uses.specs.Sharing.{least_shared, shared_place, shared_kind, kind_place};
 
+use crate::accesses::Accesses;
 use crate::between::Interference;
 use crate::fields::{first_field, last_field, shared_field};
 use crate::span::Span;
@@ -97,16 +98,6 @@ fn shared_point<P: PointSet>(ours: &Option<P>, theirs: &Option<P>) -> Option<u64
     }
 }
 
-/// The place of this point and field, where there are both.
-fn place_of(tree: u32, point: Option<u64>, field: Option<u32>) -> Option<Place>
-    ensures { result ≡ place_at tree point field }
-{
-    match (point, field) {
-        (Some(point), Some(field)) => Some(Place { tree, point, field }),
-        _ => None,
-    }
-}
-
 impl<'a, P: PointSet + Copy> Use<'a, P> {
     /// The requirement of these fields at the points of this set, or at no point.
     pub fn new(
@@ -127,6 +118,7 @@ impl<'a, P: PointSet + Copy> Use<'a, P> {
             last_point,
             first_field: first_field(fields),
             last_field: last_field(fields),
+            accesses: Accesses::of(access),
         };
         Use {
             tree,
@@ -155,11 +147,13 @@ impl<'a, P: PointSet + Copy> Use<'a, P> {
         if !self.span.overlaps(&other.span) {
             return None;
         }
-        place_of(
-            self.tree,
-            shared_point(&self.set, &other.set),
-            shared_field(self.fields, other.fields),
-        )
+        let point = shared_point(&self.set, &other.set)?;
+        let field = shared_field(self.fields, other.fields)?;
+        Some(Place {
+            tree: self.tree,
+            point,
+            field,
+        })
     }
 
     /// How the two interfere.

@@ -1,6 +1,6 @@
 //! The log of a recorded run.
 
-ghost use Rattle.std.specs.Prelude.{◌≡◌, ◌<◌, ◌↔◌, map, length, slice_get, Some, None, IfOk, OnOk, IfErr, IsSome, IfSome, All};
+ghost use Rattle.std.specs.Prelude.{◌≡◌, ◌<◌, ◌↔◌, map, length, slice_get, Some, None, IfOk, OnOk, IfErr, IsSome, IfSome, IsTrue, All};
 ghost use Rattle.std.specs.List.Sorted.{IsStrictlyIncreasing};
 ghost use Rattle.std.specs.Option.{option_and_then};
 ghost use Rattle.region_tree.specs.Regions.{space_of};
@@ -11,7 +11,7 @@ ghost use Rattle.semantics.specs.Faults.{at_line, unmapped_fault};
 ghost use Rattle.spy_grammar.specs.declared.code.Code.TheVariants as codes;
 ghost use Rattle.log_faults.specs.Decls.{decls_of};
 ghost use Rattle.log_decl.specs.Faultless.{AreDeclared};
-ghost use Rattle.log_decl.specs.Listing.{item_line};
+ghost use Rattle.log_decl.specs.Listing.{item_line, ArePlacesIn};
 ghost use Rattle.log_tables.specs.Views.{space_seen};
 ghost use Rattle.item_uses.specs.Blocks.{AreBlocks};
 ghost use Rattle.item_uses.specs.Usages.{usages};
@@ -128,6 +128,20 @@ impl<'a, P: ArenaSet<'a>> Log<'a, P> {
         ensures { result ≡ serial_place self.now item }
     {
         self.found.places[item]
+    }
+
+    /// The place of each item in serial order.
+    pub fn serial_places(&self) -> &[usize]
+        ensures { ArePlacesIn (serial self.now) (length self.now.items) result.now }
+    {
+        self.found.places.as_slice()
+    }
+
+    /// Whether a line lists items in serial order.
+    pub fn has_serial(&self) -> bool
+        ensures { IsTrue result ↔ (0 < length self.now.serials) }
+    {
+        !self.draft.serials().is_empty()
     }
 
     /// The line that lists an item in serial order, or `None` where no line lists items, or there is no such item.

@@ -1,15 +1,26 @@
-use Rattle.std.proofs.Common.{◌∙◌}
+use Rattle.std.proofs.Common.{◌∙◌, sym, ap, length, arith, inl, inr}
+use Rattle.std.proofs.lemmas.Bool.{cases_lt}
+use Rattle.item_uses.proofs.Growing.{usages_length}
 use Rattle.interference.proofs.Turning.{first_is, none_turned, turned_found, none_found}
 use Rattle.interference.proofs.serial.serial_ok.Goals as goal
 
-pub returns-then-not-is_listed-clause-ok : goal.returns-then-not-is_listed-clause-ok
-returns-then-not-is_listed-clause-ok g c t e s = none_turned t (s.unlisted cc)
+pub returns-then-not-has_serial-clause-ok : goal.returns-then-not-has_serial-clause-ok
+returns-then-not-has_serial-clause-ok g c = elim (cases_lt 0 (length c.args.log.now.serials)) [
+  | inl some ↦ absurd (let is = c.has_serial.ensures.1 some in cc)
+  | inr none ↦ none_turned c.args.log.now (omega (arith, none))
+]
+
+pub first_turned-requires-clause-each : goal.first_turned-requires-clause-each
+first_turned-requires-clause-each g c = c.serial_places.ensures.each ∙ sym (usages_length c.args.log.now) ∙ sym (ap length c.uses.ensures)
 
 pub returns-in-Some-clause-pair : goal.returns-in-Some-clause-pair
-returns-in-Some-clause-pair g c t e s = (turned_found t c.in-Some.pair (first_is t c.args.items.now c.args.places.now c.first_turned.result e (s.listed cc) c.first_turned.ensures ∙ c.in-Some.is)).0
+returns-in-Some-clause-pair g c =
+    (turned_found c.args.log.now c.in-Some.pair (first_is c.args.log.now c.uses.result.now c.serial_places.result.now c.first_turned.result (sym c.uses.ensures) c.serial_places.ensures c.first_turned.ensures ∙ c.in-Some.is)).0
 
 pub returns-in-Some-clause-place : goal.returns-in-Some-clause-place
-returns-in-Some-clause-place g c t e s = (turned_found t c.in-Some.pair (first_is t c.args.items.now c.args.places.now c.first_turned.result e (s.listed cc) c.first_turned.ensures ∙ c.in-Some.is)).1
+returns-in-Some-clause-place g c =
+    (turned_found c.args.log.now c.in-Some.pair (first_is c.args.log.now c.uses.result.now c.serial_places.result.now c.first_turned.result (sym c.uses.ensures) c.serial_places.ensures c.first_turned.ensures ∙ c.in-Some.is)).1
 
 pub returns-in-None-clause-ok : goal.returns-in-None-clause-ok
-returns-in-None-clause-ok g c t e s = none_found t (first_is t c.args.items.now c.args.places.now c.first_turned.result e (s.listed cc) c.first_turned.ensures ∙ c.in-None.is)
+returns-in-None-clause-ok g c =
+    none_found c.args.log.now (first_is c.args.log.now c.uses.result.now c.serial_places.result.now c.first_turned.result (sym c.uses.ensures) c.serial_places.ensures c.first_turned.ensures ∙ c.in-None.is)

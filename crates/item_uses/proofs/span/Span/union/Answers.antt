@@ -6,6 +6,7 @@ returns-clause-ours c u w = record {
   tree = (omega (arith, w.tree), omega (arith, w.tree));
   points = λ x m. (omega (arith, w.points x m), omega (arith, w.points x m));
   fields = λ x m. (omega (arith, w.fields x m), omega (arith, w.fields x m));
+  access = c.union.ensures.ours u.access w.access;
 }
 
 pub returns-clause-theirs : goal.returns-clause-theirs
@@ -13,4 +14,5 @@ returns-clause-theirs c u w = record {
   tree = (omega (arith, w.tree), omega (arith, w.tree));
   points = λ x m. (omega (arith, w.points x m), omega (arith, w.points x m));
   fields = λ x m. (omega (arith, w.fields x m), omega (arith, w.fields x m));
+  access = c.union.ensures.theirs u.access w.access;
 }

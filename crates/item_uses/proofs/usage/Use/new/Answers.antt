@@ -8,5 +8,6 @@ invariant_of-result g c = (
     tree = (omega arith, omega arith);
     points = λ x m. c.ends_of-first_point.ensures x m;
     fields = λ f m. (c.first_field.ensures f m, c.last_field.ensures f m);
+    access = c.of.ensures;
   },
 )

@@ -1,0 +1,15 @@
+//! All pairs of a log.
+
+ghost use Rattle.std.specs.Prelude.{◌≡◌};
+ghost use Rattle.interference.specs.Pairing.{all_pairs};
+
+use crate::iterator::Pairs;
+use log_decl::Log;
+use region_tree::ArenaSet;
+
+/// The pairs of items of a log that interfere, in program order: by the first item, and then by the second. Takes no memory.
+pub fn pairs<'l, 'a, P: ArenaSet<'a>>(log: &'l Log<'a, P>) -> Pairs<'l, 'a, P>
+    ensures { result ≡ all_pairs log.now }
+{
+    Pairs::of(log.uses(), log.blocks())
+}
