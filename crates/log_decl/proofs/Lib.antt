@@ -1,3 +1,4 @@
 mod GoodRecords
+mod Lines
 mod Numbers
 mod Spaces

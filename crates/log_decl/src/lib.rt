@@ -7,6 +7,8 @@ mod log;
 mod mapping;
 mod paths;
 mod serial_order;
+#[cfg(test)]
+mod tests;
 
 pub use declaring::{are_log_records, declare};
 pub use log::Log;

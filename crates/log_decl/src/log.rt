@@ -20,22 +20,23 @@ use crate::found::{Found, found_in};
 use crate::mapping::{Unmapped, first_unmapped, inst_mapped};
 use bumpalo::Bump;
 use item_uses::{ItemUses, Span};
+use log_laws::items_are_listed;
 use log_tables::{Draft, Space};
 use point_set::PointSet;
-use region_tree::{ArenaSet, Forest, Memory, Path};
+use region_tree::{Forest, Memory, Path};
 use semantics::{Inst, Item, LogNode, Req};
 use std::alloc::Global;
 use std::marker::Model;
 
 /// What a log declares, whose records break no rule of its frame and no rule on single records. Contracts see it as the tables of these records.
 #[derive(Drop)]
-pub struct Log<'a, P: ArenaSet<'a>> {
+pub struct Log<'a, P: PointSet + Copy> {
     draft: Draft<P>,
     forest: Forest<'a, P>,
     found: Found<'a, P>,
 }
 
-impl<'a, P: ArenaSet<'a>> Model for Log<'a, P> {
+impl<'a, P: PointSet + Copy> Model for Log<'a, P> {
     ghost use Rattle.std.specs.Prelude.{◌≡◌, nat_eq};
     ghost use Rattle.std.specs.HashMap.{get};
     ghost use Rattle.semantics.specs.Tables.{Tables};
@@ -54,7 +55,7 @@ impl<'a, P: ArenaSet<'a>> Model for Log<'a, P> {
         × AreFound l.draft l.found.space_ids.items (get nat_eq l.found.paths) l.found.order.items l.found.places.items (get nat_eq l.found.lines) };
 }
 
-impl<'a, P: ArenaSet<'a>> Log<'a, P> {
+impl<'a, P: PointSet + Copy> Log<'a, P> {
     /// The log that declares this, with its forest.
     pub(crate) fn of(
         alloc: Global,
@@ -144,12 +145,22 @@ impl<'a, P: ArenaSet<'a>> Log<'a, P> {
         !self.draft.serials().is_empty()
     }
 
-    /// The line that lists an item in serial order, or `None` where no line lists items, or there is no such item.
-    pub fn serial_line(&self, item: usize) -> Option<u32>
+    // The first line that lists an item.
+    fn line_listing(&self, item: usize) -> Option<u32>
         ensures { result ≡ item_line self.now item }
     {
         let item = self.draft.items().get(item)?;
         self.found.lines.get(&item.id).copied()
+    }
+
+    /// The line that lists an item in serial order, or `None` exactly where no line lists items, or there is no such item.
+    pub fn serial_line(&self, item: usize) -> Option<u32>
+        ensures line { result ≡ item_line self.now item }
+        ensures some { IsSome result ↔ ((0 < length self.now.serials) × (item < length self.now.items)) }
+    {
+        items_are_listed();
+        self.is_declared();
+        self.line_listing(item)
     }
 
     /// What each item asks for, in program order.

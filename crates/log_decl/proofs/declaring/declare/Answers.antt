@@ -1,4 +1,4 @@
-use Rattle.std.proofs.Common.{◌∙◌, ap, sym, List, refl, arith}
+use Rattle.std.proofs.Common.{◌∙◌, ap, sym, List, arith}
 use Rattle.spy_grammar.specs.declared.record.Lined.{Lined}
 use Rattle.semantics.specs.Tables.{tables_of}
 use Rattle.semantics.specs.Faults.{declaration_fault}
@@ -7,22 +7,20 @@ use Rattle.log_decl.proofs.GoodRecords.{good_records}
 use Rattle.log_decl.proofs.declaring.declare.Goals as goal
 
 pub of-requires : goal.of-requires
-of-requires g c κs =
+of-requires g c =
     let log = c.args.records.now.items in
     let is = c.deref.ensures.value in
-    let tables = c.in-Ok.ensures.tables in (
-      (refl, tt),
-      (
-        record {
-          lines = c.args.lines;
-          log = log;
-          good = good_records log c.requires.good;
-          faultless = ap (λ (log : List Lined). declaration_fault c.args.lines log) (sym is) ∙ c.in-Ok.ensures.faultless;
-          tables = tables ∙ ap tables_of is;
-        },
-        c.in-Ok.ensures.forest ∙ ap decls_of (sym tables),
-      ),
-    )
+    let tables = c.in-Ok.ensures.tables in
+    record {
+      declared = record {
+        lines = c.args.lines;
+        log = log;
+        good = good_records log c.requires.good;
+        faultless = ap (λ (log : List Lined). declaration_fault c.args.lines log) (sym is) ∙ c.in-Ok.ensures.faultless;
+        tables = tables ∙ ap tables_of is;
+      };
+      forest = c.in-Ok.ensures.forest ∙ ap decls_of (sym tables);
+    }
 
 pub returns-in-Ok-of-clause-faultless : goal.returns-in-Ok-of-clause-faultless
 returns-in-Ok-of-clause-faultless g c = ap (λ (log : List Lined). declaration_fault c.args.lines log) (sym c.deref.ensures.value) ∙ c.in-Ok.ensures.faultless
