@@ -7,6 +7,8 @@ mod pair;
 mod partners;
 mod serial;
 mod tasks;
+#[cfg(test)]
+mod tests;
 
 pub use all::pairs;
 pub use iterator::Pairs;
