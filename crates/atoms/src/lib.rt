@@ -1,0 +1,10 @@
+//! Atoms: the runs of points of a log that no declared space divides.
+#![tactic(auto)]
+
+mod classes;
+mod edges;
+mod spans;
+#[cfg(test)]
+mod tests;
+
+pub use classes::Atoms;
