@@ -1,8 +1,18 @@
-//! The atoms of a few sets.
+//! The atoms of a few sets, and of a few logs.
 
+ghost use Rattle.std.specs.Prelude.{All};
+ghost use Rattle.spy_grammar.specs.Spelling.{Good};
+ghost use Rattle.log_faults.specs.Lines.{AreLines};
+
+use super::*;
 use crate::spans::spans_of;
+use bumpalo::Bump;
+use log_decl::{are_log_records, declare};
 use log_tables::Space;
 use point_set::RunSet;
+use spy_grammar::{Lined, read_line};
+use std::alloc::Global;
+use std::process::Abort;
 use std::test::Fail;
 
 /// Runs, each a first and a last point.
@@ -53,5 +63,79 @@ fn atoms_of_sets(rt: HostRuntime) -> Result<(), Fail> {
         }
         assert_eq!(&rt; spans_of(alloc, &spaces)?.as_slice(), spans);
     }
+    Ok(())
+}
+
+/// The records of a text, on their lines, and how many lines there are.
+fn records_of(alloc: Global, text: &[u8]) -> Result<(Vec<Lined>, u32), Fail> {
+    let mut records = Vec::new(alloc);
+    let mut lines = 0u32;
+    for part in text.split(|b| *b == b'\n') {
+        lines = lines.saturating_add(1);
+        match read_line(alloc, part) {
+            Ok(Some(rec)) => records.push(Lined { line: lines, rec })?,
+            Ok(None) => {}
+            Err(_) => return Err("a line that spells no record".into()),
+        }
+    }
+    // Nothing stands behind the last line feed.
+    Ok((records, lines.saturating_sub(1)))
+}
+
+/// The atoms of the log of these records. The log is let go.
+fn atoms_in<'a>(
+    alloc: Global,
+    bump: &'a Bump,
+    records: &Vec<Lined>,
+    lines: u32,
+) -> Result<Atoms, Fail>
+    requires good { All (λ l. Good l.rec) records.now.items }
+    requires lines { AreLines lines records.now.items }
+{
+    match declare::<RunSet<'a>>(alloc, bump, records, lines) {
+        Ok(log) => {
+            let atoms = Atoms::build(alloc, &log);
+            drop(log);
+            Ok(atoms?)
+        }
+        Err(_) => Err("a log with a fault".into()),
+    }
+}
+
+/// The atoms of the log that a text spells.
+fn atoms_of(alloc: Global, text: &[u8]) -> Result<Atoms, Fail> {
+    let (records, lines) = records_of(alloc, text)?;
+    if !are_log_records(alloc, &records, lines)? {
+        return Err("records that make no log".into());
+    }
+    let bump = Bump::new(alloc);
+    atoms_in(alloc, &bump, &records, lines)
+}
+
+/// Asks atoms that are to have just these spans for all that they say.
+fn ask(rt: &impl Abort, atoms: &Atoms, spans: &[(u64, u64)]) {
+    assert_eq!(rt; atoms.len(), spans.len());
+    for k in 0..=spans.len() {
+        let span = spans.get(k).copied();
+        assert_eq!(rt; atoms.span(k), span, "atom {k}");
+        let first = span.map(|span| span.0);
+        assert_eq!(rt; atoms.firsts().get(k).copied(), first, "atom {k}");
+    }
+    for p in 0..20 {
+        let place = spans.iter().position(|span| span.0 <= p && p <= span.1);
+        assert_eq!(rt; atoms.atom_of(p), place, "{p}");
+    }
+}
+
+#[test]
+fn atoms_of_logs(rt: HostRuntime) -> Result<(), Fail> {
+    let alloc = rt.alloc();
+    let two = atoms_of(alloc, b"legion-spy 1\nispace 1 0-3\nispace 2 2-5\nend 2\n")?;
+    ask(&rt, &two, &[(0, 1), (2, 3), (4, 5)]);
+    let hole = atoms_of(
+        alloc,
+        b"legion-spy 1\nispace 1 1-3,6-9\nispace 2 7\nend 2\n",
+    )?;
+    ask(&rt, &hole, &[(1, 3), (6, 6), (7, 7), (8, 9)]);
     Ok(())
 }
