@@ -2,7 +2,7 @@
 use Rattle.std.specs.Prelude.{ℕ, List, [], ◌∷◌, codes, if◌then◌else◌}
 use Rattle.std.specs.Str.{bytes_eq}
 use Rattle.spy_grammar.specs.declared.code.Code.{Code}
-use Rattle.spy_grammar.specs.declared.code.Code.TheVariants.{TooLong, Newline, Word, Form, Number, Order, Unbuilt, Header, Ended, Count, TooManyRecords, RepeatedId, UnknownId, TooManyPoints, SpaceInTwo, LateSub, TooDeep, NotWithin, NotDisjoint, NotRoot, NotInTree, Fields, SelfInterference, WrongTree, WrongKind, NotCovered, MappedTwice, NoRun, TwoRuns, RepeatedEvent, UndefinedEvent, Serial, TooManyCells, TooManyAccesses, TooMuchLoad, SerialOrder, Unmapped}
+use Rattle.spy_grammar.specs.declared.code.Code.TheVariants.{TooLong, Newline, Word, Form, Number, Order, Header, Ended, Count, TooManyRecords, RepeatedId, UnknownId, TooManyPoints, SpaceInTwo, LateSub, TooDeep, NotWithin, NotDisjoint, NotRoot, NotInTree, Fields, SelfInterference, WrongTree, WrongKind, NotCovered, MappedTwice, NoRun, TwoRuns, RepeatedEvent, UndefinedEvent, Serial, TooManyCells, TooManyAccesses, TooMuchLoad, SerialOrder, Unmapped}
 
 -- The table: the text of each code.
 abbrev pub code_text : Code → List ℕ
@@ -12,7 +12,6 @@ code_text Word = codes "word"
 code_text Form = codes "form"
 code_text Number = codes "number"
 code_text Order = codes "order"
-code_text Unbuilt = codes "unbuilt"
 code_text Header = codes "header"
 code_text Ended = codes "ended"
 code_text Count = codes "count"
@@ -46,13 +45,13 @@ code_text Unmapped = codes "unmapped"
 
 -- Every code, in the order of the table.
 abbrev pub all_codes : List Code
-all_codes = TooLong ∷ Newline ∷ Word ∷ Form ∷ Number ∷ Order ∷ Unbuilt ∷ Header ∷ Ended ∷ Count ∷ TooManyRecords ∷ RepeatedId ∷ UnknownId ∷ TooManyPoints ∷ SpaceInTwo ∷ LateSub ∷ TooDeep ∷ NotWithin ∷ NotDisjoint ∷ NotRoot ∷ NotInTree ∷ Fields ∷ SelfInterference ∷ WrongTree ∷ WrongKind ∷ NotCovered ∷ MappedTwice ∷ NoRun ∷ TwoRuns ∷ RepeatedEvent ∷ UndefinedEvent ∷ Serial ∷ TooManyCells ∷ TooManyAccesses ∷ TooMuchLoad ∷ SerialOrder ∷ Unmapped ∷ []
+all_codes = TooLong ∷ Newline ∷ Word ∷ Form ∷ Number ∷ Order ∷ Header ∷ Ended ∷ Count ∷ TooManyRecords ∷ RepeatedId ∷ UnknownId ∷ TooManyPoints ∷ SpaceInTwo ∷ LateSub ∷ TooDeep ∷ NotWithin ∷ NotDisjoint ∷ NotRoot ∷ NotInTree ∷ Fields ∷ SelfInterference ∷ WrongTree ∷ WrongKind ∷ NotCovered ∷ MappedTwice ∷ NoRun ∷ TwoRuns ∷ RepeatedEvent ∷ UndefinedEvent ∷ Serial ∷ TooManyCells ∷ TooManyAccesses ∷ TooMuchLoad ∷ SerialOrder ∷ Unmapped ∷ []
 
--- The first of these codes that has this text, or `Unbuilt`.
+-- The first of these codes that has this text, or `Word`.
 abbrev pub code_among : List Code → List ℕ → Code
-code_among [] w = Unbuilt
+code_among [] w = Word
 code_among (c ∷ cs) w = if bytes_eq w (code_text c) then c else code_among cs w
 
--- The code with this text, or `Unbuilt` where no code has it.
+-- The code with this text, or `Word` where no code has it.
 unfoldable pub code_at : List ℕ → Code
 code_at w = code_among all_codes w

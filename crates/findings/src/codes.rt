@@ -8,8 +8,8 @@ use spy_grammar::Code::*;
 
 /// Every code, in the order of the table.
 #[rattlefmt::skip]
-const CODES: [Code; 37] = [
-    TooLong, Newline, Word, Form, Number, Order, Unbuilt, Header, Ended, Count, TooManyRecords,
+const CODES: [Code; 36] = [
+    TooLong, Newline, Word, Form, Number, Order, Header, Ended, Count, TooManyRecords,
     RepeatedId, UnknownId, TooManyPoints, SpaceInTwo, LateSub, TooDeep, NotWithin, NotDisjoint,
     NotRoot, NotInTree, Fields, SelfInterference, WrongTree, WrongKind, NotCovered, MappedTwice,
     NoRun, TwoRuns, RepeatedEvent, UndefinedEvent, Serial, TooManyCells, TooManyAccesses,
@@ -27,7 +27,6 @@ pub fn text_of(code: Code) -> &'static [u8]
         Form => b"form",
         Number => b"number",
         Order => b"order",
-        Unbuilt => b"unbuilt",
         Header => b"header",
         Ended => b"ended",
         Count => b"count",
@@ -61,7 +60,7 @@ pub fn text_of(code: Code) -> &'static [u8]
     }
 }
 
-/// The code with this text, or `Unbuilt` where no code has it.
+/// The code with this text, or `Word` where no code has it.
 #[tactic(auto, unfolding(crate::specs::Codes::code_at))]
 pub fn code_of(word: &[u8]) -> Code
     ensures { result ≡ code_at word.now }
@@ -73,5 +72,5 @@ pub fn code_of(word: &[u8]) -> Code
         }
         rest = more;
     }
-    Unbuilt
+    Word
 }

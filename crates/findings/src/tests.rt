@@ -30,7 +30,7 @@ fn writes_what_it_reads(rt: HostRuntime) -> Result<(), Fail> {
         "differ task 1 req 1 point 1 field 1 got const:7+1[1.2*1,1.3*1,2.1*1]+2[1.1*1]+1[1.1*1] want ident+0[9.9*18446744073709551615]\n",
         "fault 0 too-long\n",
         "fault 4294967295 unmapped\n",
-        "fault 1 unbuilt\n",
+        "fault 1 header\n",
         "usage\n",
         "cannot read\n",
     ] {

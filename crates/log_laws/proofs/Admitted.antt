@@ -12,7 +12,9 @@ use Rattle.semantics.specs.Records.{records_of}
 use Rattle.semantics.specs.Tables.{Tables, with_record, no_tables, tables_of}
 use Rattle.semantics.specs.Steps.{mapped}
 use Rattle.semantics.specs.Rules.{is_declared, names, repeats_id, repeats_event, waits_for_none, is_bad_serial}
-use Rattle.semantics.specs.Faults.{Command, Check, tried, records_fault, declaration_fault, log_fault, header_fault, ended_fault, count_fault, serial_fault, map_fault}
+use Rattle.semantics.specs.declared.command.Command.{Command}
+use Rattle.semantics.specs.declared.command.Command.TheVariants.{Check}
+use Rattle.semantics.specs.Faults.{tried, records_fault, declaration_fault, log_fault, header_fault, ended_fault, count_fault, serial_fault, map_fault}
 use Rattle.log_laws.proofs.Members.{Member, member_of, none_found, both_none, unmapped_none, all_at}
 use Rattle.log_laws.proofs.Sane.{Keeps, AreSane, with_kept, nothing_sane}
 

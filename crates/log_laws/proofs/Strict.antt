@@ -15,7 +15,7 @@ use Rattle.semantics.specs.Tables.{Tables, Space, with_record, tables_of}
 use Rattle.semantics.specs.Events.{Node, graph_of}
 use Rattle.semantics.specs.Points.{points_in}
 use Rattle.semantics.specs.Rules.{repeats_event}
-use Rattle.semantics.specs.Faults.{Command}
+use Rattle.semantics.specs.declared.command.Command.{Command}
 use Rattle.log_laws.proofs.Members.{Each, each_more, member_map, none_at, found_at, none_or_some}
 use Rattle.log_laws.proofs.Apart.{Apart, PairsBy, pairs_more, points_apart, fields_apart}
 use Rattle.log_laws.proofs.Admitted.{IsFaultless, by_records, event_is_new}

@@ -14,7 +14,9 @@ ghost use Rattle.semantics.specs.Execution.{State, executed, ReadsIn};
 ghost use Rattle.semantics.specs.Interleavings.{IsInterleaving};
 ghost use Rattle.semantics.specs.Races.{IsRaceFree, IsTidy};
 ghost use Rattle.semantics.specs.Reads.{replay_steps};
-ghost use Rattle.semantics.specs.Faults.{Check, Command, log_fault};
+ghost use Rattle.semantics.specs.declared.command.Command.{Command};
+ghost use Rattle.semantics.specs.declared.command.Command.TheVariants.{Check};
+ghost use Rattle.semantics.specs.Faults.{log_fault};
 ghost use Rattle.semantics.specs.Outcome.{HasNoCycle};
 
 use crate::answer_laws::one_answer;

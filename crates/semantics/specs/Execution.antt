@@ -21,9 +21,13 @@ abbrev pub is_home : InstKind → Bool
 is_home Home = true
 is_home _ = false
 
+-- Whether a cell is one of a home instance.
+abbrev pub is_home_cell : Tables → Cell → Bool
+is_home_cell t c = option_map_or (λ (i : Inst). is_home i.kind && (is_in (points_in t i.space) c.point && is_in i.fields c.field)) (inst_at t c.inst) false
+
 -- At the start the cells of a home instance hold what their places hold then, and all others nothing that is known.
 abbrev pub start : Tables → State
-start t c = if option_map_or (λ (i : Inst). is_home i.kind && (is_in (points_in t i.space) c.point && is_in i.fields c.field)) (inst_at t c.inst) false then plain Init else plain Raw
+start t c = if is_home_cell t c then plain Init else plain Raw
 
 unfoldable pub same_cell : Cell → Cell → Bool
 same_cell a b = a.inst == b.inst && a.point == b.point && a.field == b.field

@@ -13,6 +13,8 @@ use Rattle.semantics.specs.Tables.{Tables, Serial, tables_of}
 use Rattle.semantics.specs.Points.{is_in}
 use Rattle.semantics.specs.SerialOrder.{turned_pair}
 use Rattle.semantics.specs.Steps.{mapped, id_of}
+use Rattle.semantics.specs.declared.command.Command.{Command}
+use Rattle.semantics.specs.declared.command.Command.TheVariants.{Check}
 use Rattle.semantics.specs.declared.faults.Fault.{Fault}
 use Rattle.semantics.specs.Rules as rules
 
@@ -111,12 +113,6 @@ serial_fault t = option_map (λ (p : ℕ × ℕ). at_line codes.SerialOrder (ser
 -- unmapped: some field of a requirement is mapped to no instance.
 abbrev pub unmapped_fault : Tables → Option Fault
 unmapped_fault t = option_map (λ (r : Req). at_line codes.Unmapped r.line) (find (λ (r : Req). not (list_all (λ f. is_some (mapped t r f)) r.fields)) t.reqs)
-
--- What is asked of a log.
-pub data Command : Type 0 where
-  Check : Command
-  Ordered : Command
-  Deps : Command
 
 -- `check` alone asks that each field be mapped.
 abbrev pub map_fault : Command → Tables → Option Fault

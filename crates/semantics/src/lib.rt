@@ -1,6 +1,7 @@
 //! What a log means: definitions, and no algorithm. `log_laws` has laws over them.
 #![tactic(auto)]
 
+mod command;
 mod faults;
 mod laws;
 mod moves;
@@ -8,6 +9,7 @@ mod places;
 mod tables;
 mod worked;
 
+pub use command::Command;
 pub use faults::Fault;
 pub use laws::nodes_are_of_records;
 pub use moves::Move;

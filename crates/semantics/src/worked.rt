@@ -15,7 +15,8 @@ ghost use Rattle.semantics.specs.Events.{graph_of};
 ghost use Rattle.semantics.specs.ReplayOrder.{replay_order, shown_cycle};
 ghost use Rattle.semantics.specs.Races.{Race};
 ghost use Rattle.semantics.specs.Reads.{shown_difference, want_of};
-ghost use Rattle.semantics.specs.Faults.{Check, Ordered, at_line, log_fault};
+ghost use Rattle.semantics.specs.declared.command.Command.TheVariants.{Check, Ordered};
+ghost use Rattle.semantics.specs.Faults.{at_line, log_fault};
 ghost use Rattle.semantics.specs.Outcome.{operation_count, read_count, task_count};
 ghost use Rattle.semantics.specs.WorkedLogs.{accepted, both_added, copy_unordered, first_cell, first_place, folded_once, folded_twice, fresh_copy, in_a_circle, merges_in_a_circle, not_reset, one, one_instance, overlapping, saw, stale_copy, turned, turned_by_log, two_operators, unmapped, unordered};
 

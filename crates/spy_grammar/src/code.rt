@@ -1,6 +1,6 @@
 //! The codes of the rules that a log may break.
 
-/// Which rule a log breaks. So far only `Unbuilt` is told; the passes to come tell the others.
+/// Which rule a log breaks.
 #[derive(Clone, Copy, Debug, PartialEq, Eq)]
 pub enum Code {
     TooLong,
@@ -9,8 +9,6 @@ pub enum Code {
     Form,
     Number,
     Order,
-    /// The log is well spelled, but of a shape that is not judged yet.
-    Unbuilt,
     Header,
     Ended,
     Count,

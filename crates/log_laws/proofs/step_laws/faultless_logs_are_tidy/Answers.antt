@@ -1,5 +1,5 @@
 use Rattle.semantics.specs.Tables.{tables_of}
-use Rattle.semantics.specs.Faults.{Check}
+use Rattle.semantics.specs.declared.command.Command.TheVariants.{Check}
 use Rattle.log_laws.proofs.Admitted.{faultless, sane, all_mapped}
 use Rattle.log_laws.proofs.Tidy.{tidy}
 use Rattle.log_laws.proofs.step_laws.faultless_logs_are_tidy.Goals as goal

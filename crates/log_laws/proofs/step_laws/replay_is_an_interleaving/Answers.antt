@@ -1,5 +1,5 @@
 use Rattle.semantics.specs.Tables.{tables_of}
-use Rattle.semantics.specs.Faults.{Check}
+use Rattle.semantics.specs.declared.command.Command.TheVariants.{Check}
 use Rattle.log_laws.proofs.Apart.{Apart}
 use Rattle.log_laws.proofs.Admitted.{faultless, sane, all_mapped}
 use Rattle.log_laws.proofs.Strict.{strict}
