@@ -1,9 +1,9 @@
 //! Laws of the spelling.
 
-ghost use Rattle.std.specs.Prelude.{◌≡◌, ◌≢◌, [], Some, Ok};
+ghost use Rattle.std.specs.Prelude.{◌≡◌, ◌≢◌, ℕ, true, List, [], None, Some, Ok};
 ghost use Rattle.std.specs.List.{All};
 ghost use Rattle.spy_grammar.specs.declared.record.Record.{Record};
-ghost use Rattle.spy_grammar.specs.Reading.{line_at};
+ghost use Rattle.spy_grammar.specs.Reading.{is_passed_over, line_at};
 ghost use Rattle.spy_grammar.specs.Spelling.{spelling, Good};
 
 /// No two records are spelled alike.
@@ -16,6 +16,14 @@ pub fn one_spelling()
 #[tactic(auto, using(crate::proofs::RowLaws::line_again))]
 pub fn spelling_is_read()
     ensures { (r : Record) → Good r → line_at (spelling r) ≡ Ok (Some r) }
+{}
+
+/// A line that reading passes over is empty or begins with `#`, and a record that is read of a line is spelled so.
+#[tactic(auto, using(crate::proofs::RowLaws::line_blank, crate::proofs::RowLaws::line_spelled, crate::proofs::RowLaws::line_good))]
+pub fn reading_is_of_spellings()
+    ensures blank { (line : List ℕ) → line_at line ≡ Ok None → is_passed_over line ≡ true }
+    ensures spelled { (line : List ℕ) (r : Record) → line_at line ≡ Ok (Some r) → line ≡ spelling r }
+    ensures good { (line : List ℕ) (r : Record) → line_at line ≡ Ok (Some r) → Good r }
 {}
 
 /// A spelling has a byte, and no line feed.

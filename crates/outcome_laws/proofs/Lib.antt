@@ -1,0 +1,4 @@
+mod Pairs
+mod Races
+mod Found
+mod Inputs
