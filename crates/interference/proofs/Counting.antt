@@ -48,3 +48,26 @@ pub few_pairs : (t : Tables) (q : Pair → Bool) → length t.items < 2 ^ 32 →
 few_pairs t q small =
     let few = few_left q (usages t) (omega (arith, usages_length t, small)) in
     subst (λ ps. length (filter q ps) < 2 ^ 64) (all_are t (usages t) refl) few
+
+-- ---- the pairs of tasks
+
+map_again : {X Y Z : Type 0} (f : X → Y) (g : Y → Z) (h : X → Z) (xs : List X) → ((x : X) → g (f x) ≡ h x) → map g (map f xs) ≡ map h xs
+map_again f g h [] same = refl
+map_again f g h (x ∷ xs) same = rw (same x) (ap (λ ys. h x ∷ ys) (map_again f g h xs same))
+
+map_itself : (xs : List (ℕ × ℕ)) → map (λ x. x) xs ≡ xs
+map_itself [] = refl
+map_itself (x ∷ xs) = ap (λ ys. x ∷ ys) (map_itself xs)
+
+pub task_pairs_listed : (t : Tables) → map (λ (p : Pair). (p.a, p.b)) (filter (are_tasks t.items) (all_pairs t)) ≡ task_pairs t
+task_pairs_listed t =
+    ap (map (λ (p : Pair). (p.a, p.b))) (kept_map (pair_of t) (are_tasks t.items) (kinds.pairs t))
+    ∙ map_again (pair_of t) (λ (p : Pair). (p.a, p.b)) (λ x. x) (task_pairs t) (λ x. refl)
+    ∙ map_itself (task_pairs t)
+
+all_pass : {X : Type 0} (xs : List X) → filter (λ x. true) xs ≡ xs
+all_pass [] = refl
+all_pass (x ∷ xs) = ap (λ ys. x ∷ ys) (all_pass xs)
+
+pub few_in_all : (t : Tables) → length t.items < 2 ^ 32 → length (all_pairs t) < 2 ^ 64
+few_in_all t small = subst (λ ps. length ps < 2 ^ 64) (all_pass (all_pairs t)) (few_pairs t (λ p. true) small)

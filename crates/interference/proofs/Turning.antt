@@ -1,5 +1,5 @@
 -- The first pair that stands against the serial order.
-use Rattle.std.proofs.Common.{◌≡◌, ℕ, zero, suc, ◌+◌, ◌-◌, ◌<◌, inl, inr, Bool, true, false, not, nat_lt, ◌&&◌, List, [], ◌∷◌, ◌++◌, length, refl, sym, ap, ◌∙◌, arith, map, filter, flat_map, get_or, unwrap_or, subst, Option, Some, None, option_map, find, position, ◌==◌}
+use Rattle.std.proofs.Common.{◌≡◌, ℕ, zero, suc, ◌+◌, ◌-◌, ◌<◌, inl, inr, Bool, true, false, not, nat_lt, ◌&&◌, List, [], ◌∷◌, ◌++◌, length, refl, sym, ap, ◌∙◌, arith, map, filter, flat_map, get_or, unwrap_or, subst, Option, Some, None, option_map, find, position, ◌==◌, Contains}
 use Rattle.std.specs.List.{position_or_len}
 use Rattle.std.proofs.lemmas.Bool.{cases_Bool, and_right, le-ltb, lt-ltb, eq-eqb, ne_eqb}
 use Rattle.std.proofs.lemmas.List.Elements.{filter-append}
@@ -7,7 +7,7 @@ use Rattle.semantics.specs.Tables.{Tables, numbers_from}
 use Rattle.semantics.specs.Kinds.{is_free, is_before, item_kind, least_place}
 use Rattle.semantics.specs.Kinds as kinds
 use Rattle.semantics.specs.SerialOrder.{serial, serial_place, turned_pair}
-use Rattle.log_laws.proofs.Members.{Member, member_map, member_flat, member_filter, found_at, none_or_some}
+use Rattle.log_laws.proofs.Members.{Member, member_of, member_map, member_flat, member_filter, found_at, none_or_some}
 use Rattle.log_laws.proofs.Apart.{number_between}
 use Rattle.log_decl.specs.Listing.{ArePlacesIn}
 use Rattle.item_uses.specs.Usages.{Usage, usages_of, usages, usages_at}
@@ -161,3 +161,17 @@ none_found t e = by (turned_pair t) refl
 pub first_is : (t : Tables) (us : List (List Usage)) (places : List ℕ) (o : Option Pair) → usages t ≡ us → ArePlacesIn (serial t) (length t.items) places
     → o ≡ find (λ (p : Pair). is_before p.kind) (left (Some places) us 0 1) → option_map (pair_of t) (turned_pair t) ≡ o
 first_is t us places o e is found = sym (turned_is t places is) ∙ ap (turned places) (sym (all_are t us e)) ∙ sym (first_against places us) ∙ sym found
+
+-- ---- what a pair of the list is
+
+of_list : (t : Tables) (p : Pair) → Contains (all_pairs t) p → (q : ℕ × ℕ) × Member (kinds.pairs t) q × (p ≡ pair_of t q)
+of_list t p m = member_map (pair_of t) (kinds.pairs t) p (member_of (all_pairs t) p m)
+
+pub pair_order : (t : Tables) (p : Pair) → Contains (all_pairs t) p → p.a < p.b
+pair_order t p m = let of = of_list t p m in subst (λ (r : Pair). r.a < r.b) (sym of.2) (pair_within t of.0 of.1).order
+
+pub pair_end : (t : Tables) (p : Pair) → Contains (all_pairs t) p → p.b < length t.items
+pair_end t p m = let of = of_list t p m in subst (λ (r : Pair). r.b < length t.items) (sym of.2) (pair_within t of.0 of.1).within
+
+pub pair_place : (t : Tables) (p : Pair) → Contains (all_pairs t) p → least_place t p.a p.b ≡ Some p.place
+pair_place t p m = let of = of_list t p m in subst (λ (r : Pair). least_place t r.a r.b ≡ Some r.place) (sym of.2) (has_place t of.0.0 of.0.1 (pair_within t of.0 of.1).meets)

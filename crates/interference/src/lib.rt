@@ -3,6 +3,7 @@
 
 mod all;
 mod iterator;
+mod laws;
 mod pair;
 mod partners;
 mod serial;
@@ -12,6 +13,7 @@ mod tests;
 
 pub use all::pairs;
 pub use iterator::Pairs;
+pub use laws::pairs_are_of_items;
 pub use pair::Pair;
 pub use serial::{SerialBreaks, serial_ok};
-pub use tasks::task_pair_count;
+pub use tasks::{are_tasks, task_pair_count};

@@ -26,7 +26,7 @@ fn is_task_at(items: &[Item], item: usize) -> bool
 }
 
 /// Whether both items of a pair are tasks.
-fn are_tasks(items: &[Item], pair: Pair) -> bool
+pub fn are_tasks(items: &[Item], pair: Pair) -> bool
     ensures { result ≡ are_tasks items.now pair }
 {
     is_task_at(items, pair.a) && is_task_at(items, pair.b)
