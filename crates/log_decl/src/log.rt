@@ -15,6 +15,7 @@ ghost use Rattle.spy_grammar.specs.declared.code.Code.TheVariants as codes;
 ghost use Rattle.log_faults.specs.Decls.{decls_of};
 ghost use Rattle.log_decl.specs.Faultless.{AreDeclared};
 ghost use Rattle.log_decl.specs.Listing.{item_line, ArePlacesIn};
+ghost use Rattle.log_tables.specs.Ascending.{body_fields};
 ghost use Rattle.log_tables.specs.Mapped.{inst_mapped};
 ghost use Rattle.log_tables.specs.Views.{space_seen};
 ghost use Rattle.item_uses.specs.Blocks.{AreBlocks};
@@ -96,6 +97,13 @@ impl<'a, P: PointSet + Copy> Log<'a, P> {
         ensures { result.now ≡ self.now.items }
     {
         self.draft.items()
+    }
+
+    /// The law of the fields of fills: they ascend. There is nothing to do.
+    pub fn fill_fields_ascend(&self)
+        ensures { All (λ i. IsStrictlyIncreasing (body_fields i.body)) self.now.items }
+    {
+        let _items = self.draft.items();
     }
 
     /// The requirements, in the order of their lines.
