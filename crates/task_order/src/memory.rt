@@ -1,0 +1,13 @@
+//! Want of memory.
+
+use std::alloc::AllocError;
+
+/// Memory ran out.
+#[derive(Clone, Copy, Debug, PartialEq, Eq)]
+pub struct Memory;
+
+impl From<AllocError> for Memory {
+    fn from(_e: AllocError) -> Memory {
+        Memory
+    }
+}

@@ -1,0 +1,65 @@
+//! The first two tasks that interfere and are not run in serial order.
+
+ghost use Rattle.std.specs.Prelude.{◌<◌, ◌^◌, length, IfOk};
+ghost use Rattle.semantics.specs.Events.{graph_of};
+ghost use Rattle.reach_marks.specs.Reached.{AreMarksOf};
+ghost use Rattle.task_order.specs.Runs.{AreRunsOf};
+ghost use Rattle.task_order.specs.Searched.{IsTaskOrder};
+
+use crate::kept::is_kept;
+use crate::memory::Memory;
+use crate::runs::runs_of;
+use interference::{are_tasks, pairs, pairs_are_of_items};
+use log_decl::Log;
+use reach_marks::Reach;
+use region_tree::ArenaSet;
+use semantics::Place;
+use std::alloc::Global;
+
+/// Whether each two tasks that interfere are run in serial order.
+#[derive(Clone, Copy, Debug, PartialEq, Eq)]
+pub enum TaskOrder {
+    /// They are, and so many pairs interfere.
+    Kept { pairs: u64 },
+    /// The first two, by their positions, that are not, and the least place at which they interfere.
+    Unordered { a: usize, b: usize, place: Place },
+}
+
+/// The same by the runs of the items.
+fn order_by_runs<'a, P: ArenaSet<'a>>(log: &Log<'a, P>, reach: &Reach, runs: &[usize]) -> TaskOrder
+    requires few { length log.now.items < 2 ^ 32 }
+    requires marks { AreMarksOf (graph_of log.now.nodes) reach.now }
+    requires runs { AreRunsOf log.now runs.now }
+    ensures { IsTaskOrder log.now result }
+{
+    pairs_are_of_items();
+    let items = log.items();
+    let mut count = 0;
+    for pair in pairs(log) {
+        if are_tasks(items, pair) {
+            if !is_kept(log, reach, runs, pair.a, pair.b) {
+                return TaskOrder::Unordered {
+                    a: pair.a,
+                    b: pair.b,
+                    place: pair.place,
+                };
+            }
+            count += 1;
+        }
+    }
+    TaskOrder::Kept { pairs: count }
+}
+
+/// Whether each two tasks of a log that interfere are run in serial order, by marks of the log's nodes.
+pub fn task_order<'a, P: ArenaSet<'a>>(
+    alloc: Global,
+    log: &Log<'a, P>,
+    reach: &Reach,
+) -> Result<TaskOrder, Memory>
+    requires few { length log.now.items < 2 ^ 32 }
+    requires marks { AreMarksOf (graph_of log.now.nodes) reach.now }
+    ensures { IfOk result (IsTaskOrder log.now) }
+{
+    let runs = runs_of(alloc, log)?;
+    Ok(order_by_runs(log, reach, &runs))
+}
