@@ -175,3 +175,6 @@ pair_end t p m = let of = of_list t p m in subst (λ (r : Pair). r.b < length t.
 
 pub pair_place : (t : Tables) (p : Pair) → Contains (all_pairs t) p → least_place t p.a p.b ≡ Some p.place
 pair_place t p m = let of = of_list t p m in subst (λ (r : Pair). least_place t r.a r.b ≡ Some r.place) (sym of.2) (has_place t of.0.0 of.0.1 (pair_within t of.0 of.1).meets)
+
+pub turned_within : (t : Tables) (p : ℕ × ℕ) → turned_pair t ≡ Some p → (p.0 < p.1) × (p.1 < length t.items)
+turned_within t p e = let w = pair_within t p (found_at (is_turned_pair t) (kinds.pairs t) p e).0 in (w.order, w.within)

@@ -34,4 +34,4 @@ pub record IsSearched (t : Tables) (left : List Pair) (count : ℕ) : Type 0 whe
 -- What is said of the tasks of some tables: each two that interfere are run in serial order, and so many pairs there are; or the pair that is shown, with its least place.
 abbrev pub IsTaskOrder : Tables → TaskOrder → Type 0
 IsTaskOrder t (Kept pairs) = AreKept t × (pairs ≡ length (task_pairs t))
-IsTaskOrder t (Unordered a b place) = IsShownPair t (a, b) × (least_place t a b ≡ Some place)
+IsTaskOrder t (Unordered a b place) = IsShownPair t (a, b) × (least_place t a b ≡ Some place) × (a < b) × (b < length t.items)

@@ -1,5 +1,5 @@
 use Rattle.interference.proofs.Counting.{task_pairs_listed, few_in_all}
-use Rattle.interference.proofs.Turning.{pair_order, pair_end, pair_place}
+use Rattle.interference.proofs.Turning.{pair_order, pair_end, pair_place, turned_within}
 use Rattle.interference.proofs.laws.pairs_are_of_items.Goals as goal
 
 pub returns-clause-order : goal.returns-clause-order
@@ -16,3 +16,6 @@ returns-clause-tasks c = task_pairs_listed
 
 pub returns-clause-few : goal.returns-clause-few
 returns-clause-few c = few_in_all
+
+pub returns-clause-turned : goal.returns-clause-turned
+returns-clause-turned c = turned_within

@@ -21,10 +21,14 @@ is_kept-requires-clause-b g c =
 
 pub returns-then-not-is_kept : goal.returns-then-not-is_kept
 returns-then-not-is_kept g c =
+    let law = c.pairs_are_of_items.ensures in
+    let at = listed c.args.log.now c.loop-pair.pair-iterator c.loop-pair.count c.in-Some.pair c.next.new.self c.loop-pair.invariant.2 c.in-Some.ensures.steps in
     let yes = (ap (λ items. are_tasks items c.in-Some.pair) (sym c.loop-pair.invariant.3) ∙ sym c.are_tasks.ensures ∙ c.if-are_tasks.true) in
     (
       found c.args.log.now c.loop-pair.pair-iterator c.loop-pair.count c.in-Some.pair c.next.new.self c.loop-pair.invariant.2 c.in-Some.ensures.steps yes (λ kept. true≢false (sym (c.is_kept.ensures.1 kept) ∙ c.if-not-is_kept.true)),
-      c.pairs_are_of_items.ensures.place c.args.log.now c.in-Some.pair (listed c.args.log.now c.loop-pair.pair-iterator c.loop-pair.count c.in-Some.pair c.next.new.self c.loop-pair.invariant.2 c.in-Some.ensures.steps),
+      law.place c.args.log.now c.in-Some.pair at,
+      law.order c.args.log.now c.in-Some.pair at,
+      law.within c.args.log.now c.in-Some.pair at,
     )
 
 pub loop-pair-preserved-then-are_tasks : goal.loop-pair-preserved-then-are_tasks

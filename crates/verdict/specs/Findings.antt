@@ -1,0 +1,20 @@
+-- What is found in the tables of a log whose frame and records have no fault.
+use Rattle.std.specs.Prelude.{◌≡◌, ℕ, Option, Some, None}
+use Rattle.std.specs.Option.{option_or}
+use Rattle.findings.specs.declared.finding.Finding.{Finding}
+use Rattle.findings.specs.declared.finding.Finding.TheVariants as findings
+use Rattle.findings.specs.Texts.{Good}
+use Rattle.semantics.specs.declared.command.Command.{Command}
+use Rattle.semantics.specs.declared.faults.Fault.{Fault}
+use Rattle.semantics.specs.Tables.{Tables}
+use Rattle.semantics.specs.Faults.{serial_fault, map_fault}
+use Rattle.semantics.specs.Outcome.{Finds}
+
+-- The fault that a command shows of tables: of the serial order, and then of what is mapped.
+abbrev pub table_fault : Command → Tables → Option Fault
+table_fault command t = option_or (serial_fault t) (map_fault command t)
+
+-- What a command finds in tables: a fault, or what there is to find in tables without one.
+abbrev pub IsFoundOf : Command → Tables → Finding → Type 0
+IsFoundOf command t (findings.Fault line code) = table_fault command t ≡ Some (record { line = line; code = code })
+IsFoundOf command t f = (table_fault command t ≡ None) × Finds command t f
