@@ -2,17 +2,14 @@
 #![tactic(auto)]
 
 mod dependences;
-mod deps;
-mod ending;
 mod graphs;
+mod items;
 mod memory;
-mod ordered;
+mod ordering;
 mod reports;
 mod serial;
 mod sorting;
-#[cfg(test)]
-mod tests;
 
-pub use deps::deps;
+pub use dependences::deps;
 pub use memory::Memory;
-pub use ordered::ordered;
+pub use ordering::ordered;

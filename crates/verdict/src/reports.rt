@@ -1,21 +1,43 @@
 //! Findings, each with what a text of it asks.
 
-ghost use Rattle.std.specs.Prelude.{◌≡◌, ◌≢◌, [], not, count_by};
+ghost use Rattle.std.specs.Prelude.{◌≡◌, ◌≢◌, [], not, map, count_by};
+ghost use Rattle.std.specs.List.{AllByRecursion};
 ghost use Rattle.findings.specs.declared.finding.Finding.TheVariants as findings;
-ghost use Rattle.findings.specs.Texts.{Good};
+ghost use Rattle.findings.specs.Texts.{Fits, Good, IsInRange, dep_line, small};
 
-use findings::{DepList, EventList, Finding};
-use semantics::{Fault, Place};
+use findings::{Dep, DepList, EventList, Finding};
+use semantics::Place;
+use spy_grammar::Code;
+
+/// The law of events: each lies in the range of its type. There is nothing to do.
+fn events_fit(events: &[u32])
+    ensures { AllByRecursion IsInRange (map small events.now) }
+{}
+
+/// The law of a dependence: its numbers lie in the ranges of their types, and a proof learns of it where they are read.
+fn dep_fits(dep: &Dep)
+    ensures { Fits (dep_line dep.now) }
+{
+    let Dep { before: _, a: _a, b: _b, tree: _tree, point: _point, field: _field } = *dep;
+}
+
+/// The same of some of them.
+fn deps_fit(deps: &[Dep])
+    ensures { AllByRecursion Fits (map dep_line deps.now) }
+{
+    let mut rest = deps;
+    while let [dep, more @ ..] = rest {
+        dep_fits(dep);
+        rest = more;
+    }
+}
 
 /// A fault.
-pub(crate) fn fault_found(fault: Fault) -> Finding
-    ensures finding { result ≡ findings.Fault fault.line fault.code }
+pub(crate) fn fault_found(line: u32, code: Code) -> Finding
+    ensures finding { result ≡ findings.Fault line code }
     ensures good { Good result }
 {
-    Finding::Fault {
-        line: fault.line,
-        code: fault.code,
-    }
+    Finding::Fault { line, code }
 }
 
 /// A cycle.
@@ -24,7 +46,7 @@ pub(crate) fn cycle_found(events: EventList) -> Finding
     ensures finding { result ≡ findings.Cycle events }
     ensures good { Good result }
 {
-    let _events = events.as_slice();
+    events_fit(events.as_slice());
     Finding::Cycle { events }
 }
 
@@ -57,7 +79,7 @@ pub(crate) fn deps_found(list: DepList, items: u32, before: u64, turn: u64) -> F
     ensures finding { result ≡ findings.Deps list items before turn }
     ensures good { Good result }
 {
-    let _list = list.as_slice();
+    deps_fit(list.as_slice());
     Finding::Deps {
         list,
         items,

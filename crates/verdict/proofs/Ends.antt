@@ -1,0 +1,92 @@
+-- What is found in tables is found in the log.
+use Rattle.std.proofs.Common.{◌≡◌, ℕ, ◌+◌, ◌<◌, ◌≤◌, ◌^◌, List, [], ◌∷◌, ◌++◌, length, fold, refl, sym, ap, ◌∙◌, subst, arith, Option, Some, None}
+use Rattle.std.specs.List.{AllByRecursion}
+use Rattle.std.specs.Option.{option_or}
+use Rattle.std.proofs.lemmas.List.{length_push}
+use Rattle.spy_grammar.specs.Spelling.{Good}
+use Rattle.spy_grammar.specs.declared.code.Code.{Code}
+use Rattle.spy_grammar.specs.declared.record.Lined.{Lined}
+use Rattle.spy_grammar.specs.declared.record.Record.{Record}
+use Rattle.spy_grammar.specs.declared.record.Record.TheVariants as records
+use Rattle.findings.specs.declared.finding.Finding.{Finding}
+use Rattle.findings.specs.declared.finding.Finding.TheVariants.{Accepted, Ordered, Deps, Cycle, Race, Unordered, Differ, Fault, Usage, CannotRead}
+use Rattle.semantics.specs.declared.command.Command.{Command}
+use Rattle.semantics.specs.declared.command.Command.TheVariants as commands
+use Rattle.semantics.specs.Records.{records_of}
+use Rattle.semantics.specs.Tables.{Tables, with_record, tables_of, no_tables}
+use Rattle.semantics.specs.Events.{AreLinked, graph_of}
+use Rattle.semantics.specs.Faults.{at_line, declaration_fault, serial_fault, log_fault}
+use Rattle.semantics.specs.Outcome.{IsFound}
+use Rattle.log_decl.specs.Faultless.{AreDeclared}
+use Rattle.log_faults.specs.Lines.{AreLines}
+use Rattle.log_faults.proofs.Ascending.{few_records}
+use Rattle.verdict.specs.Findings.{table_fault, IsFoundOf}
+
+-- ---- a log has no more items and nodes than records
+
+one_more : {X : Type 0} (xs : List X) (x : X) → length (xs ++ x ∷ []) ≤ length xs + 1
+one_more xs x = omega (arith, length_push xs x)
+
+record Grows (t s : Tables) : Type 0 where
+  items : length s.items ≤ length t.items + 1
+  nodes : length s.nodes ≤ length t.nodes + 1
+
+grows : (t : Tables) (line : ℕ) (r : Record) → Grows t (with_record t line r)
+grows t line (records.Task id) = record { items = one_more t.items _; nodes = omega arith }
+grows t line (records.Fill id tree space fields n) = record { items = one_more t.items _; nodes = omega arith }
+grows t line (records.Run task done waits) = record { items = omega arith; nodes = one_more t.nodes _ }
+grows t line (records.Copy src dst space fields done waits) = record { items = omega arith; nodes = one_more t.nodes _ }
+grows t line (records.Put inst space fields n done waits) = record { items = omega arith; nodes = one_more t.nodes _ }
+grows t line (records.Reset inst space fields done waits) = record { items = omega arith; nodes = one_more t.nodes _ }
+grows t line (records.Fold src dst space fields done waits) = record { items = omega arith; nodes = one_more t.nodes _ }
+grows t line (records.Merge done waits) = record { items = omega arith; nodes = one_more t.nodes _ }
+grows t line _ = record { items = omega arith; nodes = omega arith }
+
+record IsFew (t : Tables) (count : ℕ) : Type 0 where
+  items : length t.items ≤ count
+  nodes : length t.nodes ≤ count
+
+few_from : (t : Tables) (n : ℕ) (log : List Lined) → IsFew t n → IsFew (fold (λ t (l : Lined). with_record t l.line l.rec) t log) (n + length log)
+few_from t n [] few = record { items = omega (arith, few.items); nodes = omega (arith, few.nodes) }
+few_from t n (l ∷ log) few =
+    let one = grows t l.line l.rec in
+    let more = few_from (with_record t l.line l.rec) (n + 1) log (record { items = omega (arith, few.items, one.items); nodes = omega (arith, few.nodes, one.nodes) }) in
+    record { items = omega (arith, more.items); nodes = omega (arith, more.nodes) }
+
+pub few_items : (lines : ℕ) (log : List Lined) → AreLines lines log → length (tables_of log).items < 2 ^ 32
+few_items lines log stand = let few = few_from no_tables 0 log (record { items = omega arith; nodes = omega arith }) in omega (arith, few.items, few_records lines log stand)
+
+pub few_nodes : (lines : ℕ) (log : List Lined) → AreLines lines log → length (tables_of log).nodes < 2 ^ 32
+few_nodes lines log stand = let few = few_from no_tables 0 log (record { items = omega arith; nodes = omega arith }) in omega (arith, few.nodes, few_records lines log stand)
+
+-- ---- faults
+
+-- Past its frame and records, the fault of a log is that of its tables.
+past : (command : Command) (lines : ℕ) (log : List Lined) → declaration_fault lines log ≡ None → log_fault command lines log ≡ table_fault command (tables_of log)
+unfolding log_fault
+past command lines log e = rw e refl
+
+pub fault_in_log : (command : Command) (lines : ℕ) (log : List Lined) (line : ℕ) (code : Code) → declaration_fault lines log ≡ Some (at_line code line) → IsFound command lines log (Fault line code)
+unfolding log_fault
+fault_in_log command lines log line code e = rw e refl
+
+pub found_in_log : (command : Command) (lines : ℕ) (log : List Lined) → declaration_fault lines log ≡ None → (f : Finding) → IsFoundOf command (tables_of log) f → IsFound command lines log f
+found_in_log command lines log e (Fault line code) h = past command lines log e ∙ h
+found_in_log command lines log e (Accepted tasks operations reads) h = (past command lines log e ∙ h.0, h.1)
+found_in_log command lines log e (Ordered tasks pairs) h = (past command lines log e ∙ h.0, h.1)
+found_in_log command lines log e (Deps list items before turn) h = (past command lines log e ∙ h.0, h.1)
+found_in_log command lines log e (Cycle events) h = (past command lines log e ∙ h.0, h.1)
+found_in_log command lines log e (Race a b inst point field) h = (past command lines log e ∙ h.0, h.1)
+found_in_log command lines log e (Unordered a b tree point field) h = (past command lines log e ∙ h.0, h.1)
+found_in_log command lines log e (Differ task number point field got want) h = (past command lines log e ∙ h.0, h.1)
+found_in_log command lines log e Usage h = (past command lines log e ∙ h.0, h.1)
+found_in_log command lines log e CannotRead h = (past command lines log e ∙ h.0, h.1)
+
+-- ---- order
+
+pub linked_in : ((command : Command) (lines : ℕ) (log : List Lined) → AllByRecursion Good (records_of log) → log_fault command lines log ≡ None → AreLinked (graph_of (tables_of log).nodes))
+    → (t : Tables) → AreDeclared t → serial_fault t ≡ None → AreLinked (graph_of t.nodes)
+linked_in linked t are serial =
+    let same : serial_fault (tables_of are.log) ≡ None = subst (λ (s : Tables). serial_fault s ≡ None) are.tables serial in
+    let clear : log_fault commands.Ordered are.lines are.log ≡ None = past commands.Ordered are.lines are.log are.faultless ∙ ap (λ o. option_or o None) same in
+    subst (λ (s : Tables). AreLinked (graph_of s.nodes)) (sym are.tables) (linked commands.Ordered are.lines are.log are.good clear)

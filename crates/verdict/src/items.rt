@@ -1,0 +1,63 @@
+//! What is asked of a log's items for a report.
+
+ghost use Rattle.std.specs.Prelude.{◌≡◌, ◌<◌, ◌^◌, length, count_by};
+ghost use Rattle.semantics.specs.Rules as rules;
+ghost use Rattle.semantics.specs.SerialOrder.{by_serial};
+ghost use Rattle.semantics.specs.Steps.{id_of};
+ghost use Rattle.semantics.specs.Outcome as outcome;
+
+use log_decl::Log;
+use region_tree::ArenaSet;
+use semantics::{Item, ItemBody};
+
+/// Whether an item is a task.
+fn is_task(item: &Item) -> bool
+    ensures { result ≡ rules.is_task item.now.body }
+{
+    match item.body {
+        ItemBody::Task => true,
+        _ => false,
+    }
+}
+
+/// How many of some items are tasks.
+fn count_tasks(items: &[Item]) -> u32
+    requires { length items.now < 2 ^ 32 }
+    ensures { result ≡ count_by (λ i. rules.is_task i.body) items.now }
+{
+    items.iter().filter(|item| is_task(*item)).count() as u32
+}
+
+/// How many tasks a log has.
+pub(crate) fn task_count<'a, P: ArenaSet<'a>>(log: &Log<'a, P>) -> u32
+    requires { length log.now.items < 2 ^ 32 }
+    ensures { result ≡ outcome.task_count log.now }
+{
+    count_tasks(log.items())
+}
+
+/// The id of an item.
+fn id_at<'a, P: ArenaSet<'a>>(log: &Log<'a, P>, item: usize) -> u32
+    requires { item < length log.now.items }
+    ensures { result ≡ id_of log.now item }
+{
+    log.items()[item].id
+}
+
+/// The ids of two items, the one that is earlier in serial order first.
+pub(crate) fn ids_by_serial<'a, P: ArenaSet<'a>>(
+    log: &Log<'a, P>,
+    a: usize,
+    b: usize,
+) -> (u32, u32)
+    requires a { a < length log.now.items }
+    requires b { b < length log.now.items }
+    ensures first { result.0 ≡ id_of log.now (by_serial log.now (a, b)).0 }
+    ensures second { result.1 ≡ id_of log.now (by_serial log.now (a, b)).1 }
+{
+    if log.serial_place(b) < log.serial_place(a) {
+        (id_at(log, b), id_at(log, a))
+    } else {
+        (id_at(log, a), id_at(log, b))
+    }
+}
