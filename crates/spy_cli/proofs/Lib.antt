@@ -1,4 +1,4 @@
-pub mod Chains
-pub mod Outcomes
-pub mod Spelled
-pub mod Rows
+mod Lines
+mod Numbered
+mod Reports
+mod Spelled

@@ -1,5 +1,5 @@
 -- What one line adds to a log, and how its fault ends the reading.
-use Rattle.std.specs.Prelude.{◌≡◌, ℕ, true, Some, None, List, [], ◌∷◌, ◌++◌, ◌⊎◌}
+use Rattle.std.specs.Prelude.{◌≡◌, ℕ, true, Some, None, List, [], ◌∷◌, ◌++◌, ◌⊎◌, length}
 use Rattle.spy_words.specs.declared.fault.LineFault.{LineFault}
 use Rattle.spy_words.specs.declared.fault.LineFault.TheVariants as faults
 use Rattle.spy_grammar.specs.declared.code.Code.TheVariants as codes
@@ -8,14 +8,17 @@ use Rattle.spy_grammar.specs.declared.record.Lined.{Lined}
 use Rattle.spy_grammar.specs.Reading.{is_passed_over}
 use Rattle.spy_grammar.specs.Spelling.{spelling, Good}
 use Rattle.findings.specs.declared.finding.Finding.TheVariants as findings
-use Rattle.findings.specs.Texts as reports
-use Rattle.semantics.specs.Records.{Hold, records_of}
+use Rattle.findings.specs.declared.finding.Finding.{Finding}
+use Rattle.semantics.specs.declared.command.Command.TheVariants as commands
+use Rattle.semantics.specs.Outcome.{IsFound}
+use Rattle.semantics.specs.Records.{Hold, records_of, text_of}
 use Rattle.semantics.specs.TextFaults.{lines_fault}
 use Rattle.semantics.specs.declared.faults.Fault.{Fault as Shown}
-use Rattle.spy_cli.specs.declared.command.Command.{Command}
+use Rattle.spy_cli.specs.declared.request.Request.{Request}
+use Rattle.spy_cli.specs.declared.request.Request.TheVariants as requests
 use Rattle.spy_cli.specs.declared.status.Status.{Status}
 use Rattle.spy_cli.specs.declared.status.Status.TheVariants as statuses
-use Rattle.spy_cli.specs.Outcome.{IsAnswered}
+use Rattle.spy_cli.specs.Answers.{Tells}
 use Rattle.spy_cli.specs.declared.reading.SpellEnd.{SpellEnd}
 use Rattle.spy_cli.specs.declared.reading.SpellEnd.TheVariants.{Fault, Memory}
 
@@ -33,18 +36,23 @@ end_at line faults.Number = Fault line codes.Number
 end_at line faults.Order = Fault line codes.Order
 end_at line faults.Memory = Memory
 
--- What a command answers to lines: the fault of the first that has one, or what is answered of the records that they hold.
+-- What is answered to a log of so many lines.
+abbrev pub IsLogAnswer : Request → ℕ → List Lined → Status → List ℕ → Type 0
+IsLogAnswer requests.Ordered lines log status text = (f : Finding) × IsFound commands.Ordered lines log f × Tells f status text
+IsLogAnswer requests.Deps lines log status text = (f : Finding) × IsFound commands.Deps lines log f × Tells f status text
+IsLogAnswer requests.Print lines log status text = (status ≡ statuses.Yes) × (text ≡ text_of (records_of log))
+
+-- What is answered to lines: the fault of the first that has one, or what is answered to the log that they hold.
 pub record HasLineFault (lines : List (List ℕ)) (status : Status) (text : List ℕ) : Type 0 where
   pub fault : Shown
   pub shown : lines_fault 1 lines ≡ Some fault
-  pub status_is : status ≡ statuses.Fault
-  pub text_is : text ≡ reports.text_of (findings.Fault fault.line fault.code)
+  pub tells : Tells (findings.Fault fault.line fault.code) status text
 
-pub record HoldLog (command : Command) (lines : List (List ℕ)) (status : Status) (text : List ℕ) : Type 0 where
+pub record HoldLog (request : Request) (lines : List (List ℕ)) (status : Status) (text : List ℕ) : Type 0 where
   pub clean : lines_fault 1 lines ≡ None
   pub log : List Lined
   pub held : Hold 1 lines log
-  pub answered : IsAnswered command (records_of log) status text
+  pub answered : IsLogAnswer request (length lines) log status text
 
-abbrev pub IsLinesOutcome : Command → List (List ℕ) → Status → List ℕ → Type 0
-IsLinesOutcome command lines status text = HasLineFault lines status text ⊎ HoldLog command lines status text
+abbrev pub IsLinesAnswer : Request → List (List ℕ) → Status → List ℕ → Type 0
+IsLinesAnswer request lines status text = HasLineFault lines status text ⊎ HoldLog request lines status text

@@ -1,15 +1,16 @@
 //! The commands of `spy`: from bytes to a report.
 #![tactic(auto)]
 
-mod command;
-mod earlier;
 mod judging;
-mod outcome_law;
+mod printing;
 mod reading;
+mod report;
+mod report_laws;
+mod request;
 mod status;
 mod top;
 
-pub use outcome_law::{one_outcome, printed_again};
 pub use reading::{SpellEnd, read_records};
+pub use report_laws::{one_report, printed_again};
 pub use status::Status;
 pub use top::run;

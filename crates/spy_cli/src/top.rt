@@ -6,13 +6,15 @@ ghost use Rattle.spy_io.specs.Causes.{Rose, Grows};
 ghost use Rattle.spy_cli.specs.declared.status.Status.{Status};
 ghost use Rattle.findings.specs.declared.finding.Finding.TheVariants as findings;
 ghost use Rattle.findings.specs.Texts as reports;
-ghost use Rattle.spy_cli.specs.declared.command.Command.{Command};
-ghost use Rattle.spy_cli.specs.Outcome.{asked, IsOutcome, IsDecided, Answers};
+ghost use Rattle.spy_cli.specs.declared.request.Request.{Request};
+ghost use Rattle.spy_cli.specs.Answers.{asked, IsAnswer, IsCalm, IsDecided, Answers, Ends, Keeps};
 
-use crate::command::{Command, asked_by};
-use crate::judging::{Report, fault_report, judge};
-use crate::outcome_law::one_outcome;
+use crate::judging::report_on_bytes;
+use crate::report::{Report, fault_report};
+use crate::report_laws::one_report;
+use crate::request::{Request, request_in};
 use crate::status::Status;
+use log_laws::one_log;
 use spy_grammar::Code;
 use spy_io::{Memory, ReadEnd, Sink, Source, read_all, write_all};
 use std::alloc::Global;
@@ -40,20 +42,20 @@ enum ReportEnd {
     Memory,
 }
 
-/// The report of a command on all that the source has left.
+/// The report on all that the source has left.
 fn report_on<S: Source>(
     alloc: Global,
-    command: Command,
+    request: Request,
     source: &mut S,
 ) -> Result<Report, ReportEnd>
-    ensures outcome { IfOk result (λ r. IfSome (S.left source.old) (λ bytes. IsOutcome command bytes r.status r.text.items)) }
+    ensures outcome { IfOk result (λ r. IfSome (S.left source.old) (λ bytes. IsAnswer request bytes r.status r.text.items)) }
     ensures decided { IfOk result (λ r. IsDecided r.status) }
     ensures calm { OnOk result (S.faults source.new ≡ S.faults source.old) }
     ensures calm_memory { IsErrOf result ReportEnd.Memory → S.faults source.new ≡ S.faults source.old }
     ensures read_fault { IsErrOf result ReportEnd.ReadFault → Rose (S.faults source.old) (S.faults source.new) }
 {
     let report = match read_all(alloc, source, MOST_BYTES) {
-        Ok(bytes) => judge(alloc, command, bytes),
+        Ok(bytes) => report_on_bytes(alloc, request, bytes),
         Err(ReadEnd::TooLong) => fault_report(alloc, 0, Code::TooLong),
         Err(ReadEnd::ReadFault) => return Err(ReportEnd::ReadFault),
         Err(ReadEnd::Memory) => return Err(ReportEnd::Memory),
@@ -65,7 +67,7 @@ fn report_on<S: Source>(
 }
 
 /// Runs the command that the words ask for over the bytes of the source, and writes its report to the sink.
-/// The words do not hold the program's name. So far the commands are `ordered` and `print`.
+/// The words do not hold the program's name. So far the commands are `ordered`, `deps` and `print`.
 #[tactic(auto, unfolding(findings::specs::Texts::text_of))]
 pub fn run<S: Source, K: Sink>(
     alloc: Global,
@@ -79,12 +81,16 @@ pub fn run<S: Source, K: Sink>(
     ensures not_taken { asked (map string_bytes words.now.items) ≡ None → (result ≡ Status.Usage) ⊎ (result ≡ Status.WriteFault) }
     ensures not_called { asked (map string_bytes words.now.items) ≡ None → source.new ≡ source.old }
 
-    // What the input decides: the answer is the outcome of the command, and where the input has an outcome that is the answer.
-    ensures answer { (command : Command) → asked (map string_bytes words.now.items) ≡ Some command → IsDecided result
-        → IfSome (S.left source.old) (λ bytes. Answers command bytes result (K.held sink.old) (K.held sink.new)) }
-    ensures exact { (command : Command) → asked (map string_bytes words.now.items) ≡ Some command
-        → (bytes : List ℕ) (status : Status) (text : List ℕ) → S.left source.old ≡ Some bytes → IsOutcome command bytes status text
+    // What the input decides: it is the answer, and no other.
+    ensures answer { (request : Request) → asked (map string_bytes words.now.items) ≡ Some request → IsDecided result
+        → IfSome (S.left source.old) (λ bytes. Answers request bytes result (K.held sink.old) (K.held sink.new)) }
+    ensures exact { (request : Request) → asked (map string_bytes words.now.items) ≡ Some request
+        → (bytes : List ℕ) (status : Status) (text : List ℕ) → S.left source.old ≡ Some bytes → IsAnswer request bytes status text
         → IsDecided result → (result ≡ status) × Appends (K.held sink.old) (K.held sink.new) text }
+
+    // An input that keeps each rule is answered, if no device fails and memory suffices.
+    ensures complete { (request : Request) → asked (map string_bytes words.now.items) ≡ Some request
+        → IfSome (S.left source.old) (λ bytes. Keeps request bytes → IsCalm (S.faults source.old) (S.faults source.new) → IsCalm (K.faults sink.old) (K.faults sink.new) → Ends request result) }
 
     // A device that failed says so by its count, and no other answer comes from a failure.
     ensures calm { IsDecided result ⊎ (result ≡ Status.Usage) → (S.faults source.new ≡ S.faults source.old) × (K.faults sink.new ≡ K.faults sink.old) }
@@ -96,8 +102,8 @@ pub fn run<S: Source, K: Sink>(
     // After a failed write the sink has got a part of the report, and nothing else.
     ensures part_of_usage { result ≡ Status.WriteFault → asked (map string_bytes words.now.items) ≡ None
         → Grows (K.held sink.old) (K.held sink.new) (reports.text_of findings.Usage) }
-    ensures part { (command : Command) → asked (map string_bytes words.now.items) ≡ Some command
-        → (bytes : List ℕ) (status : Status) (text : List ℕ) → S.left source.old ≡ Some bytes → IsOutcome command bytes status text
+    ensures part { (request : Request) → asked (map string_bytes words.now.items) ≡ Some request
+        → (bytes : List ℕ) (status : Status) (text : List ℕ) → S.left source.old ≡ Some bytes → IsAnswer request bytes status text
         → result ≡ Status.WriteFault → Grows (K.held sink.old) (K.held sink.new) text
         ⊎ (Rose (S.faults source.old) (S.faults source.new) × Grows (K.held sink.old) (K.held sink.new) (reports.text_of findings.CannotRead)) }
 
@@ -105,11 +111,12 @@ pub fn run<S: Source, K: Sink>(
     ensures memory { result ≡ Status.Memory → sink.new ≡ sink.old }
     ensures calm_memory { result ≡ Status.Memory → S.faults source.new ≡ S.faults source.old }
 {
-    one_outcome();
-    let Some(command) = asked_by(words) else {
+    one_report();
+    one_log();
+    let Some(request) = request_in(words) else {
         return written(sink, b"usage\n", Status::Usage);
     };
-    match report_on(alloc, command, source) {
+    match report_on(alloc, request, source) {
         Ok(report) => written(sink, &report.text, report.status),
         Err(ReportEnd::ReadFault) => written(sink, b"cannot read\n", Status::ReadFault),
         Err(ReportEnd::Memory) => Status::Memory,

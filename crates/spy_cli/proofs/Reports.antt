@@ -1,0 +1,128 @@
+-- One thing is answered to an input.
+use Rattle.std.proofs.Common.{◌≡◌, ℕ, List, Option, Some, None, refl, sym, ap, subst, ◌∙◌, inl, inr, ◌⊎◌, ◌↔◌}
+use Rattle.spy_grammar.specs.declared.code.Code.{Code}
+use Rattle.spy_grammar.specs.declared.record.Lined.{Lined}
+use Rattle.findings.specs.declared.finding.Finding.{Finding}
+use Rattle.findings.specs.declared.finding.Finding.TheVariants.{Accepted, Ordered, Deps, Cycle, Race, Unordered, Differ, Usage, CannotRead}
+use Rattle.findings.specs.declared.finding.Finding.TheVariants.{Fault as Faulty}
+use Rattle.findings.specs.Texts as reports
+use Rattle.semantics.specs.declared.command.Command.{Command}
+use Rattle.semantics.specs.declared.command.Command.TheVariants as commands
+use Rattle.semantics.specs.declared.faults.Fault.{Fault}
+use Rattle.semantics.specs.Records.{text_of, records_of, lined, line_count, Reads}
+use Rattle.semantics.specs.TextFaults.{text_fault}
+use Rattle.semantics.specs.Faults.{log_fault}
+use Rattle.semantics.specs.Tables.{Tables, tables_of}
+use Rattle.semantics.specs.Outcome.{IsFound, IsOutcome, IsPrinted, HasTextFault, Finds, OrderedFinds, DepsFinds}
+use Rattle.spy_cli.specs.declared.request.Request.{Request}
+use Rattle.spy_cli.specs.declared.request.Request.TheVariants as requests
+use Rattle.spy_cli.specs.declared.status.Status.{Status}
+use Rattle.spy_cli.specs.declared.status.Status.TheVariants as statuses
+use Rattle.spy_cli.specs.Answers.{status_of, Tells, IsJudged, IsFaulty, IsAnswer, IsDecided, IsAdmitted, Keeps, Ends}
+
+abbrev OneLog : Type 0
+OneLog = (bytes : List ℕ) (log other : List Lined) → Reads bytes log → Reads bytes other → log ≡ other
+
+abbrev OneOutcome : Type 0
+OneOutcome = (command : Command) (bytes : List ℕ) (f g : Finding) → IsOutcome command bytes f → IsOutcome command bytes g → f ≡ g
+
+told_alike : (f g : Finding) (s t : Status) (x y : List ℕ) → f ≡ g → Tells f s x → Tells g t y → (s ≡ t) × (x ≡ y)
+told_alike f g s t x y same p q = (p.status_is ∙ ap status_of same ∙ sym q.status_is, p.text_is ∙ ap reports.text_of same ∙ sym q.text_is)
+
+judged_alike : OneOutcome → (command : Command) (bytes : List ℕ) (s t : Status) (x y : List ℕ) → IsJudged command bytes s x → IsJudged command bytes t y → (s ≡ t) × (x ≡ y)
+judged_alike one command bytes s t x y p q = told_alike p.finding q.finding s t x y (one command bytes p.finding q.finding p.outcome q.outcome) p.tells q.tells
+
+faults_alike : (bytes : List ℕ) (f g : Finding) → HasTextFault bytes f → HasTextFault bytes g → f ≡ g
+faults_alike bytes f g p q =
+    let both : ◌≡◌ {A = Option Fault} (Some p.fault) (Some q.fault) = sym p.shown ∙ q.shown in
+    let same : p.fault ≡ q.fault = cc in
+    p.finding_is ∙ ap (λ (k : Fault). Faulty k.line k.code) same ∙ sym q.finding_is
+
+clean_or_not : {A : Type 0} (bytes : List ℕ) (f : Finding) → HasTextFault bytes f → text_fault bytes ≡ None → A
+clean_or_not bytes f p e = let wrong : ◌≡◌ {A = Option Fault} (Some p.fault) None = sym p.shown ∙ e in absurd cc
+
+pub same_answer : OneLog → OneOutcome → (request : Request) (bytes : List ℕ) (s t : Status) (x y : List ℕ) → IsAnswer request bytes s x → IsAnswer request bytes t y → (s ≡ t) × (x ≡ y)
+same_answer one outcome requests.Ordered bytes s t x y p q = judged_alike outcome commands.Ordered bytes s t x y p q
+same_answer one outcome requests.Deps bytes s t x y p q = judged_alike outcome commands.Deps bytes s t x y p q
+same_answer one outcome requests.Print bytes s t x y (inl p) (inl q) = told_alike p.finding q.finding s t x y (faults_alike bytes p.finding q.finding p.fault q.fault) p.tells q.tells
+same_answer one outcome requests.Print bytes s t x y (inl p) (inr q) = clean_or_not bytes p.finding p.fault q.1.spelled
+same_answer one outcome requests.Print bytes s t x y (inr p) (inl q) = clean_or_not bytes q.finding q.fault p.1.spelled
+same_answer one outcome requests.Print bytes s t x y (inr p) (inr q) = (p.0 ∙ sym q.0, p.1.text_is ∙ ap (λ log. text_of (records_of log)) (one bytes p.1.log q.1.log p.1.reads q.1.reads) ∙ sym q.1.text_is)
+
+-- ---- what is printed, printed again
+
+module _ (one : OneLog) (fault : (bytes : List ℕ) (log : List Lined) → text_fault bytes ≡ None → Reads bytes log → text_fault (text_of (records_of log)) ≡ None)
+    (read : (bytes : List ℕ) (log : List Lined) → Reads bytes log → Reads (text_of (records_of log)) (lined (records_of log)))
+    (records : (bytes : List ℕ) (log : List Lined) → Reads bytes log → records_of (lined (records_of log)) ≡ records_of log) where
+  pub again : (bytes text : List ℕ) → IsPrinted bytes text → IsPrinted text text
+  again bytes text p = record {
+    spelled = subst (λ x. text_fault x ≡ None) (sym p.text_is) (fault bytes p.log p.spelled p.reads);
+    log = lined (records_of p.log);
+    reads = subst (λ x. Reads x (lined (records_of p.log))) (sym p.text_is) (read bytes p.log p.reads);
+    text_is = p.text_is ∙ ap text_of (sym (records bytes p.log p.reads));
+  }
+
+  pub found_again : (bytes text : List ℕ) → IsPrinted bytes text → (log : List Lined) → Reads bytes log → (command : Command) (f : Finding) → IsOutcome command text f ↔ IsFound command (line_count text) (lined (records_of log)) f
+  unfolding again
+  found_again bytes text p log reads command f =
+      let spelled = (again bytes text p).spelled in
+      let same : p.log ≡ log = one bytes p.log log p.reads reads in
+      let here : Reads text (lined (records_of log)) = subst (λ l. Reads text (lined (records_of l))) same (again bytes text p).reads in
+      (there spelled here, λ h. inr (record { spelled = spelled; log = lined (records_of log); reads = here; found = h }))
+    where
+      there : text_fault text ≡ None → Reads text (lined (records_of log)) → IsOutcome command text f → IsFound command (line_count text) (lined (records_of log)) f
+      there spelled here (inl h) = clean_or_not text f h spelled
+      there spelled here (inr h) = subst (λ l. IsFound command (line_count text) l f) (one text h.log (lined (records_of log)) h.reads here) h.found
+
+-- ---- an input that keeps each rule
+
+-- It is answered by no fault.
+no_fault : (command : Command) (bytes : List ℕ) → OneLog → IsAdmitted command bytes → (line : ℕ) (code : Code) → IsOutcome command bytes (Faulty line code) → ⊥
+no_fault command bytes one keeps line code (inl h) = clean_or_not bytes (Faulty line code) h keeps.spelled
+no_fault command bytes one keeps line code (inr h) =
+    let own = subst (λ l. log_fault command (line_count bytes) l ≡ Some (record { line = line; code = code })) (one bytes h.log keeps.log h.reads keeps.reads) h.found in
+    let wrong : ◌≡◌ {A = Option Fault} (Some (record { line = line; code = code })) None = sym own ∙ keeps.keeps in
+    cc
+
+-- What is found of an input without a fault is found in its tables.
+in_tables : (command : Command) (bytes : List ℕ) → OneLog → IsAdmitted command bytes → (f : Finding) → IsOutcome command bytes f → (t : Tables) × Finds command t f
+in_tables command bytes one keeps f (inl h) = clean_or_not bytes f h keeps.spelled
+in_tables command bytes one keeps f (inr h) = (tables_of h.log, by f h.found)
+  where
+    by : (f : Finding) → IsFound command (line_count bytes) h.log f → Finds command (tables_of h.log) f
+    by (Faulty line code) found = absurd (no_fault command bytes one keeps line code (inr (record { spelled = keeps.spelled; log = h.log; reads = h.reads; found = found })))
+    by (Accepted tasks operations reads) found = found.1
+    by (Ordered tasks pairs) found = found.1
+    by (Deps list items before turn) found = found.1
+    by (Cycle events) found = found.1
+    by (Race a b inst point field) found = found.1
+    by (Unordered a b tree point field) found = found.1
+    by (Differ task number point field got want) found = found.1
+    by Usage found = found.1
+    by CannotRead found = found.1
+
+ordered_ends : (t : Tables) (f : Finding) → OrderedFinds t f → (status_of f ≡ statuses.Yes) ⊎ (status_of f ≡ statuses.Refused)
+ordered_ends t (Cycle events) h = inr refl
+ordered_ends t (Unordered a b tree point field) h = inr refl
+ordered_ends t (Ordered tasks pairs) h = inl refl
+ordered_ends t _ h = absurd h
+
+deps_ends : (t : Tables) (f : Finding) → DepsFinds t f → status_of f ≡ statuses.Yes
+deps_ends t (Deps list items before turn) h = refl
+deps_ends t _ h = absurd h
+
+-- So it is answered by what is found in it.
+pub answered_ends : OneLog → (request : Request) (bytes : List ℕ) (s : Status) (x : List ℕ) → Keeps request bytes → IsAnswer request bytes s x → Ends request s
+answered_ends one requests.Ordered bytes s x keeps a =
+    let found = in_tables commands.Ordered bytes one keeps a.finding a.outcome in
+    elim (ordered_ends found.0 a.finding found.1) [ inl holds ↦ inl (a.tells.status_is ∙ holds) | inr fails ↦ inr (inl (a.tells.status_is ∙ fails)) ]
+answered_ends one requests.Deps bytes s x keeps a =
+    let found = in_tables commands.Deps bytes one keeps a.finding a.outcome in
+    inl (a.tells.status_is ∙ deps_ends found.0 a.finding found.1)
+answered_ends one requests.Print bytes s x keeps (inl a) = clean_or_not bytes a.finding a.fault keeps
+answered_ends one requests.Print bytes s x keeps (inr a) = inl a.0
+
+pub memory_ends : (request : Request) → Ends request statuses.Memory
+memory_ends requests.Ordered = inr (inr refl)
+memory_ends requests.Deps = inr refl
+memory_ends requests.Print = inr refl

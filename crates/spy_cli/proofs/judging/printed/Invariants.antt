@@ -1,6 +1,0 @@
-use Rattle.std.proofs.Common.{◌≡◌, take}
-use Rattle.semantics.specs.Records.{records_of, text_of}
-use Rattle.spy_cli.proofs.judging.printed.Given as goal
-
-abbrev pub invariant-loop-lined : goal.invariant-loop-lined
-invariant-loop-lined l = l.out.items ≡ text_of (records_of (take l.lined-index l.records))

@@ -1,0 +1,106 @@
+-- What a call answers: the status and the text that the words and the input decide.
+use Rattle.std.specs.Prelude.{◌≡◌, ℕ, ◌-◌, ◌^◌, ◌<◌, List, [], ◌∷◌, codes, bytes_eq, Option, Some, None, ◌⊎◌, if◌then◌else◌}
+use Rattle.std.specs.Io.KnownBytes.{Appends}
+use Rattle.spy_grammar.specs.declared.record.Lined.{Lined}
+use Rattle.findings.specs.declared.finding.Finding.{Finding}
+use Rattle.findings.specs.declared.finding.Finding.TheVariants as findings
+use Rattle.findings.specs.Texts as reports
+use Rattle.semantics.specs.declared.command.Command.{Command}
+use Rattle.semantics.specs.declared.command.Command.TheVariants as commands
+use Rattle.semantics.specs.Records.{Reads, line_count}
+use Rattle.semantics.specs.TextFaults.{text_fault}
+use Rattle.semantics.specs.Faults.{log_fault}
+use Rattle.semantics.specs.Outcome.{HasTextFault, IsOutcome, IsPrinted}
+use Rattle.spy_cli.specs.declared.request.Request.{Request}
+use Rattle.spy_cli.specs.declared.request.Request.TheVariants as requests
+use Rattle.spy_cli.specs.declared.status.Status.{Status}
+use Rattle.spy_cli.specs.declared.status.Status.TheVariants as statuses
+
+-- ---- words
+
+-- What a word asks for.
+abbrev pub request_at : List ℕ → Option Request
+request_at word =
+    if bytes_eq word (codes "ordered") then Some requests.Ordered
+    else if bytes_eq word (codes "deps") then Some requests.Deps
+    else if bytes_eq word (codes "print") then Some requests.Print
+    else None
+
+-- What words ask for: they are the one word that names it.
+abbrev pub asked : List (List ℕ) → Option Request
+asked [] = None
+asked (word ∷ []) = request_at word
+asked (word ∷ more ∷ words) = None
+
+-- ---- answers
+
+-- The status with which a finding is answered.
+abbrev pub status_of : Finding → Status
+status_of (findings.Accepted tasks operations reads) = statuses.Yes
+status_of (findings.Ordered tasks pairs) = statuses.Yes
+status_of (findings.Deps list items before turn) = statuses.Yes
+status_of (findings.Fault line code) = statuses.Fault
+status_of findings.Usage = statuses.Usage
+status_of findings.CannotRead = statuses.ReadFault
+status_of _ = statuses.Refused
+
+-- A finding is answered with its status and its text.
+pub record Tells (f : Finding) (status : Status) (text : List ℕ) : Type 0 where
+  pub status_is : status ≡ status_of f
+  pub text_is : text ≡ reports.text_of f
+
+-- What a command finds in the input is answered.
+pub record IsJudged (command : Command) (bytes : List ℕ) (status : Status) (text : List ℕ) : Type 0 where
+  pub finding : Finding
+  pub outcome : IsOutcome command bytes finding
+  pub tells : Tells finding status text
+
+-- A fault of the input's bytes or lines is answered.
+pub record IsFaulty (bytes : List ℕ) (status : Status) (text : List ℕ) : Type 0 where
+  pub finding : Finding
+  pub fault : HasTextFault bytes finding
+  pub tells : Tells finding status text
+
+-- What is answered to an input.
+abbrev pub IsAnswer : Request → List ℕ → Status → List ℕ → Type 0
+IsAnswer requests.Ordered bytes status text = IsJudged commands.Ordered bytes status text
+IsAnswer requests.Deps bytes status text = IsJudged commands.Deps bytes status text
+IsAnswer requests.Print bytes status text = IsFaulty bytes status text ⊎ ((status ≡ statuses.Yes) × IsPrinted bytes text)
+
+-- The statuses that the input decides.
+abbrev pub IsDecided : Status → Type 0
+IsDecided statuses.Yes = Unit {0}
+IsDecided statuses.Refused = Unit {0}
+IsDecided statuses.Fault = Unit {0}
+IsDecided _ = ⊥
+
+-- The text of the answer was added to the bytes held.
+pub record Answers (request : Request) (bytes : List ℕ) (status : Status) (before after : Option (List ℕ)) : Type 0 where
+  pub text : List ℕ
+  pub answer : IsAnswer request bytes status text
+  pub written : Appends before after text
+
+-- ---- completeness
+
+-- The input spells a log, and the log keeps each rule that the command judges.
+pub record IsAdmitted (command : Command) (bytes : List ℕ) : Type 0 where
+  pub spelled : text_fault bytes ≡ None
+  pub log : List Lined
+  pub reads : Reads bytes log
+  pub keeps : log_fault command (line_count bytes) log ≡ None
+
+-- The input keeps each rule that is judged.
+abbrev pub Keeps : Request → List ℕ → Type 0
+Keeps requests.Ordered bytes = IsAdmitted commands.Ordered bytes
+Keeps requests.Deps bytes = IsAdmitted commands.Deps bytes
+Keeps requests.Print bytes = text_fault bytes ≡ None
+
+-- How a call ends, if no device fails, on an input that keeps each rule.
+abbrev pub Ends : Request → Status → Type 0
+Ends requests.Ordered status = (status ≡ statuses.Yes) ⊎ (status ≡ statuses.Refused) ⊎ (status ≡ statuses.Memory)
+Ends _ status = (status ≡ statuses.Yes) ⊎ (status ≡ statuses.Memory)
+
+-- A count of faults did not rise, and it could have.
+pub record IsCalm (before now : ℕ) : Type 0 where
+  pub same : now ≡ before
+  pub room : before < 2 ^ 64 - 1

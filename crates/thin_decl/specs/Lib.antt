@@ -1,2 +1,0 @@
-pub mod ThinTest
-pub mod TaskTables

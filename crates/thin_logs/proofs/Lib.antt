@@ -1,3 +1,0 @@
-pub mod ThinRecords
-pub mod ThinTables
-pub mod WorkedProofs
