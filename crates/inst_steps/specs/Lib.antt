@@ -1,3 +1,7 @@
 pub mod Sweeps
+pub mod Viewing
+pub mod Weighing
 pub mod Grids
+pub mod Keys
 pub mod Stepping
+pub mod Stores

@@ -2,11 +2,19 @@
 #![tactic(auto)]
 
 mod act;
+mod apply;
 mod iterator;
+mod laws;
 mod listed;
 mod of_nodes;
 mod spot;
+mod start;
+mod store;
 mod sweep;
+mod view;
 
 pub use iterator::Steps;
+pub use laws::{stores_hold_states, weights_grow_by_moves};
 pub use of_nodes::{steps, steps_on};
+pub use store::Store;
+pub use view::View;

@@ -92,11 +92,7 @@ fn operator_of<P: PointSet + Copy>(log: &Log<'_, P>, inst: u32) -> u32
 }
 
 /// A requirement of an item, by its place among those of the item.
-fn own_req<'l, P: PointSet + Copy>(
-    log: &'l Log<'_, P>,
-    item: usize,
-    k: usize,
-) -> Option<&'l Req>
+fn own_req<'l, P: PointSet + Copy>(log: &'l Log<'_, P>, item: usize, k: usize) -> Option<&'l Req>
     requires numbers { AreNumbered log.now }
     requires place { k < length (reqs_of log.now item) }
     ensures { option_copied result ≡ slice_get (reqs_of log.now item) k }
@@ -151,10 +147,36 @@ fn only_sweep<'l, P: PointSet + Copy>(log: &'l Log<'_, P>, op: &'l Op) -> Option
     ensures { option_map pass_seen result ≡ pass_at (passes_of log.now op.now) 0 }
 {
     let (act, space, fields) = match op {
-        Op::Copy { src, dst, space, fields } => (Act::Copy { src: *src, dst: *dst }, *space, fields),
-        Op::Put { inst, space, fields, n } => (Act::Put { inst: *inst, n: *n }, *space, fields),
-        Op::Reset { inst, space, fields } => (Act::Reset { inst: *inst }, *space, fields),
-        Op::Fold { src, dst, space, fields } => (
+        Op::Copy {
+            src,
+            dst,
+            space,
+            fields,
+        } => (
+            Act::Copy {
+                src: *src,
+                dst: *dst,
+            },
+            *space,
+            fields,
+        ),
+        Op::Put {
+            inst,
+            space,
+            fields,
+            n,
+        } => (Act::Put { inst: *inst, n: *n }, *space, fields),
+        Op::Reset {
+            inst,
+            space,
+            fields,
+        } => (Act::Reset { inst: *inst }, *space, fields),
+        Op::Fold {
+            src,
+            dst,
+            space,
+            fields,
+        } => (
             Act::Fold {
                 op: operator_of(log, *src),
                 src: *src,
@@ -183,12 +205,6 @@ pub(crate) fn sweep_at<'l, P: PointSet + Copy>(
 {
     match op {
         Op::Run { item } => sweep_of_run(log, *item, k),
-        _ => {
-            if k == 0 {
-                only_sweep(log, op)
-            } else {
-                None
-            }
-        }
+        _ => { if k == 0 { only_sweep(log, op) } else { None } }
     }
 }
