@@ -11,6 +11,8 @@ mod spot;
 mod start;
 mod store;
 mod sweep;
+#[cfg(test)]
+mod tests;
 mod view;
 
 pub use iterator::Steps;
