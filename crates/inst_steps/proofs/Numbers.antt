@@ -1,7 +1,7 @@
 -- The requirements of an item are numbered from 1 on.
-use Rattle.std.proofs.Common.{◌≡◌, ℕ, zero, suc, ◌+◌, ◌<◌, ◌≤◌, ◌^◌, ◌==◌, ◌&&◌, nat_lt, inl, inr, Bool, true, false, List, [], ◌∷◌, ◌++◌, map, filter, find, fold, length, Option, Some, None, slice_get, get_or, drop, refl, sym, ap, ◌∙◌, subst, arith}
+use Rattle.std.proofs.Common.{◌≡◌, ℕ, zero, suc, ◌+◌, ◌≤◌, ◌==◌, ◌&&◌, nat_lt, inl, inr, false, List, [], ◌∷◌, ◌++◌, map, filter, find, fold, length, None, slice_get, get_or, drop, refl, sym, ap, ◌∙◌, subst, arith}
 use Rattle.std.specs.List.{AllByRecursion, count_by}
-use Rattle.std.proofs.lemmas.Bool.{cases_lt, cases_Bool, eq-eqb, ne_eqb, eqb-true, ltb-false}
+use Rattle.std.proofs.lemmas.Bool.{cases_Bool, eq-eqb, ne_eqb, eqb-true, ltb-false}
 use Rattle.std.proofs.lemmas.List.{map-append, length-map, length-append, append-nil}
 use Rattle.std.proofs.lemmas.List.Sums.{length-filter, count_by-le-length}
 use Rattle.std.proofs.lemmas.List.Elements.{filter-append, recursion_from_All}
@@ -10,10 +10,8 @@ use Rattle.spy_grammar.specs.declared.record.Record.TheVariants as records
 use Rattle.spy_grammar.specs.declared.record.Lined.{Lined}
 use Rattle.semantics.specs.declared.tables.Req.{Req}
 use Rattle.semantics.specs.Records.{records_of}
-use Rattle.semantics.specs.Tables.{Tables, numbers_from, reqs_before, place_of, with_record, no_tables, tables_of}
-use Rattle.semantics.specs.Kinds.{reqs_of}
-use Rattle.semantics.specs.Reads.{req_at}
-use Rattle.semantics.specs.Faults.{records_fault, declaration_fault}
+use Rattle.semantics.specs.Tables.{Tables, numbers_from, with_record, no_tables, tables_of}
+use Rattle.semantics.specs.Faults.{declaration_fault}
 use Rattle.semantics.specs.Rules as rules
 use Rattle.log_laws.proofs.Admitted.{Unbroken, by_records, no_broken_rule}
 use Rattle.log_decl.specs.Faultless.{AreDeclared}

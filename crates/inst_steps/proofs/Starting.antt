@@ -1,12 +1,11 @@
 -- What a store holds at the start, as it is put into it.
-use Rattle.std.proofs.Common.{◌≡◌, ℕ, ◌+◌, ◌<◌, ◌≤◌, ◌^◌, ◌==◌, ◌&&◌, ◌||◌, nat_eq, nat_lt, Bool, true, false, cond, List, [], ◌∷◌, ◌++◌, take, length, get_or, find, Option, Some, None, Contains, if◌then◌else◌, refl, sym, ap, ap₂, ◌∙◌, inl, inr, arith, subst}
+use Rattle.std.proofs.Common.{◌≡◌, ℕ, ◌+◌, ◌<◌, ◌≤◌, ◌==◌, ◌&&◌, ◌||◌, nat_eq, nat_lt, Bool, true, false, cond, List, [], ◌∷◌, ◌++◌, take, length, get_or, find, Option, Some, None, Contains, refl, sym, ap, ap₂, ◌∙◌, inl, inr, arith}
 use Rattle.std.specs.List.{list_any}
 use Rattle.std.specs.FinMap.{get, insert, empty, get-empty}
 use Rattle.std.proofs.lemmas.Bool.{cases_Bool, cases_lt, eq-eqb, ne_eqb, eqb-true, lt-ltb, ltb-true, false_from_ne_true, true≢false}
-use Rattle.std.proofs.lemmas.List.{take_more, take_all}
+use Rattle.std.proofs.lemmas.List.{take_more}
 use Rattle.std.proofs.lemmas.List.Folds.{list_any-append}
 use Rattle.point_set.specs.Least.{IsLeastFrom}
-use Rattle.point_laws.specs.Cut.{cut}
 use Rattle.point_laws.proofs.Cuts.{points_cut}
 use Rattle.spy_words.specs.declared.access.InstKind.{InstKind}
 use Rattle.value_terms.specs.declared.terms.Base.{Base}
@@ -20,7 +19,7 @@ use Rattle.semantics.specs.Steps.{inst_at}
 use Rattle.semantics.specs.Execution.{is_home, start}
 use Rattle.log_laws.proofs.Members.{contains_of, member_in, is_in_of, member_of}
 use Rattle.inst_steps.specs.Grids.{kept, cut_to}
-use Rattle.inst_steps.specs.Stores.{Contents, HoldsMore, IsStart, has_cell, at_start, base_of, is_at_point, is_at_points, is_of, is_of_some}
+use Rattle.inst_steps.specs.Stores.{Contents, HoldsMore, IsStart, has_cell, base_of, is_at_point, is_at_points, is_of, is_of_some}
 use Rattle.inst_steps.proofs.StoreMaps.{get_put}
 
 -- ---- tests

@@ -1,9 +1,8 @@
 -- Stores and states, move by move, and weights.
-use Rattle.std.proofs.Common.{◌≡◌, ℕ, ◌+◌, ◌≤◌, ◌==◌, ◌&&◌, nat_eq, Bool, true, false, cond, is_some, List, filter, [], ◌∷◌, Option, Some, None, refl, sym, ap, ap₂, ◌∙◌, inl, inr, arith, subst}
+use Rattle.std.proofs.Common.{◌≡◌, ℕ, ◌+◌, ◌≤◌, ◌==◌, ◌&&◌, nat_eq, Bool, true, false, cond, is_some, List, filter, Some, None, refl, sym, ap, ap₂, ◌∙◌, inl, inr, arith}
 use Rattle.std.specs.Prelude.{unwrap_or}
 use Rattle.std.specs.FinMap.{get, insert, contains_key}
 use Rattle.std.proofs.lemmas.Bool.{cases_Bool, true≢false, false≢true, false_from_ne_true, eqb-true}
-use Rattle.value_terms.specs.declared.terms.Base.{Base}
 use Rattle.value_terms.specs.declared.terms.Base.TheVariants.{Raw}
 use Rattle.value_terms.specs.Values.{Value, plain, add_one, fold_in, weight_of}
 use Rattle.value_terms.proofs.Sums.{weight_added, weight_folded}
@@ -17,8 +16,7 @@ use Rattle.semantics.specs.Steps.{inst_at}
 use Rattle.point_laws.specs.Cut.{cut}
 use Rattle.point_laws.proofs.Cuts.{points_cut, start_cut}
 use Rattle.log_laws.proofs.Members.{member_filter, member_in, none_or_some}
-use Rattle.inst_steps.specs.Keys.{same_key, key_at}
-use Rattle.inst_steps.specs.Stores.{Contents, HasCells, Holds, IsStart, has_cell, at_start, after_move, value_in}
+use Rattle.inst_steps.specs.Stores.{Contents, HasCells, Holds, IsStart, has_cell, after_move, value_in}
 use Rattle.inst_steps.specs.Weighing.{weight_at, weight_after}
 use Rattle.inst_steps.proofs.StoreMaps.{get_put}
 

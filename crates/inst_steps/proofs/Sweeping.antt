@@ -1,26 +1,24 @@
 -- Operations are their sweeps, and cut tables those of what is listed.
-use Rattle.std.proofs.Common.{◌≡◌, ℕ, zero, suc, ◌+◌, ◌<◌, ◌≤◌, true, false, if◌then◌else◌, List, [], ◌∷◌, ◌++◌, map, filter, flat_map, drop, length, get_or, Option, Some, None, option_map, unwrap_or, slice_get, refl, sym, ap, ap₂, ◌∙◌, subst, arith, inl, inr}
+use Rattle.std.proofs.Common.{◌≡◌, ℕ, zero, suc, ◌+◌, ◌<◌, ◌≤◌, List, [], ◌∷◌, ◌++◌, map, flat_map, drop, length, get_or, Option, Some, None, unwrap_or, slice_get, refl, sym, ap, ap₂, ◌∙◌, arith}
 use Rattle.std.specs.Option.{option_map_or}
 use Rattle.std.proofs.Math.Path.{fun_ext}
-use Rattle.std.proofs.lemmas.List.{drop_more, drop_all, map-append, append-nil}
+use Rattle.std.proofs.lemmas.List.{drop_all, append-nil}
 use Rattle.std.proofs.lemmas.List.Concat.{flat_map_single}
 use Rattle.privilege.specs.declared.kinds.Priv.{Priv}
 use Rattle.privilege.specs.declared.kinds.Priv.TheVariants as privileges
-use Rattle.semantics.specs.declared.moves.Move.{Move}
-use Rattle.semantics.specs.declared.moves.Move.TheVariants as moves
 use Rattle.semantics.specs.declared.tables.Req.{Req}
 use Rattle.semantics.specs.declared.tables.Op.{Op}
 use Rattle.semantics.specs.declared.tables.Op.TheVariants as operations
 use Rattle.semantics.specs.Tables.{Tables}
-use Rattle.semantics.specs.Points.{is_in, points_in}
+use Rattle.semantics.specs.Points.{points_in}
 use Rattle.semantics.specs.Kinds.{reqs_of, grid, req_grid}
-use Rattle.semantics.specs.Steps.{id_of, operator_of, mapped_cell, reads_by, changes_by, at_cells, run_moves, moves_of}
+use Rattle.semantics.specs.Steps.{id_of, operator_of, mapped_cell, reads_by, changes_by, moves_of}
 use Rattle.point_laws.specs.Cut.{cut}
 use Rattle.point_laws.proofs.Cuts.{points_cut}
 use Rattle.inst_steps.specs.declared.act.Act.{Act}
 use Rattle.inst_steps.specs.declared.act.Act.TheVariants as acts
 use Rattle.inst_steps.specs.Grids.{kept, cut_to}
-use Rattle.inst_steps.specs.Sweeps.{Pass, pass, pass_at, move_at, pass_moves, moves_of_pass, reading, changing_by, changing, pass_for, passes_of}
+use Rattle.inst_steps.specs.Sweeps.{Pass, pass, pass_at, move_at, pass_moves, moves_of_pass, reading, changing, pass_for, passes_of}
 use Rattle.semantics.specs.declared.tables.LogNode.{LogNode}
 use Rattle.std.proofs.lemmas.Option.{slice_get-get_or}
 use Rattle.std.specs.Prelude.{IfSome}

@@ -1,5 +1,5 @@
 -- Points and fields, in the order in which they are gone over.
-use Rattle.std.specs.Prelude.{ℕ, ◌+◌, ◌<◌, ◌≡◌, List, ◌++◌, map, drop, filter, length, nat_le, Contains, Option, Some, None, option_map, IfSome}
+use Rattle.std.specs.Prelude.{ℕ, ◌+◌, List, ◌++◌, map, drop, filter, nat_le, Option, Some, None, option_map, IfSome}
 use Rattle.std.specs.Borrow.{Bor}
 use Rattle.std.specs.List.Sorted.{IsStrictlyIncreasing}
 use Rattle.semantics.specs.Points.{is_in}

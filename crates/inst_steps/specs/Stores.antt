@@ -1,5 +1,5 @@
 -- What a store holds: a finite map from cells to values.
-use Rattle.std.specs.Prelude.{◌≡◌, ℕ, zero, suc, ◌+◌, ◌<◌, ◌≤◌, ◌^◌, Bool, true, false, ◌-◌, ◌==◌, ◌&&◌, List, refl, Option, Some, None, unwrap_or, if◌then◌else◌}
+use Rattle.std.specs.Prelude.{◌≡◌, ℕ, zero, suc, ◌+◌, ◌<◌, ◌^◌, Bool, true, false, ◌-◌, ◌==◌, ◌&&◌, List, refl, Option, Some, None, unwrap_or, if◌then◌else◌}
 use Rattle.std.specs.Option.{option_map_or}
 use Rattle.std.specs.List.{list_any}
 use Rattle.spy_words.specs.declared.access.InstKind.{InstKind}
@@ -19,7 +19,7 @@ use Rattle.semantics.specs.declared.tables.Inst.{Inst}
 use Rattle.semantics.specs.Tables.{Tables}
 use Rattle.semantics.specs.Points.{is_in, points_in}
 use Rattle.semantics.specs.Steps.{inst_at}
-use Rattle.semantics.specs.Execution.{State, is_home, start, effect}
+use Rattle.semantics.specs.Execution.{State, is_home, start}
 
 -- ---- cells in order: by instance, then point, then field
 
@@ -84,11 +84,15 @@ IsStart t m = (c : Cell) → get m c ≡ at_start t c
 abbrev pub value_in : Contents → Cell → Value
 value_in m c = unwrap_or (get m c) (plain Raw)
 
+-- The contents with a contribution added to a cell.
+abbrev pub with_added : Contents → Cell → ℕ → Contribution → Contents
+with_added m cell op c = insert m cell (add_one op c (value_in m cell))
+
 -- The contents after a move.
 abbrev pub after_move : Move → Contents → Contents
 after_move (moves.Read task req cell) m = m
 after_move (moves.Write task cell) m = insert m cell (plain (Out task))
-after_move (moves.Reduce task req op cell) m = insert m cell (add_one op (record { task = task; req = req }) (value_in m cell))
+after_move (moves.Reduce task req op cell) m = with_added m cell op (record { task = task; req = req })
 after_move (moves.Copy from to) m = insert m to (value_in m from)
 after_move (moves.Put cell n) m = insert m cell (plain (Const n))
 after_move (moves.Reset cell) m = insert m cell (plain Ident)

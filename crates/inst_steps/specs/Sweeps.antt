@@ -1,5 +1,5 @@
 -- Operations as sweeps, each of which does one thing at each point and field of a space.
-use Rattle.std.specs.Prelude.{ℕ, List, [], ◌∷◌, ◌++◌, map, flat_map, Option, Some, None, option_map, unwrap_or, slice_get, if◌then◌else◌}
+use Rattle.std.specs.Prelude.{ℕ, List, [], ◌∷◌, ◌++◌, map, Option, Some, None, option_map, unwrap_or, slice_get, if◌then◌else◌}
 use Rattle.std.specs.Option.{option_map_or}
 use Rattle.privilege.specs.declared.kinds.Priv.{Priv}
 use Rattle.privilege.specs.declared.kinds.Priv.TheVariants as privileges

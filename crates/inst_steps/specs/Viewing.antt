@@ -1,5 +1,5 @@
 -- A store as one requirement sees it.
-use Rattle.std.specs.Prelude.{◌≡◌, ℕ, Option, Some, slice_get, option_map, unwrap_or}
+use Rattle.std.specs.Prelude.{◌≡◌, ℕ, Some, slice_get, option_map, unwrap_or}
 use Rattle.std.specs.Option.{option_and_then}
 use Rattle.privilege.specs.declared.kinds.Priv.{Priv}
 use Rattle.semantics.specs.declared.places.Cell.{Cell}

@@ -61,7 +61,8 @@ fn sweep_start<'l, P: PointSet + Copy>(
     requires numbers { AreNumbered log.now }
     requires ascending { IsAscending listed }
     ensures spot { IfSome result (IsSpot P.points (listed_of listed.entry)) }
-    ensures moves { spot_moves P.points log.now (listed_of listed.entry) result ≡ moves_of_pass (cut_to (listed_of listed.entry) log.now) (pass_at (passes_of log.now op.now) k) }
+    ensures moves { spot_moves P.points log.now (listed_of listed.entry) result
+        ≡ moves_of_pass (cut_to (listed_of listed.entry) log.now) (pass_at (passes_of log.now op.now) k) }
 {
     let sweep = sweep_at(log, op, k)?;
     match log.set(sweep.space) {
@@ -80,7 +81,8 @@ fn start_from<'l, P: PointSet + Copy>(
     requires numbers { AreNumbered log.now }
     requires ascending { IsAscending listed }
     ensures at { IsAt P.points (listed_of listed.entry) result }
-    ensures moves { at_left P.points log.now op.now (listed_of listed.entry) result ≡ rest_moves log.now op.now (listed_of listed.entry) from }
+    ensures moves { at_left P.points log.now op.now (listed_of listed.entry) result
+        ≡ rest_moves log.now op.now (listed_of listed.entry) from }
 {
     for k in from..sweep_count(log, op) {
         if let Some(spot) = sweep_start(log, op, listed, k) {
@@ -101,7 +103,8 @@ fn after<'l, P: PointSet + Copy>(
     requires ascending { IsAscending listed }
     requires at { IsAt P.points (listed_of listed) (Some at.now) }
     ensures at { IsAt P.points (listed_of listed.entry) result }
-    ensures moves { at_left P.points log.now op.now (listed_of listed.entry) (Some at.now) ≡ move_at log.now at.now.spot.act (spot_here at.now.spot) ∷ at_left P.points log.now op.now (listed_of listed.entry) result }
+    ensures moves { at_left P.points log.now op.now (listed_of listed.entry) (Some at.now)
+        ≡ move_at log.now at.now.spot.act (spot_here at.now.spot) ∷ at_left P.points log.now op.now (listed_of listed.entry) result }
 {
     match next_spot(&at.spot, listed) {
         Some(spot) => Some(At {

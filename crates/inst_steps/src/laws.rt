@@ -16,8 +16,10 @@ ghost use Rattle.inst_steps.specs.Weighing.{weight_after};
 pub fn stores_hold_states()
     ensures start { (t : Tables) (m : Contents) → IsStart t m → Holds m (start t) }
     ensures start_on { (points : List ℕ) (t : Tables) (m : Contents) → IsStart (cut points t) m → Holds m (start t) }
-    ensures after { (step : Move) (m : Contents) (s : State) → HasCells m step → Holds m s → Holds (after_move step m) (effect step s) }
-    ensures cells { (step : Move) (m : Contents) (c : Cell) → HasCells m step → contains_key (after_move step m) c ≡ contains_key m c }
+    ensures after { (step : Move) (m : Contents) (s : State) → HasCells m step → Holds m s
+        → Holds (after_move step m) (effect step s) }
+    ensures cells { (step : Move) (m : Contents) (c : Cell) → HasCells m step
+        → contains_key (after_move step m) c ≡ contains_key m c }
 {}
 
 /// No move makes what a cell holds heavier than by what is added: one of a reduction, and what the source of a fold weighs. A copy takes the weight of its source.

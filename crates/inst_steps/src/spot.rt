@@ -32,7 +32,8 @@ pub(crate) fn first_spot<'l, P: PointSet + Copy>(
     requires { IsAscending listed }
     ensures spot { IfSome result (IsSpot P.points (listed_of listed.entry)) }
     ensures act { IfSome result (λ s. s.act ≡ act) }
-    ensures grid { spots_left P.points (listed_of listed.entry) result ≡ grid (kept (listed_of listed.entry) (P.points set.now)) fields.now }
+    ensures grid { spots_left P.points (listed_of listed.entry) result
+        ≡ grid (kept (listed_of listed.entry) (P.points set.now)) fields.now }
 {
     if fields.is_empty() {
         return None;
@@ -58,7 +59,8 @@ pub(crate) fn next_spot<'l, P: PointSet + Copy>(
     requires spot { IsSpot P.points (listed_of listed) spot.now }
     ensures spot { IfSome result (IsSpot P.points (listed_of listed.entry)) }
     ensures act { IfSome result (λ s. s.act ≡ spot.now.act) }
-    ensures grid { spot_grid P.points (listed_of listed.entry) spot.now ≡ spot_here spot.now ∷ spots_left P.points (listed_of listed.entry) result }
+    ensures grid { spot_grid P.points (listed_of listed.entry) spot.now
+        ≡ spot_here spot.now ∷ spots_left P.points (listed_of listed.entry) result }
 {
     if spot.place + 1 < spot.fields.len() {
         return Some(Spot {

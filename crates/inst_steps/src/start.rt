@@ -60,7 +60,8 @@ fn hold_points<P: PointSet>(
     base: Base,
 ) -> Result<(), Memory>
     requires { IsAscending listed }
-    ensures { OnOk result (HoldsMore (is_at_points inst (is_in (kept (listed_of listed.entry) (P.points set.now))) fields.now) (λ c. plain base) store.old store.new) }
+    ensures { OnOk result (HoldsMore (is_at_points inst (is_in (kept (listed_of listed.entry) (P.points set.now))) fields.now)
+        (λ c. plain base) store.old store.new) }
 {
     let mut low = 0;
     loop {
@@ -83,7 +84,8 @@ fn hold_inst<P: PointSet + Copy>(
     listed: Option<&[u64]>,
 ) -> Result<(), Memory>
     requires { IsAscending listed }
-    ensures { OnOk result (HoldsMore (is_of (cut_to (listed_of listed.entry) log.now) id) (says.start (cut_to (listed_of listed.entry) log.now)) store.old store.new) }
+    ensures { OnOk result (HoldsMore (is_of (cut_to (listed_of listed.entry) log.now) id)
+        (says.start (cut_to (listed_of listed.entry) log.now)) store.old store.new) }
 {
     let Some(inst) = log.inst(id) else {
         return Ok(());
@@ -108,7 +110,8 @@ fn hold_insts<P: PointSet + Copy>(
     listed: Option<&[u64]>,
 ) -> Result<(), Memory>
     requires { IsAscending listed }
-    ensures { OnOk result (HoldsMore (is_of_some (cut_to (listed_of listed.entry) log.now) log.now.insts) (says.start (cut_to (listed_of listed.entry) log.now)) store.old store.new) }
+    ensures { OnOk result (HoldsMore (is_of_some (cut_to (listed_of listed.entry) log.now) log.now.insts)
+        (says.start (cut_to (listed_of listed.entry) log.now)) store.old store.new) }
 {
     for inst in log.insts() {
         hold_inst(store, log, inst.id, listed)?;

@@ -3,8 +3,8 @@
 ghost use Rattle.std.specs.Prelude.{◌≡◌, ◌+◌, ◌-◌, ◌<◌, ◌^◌, true, OnOk, OnErr, IfOk};
 ghost use Rattle.std.specs.Option.{option_copied};
 ghost use Rattle.std.specs.FinMap as map;
-ghost use Rattle.value_terms.specs.Values.{add_one, fold_in, weight_of};
-ghost use Rattle.inst_steps.specs.Stores.{value_in};
+ghost use Rattle.value_terms.specs.Values.{fold_in, weight_of};
+ghost use Rattle.inst_steps.specs.Stores.{value_in, with_added};
 
 use indexmap::IndexMap;
 use semantics::Cell;
@@ -97,7 +97,7 @@ impl Store {
     pub(crate) fn add(&mut self, cell: Cell, op: u32, c: Contribution) -> Result<(), Memory>
         requires there { map.contains_key self.old cell ≡ true }
         requires fits { weight_of (value_in self.old cell) < 2 ^ 64 - 1 }
-        ensures ok { OnOk result (self.new ≡ map.insert self.old cell (add_one op c (value_in self.old cell))) }
+        ensures ok { OnOk result (self.new ≡ with_added self.old cell op c) }
         ensures err { OnErr result (self.new ≡ self.old) }
     {
         match self.cells.get_mut(&key_of(&cell)) {

@@ -2,8 +2,8 @@
 
 ghost use Rattle.std.specs.Prelude.{◌≡◌, ◌-◌, ◌<◌, ◌^◌, true, IsTrue, OnOk};
 ghost use Rattle.std.specs.FinMap.{contains_key, insert};
-ghost use Rattle.value_terms.specs.Values.{add_one, weight_of};
-ghost use Rattle.inst_steps.specs.Stores.{HasCells, IsLight, value_in};
+ghost use Rattle.value_terms.specs.Values.{weight_of};
+ghost use Rattle.inst_steps.specs.Stores.{HasCells, IsLight, value_in, with_added};
 ghost use Rattle.inst_steps.specs.Viewing.{HasPrivilege, viewed_cell};
 
 use super::*;
@@ -403,7 +403,7 @@ fn add_by_view<P: PointSet + Copy>(
     requires access { HasPrivilege log.now req (Priv.Red 1) }
     requires there { contains_key store.old (viewed_cell log.now req point field) ≡ true }
     requires fits { weight_of (value_in store.old (viewed_cell log.now req point field)) < 2 ^ 64 - 1 }
-    ensures ok { OnOk result (store.new ≡ insert store.old (viewed_cell log.now req point field) (add_one 1 c (value_in store.old (viewed_cell log.now req point field)))) }
+    ensures ok { OnOk result (store.new ≡ with_added store.old (viewed_cell log.now req point field) 1 c) }
 {
     let mut view = store.view_red(log, req);
     view.fold_in(point, field, c)

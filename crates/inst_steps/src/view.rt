@@ -1,10 +1,10 @@
 //! A store as one requirement of a task sees it.
 
-ghost use Rattle.std.specs.Prelude.{◌≡◌, ℕ, ◌-◌, ◌<◌, ◌^◌, true, Some, OnOk, OnErr, slice_get, option_map, unwrap_or};
+ghost use Rattle.std.specs.Prelude.{◌≡◌, ℕ, ◌-◌, ◌<◌, ◌^◌, true, Some, OnOk, OnErr};
 ghost use Rattle.std.specs.FinMap as map;
 ghost use Rattle.privilege.specs.declared.kinds.Priv.{Priv};
-ghost use Rattle.value_terms.specs.Values.{add_one, weight_of};
-ghost use Rattle.inst_steps.specs.Stores.{value_in};
+ghost use Rattle.value_terms.specs.Values.{weight_of};
+ghost use Rattle.inst_steps.specs.Stores.{value_in, with_added};
 ghost use Rattle.inst_steps.specs.Viewing.{HasPrivilege, viewed_cell};
 
 use crate::store::Store;
@@ -150,7 +150,8 @@ impl<'s, 'a, P: PointSet + Copy, V: Writes> View<'s, 'a, P, V> {
     /// Puts a value into the cell of a point and a field, and into no other.
     pub fn set(&mut self, point: u64, field: u32, v: Value)
         requires { map.contains_key self.old.store.now (viewed_cell self.old.log.now self.old.req point field) ≡ true }
-        ensures store { self.new.store.now ≡ map.insert self.old.store.now (viewed_cell self.old.log.now self.old.req point field) v }
+        ensures store { self.new.store.now
+            ≡ map.insert self.old.store.now (viewed_cell self.old.log.now self.old.req point field) v }
         ensures same_reference { self.new.store.ghost_name ≡ self.old.store.ghost_name }
         ensures log { self.new.log.now ≡ self.old.log.now }
         ensures req { self.new.req ≡ self.old.req }
@@ -165,7 +166,8 @@ impl<'s, 'a, P: PointSet + Copy, V: Folds> View<'s, 'a, P, V> {
     pub fn fold_in(&mut self, point: u64, field: u32, c: Contribution) -> Result<(), Memory>
         requires there { map.contains_key self.old.store.now (viewed_cell self.old.log.now self.old.req point field) ≡ true }
         requires fits { weight_of (value_in self.old.store.now (viewed_cell self.old.log.now self.old.req point field)) < 2 ^ 64 - 1 }
-        ensures ok { OnOk result (self.new.store.now ≡ map.insert self.old.store.now (viewed_cell self.old.log.now self.old.req point field) (add_one (V.op self.old.privilege) c (value_in self.old.store.now (viewed_cell self.old.log.now self.old.req point field)))) }
+        ensures ok { OnOk result (self.new.store.now
+            ≡ with_added self.old.store.now (viewed_cell self.old.log.now self.old.req point field) (V.op self.old.privilege) c) }
         ensures err { OnErr result (self.new.store.now ≡ self.old.store.now) }
         ensures same_reference { self.new.store.ghost_name ≡ self.old.store.ghost_name }
         ensures log { self.new.log.now ≡ self.old.log.now }

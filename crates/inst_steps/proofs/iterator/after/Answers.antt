@@ -1,4 +1,4 @@
-use Rattle.std.proofs.Common.{◌≡◌, ◌++◌, ◌∷◌, sym, ap, ◌∙◌}
+use Rattle.std.proofs.Common.{◌++◌, ◌∷◌, sym, ap, ◌∙◌}
 use Rattle.inst_steps.specs.Grids.{listed_of}
 use Rattle.inst_steps.specs.Sweeps.{move_at}
 use Rattle.inst_steps.specs.Stepping.{rest_moves, spot_here, spot_moves}

@@ -1,4 +1,4 @@
-use Rattle.std.proofs.Common.{◌≡◌, ◌≤◌}
+use Rattle.std.proofs.Common.{◌≡◌}
 use Rattle.inst_steps.specs.Grids.{listed_of}
 use Rattle.inst_steps.specs.Stepping.{rest_moves}
 use Rattle.inst_steps.proofs.iterator.start_from.Given as goal

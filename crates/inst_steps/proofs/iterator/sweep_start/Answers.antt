@@ -1,8 +1,8 @@
-use Rattle.std.proofs.Common.{◌≡◌, [], map, Option, Some, sym, ap, ◌∙◌}
+use Rattle.std.proofs.Common.{map, sym, ap, ◌∙◌}
 use Rattle.std.specs.Option.{option_map}
 use Rattle.semantics.specs.Kinds.{grid}
 use Rattle.inst_steps.specs.Grids.{kept, cut_to, listed_of}
-use Rattle.inst_steps.specs.Sweeps.{move_at, moves_of_pass, pass_at, passes_of}
+use Rattle.inst_steps.specs.Sweeps.{move_at, moves_of_pass}
 use Rattle.inst_steps.specs.Stepping.{pass_seen}
 use Rattle.inst_steps.proofs.Sweeping.{pass_cut, no_points, spot_moves_are}
 use Rattle.inst_steps.proofs.iterator.sweep_start.Goals as goal

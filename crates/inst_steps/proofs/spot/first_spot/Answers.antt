@@ -1,8 +1,7 @@
-use Rattle.std.proofs.Common.{◌≡◌, [], sym, ap, ◌∙◌, subst}
+use Rattle.std.proofs.Common.{sym, ◌∙◌}
 use Rattle.inst_steps.specs.Grids.{kept, listed_of}
 use Rattle.inst_steps.proofs.Behind.{grid_all, grid_none, grid_empty}
 use Rattle.inst_steps.proofs.Keeping.{kept_up}
-use Rattle.semantics.specs.Kinds.{grid}
 use Rattle.inst_steps.proofs.spot.first_spot.Goals as goal
 
 pub returns-then-is_empty-clause-grid : goal.returns-then-is_empty-clause-grid

@@ -1,4 +1,4 @@
-use Rattle.std.proofs.Common.{◌≡◌, ◌∷◌, [], sym, ap, ◌∙◌, arith}
+use Rattle.std.proofs.Common.{◌∷◌, ap, ◌∙◌, arith}
 use Rattle.inst_steps.specs.Grids.{kept, listed_of}
 use Rattle.inst_steps.specs.Stepping.{spot_here}
 use Rattle.inst_steps.proofs.Behind.{grid_last, grid_next, grid_over}

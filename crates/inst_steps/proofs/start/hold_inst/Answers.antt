@@ -1,4 +1,4 @@
-use Rattle.std.proofs.Common.{◌≡◌, Some, sym, ◌∙◌}
+use Rattle.std.proofs.Common.{sym}
 use Rattle.std.proofs.lemmas.Result.{on_ok_weaker}
 use Rattle.inst_steps.specs.Grids.{listed_of}
 use Rattle.inst_steps.proofs.Starting.{one_inst_by, no_points_held}

@@ -1,4 +1,4 @@
-use Rattle.std.proofs.Common.{◌≡◌, sym, ap, ◌∙◌}
+use Rattle.std.proofs.Common.{◌∙◌}
 use Rattle.inst_steps.specs.Grids.{listed_of}
 use Rattle.inst_steps.proofs.Sweeping.{all_moves, node_moves}
 use Rattle.inst_steps.proofs.iterator.Steps.of.Goals as goal
