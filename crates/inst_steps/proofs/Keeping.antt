@@ -8,7 +8,7 @@ use Rattle.semantics.specs.Points.{is_in}
 use Rattle.log_laws.proofs.Members.{Member, contains_of, member_of, member_filter, is_in_of, member_in}
 use Rattle.inst_steps.specs.Grids.{kept}
 
-filter_member : (p : ℕ → Bool) (xs : List ℕ) (x : ℕ) → Member xs x → p x ≡ true → Member (filter p xs) x
+pub filter_member : (p : ℕ → Bool) (xs : List ℕ) (x : ℕ) → Member xs x → p x ≡ true → Member (filter p xs) x
 filter_member p [] x m e = absurd m
 filter_member p (y ∷ ys) x (inl is) e = rw (ap p (sym is) ∙ e) (inl is)
 filter_member p (y ∷ ys) x (inr m) e = elim (cases_Bool (p y)) [ inl here ↦ rw here (inr (filter_member p ys x m e)) | inr left ↦ rw left (filter_member p ys x m e) ]

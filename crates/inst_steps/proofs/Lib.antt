@@ -5,3 +5,4 @@ pub mod Starting
 pub mod StoreLaws
 pub mod StoreMaps
 pub mod Sweeping
+pub mod Covered

@@ -128,11 +128,11 @@ all_points inst points fields low b m n below held c = held c ∙ ap (λ e. cond
 
 -- ---- one instance more
 
-inst_cut : (listed : Option (List ℕ)) (t : Tables) (id : ℕ) → inst_at (cut_to listed t) id ≡ inst_at t id
+pub inst_cut : (listed : Option (List ℕ)) (t : Tables) (id : ℕ) → inst_at (cut_to listed t) id ≡ inst_at t id
 inst_cut (Some ps) t id = refl
 inst_cut None t id = refl
 
-cut_points : (listed : Option (List ℕ)) (t : Tables) (space : ℕ) → points_in (cut_to listed t) space ≡ kept listed (points_in t space)
+pub cut_points : (listed : Option (List ℕ)) (t : Tables) (space : ℕ) → points_in (cut_to listed t) space ≡ kept listed (points_in t space)
 cut_points (Some ps) t space = points_cut ps t space
 cut_points None t space = refl
 

@@ -74,7 +74,7 @@ sweeps_are t operations.Merge = refl
 
 -- ---- cut tables
 
-passes_cut : (listed : Option (List ℕ)) (t : Tables) (op : Op) → passes_of (cut_to listed t) op ≡ passes_of t op
+pub passes_cut : (listed : Option (List ℕ)) (t : Tables) (op : Op) → passes_of (cut_to listed t) op ≡ passes_of t op
 passes_cut None t op = refl
 passes_cut (Some ps) t (operations.Run item) = refl
 passes_cut (Some ps) t (operations.Copy src dst space fields) = refl
@@ -133,7 +133,7 @@ module _ {P : Type 0} (points : P → List ℕ) (t : Tables) (listed : Option (L
 
 -- ---- the moves of a node
 
-nodes_cut : (listed : Option (List ℕ)) (t : Tables) → (cut_to listed t).nodes ≡ t.nodes
+pub nodes_cut : (listed : Option (List ℕ)) (t : Tables) → (cut_to listed t).nodes ≡ t.nodes
 nodes_cut (Some ps) t = refl
 nodes_cut None t = refl
 

@@ -16,7 +16,7 @@ mod tests;
 mod view;
 
 pub use iterator::Steps;
-pub use laws::{stores_hold_states, weights_grow_by_moves};
+pub use laws::{steps_touch_cells_of_instances, stores_hold_states, weights_grow_by_moves};
 pub use of_nodes::{steps, steps_on};
 pub use store::Store;
 pub use view::View;
