@@ -1,0 +1,124 @@
+-- Stores and states, move by move, and weights.
+use Rattle.std.proofs.Common.{◌≡◌, ℕ, ◌+◌, ◌≤◌, ◌==◌, ◌&&◌, nat_eq, Bool, true, false, cond, is_some, List, filter, Some, None, refl, sym, ap, ap₂, ◌∙◌, inl, inr, arith}
+use Rattle.std.specs.Prelude.{unwrap_or}
+use Rattle.std.specs.FinMap.{get, insert, contains_key}
+use Rattle.std.proofs.lemmas.Bool.{cases_Bool, true≢false, false≢true, false_from_ne_true, eqb-true}
+use Rattle.value_terms.specs.declared.terms.Base.TheVariants.{Raw}
+use Rattle.value_terms.specs.Values.{Value, plain, add_one, fold_in, weight_of}
+use Rattle.value_terms.proofs.Sums.{weight_added, weight_folded}
+use Rattle.semantics.specs.declared.places.Cell.{Cell}
+use Rattle.semantics.specs.declared.moves.Move.{Move}
+use Rattle.semantics.specs.declared.moves.Move.TheVariants as moves
+use Rattle.semantics.specs.Tables.{Tables}
+use Rattle.semantics.specs.Execution.{State, start, same_cell, stored, effect}
+use Rattle.semantics.specs.Points.{is_in, points_in}
+use Rattle.semantics.specs.Steps.{inst_at}
+use Rattle.point_laws.specs.Cut.{cut}
+use Rattle.point_laws.proofs.Cuts.{points_cut, start_cut}
+use Rattle.log_laws.proofs.Members.{member_filter, member_in, none_or_some}
+use Rattle.inst_steps.specs.Stores.{Contents, HasCells, Holds, IsStart, has_cell, after_move, value_in}
+use Rattle.inst_steps.specs.Weighing.{weight_at, weight_after}
+use Rattle.inst_steps.proofs.StoreMaps.{get_put}
+
+three : (a b c : Bool) → (a && (b && c)) ≡ ((a && b) && c)
+three false b c = refl
+three true b c = refl
+
+get_at : (m : Contents) (c : Cell) (v : Value) (q : Cell) → get (insert m c v) q ≡ cond (same_cell q c) (Some v) (get m q)
+unfolding same_cell
+get_at m c v q = get_put m c v q ∙ ap (λ b. cond b (Some v) (get m q)) (three (nat_eq q.inst c.inst) (nat_eq q.point c.point) (nat_eq q.field c.field))
+
+-- ---- which cells there are
+
+one_cell : (a b : Cell) → same_cell a b ≡ true → a ≡ b
+unfolding same_cell
+one_cell a b e =
+    let i = and_left (a.inst == b.inst && a.point == b.point) (a.field == b.field) e in
+    let f = and_right (a.inst == b.inst && a.point == b.point) (a.field == b.field) e in
+    let n = eqb-true a.inst b.inst (and_left (a.inst == b.inst) (a.point == b.point) i) in
+    let p = eqb-true a.point b.point (and_right (a.inst == b.inst) (a.point == b.point) i) in
+    λ k. record { inst = n k; point = p k; field = eqb-true a.field b.field f k }
+  where
+    and_left : (x y : Bool) → (x && y) ≡ true → x ≡ true
+    and_left true y e = refl
+    and_left false y e = absurd (false≢true e)
+
+    and_right : (x y : Bool) → (x && y) ≡ true → y ≡ true
+    and_right true y e = e
+    and_right false y e = absurd (false≢true e)
+
+kept_cells : (m : Contents) (cell : Cell) (v : Value) (c : Cell) → contains_key m cell ≡ true → contains_key (insert m cell v) c ≡ contains_key m c
+kept_cells m cell v c there = ap is_some (get_at m cell v c) ∙ elim (cases_Bool (same_cell c cell)) [
+  | inl here ↦ rw here (sym (ap (contains_key m) (one_cell c cell here) ∙ there))
+  | inr other ↦ rw other refl
+]
+
+pub same_cells : (step : Move) (m : Contents) (c : Cell) → HasCells m step → contains_key (after_move step m) c ≡ contains_key m c
+same_cells (moves.Read task req cell) m c h = refl
+same_cells (moves.Write task cell) m c h = kept_cells m cell _ c h
+same_cells (moves.Reduce task req op cell) m c h = kept_cells m cell _ c h
+same_cells (moves.Copy from to) m c h = kept_cells m to _ c h.1
+same_cells (moves.Put cell n) m c h = kept_cells m cell _ c h
+same_cells (moves.Reset cell) m c h = kept_cells m cell _ c h
+same_cells (moves.Fold op from to) m c h = kept_cells m to _ c h.1
+
+-- ---- what is held
+
+not_kept : (ps points : List ℕ) (p : ℕ) → is_in ps p ≡ false → is_in (filter (is_in ps) points) p ≡ false
+not_kept ps points p none = false_from_ne_true (is_in (filter (is_in ps) points) p) (λ e.
+    let m = member_filter (is_in ps) points p (member_in (filter (is_in ps) points) p e) in
+    true≢false (sym m.1 ∙ none))
+
+none_there : (ps : List ℕ) (t : Tables) (c : Cell) → is_in ps c.point ≡ false → has_cell (cut ps t) c ≡ false
+none_there ps t c none = elim (none_or_some (inst_at t c.inst)) [
+  | inl missing ↦ rw missing refl
+  | inr some ↦ rw (some.1, points_cut ps t some.0.space, not_kept ps (points_in t some.0.space) c.point none) refl
+]
+
+held_in : (m : Contents) (s : State) (c : Cell) → Holds m s → contains_key m c ≡ true → value_in m c ≡ s c
+held_in m s c held there = ap (λ o. unwrap_or o (plain Raw)) (held c there)
+
+put_held : (m : Contents) (s : State) (cell : Cell) (v w : Value) → contains_key m cell ≡ true → v ≡ w → Holds m s → Holds (insert m cell v) (stored s cell w)
+put_held m s cell v w there same held c has = get_at m cell v c ∙ elim (cases_Bool (same_cell c cell)) [
+  | inl here ↦ rw here (ap (λ v. Some v) same)
+  | inr other ↦ rw other (held c (sym (kept_cells m cell v c there) ∙ has))
+]
+
+pub move_held : (step : Move) (m : Contents) (s : State) → HasCells m step → Holds m s → Holds (after_move step m) (effect step s)
+move_held (moves.Read task req cell) m s h held = held
+move_held (moves.Write task cell) m s h held = put_held m s cell _ _ h refl held
+move_held (moves.Reduce task req op cell) m s h held = put_held m s cell _ _ h (ap (add_one op (record { task = task; req = req })) (held_in m s cell held h)) held
+move_held (moves.Copy from to) m s h held = put_held m s to _ _ h.1 (held_in m s from held h.0) held
+move_held (moves.Put cell n) m s h held = put_held m s cell _ _ h refl held
+move_held (moves.Reset cell) m s h held = put_held m s cell _ _ h refl held
+move_held (moves.Fold op from to) m s h held = put_held m s to _ _ h.1 (ap₂ (λ w v. fold_in w op v) (held_in m s to held h.1) (held_in m s from held h.0)) held
+
+pub start_held : (t : Tables) (m : Contents) → IsStart t m → Holds m (start t)
+start_held t m is c has = elim (cases_Bool (has_cell t c)) [
+  | inl here ↦ is c ∙ ap (λ b. cond b (Some (start t c)) None) here
+  | inr other ↦ absurd (false≢true (sym (ap is_some (is c ∙ ap (λ b. cond b (Some (start t c)) None) other)) ∙ has))
+]
+
+-- A store of listed points holds what the start of all points holds.
+pub listed_start_held : (ps : List ℕ) (t : Tables) (m : Contents) → IsStart (cut ps t) m → Holds m (start t)
+listed_start_held ps t m is c has = elim (cases_Bool (is_in ps c.point)) [
+  | inl listed ↦ start_held (cut ps t) m is c has ∙ ap (λ v. Some v) (start_cut ps t c listed)
+  | inr other ↦ absurd (false≢true (sym (ap is_some (is c ∙ ap (λ b. cond b (Some (start (cut ps t) c)) None) (none_there ps t c other))) ∙ has))
+]
+
+-- ---- weights
+
+lighter : (m : Contents) (cell : Cell) (v : Value) (n : ℕ) (c : Cell) → weight_of v ≤ n → weight_of (value_in (insert m cell v) c) ≤ cond (same_cell c cell) n (weight_at m c)
+lighter m cell v n c le = elim (cases_Bool (same_cell c cell)) [
+  | inl here ↦ rw (get_at m cell v c, here) le
+  | inr other ↦ rw (get_at m cell v c, other) (omega arith)
+]
+
+pub weighs : (step : Move) (m : Contents) (c : Cell) → weight_of (value_in (after_move step m) c) ≤ weight_after step m c
+weighs (moves.Read task req cell) m c = omega arith
+weighs (moves.Write task cell) m c = lighter m cell _ 0 c (omega arith)
+weighs (moves.Reduce task req op cell) m c = lighter m cell _ (weight_at m cell + 1) c (weight_added op _ (value_in m cell))
+weighs (moves.Copy from to) m c = lighter m to _ (weight_at m from) c (omega arith)
+weighs (moves.Put cell n) m c = lighter m cell _ 0 c (omega arith)
+weighs (moves.Reset cell) m c = lighter m cell _ 0 c (omega arith)
+weighs (moves.Fold op from to) m c = lighter m to _ (weight_at m to + weight_at m from) c (weight_folded (value_in m to) op (value_in m from))

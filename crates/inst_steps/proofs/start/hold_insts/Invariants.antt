@@ -1,0 +1,8 @@
+use Rattle.std.proofs.Common.{take}
+use Rattle.semantics.specs.Execution.{start}
+use Rattle.inst_steps.specs.Grids.{cut_to, listed_of}
+use Rattle.inst_steps.specs.Stores.{HoldsMore, is_of_some}
+use Rattle.inst_steps.proofs.start.hold_insts.Given as goal
+
+abbrev pub invariant-loop-inst : goal.invariant-loop-inst
+invariant-loop-inst g l = HoldsMore (is_of_some (cut_to (listed_of l.listed) l.log) (take l.inst-index l.log.insts)) (start (cut_to (listed_of l.listed) l.log)) l.fn.store l.store

@@ -1,0 +1,22 @@
+//! The steps of the nodes of a log, what instances hold, and views of that by a privilege.
+#![tactic(auto)]
+
+mod act;
+mod apply;
+mod iterator;
+mod laws;
+mod listed;
+mod of_nodes;
+mod spot;
+mod start;
+mod store;
+mod sweep;
+#[cfg(test)]
+mod tests;
+mod view;
+
+pub use iterator::Steps;
+pub use laws::{steps_touch_cells_of_instances, stores_hold_states, weights_grow_by_moves};
+pub use of_nodes::{steps, steps_on};
+pub use store::Store;
+pub use view::View;

@@ -1,0 +1,181 @@
+//! A store as one requirement of a task sees it.
+
+ghost use Rattle.std.specs.Prelude.{◌≡◌, ℕ, ◌-◌, ◌<◌, ◌^◌, true, Some, OnOk, OnErr};
+ghost use Rattle.std.specs.FinMap as map;
+ghost use Rattle.privilege.specs.declared.kinds.Priv.{Priv};
+ghost use Rattle.value_terms.specs.Values.{weight_of};
+ghost use Rattle.inst_steps.specs.Stores.{value_in, with_added};
+ghost use Rattle.inst_steps.specs.Viewing.{HasPrivilege, viewed_cell};
+
+use crate::store::Store;
+use log_decl::Log;
+use point_set::PointSet;
+use privilege::{Folds, Reads, Red, Ro, Rw, Wd, Writes};
+use semantics::Cell;
+use value_terms::{Contribution, Memory, Value};
+
+/// A store, in the cells to which a requirement is mapped. What it allows to do follows from the privilege, by its type.
+#[derive(Drop)]
+pub struct View<'s, 'a, P: PointSet + Copy, V> {
+    store: &'s mut Store,
+    log: &'s Log<'a, P>,
+    req: usize,
+    privilege: V,
+}
+
+impl Store {
+    /// The store as a requirement that reads sees it. The requirement is named by its position.
+    pub fn view_ro<'s, 'a, P: PointSet + Copy>(
+        &'s mut self,
+        log: &'s Log<'a, P>,
+        req: usize,
+    ) -> View<'s, 'a, P, Ro>
+        requires { HasPrivilege log.now req Priv.Ro }
+        ensures same_reference { result.store.ghost_name ≡ self.entry.ghost_name }
+        ensures store { result.store.now ≡ self.old }
+        ensures log { result.log.now ≡ log.now }
+        ensures req { result.req ≡ req }
+    {
+        View {
+            store: self,
+            log,
+            req,
+            privilege: Ro,
+        }
+    }
+
+    /// The same of a requirement that reads and writes.
+    pub fn view_rw<'s, 'a, P: PointSet + Copy>(
+        &'s mut self,
+        log: &'s Log<'a, P>,
+        req: usize,
+    ) -> View<'s, 'a, P, Rw>
+        requires { HasPrivilege log.now req Priv.Rw }
+        ensures same_reference { result.store.ghost_name ≡ self.entry.ghost_name }
+        ensures store { result.store.now ≡ self.old }
+        ensures log { result.log.now ≡ log.now }
+        ensures req { result.req ≡ req }
+    {
+        View {
+            store: self,
+            log,
+            req,
+            privilege: Rw,
+        }
+    }
+
+    /// The same of a requirement that writes, and sees nothing of the old contents.
+    pub fn view_wd<'s, 'a, P: PointSet + Copy>(
+        &'s mut self,
+        log: &'s Log<'a, P>,
+        req: usize,
+    ) -> View<'s, 'a, P, Wd>
+        requires { HasPrivilege log.now req Priv.Wd }
+        ensures same_reference { result.store.ghost_name ≡ self.entry.ghost_name }
+        ensures store { result.store.now ≡ self.old }
+        ensures log { result.log.now ≡ log.now }
+        ensures req { result.req ≡ req }
+    {
+        View {
+            store: self,
+            log,
+            req,
+            privilege: Wd,
+        }
+    }
+
+    /// The same of a requirement that reduces, with its operator.
+    pub fn view_red<'s, 'a, P: PointSet + Copy>(
+        &'s mut self,
+        log: &'s Log<'a, P>,
+        req: usize,
+    ) -> View<'s, 'a, P, Red>
+        requires { (op : ℕ) × HasPrivilege log.now req (Priv.Red op) }
+        ensures same_reference { result.store.ghost_name ≡ self.entry.ghost_name }
+        ensures store { result.store.now ≡ self.old }
+        ensures log { result.log.now ≡ log.now }
+        ensures req { result.req ≡ req }
+        ensures op { HasPrivilege log.now req (Priv.Red result.privilege.op) }
+    {
+        let op = operator_of(log, req);
+        View {
+            store: self,
+            log,
+            req,
+            privilege: Red { op },
+        }
+    }
+}
+
+/// The operator of a requirement that reduces.
+fn operator_of<P: PointSet + Copy>(log: &Log<'_, P>, req: usize) -> u32
+    requires { (op : ℕ) × HasPrivilege log.now req (Priv.Red op) }
+    ensures { HasPrivilege log.now req (Priv.Red result) }
+{
+    match log.reqs().get(req) {
+        Some(req) => match req.access {
+            privilege::Priv::Red(op) => op,
+            _ => 0,
+        },
+        None => 0,
+    }
+}
+
+/// The cell to which a point and a field of a requirement are mapped.
+fn viewed_cell<P: PointSet + Copy>(log: &Log<'_, P>, req: usize, point: u64, field: u32) -> Cell
+    ensures { result ≡ viewed_cell log.now req point field }
+{
+    let inst = match log.inst_of(req, field) {
+        Some(inst) => inst,
+        None => 0,
+    };
+    Cell { inst, point, field }
+}
+
+impl<'s, 'a, P: PointSet + Copy, V: Reads> View<'s, 'a, P, V> {
+    /// What the cell of a point and a field holds.
+    pub fn get(&self, point: u64, field: u32) -> &Value
+        requires { map.contains_key self.now.store.now (viewed_cell self.now.log.now self.now.req point field) ≡ true }
+        ensures { map.get self.now.store.now (viewed_cell self.now.log.now self.now.req point field) ≡ Some result.now }
+    {
+        let cell = viewed_cell(self.log, self.req, point, field);
+        match self.store.value(&cell) {
+            Some(value) => value,
+            None => unreachable!(),
+        }
+    }
+}
+
+impl<'s, 'a, P: PointSet + Copy, V: Writes> View<'s, 'a, P, V> {
+    /// Puts a value into the cell of a point and a field, and into no other.
+    pub fn set(&mut self, point: u64, field: u32, v: Value)
+        requires { map.contains_key self.old.store.now (viewed_cell self.old.log.now self.old.req point field) ≡ true }
+        ensures store { self.new.store.now
+            ≡ map.insert self.old.store.now (viewed_cell self.old.log.now self.old.req point field) v }
+        ensures same_reference { self.new.store.ghost_name ≡ self.old.store.ghost_name }
+        ensures log { self.new.log.now ≡ self.old.log.now }
+        ensures req { self.new.req ≡ self.old.req }
+    {
+        let cell = viewed_cell(self.log, self.req, point, field);
+        self.store.put(cell, v);
+    }
+}
+
+impl<'s, 'a, P: PointSet + Copy, V: Folds> View<'s, 'a, P, V> {
+    /// Adds a contribution once to the cell of a point and a field, and to no other, with the operator of the privilege. On want of memory the store is as it was.
+    pub fn fold_in(&mut self, point: u64, field: u32, c: Contribution) -> Result<(), Memory>
+        requires there { map.contains_key self.old.store.now (viewed_cell self.old.log.now self.old.req point field) ≡ true }
+        requires fits { weight_of (value_in self.old.store.now (viewed_cell self.old.log.now self.old.req point field)) < 2 ^ 64 - 1 }
+        ensures ok { OnOk result (self.new.store.now
+            ≡ with_added self.old.store.now (viewed_cell self.old.log.now self.old.req point field) (V.op self.old.privilege) c) }
+        ensures err { OnErr result (self.new.store.now ≡ self.old.store.now) }
+        ensures same_reference { self.new.store.ghost_name ≡ self.old.store.ghost_name }
+        ensures log { self.new.log.now ≡ self.old.log.now }
+        ensures req { self.new.req ≡ self.old.req }
+        ensures privilege { self.new.privilege ≡ self.old.privilege }
+    {
+        let cell = viewed_cell(self.log, self.req, point, field);
+        let op = self.privilege.op();
+        self.store.add(cell, op, c)
+    }
+}
