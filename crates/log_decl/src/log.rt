@@ -1,9 +1,11 @@
 //! The log of a recorded run.
 
-ghost use Rattle.std.specs.Prelude.{◌≡◌, ◌<◌, ◌↔◌, map, length, slice_get, Some, None, IfOk, OnOk, IfErr, IsSome, IfSome, IsTrue, All};
+ghost use Rattle.std.specs.Prelude.{◌≡◌, ◌<◌, ◌↔◌, [], map, length, slice_get, Some, None, IfOk, OnOk, IfErr, IsSome, IfSome, MatchOption, IsTrue, All};
 ghost use Rattle.std.specs.List.Sorted.{IsStrictlyIncreasing};
 ghost use Rattle.std.specs.Option.{option_and_then};
 ghost use Rattle.region_tree.specs.Regions.{space_of};
+ghost use Rattle.semantics.specs.Points.{points_in};
+ghost use Rattle.log_tables.specs.Ascending.{body_fields};
 ghost use Rattle.region_tree.specs.Paths.{IsPath};
 ghost use Rattle.semantics.specs.SerialOrder.{serial, serial_place};
 ghost use Rattle.semantics.specs.Steps.{mapped};
@@ -94,6 +96,13 @@ impl<'a, P: PointSet + Copy> Log<'a, P> {
         self.draft.items()
     }
 
+    /// The law of the fields of fills: they ascend. There is nothing to do.
+    pub fn fill_fields_ascend(&self)
+        ensures { All (λ i. IsStrictlyIncreasing (body_fields i.body)) self.now.items }
+    {
+        let _items = self.draft.items();
+    }
+
     /// The requirements, in the order of their lines.
     pub fn reqs(&self) -> &[Req]
         ensures reqs { result.now ≡ self.now.reqs }
@@ -182,6 +191,13 @@ impl<'a, P: PointSet + Copy> Log<'a, P> {
         ensures { map (space_seen P.points) result.now ≡ self.now.spaces }
     {
         self.draft.spaces()
+    }
+
+    /// The set of a space, or `None` of one that is not declared, which has no point.
+    pub fn set(&self, space: u32) -> Option<&P>
+        ensures { MatchOption result (points_in self.now space ≡ []) (λ s. points_in self.now space ≡ P.points s.now) }
+    {
+        self.draft.set(space)
     }
 
     /// The ids of the declared spaces, in the order of their lines.
