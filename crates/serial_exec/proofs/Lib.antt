@@ -1,0 +1,6 @@
+mod Changing
+mod Members
+mod Noting
+mod Owned
+mod Gathered
+mod Keeping

@@ -1,0 +1,5 @@
+pub mod Changes
+pub mod Cutting
+pub mod Histories
+pub mod Kept
+pub mod OwnReqs

@@ -1,0 +1,12 @@
+//! The values of sequential execution: what each item should find at each place.
+#![tactic(auto)]
+
+mod change;
+mod gathering;
+mod histories;
+mod own_reqs;
+mod points;
+mod sums;
+mod versions;
+
+pub use versions::Versions;
