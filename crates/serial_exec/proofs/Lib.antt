@@ -4,3 +4,5 @@ mod Noting
 mod Owned
 mod Gathered
 mod Keeping
+mod Bags
+mod Grouping

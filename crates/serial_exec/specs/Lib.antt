@@ -3,3 +3,4 @@ pub mod Cutting
 pub mod Histories
 pub mod Kept
 pub mod OwnReqs
+pub mod Summed

@@ -1,6 +1,7 @@
 //! The values of sequential execution: what each item should find at each place.
 #![tactic(auto)]
 
+mod agreeing;
 mod change;
 mod gathering;
 mod histories;

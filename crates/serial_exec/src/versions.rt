@@ -1,6 +1,6 @@
 //! The values of sequential execution.
 
-ghost use Rattle.std.specs.Prelude.{◌≡◌, ℕ, ◌<◌, true, length, IfOk};
+ghost use Rattle.std.specs.Prelude.{◌≡◌, ◌↔◌, ℕ, ◌<◌, true, length, IfOk, IsTrue};
 ghost use Rattle.std.specs.Option.{option_map};
 ghost use Rattle.std.specs.List.Sorted.{IsNonDecreasingBy, IsStrictlyIncreasing};
 ghost use Rattle.serial_exec.specs.Changes.{before};
@@ -11,6 +11,7 @@ ghost use Rattle.point_laws.specs.Cut.{cut};
 ghost use Rattle.serial_exec.specs.Cutting.{cut_to};
 ghost use Rattle.serial_exec.specs.Kept.{AreVersionsOf, changes_before, value_at};
 
+use crate::agreeing::is_sum;
 use crate::change::{Change, PlaceKey};
 use crate::gathering::histories_of;
 use crate::histories::Histories;
@@ -103,6 +104,15 @@ impl Versions {
     {
         let (base, added) = latest(self.changes_before(item, place));
         sum_of(alloc, base, added)
+    }
+
+    /// Whether a value is the one that a read of an item should see at a place. It takes no memory and builds no value.
+    pub fn agrees(&self, item: usize, place: &Place, v: &Value) -> bool
+        requires { item < length self.now.moments }
+        ensures { IsTrue result ↔ (v.now ≡ value_at self.now item place.now) }
+    {
+        let (base, added) = latest(self.changes_before(item, place));
+        is_sum(v, base, added)
     }
 }
 
