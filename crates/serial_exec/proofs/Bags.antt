@@ -140,6 +140,7 @@ counts-tell bag cs well counts held = equal_by_counts bag (joined [] (all_added 
   where
     none : (c : Contribution) → count_in c [] + count_in c (all_added cs) ≡ count_in c (all_added cs)
     none c = none-before c (all_added cs)
+
     one : (c : Contribution) (b : Bool) → has c bag ≡ b → count_in c bag ≡ count_in c (all_added cs)
     one c true is = had-count (λ d. count_in d (all_added cs)) c bag well counts is
     one c false is = not-had c bag is ∙ sym (not-added bag c cs held is)
@@ -164,8 +165,10 @@ right-counts bag cs well is = both-all (λ e. e.1 ≡ count_in e.0 bag) (λ e. U
     units : (xs : Bag) → AllByRecursion (λ e. Unit {0}) xs
     units [] = tt
     units (x ∷ xs) = (tt, units xs)
+
     none : (c : Contribution) → count_in c [] + count_in c (all_added cs) ≡ count_in c (all_added cs)
     none c = none-before c (all_added cs)
+
     same : (c : Contribution) → count_in c bag ≡ count_in c (all_added cs)
     same c = ap (count_in c) is ∙ count_joined c [] (all_added cs) ∙ none c
 
@@ -177,6 +180,7 @@ all-held bag (x ∷ cs) none = (here x.action refl, all-held bag cs (λ c no_mor
     rest : (a : Action) (c : Contribution) → count_in c (added_by a ++ all_added cs) ≡ 0 → count_in c (all_added cs) ≡ 0
     rest (Put base) c h = h
     rest (Add op d) c h = grind (arith, h)
+
     here : (a : Action) → x.action ≡ a → holds bag a ≡ true
     here (Put base) is = refl
     here (Add op d) is = by_test (has d bag) refl

@@ -142,6 +142,7 @@ rises-append m (x ∷ xs) ys here later up = (all-from x.moment (xs ++ ys) (each
     still : (xs : List Change) → Each (λ n. n ≡ m) xs → Each (λ n. x.moment ≤ n) xs
     still [] all = tt
     still (z ∷ zs) all = (omega (arith, here.0, all.0), still zs all.1)
+
     behind : (ys : List Change) → Each (λ n. m ≤ n) ys → Each (λ n. x.moment ≤ n) ys
     behind [] all = tt
     behind (z ∷ zs) all = (omega (arith, here.0, all.0), behind zs all.1)

@@ -56,6 +56,7 @@ nothing-covered on t space tree fields c old p none =
     still : (on : Option (List ℕ)) → on_points on [] ≡ []
     still None = refl
     still (Some listed) = refl
+
     shut : (b : Bool) → (b && false) ≡ false
     shut true = refl
     shut false = refl

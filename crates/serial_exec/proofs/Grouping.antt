@@ -186,6 +186,7 @@ ends-agree groups added cs adds agree = (λ e. empty cs adds (agree.0 e), λ e. 
     made : (a : Action) → IsAddedBy a → (o : ℕ) × (first_op (with_added a []) ≡ Some o)
     made (Put base) one = absurd one
     made (Add op d) one = (op, first-of op d)
+
     empty : (cs : List Change) → AllByRecursion IsAdded cs → [] ≡ summed [] cs → cs ≡ []
     empty [] all e = refl
     empty (c ∷ cs) all e = let first = made c.action all.0 in absurd (none-some first.0 (ap first_op e ∙ summed-first cs (with_added c.action []) first.0 first.1))
@@ -234,6 +235,7 @@ raw-is v Raw cs well all is raw = value-is v (plain Raw) is (well.raw_is_plain i
     step : (a : Action) → IsAddedBy a → acted_by a (plain Raw) ≡ plain Raw
     step (Put base) one = absurd one
     step (Add op d) one = add_raw op ((d, 1) ∷ [])
+
     still : (cs : List Change) → AllByRecursion IsAdded cs → after_changes cs (plain Raw) ≡ plain Raw
     still [] all = refl
     still (c ∷ cs) all = ap (after_changes cs) (step c.action all.0) ∙ still cs all.1

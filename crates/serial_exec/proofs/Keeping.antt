@@ -66,9 +66,11 @@ versions-of on t moments h places are = record {
   where
     from_zero : (n : ℕ) → n ≡ 0 + n
     from_zero n = omega arith
+
     places_cut : (on : Option (List ℕ)) (t : Tables) (item : ℕ) → serial_place (cut_to on t) item ≡ serial_place t item
     places_cut None t item = refl
     places_cut (Some listed) t item = refl
+
     wanted_cut : (on : Option (List ℕ)) (t : Tables) (item : ℕ) (p : Place) → wanted (cut_to on t) item p ≡ after_items (cut_to on t) (take (serial_place t item) (serial t)) p (plain Init)
     wanted_cut None t item p = refl
     wanted_cut (Some listed) t item p = refl

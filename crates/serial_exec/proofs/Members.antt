@@ -44,6 +44,7 @@ both_from ys xs q h =
     left : (a b : Bool) → (a && b) ≡ true → a ≡ true
     left true b h = refl
     left false b h = h
+
     right : (a b : Bool) → (a && b) ≡ true → b ≡ true
     right true b h = h
     right false b h = absurd (true≢false (sym h))

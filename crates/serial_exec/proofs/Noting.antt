@@ -156,6 +156,7 @@ points-first c pts next tree fields old least = (least_is_point pts 0 next least
     closed true false h f shut = refl
     closed true true false f shut = refl
     closed true true true f shut = absurd (true≢false (shut refl))
+
     none : (p : Place) → (is_behind next p.point && covered tree pts fields p) ≡ false
     none p = closed (is_behind next p.point) (tree == p.tree) (is_in pts p.point) (is_in fields p.field) (behind_later pts 0 p.point next least (omega arith))
 
@@ -173,6 +174,7 @@ points-more c pts (Some y) next x tree fields old mid new is before after least 
   where
     same : y ≡ x
     same = cc
+
     each : (p : Place) → new p ≡ old p ++ cond (is_behind next p.point && covered tree pts fields p) (c ∷ []) []
     each p =
         after p

@@ -67,13 +67,7 @@ fn times(change: &Change, c: Contribution) -> u64
     ensures once { result ≤ 1 }
 {
     match change.action {
-        Action::Add { by, .. } => {
-            if c == by {
-                1
-            } else {
-                0
-            }
-        }
+        Action::Add { by, .. } => { if c == by { 1 } else { 0 } }
         Action::Put(_) => 0,
     }
 }

@@ -57,7 +57,9 @@ fn note_req<'a, P: PointSet + Copy, Q: PointSet>(
         Some(action) => {
             let change = Change { moment, action };
             let fields = req.fields.as_slice();
-            note_in_space(alloc, histories, log, listed, req.tree, req.space, fields, change)
+            note_in_space(
+                alloc, histories, log, listed, req.tree, req.space, fields, change,
+            )
         }
         None => Ok(()),
     }
@@ -146,7 +148,15 @@ pub(crate) fn histories_of<'a, P: PointSet + Copy, Q: PointSet>(
     let mut histories = Histories::new(alloc);
     let order = log.serial();
     for moment in 0..order.len() {
-        note_item(alloc, &mut histories, log, listed, &own, moment, order[moment])?;
+        note_item(
+            alloc,
+            &mut histories,
+            log,
+            listed,
+            &own,
+            moment,
+            order[moment],
+        )?;
     }
     Ok(histories)
 }

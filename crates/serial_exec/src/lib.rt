@@ -8,6 +8,8 @@ mod histories;
 mod own_reqs;
 mod points;
 mod sums;
+#[cfg(test)]
+mod tests;
 mod versions;
 
 pub use versions::Versions;

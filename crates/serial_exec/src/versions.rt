@@ -58,7 +58,10 @@ impl Versions {
     }
 
     /// The versions at all points.
-    pub fn build<'a, P: PointSet + Copy>(alloc: Global, log: &Log<'a, P>) -> Result<Versions, Memory>
+    pub fn build<'a, P: PointSet + Copy>(
+        alloc: Global,
+        log: &Log<'a, P>,
+    ) -> Result<Versions, Memory>
         ensures { IfOk result (λ v. AreVersionsOf log.now v) }
     {
         Versions::of::<P, PointList>(alloc, log, None)
@@ -79,6 +82,13 @@ impl Versions {
             unreachable!()
         };
         Versions::of(alloc, log, Some(&listed))
+    }
+
+    /// How many items the log has.
+    pub fn len(&self) -> usize
+        ensures { result ≡ length self.now.moments }
+    {
+        self.moments.len()
     }
 
     /// The changes at a place by the items before an item.

@@ -12,8 +12,7 @@ pub loop-change-preserved : goal.loop-change-preserved
 loop-change-preserved c =
     let x : Change = record { moment = 0; action = Put bases.Raw } in
     let most : c.loop-change.count ≤ c.loop-change.change-index = c.loop-change.invariant.1 in
-    let once : c.times-count.result ≤ 1 = c.times-count.ensures.once in
-    (
+    let once : c.times-count.result ≤ 1 = c.times-count.ensures.once in (
       count-more c.args.c c.args.run.now c.loop-change.change-index x c.loop-change.count c.times-count.result c.loop-change-test.true c.loop-change.invariant.0 c.times-count.ensures.count,
       omega (arith, most, once),
     )

@@ -17,8 +17,7 @@ returns-then-is_raw c =
 pub returns : goal.returns
 returns c =
     let same = sym c.base.ensures ∙ c.same_base.ensures.0 c.if-not-same_base.false in
-    let solid = sym c.is_raw.ensures ∙ c.if-is_raw.false in
-    (
+    let solid = sym c.is_raw.ensures ∙ c.if-is_raw.false in (
       λ h. groups-tell c.args.v.now c.args.base c.args.added.now c.requires same solid (sym c.groups.ensures ∙ c.are_sums.ensures.0 h),
       λ e. c.are_sums.ensures.1 (c.groups.ensures ∙ groups-of c.args.v.now c.args.base c.args.added.now c.requires solid e),
     )

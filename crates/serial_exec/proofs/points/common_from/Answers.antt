@@ -17,8 +17,7 @@ returns-then-theirs-ours g c =
     let ys = g.Q.PointSet.points c.args.other.now in
     let xs = g.P.PointSet.points c.args.set.now in
     let from : c.loop-ours.from ≤ c.in-Some.ours = c.in-Some.ensures.0.1 in
-    let low : c.args.low ≤ c.loop-ours.from = c.loop-ours.invariant.0 in
-    (
+    let low : c.args.low ≤ c.loop-ours.from = c.loop-ours.invariant.0 in (
       (from_both ys xs c.in-Some.ours c.in-Some.ensures.0.0 (subst (Contains ys) c.if-theirs-ours.true c.in-Some-next_from.ensures.0.0), omega (arith, from, low)),
       λ q h. let b = both_from ys xs q h.0 in c.in-Some.ensures.1 q (b.0, c.loop-ours.invariant.1 q h.1 b.0 b.1),
     )
@@ -27,8 +26,7 @@ pub loop-ours-preserved : goal.loop-ours-preserved
 loop-ours-preserved g c =
     let from : c.loop-ours.from ≤ c.in-Some.ours = c.in-Some.ensures.0.1 in
     let low : c.args.low ≤ c.loop-ours.from = c.loop-ours.invariant.0 in
-    let on : c.in-Some.ours ≤ c.in-Some-next_from.theirs = c.in-Some-next_from.ensures.0.1 in
-    (
+    let on : c.in-Some.ours ≤ c.in-Some-next_from.theirs = c.in-Some-next_from.ensures.0.1 in (
       omega (arith, from, low, on),
       λ q above ours theirs. c.in-Some-next_from.ensures.1 q (theirs, c.in-Some.ensures.1 q (ours, c.loop-ours.invariant.1 q above ours theirs)),
     )
