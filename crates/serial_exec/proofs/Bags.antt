@@ -1,10 +1,10 @@
 -- When a bag has just what changes add.
-use Rattle.std.proofs.Common.{◌≡◌, ℕ, zero, suc, ◌+◌, ◌<◌, ◌≤◌, Bool, true, false, ◌||◌, cond, List, [], ◌∷◌, ◌++◌, take, drop, length, get_or, refl, sym, ap, subst, ◌∙◌, inl, inr, arith, if◌then◌else◌}
+use Rattle.std.proofs.Common.{◌≡◌, ℕ, zero, suc, ◌+◌, ◌<◌, Bool, true, false, ◌||◌, List, [], ◌∷◌, ◌++◌, take, drop, length, get_or, refl, sym, ap, subst, ◌∙◌, arith}
 use Rattle.std.specs.List.{AllByRecursion}
-use Rattle.std.proofs.lemmas.Bool.{cases_Bool, true≢false}
+use Rattle.std.proofs.lemmas.Bool.{true≢false}
 use Rattle.value_terms.specs.declared.terms.Base.TheVariants.{Init}
 use Rattle.value_terms.specs.declared.terms.Contribution.{Contribution}
-use Rattle.value_terms.specs.Values.{Bag, plain, same_contribution, comes_before, count_in, joined, add, extended, CountsEach, Ascends, IsWellFormedBag, IsWellFormed}
+use Rattle.value_terms.specs.Values.{Bag, plain, same_contribution, comes_before, count_in, joined, add, extended, CountsEach, IsWellFormedBag}
 use Rattle.value_terms.proofs.Order.{same_decides, before_differ}
 use Rattle.value_terms.proofs.Counting.{count_joined, equal_by_counts, rest_of}
 use Rattle.value_terms.proofs.WellFormed.{joined_anew, plain_well_formed, add_well_formed}

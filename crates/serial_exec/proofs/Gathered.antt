@@ -1,6 +1,6 @@
 -- What items do, gathered in serial order from tables that are cut to listed points.
 use Rattle.std.proofs.Common.{◌≡◌, ℕ, zero, suc, ◌+◌, ◌<◌, ◌≤◌, ◌==◌, ◌&&◌, Bool, true, false, cond, List, [], ◌∷◌, ◌++◌, map, take, filter, length, get_or, slice_get, All, Option, Some, None, Result, Ok, Err, OnOk, refl, sym, ap, subst, ◌∙◌, inl, inr, arith}
-use Rattle.std.specs.List.{find, filter_map}
+use Rattle.std.specs.List.{find}
 use Rattle.std.specs.Option.{option_map_or}
 use Rattle.std.proofs.lemmas.Bool.{cases_Bool}
 use Rattle.std.proofs.lemmas.List.Elements.{filter_map-append}
@@ -16,7 +16,7 @@ use Rattle.std.specs.List.Sorted.{IsStrictlyIncreasing}
 use Rattle.semantics.specs.declared.tables.Req.{Req}
 use Rattle.semantics.specs.Tables.{Tables, Space}
 use Rattle.semantics.specs.Points.{is_in, points_in}
-use Rattle.semantics.specs.Kinds.{reqs_of, uses_of, uses_of_item}
+use Rattle.semantics.specs.Kinds.{reqs_of, uses_of_item}
 use Rattle.semantics.specs.SerialOrder.{serial}
 use Rattle.point_laws.specs.Cut.{cut, cut_space}
 use Rattle.serial_exec.specs.declared.change.Action.{Action}

@@ -1,5 +1,5 @@
 -- What is kept of places is what sequential execution wants.
-use Rattle.std.proofs.Common.{◌≡◌, ℕ, zero, suc, ◌+◌, ◌-◌, ◌<◌, ◌≤◌, ◌==◌, nat_lt, Bool, true, false, cond, List, [], ◌∷◌, ◌++◌, map, take, drop, filter, length, get_or, Option, Some, None, refl, sym, ap, subst, ◌∙◌, inl, inr, arith}
+use Rattle.std.proofs.Common.{◌≡◌, ℕ, zero, suc, ◌+◌, ◌-◌, ◌<◌, ◌≤◌, Bool, true, false, cond, List, [], ◌∷◌, map, take, drop, filter, length, get_or, Option, Some, None, refl, sym, ap, subst, ◌∙◌, inl, inr, arith}
 use Rattle.std.specs.List.{AllByRecursion, AllWithin}
 use Rattle.std.specs.List.Sorted.{IsNonDecreasingBy}
 use Rattle.std.specs.Map.{lookup}
@@ -18,12 +18,12 @@ use Rattle.log_decl.specs.Listing.{ArePlacesIn}
 use Rattle.serial_exec.specs.declared.change.Change.{Change}
 use Rattle.serial_exec.specs.declared.change.PlaceKey.{PlaceKey}
 use Rattle.serial_exec.specs.declared.histories.Histories.{Histories}
-use Rattle.serial_exec.specs.Changes.{after_changes, acted_by, before, items_changes, IsAdded, IsAddedBy}
+use Rattle.serial_exec.specs.Changes.{after_changes, acted_by, before, items_changes, IsAdded}
 use Rattle.serial_exec.specs.Cutting.{cut_to}
 use Rattle.serial_exec.specs.Histories.{same_key, changes_at, key_of}
-use Rattle.serial_exec.specs.Kept.{Kept, kept, changes_in, AreInOrder, AreVersionsOf, value_at}
+use Rattle.serial_exec.specs.Kept.{kept, changes_in, AreInOrder, AreVersionsOf}
 use Rattle.serial_exec.proofs.Changing.{before-items, items-changes, Rises, items-rise}
-use Rattle.serial_exec.proofs.Gathered.{serial_cut, items_cut}
+use Rattle.serial_exec.proofs.Gathered.{items_cut}
 
 lookup-mapped : {V : Type 0} (items : V → List Change) (test : PlaceKey → Bool) (es : List (PlaceKey × V)) → unwrap_or (lookup test (map (λ e. (e.0, items e.1)) es)) [] ≡ option_map_or items (lookup test es) []
 lookup-mapped items test [] = refl

@@ -32,7 +32,9 @@ fn note_in_space<'a, P: PointSet + Copy, Q: PointSet>(
     change: Change,
 ) -> Result<(), AllocError>
     requires { IsStrictlyIncreasing fields.now }
-    ensures { OnOk result (Adds change (covered tree (points_in (cut_to (option_map (λ q. Q.points q.now) listed.entry) log.now) space) fields.now) (changes_at histories.old) (changes_at histories.new)) }
+    ensures { OnOk result (Adds change
+        (covered tree (points_in (cut_to (option_map (λ q. Q.points q.now) listed.entry) log.now) space) fields.now)
+        (changes_at histories.old) (changes_at histories.new)) }
 {
     match log.set(space) {
         Some(set) => histories.note_all(alloc, set, listed, tree, fields, change),
@@ -51,7 +53,8 @@ fn note_req<'a, P: PointSet + Copy, Q: PointSet>(
     req: &Req,
 ) -> Result<(), AllocError>
     requires { IsStrictlyIncreasing req.now.fields }
-    ensures { OnOk result ((p : Place) → changes_at histories.new p ≡ changes_at histories.old p ++ use_changes (cut_to (option_map (λ q. Q.points q.now) listed.entry) log.now) moment (by_task task) req.now p) }
+    ensures { OnOk result ((p : Place) → changes_at histories.new p ≡ changes_at histories.old p ++
+        use_changes (cut_to (option_map (λ q. Q.points q.now) listed.entry) log.now) moment (by_task task) req.now p) }
 {
     match task_action(task, req.number, req.access) {
         Some(action) => {
@@ -75,7 +78,9 @@ fn note_req_at<'a, P: PointSet + Copy, Q: PointSet>(
     task: u32,
     k: usize,
 ) -> Result<(), AllocError>
-    ensures { OnOk result ((p : Place) → changes_at histories.new p ≡ changes_at histories.old p ++ uses_changes (cut_to (option_map (λ q. Q.points q.now) listed.entry) log.now) moment (by_task task) (reqs_at log.now.reqs (k ∷ [])) p) }
+    ensures { OnOk result ((p : Place) → changes_at histories.new p ≡ changes_at histories.old p ++
+        uses_changes (cut_to (option_map (λ q. Q.points q.now) listed.entry) log.now) moment (by_task task)
+        (reqs_at log.now.reqs (k ∷ [])) p) }
 {
     match log.reqs().get(k) {
         Some(req) => note_req(alloc, histories, log, listed, moment, task, req),
@@ -93,7 +98,9 @@ fn note_reqs<'a, P: PointSet + Copy, Q: PointSet>(
     task: u32,
     own: &[usize],
 ) -> Result<(), AllocError>
-    ensures { OnOk result ((p : Place) → changes_at histories.new p ≡ changes_at histories.old p ++ uses_changes (cut_to (option_map (λ q. Q.points q.now) listed.entry) log.now) moment (by_task task) (reqs_at log.now.reqs own.now) p) }
+    ensures { OnOk result ((p : Place) → changes_at histories.new p ≡ changes_at histories.old p ++
+        uses_changes (cut_to (option_map (λ q. Q.points q.now) listed.entry) log.now) moment (by_task task)
+        (reqs_at log.now.reqs own.now) p) }
 {
     for k in own {
         note_req_at(alloc, histories, log, listed, moment, task, *k)?;
@@ -112,7 +119,8 @@ fn note_item<'a, P: PointSet + Copy, Q: PointSet>(
     item: usize,
 ) -> Result<(), AllocError>
     requires { AreOwn log.now.reqs log.now.reqs (length log.now.items) (map (λ w. w.items) own.now) }
-    ensures { OnOk result ((p : Place) → changes_at histories.new p ≡ changes_at histories.old p ++ item_changes (cut_to (option_map (λ q. Q.points q.now) listed.entry) log.now) moment item p) }
+    ensures { OnOk result ((p : Place) → changes_at histories.new p ≡ changes_at histories.old p ++
+        item_changes (cut_to (option_map (λ q. Q.points q.now) listed.entry) log.now) moment item p) }
 {
     log.fill_fields_ascend();
     let Some(found) = log.items().get(item) else {
@@ -142,7 +150,8 @@ pub(crate) fn histories_of<'a, P: PointSet + Copy, Q: PointSet>(
     log: &Log<'a, P>,
     listed: Option<&Q>,
 ) -> Result<Histories, AllocError>
-    ensures { IfOk result (λ h. (p : Place) → changes_at h p ≡ items_changes (cut_to (option_map (λ q. Q.points q.now) listed.entry) log.now) 0 (serial log.now) p) }
+    ensures { IfOk result (λ h. (p : Place) → changes_at h p
+        ≡ items_changes (cut_to (option_map (λ q. Q.points q.now) listed.entry) log.now) 0 (serial log.now) p) }
 {
     let own = own_reqs(alloc, log.items().len(), log.reqs())?;
     let mut histories = Histories::new(alloc);

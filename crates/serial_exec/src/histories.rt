@@ -32,7 +32,8 @@ impl Histories {
 
     /// One change more at a place.
     fn note(&mut self, alloc: Global, key: PlaceKey, change: Change) -> Result<(), AllocError>
-        ensures { OnOk result ((p : Place) → changes_at self.new p ≡ changes_at self.old p ++ (if same_key key (key_of p) then change ∷ [] else [])) }
+        ensures { OnOk result ((p : Place) → changes_at self.new p
+            ≡ changes_at self.old p ++ (if same_key key (key_of p) then change ∷ [] else [])) }
     {
         if let Some(list) = self.lists.get_mut(&key) {
             list.push(change)?;
@@ -54,7 +55,8 @@ impl Histories {
         change: Change,
     ) -> Result<(), AllocError>
         requires { IsStrictlyIncreasing fields.now }
-        ensures { OnOk result (Adds change (covered tree (point ∷ []) fields.now) (changes_at self.old) (changes_at self.new)) }
+        ensures { OnOk result (Adds change (covered tree (point ∷ []) fields.now)
+            (changes_at self.old) (changes_at self.new)) }
     {
         for field in fields {
             let key = PlaceKey {
@@ -78,7 +80,9 @@ impl Histories {
         change: Change,
     ) -> Result<(), AllocError>
         requires { IsStrictlyIncreasing fields.now }
-        ensures { OnOk result (Adds change (covered tree (on_points (option_map (λ q. Q.points q.now) listed.entry) (P.points set.now)) fields.now) (changes_at self.old) (changes_at self.new)) }
+        ensures { OnOk result (Adds change
+            (covered tree (on_points (option_map (λ q. Q.points q.now) listed.entry) (P.points set.now)) fields.now)
+            (changes_at self.old) (changes_at self.new)) }
     {
         let mut next = next_point(set, listed, 0);
         while let Some(point) = next {

@@ -46,7 +46,8 @@ pub(crate) fn point_above<P: PointSet, Q: PointSet>(
     listed: Option<&Q>,
     point: u64,
 ) -> Option<u64>
-    ensures { IsLeastFrom (on_points (option_map (λ q. Q.points q.now) listed.entry) (P.points set.now)) (point + 1) result }
+    ensures { IsLeastFrom (on_points (option_map (λ q. Q.points q.now) listed.entry) (P.points set.now))
+        (point + 1) result }
 {
     next_point(set, listed, point.checked_add(1)?)
 }

@@ -50,7 +50,8 @@ impl Versions {
         log: &Log<'a, P>,
         listed: Option<&Q>,
     ) -> Result<Versions, Memory>
-        ensures { IfOk result (λ v. AreVersionsOf (cut_to (option_map (λ q. Q.points q.now) listed.entry) log.now) v) }
+        ensures { IfOk result (λ v. AreVersionsOf
+            (cut_to (option_map (λ q. Q.points q.now) listed.entry) log.now) v) }
     {
         let moments = Vec::from_slice(alloc, log.serial_places())?;
         let histories = histories_of(alloc, log, listed)?;
@@ -75,7 +76,8 @@ impl Versions {
     ) -> Result<Versions, Memory>
         requires { IsStrictlyIncreasing points.now }
         ensures cut { IfOk result (λ v. AreVersionsOf (cut points.now log.now) v) }
-        ensures listed { IfOk result (λ v. (item : ℕ) (p : Place) → item < length log.now.items → is_in points.now p.point ≡ true → value_at v item p ≡ wanted log.now item p) }
+        ensures listed { IfOk result (λ v. (item : ℕ) (p : Place) → item < length log.now.items
+            → is_in points.now p.point ≡ true → value_at v item p ≡ wanted log.now item p) }
     {
         cut_tables_keep_points();
         let Some(listed) = PointList::over(points) else {

@@ -1,4 +1,4 @@
-use Rattle.std.proofs.Common.{◌≡◌, ℕ, ◌<◌, ◌≤◌, List, drop, sym, subst, arith, length, refl, ◌∙◌}
+use Rattle.std.proofs.Common.{ℕ, List, drop, sym, subst, arith, refl, ◌∙◌}
 use Rattle.std.proofs.lemmas.Bool.{true≢false}
 use Rattle.serial_exec.specs.declared.change.Change.{Change}
 use Rattle.serial_exec.specs.Summed.{BeginsOther, IsRest}

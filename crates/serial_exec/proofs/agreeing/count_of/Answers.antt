@@ -1,4 +1,4 @@
-use Rattle.std.proofs.Common.{◌≡◌, ◌≤◌, arith}
+use Rattle.std.proofs.Common.{◌≤◌, arith}
 use Rattle.value_terms.specs.declared.terms.Base.TheVariants as bases
 use Rattle.serial_exec.specs.declared.change.Action.TheVariants.{Put}
 use Rattle.serial_exec.specs.declared.change.Change.{Change}

@@ -1,4 +1,4 @@
-use Rattle.std.proofs.Common.{◌≡◌, ℕ, get_or, refl, sym, ap, ◌∙◌, arith}
+use Rattle.std.proofs.Common.{get_or, refl, arith}
 use Rattle.value_terms.specs.declared.terms.Base.TheVariants as bases
 use Rattle.value_terms.specs.declared.terms.Contribution.{Contribution}
 use Rattle.serial_exec.specs.declared.change.Action.TheVariants.{Put}

@@ -1,4 +1,4 @@
-use Rattle.std.proofs.Common.{refl, sym, ◌∙◌, ap, ◌≡◌}
+use Rattle.std.proofs.Common.{refl, sym, ◌∙◌}
 use Rattle.std.proofs.lemmas.Bool.{true≢false}
 use Rattle.serial_exec.proofs.Grouping.{other-base, raw-is, groups-tell, groups-of}
 use Rattle.serial_exec.proofs.agreeing.is_sum.Goals as goal

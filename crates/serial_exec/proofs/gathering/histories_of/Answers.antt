@@ -1,4 +1,4 @@
-use Rattle.std.proofs.Common.{◌≡◌, ◌<◌, ◌∙◌, sym, ap, subst, arith, length, get_or}
+use Rattle.std.proofs.Common.{◌<◌, ap, subst, length, get_or}
 use Rattle.std.specs.Option.{option_map}
 use Rattle.semantics.specs.SerialOrder.{serial}
 use Rattle.serial_exec.specs.Cutting.{cut_to}

@@ -1,8 +1,7 @@
-use Rattle.std.proofs.Common.{◌≡◌, ℕ, List, sym, ap, subst, ◌∙◌, OnOk}
+use Rattle.std.proofs.Common.{ℕ, List, sym, ap, subst, ◌∙◌, OnOk}
 use Rattle.std.specs.Option.{option_map}
-use Rattle.semantics.specs.Points.{points_in}
 use Rattle.serial_exec.specs.Changes.{Adds, covered}
-use Rattle.serial_exec.specs.Cutting.{on_points, cut_to}
+use Rattle.serial_exec.specs.Cutting.{on_points}
 use Rattle.serial_exec.specs.Histories.{changes_at}
 use Rattle.serial_exec.proofs.Gathered.{points_cut, nothing-covered}
 use Rattle.serial_exec.proofs.gathering.note_in_space.Goals as goal

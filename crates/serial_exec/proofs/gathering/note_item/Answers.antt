@@ -1,4 +1,4 @@
-use Rattle.std.proofs.Common.{◌≡◌, ◌++◌, ◌∙◌, List, [], ◌∷◌, sym, ap, subst, arith, length, get_or, map, cond, All, ◌<◌}
+use Rattle.std.proofs.Common.{◌≡◌, ◌++◌, ◌∙◌, [], ◌∷◌, sym, ap, subst, arith, length, get_or, map, cond, All, ◌<◌}
 use Rattle.std.specs.List.Sorted.{IsStrictlyIncreasing}
 use Rattle.log_tables.specs.Ascending.{body_fields}
 use Rattle.value_terms.specs.declared.terms.Base.TheVariants.{Const}
@@ -6,7 +6,7 @@ use Rattle.serial_exec.specs.declared.change.Action.TheVariants.{Put}
 use Rattle.std.specs.Option.{option_map}
 use Rattle.std.proofs.lemmas.List.{get_or-map, length-map}
 use Rattle.semantics.specs.Points.{points_in}
-use Rattle.serial_exec.specs.Changes.{covered, by_task, uses_changes}
+use Rattle.serial_exec.specs.Changes.{covered}
 use Rattle.serial_exec.specs.Cutting.{cut_to}
 use Rattle.serial_exec.specs.Histories.{changes_at}
 use Rattle.serial_exec.specs.OwnReqs.{reqs_at}

@@ -1,4 +1,4 @@
-use Rattle.std.proofs.Common.{◌≡◌, ◌∙◌, map, length, sym}
+use Rattle.std.proofs.Common.{◌∙◌}
 use Rattle.std.proofs.lemmas.List.{length-map}
 use Rattle.serial_exec.proofs.Owned.{none-are_own, more-are_own}
 use Rattle.serial_exec.proofs.own_reqs.own_reqs.Goals as goal

@@ -1,4 +1,4 @@
-use Rattle.std.proofs.Common.{ℕ, ◌≤◌, Contains, subst, arith}
+use Rattle.std.proofs.Common.{◌≤◌, Contains, subst, arith}
 use Rattle.serial_exec.proofs.Members.{both_from, from_both}
 use Rattle.serial_exec.proofs.points.common_from.Goals as goal
 

@@ -1,4 +1,4 @@
-use Rattle.std.proofs.Common.{ℕ, ◌≤◌, length, drop}
+use Rattle.std.proofs.Common.{◌≤◌, length, drop}
 use Rattle.std.specs.List.{AllByRecursion}
 use Rattle.serial_exec.specs.Changes.{IsAdded}
 use Rattle.serial_exec.proofs.sums.latest.Given as goal

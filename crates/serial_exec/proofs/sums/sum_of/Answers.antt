@@ -1,4 +1,4 @@
-use Rattle.std.proofs.Common.{◌≡◌, ◌≤◌, ◌+◌, ◌∙◌, sym, ap, get_or, arith}
+use Rattle.std.proofs.Common.{◌≤◌, ◌+◌, ◌∙◌, sym, ap, get_or, arith}
 use Rattle.value_terms.specs.Values.{plain, weight_of}
 use Rattle.value_terms.specs.declared.terms.Base.TheVariants as bases
 use Rattle.serial_exec.specs.declared.change.Action.TheVariants.{Put}

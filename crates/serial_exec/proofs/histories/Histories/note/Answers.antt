@@ -1,7 +1,7 @@
-use Rattle.std.proofs.Common.{rules, ◌≡◌, ◌++◌, ◌∷◌, [], ap, sym, ◌∙◌, IsSome, subst, Option, refl, cond}
+use Rattle.std.proofs.Common.{◌++◌, ◌∷◌, [], ap, sym, ◌∙◌, IsSome, subst, refl, cond}
 use Rattle.std.specs.HashMap.{get}
 use Rattle.std.specs.Option.{option_map_or, option_copied_mut}
-use Rattle.serial_exec.specs.Histories.{same_key, changes_at, key_of}
+use Rattle.serial_exec.specs.Histories.{same_key, key_of}
 use Rattle.serial_exec.proofs.Noting.{list-put}
 use Rattle.serial_exec.proofs.histories.Histories.note.Goals as goal
 
