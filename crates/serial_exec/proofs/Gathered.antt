@@ -1,0 +1,174 @@
+-- What items do, gathered in serial order from tables that are cut to listed points.
+use Rattle.std.proofs.Common.{◌≡◌, ℕ, zero, suc, ◌+◌, ◌<◌, ◌≤◌, ◌==◌, ◌&&◌, Bool, true, false, cond, List, [], ◌∷◌, ◌++◌, map, take, filter, length, get_or, slice_get, All, Option, Some, None, Result, Ok, Err, OnOk, refl, sym, ap, subst, ◌∙◌, inl, inr, arith}
+use Rattle.std.specs.List.{find}
+use Rattle.std.specs.Option.{option_map_or}
+use Rattle.std.proofs.lemmas.Bool.{cases_Bool}
+use Rattle.std.proofs.lemmas.List.Elements.{filter_map-append}
+use Rattle.std.proofs.lemmas.Option.{slice_get-get_or, slice_get_past}
+use Rattle.std.proofs.Math.Seq.{take-suc}
+use Rattle.semantics.specs.declared.places.Place.{Place}
+use Rattle.semantics.specs.declared.tables.Item.{Item}
+use Rattle.semantics.specs.declared.tables.ItemBody.TheVariants.{Task, Fill}
+use Rattle.semantics.specs.declared.tables.ItemBody.{ItemBody}
+use Rattle.value_terms.specs.declared.terms.Base.TheVariants.{Const}
+use Rattle.log_tables.specs.Ascending.{body_fields}
+use Rattle.std.specs.List.Sorted.{IsStrictlyIncreasing}
+use Rattle.semantics.specs.declared.tables.Req.{Req}
+use Rattle.semantics.specs.Tables.{Tables, Space}
+use Rattle.semantics.specs.Points.{is_in, points_in}
+use Rattle.semantics.specs.Kinds.{reqs_of, uses_of_item}
+use Rattle.semantics.specs.SerialOrder.{serial}
+use Rattle.point_laws.specs.Cut.{cut, cut_space}
+use Rattle.serial_exec.specs.declared.change.Action.{Action}
+use Rattle.serial_exec.specs.declared.change.Action.TheVariants.{Put}
+use Rattle.serial_exec.specs.declared.change.Change.{Change}
+use Rattle.serial_exec.specs.Changes.{action_of, by_task, covered, use_changes, uses_changes, item_changes, items_changes}
+use Rattle.serial_exec.specs.Cutting.{on_points, cut_to}
+use Rattle.serial_exec.specs.OwnReqs.{reqs_at}
+use Rattle.serial_exec.proofs.Noting.{append-none}
+
+-- ---- cut tables
+
+found_cut : (ps : List ℕ) (id : ℕ) (spaces : List Space)
+    → option_map_or (λ (s : Space). s.points) (find (λ (s : Space). s.id == id) (map (cut_space ps) spaces)) [] ≡ filter (is_in ps) (option_map_or (λ (s : Space). s.points) (find (λ (s : Space). s.id == id) spaces) [])
+found_cut ps id [] = refl
+found_cut ps id (s ∷ spaces) = elim (cases_Bool (s.id == id)) [ inl here ↦ rw here refl | inr other ↦ rw other (found_cut ps id spaces) ]
+
+pub points_cut : (on : Option (List ℕ)) (t : Tables) (id : ℕ) → points_in (cut_to on t) id ≡ on_points on (points_in t id)
+points_cut None t id = refl
+points_cut (Some listed) t id = found_cut listed id t.spaces
+
+pub serial_cut : (on : Option (List ℕ)) (t : Tables) → serial (cut_to on t) ≡ serial t
+serial_cut None t = refl
+serial_cut (Some listed) t = refl
+
+pub items_cut : (on : Option (List ℕ)) (t : Tables) → (cut_to on t).items ≡ t.items
+items_cut None t = refl
+items_cut (Some listed) t = refl
+
+-- A set without points covers nothing.
+pub nothing-covered : (on : Option (List ℕ)) (t : Tables) (space tree : ℕ) (fields : List ℕ) (c : Change) (old : List Change) (p : Place) → points_in t space ≡ []
+    → old ≡ old ++ cond (covered tree (points_in (cut_to on t) space) fields p) (c ∷ []) []
+nothing-covered on t space tree fields c old p none =
+    append-none old
+    ∙ ap (λ b. old ++ cond b (c ∷ []) []) (sym (ap (λ points. covered tree points fields p) (points_cut on t space ∙ ap (on_points on) none ∙ still on) ∙ shut (tree == p.tree)))
+  where
+    still : (on : Option (List ℕ)) → on_points on [] ≡ []
+    still None = refl
+    still (Some listed) = refl
+
+    shut : (b : Bool) → (b && false) ≡ false
+    shut true = refl
+    shut false = refl
+
+-- ---- requirement by requirement
+
+append-append : {X : Type 0} (xs ys zs : List X) → (xs ++ ys) ++ zs ≡ xs ++ (ys ++ zs)
+append-append [] ys zs = refl
+append-append (x ∷ xs) ys zs = ap (λ us. x ∷ us) (append-append xs ys zs)
+
+uses-append : (t : Tables) (moment : ℕ) (act : Req → Option Action) (rs qs : List Req) (p : Place) → uses_changes t moment act (rs ++ qs) p ≡ uses_changes t moment act rs p ++ uses_changes t moment act qs p
+uses-append t moment act [] qs p = refl
+uses-append t moment act (r ∷ rs) qs p = ap (λ xs. use_changes t moment act r p ++ xs) (uses-append t moment act rs qs p) ∙ sym (append-append (use_changes t moment act r p) _ _)
+
+take-more : {X : Type 0} (xs : List X) (i : ℕ) (d : X) → i < length xs → take (i + 1) xs ≡ take i xs ++ get_or xs i d ∷ []
+take-more xs i d lt = ap (λ n. take n xs) (let e : i + 1 ≡ suc i = omega arith in e) ∙ take-suc xs i d lt
+
+next-reqs : (all : List Req) (own : List ℕ) (i k : ℕ) → i < length own → k ≡ get_or own i 0 → reqs_at all (take (i + 1) own) ≡ reqs_at all (take i own) ++ reqs_at all (k ∷ [])
+next-reqs all own i k lt is =
+    ap (reqs_at all) (take-more own i 0 lt ∙ ap (λ j. take i own ++ j ∷ []) (sym is))
+    ∙ filter_map-append (λ j. slice_get all j) (take i own) (k ∷ [])
+
+pub uses-one : (t : Tables) (moment : ℕ) (act : Req → Option Action) (all : List Req) (k : ℕ) (r : Req) (p : Place) → slice_get all k ≡ Some r → use_changes t moment act r p ≡ uses_changes t moment act (reqs_at all (k ∷ [])) p
+uses-one t moment act all k r p at = rw at (append-none (use_changes t moment act r p))
+
+pub uses-none : (t : Tables) (moment : ℕ) (act : Req → Option Action) (all : List Req) (k : ℕ) (p : Place) (old : List Change) → slice_get all k ≡ None → old ≡ old ++ uses_changes t moment act (reqs_at all (k ∷ [])) p
+uses-none t moment act all k p old at = rw at (append-none old)
+
+pub uses-more : (t : Tables) (moment : ℕ) (act : Req → Option Action) (all : List Req) (own : List ℕ) (i k : ℕ) (p : Place) (old mid new : List Change)
+    → i < length own → k ≡ get_or own i 0
+    → mid ≡ old ++ uses_changes t moment act (reqs_at all (take i own)) p → new ≡ mid ++ uses_changes t moment act (reqs_at all (k ∷ [])) p
+    → new ≡ old ++ uses_changes t moment act (reqs_at all (take (i + 1) own)) p
+uses-more t moment act all own i k p old mid new lt is before after =
+    after
+    ∙ ap (λ xs. xs ++ uses_changes t moment act (reqs_at all (k ∷ [])) p) before
+    ∙ append-append old _ _
+    ∙ ap (λ xs. old ++ xs) (sym (uses-append t moment act (reqs_at all (take i own)) (reqs_at all (k ∷ [])) p))
+    ∙ ap (λ rs. old ++ uses_changes t moment act rs p) (sym (next-reqs all own i k lt is))
+
+-- ---- item by item
+
+pub item-of : (on : Option (List ℕ)) (t : Tables) (moment item : ℕ) (p : Place) (o : Option Item) → slice_get t.items item ≡ o
+    → item_changes (cut_to on t) moment item p ≡ option_map_or (λ i. uses_changes (cut_to on t) moment (action_of i) (uses_of_item t item i) p) o []
+item-of None t moment item p o at = rw at (by_option o)
+  where
+    by_option : (o : Option Item) → option_map_or (λ i. uses_changes t moment (action_of i) (option_map_or (uses_of_item t item) o []) p) o [] ≡ option_map_or (λ i. uses_changes t moment (action_of i) (uses_of_item t item i) p) o []
+    by_option None = refl
+    by_option (Some i) = refl
+item-of (Some listed) t moment item p o at = rw at (by_option o)
+  where
+    by_option : (o : Option Item) → option_map_or (λ i. uses_changes (cut listed t) moment (action_of i) (option_map_or (uses_of_item t item) o []) p) o [] ≡ option_map_or (λ i. uses_changes (cut listed t) moment (action_of i) (uses_of_item t item i) p) o []
+    by_option None = refl
+    by_option (Some i) = refl
+
+items-append : (t : Tables) (moment : ℕ) (xs : List ℕ) (item : ℕ) (p : Place) → items_changes t moment (xs ++ item ∷ []) p ≡ items_changes t moment xs p ++ item_changes t (moment + length xs) item p
+items-append t moment [] item p = sym (append-none _) ∙ ap (λ m. item_changes t m item p) (let e : moment ≡ moment + 0 = omega arith in e)
+items-append t moment (x ∷ xs) item p =
+    ap (λ cs. item_changes t moment x p ++ cs) (items-append t (moment + 1) xs item p)
+    ∙ ap (λ m. item_changes t moment x p ++ (items_changes t (moment + 1) xs p ++ item_changes t m item p)) (let e : (moment + 1) + length xs ≡ moment + suc (length xs) = omega arith in e)
+    ∙ sym (append-append (item_changes t moment x p) _ _)
+
+pub items-more : (t : Tables) (order : List ℕ) (k item : ℕ) (p : Place) (mid new : List Change) → k < length order → item ≡ get_or order k 0
+    → mid ≡ items_changes t 0 (take k order) p → new ≡ mid ++ item_changes t k item p → new ≡ items_changes t 0 (take (k + 1) order) p
+items-more t order k item p mid new lt is before after =
+    after
+    ∙ ap (λ xs. xs ++ item_changes t k item p) before
+    ∙ ap (λ m. items_changes t 0 (take k order) p ++ item_changes t m item p) (let e : k ≡ 0 + length (take k order) = at_end order k lt in e)
+    ∙ sym (items-append t 0 (take k order) item p)
+    ∙ ap (λ xs. items_changes t 0 xs p) (ap (λ x. take k order ++ x ∷ []) is ∙ sym (take-more order k 0 lt))
+  where
+    at_end : (xs : List ℕ) (k : ℕ) → k < length xs → k ≡ 0 + length (take k xs)
+    at_end [] k lt = absurd (omega (arith, lt))
+    at_end (x ∷ xs) zero lt = refl
+    at_end (x ∷ xs) (suc k) lt = let e : k ≡ 0 + length (take k xs) = at_end xs k (omega (arith, lt)) in omega (arith, e)
+
+pub no-item : (on : Option (List ℕ)) (t : Tables) (moment item : ℕ) (p : Place) (old : List Change) → slice_get t.items item ≡ None → old ≡ old ++ item_changes (cut_to on t) moment item p
+no-item on t moment item p old at = append-none old ∙ ap (λ xs. old ++ xs) (sym (item-of on t moment item p None at))
+
+pub task-item : (on : Option (List ℕ)) (t : Tables) (moment item : ℕ) (p : Place) (i : Item) (rs : List Req) → slice_get t.items item ≡ Some i → i.body ≡ Task → rs ≡ reqs_of t item
+    → uses_changes (cut_to on t) moment (by_task i.id) rs p ≡ item_changes (cut_to on t) moment item p
+task-item on t moment item p i rs at is own = ap (λ qs. uses_changes (cut_to on t) moment (by_task i.id) qs p) own ∙ sym (item-of on t moment item p (Some i) at ∙ by_body i.id i.line i.body is)
+  where
+    by_body : (id line : ℕ) (body : ItemBody) → body ≡ Task → (let i : Item = record { id = id; line = line; body = body } in uses_changes (cut_to on t) moment (action_of i) (uses_of_item t item i) p) ≡ uses_changes (cut_to on t) moment (by_task id) (reqs_of t item) p
+    by_body id line Task e = refl
+    by_body id line (Fill tree space fields n) e = absurd cc
+
+pub fill-item : (on : Option (List ℕ)) (t : Tables) (moment item : ℕ) (p : Place) (i : Item) (tree space : ℕ) (fields : List ℕ) (n : ℕ) → slice_get t.items item ≡ Some i → i.body ≡ Fill tree space fields n
+    → cond (covered tree (points_in (cut_to on t) space) fields p) ((let c : Change = record { moment = moment; action = Put (Const n) } in c) ∷ []) [] ≡ item_changes (cut_to on t) moment item p
+fill-item on t moment item p i tree space fields n at is = sym (item-of on t moment item p (Some i) at ∙ by_body i.id i.line i.body is)
+  where
+    by_body : (id line : ℕ) (body : ItemBody) → body ≡ Fill tree space fields n → (let i : Item = record { id = id; line = line; body = body } in uses_changes (cut_to on t) moment (action_of i) (uses_of_item t item i) p) ≡ cond (covered tree (points_in (cut_to on t) space) fields p) (record { moment = moment; action = Put (Const n) } ∷ []) []
+    by_body id line Task e = absurd cc
+    by_body id line (Fill tree_ space_ fields_ n_) e =
+        let same_tree : tree_ ≡ tree = cc in
+        let same_space : space_ ≡ space = cc in
+        let same_fields : fields_ ≡ fields = cc in
+        let same_n : n_ ≡ n = cc in
+        sym (append-none _) ∙ rw (same_tree, same_space, same_fields, same_n) refl
+
+-- The fields of a fill ascend.
+pub fill-fields : (its : List Item) (item : ℕ) (i : Item) (tree space : ℕ) (fields : List ℕ) (n : ℕ) → All (λ (i : Item). IsStrictlyIncreasing (body_fields i.body)) its → item < length its → i ≡ get_or its item i → i.body ≡ Fill tree space fields n → IsStrictlyIncreasing fields
+fill-fields its item i tree space fields n all lt at is =
+    subst (λ (b : ItemBody). IsStrictlyIncreasing (body_fields b)) is (subst (λ (j : Item). IsStrictlyIncreasing (body_fields j.body)) (sym at) (all item i lt))
+
+-- What stands at a position.
+pub item-here : (its items : List Item) (item : ℕ) (i : Item) → its ≡ items → item < length its → i ≡ get_or its item i → slice_get items item ≡ Some i
+item-here its items item i same lt at = ap (λ xs. slice_get xs item) (sym same) ∙ slice_get-get_or its item i lt ∙ ap (λ z. Some z) (sym at)
+
+pub item-past : (its items : List Item) (item : ℕ) → its ≡ items → length its ≤ item → slice_get items item ≡ None
+item-past its items item same le = ap (λ xs. slice_get xs item) (sym same) ∙ slice_get_past its item le
+
+-- What holds of an answer that is no error.
+pub on_ok : {T E P Q : Type 0} (r : Result T E) → (P → Q) → OnOk r P → OnOk r Q
+on_ok (Ok x) f p = f p
+on_ok (Err e) f p = p

@@ -1,0 +1,123 @@
+-- What is kept of places is what sequential execution wants.
+use Rattle.std.proofs.Common.{◌≡◌, ℕ, zero, suc, ◌+◌, ◌-◌, ◌<◌, ◌≤◌, Bool, true, false, cond, List, [], ◌∷◌, map, take, drop, filter, length, get_or, Option, Some, None, refl, sym, ap, subst, ◌∙◌, inl, inr, arith}
+use Rattle.std.specs.List.{AllByRecursion, AllWithin}
+use Rattle.std.specs.List.Sorted.{IsNonDecreasingBy}
+use Rattle.std.specs.Map.{lookup}
+use Rattle.std.specs.Option.{option_map_or, unwrap_or}
+use Rattle.std.proofs.lemmas.Bool.{cases_Bool}
+use Rattle.value_terms.specs.declared.terms.Base.{Base}
+use Rattle.value_terms.specs.declared.terms.Base.TheVariants.{Init}
+use Rattle.std.proofs.lemmas.List.{take_all, length-drop}
+use Rattle.serial_exec.specs.declared.change.Action.TheVariants.{Put}
+use Rattle.value_terms.specs.Values.{Value, plain}
+use Rattle.semantics.specs.declared.places.Place.{Place}
+use Rattle.semantics.specs.Tables.{Tables}
+use Rattle.semantics.specs.SerialOrder.{serial, serial_place}
+use Rattle.semantics.specs.Sequential.{wanted, after_items}
+use Rattle.log_decl.specs.Listing.{ArePlacesIn}
+use Rattle.serial_exec.specs.declared.change.Change.{Change}
+use Rattle.serial_exec.specs.declared.change.PlaceKey.{PlaceKey}
+use Rattle.serial_exec.specs.declared.histories.Histories.{Histories}
+use Rattle.serial_exec.specs.Changes.{after_changes, acted_by, before, items_changes, IsAdded}
+use Rattle.serial_exec.specs.Cutting.{cut_to}
+use Rattle.serial_exec.specs.Histories.{same_key, changes_at, key_of}
+use Rattle.serial_exec.specs.Kept.{kept, changes_in, AreInOrder, AreVersionsOf}
+use Rattle.serial_exec.proofs.Changing.{before-items, items-changes, Rises, items-rise}
+use Rattle.serial_exec.proofs.Gathered.{items_cut}
+
+lookup-mapped : {V : Type 0} (items : V → List Change) (test : PlaceKey → Bool) (es : List (PlaceKey × V)) → unwrap_or (lookup test (map (λ e. (e.0, items e.1)) es)) [] ≡ option_map_or items (lookup test es) []
+lookup-mapped items test [] = refl
+lookup-mapped items test (e ∷ es) = elim (cases_Bool (test e.0)) [
+  | inl here ↦ rw here refl
+  | inr other ↦ rw other (lookup-mapped items test es)
+]
+
+pub kept-changes : (moments : List ℕ) (h : Histories) (p : Place) → changes_in (kept moments h) p ≡ changes_at h p
+kept-changes moments h p = lookup-mapped (λ v. v.items) (same_key (key_of p)) h.lists.entries
+
+-- ---- in order
+
+rises-at : (cs : List Change) → Rises cs → (i j : ℕ) (d : Change) → i ≤ j → j < length cs → (get_or cs i d).moment ≤ (get_or cs j d).moment
+rises-at [] up i j d le lt = absurd (omega (arith, lt))
+rises-at (c ∷ cs) up zero zero d le lt = omega arith
+rises-at (c ∷ cs) up zero (suc j) d le lt = up.0 j d (omega (arith, lt))
+rises-at (c ∷ cs) up (suc i) zero d le lt = absurd (omega (arith, le))
+rises-at (c ∷ cs) up (suc i) (suc j) d le lt = rises-at cs up.1 i j d (omega (arith, le)) (omega (arith, lt))
+
+pub kept-in_order : (t : Tables) (moments : List ℕ) (h : Histories) → ((p : Place) → changes_at h p ≡ items_changes t 0 (serial t) p) → AreInOrder (kept moments h)
+kept-in_order t moments h are p = subst (λ cs. IsNonDecreasingBy (λ c. c.moment) cs) (sym (kept-changes moments h p ∙ are p)) (rises-at (items_changes t 0 (serial t) p) (items-rise t 0 (serial t) p))
+
+-- ---- what is wanted
+
+pub versions-of : (on : Option (List ℕ)) (t : Tables) (moments : List ℕ) (h : Histories) → ArePlacesIn (serial t) (length t.items) moments
+    → ((p : Place) → changes_at h p ≡ items_changes (cut_to on t) 0 (serial t) p) → AreVersionsOf (cut_to on t) (kept moments h)
+versions-of on t moments h places are = record {
+  each = places.each ∙ ap (λ its. length its) (sym (items_cut on t));
+  value = λ item p lt.
+      let inside : item < length t.items = subst (λ its. item < length its) (items_cut on t) lt in
+      let moment : get_or moments item 0 ≡ serial_place t item = places.place item inside in
+      let same : serial_place (cut_to on t) item ≡ serial_place t item = places_cut on t item in
+      ap (λ cs. after_changes (before (get_or moments item 0) cs) (plain Init)) (kept-changes moments h p ∙ are p)
+      ∙ ap (λ m. after_changes (before m (items_changes (cut_to on t) 0 (serial t) p)) (plain Init)) (moment ∙ from_zero (serial_place t item))
+      ∙ ap (λ cs. after_changes cs (plain Init)) (before-items (cut_to on t) 0 (serial_place t item) (serial t) p)
+      ∙ sym (items-changes (cut_to on t) 0 (take (serial_place t item) (serial t)) p (plain Init))
+      ∙ sym (wanted_cut on t item p);
+}
+  where
+    from_zero : (n : ℕ) → n ≡ 0 + n
+    from_zero n = omega arith
+
+    places_cut : (on : Option (List ℕ)) (t : Tables) (item : ℕ) → serial_place (cut_to on t) item ≡ serial_place t item
+    places_cut None t item = refl
+    places_cut (Some listed) t item = refl
+
+    wanted_cut : (on : Option (List ℕ)) (t : Tables) (item : ℕ) (p : Place) → wanted (cut_to on t) item p ≡ after_items (cut_to on t) (take (serial_place t item) (serial t)) p (plain Init)
+    wanted_cut None t item p = refl
+    wanted_cut (Some listed) t item p = refl
+
+-- ---- looking up
+
+pub taken-parted : (test : Change → Bool) (cs : List Change) (n : ℕ) → AllWithin (λ c. test c ≡ true) cs 0 n → AllWithin (λ c. test c ≡ false) cs n (length cs) → take n cs ≡ filter test cs
+taken-parted test [] zero early late = refl
+taken-parted test [] (suc n) early late = refl
+taken-parted test (c ∷ cs) zero early late =
+    let no_more : filter test (c ∷ cs) ≡ filter test cs = ap (λ b. cond b (c ∷ filter test cs) (filter test cs)) (late 0 c (omega arith) (omega arith)) in
+    taken-parted test cs zero (λ k d from below. absurd (omega (arith, below))) (λ k d from below. late (suc k) d (omega arith) (omega (arith, below))) ∙ sym no_more
+taken-parted test (c ∷ cs) (suc n) early late =
+    let one_more : filter test (c ∷ cs) ≡ c ∷ filter test cs = ap (λ b. cond b (c ∷ filter test cs) (filter test cs)) (early 0 c (omega arith) (omega arith)) in
+    ap (λ ds. c ∷ ds) (taken-parted test cs n (λ k d from below. early (suc k) d (omega arith) (omega (arith, below))) (λ k d from below. late (suc k) d (omega (arith, from)) (omega (arith, below)))) ∙ sym one_more
+
+-- ---- the latest
+
+pub after-split : (cs : List Change) (k : ℕ) (d : Change) (v : Value) → k < length cs → after_changes cs v ≡ after_changes (drop (k + 1) cs) (acted_by (get_or cs k d).action (after_changes (take k cs) v))
+after-split [] k d v lt = absurd (omega (arith, lt))
+after-split (c ∷ cs) zero d v lt = refl
+after-split (c ∷ cs) (suc k) d v lt = after-split cs k d (acted_by c.action v) (omega (arith, lt)) ∙ ap (λ n. after_changes (drop n (c ∷ cs)) (acted_by (get_or cs k d).action (after_changes (take k cs) (acted_by c.action v)))) (let e : suc (k + 1) ≡ suc k + 1 = omega arith in e)
+
+pub added-more : (cs : List Change) (k : ℕ) (d : Change) → k < length cs → IsAdded (get_or cs k d) → AllByRecursion IsAdded (drop (k + 1) cs) → AllByRecursion IsAdded (drop k cs)
+added-more [] k d lt one all = absurd (omega (arith, lt))
+added-more (c ∷ cs) zero d lt one all = (one, all)
+added-more (c ∷ cs) (suc k) d lt one all = added-more cs k d (omega (arith, lt)) one (subst (λ n. AllByRecursion IsAdded (drop n (c ∷ cs))) (let e : suc k + 1 ≡ suc (k + 1) = omega arith in e) all)
+
+pub none-added : (cs : List Change) → AllByRecursion IsAdded (drop (length cs) cs)
+none-added [] = tt
+none-added (c ∷ cs) = none-added cs
+
+pub after-more : (cs : List Change) (k : ℕ) (d : Change) (v : Value) → k < length cs → after_changes (take (k + 1) cs) v ≡ acted_by (get_or cs k d).action (after_changes (take k cs) v)
+after-more [] k d v lt = absurd (omega (arith, lt))
+after-more (c ∷ cs) zero d v lt = refl
+after-more (c ∷ cs) (suc k) d v lt = ap (λ n. after_changes (take n (c ∷ cs)) v) (let e : suc k + 1 ≡ suc (k + 1) = omega arith in e) ∙ after-more cs k d (acted_by c.action v) (omega (arith, lt))
+
+pub any-default : {X : Type 0} (xs : List X) (i : ℕ) (d e : X) → i < length xs → get_or xs i d ≡ get_or xs i e
+any-default [] i d e lt = absurd (omega (arith, lt))
+any-default (x ∷ xs) zero d e lt = refl
+any-default (x ∷ xs) (suc i) d e lt = any-default xs i d e (omega (arith, lt))
+
+pub rest-taken : (cs : List Change) (n : ℕ) → take (length cs - n) (drop n cs) ≡ drop n cs
+rest-taken cs n = take_all (length cs - n) (drop n cs) (let e : length (drop n cs) ≡ length cs - n = length-drop n cs in omega (arith, e))
+
+pub put-latest : (cs : List Change) (n : ℕ) (d : Change) (base : Base) (v : Value) → 0 < n → n ≤ length cs → (get_or cs (n - 1) d).action ≡ Put base → after_changes cs v ≡ after_changes (drop n cs) (plain base)
+put-latest cs n d base v some le is =
+    after-split cs (n - 1) d v (omega (arith, some, le))
+    ∙ ap (λ m. after_changes (drop m cs) (acted_by (get_or cs (n - 1) d).action (after_changes (take (n - 1) cs) v))) (let e : (n - 1) + 1 ≡ n = omega (arith, some) in e)
+    ∙ ap (λ a. after_changes (drop n cs) (acted_by a (after_changes (take (n - 1) cs) v))) is

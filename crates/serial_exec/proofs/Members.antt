@@ -1,0 +1,56 @@
+-- Numbers in lists, and in two lists.
+use Rattle.std.proofs.Common.{◌≡◌, ℕ, ◌==◌, Bool, true, false, ◌||◌, ◌&&◌, List, [], ◌∷◌, Contains, refl, sym, ap, subst, ◌∙◌, inl, inr, eq-eqb}
+use Rattle.std.proofs.lemmas.Bool.{cases_Bool, eqb-true, true≢false}
+use Rattle.std.proofs.lemmas.List.Folds.{Any-from_list_any, list_any-from_Any}
+use Rattle.semantics.specs.Points.{is_in}
+use Rattle.serial_exec.specs.Cutting.{common_points}
+
+-- a test for a member
+pub has_in : (xs : List ℕ) (x : ℕ) → is_in xs x ≡ true → Contains xs x
+has_in xs x h = let r = Any-from_list_any (λ m. m == x) xs h in subst (Contains xs) (eqb-true r.1 x r.4) (r.0, r.2, r.3)
+
+pub in_has : (xs : List ℕ) (x : ℕ) → Contains xs x → is_in xs x ≡ true
+in_has xs x h = list_any-from_Any (λ m. m == x) xs (h.0, x, h.1, h.2, eq-eqb x x refl)
+
+and_false : (b : Bool) → (b && false) ≡ false
+and_false true = refl
+and_false false = refl
+
+or_true : (b : Bool) → (b || true) ≡ true
+or_true true = refl
+or_true false = refl
+
+-- What is in both lists is in that of what they have in common.
+pub is_in-common : (ys xs : List ℕ) (q : ℕ) → is_in (common_points ys xs) q ≡ (is_in xs q && is_in ys q)
+is_in-common ys [] q = refl
+is_in-common ys (x ∷ xs) q = elim (cases_Bool (is_in ys x)) [
+  | inl listed ↦ rw listed (elim (cases_Bool (x == q)) [
+    | inl same ↦ rw same (sym (sym (ap (is_in ys) (eqb-true x q same)) ∙ listed))
+    | inr other ↦ rw other (is_in-common ys xs q)
+  ])
+  | inr missed ↦ rw missed (elim (cases_Bool (x == q)) [
+    | inl same ↦
+        let no : is_in ys q ≡ false = sym (ap (is_in ys) (eqb-true x q same)) ∙ missed in
+        is_in-common ys xs q ∙ ap (λ b. is_in xs q && b) no ∙ and_false (is_in xs q) ∙ sym (rw same no)
+    | inr other ↦ rw other (is_in-common ys xs q)
+  ])
+]
+
+pub both_from : (ys xs : List ℕ) (q : ℕ) → Contains (common_points ys xs) q → Contains xs q × Contains ys q
+both_from ys xs q h =
+    let e = sym (is_in-common ys xs q) ∙ in_has (common_points ys xs) q h in
+    (has_in xs q (left (is_in xs q) (is_in ys q) e), has_in ys q (right (is_in xs q) (is_in ys q) e))
+  where
+    left : (a b : Bool) → (a && b) ≡ true → a ≡ true
+    left true b h = refl
+    left false b h = h
+
+    right : (a b : Bool) → (a && b) ≡ true → b ≡ true
+    right true b h = h
+    right false b h = absurd (true≢false (sym h))
+
+pub from_both : (ys xs : List ℕ) (q : ℕ) → Contains xs q → Contains ys q → Contains (common_points ys xs) q
+from_both ys xs q ours theirs =
+    let a : is_in xs q ≡ true = in_has xs q ours in
+    let b : is_in ys q ≡ true = in_has ys q theirs in
+    has_in (common_points ys xs) q (is_in-common ys xs q ∙ ap (λ x. x && is_in ys q) a ∙ b)

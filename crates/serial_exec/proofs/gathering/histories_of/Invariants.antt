@@ -1,0 +1,12 @@
+use Rattle.std.proofs.Common.{◌≡◌, take}
+use Rattle.std.specs.Option.{option_map}
+use Rattle.semantics.specs.declared.places.Place.{Place}
+use Rattle.semantics.specs.SerialOrder.{serial}
+use Rattle.serial_exec.specs.Changes.{items_changes}
+use Rattle.serial_exec.specs.Cutting.{cut_to}
+use Rattle.serial_exec.specs.Histories.{changes_at}
+use Rattle.serial_exec.proofs.gathering.histories_of.Given as goal
+
+abbrev pub invariant-loop-moment : goal.invariant-loop-moment
+invariant-loop-moment g l = (p : Place) → changes_at l.histories p
+    ≡ items_changes (cut_to (option_map (λ q. g.Q.PointSet.points q.now) l.listed) l.log) 0 (take l.moment (serial l.log)) p

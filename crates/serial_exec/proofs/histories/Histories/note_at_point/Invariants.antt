@@ -1,0 +1,8 @@
+use Rattle.std.proofs.Common.{◌≡◌, ◌++◌, ◌∷◌, [], take, if◌then◌else◌}
+use Rattle.semantics.specs.declared.places.Place.{Place}
+use Rattle.serial_exec.specs.Changes.{covered}
+use Rattle.serial_exec.specs.Histories.{changes_at}
+use Rattle.serial_exec.proofs.histories.Histories.note_at_point.Given as goal
+
+abbrev pub invariant-loop-field : goal.invariant-loop-field
+invariant-loop-field l = (p : Place) → changes_at l.self p ≡ changes_at l.initial.self p ++ (if covered l.tree (l.point ∷ []) (take l.field-index l.fields) p then l.change ∷ [] else [])

@@ -1,0 +1,11 @@
+use Rattle.std.proofs.Common.{◌∙◌, sym, ap}
+use Rattle.value_terms.specs.declared.terms.Base.TheVariants as bases
+use Rattle.value_terms.specs.Values.{plain}
+use Rattle.serial_exec.specs.Changes.{after_changes}
+use Rattle.serial_exec.proofs.Keeping.{put-latest, rest-taken}
+use Rattle.serial_exec.proofs.sums.latest.Goals as goal
+
+pub returns-in-Put-clause-same : goal.returns-in-Put-clause-same
+returns-in-Put-clause-same c =
+    put-latest c.args.changes.now c.loop-from.from _ c.in-Put.base (plain bases.Init) c.loop-from-test.true c.loop-from.invariant.0 c.in-Put.is
+    ∙ ap (λ cs. after_changes cs (plain c.in-Put.base)) (sym (rest-taken c.args.changes.now c.loop-from.from))

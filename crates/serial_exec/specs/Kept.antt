@@ -1,0 +1,43 @@
+-- What versions keep, and what they say.
+use Rattle.std.specs.Prelude.{◌≡◌, ℕ, ◌<◌, List, [], map, length, slice_index_or, unwrap_or}
+use Rattle.std.specs.Map.{lookup}
+use Rattle.std.specs.List.Sorted.{IsNonDecreasingBy}
+use Rattle.value_terms.specs.declared.terms.Base.TheVariants.{Init}
+use Rattle.value_terms.specs.Values.{Value, plain}
+use Rattle.semantics.specs.declared.places.Place.{Place}
+use Rattle.semantics.specs.Tables.{Tables}
+use Rattle.semantics.specs.Sequential.{wanted}
+use Rattle.serial_exec.specs.declared.change.Change.{Change}
+use Rattle.serial_exec.specs.declared.change.PlaceKey.{PlaceKey}
+use Rattle.serial_exec.specs.declared.histories.Histories.{Histories}
+use Rattle.serial_exec.specs.Changes.{before, after_changes}
+use Rattle.serial_exec.specs.Histories.{key_of, same_key}
+
+-- The place of each item in serial order, and the changes at each place.
+pub record Kept : Type 0 where
+  pub moments : List ℕ
+  pub lists : List (PlaceKey × List Change)
+
+abbrev pub kept : List ℕ → Histories → Kept
+kept moments h = record { moments = moments; lists = map (λ e. (e.0, e.1.items)) h.lists.entries }
+
+-- The changes that are kept of a place.
+abbrev pub changes_in : Kept → Place → List Change
+changes_in k p = unwrap_or (lookup (same_key (key_of p)) k.lists) []
+
+-- They are in serial order.
+abbrev pub AreInOrder : Kept → Type 0
+AreInOrder k = (p : Place) → IsNonDecreasingBy (λ c. c.moment) (changes_in k p)
+
+-- The changes at a place by the items before an item.
+abbrev pub changes_before : Kept → ℕ → Place → List Change
+changes_before k item p = before (slice_index_or k.moments item 0) (changes_in k p)
+
+-- The value that is kept of a place just before an item.
+abbrev pub value_at : Kept → ℕ → Place → Value
+value_at k item p = after_changes (changes_before k item p) (plain Init)
+
+-- The values are those of sequential execution.
+pub record AreVersionsOf (t : Tables) (k : Kept) : Type 0 where
+  pub each : length k.moments ≡ length t.items
+  pub value : (item : ℕ) (p : Place) → item < length t.items → value_at k item p ≡ wanted t item p

@@ -1,0 +1,6 @@
+pub mod Changes
+pub mod Cutting
+pub mod Histories
+pub mod Kept
+pub mod OwnReqs
+pub mod Summed

@@ -1,0 +1,171 @@
+//! The changes of the items of a log, gathered in serial order.
+
+ghost use Rattle.std.specs.Prelude.{◌≡◌, [], ◌∷◌, ◌++◌, map, length, IfOk, OnOk};
+ghost use Rattle.std.specs.Option.{option_map};
+ghost use Rattle.std.specs.List.Sorted.{IsStrictlyIncreasing};
+ghost use Rattle.semantics.specs.declared.places.Place.{Place};
+ghost use Rattle.semantics.specs.Points.{points_in};
+ghost use Rattle.semantics.specs.SerialOrder.{serial};
+ghost use Rattle.serial_exec.specs.Changes.{Adds, covered, by_task, use_changes, uses_changes, item_changes, items_changes};
+ghost use Rattle.serial_exec.specs.Cutting.{cut_to};
+ghost use Rattle.serial_exec.specs.Histories.{changes_at};
+ghost use Rattle.serial_exec.specs.OwnReqs.{AreOwn, reqs_at};
+
+use crate::change::{Action, Change, task_action};
+use crate::histories::Histories;
+use crate::own_reqs::own_reqs;
+use log_decl::Log;
+use point_set::PointSet;
+use semantics::{ItemBody, Req};
+use std::alloc::{AllocError, Global};
+use value_terms::Base;
+
+/// One change more at these fields of the points of a space, or of those that are listed.
+fn note_in_space<'a, P: PointSet + Copy, Q: PointSet>(
+    alloc: Global,
+    histories: &mut Histories,
+    log: &Log<'a, P>,
+    listed: Option<&Q>,
+    tree: u32,
+    space: u32,
+    fields: &[u32],
+    change: Change,
+) -> Result<(), AllocError>
+    requires { IsStrictlyIncreasing fields.now }
+    ensures { OnOk result (Adds change
+        (covered tree (points_in (cut_to (option_map (λ q. Q.points q.now) listed.entry) log.now) space) fields.now)
+        (changes_at histories.old) (changes_at histories.new)) }
+{
+    match log.set(space) {
+        Some(set) => histories.note_all(alloc, set, listed, tree, fields, change),
+        None => Ok(()),
+    }
+}
+
+/// What a task does by a requirement.
+fn note_req<'a, P: PointSet + Copy, Q: PointSet>(
+    alloc: Global,
+    histories: &mut Histories,
+    log: &Log<'a, P>,
+    listed: Option<&Q>,
+    moment: usize,
+    task: u32,
+    req: &Req,
+) -> Result<(), AllocError>
+    requires { IsStrictlyIncreasing req.now.fields }
+    ensures { OnOk result ((p : Place) → changes_at histories.new p ≡ changes_at histories.old p ++
+        use_changes (cut_to (option_map (λ q. Q.points q.now) listed.entry) log.now) moment (by_task task) req.now p) }
+{
+    match task_action(task, req.number, req.access) {
+        Some(action) => {
+            let change = Change { moment, action };
+            let fields = req.fields.as_slice();
+            note_in_space(
+                alloc, histories, log, listed, req.tree, req.space, fields, change,
+            )
+        }
+        None => Ok(()),
+    }
+}
+
+/// What a task does by the requirement at a position.
+fn note_req_at<'a, P: PointSet + Copy, Q: PointSet>(
+    alloc: Global,
+    histories: &mut Histories,
+    log: &Log<'a, P>,
+    listed: Option<&Q>,
+    moment: usize,
+    task: u32,
+    k: usize,
+) -> Result<(), AllocError>
+    ensures { OnOk result ((p : Place) → changes_at histories.new p ≡ changes_at histories.old p ++
+        uses_changes (cut_to (option_map (λ q. Q.points q.now) listed.entry) log.now) moment (by_task task)
+        (reqs_at log.now.reqs (k ∷ [])) p) }
+{
+    match log.reqs().get(k) {
+        Some(req) => note_req(alloc, histories, log, listed, moment, task, req),
+        None => Ok(()),
+    }
+}
+
+/// What a task does by the requirements at some positions.
+fn note_reqs<'a, P: PointSet + Copy, Q: PointSet>(
+    alloc: Global,
+    histories: &mut Histories,
+    log: &Log<'a, P>,
+    listed: Option<&Q>,
+    moment: usize,
+    task: u32,
+    own: &[usize],
+) -> Result<(), AllocError>
+    ensures { OnOk result ((p : Place) → changes_at histories.new p ≡ changes_at histories.old p ++
+        uses_changes (cut_to (option_map (λ q. Q.points q.now) listed.entry) log.now) moment (by_task task)
+        (reqs_at log.now.reqs own.now) p) }
+{
+    for k in own {
+        note_req_at(alloc, histories, log, listed, moment, task, *k)?;
+    }
+    Ok(())
+}
+
+/// What an item does.
+fn note_item<'a, P: PointSet + Copy, Q: PointSet>(
+    alloc: Global,
+    histories: &mut Histories,
+    log: &Log<'a, P>,
+    listed: Option<&Q>,
+    own: &[Vec<usize>],
+    moment: usize,
+    item: usize,
+) -> Result<(), AllocError>
+    requires { AreOwn log.now.reqs log.now.reqs (length log.now.items) (map (λ w. w.items) own.now) }
+    ensures { OnOk result ((p : Place) → changes_at histories.new p ≡ changes_at histories.old p ++
+        item_changes (cut_to (option_map (λ q. Q.points q.now) listed.entry) log.now) moment item p) }
+{
+    log.fill_fields_ascend();
+    let Some(found) = log.items().get(item) else {
+        return Ok(());
+    };
+    match &found.body {
+        ItemBody::Task => note_reqs(alloc, histories, log, listed, moment, found.id, &own[item]),
+        ItemBody::Fill {
+            tree,
+            space,
+            fields,
+            n,
+        } => {
+            let change = Change {
+                moment,
+                action: Action::Put(Base::Const(*n)),
+            };
+            let fields = fields.as_slice();
+            note_in_space(alloc, histories, log, listed, *tree, *space, fields, change)
+        }
+    }
+}
+
+/// What the items of a log do, in serial order: at all points, or at those that are listed.
+pub(crate) fn histories_of<'a, P: PointSet + Copy, Q: PointSet>(
+    alloc: Global,
+    log: &Log<'a, P>,
+    listed: Option<&Q>,
+) -> Result<Histories, AllocError>
+    ensures { IfOk result (λ h. (p : Place) → changes_at h p
+        ≡ items_changes (cut_to (option_map (λ q. Q.points q.now) listed.entry) log.now) 0 (serial log.now) p) }
+{
+    let own = own_reqs(alloc, log.items().len(), log.reqs())?;
+    let mut histories = Histories::new(alloc);
+    let order = log.serial();
+    for moment in 0..order.len() {
+        note_item(
+            alloc,
+            &mut histories,
+            log,
+            listed,
+            &own,
+            moment,
+            order[moment],
+        )?;
+    }
+    Ok(histories)
+}

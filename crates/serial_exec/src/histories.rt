@@ -1,0 +1,94 @@
+//! For each place the changes of its value, in serial order.
+
+ghost use Rattle.std.specs.Prelude.{◌≡◌, ◌++◌, ◌∷◌, [], OnOk, if◌then◌else◌};
+ghost use Rattle.std.specs.Option.{option_map};
+ghost use Rattle.std.specs.List.Sorted.{IsStrictlyIncreasing};
+ghost use Rattle.semantics.specs.declared.places.Place.{Place};
+ghost use Rattle.serial_exec.specs.Changes.{Adds, covered};
+ghost use Rattle.serial_exec.specs.Cutting.{on_points};
+ghost use Rattle.serial_exec.specs.Histories.{same_key, changes_at, key_of};
+
+use crate::change::{Change, PlaceKey};
+use crate::points::{next_point, point_above};
+use point_set::PointSet;
+use std::alloc::{AllocError, Global};
+use std::collections::HashMap;
+
+/// For each place the changes of its value, in the order in which they were noted.
+#[derive(Drop)]
+pub(crate) struct Histories {
+    pub(crate) lists: HashMap<PlaceKey, Vec<Change>>,
+}
+
+impl Histories {
+    /// Nothing is changed.
+    pub(crate) fn new(alloc: Global) -> Histories
+        ensures { (p : Place) → changes_at result p ≡ [] }
+    {
+        Histories {
+            lists: HashMap::new(alloc),
+        }
+    }
+
+    /// One change more at a place.
+    fn note(&mut self, alloc: Global, key: PlaceKey, change: Change) -> Result<(), AllocError>
+        ensures { OnOk result ((p : Place) → changes_at self.new p
+            ≡ changes_at self.old p ++ (if same_key key (key_of p) then change ∷ [] else [])) }
+    {
+        if let Some(list) = self.lists.get_mut(&key) {
+            list.push(change)?;
+            return Ok(());
+        }
+        let mut list = Vec::with_capacity(alloc, 1)?;
+        list.push(change)?;
+        self.lists.insert(key, list)?;
+        Ok(())
+    }
+
+    /// One change more at a point and these fields.
+    fn note_at_point(
+        &mut self,
+        alloc: Global,
+        tree: u32,
+        point: u64,
+        fields: &[u32],
+        change: Change,
+    ) -> Result<(), AllocError>
+        requires { IsStrictlyIncreasing fields.now }
+        ensures { OnOk result (Adds change (covered tree (point ∷ []) fields.now)
+            (changes_at self.old) (changes_at self.new)) }
+    {
+        for field in fields {
+            let key = PlaceKey {
+                tree,
+                point,
+                field: *field,
+            };
+            self.note(alloc, key, change)?;
+        }
+        Ok(())
+    }
+
+    /// One change more at these fields of the points of a set, or of those that are listed.
+    pub(crate) fn note_all<P: PointSet, Q: PointSet>(
+        &mut self,
+        alloc: Global,
+        set: &P,
+        listed: Option<&Q>,
+        tree: u32,
+        fields: &[u32],
+        change: Change,
+    ) -> Result<(), AllocError>
+        requires { IsStrictlyIncreasing fields.now }
+        ensures { OnOk result (Adds change
+            (covered tree (on_points (option_map (λ q. Q.points q.now) listed.entry) (P.points set.now)) fields.now)
+            (changes_at self.old) (changes_at self.new)) }
+    {
+        let mut next = next_point(set, listed, 0);
+        while let Some(point) = next {
+            self.note_at_point(alloc, tree, point, fields, change)?;
+            next = point_above(set, listed, point);
+        }
+        Ok(())
+    }
+}

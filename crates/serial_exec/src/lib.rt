@@ -1,0 +1,15 @@
+//! The values of sequential execution: what each item should find at each place.
+#![tactic(auto)]
+
+mod agreeing;
+mod change;
+mod gathering;
+mod histories;
+mod own_reqs;
+mod points;
+mod sums;
+#[cfg(test)]
+mod tests;
+mod versions;
+
+pub use versions::Versions;

@@ -1,0 +1,54 @@
+//! What changes make of a value.
+
+ghost use Rattle.std.specs.Prelude.{◌≡◌, ◌+◌, ◌-◌, ◌<◌, ◌≤◌, ◌^◌, IfOk};
+ghost use Rattle.std.specs.List.{AllByRecursion};
+ghost use Rattle.value_terms.specs.declared.terms.Base.TheVariants as bases;
+ghost use Rattle.value_terms.specs.Values.{plain, weight_of};
+ghost use Rattle.serial_exec.specs.Changes.{after_changes, acted_by, IsAdded};
+
+use crate::change::{Action, Change};
+use std::alloc::Global;
+use value_terms::{Base, Memory, Value, weights_add_up};
+
+/// What was put last, and the changes since, each of which adds.
+pub(crate) fn latest(changes: &[Change]) -> (Base, &[Change])
+    ensures same { after_changes changes.now (plain bases.Init) ≡ after_changes result.1.now (plain result.0) }
+    ensures adds { AllByRecursion IsAdded result.1.now }
+{
+    let mut from = changes.len();
+    while from > 0 {
+        if let Action::Put(base) = changes[from - 1].action {
+            return (base, &changes[from..]);
+        }
+        from -= 1;
+    }
+    (Base::Init, changes)
+}
+
+/// What a change makes of a value.
+fn apply(alloc: Global, value: Value, change: Change) -> Result<Value, Memory>
+    requires { weight_of value < 2 ^ 64 - 1 }
+    ensures value { IfOk result (λ v. v ≡ acted_by change.action value) }
+    ensures weight { IfOk result (λ v. weight_of v ≤ weight_of value + 1) }
+{
+    weights_add_up();
+    match change.action {
+        Action::Put(base) => Ok(Value::of(alloc, base)),
+        Action::Add { op, by } => {
+            let mut more = value;
+            more.add(op, by)?;
+            Ok(more)
+        }
+    }
+}
+
+/// What changes make of a base, one after the other.
+pub(crate) fn sum_of(alloc: Global, base: Base, changes: &[Change]) -> Result<Value, Memory>
+    ensures { IfOk result (λ v. v ≡ after_changes changes.now (plain base)) }
+{
+    let mut value = Value::of(alloc, base);
+    for change in changes {
+        value = apply(alloc, value, *change)?;
+    }
+    Ok(value)
+}

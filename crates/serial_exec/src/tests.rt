@@ -1,0 +1,229 @@
+//! The values that a few logs want.
+
+ghost use Rattle.std.specs.Prelude.{All};
+ghost use Rattle.spy_grammar.specs.Spelling.{Good};
+ghost use Rattle.log_faults.specs.Lines.{AreLines};
+
+use super::*;
+use bumpalo::Bump;
+use log_decl::{are_log_records, declare};
+use point_set::RunSet;
+use semantics::Place;
+use spy_grammar::{Lined, read_line};
+use std::alloc::Global;
+use std::process::Abort;
+use std::test::Fail;
+use value_terms::{Base, Contribution, Value};
+
+/// What is added, each time an operator, a task and a requirement.
+type Added = &'static [(u32, u32, u32)];
+
+/// An item by its position, a place, and the value that the item wants there.
+type Row = (usize, u32, u64, u32, Base, Added);
+
+/// Reductions by operators that alternate, two of them of one task, and a fill between tasks.
+const ALTERNATING: &[u8] = b"legion-spy 1
+ispace 1 0-9
+part 1 1 aliased
+ispace 2 0-3
+sub 1 0 2
+fields 1 1,2
+tree 1 1 1
+redop 1
+redop 2
+task 1
+req 1 1 1 1 rw ex
+task 2
+req 2 1 1 1 red:1 ex
+req 2 1 2 1 red:1 ex
+task 3
+req 3 1 1 1 red:2 ex
+task 4
+req 4 1 1 1 red:1 ex
+fill 5 1 2 1 7
+task 6
+req 6 1 1 1 red:1 ex
+task 7
+req 7 1 1 1 ro ex
+run 1 1 -
+run 2 2 -
+run 3 3 -
+run 4 4 -
+run 6 6 -
+run 7 7 -
+end 28
+";
+
+const ALTERNATING_ROWS: [Row; 12] = [
+    (0, 1, 0, 1, Base::Init, &[]),
+    (1, 1, 0, 1, Base::Out(1), &[]),
+    (2, 1, 0, 1, Base::Out(1), &[(1, 2, 1), (1, 2, 2)]),
+    (2, 1, 5, 1, Base::Out(1), &[(1, 2, 1)]),
+    (3, 1, 0, 1, Base::Out(1), &[(1, 2, 1), (1, 2, 2), (2, 3, 1)]),
+    (
+        4,
+        1,
+        0,
+        1,
+        Base::Out(1),
+        &[(1, 2, 1), (1, 2, 2), (2, 3, 1), (1, 4, 1)],
+    ),
+    (5, 1, 0, 1, Base::Const(7), &[]),
+    (6, 1, 0, 1, Base::Const(7), &[(1, 6, 1)]),
+    (
+        6,
+        1,
+        5,
+        1,
+        Base::Out(1),
+        &[(1, 2, 1), (2, 3, 1), (1, 4, 1), (1, 6, 1)],
+    ),
+    // No item covers these.
+    (6, 1, 0, 2, Base::Init, &[]),
+    (6, 2, 0, 1, Base::Init, &[]),
+    (6, 1, 10, 1, Base::Init, &[]),
+];
+
+/// Tasks that take turns, listed against program order, and reductions in an order against that of their tasks.
+const TURNED: &[u8] = b"legion-spy 1
+ispace 1 0-9
+fields 1 1
+tree 1 1 1
+redop 1
+task 1
+req 1 1 1 1 rw at
+task 2
+req 2 1 1 1 rw at
+task 3
+req 3 1 1 1 red:1 ex
+task 4
+req 4 1 1 1 red:1 ex
+task 5
+req 5 1 1 1 ro ex
+serial 2 1
+serial 4 3 5
+run 1 1 -
+run 2 2 -
+run 3 3 -
+run 4 4 -
+run 5 5 -
+end 21
+";
+
+const TURNED_ROWS: [Row; 5] = [
+    (1, 1, 0, 1, Base::Init, &[]),
+    (0, 1, 0, 1, Base::Out(2), &[]),
+    (3, 1, 0, 1, Base::Out(1), &[]),
+    (2, 1, 0, 1, Base::Out(1), &[(1, 4, 1)]),
+    (4, 1, 0, 1, Base::Out(1), &[(1, 3, 1), (1, 4, 1)]),
+];
+
+/// The records of a text, on their lines, and how many lines there are.
+fn records_of(alloc: Global, text: &[u8]) -> Result<(Vec<Lined>, u32), Fail> {
+    let mut records = Vec::new(alloc);
+    let mut lines = 0u32;
+    for part in text.split(|b| *b == b'\n') {
+        lines = lines.saturating_add(1);
+        match read_line(alloc, part) {
+            Ok(Some(rec)) => records.push(Lined { line: lines, rec })?,
+            Ok(None) => {}
+            Err(_) => return Err("a line that spells no record".into()),
+        }
+    }
+    // Nothing stands behind the last line feed.
+    Ok((records, lines.saturating_sub(1)))
+}
+
+/// The versions of the log of these records, at all points or at those that are listed. The log is let go.
+fn versions_in<'a>(
+    alloc: Global,
+    bump: &'a Bump,
+    records: &Vec<Lined>,
+    lines: u32,
+    listed: bool,
+) -> Result<Versions, Fail>
+    requires good { All (λ l. Good l.rec) records.now.items }
+    requires lines { AreLines lines records.now.items }
+{
+    match declare::<RunSet<'a>>(alloc, bump, records, lines) {
+        Ok(log) => {
+            let versions = if listed {
+                Versions::build_on(alloc, &log, &[0, 5])
+            } else {
+                Versions::build(alloc, &log)
+            };
+            drop(log);
+            Ok(versions?)
+        }
+        Err(_) => Err("a log with a fault".into()),
+    }
+}
+
+/// The versions of the log that a text spells.
+fn versions_of(alloc: Global, text: &[u8], listed: bool) -> Result<Versions, Fail> {
+    let (records, lines) = records_of(alloc, text)?;
+    if !are_log_records(alloc, &records, lines)? {
+        return Err("records that make no log".into());
+    }
+    let bump = Bump::new(alloc);
+    versions_in(alloc, &bump, &records, lines, listed)
+}
+
+/// The value of a base to which this is added.
+fn value_of(alloc: Global, base: Base, added: &[(u32, u32, u32)]) -> Result<Value, Fail> {
+    let mut value = Value::of(alloc, base);
+    for (op, task, req) in added {
+        if value.weight() == u64::MAX {
+            return Err("a heavy value".into());
+        }
+        value.add(
+            *op,
+            Contribution {
+                task: *task,
+                req: *req,
+            },
+        )?;
+    }
+    Ok(value)
+}
+
+/// Asks for the value of a row, and whether it and others agree.
+fn ask(rt: &impl Abort, alloc: Global, versions: &Versions, row: &Row) -> Result<(), Fail> {
+    let (item, tree, point, field, base, added) = *row;
+    if item >= versions.len() {
+        return Err("a row of no item".into());
+    }
+    let place = Place { tree, point, field };
+    let mut value = value_of(alloc, base, added)?;
+    let wanted = versions.want(alloc, item, &place)?;
+    assert!(rt; wanted.same(&value), "{row:?}");
+    assert!(rt; versions.agrees(item, &place, &value), "{row:?}");
+    // Another base, one contribution twice, another contribution.
+    assert!(rt;
+        !versions.agrees(item, &place, &value_of(alloc, Base::Out(9), added)?),
+        "{row:?}"
+    );
+    let (op, task, req) = added.first().copied().unwrap_or((1, 9, 9));
+    if value.weight() == u64::MAX {
+        return Err("a heavy value".into());
+    }
+    value.add(op, Contribution { task, req })?;
+    assert!(rt; !versions.agrees(item, &place, &value), "{row:?}");
+    Ok(())
+}
+
+#[test]
+fn wanted_values(rt: HostRuntime) -> Result<(), Fail> {
+    let alloc = rt.alloc();
+    let alternating = versions_of(alloc, ALTERNATING, false)?;
+    let listed = versions_of(alloc, ALTERNATING, true)?;
+    for row in &ALTERNATING_ROWS {
+        ask(&rt, alloc, &alternating, row)?;
+        ask(&rt, alloc, &listed, row)?;
+    }
+    let turned = versions_of(alloc, TURNED, false)?;
+    for row in &TURNED_ROWS {
+        ask(&rt, alloc, &turned, row)?;
+    }
+    Ok(())
+}
