@@ -32,6 +32,17 @@ none_or_some (Some a) = inr (a, refl)
 any_none : {X : Type 0} (p : X → Bool) (xs : List X) → find p xs ≡ None → list_any p xs ≡ false
 any_none p xs e = false_from_ne_true (list_any p xs) (λ is. let bad = sym e ∙ (find_any p xs is).1 in absurd cc)
 
+pub conflicts_turned : (a b : Access) → conflicts a b ≡ conflicts b a
+conflicts_turned Reads Reads = refl
+conflicts_turned Reads Writes = refl
+conflicts_turned Reads (Folds q) = refl
+conflicts_turned Writes Reads = refl
+conflicts_turned Writes Writes = refl
+conflicts_turned Writes (Folds q) = refl
+conflicts_turned (Folds p) Reads = refl
+conflicts_turned (Folds p) Writes = refl
+conflicts_turned (Folds p) (Folds q) = grind (arith, nat_tests)
+
 module _ (before : ℕ → ℕ → Bool) where
   race_none : (behind : List Visit) (b : Visit) (bs : List Visit) → race_from before behind (b ∷ bs) ≡ None → (list_any (is_loose before b) behind ≡ false) × (race_from before (behind ++ b ∷ []) bs ≡ None)
   race_none behind b bs e = elim (none_or_some (find (is_loose before b) behind)) [
@@ -90,18 +101,7 @@ module _ (before : ℕ → ℕ → Bool) where
       none_at (is_loose before (get_or visits j d)) (take j visits) (get_or visits i d) (race_none (take j visits) (get_or visits j d) (drop (j + 1) visits) rest).0
       (member_of (take j visits) (get_or visits i d) (i, grind (arith, common_steps), grind (arith, common_steps, get_or_default visits i d (get_or visits i d))))
 
-  conflicts_turned : (a b : Access) → conflicts a b ≡ conflicts b a
-  conflicts_turned Reads Reads = refl
-  conflicts_turned Reads Writes = refl
-  conflicts_turned Reads (Folds q) = refl
-  conflicts_turned Writes Reads = refl
-  conflicts_turned Writes Writes = refl
-  conflicts_turned Writes (Folds q) = refl
-  conflicts_turned (Folds p) Reads = refl
-  conflicts_turned (Folds p) Writes = refl
-  conflicts_turned (Folds p) (Folds q) = grind (arith, nat_tests)
-
-  is_race : (a b : Visit) → Races before a b → is_loose before b a ≡ true
+  pub is_race : (a b : Visit) → Races before a b → is_loose before b a ≡ true
   is_race a b r = rw (r.1, r.2) refl
 
   turned : (a b : Visit) → Races before a b → Races before b a
