@@ -1,17 +1,21 @@
 //! The log of a recorded run.
 
-ghost use Rattle.std.specs.Prelude.{◌≡◌, ◌<◌, ◌↔◌, map, length, slice_get, Some, None, IfOk, OnOk, IfErr, IsSome, IfSome, IsTrue, All};
+ghost use Rattle.std.specs.Prelude.{◌≡◌, ◌<◌, ◌↔◌, map, length, slice_get, Some, None, [], IfOk, OnOk, IfErr, IsSome, IfSome, IsTrue, All, MatchOption};
 ghost use Rattle.std.specs.List.Sorted.{IsStrictlyIncreasing};
-ghost use Rattle.std.specs.Option.{option_and_then};
+ghost use Rattle.std.specs.Option.{option_and_then, option_copied};
 ghost use Rattle.region_tree.specs.Regions.{space_of};
 ghost use Rattle.region_tree.specs.Paths.{IsPath};
 ghost use Rattle.semantics.specs.SerialOrder.{serial, serial_place};
-ghost use Rattle.semantics.specs.Steps.{mapped};
+ghost use Rattle.semantics.specs.Steps.{inst_at, mapped};
+ghost use Rattle.semantics.specs.Tables.{reqs_before};
+ghost use Rattle.semantics.specs.Points.{points_in};
+ghost use Rattle.semantics.specs.Reads.{req_at};
 ghost use Rattle.semantics.specs.Faults.{at_line, unmapped_fault};
 ghost use Rattle.spy_grammar.specs.declared.code.Code.TheVariants as codes;
 ghost use Rattle.log_faults.specs.Decls.{decls_of};
 ghost use Rattle.log_decl.specs.Faultless.{AreDeclared};
 ghost use Rattle.log_decl.specs.Listing.{item_line, ArePlacesIn};
+ghost use Rattle.log_tables.specs.Mapped.{inst_mapped};
 ghost use Rattle.log_tables.specs.Views.{space_seen};
 ghost use Rattle.item_uses.specs.Blocks.{AreBlocks};
 ghost use Rattle.item_uses.specs.Usages.{usages};
@@ -204,6 +208,43 @@ impl<'a, P: PointSet + Copy> Log<'a, P> {
         ensures path { IfSome result (λ way. IsPath (decls_of self.now) way.now space) }
     {
         self.found.paths.get(&space)
+    }
+
+    /// The set of a space: none of a space that is not declared, which has no points.
+    pub fn set(&self, space: u32) -> Option<&P>
+        ensures { MatchOption result (points_in self.now space ≡ []) (λ s. points_in self.now space ≡ P.points s.now) }
+    {
+        self.draft.set(space)
+    }
+
+    /// The instance with this id.
+    pub fn inst(&self, id: u32) -> Option<&Inst>
+        ensures inst { option_copied result ≡ inst_at self.now id }
+        ensures ascend { IfSome result (λ inst. IsStrictlyIncreasing inst.now.fields) }
+    {
+        self.draft.inst(id)
+    }
+
+    /// The requirement of an item with this number.
+    pub fn req(&self, item: usize, number: u32) -> Option<&Req>
+        ensures req { option_copied result ≡ req_at self.now item number }
+        ensures ascend { IfSome result (λ req. IsStrictlyIncreasing req.now.fields) }
+    {
+        self.draft.req(item, number)
+    }
+
+    /// How many requirements an item has.
+    pub fn req_count(&self, item: usize) -> usize
+        ensures { result ≡ reqs_before self.now.reqs item }
+    {
+        self.draft.req_count(item)
+    }
+
+    /// The instance to which a field of a requirement is mapped, or `None` where no line maps it. The requirement is named by the position of its item, and by its number there.
+    pub fn inst_of_item(&self, item: usize, number: u32, field: u32) -> Option<u32>
+        ensures { result ≡ inst_mapped self.now.maps (record { item = item; number = number; field = field }) }
+    {
+        self.draft.inst_of(item, number, field)
     }
 
     /// The instance to which a field of a requirement is mapped, or `None` where no line maps it. The requirement is named by its position.

@@ -1,0 +1,92 @@
+-- The numbers of an ascending list from one of them on, and grids over them.
+use Rattle.std.proofs.Common.{◌≡◌, ℕ, zero, suc, ◌+◌, ◌-◌, ◌<◌, ◌≤◌, inl, inr, Bool, true, false, nat_le, ◌==◌, List, [], ◌∷◌, ◌++◌, map, filter, drop, length, get_or, Option, Some, None, Contains, refl, sym, ap, ◌∙◌, subst, arith}
+use Rattle.std.specs.List.Sorted.{IsStrictlyIncreasing}
+use Rattle.std.proofs.lemmas.Bool.{cases_lt, cases_Bool, le-leb, lt-leb, eqb-true}
+use Rattle.std.proofs.lemmas.List.{drop_more, drop_all, get_or_default}
+use Rattle.std.proofs.lemmas.Map.Keys.{sorted_tail, sorted_from_strictly_increasing, IsStrictlyIncreasing-from_sorted}
+use Rattle.std.specs.Ordering.{nat_cmp}
+use Rattle.point_set.specs.Least.{IsLeastFrom, points_from}
+use Rattle.point_set.proofs.Ahead.{spread}
+use Rattle.semantics.specs.Kinds.{grid}
+use Rattle.log_laws.proofs.Members.{Member, contains_of, member_of}
+use Rattle.log_laws.proofs.Apart.{Rise}
+use Rattle.inst_steps.specs.Grids.{behind, grid_from}
+
+filter_same : (f g : ℕ → Bool) (xs : List ℕ) → ((q : ℕ) → Member xs q → f q ≡ g q) → filter f xs ≡ filter g xs
+filter_same f g [] h = refl
+filter_same f g (x ∷ xs) h =
+    let rest = filter_same f g xs (λ q m. h q (inr m)) in
+    elim (cases_Bool (g x)) [
+      | inl here ↦ rw (h x (inl refl) ∙ here, here) (ap (λ ys. x ∷ ys) rest)
+      | inr not_here ↦ rw (h x (inl refl) ∙ not_here, not_here) rest
+    ]
+
+filter_none : (f : ℕ → Bool) (xs : List ℕ) → ((q : ℕ) → Member xs q → f q ≡ false) → filter f xs ≡ []
+filter_none f [] h = refl
+filter_none f (x ∷ xs) h = rw (h x (inl refl)) (filter_none f xs (λ q m. h q (inr m)))
+
+-- What is left from a number on is left from the least number from it on.
+pub from_least : (xs : List ℕ) (low : ℕ) (o : Option ℕ) → IsLeastFrom xs low o → filter (λ q. nat_le low q) xs ≡ points_from xs o
+from_least xs low (Some p) least = filter_same (λ q. nat_le low q) (λ q. nat_le p q) xs (λ q m. elim (cases_lt q low) [
+  | inl below ↦ lt-leb low q below ∙ sym (lt-leb p q (omega (arith, below, least.0.1)))
+  | inr from ↦ le-leb low q from ∙ sym (le-leb p q (least.1 q (contains_of xs q m, from)))
+])
+from_least xs low None least = filter_none (λ q. nat_le low q) xs (λ q m. elim (cases_lt q low) [
+  | inl below ↦ lt-leb low q below
+  | inr from ↦ absurd (least q (contains_of xs q m, from))
+])
+
+pub rise : (xs : List ℕ) → IsStrictlyIncreasing xs → Rise xs
+rise [] up = tt
+rise (x ∷ xs) up = (
+  (λ y m. let c = contains_of xs y m in above c.0 y (spread (x ∷ xs) 0 (suc c.0) up (omega arith) (omega (arith, c.1))) c.1 c.2),
+  rise xs (IsStrictlyIncreasing-from_sorted xs (sorted_tail nat_cmp x xs (sorted_from_strictly_increasing (x ∷ xs) up))),
+)
+  where
+    above : (k y : ℕ) → get_or (x ∷ xs) 0 0 + (suc k - 0) ≤ get_or (x ∷ xs) (suc k) 0 → k < length xs → get_or xs k y ≡ y → x < y
+    above k y far lt is = omega (arith, far, get_or_default xs k 0 y lt ∙ is)
+
+first_in_rise : (xs : List ℕ) (p : ℕ) → Rise xs → Member xs p → filter (λ q. nat_le p q) xs ≡ p ∷ behind xs p
+first_in_rise [] p up m = absurd m
+first_in_rise (x ∷ xs) p up (inl is) = subst (λ p. filter (λ q. nat_le p q) (x ∷ xs) ≡ p ∷ behind (x ∷ xs) p) (sym is)
+    (rw (le-leb x x (omega arith), lt-leb (x + 1) x (omega arith)) (ap (λ ys. x ∷ ys) (filter_same (λ q. nat_le x q) (λ q. nat_le (x + 1) q) xs
+    (λ q m. le-leb x q (let a = up.0 q m in omega (arith, a)) ∙ sym (le-leb (x + 1) q (let a = up.0 q m in omega (arith, a)))))))
+first_in_rise (x ∷ xs) p up (inr m) =
+    let lt = up.0 p m in
+    rw (lt-leb p x lt, lt-leb (p + 1) x (omega (arith, lt))) (first_in_rise xs p up.1 m)
+
+-- The grid of what is left from a point on begins at the point.
+pub grid_first : (xs fields : List ℕ) (p : ℕ) → IsStrictlyIncreasing xs → Contains xs p → grid (filter (λ q. nat_le p q) xs) fields ≡ grid_from xs fields p 0
+grid_first xs fields p up has = ap (λ ps. grid ps fields) (first_in_rise xs p (rise xs up) (member_of xs p has))
+
+everything : (xs : List ℕ) → filter (λ q. nat_le 0 q) xs ≡ xs
+everything [] = refl
+everything (x ∷ xs) = rw (le-leb 0 x (omega arith)) (ap (λ ys. x ∷ ys) (everything xs))
+
+pub grid_all : (xs fields : List ℕ) (p : ℕ) → IsStrictlyIncreasing xs → IsLeastFrom xs 0 (Some p) → grid xs fields ≡ grid_from xs fields p 0
+grid_all xs fields p up least = ap (λ ps. grid ps fields) (sym (everything xs) ∙ from_least xs 0 (Some p) least) ∙ grid_first xs fields p up least.0.0
+
+pub grid_none : (xs fields : List ℕ) → IsLeastFrom xs 0 None → grid xs fields ≡ []
+grid_none [] fields least = refl
+grid_none (x ∷ xs) fields least = absurd (least x ((0, omega arith, refl), omega arith))
+
+pub grid_no_fields : (xs : List ℕ) → grid xs [] ≡ []
+grid_no_fields [] = refl
+grid_no_fields (x ∷ xs) = grid_no_fields xs
+
+-- One field on, and from the last field on to the next point.
+pub grid_field : (xs fields : List ℕ) (p k : ℕ) → k < length fields → grid_from xs fields p k ≡ (p, get_or fields k 0) ∷ grid_from xs fields p (k + 1)
+grid_field xs fields p k lt = ap (λ fs. map (λ f. (p, f)) fs ++ grid (behind xs p) fields) (drop_more fields k 0 lt)
+
+pub grid_last : (xs fields : List ℕ) (p k : ℕ) → k < length fields → length fields ≤ k + 1 → grid_from xs fields p k ≡ (p, get_or fields k 0) ∷ grid (behind xs p) fields
+grid_last xs fields p k lt last = grid_field xs fields p k lt ∙ ap (λ fs. (p, get_or fields k 0) ∷ (map (λ f. (p, f)) fs ++ grid (behind xs p) fields)) (drop_all (k + 1) fields last)
+
+pub grid_next : (xs fields : List ℕ) (p q : ℕ) → IsStrictlyIncreasing xs → IsLeastFrom xs (p + 1) (Some q) → grid (behind xs p) fields ≡ grid_from xs fields q 0
+grid_next xs fields p q up least = ap (λ ps. grid ps fields) (from_least xs (p + 1) (Some q) least) ∙ grid_first xs fields q up least.0.0
+
+pub grid_over : (xs fields : List ℕ) (p : ℕ) → IsLeastFrom xs (p + 1) None → grid (behind xs p) fields ≡ []
+grid_over xs fields p least = ap (λ ps. grid ps fields) (from_least xs (p + 1) None least)
+
+pub grid_empty : (xs fields : List ℕ) → (length fields == 0) ≡ true → [] ≡ grid xs fields
+grid_empty xs [] e = sym (grid_no_fields xs)
+grid_empty xs (f ∷ fields) e = absurd (omega (arith, eqb-true (length (f ∷ fields)) 0 e))

@@ -1,0 +1,4 @@
+pub mod Behind
+pub mod Keeping
+pub mod Numbers
+pub mod Sweeping

@@ -1,0 +1,123 @@
+-- The requirements of an item are numbered from 1 on.
+use Rattle.std.proofs.Common.{◌≡◌, ℕ, zero, suc, ◌+◌, ◌<◌, ◌≤◌, ◌^◌, ◌==◌, ◌&&◌, nat_lt, inl, inr, Bool, true, false, List, [], ◌∷◌, ◌++◌, map, filter, find, fold, length, Option, Some, None, slice_get, get_or, drop, refl, sym, ap, ◌∙◌, subst, arith}
+use Rattle.std.specs.List.{AllByRecursion, count_by}
+use Rattle.std.proofs.lemmas.Bool.{cases_lt, cases_Bool, eq-eqb, ne_eqb, eqb-true, ltb-false}
+use Rattle.std.proofs.lemmas.List.{map-append, length-map, length-append, append-nil}
+use Rattle.std.proofs.lemmas.List.Sums.{length-filter, count_by-le-length}
+use Rattle.std.proofs.lemmas.List.Elements.{filter-append, recursion_from_All}
+use Rattle.spy_grammar.specs.declared.record.Record.{Record}
+use Rattle.spy_grammar.specs.declared.record.Record.TheVariants as records
+use Rattle.spy_grammar.specs.declared.record.Lined.{Lined}
+use Rattle.semantics.specs.declared.tables.Req.{Req}
+use Rattle.semantics.specs.Records.{records_of}
+use Rattle.semantics.specs.Tables.{Tables, numbers_from, reqs_before, place_of, with_record, no_tables, tables_of}
+use Rattle.semantics.specs.Kinds.{reqs_of}
+use Rattle.semantics.specs.Reads.{req_at}
+use Rattle.semantics.specs.Faults.{records_fault, declaration_fault}
+use Rattle.semantics.specs.Rules as rules
+use Rattle.log_laws.proofs.Admitted.{Unbroken, by_records, no_broken_rule}
+use Rattle.log_decl.specs.Faultless.{AreDeclared}
+use Rattle.inst_steps.specs.Stepping.{AreNumbered}
+
+numbers_from-more : (first n : ℕ) → numbers_from first (suc n) ≡ numbers_from first n ++ (first + n) ∷ []
+numbers_from-more first zero = ap (λ a. a ∷ []) (omega arith)
+numbers_from-more first (suc n) = ap (λ ns. first ∷ ns) (numbers_from-more (first + 1) n) ∙ ap (λ a. first ∷ (numbers_from (first + 1) n ++ a ∷ [])) (omega arith)
+
+abbrev of_item : ℕ → List Req → List Req
+of_item item rs = filter (λ (r : Req). r.item == item) rs
+
+abbrev numbers : List Req → List ℕ
+numbers rs = map (λ (r : Req). r.number) rs
+
+-- ---- requirements that are numbered
+
+abbrev Numbered : Tables → Type 0
+Numbered t = (item : ℕ) → numbers (of_item item t.reqs) ≡ numbers_from 1 (length (of_item item t.reqs))
+
+counted : (item : ℕ) (rs : List Req) → count_by (λ (r : Req). r.item == item) rs ≡ length (of_item item rs)
+counted item rs = sym (length-filter (λ (r : Req). r.item == item) rs)
+
+one_req : (rs : List Req) (r : Req) → r.number ≡ count_by (λ (q : Req). q.item == r.item) rs + 1
+    → ((item : ℕ) → numbers (of_item item rs) ≡ numbers_from 1 (length (of_item item rs)))
+    → (item : ℕ) → numbers (of_item item (rs ++ r ∷ [])) ≡ numbers_from 1 (length (of_item item (rs ++ r ∷ [])))
+one_req rs r is h item =
+    let split = filter-append (λ (q : Req). q.item == item) rs (r ∷ []) in
+    elim (cases_Bool (r.item == item)) [
+      | inl own ↦
+          let one : of_item item (r ∷ []) ≡ r ∷ [] = rw own refl in
+          let all : of_item item (rs ++ r ∷ []) ≡ of_item item rs ++ r ∷ [] = split ∙ ap (λ xs. of_item item rs ++ xs) one in
+          let n = length (of_item item rs) in
+          let long : length (of_item item rs ++ r ∷ []) ≡ suc n = length-append (of_item item rs) (r ∷ []) ∙ omega arith in
+          let number : r.number ≡ 1 + n = is ∙ ap (λ i. count_by (λ (q : Req). q.item == i) rs + 1) (eqb-true r.item item own) ∙ ap (λ m. m + 1) (counted item rs) ∙ omega arith in
+          rw (all, long) (map-append (λ (q : Req). q.number) (of_item item rs) (r ∷ []) ∙ ap (λ ns. ns ++ r.number ∷ []) (h item) ∙ ap (λ m. numbers_from 1 n ++ m ∷ []) number ∙ sym (numbers_from-more 1 n))
+      | inr other ↦
+          let none : of_item item (r ∷ []) ≡ [] = rw other refl in
+          let all : of_item item (rs ++ r ∷ []) ≡ of_item item rs = split ∙ ap (λ xs. of_item item rs ++ xs) none ∙ append-nil (of_item item rs) in
+          rw all (h item)
+    ]
+
+more_numbered : (t : Tables) (line : ℕ) (r : Record) → Numbered t → Numbered (with_record t line r)
+more_numbered t line (records.Req task tree space fields access atomic) h = one_req t.reqs _ refl h
+more_numbered t line _ h = h
+
+all_numbered : (t : Tables) (log : List Lined) → Numbered t → Numbered (fold (λ t (l : Lined). with_record t l.line l.rec) t log)
+all_numbered t [] h = h
+all_numbered t (l ∷ log) h = all_numbered (with_record t l.line l.rec) log (more_numbered t l.line l.rec h)
+
+-- ---- there are few
+
+longer : (rs : List Req) (r : Req) → length (rs ++ r ∷ []) ≤ length rs + 1
+longer rs r = omega (arith, length-append rs (r ∷ []))
+
+within_one : (t : Tables) (line : ℕ) (r : Record) → length (with_record t line r).reqs ≤ length t.reqs + 1
+within_one t line (records.Req task tree space fields access atomic) = longer t.reqs _
+within_one t line _ = omega arith
+
+within_all : (t : Tables) (log : List Lined) → length (fold (λ t (l : Lined). with_record t l.line l.rec) t log).reqs ≤ length t.reqs + length log
+within_all t [] = omega arith
+within_all t (l ∷ log) = omega (arith, within_all (with_record t l.line l.rec) log, within_one t l.line l.rec)
+
+abbrev Few : Tables → Type 0
+Few t = length t.reqs ≤ 131073
+
+few_more : (log : List Record) (earlier : List Lined) (l : Lined) → Unbroken log earlier l.rec → Few (tables_of earlier) → Few (with_record (tables_of earlier) l.line l.rec)
+few_more log earlier l u few = by l.rec refl
+  where
+    by : (r : Record) → l.rec ≡ r → Few (with_record (tables_of earlier) l.line r)
+    by (records.Req task tree space fields access atomic) e =
+        let early : nat_lt 131072 (length (records_of earlier)) ≡ false = subst (λ r. rules.is_late (length (records_of earlier)) r ≡ false) e u.0 in
+        omega (arith, ltb-false 131072 (length (records_of earlier)) early, length-map earlier (λ (l : Lined). l.rec), within_all no_tables earlier, within_one (tables_of earlier) l.line (records.Req task tree space fields access atomic))
+    by _ e = few
+
+few_reqs : (lines : ℕ) (log : List Lined) → AllByRecursion (λ r. Unit {0}) (records_of log) → declaration_fault lines log ≡ None → Few (tables_of log)
+few_reqs lines log all e = by_records (λ r. Unit {0}) Few (records_of log) (λ earlier l u _ few. few_more (records_of log) earlier l u few) [] log all (no_broken_rule lines log e) (omega arith)
+
+-- ---- looked up by number
+
+find_filtered : (item n : ℕ) (rs : List Req) → find (λ (r : Req). (r.item == item) && (r.number == n)) rs ≡ find (λ (r : Req). r.number == n) (of_item item rs)
+find_filtered item n [] = refl
+find_filtered item n (r ∷ rs) = elim (cases_Bool (r.item == item)) [
+  | inl own ↦ elim (cases_Bool (r.number == n)) [ inl here ↦ rw (own, here) refl | inr there ↦ rw (own, there) (find_filtered item n rs) ]
+  | inr other ↦ rw other (find_filtered item n rs)
+]
+
+found_at : (rs : List Req) (first k : ℕ) → numbers rs ≡ numbers_from first (length rs) → find (λ (r : Req). r.number == first + k) rs ≡ slice_get rs k
+found_at [] first k e = refl
+found_at (r ∷ rs) first zero e =
+    let here : r.number ≡ first + 0 = ap (λ ns. get_or ns 0 0) e ∙ omega arith in
+    rw (eq-eqb r.number (first + 0) here) refl
+found_at (r ∷ rs) first (suc k) e =
+    let here : r.number ≡ first = ap (λ ns. get_or ns 0 0) e in
+    let far : first + 1 + k ≡ first + suc k = omega arith in
+    rw (ne_eqb r.number (first + suc k) (λ same. omega (arith, same, here))) (ap (λ n. find (λ (r : Req). r.number == n) rs) (sym far) ∙ found_at rs (first + 1) k (ap (drop 1) e))
+
+pub numbered : (t : Tables) → AreDeclared t → AreNumbered t
+numbered t d =
+    let all = all_numbered no_tables d.log (λ item. refl) in
+    let few = few_reqs d.lines d.log (recursion_from_All _ (records_of d.log) (λ k d lt. tt)) d.faultless in
+    subst AreNumbered (sym d.tables) (record {
+      found = λ item k lt.
+          let one : k + 1 ≡ 1 + k = omega arith in
+          find_filtered item (k + 1) (tables_of d.log).reqs ∙ ap (λ n. find (λ (r : Req). r.number == n) (of_item item (tables_of d.log).reqs)) one ∙ found_at (of_item item (tables_of d.log).reqs) 1 k (all item);
+      small = λ item. omega (arith, few, length-filter (λ (r : Req). r.item == item) (tables_of d.log).reqs, count_by-le-length (λ (r : Req). r.item == item) (tables_of d.log).reqs);
+    })

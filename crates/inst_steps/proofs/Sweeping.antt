@@ -1,0 +1,146 @@
+-- Operations are their sweeps, and cut tables those of what is listed.
+use Rattle.std.proofs.Common.{◌≡◌, ℕ, zero, suc, ◌+◌, ◌<◌, ◌≤◌, true, false, if◌then◌else◌, List, [], ◌∷◌, ◌++◌, map, filter, flat_map, drop, length, get_or, Option, Some, None, option_map, unwrap_or, slice_get, refl, sym, ap, ap₂, ◌∙◌, subst, arith, inl, inr}
+use Rattle.std.specs.Option.{option_map_or}
+use Rattle.std.proofs.Math.Path.{fun_ext}
+use Rattle.std.proofs.lemmas.List.{drop_more, drop_all, map-append, append-nil}
+use Rattle.std.proofs.lemmas.List.Concat.{flat_map_single}
+use Rattle.privilege.specs.declared.kinds.Priv.{Priv}
+use Rattle.privilege.specs.declared.kinds.Priv.TheVariants as privileges
+use Rattle.semantics.specs.declared.moves.Move.{Move}
+use Rattle.semantics.specs.declared.moves.Move.TheVariants as moves
+use Rattle.semantics.specs.declared.tables.Req.{Req}
+use Rattle.semantics.specs.declared.tables.Op.{Op}
+use Rattle.semantics.specs.declared.tables.Op.TheVariants as operations
+use Rattle.semantics.specs.Tables.{Tables}
+use Rattle.semantics.specs.Points.{is_in, points_in}
+use Rattle.semantics.specs.Kinds.{reqs_of, grid, req_grid}
+use Rattle.semantics.specs.Steps.{id_of, operator_of, mapped_cell, reads_by, changes_by, at_cells, run_moves, moves_of}
+use Rattle.point_laws.specs.Cut.{cut}
+use Rattle.point_laws.proofs.Cuts.{points_cut}
+use Rattle.inst_steps.specs.declared.act.Act.{Act}
+use Rattle.inst_steps.specs.declared.act.Act.TheVariants as acts
+use Rattle.inst_steps.specs.Grids.{kept, cut_to}
+use Rattle.inst_steps.specs.Sweeps.{Pass, pass, pass_at, move_at, pass_moves, moves_of_pass, reading, changing_by, changing, pass_for, passes_of}
+use Rattle.semantics.specs.declared.tables.LogNode.{LogNode}
+use Rattle.std.proofs.lemmas.Option.{slice_get-get_or}
+use Rattle.std.specs.Prelude.{IfSome}
+use Rattle.inst_steps.specs.declared.spot.Spot.{Spot}
+use Rattle.inst_steps.specs.Stepping.{rest_moves, moves_at, spots_left, spot_grid, spot_here, spot_moves, moves_from}
+
+-- ---- the sweeps of an operation make its moves
+
+none_of : {X Y : Type 0} (xs : List X) → ◌≡◌ {A = List Y} (flat_map (λ x. []) xs) []
+none_of [] = refl
+none_of (x ∷ xs) = none_of xs
+
+reads_are : (t : Tables) (task : ℕ) (r : Req) → (a : Priv) → r.access ≡ a → flat_map (λ p. reads_by task r.number r.access (mapped_cell t r p)) (req_grid t r) ≡ moves_of_pass t (pass_for r (reading task r))
+reads_are t task r privileges.Ro e = rw e (flat_map_single (move_at t (acts.Read task r.item r.number)) (req_grid t r))
+reads_are t task r privileges.Rw e = rw e (flat_map_single (move_at t (acts.Read task r.item r.number)) (req_grid t r))
+reads_are t task r privileges.Wd e = rw e (none_of (req_grid t r))
+reads_are t task r (privileges.Red op) e = rw e (none_of (req_grid t r))
+
+changes_are : (t : Tables) (task : ℕ) (r : Req) → (a : Priv) → r.access ≡ a → flat_map (λ p. changes_by task r.number r.access (mapped_cell t r p)) (req_grid t r) ≡ moves_of_pass t (pass_for r (changing task r))
+changes_are t task r privileges.Ro e = rw e (none_of (req_grid t r))
+changes_are t task r privileges.Rw e = rw e (flat_map_single (move_at t (acts.Write task r.item r.number)) (req_grid t r))
+changes_are t task r privileges.Wd e = rw e (flat_map_single (move_at t (acts.Write task r.item r.number)) (req_grid t r))
+changes_are t task r (privileges.Red op) e = rw e (flat_map_single (move_at t (acts.Reduce task r.item r.number op)) (req_grid t r))
+
+flat_of_map : {X Y Z : Type 0} (g : Y → List Z) (f : X → Y) (h : X → List Z) → ((x : X) → h x ≡ g (f x)) → (xs : List X) → flat_map h xs ≡ flat_map g (map f xs)
+flat_of_map g f h e [] = refl
+flat_of_map g f h e (x ∷ xs) = ap₂ (λ a b. a ++ b) (e x) (flat_of_map g f h e xs)
+
+flat_append : {X Y : Type 0} (g : X → List Y) (xs ys : List X) → flat_map g (xs ++ ys) ≡ flat_map g xs ++ flat_map g ys
+flat_append g [] ys = refl
+flat_append g (x ∷ xs) ys = ap (λ zs. g x ++ zs) (flat_append g xs ys) ∙ append_assoc_sym (g x) (flat_map g xs) (flat_map g ys)
+  where
+    append_assoc_sym : {Z : Type 0} (a b c : List Z) → a ++ (b ++ c) ≡ (a ++ b) ++ c
+    append_assoc_sym [] b c = refl
+    append_assoc_sym (z ∷ a) b c = ap (λ zs. z ∷ zs) (append_assoc_sym a b c)
+
+only_one : {X Y : Type 0} (g : X → List Y) (x : X) → flat_map g (x ∷ []) ≡ g x
+only_one g x = append-nil (g x)
+
+pub sweeps_are : (t : Tables) (op : Op) → flat_map (moves_of_pass t) (passes_of t op) ≡ moves_of t op
+sweeps_are t (operations.Run item) =
+    let task = id_of t item in
+    let reads = map (λ r. pass_for r (reading task r)) (reqs_of t item) in
+    let changes = map (λ r. pass_for r (changing task r)) (reqs_of t item) in
+    flat_append (moves_of_pass t) reads changes
+    ∙ sym (ap₂ (λ a b. a ++ b) (flat_of_map (moves_of_pass t) (λ r. pass_for r (reading task r)) _ (λ r. reads_are t task r r.access refl) (reqs_of t item))
+    (flat_of_map (moves_of_pass t) (λ r. pass_for r (changing task r)) _ (λ r. changes_are t task r r.access refl) (reqs_of t item)))
+sweeps_are t (operations.Copy src dst space fields) = only_one (moves_of_pass t) (Some (pass (acts.Copy src dst) space fields))
+sweeps_are t (operations.Put inst space fields n) = only_one (moves_of_pass t) (Some (pass (acts.Put inst n) space fields))
+sweeps_are t (operations.Reset inst space fields) = only_one (moves_of_pass t) (Some (pass (acts.Reset inst) space fields))
+sweeps_are t (operations.Fold src dst space fields) = only_one (moves_of_pass t) (Some (pass (acts.Fold (operator_of t src) src dst) space fields))
+sweeps_are t operations.Merge = refl
+
+-- ---- cut tables
+
+passes_cut : (listed : Option (List ℕ)) (t : Tables) (op : Op) → passes_of (cut_to listed t) op ≡ passes_of t op
+passes_cut None t op = refl
+passes_cut (Some ps) t (operations.Run item) = refl
+passes_cut (Some ps) t (operations.Copy src dst space fields) = refl
+passes_cut (Some ps) t (operations.Put inst space fields n) = refl
+passes_cut (Some ps) t (operations.Reset inst space fields) = refl
+passes_cut (Some ps) t (operations.Fold src dst space fields) = refl
+passes_cut (Some ps) t operations.Merge = refl
+
+act_cut : (ps : List ℕ) (t : Tables) (a : Act) (p : ℕ × ℕ) → move_at (cut ps t) a p ≡ move_at t a p
+act_cut ps t (acts.Read task item number) p = refl
+act_cut ps t (acts.Write task item number) p = refl
+act_cut ps t (acts.Reduce task item number op) p = refl
+act_cut ps t (acts.Copy src dst) p = refl
+act_cut ps t (acts.Put inst n) p = refl
+act_cut ps t (acts.Reset inst) p = refl
+act_cut ps t (acts.Fold op src dst) p = refl
+
+pub pass_cut : (listed : Option (List ℕ)) (t : Tables) (p : Pass) → pass_moves (cut_to listed t) p ≡ map (move_at t p.act) (grid (kept listed (points_in t p.space)) p.fields)
+pass_cut None t p = refl
+pass_cut (Some ps) t p = ap (λ f. map f (grid (points_in (cut ps t) p.space) p.fields)) (fun_ext (act_cut ps t p.act)) ∙ ap (λ points. map (move_at t p.act) (grid points p.fields)) (points_cut ps t p.space)
+
+pub all_moves : (listed : Option (List ℕ)) (t : Tables) (op : Op) → rest_moves t op listed 0 ≡ moves_of (cut_to listed t) op
+all_moves listed t op = ap (flat_map (moves_of_pass (cut_to listed t))) (sym (passes_cut listed t op)) ∙ sweeps_are (cut_to listed t) op
+
+-- ---- one sweep on
+
+at_place : {X Y : Type 0} (g : Option X → List Y) → g None ≡ [] → (ps : List (Option X)) (k : ℕ) → flat_map g (drop k ps) ≡ g (unwrap_or (slice_get ps k) None) ++ flat_map g (drop (k + 1) ps)
+at_place g none [] zero = sym (ap₂ (λ xs ys. xs ++ flat_map g ys) none (drop_all (zero + 1) [] (omega arith)))
+at_place g none [] (suc k) = sym (ap₂ (λ xs ys. xs ++ flat_map g ys) none (drop_all (suc k + 1) [] (omega arith)))
+at_place g none (p ∷ ps) zero = refl
+at_place g none (p ∷ ps) (suc k) = at_place g none ps k ∙ ap (λ n. g (unwrap_or (slice_get ps k) None) ++ flat_map g (drop n (p ∷ ps))) (let e : suc (k + 1) ≡ suc k + 1 = omega arith in e)
+
+pub one_sweep : (listed : Option (List ℕ)) (t : Tables) (op : Op) (k : ℕ) → rest_moves t op listed k ≡ moves_of_pass (cut_to listed t) (pass_at (passes_of t op) k) ++ rest_moves t op listed (k + 1)
+one_sweep listed t op k = at_place (moves_of_pass (cut_to listed t)) refl (passes_of t op) k
+
+pub no_sweep : (listed : Option (List ℕ)) (t : Tables) (op : Op) (k : ℕ) → length (passes_of t op) ≤ k → rest_moves t op listed k ≡ []
+no_sweep listed t op k past = ap (flat_map (moves_of_pass (cut_to listed t))) (drop_all k (passes_of t op) past)
+
+-- ---- where a sweep stands
+
+kept_nothing : (listed : Option (List ℕ)) → kept listed [] ≡ []
+kept_nothing (Some ps) = refl
+kept_nothing None = refl
+
+pub no_points : (listed : Option (List ℕ)) (t : Tables) (p : Pass) → points_in t p.space ≡ [] → pass_moves (cut_to listed t) p ≡ []
+no_points listed t p none = pass_cut listed t p ∙ ap (λ points. map (move_at t p.act) (grid (kept listed points) p.fields)) none ∙ ap (λ points. map (move_at t p.act) (grid points p.fields)) (kept_nothing listed)
+
+module _ {P : Type 0} (points : P → List ℕ) (t : Tables) (listed : Option (List ℕ)) where
+  pub spot_moves_are : (act : Act) (o : Option (Spot P)) → IfSome o (λ (s : Spot P). s.act ≡ act) → spot_moves points t listed o ≡ map (move_at t act) (spots_left points listed o)
+  spot_moves_are act None h = refl
+  spot_moves_are act (Some s) h = ap (λ a. map (move_at t a) (spot_grid points listed s)) h
+
+  pub spot_step : (s : Spot P) (o : Option (Spot P)) → spot_grid points listed s ≡ spot_here s ∷ spots_left points listed o → IfSome o (λ (n : Spot P). n.act ≡ s.act)
+      → moves_from points t listed s ≡ move_at t s.act (spot_here s) ∷ spot_moves points t listed o
+  spot_step s o e h = ap (map (move_at t s.act)) e ∙ ap (λ ms. move_at t s.act (spot_here s) ∷ ms) (sym (spot_moves_are s.act o h))
+
+-- ---- the moves of a node
+
+nodes_cut : (listed : Option (List ℕ)) (t : Tables) → (cut_to listed t).nodes ≡ t.nodes
+nodes_cut (Some ps) t = refl
+nodes_cut None t = refl
+
+pub node_moves : (listed : Option (List ℕ)) (t : Tables) (nodes : List LogNode) (node : ℕ) (d : LogNode) → nodes ≡ t.nodes → node < length t.nodes
+    → moves_of (cut_to listed t) (get_or nodes node d).op ≡ moves_at (cut_to listed t) node
+node_moves listed t nodes node d same lt =
+    ap (λ ns. moves_of (cut_to listed t) (get_or ns node d).op) same
+    ∙ sym (ap (λ (o : Option LogNode). option_map_or (λ (n : LogNode). moves_of (cut_to listed t) n.op) o []) (ap (λ ns. slice_get ns node) (nodes_cut listed t) ∙ slice_get-get_or t.nodes node d lt))

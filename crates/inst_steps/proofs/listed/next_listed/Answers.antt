@@ -1,0 +1,8 @@
+use Rattle.inst_steps.proofs.Keeping.{kept_least}
+use Rattle.inst_steps.proofs.listed.next_listed.Goals as goal
+
+pub returns-in-Some : goal.returns-in-Some
+returns-in-Some g c = rw c.in-Some.is (kept_least c.in-Some.listed.now (g.P.PointSet.points c.args.set.now) c.args.low c.next_common.result c.next_common.ensures)
+
+pub returns-in-None : goal.returns-in-None
+returns-in-None g c = rw c.in-None.is c.next_from.ensures

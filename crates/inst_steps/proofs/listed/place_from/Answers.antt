@@ -1,0 +1,13 @@
+use Rattle.std.proofs.Common.{nat_lt, rules}
+use Rattle.std.proofs.lemmas.Fn.{always_returns_same}
+use Rattle.std.proofs.lemmas.List.Sorted.{IsPartitionedBy-ltb}
+use Rattle.std.proofs.lemmas.Map.Keys.{non_decreasing_from_sorted, sorted_from_strictly_increasing}
+use Rattle.point_set.proofs.Ahead.{parted}
+use Rattle.inst_steps.proofs.listed.place_from.Goals as goal
+
+pub returns : goal.returns
+returns c =
+    let listed = c.args.listed.now in
+    let risen = non_decreasing_from_sorted listed (sorted_from_strictly_increasing listed c.requires) in
+    parted (λ q. q) c.args.p listed c.partition_point.result
+    (c.partition_point.ensures.partitioned (λ q. nat_lt q c.args.p) (always_returns_same _ _ _ (λ a r f called. search rules)) (IsPartitionedBy-ltb (λ q. q) listed c.args.p risen))

@@ -1,0 +1,3 @@
+pub mod Sweeps
+pub mod Grids
+pub mod Stepping

@@ -1,0 +1,158 @@
+//! Where a sweep stands.
+
+ghost use Rattle.std.specs.Prelude.{◌≡◌, [], ◌∷◌, ◌++◌, IfSome, IfNone};
+ghost use Rattle.semantics.specs.Kinds.{grid};
+ghost use Rattle.inst_steps.specs.Grids.{IsAscending, kept, listed_of};
+ghost use Rattle.inst_steps.specs.Stepping.{IsSpot, spot_here, spot_grid, spot_moves, spots_left, pass_seen, IsWithin};
+ghost use Rattle.inst_steps.specs.Sweeps.{move_at, cell_of};
+
+use crate::act::Act;
+use crate::listed::{next_behind, next_listed};
+use log_decl::Log;
+use point_set::PointSet;
+use semantics::{Cell, Move};
+
+/// A point of a set and a field, by its place, at which an act is done next.
+#[derive(Clone, Copy)]
+pub(crate) struct Spot<'l, P: PointSet + Copy> {
+    pub(crate) act: Act,
+    pub(crate) set: &'l P,
+    pub(crate) fields: &'l [u32],
+    pub(crate) point: u64,
+    pub(crate) place: usize,
+}
+
+/// The first listed point of a set and the first field.
+pub(crate) fn first_spot<'l, P: PointSet + Copy>(
+    act: Act,
+    set: &'l P,
+    fields: &'l [u32],
+    listed: Option<&[u64]>,
+) -> Option<Spot<'l, P>>
+    requires { IsAscending listed }
+    ensures spot { IfSome result (IsSpot P.points (listed_of listed.entry)) }
+    ensures act { IfSome result (λ s. s.act ≡ act) }
+    ensures grid { spots_left P.points (listed_of listed.entry) result ≡ grid (kept (listed_of listed.entry) (P.points set.now)) fields.now }
+{
+    if fields.is_empty() {
+        return None;
+    }
+    match next_listed(set, listed, 0) {
+        Some(point) => Some(Spot {
+            act,
+            set,
+            fields,
+            point,
+            place: 0,
+        }),
+        None => None,
+    }
+}
+
+/// The field behind this one, or the first field of the point behind.
+pub(crate) fn next_spot<'l, P: PointSet + Copy>(
+    spot: &Spot<'l, P>,
+    listed: Option<&[u64]>,
+) -> Option<Spot<'l, P>>
+    requires ascending { IsAscending listed }
+    requires spot { IsSpot P.points (listed_of listed) spot.now }
+    ensures spot { IfSome result (IsSpot P.points (listed_of listed.entry)) }
+    ensures act { IfSome result (λ s. s.act ≡ spot.now.act) }
+    ensures grid { spot_grid P.points (listed_of listed.entry) spot.now ≡ spot_here spot.now ∷ spots_left P.points (listed_of listed.entry) result }
+{
+    if spot.place + 1 < spot.fields.len() {
+        return Some(Spot {
+            act: spot.act,
+            set: spot.set,
+            fields: spot.fields,
+            point: spot.point,
+            place: spot.place + 1,
+        });
+    }
+    match next_behind(spot.set, listed, spot.point) {
+        Some(point) => Some(Spot {
+            act: spot.act,
+            set: spot.set,
+            fields: spot.fields,
+            point,
+            place: 0,
+        }),
+        None => None,
+    }
+}
+
+/// The cell to which a point and a field of a requirement are mapped.
+fn cell_of<P: PointSet + Copy>(
+    log: &Log<'_, P>,
+    item: usize,
+    number: u32,
+    point: u64,
+    field: u32,
+) -> Cell
+    ensures { result ≡ cell_of log.now item number (point, field) }
+{
+    let inst = match log.inst_of_item(item, number, field) {
+        Some(inst) => inst,
+        None => 0,
+    };
+    Cell { inst, point, field }
+}
+
+/// The cell of an instance.
+fn cell_in(inst: u32, point: u64, field: u32) -> Cell
+    ensures { result ≡ record { inst = inst; point = point; field = field } }
+{
+    Cell { inst, point, field }
+}
+
+/// What an act does at a point and a field.
+fn move_at<P: PointSet + Copy>(log: &Log<'_, P>, act: Act, point: u64, field: u32) -> Move
+    ensures { result ≡ move_at log.now act (point, field) }
+{
+    match act {
+        Act::Read { task, item, number } => Move::Read {
+            task,
+            req: number,
+            cell: cell_of(log, item, number, point, field),
+        },
+        Act::Write { task, item, number } => Move::Write {
+            task,
+            cell: cell_of(log, item, number, point, field),
+        },
+        Act::Reduce {
+            task,
+            item,
+            number,
+            op,
+        } => Move::Reduce {
+            task,
+            req: number,
+            op,
+            cell: cell_of(log, item, number, point, field),
+        },
+        Act::Copy { src, dst } => Move::Copy {
+            from: cell_in(src, point, field),
+            to: cell_in(dst, point, field),
+        },
+        Act::Put { inst, n } => Move::Put {
+            cell: cell_in(inst, point, field),
+            n,
+        },
+        Act::Reset { inst } => Move::Reset {
+            cell: cell_in(inst, point, field),
+        },
+        Act::Fold { op, src, dst } => Move::Fold {
+            op,
+            from: cell_in(src, point, field),
+            to: cell_in(dst, point, field),
+        },
+    }
+}
+
+/// What is done where a sweep stands.
+pub(crate) fn move_here<P: PointSet + Copy>(log: &Log<'_, P>, spot: &Spot<'_, P>) -> Move
+    requires { IsWithin spot.now }
+    ensures { result ≡ move_at log.now spot.now.act (spot_here spot.now) }
+{
+    move_at(log, spot.act, spot.point, spot.fields[spot.place])
+}
