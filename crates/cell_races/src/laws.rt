@@ -2,7 +2,15 @@
 
 ghost use Rattle.std.specs.Prelude.{◌<◌, All, ◌≡◌, ◌↔◌, ℕ, Bool, true, false, List, [], ◌∷◌, ◌++◌, Some, None, Contains};
 ghost use Rattle.std.specs.List.{list_any};
+ghost use Rattle.semantics.specs.declared.moves.Move.{Move};
+ghost use Rattle.semantics.specs.declared.places.Cell.{Cell};
+ghost use Rattle.semantics.specs.Races.{access};
+ghost use Rattle.semantics.specs.Races as races;
+ghost use Rattle.cell_races.specs.declared.access.Access.{Access};
 ghost use Rattle.cell_races.specs.declared.access.Visit.{Visit};
+ghost use Rattle.cell_races.specs.declared.touches.Touch.{Touch};
+ghost use Rattle.cell_races.specs.Accesses.{meant, conflicts};
+ghost use Rattle.cell_races.specs.Touches.{touch, touches_of};
 ghost use Rattle.cell_races.specs.Groups.{asked, groups_of, with_visit, fails_at};
 ghost use Rattle.cell_races.specs.Races.{is_loose, race_in, IsTransitive, IsInTurn, Races, IsFirstRace};
 
@@ -21,4 +29,11 @@ pub fn first_race_is_first()
     ensures none { (before : ℕ → ℕ → Bool) (visits : List Visit) → IsInTurn before visits
         → (race_in before visits ≡ None) ↔ ((a b : Visit) → Contains visits a → Contains visits b → Races before a b → ⊥) }
     ensures shown { (before : ℕ → ℕ → Bool) (visits : List Visit) (m n : ℕ) → race_in before visits ≡ Some (m, n) → IsFirstRace before visits m n }
+{}
+
+/// What is noted of a move is what it does: at each cell that it touches its access, and nothing else.
+pub fn touches_are_accesses()
+    ensures noted { (place : ℕ) (m : Move) (x : Touch) → Contains (touches_of place m) x → (x.place ≡ place) × (access m x.cell ≡ meant x.access) }
+    ensures whole { (place : ℕ) (m : Move) (cell : Cell) (a : Access) → access m cell ≡ meant a → Contains (touches_of place m) (touch place cell a) }
+    ensures meant { (a b : races.Access) → races.conflicts a b ≡ true → (c d : Access) × (a ≡ meant c) × (b ≡ meant d) × (conflicts c d ≡ true) }
 {}
