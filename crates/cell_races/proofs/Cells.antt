@@ -1,6 +1,6 @@
 -- What is done at one cell, among all touches in order.
-use Rattle.std.proofs.Common.{◌≡◌, ◌≢◌, ℕ, ◌==◌, ◌&&◌, ◌||◌, ◌<◌, ◌≤◌, ◌⊎◌, inl, inr, Bool, true, false, nat_lt, List, [], ◌∷◌, ◌++◌, Some, None, All, AllPairs, Contains, refl, sym, ap, ◌∙◌, subst, arith, map, length, slice_index}
-use Rattle.std.proofs.lemmas.Bool.{cases_Bool, true≢false}
+use Rattle.std.proofs.Common.{◌≡◌, ℕ, ◌&&◌, ◌||◌, ◌<◌, ◌≤◌, ◌⊎◌, inl, inr, Bool, true, false, nat_lt, List, [], ◌∷◌, ◌++◌, Some, None, All, refl, sym, ap, ◌∙◌, subst, arith, map, length, slice_index}
+use Rattle.std.proofs.lemmas.Bool.{true≢false}
 use Rattle.std.proofs.lemmas.Bool.Decides.{nat_tests}
 use Rattle.std.proofs.lemmas.List.{append-nil}
 use Rattle.semantics.specs.declared.places.Cell.{Cell}
@@ -9,15 +9,15 @@ use Rattle.semantics.specs.Execution.{same_cell}
 use Rattle.cell_races.specs.declared.access.Visit.{Visit}
 use Rattle.cell_races.specs.declared.touches.Touch.{Touch}
 use Rattle.cell_races.specs.Accesses.{conflicts}
-use Rattle.cell_races.specs.Touches.{key, comes_before, AreInOrder}
+use Rattle.cell_races.specs.Touches.{key, comes_before}
 use Rattle.cell_races.specs.Visits.{visit_of, visits_of}
 use Rattle.cell_races.specs.Races.{race_in}
 use Rattle.cell_races.specs.Clashes.{Clash, IsFree, IsShown}
 use Rattle.cell_races.proofs.Members.{Member, member_of, contains_of, member_append, member_left, all_at}
-use Rattle.cell_races.proofs.Ordered.{Ordered, ordered_of, ordered_append, ordered_map}
+use Rattle.cell_races.proofs.Ordered.{Ordered, ordered_append, ordered_map}
 use Rattle.cell_races.proofs.Merging.{Climbs, visit_members}
 use Rattle.cell_races.proofs.Sorting.{same_is}
-use Rattle.cell_races.proofs.ShownAt.{RaceOf, IsShownOf, none_at, shown_at}
+use Rattle.cell_races.proofs.ShownAt.{RaceOf, none_at, shown_at}
 
 -- ---- cells in order
 
@@ -161,7 +161,8 @@ module _ (before : ℕ → ℕ → Bool) (order : List ℕ) where
       (λ e. k.differ (sym k.one_by ∙ (e ∙ k.other_by))),
       k.conflict,
       rw (k.one_by, k.other_by) k.not_before,
-      rw (k.one_by, k.other_by) k.not_after);
+      rw (k.one_by, k.other_by) k.not_after,
+    );
   }
 
   clash_of : (c : Cell) (here all : List Touch) → ((x : Touch) → Member here x → x.cell ≡ c) → ((x : Touch) → Member here x → Member all x)

@@ -1,8 +1,7 @@
 -- What neighbours of one node do, as one access.
-use Rattle.std.proofs.Common.{◌≡◌, ℕ, ◌==◌, ◌&&◌, ◌||◌, ◌⊎◌, inl, inr, ◌<◌, ◌≤◌, Bool, true, false, nat_lt, not, List, [], ◌∷◌, ◌++◌, refl, sym, ap, ◌∙◌, subst, arith, cond, All, map, length}
+use Rattle.std.proofs.Common.{◌≡◌, ℕ, ◌==◌, ◌||◌, ◌⊎◌, inl, inr, ◌<◌, ◌≤◌, Bool, true, false, List, [], ◌∷◌, refl, sym, ap, ◌∙◌, subst, arith, All, map, length}
 use Rattle.std.proofs.lemmas.Bool.{cases_Bool, true≢false, cases_lt}
 use Rattle.std.proofs.lemmas.Bool.Decides.{nat_tests}
-use Rattle.std.proofs.lemmas.Grind.{common_steps}
 use Rattle.cell_races.specs.declared.access.Access.{Access}
 use Rattle.cell_races.specs.declared.access.Access.TheVariants.{Reads, Writes, Folds}
 use Rattle.cell_races.specs.declared.access.Visit.{Visit}
@@ -108,11 +107,11 @@ from_merged v (x ∷ xs) y z m = elim (cases_Bool (v.node == x.node)) [
     of_joined same f first = elim (cases_Bool (conflicts v.access z)) [
       | inl does ↦ record { of = v; listed = inl refl; same = ap (λ (w : Visit). w.node) (sym first) ∙ f.same; too = λ e. does }
       | inr not_so ↦ record {
-          of = x;
-          listed = inr (inl refl);
-          same = sym (same_node v.node x.node same) ∙ (ap (λ (w : Visit). w.node) (sym first) ∙ f.same);
-          too = λ e. elim (either (conflicts v.access z) (conflicts x.access z) (sym (joined_conflicts v.access x.access z) ∙ subst (λ (w : Visit). conflicts w.access z ≡ true) first (f.too e))) [ inl a ↦ absurd (true≢false (sym a ∙ not_so)) | inr b ↦ b ];
-        }
+        of = x;
+        listed = inr (inl refl);
+        same = sym (same_node v.node x.node same) ∙ (ap (λ (w : Visit). w.node) (sym first) ∙ f.same);
+        too = λ e. elim (either (conflicts v.access z) (conflicts x.access z) (sym (joined_conflicts v.access x.access z) ∙ subst (λ (w : Visit). conflicts w.access z ≡ true) first (f.too e))) [ inl a ↦ absurd (true≢false (sym a ∙ not_so)) | inr b ↦ b ];
+      }
     ]
 
 -- ---- order
@@ -131,12 +130,13 @@ module _ (rank : ℕ → ℕ) where
   rising_from v (x ∷ xs) o = elim (cases_Bool (v.node == x.node)) [
     | inl same ↦ rw same (rising_from (with_access v x) xs (λ y m. o.0 y (inr m), o.1.1))
     | inr other ↦ rw other (
-        (λ y m. let f = from_merged x xs y Reads m in
+      (λ y m. let f = from_merged x xs y Reads m in
           let first = o.0 x (inl refl) in
           let le : rank x.node ≤ rank f.of.node = elim f.listed [ inl here ↦ subst (λ (w : Visit). rank x.node ≤ rank w.node) (sym here) (omega arith) | inr later ↦ (o.1.0 f.of later).0 ] in
           let less : rank v.node < rank x.node = elim (cases_lt (rank v.node) (rank x.node)) [ inl lt ↦ lt | inr ge ↦ absurd (other_node v.node x.node other (first.1 (omega (arith, first.0, ge)))) ] in
           subst (λ n. rank v.node < rank n) f.same (omega (arith, less, le))),
-        rising_from x xs o.1)
+      rising_from x xs o.1,
+    )
   ]
 
 -- ---- the nodes of touches

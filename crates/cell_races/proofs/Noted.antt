@@ -1,5 +1,5 @@
 -- What is noted of a move is what it does.
-use Rattle.std.proofs.Common.{◌≡◌, ℕ, ◌==◌, ◌&&◌, inl, inr, Bool, true, false, not, List, [], ◌∷◌, refl, sym, ap, ap₂, ◌∙◌, subst, arith, cond}
+use Rattle.std.proofs.Common.{◌≡◌, ℕ, inl, inr, Bool, true, false, [], ◌∷◌, refl, sym, ap, ap₂, ◌∙◌, subst, arith, cond}
 use Rattle.std.proofs.lemmas.Bool.{cases_Bool, true≢false}
 use Rattle.std.proofs.lemmas.Bool.Decides.{nat_tests}
 use Rattle.semantics.specs.declared.places.Cell.{Cell}
@@ -119,14 +119,14 @@ both_whole place from to cell a b e = elim (cases_Bool (same_cell from to)) [
             absurd (meant_apart b (sym (value from to cell (meant a) false false not_to not_from) ∙ e))
       ])
   | inr other ↦ rw other (elim (cases_Bool (same_cell cell to)) [
-      | inl at_to ↦
-          let not_from = ap (λ c. same_cell c from) (same_cells cell to at_to) ∙ turned from to other in
-          inr (inl (rw (same_cells cell to at_to, same_meant a b (sym (value from to cell (meant a) true false at_to not_from) ∙ e)) refl))
-      | inr not_to ↦ elim (cases_Bool (same_cell cell from)) [
-        | inl at_from ↦ inl (rw (same_cells cell from at_from, same_meant Reads b (sym (value from to cell (meant a) false true not_to at_from) ∙ e)) refl)
-        | inr not_from ↦ absurd (meant_apart b (sym (value from to cell (meant a) false false not_to not_from) ∙ e))
-      ]
-    ])
+    | inl at_to ↦
+        let not_from = ap (λ c. same_cell c from) (same_cells cell to at_to) ∙ turned from to other in
+        inr (inl (rw (same_cells cell to at_to, same_meant a b (sym (value from to cell (meant a) true false at_to not_from) ∙ e)) refl))
+    | inr not_to ↦ elim (cases_Bool (same_cell cell from)) [
+      | inl at_from ↦ inl (rw (same_cells cell from at_from, same_meant Reads b (sym (value from to cell (meant a) false true not_to at_from) ∙ e)) refl)
+      | inr not_from ↦ absurd (meant_apart b (sym (value from to cell (meant a) false false not_to not_from) ∙ e))
+    ]
+  ])
 ]
 
 pub whole : (place : ℕ) (m : Move) (cell : Cell) (b : Access) → races.access m cell ≡ meant b → Member (touches_of place m) (touch place cell b)

@@ -1,7 +1,7 @@
 -- Lists in which each element stands so to all later ones.
-use Rattle.std.proofs.Common.{◌≡◌, ℕ, suc, ◌<◌, ◌⊎◌, inl, inr, List, [], ◌∷◌, ◌++◌, AllPairs, refl, sym, ap, ◌∙◌, subst, arith, get_or, map, length}
+use Rattle.std.proofs.Common.{◌≡◌, suc, inl, inr, List, [], ◌∷◌, ◌++◌, AllPairs, refl, sym, subst, arith, map}
 use Rattle.std.specs.Bool.{⊤}
-use Rattle.cell_races.proofs.Members.{Member, contains_of, member_append, member_left}
+use Rattle.cell_races.proofs.Members.{Member, contains_of, member_left}
 
 abbrev pub Ordered : {X : Type 0} → (X → X → Type 0) → List X → Type 0
 Ordered R [] = ⊤
@@ -11,7 +11,8 @@ pub ordered_of : {X : Type 0} (R : X → X → Type 0) (xs : List X) → AllPair
 ordered_of R [] h = tt
 ordered_of {X} R (x ∷ xs) h = (
   (λ y m. let c = contains_of xs y m in subst (R x) c.2 (h 0 (suc c.0) y (omega arith) (omega (arith, c.1)))),
-  ordered_of R xs (λ i j d lt within. h (suc i) (suc j) d (omega (arith, lt)) (omega (arith, within))))
+  ordered_of R xs (λ i j d lt within. h (suc i) (suc j) d (omega (arith, lt)) (omega (arith, within))),
+)
 
 pub pairs_of : {X : Type 0} (R : X → X → Type 0) (xs : List X) → Ordered R xs → (front : List X) (x : X) (back : List X) → xs ≡ front ++ x ∷ back → ((y : X) → Member front y → R y x) × ((y : X) → Member back y → R x y)
 pairs_of R xs o [] x back e = ((λ y m. absurd m), (subst (Ordered R) e o).0)
@@ -39,7 +40,8 @@ pub ordered_map : {X Y : Type 0} (f : X → Y) (R : X → X → Type 0) (S : Y �
 ordered_map f R S [] h o = tt
 ordered_map {X} {Y} f R S (x ∷ xs) h o = (
   (λ y m. let r = of_map xs y m in subst (S (f x)) (sym r.2) (h x r.0 (inl refl) (inr r.1) (o.0 r.0 r.1))),
-  ordered_map f R S xs (λ a b m n. h a b (inr m) (inr n)) o.1)
+  ordered_map f R S xs (λ a b m n. h a b (inr m) (inr n)) o.1,
+)
   where
     of_map : (xs : List X) (y : Y) → Member (map f xs) y → (x : X) × Member xs x × (y ≡ f x)
     of_map [] y m = absurd m

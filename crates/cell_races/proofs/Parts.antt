@@ -1,7 +1,7 @@
 -- The touches of one cell, as a part of all touches.
 use Rattle.std.proofs.Common.{◌≡◌, ℕ, suc, ◌+◌, ◌-◌, ◌<◌, ◌≤◌, inl, inr, List, [], ◌∷◌, ◌++◌, Some, None, All, refl, sym, ap, ◌∙◌, subst, arith, take, drop, get_or, length, append_assoc, slice_index, zero, min, Bool, true}
 use Rattle.std.proofs.lemmas.Bool.{cases_lt}
-use Rattle.std.proofs.lemmas.List.{take-append-drop, drop-drop, drop_more, drop_all, take_at, take_all, length-take, length-drop, length-append, get_or-take, get_or-drop}
+use Rattle.std.proofs.lemmas.List.{take-append-drop, drop-drop, drop_more, drop_all, take_at, length-take, length-drop, length-append, get_or-take, get_or-drop}
 use Rattle.std.proofs.lemmas.List.Elements.{All-take}
 use Rattle.std.proofs.lemmas.List.Elements.{All-drop}
 use Rattle.cell_races.specs.declared.touches.Touch.{Touch}

@@ -1,14 +1,12 @@
 -- The race that is shown at a cell, of all races of the nodes that access it.
 use Rattle.std.proofs.Common.{◌≡◌, ◌≢◌, ℕ, ◌<◌, ◌≤◌, ◌⊎◌, inl, inr, Bool, true, false, List, [], ◌∷◌, ◌++◌, Some, None, refl, sym, ap, ◌∙◌, subst, arith}
-use Rattle.std.proofs.lemmas.Bool.{true≢false, cases_Bool, cases_lt, false_from_ne_true}
-use Rattle.cell_races.specs.declared.access.Access.{Access}
+use Rattle.std.proofs.lemmas.Bool.{true≢false, cases_lt, false_from_ne_true}
 use Rattle.cell_races.specs.declared.access.Visit.{Visit}
-use Rattle.cell_races.specs.Accesses.{conflicts}
 use Rattle.cell_races.specs.Visits.{merged}
 use Rattle.cell_races.specs.Races.{is_loose, race_in, Races, IsFirstRace}
 use Rattle.cell_races.proofs.Members.{Member, contains_of, member_append, all_at, member_left}
 use Rattle.cell_races.proofs.Ordered.{Ordered, pairs_of, ordered_append}
-use Rattle.cell_races.proofs.Merging.{Climbs, Rises, IsKept, IsFrom, merged_kept, merged_members, merged_rises}
+use Rattle.cell_races.proofs.Merging.{Climbs, Rises, merged_kept, merged_members, merged_rises}
 use Rattle.cell_races.proofs.Stands.{loose}
 use Rattle.cell_races.proofs.Firsts.{first_race_is, none_race, is_race, conflicts_turned}
 
@@ -51,7 +49,8 @@ module _ (before : ℕ → ℕ → Bool) where
           (λ e. r.races.0 (sym one.same ∙ (e ∙ other.same))),
           conflicts_turned one.by.access other.by.access ∙ other.more one.by.access (conflicts_turned r.other.access one.by.access ∙ c),
           rw (one.same, other.same) r.races.2,
-          rw (one.same, other.same) r.races.3);
+          rw (one.same, other.same) r.races.3,
+        );
       }
 
   from_all : (xs : List Visit) (a b : ℕ) → RaceOf before (merged xs) a b → RaceOf before xs a b
@@ -70,7 +69,8 @@ module _ (before : ℕ → ℕ → Bool) where
           (λ e. r.races.0 (sym one.same ∙ (e ∙ other.same))),
           conflicts_turned one.of.access other.of.access ∙ other.too (conflicts_turned r.other.access one.of.access ∙ c),
           rw (one.same, other.same) r.races.2,
-          rw (one.same, other.same) r.races.3);
+          rw (one.same, other.same) r.races.3,
+        );
       }
 
   -- What the scan of a cell finds, of all that is done there.

@@ -1,8 +1,7 @@
 -- Touches in order.
-use Rattle.std.proofs.Common.{Less, Equal, Greater, ◌≡◌, ℕ, ◌==◌, ◌&&◌, ◌||◌, ◌<◌, Bool, true, false, nat_lt, List, [], ◌∷◌, ◌++◌, inl, inr, ◌+◌, refl, sym, ap, ◌∙◌, arith, append_assoc, get_or, length}
+use Rattle.std.proofs.Common.{Less, Equal, Greater, ◌≡◌, ℕ, ◌==◌, ◌&&◌, ◌||◌, ◌<◌, Bool, true, false, nat_lt, List, [], ◌∷◌, ◌++◌, inl, inr, ◌+◌, refl, sym, ◌∙◌, arith, append_assoc, get_or, length}
 use Rattle.std.specs.declared.cmp.Ordering.{Ordering}
 use Rattle.std.specs.Ordering.{nat_cmp, ordering_then, is_lt}
-use Rattle.std.specs.List.Sorted.{IsSortedBy}
 use Rattle.std.proofs.lemmas.Bool.{cases_Bool}
 use Rattle.std.proofs.lemmas.Bool.Decides.{nat_tests}
 use Rattle.std.proofs.lemmas.Cmp.{nat_cmp_total, then_total, on_total}
@@ -73,18 +72,27 @@ bools false true false d e = refl
 
 key_less : (x y : Touch) → is_lt (key_order x y) ≡ comes_first (key x.cell) (key y.cell)
 key_less x y =
-    rw (less_then (ordering_then (nat_cmp x.cell.inst y.cell.inst) (nat_cmp x.cell.point y.cell.point)) (nat_cmp x.cell.field y.cell.field),
-        less_then (nat_cmp x.cell.inst y.cell.inst) (nat_cmp x.cell.point y.cell.point),
-        tied_then (nat_cmp x.cell.inst y.cell.inst) (nat_cmp x.cell.point y.cell.point),
-        less_is x.cell.inst y.cell.inst, less_is x.cell.point y.cell.point, less_is x.cell.field y.cell.field,
-        tied_is x.cell.inst y.cell.inst, tied_is x.cell.point y.cell.point)
+    rw (
+      less_then (ordering_then (nat_cmp x.cell.inst y.cell.inst) (nat_cmp x.cell.point y.cell.point)) (nat_cmp x.cell.field y.cell.field),
+      less_then (nat_cmp x.cell.inst y.cell.inst) (nat_cmp x.cell.point y.cell.point),
+      tied_then (nat_cmp x.cell.inst y.cell.inst) (nat_cmp x.cell.point y.cell.point),
+      less_is x.cell.inst y.cell.inst,
+      less_is x.cell.point y.cell.point,
+      less_is x.cell.field y.cell.field,
+      tied_is x.cell.inst y.cell.inst,
+      tied_is x.cell.point y.cell.point,
+    )
     (bools (nat_lt x.cell.inst y.cell.inst) (x.cell.inst == y.cell.inst) (nat_lt x.cell.point y.cell.point) (x.cell.point == y.cell.point) (nat_lt x.cell.field y.cell.field))
 
 key_tied : (x y : Touch) → is_tied (key_order x y) ≡ same_cell x.cell y.cell
 key_tied x y =
-    rw (tied_then (ordering_then (nat_cmp x.cell.inst y.cell.inst) (nat_cmp x.cell.point y.cell.point)) (nat_cmp x.cell.field y.cell.field),
-        tied_then (nat_cmp x.cell.inst y.cell.inst) (nat_cmp x.cell.point y.cell.point),
-        tied_is x.cell.inst y.cell.inst, tied_is x.cell.point y.cell.point, tied_is x.cell.field y.cell.field)
+    rw (
+      tied_then (ordering_then (nat_cmp x.cell.inst y.cell.inst) (nat_cmp x.cell.point y.cell.point)) (nat_cmp x.cell.field y.cell.field),
+      tied_then (nat_cmp x.cell.inst y.cell.inst) (nat_cmp x.cell.point y.cell.point),
+      tied_is x.cell.inst y.cell.inst,
+      tied_is x.cell.point y.cell.point,
+      tied_is x.cell.field y.cell.field,
+    )
     (sym (same_is x.cell y.cell))
 
 order_is : (x y : Touch) → is_lt (touch_order x y) ≡ comes_before x y

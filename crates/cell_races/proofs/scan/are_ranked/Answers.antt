@@ -1,5 +1,4 @@
-use Rattle.std.proofs.Common.{◌≡◌, ◌<◌, ℕ, List, ap, sym, subst, length, slice_index, All, Contains}
-use Rattle.reach_marks.specs.Reached.{before_in}
+use Rattle.std.proofs.Common.{◌≡◌, ◌<◌, sym, subst, length, slice_index, Contains}
 use Rattle.cell_races.proofs.Members.{all_of, contains_of}
 use Rattle.cell_races.proofs.scan.are_ranked.Goals as goal
 
