@@ -13,10 +13,11 @@ use Rattle.cell_races.specs.Touches.{key, comes_before}
 use Rattle.cell_races.specs.Visits.{visit_of, visits_of}
 use Rattle.cell_races.specs.Races.{race_in}
 use Rattle.cell_races.specs.Clashes.{Clash, IsFree, IsShown}
-use Rattle.cell_races.proofs.Members.{Member, member_of, contains_of, member_append, member_left, all_at}
+use Rattle.log_laws.proofs.Members.{member_right, map_member, member_map, Member, member_of, contains_of, member_append, member_left}
+use Rattle.cell_races.proofs.Members.{all_at}
 use Rattle.cell_races.proofs.Ordered.{Ordered, ordered_append, ordered_map}
-use Rattle.cell_races.proofs.Merging.{Climbs, visit_members}
-use Rattle.cell_races.proofs.Sorting.{same_is}
+use Rattle.cell_races.proofs.Merging.{Climbs}
+use Rattle.cell_races.proofs.Sorting.{same_itself}
 use Rattle.cell_races.proofs.ShownAt.{RaceOf, none_at, shown_at}
 
 -- ---- cells in order
@@ -39,9 +40,6 @@ neither_first a b e f = rw (inst_is a b e f, point_is a b e f, field_is a b e f)
 or_false : (a b : Bool) → (a || b) ≡ false → (a ≡ false) × (b ≡ false)
 or_false true b e = absurd (true≢false e)
 or_false false b e = (refl, e)
-
-same_itself : (c : Cell) → same_cell c c ≡ true
-same_itself c = same_is c c ∙ grind (arith, nat_tests)
 
 not_less : (m n : ℕ) → nat_lt m n ≡ false → n ≤ m
 not_less m n e = grind (arith, nat_tests)
@@ -72,10 +70,6 @@ IsApart front back = (x y : Touch) → Member front x → Member back y → x.ce
 abbrev pub BeginsElsewhere : Cell → List Touch → Type 0
 BeginsElsewhere c [] = Unit {0}
 BeginsElsewhere c (x ∷ xs) = x.cell ≡ c → ⊥
-
-member_right : (xs ys : List Touch) (y : Touch) → Member ys y → Member (xs ++ ys) y
-member_right [] ys y m = m
-member_right (x ∷ xs) ys y m = inr (member_right xs ys y m)
 
 gone : (r : Touch) (back : List Touch) → ((y : Touch) → Member back y → NotAfter r y) → Ordered NotAfter back → BeginsElsewhere r.cell back → (y : Touch) → Member back y → y.cell ≡ r.cell → ⊥
 gone r [] after o begins y m at = absurd m
@@ -144,17 +138,12 @@ module _ (before : ℕ → ℕ → Bool) (order : List ℕ) where
         ]
       ]
 
-  map_member : (xs : List Touch) (x : Touch) → Member xs x → Member (map (visit_of order) xs) (visit_of order x)
-  map_member [] x m = absurd m
-  map_member (y ∷ xs) x (inl here) = inl (ap (visit_of order) here)
-  map_member (y ∷ xs) x (inr later) = inr (map_member xs x later)
-
   race_of : (here all : List Touch) (a b : ℕ) (cell : Cell) (k : Clash before order all a b cell) → Member here k.one → Member here k.other → RaceOf before (map (visit_of order) here) a b
   race_of here all a b cell k m n = record {
     one = visit_of order k.one;
     other = visit_of order k.other;
-    one_in = map_member here k.one m;
-    other_in = map_member here k.other n;
+    one_in = map_member (visit_of order) here k.one m;
+    other_in = map_member (visit_of order) here k.other n;
     one_by = k.one_by;
     other_by = k.other_by;
     races = (
@@ -168,8 +157,8 @@ module _ (before : ℕ → ℕ → Bool) (order : List ℕ) where
   clash_of : (c : Cell) (here all : List Touch) → ((x : Touch) → Member here x → x.cell ≡ c) → ((x : Touch) → Member here x → Member all x)
       → (a b : ℕ) → RaceOf before (map (visit_of order) here) a b → Clash before order all a b c
   clash_of c here all at within a b r =
-      let one = visit_members order here r.one r.one_in in
-      let other = visit_members order here r.other r.other_in in
+      let one = member_map (visit_of order) here r.one r.one_in in
+      let other = member_map (visit_of order) here r.other r.other_in in
       let one_by : slice_index order one.0.place ≡ a = ap (λ (v : Visit). v.node) (sym one.2) ∙ r.one_by in
       let other_by : slice_index order other.0.place ≡ b = ap (λ (v : Visit). v.node) (sym other.2) ∙ r.other_by in
       record {

@@ -13,7 +13,8 @@ use Rattle.cell_races.specs.Accesses.{conflicts}
 use Rattle.cell_races.specs.Races.{is_loose, race_from, race_in, IsInTurn, Races, IsFirstRace, IsTransitive}
 use Rattle.std.proofs.lemmas.List.Elements.{All-cons, All-nil, All-push, All-head, All-tail}
 use Rattle.cell_races.specs.Groups.{asked, Groups, no_groups, groups_of, groups_from, with_visit}
-use Rattle.cell_races.proofs.Members.{Member, member_of, none_at, find_any, find_none, all_of}
+use Rattle.log_laws.proofs.Members.{Member, member_of, none_at, find_any}
+use Rattle.cell_races.proofs.Members.{find_none, all_of}
 use Rattle.cell_races.proofs.Stands.{Stands, stands_none, stands_more, tells, loose}
 
 -- What is found stands behind what does not pass.

@@ -9,7 +9,8 @@ use Rattle.cell_races.specs.Accesses.{conflicts, joined}
 use Rattle.cell_races.specs.declared.touches.Touch.{Touch}
 use Rattle.cell_races.specs.Visits.{with_access, merged_from, merged, visit_of, visits_of}
 use Rattle.cell_races.proofs.Ordered.{Ordered}
-use Rattle.cell_races.proofs.Members.{Member, all_of, all_at}
+use Rattle.log_laws.proofs.Members.{member_map, Member}
+use Rattle.cell_races.proofs.Members.{all_of, all_at}
 
 -- An access conflicts with two joined ones where it does with one of them.
 joined_conflicts : (a b z : Access) → conflicts (joined a b) z ≡ (conflicts a z || conflicts b z)
@@ -141,11 +142,6 @@ module _ (rank : ℕ → ℕ) where
 
 -- ---- the nodes of touches
 
-pub visit_members : (order : List ℕ) (touches : List Touch) (v : Visit) → Member (map (visit_of order) touches) v → (x : Touch) × Member touches x × (v ≡ visit_of order x)
-visit_members order [] v m = absurd m
-visit_members order (x ∷ xs) v (inl first) = (x, inl refl, first)
-visit_members order (x ∷ xs) v (inr later) = let r = visit_members order xs v later in (r.0, inr r.1, r.2)
-
 pub merged_members : (xs : List Visit) (y : Visit) (z : Access) → Member (merged xs) y → IsFrom xs y z
 merged_members [] y z m = absurd m
 merged_members (x ∷ xs) y z m = from_merged x xs y z m
@@ -153,7 +149,7 @@ merged_members (x ∷ xs) y z m = from_merged x xs y z m
 pub joined_within : (order : List ℕ) (n : ℕ) → All (λ k. k < n) order → (touches : List Touch) → All (λ (x : Touch). x.place < length order) touches → All (λ (v : Visit). v.node < n) (visits_of order touches)
 joined_within order n marked touches within = all_of (λ (v : Visit). v.node < n) (visits_of order touches) (λ v m.
     let f = merged_members (map (visit_of order) touches) v Reads m in
-    let r = visit_members order touches f.of f.listed in
+    let r = member_map (visit_of order) touches f.of f.listed in
     let lt = all_at (λ (x : Touch). x.place < length order) touches r.0 within r.1 in
     subst (λ k. k < n) (ap (λ (w : Visit). w.node) (sym r.2) ∙ f.same) (marked r.0.place 0 lt))
 

@@ -12,11 +12,8 @@ use Rattle.cell_races.specs.declared.access.Access.TheVariants.{Reads, Writes, F
 use Rattle.cell_races.specs.declared.touches.Touch.{Touch}
 use Rattle.cell_races.specs.Accesses.{meant, conflicts}
 use Rattle.cell_races.specs.Touches.{touch, touches_of, both_touched}
-use Rattle.cell_races.proofs.Members.{Member, only}
-use Rattle.cell_races.proofs.Sorting.{same_is}
-
-same_itself : (c : Cell) → same_cell c c ≡ true
-same_itself c = same_is c c ∙ grind (arith, nat_tests)
+use Rattle.log_laws.proofs.Members.{Member, only}
+use Rattle.cell_races.proofs.Sorting.{same_is, same_itself}
 
 inst_same : (a b : Cell) → same_cell a b ≡ true → a.inst ≡ b.inst
 inst_same a b e = let f = sym (same_is a b) ∙ e in grind (arith, nat_tests)

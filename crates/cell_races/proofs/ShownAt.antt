@@ -1,10 +1,11 @@
 -- The race that is shown at a cell, of all races of the nodes that access it.
-use Rattle.std.proofs.Common.{◌≡◌, ◌≢◌, ℕ, ◌<◌, ◌≤◌, ◌⊎◌, inl, inr, Bool, true, false, List, [], ◌∷◌, ◌++◌, Some, None, refl, sym, ap, ◌∙◌, subst, arith}
+use Rattle.std.proofs.Common.{◌≡◌, ◌≢◌, ℕ, ◌<◌, ◌≤◌, ◌⊎◌, inl, inr, Bool, true, false, List, ◌∷◌, ◌++◌, Some, None, refl, sym, ap, ◌∙◌, subst, arith}
 use Rattle.std.proofs.lemmas.Bool.{true≢false, cases_lt, false_from_ne_true}
 use Rattle.cell_races.specs.declared.access.Visit.{Visit}
 use Rattle.cell_races.specs.Visits.{merged}
 use Rattle.cell_races.specs.Races.{is_loose, race_in, Races, IsFirstRace}
-use Rattle.cell_races.proofs.Members.{Member, contains_of, member_append, all_at, member_left}
+use Rattle.log_laws.proofs.Members.{Member, contains_of, member_append, member_left}
+use Rattle.cell_races.proofs.Members.{member_middle, all_at}
 use Rattle.cell_races.proofs.Ordered.{Ordered, pairs_of, ordered_append}
 use Rattle.cell_races.proofs.Merging.{Climbs, Rises, merged_kept, merged_members, merged_rises}
 use Rattle.cell_races.proofs.Stands.{loose}
@@ -95,11 +96,7 @@ module _ (before : ℕ → ℕ → Bool) where
       at_a = pairs_of (Rises rank) front_b (ordered_append (Rises rank) front_b (f.b ∷ f.back) (subst (Ordered (Rises rank)) f.parts o)).0 f.front f.a f.between refl
 
       a_in : Member front_b f.a
-      a_in = middle f.front f.a f.between
-        where
-          middle : (front : List Visit) (x : Visit) (back : List Visit) → Member (front ++ x ∷ back) x
-          middle [] x back = inl refl
-          middle (y ∷ front) x back = inr (middle front x back)
+      a_in = member_middle f.front f.a f.between
 
       -- Where a node of the list stands.
       stands : (y : Visit) → Member xs y → Member front_b y ⊎ ((y ≡ f.b) ⊎ Member f.back y)
@@ -135,7 +132,7 @@ module _ (before : ℕ → ℕ → Bool) where
               one = f.a;
               other = f.b;
               one_in = subst (λ zs. Member zs f.a) (sym f.parts) (member_left front_b (f.b ∷ f.back) f.a a_in);
-              other_in = subst (λ zs. Member zs f.b) (sym f.parts) (last front_b f.b f.back);
+              other_in = subst (λ zs. Member zs f.b) (sym f.parts) (member_middle front_b f.b f.back);
               one_by = refl;
               other_by = refl;
               races = (not_same f.a.node f.b.node lt, l.0, l.1, not_back f.a.node f.b.node lt);
@@ -157,10 +154,6 @@ module _ (before : ℕ → ℕ → Bool) where
               | inr not_early ↦ omega (arith, not_early)
             ];
           }
-        where
-          last : (front : List Visit) (x : Visit) (back : List Visit) → Member (front ++ x ∷ back) x
-          last [] x back = inl refl
-          last (y ∷ front) x back = inr (last front x back)
 
     pub shown_at : (xs : List Visit) → Ordered (Climbs rank) xs → (a b : ℕ) → race_in before (merged xs) ≡ Some (a, b) → IsShownOf before rank xs a b
     shown_at xs o a b e =

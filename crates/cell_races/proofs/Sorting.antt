@@ -19,6 +19,9 @@ pub same_is : (a b : Cell) → same_cell a b ≡ (((a.inst == b.inst) && (a.poin
 unfolding same_cell
 same_is a b = refl
 
+pub same_itself : (c : Cell) → same_cell c c ≡ true
+same_itself c = same_is c c ∙ grind (arith, nat_tests)
+
 and_assoc : (a b c : Bool) → ((a && b) && c) ≡ (a && (b && c))
 and_assoc true b c = refl
 and_assoc false b c = refl

@@ -11,7 +11,8 @@ use Rattle.cell_races.specs.declared.access.Visit.{Visit}
 use Rattle.cell_races.specs.Accesses.{conflicts}
 use Rattle.cell_races.specs.Races.{is_loose, race_from, IsTransitive}
 use Rattle.cell_races.specs.Groups.{Groups, no_groups, with_visit, asked, fails_at}
-use Rattle.cell_races.proofs.Members.{Member, only, member_left, member_last, member_append, any_at, none_at, any_same, all_of, all_at, find_any, find_none}
+use Rattle.log_laws.proofs.Members.{Member, only, member_left, member_append, any_at, none_at, find_any}
+use Rattle.cell_races.proofs.Members.{member_last, any_same, all_of, all_at, find_none}
 
 -- Two accesses that do not conflict are the same.
 pub same_access : (a b : Access) → conflicts a b ≡ false → a ≡ b

@@ -33,6 +33,6 @@ module _ (t : Tables) (order : List ℕ) where
         let same : g.place ≡ n = let lt = g.below in omega (arith, lt, late) in
         member_right (touches_before t order n) (node_touches t n (slice_index order n)) x
         (flat_member (touches_of n) (moves_at t (slice_index order n)) g.move x
-          (subst (λ p. Member (moves_at t (slice_index order p)) g.move) same g.is_move)
-          (subst (λ p. Member (touches_of p g.move) x) same g.listed))
+        (subst (λ p. Member (moves_at t (slice_index order p)) g.move) same g.is_move)
+        (subst (λ p. Member (touches_of p g.move) x) same g.listed))
   ]

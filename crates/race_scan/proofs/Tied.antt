@@ -76,14 +76,17 @@ module _ (t : Tables) (order : List ℕ) (marks : Marks) (replayed : order ≡ r
       → (p : ℕ) × (slice_index order p ≡ k) × Contains touches (touch p cell c)
   touch_of k m cell c in_log does =
       let s = step_in t k m in_log in
-      let p = at_place (length t.nodes) order marks placed k s.0 in
-      (p.0, p.2, contains_of touches (touch p.0 cell c) (all_gathered t order (length order) (touch p.0 cell c) (record {
-        place = p.0;
-        below = p.1;
-        move = m;
-        is_move = subst (λ k. Member (moves_at t k) m) (sym p.2) s.1;
-        listed = member_of (touches_of p.0 m) (touch p.0 cell c) (whole p.0 m cell c does);
-      })))
+      let p = at_place (length t.nodes) order marks placed k s.0 in (
+        p.0,
+        p.2,
+        contains_of touches (touch p.0 cell c) (all_gathered t order (length order) (touch p.0 cell c) (record {
+          place = p.0;
+          below = p.1;
+          move = m;
+          is_move = subst (λ k. Member (moves_at t k) m) (sym p.2) s.1;
+          listed = member_of (touches_of p.0 m) (touch p.0 cell c) (whole p.0 m cell c does);
+        })),
+      )
 
   pub to_clash : (a b : ℕ) (cell : Cell) → Race t a b cell → Clash (before_in marks) order touches a b cell
   to_clash a b cell r =

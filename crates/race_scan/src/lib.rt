@@ -3,5 +3,7 @@
 
 mod gathering;
 mod shown;
+#[cfg(test)]
+mod tests;
 
 pub use shown::{ScanEnd, scan};

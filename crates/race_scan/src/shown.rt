@@ -32,11 +32,7 @@ use std::alloc::{AllocError, Global};
 #[derive(Clone, Copy, Debug)]
 pub enum ScanEnd {
     /// Nodes `a` and `b` conflict at the cell, and neither is before the other.
-    Race {
-        a: usize,
-        b: usize,
-        cell: Cell,
-    },
+    Race { a: usize, b: usize, cell: Cell },
     /// Memory ran out.
     Memory,
 }

@@ -1,5 +1,5 @@
 use Rattle.cell_races.specs.Touches.{touch, touches_of}
-use Rattle.cell_races.proofs.Members.{member_of, contains_of}
+use Rattle.log_laws.proofs.Members.{member_of, contains_of}
 use Rattle.cell_races.proofs.Noted.{noted, whole, both_meant}
 use Rattle.cell_races.proofs.laws.touches_are_accesses.Goals as goal
 

@@ -1,5 +1,6 @@
 use Rattle.std.proofs.Common.{◌≡◌, ◌<◌, sym, subst, length, slice_index, Contains}
-use Rattle.cell_races.proofs.Members.{all_of, contains_of}
+use Rattle.log_laws.proofs.Members.{contains_of}
+use Rattle.cell_races.proofs.Members.{all_of}
 use Rattle.cell_races.proofs.scan.are_ranked.Goals as goal
 
 pub returns : goal.returns
