@@ -1,5 +1,5 @@
 -- Places in the replay order.
-use Rattle.std.proofs.Common.{◌≡◌, ℕ, ◌==◌, ◌<◌, inl, inr, Bool, true, false, List, refl, sym, ap, ◌∙◌, subst, arith, length, slice_index, get_or, position, unwrap_or, All, nat_lt, cond, Some, None, Contains}
+use Rattle.std.proofs.Common.{◌≡◌, ℕ, ◌==◌, ◌<◌, inl, inr, Bool, true, false, List, sym, ap, ◌∙◌, arith, length, slice_index, get_or, position, unwrap_or, All, nat_lt, cond, Some, None, Contains}
 use Rattle.std.specs.List.{position_or_len}
 use Rattle.std.proofs.lemmas.Bool.{true≢false, cases_Bool}
 use Rattle.std.proofs.lemmas.Bool.Decides.{nat_tests}
@@ -7,7 +7,7 @@ use Rattle.std.proofs.lemmas.List.{get_or_default}
 use Rattle.std.proofs.lemmas.List.Quantifiers.{position-Some}
 use Rattle.std.proofs.lemmas.List.Sums.{fails_before_first}
 use Rattle.reach_marks.specs.Reached.{Marks}
-use Rattle.log_laws.proofs.Members.{Member, member_of, none_or_some}
+use Rattle.log_laws.proofs.Members.{none_or_some}
 use Rattle.cell_races.specs.Ranks.{rank_in}
 use Rattle.race_scan.specs.Placed.{ArePlaced}
 

@@ -1,5 +1,5 @@
 -- Races of a log are the clashes of what is gathered of it.
-use Rattle.std.proofs.Common.{◌≡◌, ℕ, ◌<◌, ◌≤◌, inl, inr, Bool, true, false, List, Some, None, Contains, Option, MatchOption, refl, sym, ap, ◌∙◌, subst, arith, length, slice_index, map, unwrap_or, position, ◌==◌, All, get_or}
+use Rattle.std.proofs.Common.{◌≡◌, ℕ, ◌<◌, true, false, List, Some, None, Contains, Option, MatchOption, refl, sym, ap, ◌∙◌, subst, length, slice_index, unwrap_or, position, ◌==◌, All, get_or}
 use Rattle.std.proofs.lemmas.Bool.{true≢false, false_from_ne_true}
 use Rattle.std.proofs.lemmas.List.{length-map, get_or_default}
 use Rattle.semantics.specs.declared.places.Cell.{Cell}
@@ -26,7 +26,7 @@ use Rattle.inst_steps.specs.Stepping.{moves_at}
 use Rattle.race_scan.specs.Gathered.{touches_before}
 use Rattle.race_scan.specs.Placed.{ArePlaced}
 use Rattle.race_scan.specs.Ends.{IsShownIn}
-use Rattle.race_scan.proofs.Collected.{IsGathered, gathered, all_gathered}
+use Rattle.race_scan.proofs.Collected.{gathered, all_gathered}
 use Rattle.race_scan.proofs.Placed.{at_place, place_is}
 
 -- What the laws of touches say.

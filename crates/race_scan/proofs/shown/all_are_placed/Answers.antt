@@ -1,7 +1,6 @@
-use Rattle.std.proofs.Common.{◌≡◌, ◌<◌, ℕ, length, slice_index, All, Contains, sym, subst, true, false}
+use Rattle.std.proofs.Common.{◌≡◌, ◌<◌, ℕ, length, slice_index, Contains, sym, subst, false}
 use Rattle.std.proofs.lemmas.Bool.{false_from_ne_true}
 use Rattle.semantics.specs.ReplayOrder.{is_stuck}
-use Rattle.log_laws.proofs.Members.{Member, member_of}
 use Rattle.race_scan.proofs.Placed.{all_below}
 use Rattle.race_scan.proofs.shown.all_are_placed.Goals as goal
 

@@ -1,11 +1,8 @@
-use Rattle.std.proofs.Common.{◌≡◌, ◌<◌, length, ap, ◌∙◌, subst, sym, All, MatchOption}
+use Rattle.std.proofs.Common.{◌≡◌, length, ap, ◌∙◌, subst}
 use Rattle.semantics.specs.ReplayOrder.{replay_order}
 use Rattle.semantics.specs.Tables.{Tables}
-use Rattle.reach_marks.specs.Reached.{AreMarksOf, before_in}
+use Rattle.reach_marks.specs.Reached.{AreMarksOf}
 use Rattle.point_laws.specs.Cut.{cut}
-use Rattle.cell_races.specs.declared.touches.Touch.{Touch}
-use Rattle.cell_races.specs.Ranks.{rank_in}
-use Rattle.cell_races.specs.Clashes.{IsFree, IsShown}
 use Rattle.race_scan.specs.Gathered.{touches_before}
 use Rattle.race_scan.specs.Placed.{ArePlaced}
 use Rattle.race_scan.proofs.Tied.{found_race, places_within}
