@@ -1,14 +1,12 @@
 //! The race that is shown of all cells.
 
-ghost use Rattle.std.specs.Prelude.{◌≡◌, ◌≢◌, ◌<◌, ◌≤◌, ℕ, All, IfOk, MatchOption, length};
-ghost use Rattle.std.specs.List.{slice_index_or};
+ghost use Rattle.std.specs.Prelude.{◌≡◌, ◌<◌, All, IfOk, MatchOption, length};
 ghost use Rattle.event_graph.specs.Orders.{IsOrderOf};
 ghost use Rattle.reach_marks.specs.Reached.{before_in, AreMarksOf};
-ghost use Rattle.cell_races.specs.declared.touches.Touch.{Touch};
 ghost use Rattle.cell_races.specs.Races.{race_in};
 ghost use Rattle.cell_races.specs.Visits.{visits_of};
 ghost use Rattle.cell_races.specs.Ranks.{AreRanked, rank_in};
-ghost use Rattle.cell_races.specs.Touches.{AreInOrder};
+ghost use Rattle.cell_races.specs.Touches.{AreInOrder, IsCellEnd};
 ghost use Rattle.cell_races.specs.Clashes.{IsFree, IsShown};
 
 use crate::cell_scan::first_race;
@@ -31,10 +29,7 @@ pub struct Clashing {
 /// The first place behind `from` of what is at another cell, or else how many touches there are.
 fn cell_end(touches: &[Touch], from: usize) -> usize
     requires { from < length touches.now }
-    ensures behind { from < result }
-    ensures within { result ≤ length touches.now }
-    ensures same { (k : ℕ) (d : Touch) → from ≤ k → k < result → (slice_index_or touches.now k d).cell ≡ (slice_index_or touches.now from d).cell }
-    ensures other { (d : Touch) → result < length touches.now → (slice_index_or touches.now result d).cell ≢ (slice_index_or touches.now from d).cell }
+    ensures { IsCellEnd touches.now from result }
 {
     for k in from + 1..touches.len() {
         if touches[k].cell != touches[from].cell {

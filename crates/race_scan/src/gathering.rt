@@ -22,7 +22,8 @@ fn push_node<'a, P: ArenaSet<'a>>(
 ) -> Result<(), AllocError>
     requires node { node < length log.now.nodes }
     requires ascend { IsStrictlyIncreasing points.now }
-    ensures { OnOk result (touches.new.items ≡ touches.old.items ++ node_touches (cut points.now log.now) place node) }
+    ensures { OnOk result (touches.new.items
+        ≡ touches.old.items ++ node_touches (cut points.now log.now) place node) }
 {
     for step in steps_on(log, node, points) {
         push_touches(touches, place, step)?;

@@ -72,7 +72,8 @@ fn race_on<'a, P: ArenaSet<'a>>(
     requires order { IsOrderOf graph.now order.now }
     requires reach { AreMarksOf graph.now reach.now }
     requires ascend { IsStrictlyIncreasing points.now }
-    ensures { IfOk result (λ r. MatchOption r (IsRaceFree (cut points.now log.now)) (IsShownIn (cut points.now log.now))) }
+    ensures { IfOk result (λ r. MatchOption r (IsRaceFree (cut points.now log.now))
+        (IsShownIn (cut points.now log.now))) }
 {
     all_are_placed(graph, order, reach);
     touches_are_accesses();
@@ -83,8 +84,10 @@ fn race_on<'a, P: ArenaSet<'a>>(
 
 /// Tables that are cut to first points show the race of the whole.
 fn cut_tables_show_the_race()
-    ensures free { (t : Tables) (firsts : List ℕ) → AreFirsts t firsts → IsRaceFree (cut firsts t) → IsRaceFree t }
-    ensures shown { (t : Tables) (firsts : List ℕ) → AreFirsts t firsts → (a b : ℕ) (cell : Cell) → IsShownRace (cut firsts t) a b cell → IsShownRace t a b cell }
+    ensures free { (t : Tables) (firsts : List ℕ) → AreFirsts t firsts
+        → IsRaceFree (cut firsts t) → IsRaceFree t }
+    ensures shown { (t : Tables) (firsts : List ℕ) → AreFirsts t firsts
+        → (a b : ℕ) (cell : Cell) → IsShownRace (cut firsts t) a b cell → IsShownRace t a b cell }
 {
     cut_tables_keep_points();
     first_points_show_the_race();
