@@ -1,0 +1,112 @@
+//! The race that is shown of all cells.
+
+ghost use Rattle.std.specs.Prelude.{◌≡◌, ◌<◌, All, IfOk, MatchOption, length};
+ghost use Rattle.event_graph.specs.Orders.{IsOrderOf};
+ghost use Rattle.reach_marks.specs.Reached.{before_in, AreMarksOf};
+ghost use Rattle.cell_races.specs.Races.{race_in};
+ghost use Rattle.cell_races.specs.Visits.{visits_of};
+ghost use Rattle.cell_races.specs.Ranks.{AreRanked, rank_in};
+ghost use Rattle.cell_races.specs.Touches.{AreInOrder, IsCellEnd};
+ghost use Rattle.cell_races.specs.Clashes.{IsFree, IsShown};
+
+use crate::cell_scan::first_race;
+use crate::touches::{Touch, sort};
+use crate::visits::visits_of;
+use event_graph::{Graph, Order};
+use log_laws::replay_order_lists;
+use reach_marks::{Reach, before_is_transitive};
+use semantics::Cell;
+use std::alloc::{AllocError, Global};
+
+/// Two nodes that conflict at a cell, neither before the other.
+#[derive(Clone, Copy, Debug)]
+pub struct Clashing {
+    pub a: usize,
+    pub b: usize,
+    pub cell: Cell,
+}
+
+/// The first place behind `from` of what is at another cell, or else how many touches there are.
+fn cell_end(touches: &[Touch], from: usize) -> usize
+    requires { from < length touches.now }
+    ensures { IsCellEnd touches.now from result }
+{
+    for k in from + 1..touches.len() {
+        if touches[k].cell != touches[from].cell {
+            return k;
+        }
+    }
+    touches.len()
+}
+
+/// The race that is shown at one cell.
+fn race_at(
+    alloc: Global,
+    reach: &Reach,
+    order: &[usize],
+    touches: &[Touch],
+) -> Result<Option<(usize, usize)>, AllocError>
+    requires ranked { AreRanked order.now reach.now }
+    requires within { All (λ x. x.place < length order.now) touches.now }
+    ensures { IfOk result (λ r. r ≡ race_in (before_in reach.now) (visits_of order.now touches.now)) }
+{
+    let visits = visits_of(alloc, order, touches)?;
+    let race = first_race(alloc, reach, visits.as_slice())?;
+    Ok(race)
+}
+
+/// The race that is shown of touches in order, cell by cell.
+fn first_clash(
+    alloc: Global,
+    reach: &Reach,
+    order: &[usize],
+    touches: &[Touch],
+) -> Result<Option<Clashing>, AllocError>
+    requires ranked { AreRanked order.now reach.now }
+    requires within { All (λ x. x.place < length order.now) touches.now }
+    requires in_order { AreInOrder touches.now }
+    ensures { IfOk result (λ r. MatchOption r (IsFree (before_in reach.now) order.now touches.now)
+        (IsShown (before_in reach.now) (rank_in reach.now) order.now touches.now)) }
+{
+    let mut from = 0;
+    while from < touches.len() {
+        let end = cell_end(touches, from);
+        if let Some((a, b)) = race_at(alloc, reach, order, &touches[from..end])? {
+            let cell = touches[from].cell;
+            return Ok(Some(Clashing { a, b, cell }));
+        }
+        from = end;
+    }
+    Ok(None)
+}
+
+/// What the order and the marks of a graph say of each other. There is nothing to do.
+fn are_ranked(graph: &Graph, order: &Order, reach: &Reach)
+    requires order { IsOrderOf graph.now order.now }
+    requires reach { AreMarksOf graph.now reach.now }
+    ensures { AreRanked order.now reach.now }
+{
+    replay_order_lists();
+    before_is_transitive();
+}
+
+/// The race that is shown of what the nodes of a graph do at cells. The time is that of a sort of the touches, and linear in them but for that.
+pub fn shown_clash(
+    alloc: Global,
+    graph: &Graph,
+    order: &Order,
+    reach: &Reach,
+    touches: Vec<Touch>,
+) -> Result<Option<Clashing>, AllocError>
+    requires order { IsOrderOf graph.now order.now }
+    requires reach { AreMarksOf graph.now reach.now }
+    requires within { All (λ x. x.place < length order.now) touches.items }
+    ensures { IfOk result (λ r. MatchOption r (IsFree (before_in reach.now) order.now touches.items)
+        (IsShown (before_in reach.now) (rank_in reach.now) order.now touches.items)) }
+{
+    are_ranked(graph, order, reach);
+    let mut sorted = touches;
+    sort(&mut sorted);
+    let clash = first_clash(alloc, reach, order.as_slice(), sorted.as_slice())?;
+    Ok(clash)
+}

@@ -1,0 +1,49 @@
+-- Places in the replay order.
+use Rattle.std.proofs.Common.{◌≡◌, ℕ, ◌==◌, ◌<◌, inl, inr, Bool, true, false, List, sym, ap, ◌∙◌, arith, length, slice_index, get_or, position, unwrap_or, All, nat_lt, cond, Some, None, Contains}
+use Rattle.std.specs.List.{position_or_len}
+use Rattle.std.proofs.lemmas.Bool.{true≢false, cases_Bool}
+use Rattle.std.proofs.lemmas.Bool.Decides.{nat_tests}
+use Rattle.std.proofs.lemmas.List.{get_or_default}
+use Rattle.std.proofs.lemmas.List.Quantifiers.{position-Some}
+use Rattle.std.proofs.lemmas.List.Sums.{fails_before_first}
+use Rattle.reach_marks.specs.Reached.{Marks}
+use Rattle.log_laws.proofs.Members.{none_or_some}
+use Rattle.cell_races.specs.Ranks.{rank_in}
+use Rattle.race_scan.specs.Placed.{ArePlaced}
+
+module _ (count : ℕ) (order : List ℕ) (marks : Marks) (h : ArePlaced count order marks) where
+  -- A node, at its place.
+  pub at_place : (k : ℕ) → k < count → (p : ℕ) × (p < length order) × (slice_index order p ≡ k)
+  at_place k lt = let c = h.whole k lt in (c.0, c.1, get_or_default order c.0 0 k c.1 ∙ c.2)
+
+  same_node : (m n : ℕ) → (m == n) ≡ true → m ≡ n
+  same_node m n e = grind (arith, nat_tests)
+
+  itself : (n : ℕ) → (n == n) ≡ true
+  itself n = grind (arith, nat_tests)
+
+  found : (k : ℕ) → k < count → (position (λ n. n == k) order ≡ None → ⊥)
+  found k lt e =
+      let passes : ℕ → Bool = λ n. n == k in
+      let at = at_place k lt in
+      elim (cases_Bool (nat_lt (position_or_len passes order) (length order))) [
+        | inl less ↦ let bad = sym (ap (λ b. cond b (Some (position_or_len passes order)) None) less) ∙ e in absurd cc
+        | inr not_less ↦
+            let far : at.0 < position_or_len passes order = behind at.0 (position_or_len passes order) (length order) at.1 not_less in
+            true≢false (sym (ap passes at.2 ∙ itself k) ∙ fails_before_first passes order at.0 0 far)
+      ]
+    where
+      behind : (p m n : ℕ) → p < n → nat_lt m n ≡ false → p < m
+      behind p m n lt e = grind (arith, nat_tests)
+
+  pub place_is : (k other : ℕ) → k < count → unwrap_or (position (λ n. n == k) order) other ≡ rank_in marks k
+  place_is k other lt = elim (none_or_some (position (λ n. n == k) order)) [
+    | inl none ↦ absurd (found k lt none)
+    | inr some ↦
+        let at = position-Some (λ n. n == k) order some.0 0 some.1 in
+        let is : slice_index order some.0 ≡ k = same_node (slice_index order some.0) k at.1 in
+        ap (λ o. unwrap_or o other) some.1 ∙ (sym (h.placed some.0 at.0) ∙ ap (rank_in marks) is)
+  ]
+
+pub all_below : (ks : List ℕ) (n : ℕ) → ((k : ℕ) → Contains ks k → k < n) → All (λ k. k < n) ks
+all_below ks n h i d lt = h (get_or ks i d) (i, lt, get_or_default ks i (get_or ks i d) d lt)

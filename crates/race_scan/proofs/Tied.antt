@@ -1,0 +1,174 @@
+-- Races of a log are the clashes of what is gathered of it.
+use Rattle.std.proofs.Common.{◌≡◌, ℕ, ◌<◌, true, false, List, Some, None, Contains, Option, MatchOption, refl, sym, ap, ◌∙◌, subst, length, slice_index, unwrap_or, position, ◌==◌, All, get_or}
+use Rattle.std.proofs.lemmas.Bool.{true≢false, false_from_ne_true}
+use Rattle.std.proofs.lemmas.List.{length-map, get_or_default}
+use Rattle.semantics.specs.declared.places.Cell.{Cell}
+use Rattle.semantics.specs.declared.moves.Move.{Move}
+use Rattle.semantics.specs.Tables.{Tables, numbers_from}
+use Rattle.semantics.specs.Events.{graph_of, Before}
+use Rattle.semantics.specs.ReplayOrder.{replay_order}
+use Rattle.semantics.specs.Steps.{Step, steps}
+use Rattle.semantics.specs.Races as races
+use Rattle.semantics.specs.Races.{Race, IsRaceFree, access}
+use Rattle.semantics.specs.Shown.{IsShownRace, replay_place}
+use Rattle.log_laws.proofs.Members.{Member, member_of, contains_of, member_flat, flat_member, map_member}
+use Rattle.log_laws.proofs.StepLists.{steps_at, step_at}
+use Rattle.log_laws.proofs.Apart.{number_within, number_in}
+use Rattle.reach_marks.specs.Reached.{Marks, AreMarksOf, before_in}
+use Rattle.cell_races.specs.declared.access.Access.{Access}
+use Rattle.cell_races.specs.declared.touches.Touch.{Touch}
+use Rattle.cell_races.specs.declared.scan.Clashing.{Clashing}
+use Rattle.cell_races.specs.Accesses.{meant, conflicts}
+use Rattle.cell_races.specs.Touches.{touch, touches_of}
+use Rattle.cell_races.specs.Ranks.{rank_in}
+use Rattle.cell_races.specs.Clashes.{Clash, IsFree, IsShown}
+use Rattle.inst_steps.specs.Stepping.{moves_at}
+use Rattle.race_scan.specs.Gathered.{touches_before}
+use Rattle.race_scan.specs.Placed.{ArePlaced}
+use Rattle.race_scan.specs.Ends.{IsShownIn}
+use Rattle.race_scan.proofs.Collected.{gathered, all_gathered}
+use Rattle.race_scan.proofs.Placed.{at_place, place_is}
+
+-- What the laws of touches say.
+abbrev pub IsNoted : Type 0
+IsNoted = (place : ℕ) (m : Move) (x : Touch) → Contains (touches_of place m) x → (x.place ≡ place) × (access m x.cell ≡ meant x.access)
+
+abbrev pub IsWhole : Type 0
+IsWhole = (place : ℕ) (m : Move) (cell : Cell) (a : Access) → access m cell ≡ meant a → Contains (touches_of place m) (touch place cell a)
+
+abbrev pub IsMeant : Type 0
+IsMeant = (a b : races.Access) → races.conflicts a b ≡ true → (c d : Access) × (a ≡ meant c) × (b ≡ meant d) × (conflicts c d ≡ true)
+
+-- ---- steps
+
+step_in : (t : Tables) (k : ℕ) (m : Move) → Contains (steps t) (record { node = k; move = m }) → (k < length t.nodes) × Member (moves_at t k) m
+step_in t k m c =
+    let x : Step = record { node = k; move = m } in
+    let at = member_flat (steps_at t) (numbers_from 0 (length t.nodes)) x (member_of (steps t) x c) in
+    let of = step_at t at.0 x at.2 in
+    (subst (λ n. n < length t.nodes) (sym of.0) (number_within (length t.nodes) at.0 at.1), of.1)
+
+in_steps : (t : Tables) (k : ℕ) (m : Move) → k < length t.nodes → Member (moves_at t k) m → Contains (steps t) (record { node = k; move = m })
+in_steps t k m lt h =
+    contains_of (steps t) (record { node = k; move = m })
+    (flat_member (steps_at t) (numbers_from 0 (length t.nodes)) k (record { node = k; move = m }) (number_in (length t.nodes) k lt)
+    (map_member (λ m. record { node = k; move = m }) (moves_at t k) m h))
+
+module _ (t : Tables) (order : List ℕ) (marks : Marks) (replayed : order ≡ replay_order (graph_of t.nodes)) (marked : AreMarksOf (graph_of t.nodes) marks)
+    (at_graph : ArePlaced (length (graph_of t.nodes)) order marks) (noted : IsNoted) (whole : IsWhole) (is_meant : IsMeant) where
+  abbrev touches : List Touch
+  touches = touches_before t order (length order)
+
+  many : length (graph_of t.nodes) ≡ length t.nodes
+  many = length-map t.nodes _
+
+  placed : ArePlaced (length t.nodes) order marks
+  placed = subst (λ n. ArePlaced n order marks) many at_graph
+
+  not_before : (a b : ℕ) → a < length t.nodes → b < length t.nodes → (Before (graph_of t.nodes) a b → ⊥) → before_in marks a b ≡ false
+  not_before a b la lb none = false_from_ne_true (before_in marks a b) (λ e. none ((marked.exact a b (rw many la) (rw many lb)).0 e))
+
+  none_before : (a b : ℕ) → a < length t.nodes → b < length t.nodes → before_in marks a b ≡ false → Before (graph_of t.nodes) a b → ⊥
+  none_before a b la lb e before = true≢false (sym ((marked.exact a b (rw many la) (rw many lb)).1 before) ∙ e)
+
+  -- What a step does at a cell is gathered at the place of its node.
+  pub touch_of : (k : ℕ) (m : Move) (cell : Cell) (c : Access) → Contains (steps t) (record { node = k; move = m }) → access m cell ≡ meant c
+      → (p : ℕ) × (slice_index order p ≡ k) × Contains touches (touch p cell c)
+  touch_of k m cell c in_log does =
+      let s = step_in t k m in_log in
+      let p = at_place (length t.nodes) order marks placed k s.0 in (
+        p.0,
+        p.2,
+        contains_of touches (touch p.0 cell c) (all_gathered t order (length order) (touch p.0 cell c) (record {
+          place = p.0;
+          below = p.1;
+          move = m;
+          is_move = subst (λ k. Member (moves_at t k) m) (sym p.2) s.1;
+          listed = member_of (touches_of p.0 m) (touch p.0 cell c) (whole p.0 m cell c does);
+        })),
+      )
+
+  pub to_clash : (a b : ℕ) (cell : Cell) → Race t a b cell → Clash (before_in marks) order touches a b cell
+  to_clash a b cell r =
+      let m = is_meant (access r.one cell) (access r.other cell) r.conflict in
+      let one = touch_of a r.one cell m.0 r.one_in m.2 in
+      let other = touch_of b r.other cell m.1 r.other_in m.3 in
+      let la = (step_in t a r.one r.one_in).0 in
+      let lb = (step_in t b r.other r.other_in).0 in
+      record {
+        differ = r.differ;
+        one = touch one.0 cell m.0;
+        other = touch other.0 cell m.1;
+        one_in = one.2;
+        other_in = other.2;
+        one_at = refl;
+        other_at = refl;
+        one_by = one.1;
+        other_by = other.1;
+        conflict = m.4;
+        not_before = not_before a b la lb r.not_before;
+        not_after = not_before b a lb la r.not_after;
+      }
+
+  -- What is gathered is what a step of its node does.
+  step_of : (x : Touch) (k : ℕ) → Contains touches x → slice_index order x.place ≡ k
+      → (m : Move) × (k < length t.nodes) × Contains (steps t) (record { node = k; move = m }) × (access m x.cell ≡ meant x.access)
+  step_of x k c by =
+      let g = gathered t order (length order) x (member_of touches x c) in
+      let n = noted g.place g.move x (contains_of (touches_of g.place g.move) x g.listed) in
+      let is : slice_index order g.place ≡ k = ap (slice_index order) (sym n.0) ∙ by in
+      let lt : k < length t.nodes = subst (λ k. k < length t.nodes) is (placed.within g.place 0 g.below) in
+      (g.move, lt, in_steps t k g.move lt (subst (λ k. Member (moves_at t k) g.move) is g.is_move), n.1)
+
+  pub to_race : (a b : ℕ) (cell : Cell) → Clash (before_in marks) order touches a b cell → Race t a b cell
+  to_race a b cell k =
+      let one = step_of k.one a k.one_in k.one_by in
+      let other = step_of k.other b k.other_in k.other_by in
+      let does : access one.0 cell ≡ meant k.one.access = ap (access one.0) (sym k.one_at) ∙ one.3 in
+      let other_does : access other.0 cell ≡ meant k.other.access = ap (access other.0) (sym k.other_at) ∙ other.3 in
+      record {
+        differ = k.differ;
+        one = one.0;
+        other = other.0;
+        one_in = one.2;
+        other_in = other.2;
+        conflict = rw (does, other_does) k.conflict;
+        not_before = none_before a b one.1 other.1 k.not_before;
+        not_after = none_before b a other.1 one.1 k.not_after;
+      }
+
+  -- ---- places
+
+  rank_is : (k : ℕ) → k < length t.nodes → replay_place t k ≡ rank_in marks k
+  rank_is k lt = ap (λ ns. unwrap_or (position (λ n. n == k) ns) (length t.nodes)) (sym replayed) ∙ place_is (length t.nodes) order marks placed k (length t.nodes) lt
+
+  nodes_of : (a b : ℕ) (cell : Cell) → Race t a b cell → (replay_place t a ≡ rank_in marks a) × (replay_place t b ≡ rank_in marks b)
+  nodes_of a b cell r = (rank_is a (step_in t a r.one r.one_in).0, rank_is b (step_in t b r.other r.other_in).0)
+
+  pub free_race : IsFree (before_in marks) order touches → IsRaceFree t
+  free_race free a b cell r = free a b cell (to_clash a b cell r)
+
+  pub shown_race : (s : Clashing) → IsShown (before_in marks) (rank_in marks) order touches s → IsShownRace t s.a s.b s.cell
+  shown_race s h =
+      let race = to_race s.a s.b s.cell h.clash in
+      let at = nodes_of s.a s.b s.cell race in
+      record {
+        race = race;
+        in_order = rw (at.0, at.1) h.in_order;
+        least_cell = λ c d other r. h.least_cell c d other (to_clash c d other r);
+        first_later = λ c d r less. let n = nodes_of c d s.cell r in rw (at.1, n.1) (h.first_later c d (to_clash c d s.cell r) (rw (← n.0, ← n.1) less));
+        first_earlier = λ c r less. let n = nodes_of c s.b s.cell r in rw (at.0, n.0) (h.first_earlier c (to_clash c s.b s.cell r) (rw (← n.0, ← at.1) less));
+      }
+
+  pub found_race : (o : Option Clashing) → MatchOption o (IsFree (before_in marks) order touches) (IsShown (before_in marks) (rank_in marks) order touches) → MatchOption o (IsRaceFree t) (IsShownIn t)
+  found_race None h = free_race h
+  found_race (Some s) h = shown_race s h
+
+-- Each touch is at a place of the order.
+pub places_within : (t : Tables) (order : List ℕ) (n : ℕ) → IsNoted → All (λ (x : Touch). x.place < n) (touches_before t order n)
+places_within t order n noted = all_places (touches_before t order n) (λ x m.
+    let g = gathered t order n x m in
+    subst (λ p. p < n) (sym (noted g.place g.move x (contains_of (touches_of g.place g.move) x g.listed)).0) g.below)
+  where
+    all_places : (xs : List Touch) → ((x : Touch) → Member xs x → x.place < n) → All (λ (x : Touch). x.place < n) xs
+    all_places xs h i d lt = h (get_or xs i d) (member_of xs (get_or xs i d) (i, lt, get_or_default xs i (get_or xs i d) d lt))

@@ -1,0 +1,9 @@
+//! The race of a recorded run that is shown: two nodes that conflict at a cell, neither before the other.
+#![tactic(auto)]
+
+mod gathering;
+mod shown;
+#[cfg(test)]
+mod tests;
+
+pub use shown::{ScanEnd, scan};
