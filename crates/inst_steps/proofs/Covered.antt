@@ -26,7 +26,8 @@ use Rattle.semantics.specs.Reads.{req_at}
 use Rattle.semantics.specs.Steps.{inst_at, cell_in, id_of, operator_of}
 use Rattle.semantics.specs.Rules as rules
 use Rattle.semantics.specs.Rules.{is_declared, names, space_id, lacks, is_not_covered, named_req, lacks_req}
-use Rattle.semantics.specs.Faults.{Check, unmapped_fault}
+use Rattle.semantics.specs.declared.command.Command.TheVariants.{Check}
+use Rattle.semantics.specs.Faults.{unmapped_fault}
 use Rattle.log_decl.specs.Faultless.{AreDeclared}
 use Rattle.log_laws.proofs.Members.{Member, Each, each_more, member_of, member_at, member_flat, member_map, member_append, member_filter, all_at, is_in_of, member_in, found_at, find_any, find_still, none_or_some, only}
 use Rattle.log_laws.proofs.Apart.{member_grid}
