@@ -23,15 +23,33 @@ pub fn answer(alloc: Global, command: &str, log: &[u8]) -> Result<(Status, Vec<u
     Ok((status, sink.held().to_vec(alloc)?))
 }
 
-/// The log with another text in the place of one line, counted from 1.
-pub fn with_line(alloc: Global, log: &[u8], number: usize, text: &[u8]) -> Result<Vec<u8>, Fail> {
+/// A line of a log, counted from 1, and the text that takes its place. An empty text takes the line away.
+pub type Edit<'a> = (usize, &'a [u8]);
+
+/// What takes the place of a line.
+fn edited_line<'a>(number: usize, line: &'a [u8], edits: &[Edit<'a>]) -> Option<&'a [u8]> {
+    for (at, text) in edits {
+        if *at == number {
+            return if text.is_empty() { None } else { Some(*text) };
+        }
+    }
+    Some(line)
+}
+
+/// The log with other texts in the place of some lines.
+pub fn edited(alloc: Global, log: &[u8], edits: &[Edit<'_>]) -> Result<Vec<u8>, Fail> {
     let mut changed = Vec::new(alloc);
-    for (i, line) in log.split(|b| *b == b'\n').enumerate() {
-        if i > 0 {
+    let mut number = 0usize;
+    for line in log.split(|b| *b == b'\n') {
+        number = number.wrapping_add(1);
+        if let Some(text) = edited_line(number, line, edits) {
+            changed.extend_from_slice(text)?;
             changed.extend_from_slice(b"\n")?;
         }
-        let here = i.wrapping_add(1) == number;
-        changed.extend_from_slice(if here { text } else { line })?;
+    }
+    // What stands behind the last line feed is no line.
+    if changed.ends_with(b"\n") {
+        let _line_feed = changed.pop();
     }
     Ok(changed)
 }

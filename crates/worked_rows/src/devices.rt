@@ -15,7 +15,7 @@ fn words_that_name_no_command_read_nothing(rt: HostRuntime) -> Result<(), Fail> 
         &["ordered", "ordered"],
         &["print", "ordered"],
         &["--help"],
-        &["check"],
+        &["deps", "--size", "4"],
     ];
     for texts in cases {
         let words = words_of(alloc, texts)?;

@@ -10,6 +10,6 @@ mod lines;
 #[cfg(test)]
 mod logs;
 #[cfg(test)]
-mod ordered;
-#[cfg(test)]
 mod printed;
+#[cfg(test)]
+mod rows;
