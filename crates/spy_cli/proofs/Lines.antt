@@ -9,7 +9,6 @@ use Rattle.std.proofs.lemmas.List.Splits.{length-slice_split, slice_split_at, sl
 use Rattle.std.proofs.Math.Seq.{take-append_seam, drop-append_seam}
 use Rattle.spy_io.specs.Causes.{TakesExactly}
 use Rattle.spy_lines.specs.LinesOf.{with_ends, IsLine, IsUnended}
-use Rattle.spy_grammar.specs.declared.code.Code.{Code}
 use Rattle.spy_grammar.specs.declared.code.Code.TheVariants.{TooLong, Newline}
 use Rattle.spy_grammar.specs.declared.record.Lined.{Lined}
 use Rattle.findings.specs.declared.finding.Finding.TheVariants.{Fault as Faulty}

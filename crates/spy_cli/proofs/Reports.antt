@@ -18,7 +18,7 @@ use Rattle.spy_cli.specs.declared.request.Request.{Request}
 use Rattle.spy_cli.specs.declared.request.Request.TheVariants as requests
 use Rattle.spy_cli.specs.declared.status.Status.{Status}
 use Rattle.spy_cli.specs.declared.status.Status.TheVariants as statuses
-use Rattle.spy_cli.specs.Answers.{status_of, Tells, IsJudged, IsFaulty, IsAnswer, IsDecided, IsAdmitted, Keeps, Ends}
+use Rattle.spy_cli.specs.Answers.{status_of, Tells, IsJudged, IsAnswer, IsAdmitted, Keeps, Ends}
 
 abbrev OneLog : Type 0
 OneLog = (bytes : List ℕ) (log other : List Lined) → Reads bytes log → Reads bytes other → log ≡ other

@@ -1,13 +1,12 @@
 -- Chains of waits, and what marks say of them.
-use Rattle.std.proofs.Common.{◌≡◌, ℕ, ◌<◌, ◌≤◌, ◌↔◌, inl, inr, ◌⊎◌, Bool, true, false, nat_lt, List, [], ◌∷◌, length, slice_index, refl, sym, ap, ◌∙◌, subst, arith}
-use Rattle.std.specs.Prelude.{IsTrue}
+use Rattle.std.proofs.Common.{◌≡◌, ℕ, ◌<◌, ◌≤◌, inl, inr, ◌⊎◌, List, [], ◌∷◌, length, refl, ap, arith}
 use Rattle.std.proofs.lemmas.Bool.{lt-ltb, le-ltb}
 use Rattle.std.proofs.lemmas.Option.{slice_get_within}
 use Rattle.semantics.specs.Tables.{Tables}
 use Rattle.semantics.specs.SerialOrder.{serial_place, by_serial}
-use Rattle.semantics.specs.Events.{Node, WaitsOn, IsChain, Before, graph_of}
+use Rattle.semantics.specs.Events.{Node, IsChain, Before, graph_of}
 use Rattle.semantics.specs.Shown.{run_of, IsKept}
-use Rattle.reach_marks.specs.Reached.{Marks, before_in, AreMarksOf}
+use Rattle.reach_marks.specs.Reached.{Marks, AreMarksOf}
 
 chain_start : (nodes : List Node) (a : ℕ) (between : List ℕ) (b : ℕ) → IsChain nodes a between b → a < length nodes
 chain_start nodes a [] b on = slice_get_within nodes a on.on on.on_is

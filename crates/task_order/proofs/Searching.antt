@@ -1,10 +1,9 @@
 -- The search for the first pair that is not kept, one pair after another.
-use Rattle.std.proofs.Common.{◌≡◌, ℕ, ◌+◌, ◌<◌, ◌≤◌, ◌^◌, inl, inr, Bool, true, false, List, [], ◌∷◌, ◌++◌, length, map, filter, refl, sym, ap, ◌∙◌, subst, arith, Contains, drop, Some, None, slice_index, get_or, add-one}
+use Rattle.std.proofs.Common.{◌≡◌, ℕ, ◌+◌, ◌<◌, ◌≤◌, ◌^◌, inl, inr, Bool, true, false, List, [], ◌∷◌, length, filter, refl, sym, ap, ◌∙◌, subst, arith, Contains, slice_index, get_or, add-one}
 use Rattle.std.specs.Prelude.{position, unwrap_or}
 use Rattle.std.specs.List.{AllByRecursion, position_or_len}
 use Rattle.std.proofs.lemmas.Bool.{cases_Bool, lt-ltb, le-ltb, cases_lt}
 use Rattle.std.proofs.lemmas.List.{length-map}
-use Rattle.std.proofs.lemmas.List.Quantifiers.{position-Some}
 use Rattle.semantics.specs.declared.tables.Item.{Item}
 use Rattle.semantics.specs.declared.tables.LogNode.{LogNode}
 use Rattle.semantics.specs.Rules.{runs_item}
@@ -13,7 +12,7 @@ use Rattle.semantics.specs.Shown.{run_of, task_pairs, IsKept, AreKept, IsShownPa
 use Rattle.interference.specs.declared.pair.Pair.{Pair}
 use Rattle.interference.specs.Pairing.{all_pairs}
 use Rattle.interference.specs.Tasks.{are_tasks}
-use Rattle.task_order.specs.Runs.{AreRunsFrom, AreRunsOf}
+use Rattle.task_order.specs.Runs.{AreRunsFrom}
 use Rattle.task_order.specs.Searched.{tasks_among, IsFirstFailing, IsSearched}
 
 -- ---- runs

@@ -1,7 +1,6 @@
 -- The pairs of tasks among some pairs of items, and the first of some that fails.
 use Rattle.std.specs.Prelude.{◌≡◌, ℕ, ◌+◌, ◌<◌, ◌^◌, List, ◌∷◌, ◌++◌, map, filter, Some, length, Contains}
 use Rattle.std.specs.List.{AllByRecursion}
-use Rattle.semantics.specs.declared.places.Place.{Place}
 use Rattle.semantics.specs.declared.tables.Item.{Item}
 use Rattle.semantics.specs.Tables.{Tables}
 use Rattle.semantics.specs.Kinds.{least_place}

@@ -1,6 +1,6 @@
 -- The dependences of a log, one after another.
-use Rattle.std.proofs.Common.{◌≡◌, ℕ, ◌+◌, ◌-◌, ◌<◌, ◌≤◌, inl, inr, ◌⊎◌, Bool, true, false, not, List, [], ◌∷◌, ◌++◌, length, map, refl, sym, ap, ◌∙◌, subst, arith, Contains, Some, get_or, suc, ◌^◌, filter, count_by}
-use Rattle.std.specs.List.{AllByRecursion, filter_map, cons_option}
+use Rattle.std.proofs.Common.{◌≡◌, ℕ, ◌+◌, inl, inr, Bool, not, List, [], ◌∷◌, ◌++◌, length, map, refl, sym, ap, ◌∙◌, subst, arith, Contains, Some, suc, count_by}
+use Rattle.std.specs.List.{filter_map, cons_option}
 use Rattle.std.specs.Prelude.{option_map}
 use Rattle.std.proofs.lemmas.List.Sums.{length-filter}
 use Rattle.std.proofs.lemmas.List.Filters.{length-filter_both}
@@ -10,7 +10,6 @@ use Rattle.semantics.specs.Kinds as kinds
 use Rattle.semantics.specs.Kinds.{least_place}
 use Rattle.semantics.specs.Outcome.{dependence_at, dependences}
 use Rattle.findings.specs.declared.finding.Dep.{Dep}
-use Rattle.findings.specs.Texts.{Fits, IsInRange, dep_line, small}
 use Rattle.interference.specs.declared.pair.Pair.{Pair}
 use Rattle.interference.specs.Pairing.{pair_of, all_pairs}
 use Rattle.log_laws.proofs.Members.{Member, map_member, contains_of}

@@ -45,11 +45,7 @@ fn id_at<'a, P: ArenaSet<'a>>(log: &Log<'a, P>, item: usize) -> u32
 }
 
 /// The ids of two items, the one that is earlier in serial order first.
-pub(crate) fn ids_by_serial<'a, P: ArenaSet<'a>>(
-    log: &Log<'a, P>,
-    a: usize,
-    b: usize,
-) -> (u32, u32)
+pub(crate) fn ids_by_serial<'a, P: ArenaSet<'a>>(log: &Log<'a, P>, a: usize, b: usize) -> (u32, u32)
     requires a { a < length log.now.items }
     requires b { b < length log.now.items }
     ensures first { result.0 ≡ id_of log.now (by_serial log.now (a, b)).0 }

@@ -18,7 +18,14 @@ fn events_fit(events: &[u32])
 fn dep_fits(dep: &Dep)
     ensures { Fits (dep_line dep.now) }
 {
-    let Dep { before: _, a: _a, b: _b, tree: _tree, point: _point, field: _field } = *dep;
+    let Dep {
+        before: _,
+        a: _a,
+        b: _b,
+        tree: _tree,
+        point: _point,
+        field: _field,
+    } = *dep;
 }
 
 /// The same of some of them.

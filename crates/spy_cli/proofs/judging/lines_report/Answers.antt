@@ -1,4 +1,4 @@
-use Rattle.std.proofs.Common.{sym, subst, arith, ap, length}
+use Rattle.std.proofs.Common.{sym, subst, arith}
 use Rattle.log_faults.specs.Lines.{AreLines}
 use Rattle.spy_cli.proofs.Numbered.{are_lines}
 use Rattle.spy_cli.proofs.judging.lines_report.Goals as goal

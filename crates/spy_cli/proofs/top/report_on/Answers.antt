@@ -1,4 +1,4 @@
-use Rattle.std.proofs.Common.{◌≡◌, Err, ap, sym, ◌∙◌}
+use Rattle.std.proofs.Common.{Err, ap, sym, ◌∙◌}
 use Rattle.spy_cli.specs.Answers.{IsAnswer, Tells}
 use Rattle.spy_cli.specs.declared.report.Report.{Report}
 use Rattle.spy_grammar.specs.declared.code.Code.TheVariants.{TooLong}

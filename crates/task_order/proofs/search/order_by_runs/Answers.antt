@@ -1,7 +1,7 @@
 use Rattle.std.proofs.Common.{◌∙◌, sym, ap, arith}
 use Rattle.std.proofs.lemmas.Bool.{true≢false}
 use Rattle.interference.specs.Tasks.{are_tasks}
-use Rattle.task_order.proofs.Searching.{begun, passed, kept_on, found, listed, room, none_left}
+use Rattle.task_order.proofs.Searching.{begun, passed, kept_on, found, listed, none_left}
 use Rattle.task_order.proofs.search.order_by_runs.Goals as goal
 
 pub loop-pair-init : goal.loop-pair-init
@@ -23,8 +23,7 @@ pub returns-then-not-is_kept : goal.returns-then-not-is_kept
 returns-then-not-is_kept g c =
     let law = c.pairs_are_of_items.ensures in
     let at = listed c.args.log.now c.loop-pair.pair-iterator c.loop-pair.count c.in-Some.pair c.next.new.self c.loop-pair.invariant.2 c.in-Some.ensures.steps in
-    let yes = (ap (λ items. are_tasks items c.in-Some.pair) (sym c.loop-pair.invariant.3) ∙ sym c.are_tasks.ensures ∙ c.if-are_tasks.true) in
-    (
+    let yes = (ap (λ items. are_tasks items c.in-Some.pair) (sym c.loop-pair.invariant.3) ∙ sym c.are_tasks.ensures ∙ c.if-are_tasks.true) in (
       found c.args.log.now c.loop-pair.pair-iterator c.loop-pair.count c.in-Some.pair c.next.new.self c.loop-pair.invariant.2 c.in-Some.ensures.steps yes (λ kept. true≢false (sym (c.is_kept.ensures.1 kept) ∙ c.if-not-is_kept.true)),
       law.place c.args.log.now c.in-Some.pair at,
       law.order c.args.log.now c.in-Some.pair at,

@@ -1,4 +1,4 @@
-use Rattle.std.proofs.Common.{◌∙◌, ◌≡◌, ◌+◌, Bool, not, sym, ap, subst, arith, count_by, length}
+use Rattle.std.proofs.Common.{◌∙◌, ◌≡◌, Bool, not, sym, ap, subst, arith, count_by, length}
 use Rattle.findings.specs.declared.finding.Dep.{Dep}
 use Rattle.std.proofs.lemmas.List.Sums.{length-filter}
 use Rattle.semantics.specs.Outcome.{DepsFinds}

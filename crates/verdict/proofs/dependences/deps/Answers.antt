@@ -6,7 +6,7 @@ use Rattle.semantics.specs.declared.command.Command.TheVariants.{Deps}
 use Rattle.semantics.specs.Tables.{Tables}
 use Rattle.semantics.specs.Outcome.{IsFound}
 use Rattle.verdict.specs.Findings.{IsFoundOf}
-use Rattle.verdict.proofs.Ends.{few_items, few_nodes, found_in_log, fault_in_log}
+use Rattle.verdict.proofs.Ends.{few_items, found_in_log, fault_in_log}
 use Rattle.verdict.proofs.dependences.deps.Goals as goal
 
 pub deps_in-found-requires : goal.deps_in-found-requires

@@ -1,4 +1,4 @@
-use Rattle.std.proofs.Common.{◌∙◌, refl, sym, subst, arith, Contains}
+use Rattle.std.proofs.Common.{◌∙◌, refl, subst, arith, Contains}
 use Rattle.interference.specs.Pairing.{all_pairs}
 use Rattle.verdict.specs.Listing.{dependence_of}
 use Rattle.verdict.proofs.Listings.{all_listed, one_listed, behind, first_of}
