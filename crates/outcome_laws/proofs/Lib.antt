@@ -2,3 +2,4 @@ mod Pairs
 mod Races
 mod Found
 mod Inputs
+mod Replays
