@@ -1,8 +1,10 @@
 -- What is found in tables is found in the log.
-use Rattle.std.proofs.Common.{◌≡◌, ℕ, ◌+◌, ◌<◌, ◌≤◌, ◌^◌, List, [], ◌∷◌, ◌++◌, length, fold, refl, sym, ap, ◌∙◌, subst, arith, Some, None}
+use Rattle.std.proofs.Common.{◌≡◌, ℕ, ◌+◌, ◌<◌, ◌≤◌, ◌^◌, List, [], ◌∷◌, ◌++◌, length, fold, refl, sym, ap, ◌∙◌, subst, arith, Some, None, Bool, false, nat_lt}
 use Rattle.std.specs.List.{AllByRecursion}
 use Rattle.std.specs.Option.{option_or}
-use Rattle.std.proofs.lemmas.List.{length_push}
+use Rattle.std.proofs.lemmas.Bool.Decides.{nat_tests}
+use Rattle.std.proofs.lemmas.List.{length-map, length_push}
+use Rattle.std.proofs.lemmas.List.Elements.{recursion_from_All}
 use Rattle.spy_grammar.specs.Spelling.{Good}
 use Rattle.spy_grammar.specs.declared.code.Code.{Code}
 use Rattle.spy_grammar.specs.declared.record.Lined.{Lined}
@@ -17,6 +19,9 @@ use Rattle.semantics.specs.Tables.{Tables, with_record, tables_of, no_tables}
 use Rattle.semantics.specs.Events.{AreLinked, graph_of}
 use Rattle.semantics.specs.Faults.{at_line, declaration_fault, serial_fault, log_fault}
 use Rattle.semantics.specs.Outcome.{IsFound}
+use Rattle.semantics.specs.Rules.{is_late}
+use Rattle.log_laws.proofs.Admitted.{by_records, no_broken_rule}
+use Rattle.log_laws.proofs.Members.{both_none}
 use Rattle.log_decl.specs.Faultless.{AreDeclared}
 use Rattle.log_faults.specs.Lines.{AreLines}
 use Rattle.log_faults.proofs.Ascending.{few_records}
@@ -90,3 +95,35 @@ linked_in linked t are serial =
     let same : serial_fault (tables_of are.log) ≡ None = subst (λ (s : Tables). serial_fault s ≡ None) are.tables serial in
     let clear : log_fault commands.Ordered are.lines are.log ≡ None = past commands.Ordered are.lines are.log are.faultless ∙ ap (λ o. option_or o None) same in
     subst (λ (s : Tables). AreLinked (graph_of s.nodes)) (sym are.tables) (linked commands.Ordered are.lines are.log are.good clear)
+
+-- ---- a log without a fault of its records has few items and nodes
+
+record IsCapped (t : Tables) : Type 0 where
+  items : length t.items ≤ 131073
+  nodes : length t.nodes ≤ 131073
+
+-- A record that is not late adds at most one to what stands before it.
+one_within : (earlier : List Lined) (line : ℕ) (r : Record) → nat_lt 131072 (length (records_of earlier)) ≡ false → IsCapped (with_record (tables_of earlier) line r)
+one_within earlier line r early =
+    let few = few_from no_tables 0 earlier (record { items = omega arith; nodes = omega arith }) in
+    let one = grows (tables_of earlier) line r in
+    let within : length earlier ≤ 131072 = grind (arith, nat_tests, early, records_many earlier) in
+    record { items = omega (arith, few.items, one.items, within); nodes = omega (arith, few.nodes, one.nodes, within) }
+  where
+    records_many : (log : List Lined) → length (records_of log) ≡ length log
+    records_many log = length-map {B = Record} log _
+
+capped_with : (earlier : List Lined) (line : ℕ) (r : Record) → is_late (length (records_of earlier)) r ≡ false → IsCapped (tables_of earlier) → IsCapped (with_record (tables_of earlier) line r)
+capped_with earlier line (records.End n) late capped = capped
+capped_with earlier line r late capped = one_within earlier line r late
+
+capped : (lines : ℕ) (log : List Lined) → declaration_fault lines log ≡ None → IsCapped (tables_of log)
+capped lines log e = by_records (λ r. Unit {0}) IsCapped (records_of log) (λ earlier l u _ h. capped_with earlier l.line l.rec u.0 h)
+    [] log (recursion_from_All _ (records_of log) (λ k d lt. tt)) (no_broken_rule lines log e) (record { items = omega arith; nodes = omega arith })
+
+pub few_declared_nodes : (t : Tables) → AreDeclared t → length t.nodes < 2 ^ 32
+few_declared_nodes t are = let few = capped are.lines are.log are.faultless in omega (arith, few.nodes, ap (λ (s : Tables). length s.nodes) are.tables)
+
+-- Tables that keep each rule of `check` keep the serial order.
+pub serial_of : (t : Tables) → table_fault commands.Check t ≡ None → serial_fault t ≡ None
+serial_of t none = (both_none (serial_fault t) _ none).0

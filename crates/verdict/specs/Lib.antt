@@ -1,3 +1,4 @@
 pub mod Sorted
 pub mod Findings
 pub mod Listing
+pub mod Stages

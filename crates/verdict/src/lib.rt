@@ -1,6 +1,8 @@
 //! What each command finds in the records of a log.
 #![tactic(auto)]
 
+mod clean;
+mod declared;
 mod dependences;
 mod graphs;
 mod items;
@@ -8,8 +10,14 @@ mod memory;
 mod ordering;
 mod reports;
 mod serial;
+mod sorted;
 mod sorting;
+mod stop;
 
+pub use clean::Clean;
+pub use declared::Declared;
 pub use dependences::deps;
 pub use memory::Memory;
 pub use ordering::ordered;
+pub use sorted::Sorted;
+pub use stop::Stop;

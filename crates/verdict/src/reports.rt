@@ -6,7 +6,7 @@ ghost use Rattle.findings.specs.declared.finding.Finding.TheVariants as findings
 ghost use Rattle.findings.specs.Texts.{Fits, Good, IsInRange, dep_line, small};
 
 use findings::{Dep, DepList, EventList, Finding};
-use semantics::Place;
+use semantics::{Cell, Place};
 use spy_grammar::Code;
 
 /// The law of events: each lies in the range of its type. There is nothing to do.
@@ -68,6 +68,20 @@ pub(crate) fn unordered_found(t: u32, u: u32, place: Place) -> Finding
         tree: place.tree,
         point: place.point,
         field: place.field,
+    }
+}
+
+/// Two nodes, by their events, that race at a cell.
+pub(crate) fn race_found(a: u32, b: u32, cell: Cell) -> Finding
+    ensures finding { result ≡ findings.Race a b cell.inst cell.point cell.field }
+    ensures good { Good result }
+{
+    Finding::Race {
+        a,
+        b,
+        inst: cell.inst,
+        point: cell.point,
+        field: cell.field,
     }
 }
 

@@ -1,0 +1,86 @@
+//! A log that keeps each rule of `check`.
+
+ghost use Rattle.std.specs.Prelude.{◌≡◌, ◌≢◌, IfOk, IfErr};
+ghost use Rattle.semantics.specs.declared.command.Command.TheVariants.{Check};
+ghost use Rattle.semantics.specs.Outcome.{CheckFinds};
+ghost use Rattle.verdict.specs.declared.stop.Stop.{Stop};
+ghost use Rattle.verdict.specs.Findings as faults;
+ghost use Rattle.verdict.specs.Stages.{IsStop};
+
+use crate::reports::fault_found;
+use crate::serial::serial_fault;
+use crate::sorted::{Sorted, sorted_parts};
+use crate::stop::Stop;
+use log_decl::Log;
+use point_set::PointSet;
+use region_tree::ArenaSet;
+use semantics::Fault;
+use spy_grammar::Code;
+use std::alloc::Global;
+use std::marker::Model;
+
+/// A log that keeps each rule of `check`. Contracts see its tables.
+#[derive(Drop)]
+pub struct Declared<'a, P: PointSet + Copy> {
+    log: Log<'a, P>,
+}
+
+impl<'a, P: PointSet + Copy> Model for Declared<'a, P> {
+    ghost use Rattle.std.specs.Prelude.{◌≡◌, None};
+    ghost use Rattle.semantics.specs.declared.command.Command.TheVariants.{Check};
+    ghost use Rattle.semantics.specs.Tables.{Tables};
+    ghost use Rattle.verdict.specs.Findings.{table_fault};
+
+    ghost Value = { Tables };
+
+    ghost view = { λ d. d.log };
+
+    ghost invariant = { λ d. table_fault Check d.log ≡ None };
+}
+
+/// The fault that `check` shows of a log's tables.
+fn table_fault<'a, P: ArenaSet<'a>>(log: &Log<'a, P>) -> Option<Fault>
+    ensures { result ≡ faults.table_fault Check log.now }
+{
+    if let Some(fault) = serial_fault(log) {
+        return Some(fault);
+    }
+    match log.mapped() {
+        Ok(()) => None,
+        Err(unmapped) => Some(Fault {
+            line: unmapped.line,
+            code: Code::Unmapped,
+        }),
+    }
+}
+
+impl<'a, P: ArenaSet<'a>> Declared<'a, P> {
+    /// The log, if its serial order and its maps have no fault. No memory is taken.
+    pub fn of(log: Log<'a, P>) -> Result<Declared<'a, P>, Stop>
+        ensures declared { IfOk result (λ d. d ≡ log.entry) }
+        ensures fault { IfErr result (IsStop (faults.IsFoundOf Check log.entry)) }
+        ensures no_memory { IfErr result (λ stop. stop ≢ Stop.Memory) }
+    {
+        match table_fault(&log) {
+            None => Ok(Declared { log }),
+            Some(fault) => {
+                drop(log);
+                Err(Stop::Found(fault_found(fault.line, fault.code)))
+            }
+        }
+    }
+
+    /// The log with its nodes sorted, or the cycle that is shown.
+    pub fn sort(self, alloc: Global) -> Result<Sorted<'a, P>, Stop>
+        ensures sorted { IfOk result (λ s. s ≡ self.entry) }
+        ensures stop { IfErr result (IsStop (CheckFinds self.entry)) }
+    {
+        match sorted_parts(alloc, &self.log) {
+            Ok((sorting, atoms)) => Ok(Sorted::of(self.log, sorting, atoms)),
+            Err(stop) => {
+                drop(self);
+                Err(stop)
+            }
+        }
+    }
+}

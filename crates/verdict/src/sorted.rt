@@ -1,0 +1,161 @@
+//! A log whose nodes are sorted.
+
+ghost use Rattle.std.specs.Prelude.{◌≡◌, None, IfOk, IfErr, OnOk};
+ghost use Rattle.semantics.specs.declared.command.Command.TheVariants.{Check};
+ghost use Rattle.semantics.specs.Events.{graph_of};
+ghost use Rattle.semantics.specs.Outcome.{CheckFinds, event_of};
+ghost use Rattle.semantics.specs.Races.{IsRaceFree};
+ghost use Rattle.point_laws.specs.Alike.{AreFirsts};
+ghost use Rattle.atoms.specs.Atoms.{first_points};
+ghost use Rattle.verdict.specs.Findings.{table_fault};
+ghost use Rattle.verdict.specs.Sorted.{AreSorted};
+ghost use Rattle.verdict.specs.Stages.{IsStop};
+
+use crate::clean::Clean;
+use crate::ordering::sort_log;
+use crate::reports::{cycle_found, race_found};
+use crate::sorting::{Sorting, Unsorted};
+use crate::stop::Stop;
+use atoms::Atoms;
+use log_decl::Log;
+use point_set::PointSet;
+use race_scan::{ScanEnd, scan};
+use region_tree::ArenaSet;
+use std::alloc::Global;
+use std::marker::Model;
+
+/// A log that keeps each rule of `check` and has no cycle, with its nodes sorted. Contracts see its tables.
+#[derive(Drop)]
+pub struct Sorted<'a, P: PointSet + Copy> {
+    log: Log<'a, P>,
+    sorting: Sorting,
+    atoms: Atoms,
+}
+
+impl<'a, P: PointSet + Copy> Model for Sorted<'a, P> {
+    ghost use Rattle.std.specs.Prelude.{◌≡◌, None};
+    ghost use Rattle.semantics.specs.declared.command.Command.TheVariants.{Check};
+    ghost use Rattle.semantics.specs.Events.{graph_of};
+    ghost use Rattle.semantics.specs.Tables.{Tables};
+    ghost use Rattle.point_laws.specs.Alike.{AreFirsts};
+    ghost use Rattle.atoms.specs.Atoms.{first_points};
+    ghost use Rattle.verdict.specs.Findings.{table_fault};
+    ghost use Rattle.verdict.specs.Sorted.{AreSorted};
+
+    ghost Value = { Tables };
+
+    ghost view = { λ s. s.log };
+
+    ghost invariant = { λ s. (table_fault Check s.log ≡ None) × AreSorted (graph_of s.log.nodes) s.sorting × AreFirsts s.log (first_points s.atoms) };
+}
+
+/// The nodes of a log sorted, or the cycle that is shown.
+fn sorting_of_log<'a, P: ArenaSet<'a>>(alloc: Global, log: &Log<'a, P>) -> Result<Sorting, Stop>
+    requires { table_fault Check log.now ≡ None }
+    ensures sorted { IfOk result (AreSorted (graph_of log.now.nodes)) }
+    ensures stop { IfErr result (IsStop (CheckFinds log.now)) }
+{
+    log.is_declared();
+    match sort_log(alloc, log) {
+        Ok(sorting) => Ok(sorting),
+        Err(Unsorted::Cycle(events)) => Err(Stop::Found(cycle_found(events))),
+        Err(Unsorted::Memory) => Err(Stop::Memory),
+    }
+}
+
+/// The runs of points of a log that no space divides.
+fn atoms_of<'a, P: ArenaSet<'a>>(alloc: Global, log: &Log<'a, P>) -> Result<Atoms, Stop>
+    ensures firsts { IfOk result (λ atoms. AreFirsts log.now (first_points atoms)) }
+    ensures stop { IfErr result (IsStop (CheckFinds log.now)) }
+{
+    match Atoms::build(alloc, log) {
+        Ok(atoms) => Ok(atoms),
+        Err(_) => Err(Stop::Memory),
+    }
+}
+
+/// Both.
+pub(crate) fn sorted_parts<'a, P: ArenaSet<'a>>(
+    alloc: Global,
+    log: &Log<'a, P>,
+) -> Result<(Sorting, Atoms), Stop>
+    requires { table_fault Check log.now ≡ None }
+    ensures sorted { IfOk result (λ parts. AreSorted (graph_of log.now.nodes) parts.0) }
+    ensures firsts { IfOk result (λ parts. AreFirsts log.now (first_points parts.1)) }
+    ensures stop { IfErr result (IsStop (CheckFinds log.now)) }
+{
+    let sorting = match sorting_of_log(alloc, log) {
+        Ok(sorting) => sorting,
+        Err(stop) => return Err(stop),
+    };
+    match atoms_of(alloc, log) {
+        Ok(atoms) => Ok((sorting, atoms)),
+        Err(stop) => {
+            drop(sorting);
+            Err(stop)
+        }
+    }
+}
+
+/// The event of a node, and 0 where there is none.
+fn event_at<'a, P: ArenaSet<'a>>(log: &Log<'a, P>, node: usize) -> u32
+    ensures { result ≡ event_of log.now node }
+{
+    match log.nodes().get(node) {
+        Some(node) => node.done,
+        None => 0,
+    }
+}
+
+/// Whether no two nodes race, or else the race that is shown.
+fn raced<'a, P: ArenaSet<'a>>(
+    alloc: Global,
+    log: &Log<'a, P>,
+    sorting: &Sorting,
+    atoms: &Atoms,
+) -> Result<(), Stop>
+    requires faultless { table_fault Check log.now ≡ None }
+    requires sorted { AreSorted (graph_of log.now.nodes) sorting.now }
+    requires firsts { AreFirsts log.now (first_points atoms.now) }
+    ensures free { OnOk result (IsRaceFree log.now) }
+    ensures stop { IfErr result (IsStop (CheckFinds log.now)) }
+{
+    match scan(alloc, log, &sorting.graph, &sorting.order, &sorting.reach, atoms) {
+        Ok(()) => Ok(()),
+        Err(ScanEnd::Race { a, b, cell }) => {
+            let found = race_found(event_at(log, a), event_at(log, b), cell);
+            Err(Stop::Found(found))
+        }
+        Err(ScanEnd::Memory) => Err(Stop::Memory),
+    }
+}
+
+impl<'a, P: ArenaSet<'a>> Sorted<'a, P> {
+    /// The log with its nodes sorted.
+    pub(crate) fn of(log: Log<'a, P>, sorting: Sorting, atoms: Atoms) -> Sorted<'a, P>
+        requires faultless { table_fault Check log ≡ None }
+        requires sorted { AreSorted (graph_of log.nodes) sorting }
+        requires firsts { AreFirsts log (first_points atoms) }
+        ensures { result ≡ log.entry }
+    {
+        Sorted {
+            log,
+            sorting,
+            atoms,
+        }
+    }
+
+    /// The log, if no two of its nodes race, or the race that is shown.
+    pub fn scan(self, alloc: Global) -> Result<Clean<'a, P>, Stop>
+        ensures clean { IfOk result (λ c. c ≡ self.entry) }
+        ensures stop { IfErr result (IsStop (CheckFinds self.entry)) }
+    {
+        match raced(alloc, &self.log, &self.sorting, &self.atoms) {
+            Ok(()) => Ok(Clean::of(self.log, self.sorting, self.atoms)),
+            Err(stop) => {
+                drop(self);
+                Err(stop)
+            }
+        }
+    }
+}

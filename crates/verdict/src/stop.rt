@@ -1,0 +1,24 @@
+//! Why judging ends before the last stage.
+
+use crate::memory::Memory;
+use findings::Finding;
+
+/// Why judging ends before the last stage.
+#[derive(Debug, Drop)]
+pub enum Stop {
+    /// This is found.
+    Found(Finding),
+    /// Memory ran out.
+    Memory,
+}
+
+impl From<Memory> for Stop {
+    ghost use Rattle.std.specs.Prelude.{◌≡◌};
+    ghost use Rattle.verdict.specs.declared.stop.Stop.TheVariants.{Memory};
+
+    ghost from_gives = { λ _ e. e ≡ Memory };
+
+    fn from(_: Memory) -> Stop {
+        Stop::Memory
+    }
+}
