@@ -1,0 +1,152 @@
+-- The accesses that a log asks for are few, and so are its requirements' points and fields, and those of its operations.
+use Rattle.std.proofs.Common.{◌≡◌, ℕ, ◌+◌, ◌≤◌, inl, inr, Bool, true, false, List, [], ◌∷◌, ◌++◌, map, filter, fold, drop, get_or, length, ◌<◌, refl, sym, ap, ◌∙◌, subst, arith, None, append_assoc}
+use Rattle.std.proofs.lemmas.Bool.{cases_Bool, true≢false, ltb-false}
+use Rattle.std.proofs.lemmas.List.{drop_more}
+use Rattle.std.proofs.lemmas.List.Sums.{fold-append}
+use Rattle.std.proofs.lemmas.List.Elements.{recursion_from_All, Contains-get_or}
+use Rattle.spy_grammar.specs.declared.code.Code.{Code}
+use Rattle.privilege.specs.Allowed.{may_read}
+use Rattle.spy_grammar.specs.declared.record.Record.{Record}
+use Rattle.spy_grammar.specs.declared.record.Record.TheVariants as records
+use Rattle.spy_grammar.specs.declared.record.Lined.{Lined}
+use Rattle.semantics.specs.declared.tables.Req.{Req}
+use Rattle.semantics.specs.declared.tables.LogNode.{LogNode}
+use Rattle.semantics.specs.declared.tables.Op.{Op}
+use Rattle.semantics.specs.declared.tables.Op.TheVariants as operations
+use Rattle.semantics.specs.Records.{records_of}
+use Rattle.semantics.specs.Tables.{Tables, with_record, no_tables, tables_of}
+use Rattle.semantics.specs.Rules.{total, size_of, accesses}
+use Rattle.semantics.specs.Faults.{tried, is_end, header_fault, ended_fault, records_fault}
+use Rattle.semantics.specs.Outcome.{read_count}
+use Rattle.log_decl.specs.Faultless.{AreDeclared}
+use Rattle.log_laws.proofs.Members.{both_none, member_of, none_found, unmapped_none}
+use Rattle.log_laws.proofs.Admitted.{Unbroken, no_broken_rule}
+use Rattle.replay.specs.Counts.{reads_in, reads_of}
+
+-- ---- what the tables ask for
+
+abbrev pub sizes : Tables → List Req → ℕ
+sizes t rs = total (map (λ (r : Req). size_of t r.space r.fields) rs)
+
+-- The points and fields of an operation that is no run.
+abbrev pub op_size : Tables → Op → ℕ
+op_size t (operations.Run item) = 0
+op_size t (operations.Copy src dst space fields) = size_of t space fields
+op_size t (operations.Put inst space fields n) = size_of t space fields
+op_size t (operations.Reset inst space fields) = size_of t space fields
+op_size t (operations.Fold src dst space fields) = size_of t space fields
+op_size t operations.Merge = 0
+
+abbrev pub op_sizes : Tables → List LogNode → ℕ
+op_sizes t ns = total (map (λ (n : LogNode). op_size t n.op) ns)
+
+total_more : {X : Type 0} (f : X → ℕ) (xs : List X) (x : X) → total (map f (xs ++ x ∷ [])) ≡ total (map f xs) + f x
+total_more f [] x = omega arith
+total_more f (y ∷ xs) x = omega (arith, total_more f xs x)
+
+abbrev cost : Tables → Tables → ℕ
+cost all t = sizes all t.reqs + op_sizes all t.nodes
+
+one_req : (all : Tables) (rs : List Req) (r : Req) (n : ℕ) → sizes all (rs ++ r ∷ []) + n ≤ sizes all rs + n + size_of all r.space r.fields
+one_req all rs r n = let e = total_more (λ (r : Req). size_of all r.space r.fields) rs r in omega (arith, e)
+
+one_node : (all : Tables) (ns : List LogNode) (x : LogNode) (n : ℕ) → n + op_sizes all (ns ++ x ∷ []) ≤ n + op_sizes all ns + op_size all x.op
+one_node all ns x n = let e = total_more (λ (n : LogNode). op_size all n.op) ns x in omega (arith, e)
+
+one_record : (all t : Tables) (line : ℕ) (r : Record) → cost all (with_record t line r) ≤ cost all t + accesses all r
+one_record all t line (records.Req task tree space fields access atomic) = one_req all t.reqs _ (op_sizes all t.nodes)
+one_record all t line (records.Run task done waits) = one_node all t.nodes _ (sizes all t.reqs)
+one_record all t line (records.Copy src dst space fields done waits) = one_node all t.nodes _ (sizes all t.reqs)
+one_record all t line (records.Put inst space fields n done waits) = one_node all t.nodes _ (sizes all t.reqs)
+one_record all t line (records.Reset inst space fields done waits) = one_node all t.nodes _ (sizes all t.reqs)
+one_record all t line (records.Fold src dst space fields done waits) = one_node all t.nodes _ (sizes all t.reqs)
+one_record all t line (records.Merge done waits) = one_node all t.nodes _ (sizes all t.reqs)
+one_record all t line _ = omega arith
+
+all_records : (all t : Tables) (log : List Lined) → cost all (fold (λ t (l : Lined). with_record t l.line l.rec) t log) ≤ cost all t + total (map (accesses all) (records_of log))
+all_records all t [] = omega arith
+all_records all t (l ∷ log) =
+    let rest = all_records all (with_record t l.line l.rec) log in
+    let one = one_record all t l.line l.rec in
+    omega (arith, rest, one)
+
+-- ---- the limit, at the end of the log
+
+ends_with : (t : Tables) (line : ℕ) (r : Record) → is_end r ≡ true → (with_record t line r ≡ t) × (accesses t r ≡ 0)
+ends_with t line (records.End n) e = (refl, refl)
+ends_with t line _ e = absurd (true≢false (sym e))
+
+abbrev asked : List Lined → ℕ
+asked log = total (map (accesses (tables_of log)) (records_of log))
+
+at_end : (log : List Record) (earlier : List Lined) (l : Lined) → Unbroken log earlier l.rec → is_end l.rec ≡ true → asked (earlier ++ l ∷ []) ≤ 4194304
+at_end log earlier l u is =
+    let t = tables_of earlier in
+    let last = ends_with t l.line l.rec is in
+    let same : tables_of (earlier ++ l ∷ []) ≡ t = fold-append (λ t (l : Lined). with_record t l.line l.rec) no_tables earlier (l ∷ []) ∙ last.0 in
+    let within : total (map (accesses t) (records_of earlier)) + accesses t l.rec ≤ 4194304 = ltb-false 4194304 (total (map (accesses t) (records_of earlier)) + accesses t l.rec) u.1.1.1.1.1.1.1.1.1.1.1.1.1.1.1.1.1.1.1.1.1.1.1.0 in
+    subst (λ (u : Tables). total (map (accesses u) (records_of (earlier ++ l ∷ []))) ≤ 4194304) (sym same) (rest t earlier l within)
+  where
+    rest : (t : Tables) (earlier : List Lined) (l : Lined) → total (map (accesses t) (records_of earlier)) + accesses t l.rec ≤ 4194304 → total (map (accesses t) (records_of (earlier ++ l ∷ []))) ≤ 4194304
+    rest t earlier l within = let e = total_more (λ (l : Lined). accesses t l.rec) earlier l in omega (arith, within, e, both t (earlier ++ l ∷ []), both t earlier)
+      where
+        both : (t : Tables) (ls : List Lined) → total (map (accesses t) (records_of ls)) ≡ total (map (λ (l : Lined). accesses t l.rec) ls)
+        both t [] = refl
+        both t (l ∷ ls) = ap (λ n. accesses t l.rec + n) (both t ls)
+
+-- Where no record breaks a rule, the first does not, nor do the later.
+first : (log : List Record) (earlier : List Lined) (l : Lined) (rest : List Lined) → records_fault log earlier (l ∷ rest) ≡ None → Unbroken log earlier l.rec
+first log earlier l rest e =
+    let parts = both_none _ (records_fault log (earlier ++ l ∷ []) rest) e in
+    let rules = tried log (records_of earlier) (tables_of earlier) l.rec in
+    let none = unmapped_none _ _ (unmapped_none _ _ parts.0) in
+    recursion_from_All (λ (p : Code × Bool). p.1 ≡ false) rules (λ k d lt. none_found (λ (p : Code × Bool). p.1) rules _ none (member_of rules _ (Contains-get_or rules k d lt)))
+
+later : (log : List Record) (earlier : List Lined) (l : Lined) (rest : List Lined) → records_fault log earlier (l ∷ rest) ≡ None → records_fault log (earlier ++ l ∷ []) rest ≡ None
+later log earlier l rest e = (both_none _ (records_fault log (earlier ++ l ∷ []) rest) e).1
+
+to_end : (log : List Record) (lines : ℕ) (earlier rest : List Lined) → records_fault log earlier rest ≡ None → ended_fault lines rest ≡ None → asked (earlier ++ rest) ≤ 4194304
+to_end log lines earlier [] e ended = absurd cc
+to_end log lines earlier (l ∷ []) e ended = elim (cases_Bool (is_end l.rec)) [
+  | inl is ↦ at_end log earlier l (first log earlier l [] e) is
+  | inr other ↦ absurd (let bad = rw other at ended in cc)
+]
+to_end log lines earlier (l ∷ m ∷ rest) e ended = elim (cases_Bool (is_end l.rec)) [
+  | inl is ↦ absurd (let bad = rw is at ended in cc)
+  | inr other ↦
+      subst (λ ls. asked ls ≤ 4194304) (append_assoc earlier (l ∷ []) (m ∷ rest)) (to_end log lines (earlier ++ l ∷ []) (m ∷ rest) (later log earlier l (m ∷ rest) e) (rw other at ended))
+]
+
+pub few_accesses : (t : Tables) → AreDeclared t → cost t t ≤ 4194304
+few_accesses t d = subst (λ (u : Tables). cost u u ≤ 4194304) (sym d.tables)
+    (let parts = both_none (header_fault d.lines d.log) _ d.faultless in
+    let ended = both_none (ended_fault d.lines d.log) _ parts.1 in
+    let asks = to_end (records_of d.log) d.lines [] d.log (no_broken_rule d.lines d.log d.faultless) ended.0 in
+    let all = all_records (tables_of d.log) no_tables d.log in
+    omega (arith, asks, all))
+
+-- ---- reads
+
+fewer : (f : Req → ℕ) (p : Req → Bool) (rs : List Req) → total (map f (filter p rs)) ≤ total (map f rs)
+fewer f p [] = omega arith
+fewer f p (r ∷ rs) = let rest = fewer f p rs in elim (cases_Bool (p r)) [ inl here ↦ rw here (omega (arith, rest)) | inr other ↦ rw other (omega (arith, rest)) ]
+
+pub few_reads : (t : Tables) → AreDeclared t → read_count t ≤ 4194304
+few_reads t d =
+    let some = fewer (λ (r : Req). size_of t r.space r.fields) (λ (r : Req). may_read r.access) t.reqs in
+    let all = few_accesses t d in
+    omega (arith, some, all)
+
+pub reads_counted : (t : Tables) (rs : List Req) → total (map (λ (r : Req). size_of t r.space r.fields) (filter (λ (r : Req). may_read r.access) rs)) ≡ reads_in t rs
+reads_counted t [] = refl
+reads_counted t (r ∷ rs) = elim (cases_Bool (may_read r.access)) [
+  | inl reads ↦ rw reads (ap (λ n. size_of t r.space r.fields + n) (reads_counted t rs))
+  | inr other ↦ rw other (let rest = reads_counted t rs in omega (arith, rest))
+]
+
+pub reads_more : (t : Tables) (rs : List Req) (k : ℕ) (r : Req) → k < length rs → get_or rs k r ≡ r → reads_in t (drop k rs) ≡ reads_of t r + reads_in t (drop (k + 1) rs)
+reads_more t rs k r lt is = ap (reads_in t) (drop_more rs k r lt) ∙ ap (λ x. reads_of t x + reads_in t (drop (k + 1) rs)) is
+
+pub no_reads_left : (t : Tables) (rs : List Req) → reads_in t (drop (length rs) rs) ≡ 0
+no_reads_left t [] = refl
+no_reads_left t (r ∷ rs) = no_reads_left t rs

@@ -1,0 +1,254 @@
+-- The steps of a replay are few.
+use Rattle.std.proofs.Common.{◌≡◌, ◌≢◌, ℕ, suc, ◌+◌, ◌*◌, ◌≤◌, ◌<◌, ◌^◌, ◌==◌, inl, inr, true, false, List, [], ◌∷◌, ◌++◌, map, filter, flat_map, length, slice_get, refl, sym, ap, ◌∙◌, subst, arith, AllPairs, Contains, append-nil, append_assoc}
+use Rattle.std.specs.Option.{option_map_or}
+use Rattle.std.proofs.lemmas.Bool.{eqb-true, eq-eqb, true≢false}
+use Rattle.std.proofs.lemmas.List.{length-append, length-map}
+use Rattle.std.proofs.lemmas.List.Sums.{length-filter, count_by-le-length}
+use Rattle.std.proofs.lemmas.List.Elements.{recursion_from_All}
+use Rattle.privilege.specs.declared.kinds.Priv.{Priv}
+use Rattle.privilege.specs.declared.kinds.Priv.TheVariants as privileges
+use Rattle.spy_grammar.specs.declared.record.Record.{Record}
+use Rattle.spy_grammar.specs.declared.record.Record.TheVariants as records
+use Rattle.spy_grammar.specs.declared.record.Lined.{Lined}
+use Rattle.semantics.specs.declared.places.Cell.{Cell}
+use Rattle.semantics.specs.declared.moves.Move.{Move}
+use Rattle.semantics.specs.declared.tables.Req.{Req}
+use Rattle.semantics.specs.declared.tables.LogNode.{LogNode}
+use Rattle.semantics.specs.declared.tables.Op.{Op}
+use Rattle.semantics.specs.declared.tables.Op.TheVariants as operations
+use Rattle.semantics.specs.declared.command.Command.TheVariants.{Deps}
+use Rattle.semantics.specs.Records.{records_of}
+use Rattle.semantics.specs.Tables.{Tables, place_of, numbers_from, with_record, tables_of}
+use Rattle.semantics.specs.Points.{points_in}
+use Rattle.semantics.specs.Kinds.{reqs_of, grid, req_grid}
+use Rattle.semantics.specs.Steps.{Step, mapped_cell, at_cells, reads_by, changes_by, run_moves, moves_of, id_of, steps_by}
+use Rattle.semantics.specs.Rules.{total, size_of, runs_item, is_run_again}
+use Rattle.point_laws.specs.Alike.{is_at}
+use Rattle.point_laws.specs.Cut.{cut}
+use Rattle.log_decl.specs.Faultless.{AreDeclared}
+use Rattle.log_laws.proofs.Members.{Member, contains_of, member_left, member_right, member_append, member_flat, member_filter, none_at, only}
+use Rattle.log_laws.proofs.Apart.{Apart, pairs_from, pairs_append, apart_flat, apart_filter, number_in}
+use Rattle.log_laws.proofs.Lists.{split_at}
+use Rattle.log_laws.proofs.Sane.{reqs_apart}
+use Rattle.log_laws.proofs.Admitted.{by_records, no_broken_rule, sane}
+use Rattle.inst_steps.specs.Stepping.{moves_at}
+use Rattle.replay.proofs.Accesses.{sizes, op_size, op_sizes, few_accesses}
+
+-- ---- lengths
+
+flat_append : {X Y : Type 0} (g : X → List Y) (xs ys : List X) → length (flat_map g (xs ++ ys)) ≡ length (flat_map g xs) + length (flat_map g ys)
+flat_append g [] ys = omega arith
+flat_append g (x ∷ xs) ys =
+    let a = length-append (g x) (flat_map g (xs ++ ys)) in
+    let b = length-append (g x) (flat_map g xs) in
+    let rest = flat_append g xs ys in
+    omega (arith, a, b, rest)
+
+-- What different elements of a list give is no more than what the list gives.
+flat_few : {X Y : Type 0} (g : X → List Y) (ks ns : List X) → Apart ks → ((x : X) → Member ks x → Member ns x) → length (flat_map g ks) ≤ length (flat_map g ns)
+flat_few g [] ns h within = omega arith
+flat_few g (k ∷ ks) ns h within =
+    let s = split_at ns k (within k (inl refl)) in
+    let rest = flat_few g ks (s.0 ++ s.1) h.1 (λ x m. left s.0 k s.1 x (h.0 x m) (subst (λ ns. Member ns x) s.2 (within x (inr m)))) in
+    let a = flat_append g s.0 s.1 in
+    let b = flat_append g s.0 (k ∷ s.1) in
+    let c = length-append (g k) (flat_map g s.1) in
+    let d = length-append (g k) (flat_map g ks) in
+    subst (λ ns. length (flat_map g (k ∷ ks)) ≤ length (flat_map g ns)) (sym s.2) (omega (arith, rest, a, b, c, d))
+  where
+    left : {X : Type 0} (front : List X) (k : X) (back : List X) (x : X) → k ≢ x → Member (front ++ k ∷ back) x → Member (front ++ back) x
+    left front k back x differ m = elim (member_append front (k ∷ back) x m) [
+      | inl l ↦ member_left front back x l
+      | inr (inl e) ↦ absurd (differ (sym e))
+      | inr (inr r) ↦ member_right front back x r
+    ]
+
+flat_ones : {X Y : Type 0} (f : X → List Y) → ((x : X) → length (f x) ≤ 1) → (xs : List X) → length (flat_map f xs) ≤ length xs
+flat_ones f one [] = omega arith
+flat_ones f one (x ∷ xs) =
+    let a = length-append (f x) (flat_map f xs) in
+    let rest = flat_ones f one xs in
+    let here = one x in
+    omega (arith, a, rest, here)
+
+grid_size : (points fields : List ℕ) → length (grid points fields) ≡ length points * length fields
+grid_size [] fields = omega arith
+grid_size (x ∷ points) fields =
+    let a = length-append (map (λ f. (x, f)) fields) (grid points fields) in
+    let b = length-map fields (λ f. (x, f)) in
+    let rest = grid_size points fields in
+    a ∙ ap (λ n. n + length (grid points fields)) b ∙ ap (λ n. length fields + n) rest ∙ omega arith
+
+-- ---- the moves of an operation
+
+cells_few : (t : Tables) (does : Req → Cell → List Move) → ((r : Req) (c : Cell) → length (does r c) ≤ 1) → (rs : List Req) → length (at_cells t does rs) ≤ length (flat_map (req_grid t) rs)
+cells_few t does one [] = omega arith
+cells_few t does one (r ∷ rs) =
+    let here = flat_ones (λ p. does r (mapped_cell t r p)) (λ p. one r (mapped_cell t r p)) (req_grid t r) in
+    let rest = cells_few t does one rs in
+    let a = length-append (flat_map (λ p. does r (mapped_cell t r p)) (req_grid t r)) (at_cells t does rs) in
+    let b = length-append (req_grid t r) (flat_map (req_grid t) rs) in
+    omega (arith, here, rest, a, b)
+
+one_read : (task number : ℕ) (p : Priv) (c : Cell) → length (reads_by task number p c) ≤ 1
+one_read task number privileges.Ro c = omega arith
+one_read task number privileges.Rw c = omega arith
+one_read task number privileges.Wd c = omega arith
+one_read task number (privileges.Red op) c = omega arith
+
+one_change : (task number : ℕ) (p : Priv) (c : Cell) → length (changes_by task number p c) ≤ 1
+one_change task number privileges.Ro c = omega arith
+one_change task number privileges.Rw c = omega arith
+one_change task number privileges.Wd c = omega arith
+one_change task number (privileges.Red op) c = omega arith
+
+run_few : (t : Tables) (task : ℕ) (rs : List Req) → length (run_moves t task rs) ≤ 2 * length (flat_map (req_grid t) rs)
+run_few t task rs =
+    let reads = cells_few t (λ r c. reads_by task r.number r.access c) (λ r c. one_read task r.number r.access c) rs in
+    let changes = cells_few t (λ r c. changes_by task r.number r.access c) (λ r c. one_change task r.number r.access c) rs in
+    let a = length-append (at_cells t (λ r c. reads_by task r.number r.access c) rs) (at_cells t (λ r c. changes_by task r.number r.access c) rs) in
+    omega (arith, reads, changes, a)
+
+abbrev runs_of : Op → List ℕ
+runs_of (operations.Run item) = item ∷ []
+runs_of _ = []
+
+abbrev run_items : List LogNode → List ℕ
+run_items ns = flat_map (λ (n : LogNode). runs_of n.op) ns
+
+abbrev own_reqs : Tables → List ℕ → List Req
+own_reqs t items = flat_map (reqs_of t) items
+
+abbrev owned : Tables → List ℕ → ℕ
+owned t items = length (flat_map (req_grid t) (own_reqs t items))
+
+owned_more : (t : Tables) (items others : List ℕ) → owned t (items ++ others) ≡ owned t items + owned t others
+owned_more t [] others = omega arith
+owned_more t (item ∷ items) others =
+    let a = flat_append (req_grid t) (reqs_of t item) (own_reqs t (items ++ others)) in
+    let b = flat_append (req_grid t) (reqs_of t item) (own_reqs t items) in
+    let rest = owned_more t items others in
+    omega (arith, a, b, rest)
+
+swept_few : {X : Type 0} (t : Tables) (space : ℕ) (fields : List ℕ) (f : ℕ × ℕ → X) → length (map f (grid (points_in t space) fields)) ≤ 2 * 0 + size_of t space fields
+swept_few t space fields f = let a = length-map (grid (points_in t space) fields) f in let b = grid_size (points_in t space) fields in omega (arith, a, b)
+
+op_few : (t : Tables) (op : Op) → length (moves_of t op) ≤ 2 * owned t (runs_of op) + op_size t op
+op_few t (operations.Run item) =
+    let all = run_few t (id_of t item) (reqs_of t item) in
+    let same = ap (λ rs. length (flat_map (req_grid t) rs)) (append-nil (reqs_of t item)) in
+    omega (arith, all, same)
+op_few t (operations.Copy src dst space fields) = swept_few t space fields _
+op_few t (operations.Put inst space fields n) = swept_few t space fields _
+op_few t (operations.Reset inst space fields) = swept_few t space fields _
+op_few t (operations.Fold src dst space fields) = swept_few t space fields _
+op_few t operations.Merge = omega arith
+
+-- ---- the moves of all nodes
+
+abbrev node_moves : Tables → LogNode → ℕ
+node_moves t n = length (moves_of t n.op)
+
+nodes_few : (t : Tables) (ns : List LogNode) → total (map (node_moves t) ns) ≤ 2 * owned t (run_items ns) + op_sizes t ns
+nodes_few t [] = omega arith
+nodes_few t (n ∷ ns) =
+    let here = op_few t n.op in
+    let rest = nodes_few t ns in
+    let a = owned_more t (runs_of n.op) (run_items ns) in
+    omega (arith, here, rest, a)
+
+abbrev steps_at : Tables → ℕ → List Step
+steps_at t k = map (λ m. record { node = k; move = m }) (moves_at t k)
+
+by_places : (t : Tables) (first : ℕ) (ns : List LogNode) → ((k : ℕ) → slice_get t.nodes (first + k) ≡ slice_get ns k)
+    → length (flat_map (steps_at t) (numbers_from first (length ns))) ≡ total (map (node_moves t) ns)
+by_places t first [] at = refl
+by_places t first (n ∷ ns) at =
+    let one : first + 0 ≡ first = omega arith in
+    let here : moves_at t first ≡ moves_of t n.op = ap (λ o. option_map_or (λ (n : LogNode). moves_of t n.op) o []) (ap (slice_get t.nodes) (sym one) ∙ at 0) in
+    let rest = by_places t (first + 1) ns (λ k. let far : first + 1 + k ≡ first + suc k = omega arith in ap (slice_get t.nodes) far ∙ at (suc k)) in
+    let a = length-append (steps_at t first) (flat_map (steps_at t) (numbers_from (first + 1) (length ns))) in
+    let step : Move → Step = λ m. record { node = first; move = m } in
+    let b = length-map (moves_at t first) step in
+    let c = ap length here in
+    omega (arith, rest, a, b, c)
+
+-- ---- each item is run once
+
+abbrev RunOnce : Tables → Type 0
+RunOnce t = Apart (run_items t.nodes)
+
+one_run : (op : Op) → Apart (runs_of op)
+one_run (operations.Run item) = (λ y m. absurd m, tt)
+one_run _ = tt
+
+is_run : (item : ℕ) (op : Op) → Member (runs_of op) item → runs_item item op ≡ true
+is_run item (operations.Run other) m = eq-eqb other item (sym (only m))
+is_run item _ m = absurd m
+
+not_run : (ns : List LogNode) (item : ℕ) → Member (run_items ns) item → (n : LogNode) × Member ns n × (runs_item item n.op ≡ true)
+not_run ns item m = let at = member_flat (λ (n : LogNode). runs_of n.op) ns item m in (at.0, at.1, is_run item at.0.op at.2)
+
+flat_more : {X Y : Type 0} (g : X → List Y) (xs : List X) (x : X) → flat_map g (xs ++ x ∷ []) ≡ flat_map g xs ++ g x
+flat_more g [] x = append-nil (g x)
+flat_more g (y ∷ xs) x = ap (λ zs. g y ++ zs) (flat_more g xs x) ∙ sym (append_assoc (g y) (flat_map g xs) (g x))
+
+node_once : (ns : List LogNode) (n : LogNode) → ((i : ℕ) → Member (runs_of n.op) i → Member (run_items ns) i → ⊥) → Apart (run_items ns) → Apart (run_items (ns ++ n ∷ []))
+node_once ns n new h = subst Apart (sym (flat_more (λ (n : LogNode). runs_of n.op) ns n)) (pairs_append (λ x y. x ≢ y) (run_items ns) (runs_of n.op) h (one_run n.op) (λ x y a b e. new y b (subst (Member (run_items ns)) e a)))
+
+more_once : (log : List Record) (earlier : List Lined) (t : Tables) (line : ℕ) (r : Record) → is_run_again t r ≡ false → RunOnce t → RunOnce (with_record t line r)
+more_once log earlier t line (records.Run task done waits) e h = node_once t.nodes _ (λ i here there.
+    let at = not_run t.nodes i there in
+    true≢false (sym at.2 ∙ subst (λ i. runs_item i at.0.op ≡ false) (sym (only here)) (none_at (λ (n : LogNode). runs_item (place_of t.items task) n.op) t.nodes at.0 e at.1))) h
+more_once log earlier t line (records.Copy src dst space fields done waits) e h = node_once t.nodes _ (λ i here there. here) h
+more_once log earlier t line (records.Put inst space fields n done waits) e h = node_once t.nodes _ (λ i here there. here) h
+more_once log earlier t line (records.Reset inst space fields done waits) e h = node_once t.nodes _ (λ i here there. here) h
+more_once log earlier t line (records.Fold src dst space fields done waits) e h = node_once t.nodes _ (λ i here there. here) h
+more_once log earlier t line (records.Merge done waits) e h = node_once t.nodes _ (λ i here there. here) h
+more_once log earlier t line _ e h = h
+
+run_once : (t : Tables) → AreDeclared t → RunOnce t
+run_once t d = subst RunOnce (sym d.tables) (by_records (λ r. Unit {0}) RunOnce (records_of d.log)
+    (λ earlier l u _. more_once (records_of d.log) earlier (tables_of earlier) l.line l.rec u.1.1.1.1.1.1.1.1.1.1.1.1.1.1.1.1.1.1.0)
+    [] d.log (recursion_from_All _ (records_of d.log) (λ k d lt. tt)) (no_broken_rule d.lines d.log d.faultless) tt)
+
+-- ---- all together
+
+own_few : (t : Tables) → Apart t.reqs → (items : List ℕ) → Apart items → owned t items ≤ sizes t t.reqs
+own_few t reqs items h =
+    let apart = apart_flat (reqs_of t) items (λ i m. apart_filter (λ (r : Req). r.item == i) t.reqs reqs)
+    (λ i j r _ _ a b. sym (eqb-true r.item i (member_filter (λ (r : Req). r.item == i) t.reqs r a).1) ∙ eqb-true r.item j (member_filter (λ (r : Req). r.item == j) t.reqs r b).1) h in
+    let some = flat_few (req_grid t) (own_reqs t items) t.reqs apart (λ r m.
+    let at = member_flat (reqs_of t) items r m in (member_filter (λ (r : Req). r.item == at.0) t.reqs r at.2).0) in
+    let all = grids t t.reqs in
+    omega (arith, some, all)
+  where
+    grids : (t : Tables) (rs : List Req) → length (flat_map (req_grid t) rs) ≡ sizes t rs
+    grids t [] = refl
+    grids t (r ∷ rs) =
+        let a = length-append (req_grid t r) (flat_map (req_grid t) rs) in
+        let b = grid_size (points_in t r.space) r.fields in
+        let rest = grids t rs in
+        omega (arith, a, b, rest)
+
+sane_reqs : (t : Tables) → AreDeclared t → Apart t.reqs
+sane_reqs t d = subst (λ (u : Tables). Apart u.reqs) (sym d.tables)
+    (reqs_apart (tables_of d.log) (sane Deps d.log (record { records = no_broken_rule d.lines d.log d.faultless; maps = refl })))
+
+steps_few : (t : Tables) → AreDeclared t → length (flat_map (steps_at t) (numbers_from 0 (length t.nodes))) ≤ 8388608
+steps_few t d =
+    let all = few_accesses t d in
+    let own = own_few t (sane_reqs t d) (run_items t.nodes) (run_once t d) in
+    let nodes = nodes_few t t.nodes in
+    let same = by_places t 0 t.nodes (λ k. let e : 0 + k ≡ k = omega arith in ap (slice_get t.nodes) e) in
+    omega (arith, all, own, nodes, same)
+
+pub replay_few : (t : Tables) → AreDeclared t → (points ks : List ℕ) → steps_by (cut points t) ks ≡ filter (is_at points) (steps_by t ks)
+    → AllPairs (λ a b. a ≢ b) ks → ((k : ℕ) → Contains ks k → k < length t.nodes) → length (steps_by (cut points t) ks) < 2 ^ 31
+replay_few t d points ks kept once within =
+    let some = flat_few (steps_at t) ks (numbers_from 0 (length t.nodes)) (pairs_from (λ a b. a ≢ b) ks once) (λ k m. number_in (length t.nodes) k (within k (contains_of ks k m))) in
+    let all = steps_few t d in
+    let same = ap length kept in
+    let fewer = length-filter (is_at points) (steps_by t ks) in
+    let bound = count_by-le-length (is_at points) (steps_by t ks) in
+    omega (arith, some, all, same, fewer, bound)

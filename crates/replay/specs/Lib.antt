@@ -1,0 +1,4 @@
+pub mod Counts
+pub mod Ends
+pub mod Fitting
+pub mod Standing

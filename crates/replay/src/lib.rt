@@ -1,0 +1,13 @@
+//! The replay of a recorded run: what its tasks read, against what they should have read.
+#![tactic(auto)]
+
+mod counting;
+mod ends;
+mod laws;
+mod moving;
+mod replaying;
+#[cfg(test)]
+mod tests;
+
+pub use ends::{Reads, ReplayEnd};
+pub use replaying::replay;

@@ -1,0 +1,118 @@
+//! The replay of a log.
+
+ghost use Rattle.std.specs.Prelude.{◌≡◌, ◌+◌, ◌<◌, drop, length, All, IfErr, IfOk, None, OnErr, OnOk};
+ghost use Rattle.std.specs.List.Sorted.{IsStrictlyIncreasing};
+ghost use Rattle.semantics.specs.Events.{graph_of};
+ghost use Rattle.semantics.specs.Faults.{unmapped_fault};
+ghost use Rattle.semantics.specs.Outcome.{read_count};
+ghost use Rattle.semantics.specs.Reads.{replay_steps, shown_difference};
+ghost use Rattle.semantics.specs.Steps.{steps_by};
+ghost use Rattle.event_graph.specs.Orders.{IsOrderOf};
+ghost use Rattle.point_laws.specs.Alike.{AreFirsts};
+ghost use Rattle.point_laws.specs.Cut.{cut};
+ghost use Rattle.atoms.specs.Atoms.{first_points};
+ghost use Rattle.serial_exec.specs.Kept.{AreVersionsOf};
+ghost use Rattle.replay.specs.Ends.{IsEndOf};
+ghost use Rattle.replay.specs.Standing.{Stands};
+
+use crate::counting::count_reads;
+use crate::ends::{Reads, ReplayEnd};
+use crate::laws::{first_points_tell, stands_go_on, starts_stand};
+use crate::moving::Replay;
+use atoms::Atoms;
+use event_graph::Order;
+use inst_steps::{Store, steps_on};
+use log_decl::Log;
+use log_laws::replay_order_lists;
+use point_set::PointSet;
+use region_tree::ArenaSet;
+use serial_exec::Versions;
+use std::alloc::Global;
+
+impl<'r, 'a, P: PointSet + Copy> Replay<'r, 'a, P> {
+    /// Takes the moves of the node at a place of the replay order.
+    fn take_node(&self, store: &mut Store, order: &[usize], place: usize) -> Result<(), ReplayEnd>
+        requires nodes { All (λ k. k < length self.now.log.now.nodes) order.now }
+        requires place { place < length order.now }
+        requires ascend { IsStrictlyIncreasing self.now.points.now }
+        requires versions { AreVersionsOf (cut self.now.points.now self.now.log.now) self.now.versions.now }
+        requires stands { Stands (cut self.now.points.now self.now.log.now)
+            (steps_by (cut self.now.points.now self.now.log.now) (drop place order.now)) store.old }
+        ensures stands { OnOk result (Stands (cut self.now.points.now self.now.log.now)
+            (steps_by (cut self.now.points.now self.now.log.now) (drop (place + 1) order.now)) store.new) }
+        ensures end { IfErr result (IsEndOf (cut self.now.points.now self.now.log.now)) }
+    {
+        stands_go_on();
+        let node = order[place];
+        let item = self.item_at(node);
+        for step in steps_on(self.log, node, self.points) {
+            self.take(store, item, &step)?;
+        }
+        Ok(())
+    }
+
+    /// Takes the moves of all nodes, in replay order.
+    fn take_nodes(&self, store: &mut Store, order: &[usize]) -> Result<(), ReplayEnd>
+        requires nodes { All (λ k. k < length self.now.log.now.nodes) order.now }
+        requires ascend { IsStrictlyIncreasing self.now.points.now }
+        requires versions { AreVersionsOf (cut self.now.points.now self.now.log.now) self.now.versions.now }
+        requires stands { Stands (cut self.now.points.now self.now.log.now)
+            (steps_by (cut self.now.points.now self.now.log.now) order.now) store.old }
+        ensures right { OnOk result (shown_difference (cut self.now.points.now self.now.log.now) ≡ None) }
+        ensures end { IfErr result (IsEndOf (cut self.now.points.now self.now.log.now)) }
+    {
+        for place in 0..order.len() {
+            self.take_node(store, order, place)?;
+        }
+        Ok(())
+    }
+
+    /// Replays the log at the points, from the start.
+    fn run(&self, order: &Order) -> Result<(), ReplayEnd>
+        requires mapped { unmapped_fault self.now.log.now ≡ None }
+        requires order { IsOrderOf (graph_of self.now.log.now.nodes) order.now }
+        requires ascend { IsStrictlyIncreasing self.now.points.now }
+        requires versions { AreVersionsOf (cut self.now.points.now self.now.log.now) self.now.versions.now }
+        ensures right { OnOk result (shown_difference (cut self.now.points.now self.now.log.now) ≡ None) }
+        ensures end { IfErr result (IsEndOf (cut self.now.points.now self.now.log.now)) }
+    {
+        starts_stand();
+        replay_order_lists();
+        self.log.is_declared();
+        let mut store = Store::start_on(self.alloc, self.log, self.points)?;
+        self.take_nodes(&mut store, order.as_slice())
+    }
+}
+
+/// Replays a log, and judges each read. Goes over the first point of each atom alone, and takes memory for what the instances hold there.
+pub fn replay<'a, P: ArenaSet<'a>>(
+    alloc: Global,
+    log: &Log<'a, P>,
+    order: &Order,
+    versions: &Versions,
+    atoms: &Atoms,
+) -> Result<Reads, ReplayEnd>
+    requires mapped { unmapped_fault log.now ≡ None }
+    requires order { IsOrderOf (graph_of log.now.nodes) order.now }
+    requires versions { AreVersionsOf (cut (first_points atoms.now) log.now) versions.now }
+    requires atoms { AreFirsts log.now (first_points atoms.now) }
+    ensures right { OnOk result (shown_difference log.now ≡ None) }
+    ensures count { IfOk result (λ reads. reads.count ≡ read_count log.now) }
+    ensures end { IfErr result (IsEndOf log.now) }
+{
+    first_points_tell();
+    log.is_declared();
+    let points = atoms.firsts();
+    let replay = Replay {
+        alloc,
+        log,
+        versions,
+        points,
+    };
+    match replay.run(order) {
+        Ok(()) => Ok(Reads {
+            count: count_reads(log),
+        }),
+        Err(end) => Err(end),
+    }
+}

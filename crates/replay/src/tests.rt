@@ -1,0 +1,223 @@
+//! The replays of a few logs, judged by hand.
+
+ghost use Rattle.std.specs.Prelude.{◌≡◌, IfOk};
+ghost use Rattle.semantics.specs.Events.{graph_of};
+
+use super::*;
+use atoms::Atoms;
+use bumpalo::Bump;
+use event_graph::{EventList, Graph, NodeIn, are_linked};
+use log_decl::{Log, are_log_records, declare};
+use point_set::RunSet;
+use region_tree::ArenaSet;
+use semantics::LogNode;
+use serial_exec::Versions;
+use spy_grammar::{Lined, read_line};
+use std::alloc::{AllocError, Global};
+use std::test::Fail;
+use value_terms::{Base, Contribution, Value};
+
+/// A base, and what is added to it, each time an operator, a task and a requirement.
+type Written = (Base, &'static [(u32, u32, u32)]);
+
+/// What a replay finds.
+enum Found {
+    /// So many reads, all right.
+    Right(u64),
+    /// The task, the requirement, the point and the field of a read; what was got, and what was wanted.
+    Differ((u32, u32, u64, u32), Written, Written),
+}
+
+/// Logs, and what their replays find.
+const CASES: [(&[u8], Found); 11] = [
+    // A copy is taken too early.
+    (
+        b"legion-spy 1\nispace 1 0-3\nfields 1 1\ntree 1 1 1\ntask 1\nreq 1 1 1 1 wd ex\ntask 2\nreq 2 1 1 1 rw ex\ntask 3\nreq 3 1 1 1 ro ex\ninst 1 1 1 1 plain\ninst 2 1 1 1 plain\nmap 1 1 1 1\nmap 2 1 1 1\nmap 3 1 1 2\nrun 1 1 -\ncopy 1 2 1 1 2 1\nrun 2 3 2\nrun 3 4 3\nend 18\n",
+        Found::Differ((3, 1, 0, 1), (Base::Out(1), &[]), (Base::Out(2), &[])),
+    ),
+    // The copy comes after the second task.
+    (
+        b"legion-spy 1\nispace 1 0-3\nfields 1 1\ntree 1 1 1\ntask 1\nreq 1 1 1 1 wd ex\ntask 2\nreq 2 1 1 1 rw ex\ntask 3\nreq 3 1 1 1 ro ex\ninst 1 1 1 1 plain\ninst 2 1 1 1 plain\nmap 1 1 1 1\nmap 2 1 1 1\nmap 3 1 1 2\nrun 1 1 -\nrun 2 2 1\ncopy 1 2 1 1 3 2\nrun 3 4 3\nend 18\n",
+        Found::Right(8),
+    ),
+    // It leaves out a point.
+    (
+        b"legion-spy 1\nispace 1 0-3\nispace 2 0-2\nfields 1 1\ntree 1 1 1\ntask 1\nreq 1 1 1 1 wd ex\ntask 2\nreq 2 1 1 1 rw ex\ntask 3\nreq 3 1 1 1 ro ex\ninst 1 1 1 1 plain\ninst 2 1 1 1 plain\nmap 1 1 1 1\nmap 2 1 1 1\nmap 3 1 1 2\nrun 1 1 -\nrun 2 2 1\ncopy 1 2 2 1 3 2\nrun 3 4 3\nend 19\n",
+        Found::Differ((3, 1, 3, 1), (Base::Raw, &[]), (Base::Out(2), &[])),
+    ),
+    // The third task writes what no one reads.
+    (
+        b"legion-spy 1\nispace 1 0-3\nfields 1 1\ntree 1 1 1\ntask 1\nreq 1 1 1 1 wd ex\ntask 2\nreq 2 1 1 1 ro ex\ntask 3\nreq 3 1 1 1 wd ex\ninst 1 1 1 1 plain\ninst 2 1 1 1 plain\nmap 1 1 1 1\nmap 2 1 1 1\nmap 3 1 1 2\nrun 1 1 -\nrun 2 2 1\nrun 3 3 -\nend 17\n",
+        Found::Right(4),
+    ),
+    // Two reductions are gathered and folded in; folded in twice; and gathered without a reset.
+    (
+        b"legion-spy 1\nispace 1 0\nfields 1 1\ntree 1 1 1\nredop 1\ntask 1\nreq 1 1 1 1 red:1 ex\ntask 2\nreq 2 1 1 1 red:1 ex\ntask 3\nreq 3 1 1 1 ro ex\ninst 1 1 1 1 home\ninst 2 1 1 1 red:1\nmap 1 1 1 2\nmap 2 1 1 2\nmap 3 1 1 1\nreset 2 1 1 1 -\nrun 1 2 1\nrun 2 3 1\nfold 2 1 1 1 4 2,3\nrun 3 5 4\nend 20\n",
+        Found::Right(1),
+    ),
+    (
+        b"legion-spy 1\nispace 1 0\nfields 1 1\ntree 1 1 1\nredop 1\ntask 1\nreq 1 1 1 1 red:1 ex\ntask 2\nreq 2 1 1 1 red:1 ex\ntask 3\nreq 3 1 1 1 ro ex\ninst 1 1 1 1 home\ninst 2 1 1 1 red:1\nmap 1 1 1 2\nmap 2 1 1 2\nmap 3 1 1 1\nreset 2 1 1 1 -\nrun 1 2 1\nrun 2 3 1\nfold 2 1 1 1 4 2,3\nfold 2 1 1 1 5 4\nrun 3 6 5\nend 21\n",
+        Found::Differ(
+            (3, 1, 0, 1),
+            (Base::Init, &[(1, 1, 1), (1, 1, 1), (1, 2, 1), (1, 2, 1)]),
+            (Base::Init, &[(1, 1, 1), (1, 2, 1)]),
+        ),
+    ),
+    (
+        b"legion-spy 1\nispace 1 0\nfields 1 1\ntree 1 1 1\nredop 1\ntask 1\nreq 1 1 1 1 red:1 ex\ntask 2\nreq 2 1 1 1 red:1 ex\ntask 3\nreq 3 1 1 1 ro ex\ninst 1 1 1 1 home\ninst 2 1 1 1 red:1\nmap 1 1 1 2\nmap 2 1 1 2\nmap 3 1 1 1\nrun 1 2 -\nrun 2 3 -\nfold 2 1 1 1 4 2,3\nrun 3 5 4\nend 19\n",
+        Found::Differ(
+            (3, 1, 0, 1),
+            (Base::Raw, &[]),
+            (Base::Init, &[(1, 1, 1), (1, 2, 1)]),
+        ),
+    ),
+    // Two tasks run against the serial order.
+    (
+        b"legion-spy 1\nispace 1 0-3\nfields 1 1\ntree 1 1 1\ntask 1\nreq 1 1 1 1 rw at\ntask 2\nreq 2 1 1 1 rw at\ninst 1 1 1 1 home\nmap 1 1 1 1\nmap 2 1 1 1\nrun 1 1 2\nrun 2 2 -\nend 12\n",
+        Found::Differ((2, 1, 0, 1), (Base::Init, &[]), (Base::Out(1), &[])),
+    ),
+    // An instance that is not home holds nothing that is known.
+    (
+        b"legion-spy 1\nispace 1 0-3\nfields 1 1\ntree 1 1 1\ntask 1\nreq 1 1 1 1 ro ex\ntask 2\nreq 2 1 1 1 ro ex\ninst 1 1 1 1 plain\nmap 1 1 1 1\nmap 2 1 1 1\nrun 1 1 -\nrun 2 2 -\nend 12\n",
+        Found::Differ((1, 1, 0, 1), (Base::Raw, &[]), (Base::Init, &[])),
+    ),
+    (
+        b"legion-spy 1\nispace 1 0-3\nfields 1 1\ntree 1 1 1\ntask 1\nreq 1 1 1 1 ro ex\ntask 2\nreq 2 1 1 1 ro ex\ninst 1 1 1 1 home\nmap 1 1 1 1\nmap 2 1 1 1\nrun 1 1 -\nrun 2 2 -\nend 12\n",
+        Found::Right(8),
+    ),
+    // Requirements of two trees.
+    (
+        b"legion-spy 1\nispace 1 0-3\nfields 1 1\ntree 1 1 1\ntree 2 1 1\ntask 1\nreq 1 1 1 1 wd ex\nreq 1 2 1 1 rw ex\ntask 2\nreq 2 2 1 1 ro ex\nreq 2 1 1 1 ro ex\ninst 1 1 1 1 plain\ninst 2 2 1 1 home\nmap 1 1 1 1\nmap 1 2 1 2\nmap 2 1 1 2\nmap 2 2 1 1\nrun 1 1 -\nrun 2 2 1\nend 18\n",
+        Found::Right(12),
+    ),
+];
+
+/// The records of a text, on their lines, and how many lines there are.
+fn records_of(alloc: Global, text: &[u8]) -> Result<(Vec<Lined>, u32), Fail> {
+    let mut records = Vec::new(alloc);
+    let mut lines = 0u32;
+    for part in text.split(|b| *b == b'\n') {
+        lines = lines.saturating_add(1);
+        match read_line(alloc, part) {
+            Ok(Some(rec)) => records.push(Lined { line: lines, rec })?,
+            Ok(None) => {}
+            Err(_) => return Err("a line that spells no record".into()),
+        }
+    }
+    // Nothing stands behind the last line feed.
+    Ok((records, lines.saturating_sub(1)))
+}
+
+/// The log of a text.
+fn log_of<'a, P: ArenaSet<'a> + 'a>(
+    alloc: Global,
+    bump: &'a Bump,
+    text: &[u8],
+) -> Result<Log<'a, P>, Fail> {
+    let (records, lines) = records_of(alloc, text)?;
+    if !are_log_records(alloc, &records, lines)? {
+        return Err("records that make no log".into());
+    }
+    match declare::<P>(alloc, bump, &records, lines) {
+        Ok(log) => Ok(log),
+        Err(_) => Err("a log with a fault".into()),
+    }
+}
+
+/// Nodes, as far as order goes.
+fn nodes_of(alloc: Global, nodes: &[LogNode]) -> Result<Vec<NodeIn>, AllocError>
+    ensures { IfOk result (λ v. v.items ≡ graph_of nodes.now) }
+{
+    let mut found = Vec::new(alloc);
+    for node in nodes {
+        let waits = EventList::from_vec(Vec::from_slice(alloc, node.waits.as_slice())?);
+        found.push(NodeIn {
+            done: node.done,
+            waits,
+        })?;
+    }
+    Ok(found)
+}
+
+/// The value of a base to which this is added.
+fn value_of(alloc: Global, written: &Written) -> Result<Value, Fail> {
+    let mut value = Value::of(alloc, written.0);
+    for (op, task, req) in written.1 {
+        if value.weight() == u64::MAX {
+            return Err("a heavy value".into());
+        }
+        value.add(
+            *op,
+            Contribution {
+                task: *task,
+                req: *req,
+            },
+        )?;
+    }
+    Ok(value)
+}
+
+/// Replays a log.
+fn replay_of<'a, P: ArenaSet<'a>>(
+    alloc: Global,
+    log: &Log<'a, P>,
+) -> Result<Result<Reads, ReplayEnd>, Fail> {
+    if log.mapped().is_err() {
+        return Err("a requirement that is not mapped".into());
+    }
+    let nodes = nodes_of(alloc, log.nodes())?;
+    if nodes.len() >= 1 << 32 || !are_linked(alloc, nodes.as_slice())? {
+        return Err("no graph".into());
+    }
+    let graph = Graph::build(alloc, nodes)?;
+    let Ok(order) = graph.order(alloc) else {
+        return Err("a cycle".into());
+    };
+    let atoms = Atoms::build(alloc, log)?;
+    let versions = Versions::build_on(alloc, log, atoms.firsts())?;
+    Ok(replay(alloc, log, &order, &versions, &atoms))
+}
+
+/// Replays the log of a text. The log is let go.
+fn replay_text(alloc: Global, text: &[u8]) -> Result<Result<Reads, ReplayEnd>, Fail> {
+    let bump = Bump::new(alloc);
+    let log = log_of::<RunSet>(alloc, &bump, text)?;
+    let end = replay_of(alloc, &log);
+    drop(log);
+    end
+}
+
+/// Whether a replay ended as a case says.
+fn is_found(alloc: Global, end: Result<Reads, ReplayEnd>, found: &Found) -> Result<bool, Fail> {
+    match (end, found) {
+        (Ok(reads), Found::Right(count)) => Ok(reads.count == *count),
+        (
+            Err(
+                ReplayEnd::Differ {
+                    task,
+                    req,
+                    point,
+                    field,
+                    got,
+                    want,
+                },
+            ),
+            Found::Differ(read, got_there, want_there),
+        ) => Ok(
+            (task, req, point, field) == *read
+                && got.same(&value_of(alloc, got_there)?)
+                && want.same(&value_of(alloc, want_there)?),
+        ),
+        _ => Ok(false),
+    }
+}
+
+#[test]
+fn replays_of_logs(rt: HostRuntime) -> Result<(), Fail> {
+    let alloc = rt.alloc();
+    for (k, (text, found)) in CASES.iter().enumerate() {
+        let end = replay_text(alloc, text)?;
+        assert!(&rt; is_found(alloc, end, found)?, "case {k}");
+    }
+    Ok(())
+}
