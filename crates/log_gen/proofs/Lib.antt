@@ -1,0 +1,4 @@
+pub mod Each
+pub mod Numbered
+pub mod Spelled
+pub mod Counted

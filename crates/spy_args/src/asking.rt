@@ -1,0 +1,85 @@
+//! What words ask for.
+
+ghost use Rattle.std.specs.Prelude.{◌≡◌, ◌∷◌, IfOk, codes, map, string_bytes};
+ghost use Rattle.spy_args.specs.CommandLine.{text_of, texts_of};
+ghost use Rattle.spy_args.specs.Asked.{asked, plain_request, request_of, size_at};
+
+use crate::command_line::given;
+use crate::request::Request;
+use spy_io::Memory;
+use spy_words::number_of;
+use std::alloc::{AllocError, Global};
+
+/// The greatest size.
+const MOST_PIECES: u32 = 500;
+
+/// The size that a word says.
+#[tactic(auto, unfolding(spy_words::specs::Reading::number_from))]
+fn size_of(word: &[u8]) -> Option<u32>
+    ensures { result ≡ size_at word.now }
+{
+    if word.len() > 3 {
+        return None;
+    }
+    match number_of(1, word) {
+        Ok(size) if size <= MOST_PIECES => Some(size),
+        _ => None,
+    }
+}
+
+/// What a command without a size asks for.
+fn plain(command: &str) -> Option<Request>
+    ensures { result ≡ plain_request command.now }
+{
+    if command == "check" {
+        Some(Request::Check)
+    } else if command == "ordered" {
+        Some(Request::Ordered)
+    } else if command == "deps" {
+        Some(Request::Deps)
+    } else if command == "print" {
+        Some(Request::Print)
+    } else {
+        None
+    }
+}
+
+/// What a command asks for, with a size or without.
+fn request(command: &str, size: Option<&str>) -> Option<Request>
+    ensures { result ≡ request_of command.now (text_of size.entry) }
+{
+    match size {
+        None => plain(command),
+        Some(size) => {
+            if command == "demo" {
+                let size = size_of(size.as_bytes())?;
+                Some(Request::Demo { size })
+            } else {
+                None
+            }
+        }
+    }
+}
+
+/// The words with the program's name before them.
+fn program_words<'a>(alloc: Global, words: &'a Vec<String>) -> Result<Vec<&'a str>, AllocError>
+    ensures { IfOk result (λ all. texts_of all.items ≡ codes "spy" ∷ map string_bytes words.now.items) }
+{
+    let mut all: Vec<&str> = Vec::new(alloc);
+    all.push("spy")?;
+    for word in words {
+        all.push(word.as_str())?;
+    }
+    Ok(all)
+}
+
+/// What the words ask for, if they are taken. They do not hold the program's name.
+pub fn request_in(alloc: Global, words: &Vec<String>) -> Result<Option<Request>, Memory>
+    ensures { IfOk result (λ r. r ≡ asked (map string_bytes words.now.items)) }
+{
+    let all = program_words(alloc, words)?;
+    match given(alloc, &all)? {
+        Some((command, size)) => Ok(request(command, size)),
+        None => Ok(None),
+    }
+}
