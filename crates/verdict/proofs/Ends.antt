@@ -18,7 +18,7 @@ use Rattle.semantics.specs.Records.{records_of}
 use Rattle.semantics.specs.Tables.{Tables, with_record, tables_of, no_tables}
 use Rattle.semantics.specs.Events.{AreLinked, graph_of}
 use Rattle.semantics.specs.Faults.{at_line, declaration_fault, serial_fault, log_fault}
-use Rattle.semantics.specs.Outcome.{IsFound}
+use Rattle.semantics.specs.Outcome.{IsFound, CheckFinds}
 use Rattle.semantics.specs.Rules.{is_late}
 use Rattle.log_laws.proofs.Admitted.{by_records, no_broken_rule}
 use Rattle.log_laws.proofs.Members.{both_none}
@@ -127,3 +127,23 @@ few_declared_nodes t are = let few = capped are.lines are.log are.faultless in o
 -- Tables that keep each rule of `check` keep the serial order.
 pub serial_of : (t : Tables) → table_fault commands.Check t ≡ None → serial_fault t ≡ None
 serial_of t none = (both_none (serial_fault t) _ none).0
+
+pub few_declared_items : (t : Tables) → AreDeclared t → length t.items < 2 ^ 32
+few_declared_items t are = let few = capped are.lines are.log are.faultless in omega (arith, few.items, ap (λ (s : Tables). length s.items) are.tables)
+
+-- ---- what one replay shows
+
+-- What a law says of logs without a fault holds of tables that are declared and keep each rule.
+pub of_declared : (P : Tables → Type 0) → ((lines : ℕ) (log : List Lined) → AllByRecursion Good (records_of log) → log_fault commands.Check lines log ≡ None → P (tables_of log))
+    → (t : Tables) → AreDeclared t → table_fault commands.Check t ≡ None → P t
+of_declared P law t are none =
+    let own : table_fault commands.Check (tables_of are.log) ≡ None = subst (λ (s : Tables). table_fault commands.Check s ≡ None) are.tables none in
+    subst P (sym are.tables) (law are.lines are.log are.good (past commands.Check are.lines are.log are.faultless ∙ own))
+
+-- What is found in tables without a fault.
+pub check_found : (t : Tables) → table_fault commands.Check t ≡ None → (f : Finding) → CheckFinds t f → IsFoundOf commands.Check t f
+check_found t none (Cycle events) h = (none, h)
+check_found t none (Race a b inst point field) h = (none, h)
+check_found t none (Differ task number point field got want) h = (none, h)
+check_found t none (Accepted tasks operations reads) h = (none, h)
+check_found t none _ h = absurd h

@@ -1,19 +1,30 @@
 //! A log without a race.
 
-ghost use Rattle.std.specs.Prelude.{◌≡◌, None};
+ghost use Rattle.std.specs.Prelude.{◌≡◌, None, IfOk, IfErr, OnOk};
 ghost use Rattle.semantics.specs.declared.command.Command.TheVariants.{Check};
 ghost use Rattle.semantics.specs.Events.{graph_of};
+ghost use Rattle.semantics.specs.Outcome.{CheckFinds, IsSound, read_count};
 ghost use Rattle.semantics.specs.Races.{IsRaceFree};
 ghost use Rattle.point_laws.specs.Alike.{AreFirsts};
 ghost use Rattle.atoms.specs.Atoms.{first_points};
 ghost use Rattle.verdict.specs.Findings.{table_fault};
+ghost use Rattle.point_laws.specs.Cut.{cut};
+ghost use Rattle.serial_exec.specs.Kept.{AreVersionsOf};
 ghost use Rattle.verdict.specs.Sorted.{AreSorted};
+ghost use Rattle.verdict.specs.Stages.{IsStop};
 
+use crate::judged::Judged;
+use crate::reports::differ_found;
 use crate::sorting::Sorting;
+use crate::stop::Stop;
 use atoms::Atoms;
 use log_decl::Log;
+use outcome_laws::replays_speak_for_all;
 use point_set::PointSet;
 use region_tree::ArenaSet;
+use replay::{ReplayEnd, replay};
+use serial_exec::Versions;
+use std::alloc::Global;
 use std::marker::Model;
 
 /// A log that keeps each rule of `check` and has neither a cycle nor a race. Contracts see its tables.
@@ -43,6 +54,56 @@ impl<'a, P: PointSet + Copy> Model for Clean<'a, P> {
         × AreFirsts c.log (first_points c.atoms) × IsRaceFree c.log };
 }
 
+/// The values that sequential execution makes at the first points of a log.
+fn versions_of<'a, P: ArenaSet<'a>>(
+    alloc: Global,
+    log: &Log<'a, P>,
+    atoms: &Atoms,
+) -> Result<Versions, Stop>
+    ensures versions { IfOk result (λ v. AreVersionsOf (cut (first_points atoms.now) log.now) v) }
+    ensures stop { IfErr result (IsStop (CheckFinds log.now)) }
+{
+    match Versions::build_on(alloc, log, atoms.firsts()) {
+        Ok(versions) => Ok(versions),
+        Err(_) => Err(Stop::Memory),
+    }
+}
+
+/// How many reads there are, if each is right in every interleaving, or the read that is shown to differ in every interleaving.
+fn judged_reads<'a, P: ArenaSet<'a>>(
+    alloc: Global,
+    log: &Log<'a, P>,
+    sorting: &Sorting,
+    atoms: &Atoms,
+) -> Result<u64, Stop>
+    requires faultless { table_fault Check log.now ≡ None }
+    requires sorted { AreSorted (graph_of log.now.nodes) sorting.now }
+    requires firsts { AreFirsts log.now (first_points atoms.now) }
+    requires free { IsRaceFree log.now }
+    ensures sound { OnOk result (IsSound log.now) }
+    ensures count { IfOk result (λ count. count ≡ read_count log.now) }
+    ensures stop { IfErr result (IsStop (CheckFinds log.now)) }
+{
+    log.is_declared();
+    replays_speak_for_all();
+    let versions = match versions_of(alloc, log, atoms) {
+        Ok(versions) => versions,
+        Err(stop) => return Err(stop),
+    };
+    match replay(alloc, log, &sorting.order, &versions, atoms) {
+        Ok(reads) => Ok(reads.count),
+        Err(ReplayEnd::Differ {
+            task,
+            req,
+            point,
+            field,
+            got,
+            want,
+        }) => Err(Stop::Found(differ_found(task, req, point, field, got, want))),
+        Err(ReplayEnd::Memory) => Err(Stop::Memory),
+    }
+}
+
 impl<'a, P: ArenaSet<'a>> Clean<'a, P> {
     /// The log, of which no two nodes race.
     pub(crate) fn of(log: Log<'a, P>, sorting: Sorting, atoms: Atoms) -> Clean<'a, P>
@@ -56,6 +117,24 @@ impl<'a, P: ArenaSet<'a>> Clean<'a, P> {
             log,
             sorting,
             atoms,
+        }
+    }
+
+    /// The log, if each of its reads is right in every interleaving, or the read that is shown to differ in every interleaving.
+    pub fn replay(self, alloc: Global) -> Result<Judged<'a, P>, Stop>
+        ensures judged { IfOk result (λ j. j ≡ self.entry) }
+        ensures stop { IfErr result (IsStop (CheckFinds self.entry)) }
+    {
+        match judged_reads(alloc, &self.log, &self.sorting, &self.atoms) {
+            Ok(reads) => {
+                drop(self.sorting);
+                drop(self.atoms);
+                Ok(Judged::of(self.log, reads))
+            }
+            Err(stop) => {
+                drop(self);
+                Err(stop)
+            }
         }
     }
 }

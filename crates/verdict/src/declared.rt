@@ -1,6 +1,6 @@
 //! A log that keeps each rule of `check`.
 
-ghost use Rattle.std.specs.Prelude.{◌≡◌, ◌≢◌, IfOk, IfErr};
+ghost use Rattle.std.specs.Prelude.{◌≡◌, ◌≢◌, None, IfOk, OnOk, IfErr};
 ghost use Rattle.semantics.specs.declared.command.Command.TheVariants.{Check};
 ghost use Rattle.semantics.specs.Outcome.{CheckFinds};
 ghost use Rattle.verdict.specs.declared.stop.Stop.{Stop};
@@ -58,6 +58,7 @@ impl<'a, P: ArenaSet<'a>> Declared<'a, P> {
     /// The log, if its serial order and its maps have no fault. No memory is taken.
     pub fn of(log: Log<'a, P>) -> Result<Declared<'a, P>, Stop>
         ensures declared { IfOk result (λ d. d ≡ log.entry) }
+        ensures keeps { OnOk result (faults.table_fault Check log.entry ≡ None) }
         ensures fault { IfErr result (IsStop (faults.IsFoundOf Check log.entry)) }
         ensures no_memory { IfErr result (λ stop. stop ≢ Stop.Memory) }
     {

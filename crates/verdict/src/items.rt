@@ -8,7 +8,7 @@ ghost use Rattle.semantics.specs.Outcome as outcome;
 
 use log_decl::Log;
 use region_tree::ArenaSet;
-use semantics::{Item, ItemBody};
+use semantics::{Item, ItemBody, LogNode, Op};
 
 /// Whether an item is a task.
 fn is_task(item: &Item) -> bool
@@ -34,6 +34,32 @@ pub(crate) fn task_count<'a, P: ArenaSet<'a>>(log: &Log<'a, P>) -> u32
     ensures { result ≡ outcome.task_count log.now }
 {
     count_tasks(log.items())
+}
+
+/// Whether a node is an operation: no merge.
+fn is_operation(node: &LogNode) -> bool
+    ensures { result ≡ outcome.is_operation node.now.op }
+{
+    match node.op {
+        Op::Merge => false,
+        _ => true,
+    }
+}
+
+/// How many of some nodes are operations.
+fn count_operations(nodes: &[LogNode]) -> u32
+    requires { length nodes.now < 2 ^ 32 }
+    ensures { result ≡ count_by (λ n. outcome.is_operation n.op) nodes.now }
+{
+    nodes.iter().filter(|node| is_operation(*node)).count() as u32
+}
+
+/// How many operations a log has.
+pub(crate) fn operation_count<'a, P: ArenaSet<'a>>(log: &Log<'a, P>) -> u32
+    requires { length log.now.nodes < 2 ^ 32 }
+    ensures { result ≡ outcome.operation_count log.now }
+{
+    count_operations(log.nodes())
 }
 
 /// The id of an item.

@@ -8,6 +8,7 @@ ghost use Rattle.findings.specs.Texts.{Fits, Good, IsInRange, dep_line, small};
 use findings::{Dep, DepList, EventList, Finding};
 use semantics::{Cell, Place};
 use spy_grammar::Code;
+use value_terms::Value;
 
 /// The law of events: each lies in the range of its type. There is nothing to do.
 fn events_fit(events: &[u32])
@@ -82,6 +83,42 @@ pub(crate) fn race_found(a: u32, b: u32, cell: Cell) -> Finding
         inst: cell.inst,
         point: cell.point,
         field: cell.field,
+    }
+}
+
+/// A read of a requirement of a task, and the value that it got and the one that it should have got.
+pub(crate) fn differ_found(
+    task: u32,
+    req: u32,
+    point: u64,
+    field: u32,
+    got: Value,
+    want: Value,
+) -> Finding
+    ensures finding { result ≡ findings.Differ task req point field got want }
+    ensures good { Good result }
+{
+    got.rules();
+    want.rules();
+    Finding::Differ {
+        task,
+        req,
+        point,
+        field,
+        got,
+        want,
+    }
+}
+
+/// So many tasks, operations and reads, all of them right.
+pub(crate) fn accepted_found(tasks: u32, operations: u32, reads: u64) -> Finding
+    ensures finding { result ≡ findings.Accepted tasks operations reads }
+    ensures good { Good result }
+{
+    Finding::Accepted {
+        tasks,
+        operations,
+        reads,
     }
 }
 

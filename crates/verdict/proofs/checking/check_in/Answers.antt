@@ -1,0 +1,15 @@
+use Rattle.std.proofs.Common.{sym, subst}
+use Rattle.std.proofs.lemmas.Result.{IfOk-weaker}
+use Rattle.findings.specs.declared.finding.Finding.{Finding}
+use Rattle.semantics.specs.declared.command.Command.TheVariants.{Check}
+use Rattle.semantics.specs.Tables.{Tables}
+use Rattle.semantics.specs.Outcome.{CheckFinds}
+use Rattle.verdict.specs.Findings.{IsFoundOf}
+use Rattle.verdict.proofs.Ends.{check_found}
+use Rattle.verdict.proofs.checking.check_in.Goals as goal
+
+pub returns-in-Ok-clause-found : goal.returns-in-Ok-clause-found
+returns-in-Ok-clause-found g c =
+    IfOk-weaker c.run_found.result (CheckFinds c.in-Ok.declared) (IsFoundOf Check c.args.log)
+    (λ (f : Finding) h. check_found c.args.log c.in-Ok.ensures.keeps f (subst (λ (t : Tables). CheckFinds t f) c.in-Ok.ensures.declared h))
+    c.run_found.ensures.found

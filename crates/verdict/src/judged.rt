@@ -1,0 +1,58 @@
+//! A log whose run computed what the sequential program computes.
+
+ghost use Rattle.std.specs.Prelude.{◌≡◌, ◌<◌, ◌^◌, length, None, filter};
+ghost use Rattle.findings.specs.Texts as texts;
+ghost use Rattle.semantics.specs.declared.command.Command.TheVariants.{Check};
+ghost use Rattle.semantics.specs.Outcome as outcome;
+ghost use Rattle.semantics.specs.Outcome.{CheckFinds, IsSound, read_count};
+ghost use Rattle.verdict.specs.Findings.{table_fault};
+
+use crate::items::{operation_count, task_count};
+use crate::reports::accepted_found;
+use findings::Finding;
+use log_decl::Log;
+use point_set::PointSet;
+use region_tree::ArenaSet;
+use std::marker::Model;
+
+/// A log that keeps each rule of `check`, has neither a cycle nor a race, and of which each read is right in every interleaving. Contracts see its tables.
+#[derive(Drop)]
+pub struct Judged<'a, P: PointSet + Copy> {
+    log: Log<'a, P>,
+    reads: u64,
+}
+
+impl<'a, P: PointSet + Copy> Model for Judged<'a, P> {
+    ghost use Rattle.std.specs.Prelude.{◌≡◌, None};
+    ghost use Rattle.semantics.specs.declared.command.Command.TheVariants.{Check};
+    ghost use Rattle.semantics.specs.Outcome.{IsSound, read_count};
+    ghost use Rattle.semantics.specs.Tables.{Tables};
+    ghost use Rattle.verdict.specs.Findings.{table_fault};
+
+    ghost Value = { Tables };
+
+    ghost view = { λ j. j.log };
+
+    ghost invariant = { λ j. (table_fault Check j.log ≡ None) × IsSound j.log × (j.reads ≡ read_count j.log) };
+}
+
+impl<'a, P: ArenaSet<'a>> Judged<'a, P> {
+    /// The log, all of whose so many reads are right.
+    pub(crate) fn of(log: Log<'a, P>, reads: u64) -> Judged<'a, P>
+        requires faultless { table_fault Check log ≡ None }
+        requires sound { IsSound log }
+        requires count { reads ≡ read_count log }
+        ensures { result ≡ log.entry }
+    {
+        Judged { log, reads }
+    }
+
+    /// How many tasks, operations and reads were judged. No memory is taken.
+    pub fn finding(&self) -> Finding
+        ensures found { CheckFinds self.now result }
+        ensures text { texts.Good result }
+    {
+        self.log.is_declared();
+        accepted_found(task_count(&self.log), operation_count(&self.log), self.reads)
+    }
+}
