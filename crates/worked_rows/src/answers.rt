@@ -23,33 +23,63 @@ pub fn answer(alloc: Global, command: &str, log: &[u8]) -> Result<(Status, Vec<u
     Ok((status, sink.held().to_vec(alloc)?))
 }
 
-/// A line of a log, counted from 1, and the text that takes its place. An empty text takes the line away.
-pub type Edit<'a> = (usize, &'a [u8]);
-
-/// What takes the place of a line.
-fn edited_line<'a>(number: usize, line: &'a [u8], edits: &[Edit<'a>]) -> Option<&'a [u8]> {
-    for (at, text) in edits {
-        if *at == number {
-            return if text.is_empty() { None } else { Some(*text) };
+/// The log with another text in the place of one line, counted from 1.
+pub fn with_line(alloc: Global, log: &[u8], number: usize, text: &[u8]) -> Result<Vec<u8>, Fail> {
+    let mut changed = Vec::new(alloc);
+    for (i, line) in log.split(|b| *b == b'\n').enumerate() {
+        if i > 0 {
+            changed.extend_from_slice(b"\n")?;
         }
+        let here = i.wrapping_add(1) == number;
+        changed.extend_from_slice(if here { text } else { line })?;
     }
-    Some(line)
+    Ok(changed)
 }
 
-/// The log with other texts in the place of some lines.
-pub fn edited(alloc: Global, log: &[u8], edits: &[Edit<'_>]) -> Result<Vec<u8>, Fail> {
+/// The number with which an edit begins, and the text behind it.
+fn edit_parts(edit: &[u8]) -> (usize, &[u8]) {
+    let mut number = 0usize;
+    let mut rest = edit;
+    while let [digit, more @ ..] = rest {
+        rest = more;
+        if *digit == b' ' {
+            break;
+        }
+        number = number
+            .wrapping_mul(10)
+            .wrapping_add(usize::from(digit.wrapping_sub(b'0')));
+    }
+    (number, rest)
+}
+
+/// Adds what edits put in the place of a line, and says whether there are any.
+fn push_edits(changed: &mut Vec<u8>, edits: &[u8], number: usize) -> Result<bool, Fail> {
+    let mut found = false;
+    for edit in edits.split(|b| *b == b'\n') {
+        let (at, text) = edit_parts(edit);
+        if at == number {
+            found = true;
+            if !text.is_empty() {
+                changed.extend_from_slice(text)?;
+                changed.extend_from_slice(b"\n")?;
+            }
+        }
+    }
+    Ok(found)
+}
+
+/// The log with other texts in the place of some lines. Each line of `edits` is the number of a line of the log, a space, and a text that takes its place, after those of earlier edits of that line; a number alone takes the line away.
+pub fn edited(alloc: Global, log: &[u8], edits: &[u8]) -> Result<Vec<u8>, Fail> {
     let mut changed = Vec::new(alloc);
     let mut number = 0usize;
     for line in log.split(|b| *b == b'\n') {
         number = number.wrapping_add(1);
-        if let Some(text) = edited_line(number, line, edits) {
-            changed.extend_from_slice(text)?;
+        if !push_edits(&mut changed, edits, number)? {
+            changed.extend_from_slice(line)?;
             changed.extend_from_slice(b"\n")?;
         }
     }
     // What stands behind the last line feed is no line.
-    if changed.ends_with(b"\n") {
-        let _line_feed = changed.pop();
-    }
+    let _line_feed = changed.pop();
     Ok(changed)
 }

@@ -1,6 +1,6 @@
 //! `print`, and the faults of lines.
 
-use crate::answers::{answer, edited};
+use crate::answers::{answer, with_line};
 use crate::logs::{
     GATHERED_REDUCTIONS, STALE_COPY, TURNED_WRITES, TWO_OPERATORS, TWO_TASKS, WRITE_THEN_READ,
 };
@@ -35,7 +35,7 @@ fn comments_and_blank_lines_are_dropped(rt: HostRuntime) -> Result<(), Fail> {
     let alloc = rt.alloc();
     for command in ["print", "ordered"] {
         for log in [WRITE_THEN_READ, TWO_TASKS] {
-            let noted = edited(alloc, log, &[(1, b"legion-spy 1\n# note\n")])?;
+            let noted = with_line(alloc, log, 1, b"legion-spy 1\n# note\n")?;
             let (status, text) = answer(alloc, command, &noted)?;
             let (plain_status, plain) = answer(alloc, command, log)?;
             assert_eq!(rt; status, plain_status);
@@ -64,7 +64,7 @@ fn the_least_faulty_line_is_shown(rt: HostRuntime) -> Result<(), Fail> {
     ];
     for command in ["print", "ordered"] {
         for (number, text, report) in cases {
-            let log = edited(alloc, WRITE_THEN_READ, &[(number, text)])?;
+            let log = with_line(alloc, WRITE_THEN_READ, number, text)?;
             let (status, said) = answer(alloc, command, &log)?;
             assert_eq!(rt; status, Status::Fault, "line {number}");
             assert_eq!(rt; said.as_slice(), report, "line {number}");

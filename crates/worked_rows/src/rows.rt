@@ -1,73 +1,70 @@
 //! The worked examples of whole logs, each through `run`.
 
-use crate::answers::{Edit, answer, edited};
+use crate::answers::{answer, edited};
 use crate::logs::{
     GATHERED_REDUCTIONS, STALE_COPY, TURNED_WRITES, TWO_OPERATORS, TWO_TASKS, WRITE_THEN_READ,
 };
 use spy_cli::Status;
 use std::test::Fail;
 
-/// A command, a log with its edits, and the status and report that it gives.
-type Row<'a> = (&'a str, &'a [u8], &'a [Edit<'a>], Status, &'a [u8]);
-
 #[rattlefmt::skip]
 #[test]
 fn logs_with_some_lines_changed(rt: HostRuntime) -> Result<(), Fail> {
     let alloc = rt.alloc();
-    let rows: [Row<'_>; 43] = [
+    let rows: [(&str, &[u8], &[u8], Status, &[u8]); 43] = [
         // Two tasks over one region.
-        ("ordered", TWO_TASKS, &[], Status::Yes, b"ordered tasks 2 pairs 1\n"),
-        ("deps", TWO_TASKS, &[], Status::Yes, b"before 1 2 tree 1 point 0 field 1\ndeps items 2 before 1 turn 0\n"),
-        ("ordered", TWO_TASKS, &[(10, b"run 2 2 -")], Status::Refused, b"unordered 1 2 tree 1 point 0 field 1\n"),
-        ("ordered", TWO_TASKS, &[(10, b"run 2 2 1,1")], Status::Yes, b"ordered tasks 2 pairs 1\n"),
-        ("ordered", TWO_TASKS, &[(6, b"req 1 1 1 1 ro ex")], Status::Yes, b"ordered tasks 2 pairs 0\n"),
-        ("ordered", TWO_TASKS, &[(1, b"# a comment\n\nlegion-spy 1")], Status::Yes, b"ordered tasks 2 pairs 1\n"),
+        ("ordered", TWO_TASKS, b"", Status::Yes, b"ordered tasks 2 pairs 1\n"),
+        ("deps", TWO_TASKS, b"", Status::Yes, b"before 1 2 tree 1 point 0 field 1\ndeps items 2 before 1 turn 0\n"),
+        ("ordered", TWO_TASKS, b"10 run 2 2 -", Status::Refused, b"unordered 1 2 tree 1 point 0 field 1\n"),
+        ("ordered", TWO_TASKS, b"10 run 2 2 1,1", Status::Yes, b"ordered tasks 2 pairs 1\n"),
+        ("ordered", TWO_TASKS, b"6 req 1 1 1 1 ro ex", Status::Yes, b"ordered tasks 2 pairs 0\n"),
+        ("ordered", TWO_TASKS, b"1 # a comment\n1 #\n1 legion-spy 1", Status::Yes, b"ordered tasks 2 pairs 1\n"),
         // Waits in a cycle, on no event, and through merges.
-        ("ordered", TWO_TASKS, &[(9, b"run 1 1 2")], Status::Refused, b"cycle 1 2\n"),
-        ("ordered", TWO_TASKS, &[(9, b"run 1 1 1")], Status::Refused, b"cycle 1\n"),
-        ("deps", TWO_TASKS, &[(9, b"run 1 1 2")], Status::Yes, b"before 1 2 tree 1 point 0 field 1\ndeps items 2 before 1 turn 0\n"),
-        ("ordered", TWO_TASKS, &[(10, b"run 2 2 7")], Status::Fault, b"fault 10 undefined-event\n"),
-        ("ordered", TWO_TASKS, &[(9, b"run 1 1 -\nmerge 2 1\nmerge 3 2"), (10, b"run 2 4 3"), (11, b"end 11")], Status::Yes, b"ordered tasks 2 pairs 1\n"),
-        ("ordered", TWO_TASKS, &[(10, b"run 2 2 1\nmerge 3 5\nmerge 4 3\nmerge 5 4"), (11, b"end 12")], Status::Refused, b"cycle 3 4 5\n"),
+        ("ordered", TWO_TASKS, b"9 run 1 1 2", Status::Refused, b"cycle 1 2\n"),
+        ("ordered", TWO_TASKS, b"9 run 1 1 1", Status::Refused, b"cycle 1\n"),
+        ("deps", TWO_TASKS, b"9 run 1 1 2", Status::Yes, b"before 1 2 tree 1 point 0 field 1\ndeps items 2 before 1 turn 0\n"),
+        ("ordered", TWO_TASKS, b"10 run 2 2 7", Status::Fault, b"fault 10 undefined-event\n"),
+        ("ordered", TWO_TASKS, b"9 run 1 1 -\n9 merge 2 1\n9 merge 3 2\n10 run 2 4 3\n11 end 11", Status::Yes, b"ordered tasks 2 pairs 1\n"),
+        ("ordered", TWO_TASKS, b"10 run 2 2 1\n10 merge 3 5\n10 merge 4 3\n10 merge 5 4\n11 end 12", Status::Refused, b"cycle 3 4 5\n"),
         // A cycle is shown before two tasks that are not ordered.
-        ("ordered", TWO_TASKS, &[(10, b"run 2 2 -\nmerge 3 3"), (11, b"end 10")], Status::Refused, b"cycle 3\n"),
+        ("ordered", TWO_TASKS, b"10 run 2 2 -\n10 merge 3 3\n11 end 10", Status::Refused, b"cycle 3\n"),
         // An atomic pair, taken in turn; and one that may not be turned.
-        ("ordered", TWO_TASKS, &[(6, b"req 1 1 1 1 rw at"), (8, b"req 2 1 1 1 rw at\nserial 2 1"), (9, b"run 2 2 -"), (10, b"run 1 1 2"), (11, b"end 10")], Status::Yes, b"ordered tasks 2 pairs 1\n"),
-        ("deps", TWO_TASKS, &[(6, b"req 1 1 1 1 rw at"), (8, b"req 2 1 1 1 rw at\nserial 2 1"), (9, b"run 2 2 -"), (10, b"run 1 1 2"), (11, b"end 10")], Status::Yes, b"turn 2 1 tree 1 point 0 field 1\ndeps items 2 before 0 turn 1\n"),
-        ("deps", TWO_TASKS, &[(6, b"req 1 1 1 1 rw ex"), (8, b"req 2 1 1 1 rw ex\nserial 2 1"), (9, b"run 2 2 -"), (10, b"run 1 1 2"), (11, b"end 10")], Status::Fault, b"fault 9 serial-order\n"),
-        ("ordered", TWO_TASKS, &[(6, b"req 1 1 1 1 rw at"), (8, b"req 2 1 1 1 rw at\nserial 1\nserial 2"), (11, b"end 11")], Status::Yes, b"ordered tasks 2 pairs 1\n"),
+        ("ordered", TWO_TASKS, b"6 req 1 1 1 1 rw at\n8 req 2 1 1 1 rw at\n8 serial 2 1\n9 run 2 2 -\n10 run 1 1 2\n11 end 10", Status::Yes, b"ordered tasks 2 pairs 1\n"),
+        ("deps", TWO_TASKS, b"6 req 1 1 1 1 rw at\n8 req 2 1 1 1 rw at\n8 serial 2 1\n9 run 2 2 -\n10 run 1 1 2\n11 end 10", Status::Yes, b"turn 2 1 tree 1 point 0 field 1\ndeps items 2 before 0 turn 1\n"),
+        ("deps", TWO_TASKS, b"6 req 1 1 1 1 rw ex\n8 req 2 1 1 1 rw ex\n8 serial 2 1\n9 run 2 2 -\n10 run 1 1 2\n11 end 10", Status::Fault, b"fault 9 serial-order\n"),
+        ("ordered", TWO_TASKS, b"6 req 1 1 1 1 rw at\n8 req 2 1 1 1 rw at\n8 serial 1\n8 serial 2\n11 end 11", Status::Yes, b"ordered tasks 2 pairs 1\n"),
         // The line is the one that lists the earlier item.
-        ("ordered", TWO_TASKS, &[(8, b"req 2 1 1 1 ro ex\nserial 2\nserial 1"), (11, b"end 11")], Status::Fault, b"fault 10 serial-order\n"),
-        ("ordered", TURNED_WRITES, &[], Status::Yes, b"ordered tasks 2 pairs 1\n"),
-        ("ordered", TURNED_WRITES, &[(6, b"req 1 1 1 1 rw ex"), (8, b"req 2 1 1 1 rw ex")], Status::Fault, b"fault 9 serial-order\n"),
+        ("ordered", TWO_TASKS, b"8 req 2 1 1 1 ro ex\n8 serial 2\n8 serial 1\n11 end 11", Status::Fault, b"fault 10 serial-order\n"),
+        ("ordered", TURNED_WRITES, b"", Status::Yes, b"ordered tasks 2 pairs 1\n"),
+        ("ordered", TURNED_WRITES, b"6 req 1 1 1 1 rw ex\n8 req 2 1 1 1 rw ex", Status::Fault, b"fault 9 serial-order\n"),
         // Fills are items, and no tasks.
-        ("ordered", TWO_TASKS, &[(8, b"req 2 1 1 1 ro ex\nfill 9 1 1 1 0"), (11, b"end 10")], Status::Yes, b"ordered tasks 2 pairs 1\n"),
-        ("deps", TWO_TASKS, &[(8, b"req 2 1 1 1 ro ex\nfill 9 1 1 1 0"), (11, b"end 10")], Status::Yes, b"before 1 2 tree 1 point 0 field 1\nbefore 1 9 tree 1 point 0 field 1\nbefore 2 9 tree 1 point 0 field 1\ndeps items 3 before 3 turn 0\n"),
+        ("ordered", TWO_TASKS, b"8 req 2 1 1 1 ro ex\n8 fill 9 1 1 1 0\n11 end 10", Status::Yes, b"ordered tasks 2 pairs 1\n"),
+        ("deps", TWO_TASKS, b"8 req 2 1 1 1 ro ex\n8 fill 9 1 1 1 0\n11 end 10", Status::Yes, b"before 1 2 tree 1 point 0 field 1\nbefore 1 9 tree 1 point 0 field 1\nbefore 2 9 tree 1 point 0 field 1\ndeps items 3 before 3 turn 0\n"),
         // Instances and copies.
-        ("deps", WRITE_THEN_READ, &[], Status::Yes, b"before 1 2 tree 1 point 0 field 1\ndeps items 2 before 1 turn 0\n"),
-        ("ordered", WRITE_THEN_READ, &[(13, b"run 2 2 -")], Status::Refused, b"unordered 1 2 tree 1 point 0 field 1\n"),
-        ("ordered", WRITE_THEN_READ, &[(12, b"run 1 1 2")], Status::Refused, b"cycle 1 2\n"),
-        ("ordered", WRITE_THEN_READ, &[(2, b"ispace 1 -"), (13, b"run 2 2 -")], Status::Yes, b"ordered tasks 2 pairs 0\n"),
-        ("ordered", WRITE_THEN_READ, &[(12, b"run 1 1 -\nmerge 2 1\nmerge 3 2"), (13, b"run 2 4 3"), (14, b"end 14")], Status::Yes, b"ordered tasks 2 pairs 1\n"),
-        ("ordered", WRITE_THEN_READ, &[(13, b"run 2 2 1\nmerge 3 5\nmerge 4 3\nmerge 5 4"), (14, b"end 15")], Status::Refused, b"cycle 3 4 5\n"),
-        ("ordered", WRITE_THEN_READ, &[(4, b"tree 1 1 1\ntree 2 1 1"), (8, b"req 2 2 1 1 wd ex"), (9, b"inst 1 1 1 1 plain\ninst 2 2 1 1 plain"), (11, b"map 2 1 1 2"), (13, b"run 2 2 -"), (14, b"end 14")], Status::Yes, b"ordered tasks 2 pairs 0\n"),
-        ("ordered", STALE_COPY, &[], Status::Yes, b"ordered tasks 3 pairs 3\n"),
-        ("ordered", STALE_COPY, &[(8, b"req 2 1 1 1 ro ex"), (10, b"req 3 1 1 1 wd ex"), (16, b"run 1 1 -"), (17, b"run 2 2 1"), (18, b"run 3 3 -"), (19, b""), (20, b"end 17")], Status::Refused, b"unordered 1 3 tree 1 point 0 field 1\n"),
+        ("deps", WRITE_THEN_READ, b"", Status::Yes, b"before 1 2 tree 1 point 0 field 1\ndeps items 2 before 1 turn 0\n"),
+        ("ordered", WRITE_THEN_READ, b"13 run 2 2 -", Status::Refused, b"unordered 1 2 tree 1 point 0 field 1\n"),
+        ("ordered", WRITE_THEN_READ, b"12 run 1 1 2", Status::Refused, b"cycle 1 2\n"),
+        ("ordered", WRITE_THEN_READ, b"2 ispace 1 -\n13 run 2 2 -", Status::Yes, b"ordered tasks 2 pairs 0\n"),
+        ("ordered", WRITE_THEN_READ, b"12 run 1 1 -\n12 merge 2 1\n12 merge 3 2\n13 run 2 4 3\n14 end 14", Status::Yes, b"ordered tasks 2 pairs 1\n"),
+        ("ordered", WRITE_THEN_READ, b"13 run 2 2 1\n13 merge 3 5\n13 merge 4 3\n13 merge 5 4\n14 end 15", Status::Refused, b"cycle 3 4 5\n"),
+        ("ordered", WRITE_THEN_READ, b"4 tree 1 1 1\n4 tree 2 1 1\n8 req 2 2 1 1 wd ex\n9 inst 1 1 1 1 plain\n9 inst 2 2 1 1 plain\n11 map 2 1 1 2\n13 run 2 2 -\n14 end 14", Status::Yes, b"ordered tasks 2 pairs 0\n"),
+        ("ordered", STALE_COPY, b"", Status::Yes, b"ordered tasks 3 pairs 3\n"),
+        ("ordered", STALE_COPY, b"8 req 2 1 1 1 ro ex\n10 req 3 1 1 1 wd ex\n16 run 1 1 -\n17 run 2 2 1\n18 run 3 3 -\n19\n20 end 17", Status::Refused, b"unordered 1 3 tree 1 point 0 field 1\n"),
         // Reductions.
-        ("ordered", GATHERED_REDUCTIONS, &[], Status::Yes, b"ordered tasks 3 pairs 2\n"),
-        ("ordered", TWO_OPERATORS, &[], Status::Refused, b"unordered 1 2 tree 1 point 0 field 1\n"),
-        ("ordered", TWO_OPERATORS, &[(10, b"req 2 1 1 1 red:1 ex")], Status::Yes, b"ordered tasks 2 pairs 0\n"),
-        ("deps", TWO_OPERATORS, &[], Status::Yes, b"before 1 2 tree 1 point 0 field 1\ndeps items 2 before 1 turn 0\n"),
+        ("ordered", GATHERED_REDUCTIONS, b"", Status::Yes, b"ordered tasks 3 pairs 2\n"),
+        ("ordered", TWO_OPERATORS, b"", Status::Refused, b"unordered 1 2 tree 1 point 0 field 1\n"),
+        ("ordered", TWO_OPERATORS, b"10 req 2 1 1 1 red:1 ex", Status::Yes, b"ordered tasks 2 pairs 0\n"),
+        ("deps", TWO_OPERATORS, b"", Status::Yes, b"before 1 2 tree 1 point 0 field 1\ndeps items 2 before 1 turn 0\n"),
         // The frame of a log.
-        ("ordered", WRITE_THEN_READ, &[(14, b"")], Status::Fault, b"fault 14 ended\n"),
-        ("ordered", WRITE_THEN_READ, &[(14, b"end 11")], Status::Fault, b"fault 14 count\n"),
-        ("deps", WRITE_THEN_READ, &[(1, b"legion-spy 2")], Status::Fault, b"fault 1 header\n"),
-        ("ordered", WRITE_THEN_READ, &[(14, b"end 12\nend 12")], Status::Fault, b"fault 15 ended\n"),
+        ("ordered", WRITE_THEN_READ, b"14", Status::Fault, b"fault 14 ended\n"),
+        ("ordered", WRITE_THEN_READ, b"14 end 11", Status::Fault, b"fault 14 count\n"),
+        ("deps", WRITE_THEN_READ, b"1 legion-spy 2", Status::Fault, b"fault 1 header\n"),
+        ("ordered", WRITE_THEN_READ, b"14 end 12\n14 end 12", Status::Fault, b"fault 15 ended\n"),
         // Faults of lines come first.
-        ("ordered", WRITE_THEN_READ, &[(9, b"inst 1 1 1 1 plan"), (14, b"")], Status::Fault, b"fault 9 form\n"),
-        ("ordered", WRITE_THEN_READ, &[(9, b"inst 01 1 1 1 plain")], Status::Fault, b"fault 9 number\n"),
-        ("ordered", WRITE_THEN_READ, &[(2, b"ispace 1 3,1")], Status::Fault, b"fault 2 order\n"),
-        ("deps", WRITE_THEN_READ, &[(2, b"jspace 1 0-3")], Status::Fault, b"fault 2 word\n"),
+        ("ordered", WRITE_THEN_READ, b"9 inst 1 1 1 1 plan\n14", Status::Fault, b"fault 9 form\n"),
+        ("ordered", WRITE_THEN_READ, b"9 inst 01 1 1 1 plain", Status::Fault, b"fault 9 number\n"),
+        ("ordered", WRITE_THEN_READ, b"2 ispace 1 3,1", Status::Fault, b"fault 2 order\n"),
+        ("deps", WRITE_THEN_READ, b"2 jspace 1 0-3", Status::Fault, b"fault 2 word\n"),
     ];
     for (command, log, edits, status, report) in rows {
         let log = edited(alloc, log, edits)?;
