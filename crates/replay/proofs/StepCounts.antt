@@ -9,7 +9,6 @@ use Rattle.privilege.specs.declared.kinds.Priv.{Priv}
 use Rattle.privilege.specs.declared.kinds.Priv.TheVariants as privileges
 use Rattle.spy_grammar.specs.declared.record.Record.{Record}
 use Rattle.spy_grammar.specs.declared.record.Record.TheVariants as records
-use Rattle.spy_grammar.specs.declared.record.Lined.{Lined}
 use Rattle.semantics.specs.declared.places.Cell.{Cell}
 use Rattle.semantics.specs.declared.moves.Move.{Move}
 use Rattle.semantics.specs.declared.tables.Req.{Req}
@@ -74,8 +73,9 @@ flat_ones f one (x ∷ xs) =
 grid_size : (points fields : List ℕ) → length (grid points fields) ≡ length points * length fields
 grid_size [] fields = omega arith
 grid_size (x ∷ points) fields =
-    let a = length-append (map (λ f. (x, f)) fields) (grid points fields) in
-    let b = length-map fields (λ f. (x, f)) in
+    let at : ℕ → ℕ × ℕ = λ f. (x, f) in
+    let a = length-append (map at fields) (grid points fields) in
+    let b = length-map fields at in
     let rest = grid_size points fields in
     a ∙ ap (λ n. n + length (grid points fields)) b ∙ ap (λ n. length fields + n) rest ∙ omega arith
 
@@ -196,20 +196,20 @@ flat_more g (y ∷ xs) x = ap (λ zs. g y ++ zs) (flat_more g xs x) ∙ sym (app
 node_once : (ns : List LogNode) (n : LogNode) → ((i : ℕ) → Member (runs_of n.op) i → Member (run_items ns) i → ⊥) → Apart (run_items ns) → Apart (run_items (ns ++ n ∷ []))
 node_once ns n new h = subst Apart (sym (flat_more (λ (n : LogNode). runs_of n.op) ns n)) (pairs_append (λ x y. x ≢ y) (run_items ns) (runs_of n.op) h (one_run n.op) (λ x y a b e. new y b (subst (Member (run_items ns)) e a)))
 
-more_once : (log : List Record) (earlier : List Lined) (t : Tables) (line : ℕ) (r : Record) → is_run_again t r ≡ false → RunOnce t → RunOnce (with_record t line r)
-more_once log earlier t line (records.Run task done waits) e h = node_once t.nodes _ (λ i here there.
+more_once : (t : Tables) (line : ℕ) (r : Record) → is_run_again t r ≡ false → RunOnce t → RunOnce (with_record t line r)
+more_once t line (records.Run task done waits) e h = node_once t.nodes _ (λ i here there.
     let at = not_run t.nodes i there in
     true≢false (sym at.2 ∙ subst (λ i. runs_item i at.0.op ≡ false) (sym (only here)) (none_at (λ (n : LogNode). runs_item (place_of t.items task) n.op) t.nodes at.0 e at.1))) h
-more_once log earlier t line (records.Copy src dst space fields done waits) e h = node_once t.nodes _ (λ i here there. here) h
-more_once log earlier t line (records.Put inst space fields n done waits) e h = node_once t.nodes _ (λ i here there. here) h
-more_once log earlier t line (records.Reset inst space fields done waits) e h = node_once t.nodes _ (λ i here there. here) h
-more_once log earlier t line (records.Fold src dst space fields done waits) e h = node_once t.nodes _ (λ i here there. here) h
-more_once log earlier t line (records.Merge done waits) e h = node_once t.nodes _ (λ i here there. here) h
-more_once log earlier t line _ e h = h
+more_once t line (records.Copy src dst space fields done waits) e h = node_once t.nodes _ (λ i here there. here) h
+more_once t line (records.Put inst space fields n done waits) e h = node_once t.nodes _ (λ i here there. here) h
+more_once t line (records.Reset inst space fields done waits) e h = node_once t.nodes _ (λ i here there. here) h
+more_once t line (records.Fold src dst space fields done waits) e h = node_once t.nodes _ (λ i here there. here) h
+more_once t line (records.Merge done waits) e h = node_once t.nodes _ (λ i here there. here) h
+more_once t line _ e h = h
 
 run_once : (t : Tables) → AreDeclared t → RunOnce t
 run_once t d = subst RunOnce (sym d.tables) (by_records (λ r. Unit {0}) RunOnce (records_of d.log)
-    (λ earlier l u _. more_once (records_of d.log) earlier (tables_of earlier) l.line l.rec u.1.1.1.1.1.1.1.1.1.1.1.1.1.1.1.1.1.1.0)
+    (λ earlier l u _. more_once (tables_of earlier) l.line l.rec u.1.1.1.1.1.1.1.1.1.1.1.1.1.1.1.1.1.1.0)
     [] d.log (recursion_from_All _ (records_of d.log) (λ k d lt. tt)) (no_broken_rule d.lines d.log d.faultless) tt)
 
 -- ---- all together

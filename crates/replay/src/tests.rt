@@ -1,12 +1,18 @@
 //! The replays of a few logs, judged by hand.
 
-ghost use Rattle.std.specs.Prelude.{◌≡◌, IfOk};
+ghost use Rattle.std.specs.Prelude.{◌≡◌, IfOk, None};
 ghost use Rattle.semantics.specs.Events.{graph_of};
+ghost use Rattle.semantics.specs.Faults.{unmapped_fault};
+ghost use Rattle.event_graph.specs.Orders.{IsOrderOf};
+ghost use Rattle.point_laws.specs.Alike.{AreFirsts};
+ghost use Rattle.point_laws.specs.Cut.{cut};
+ghost use Rattle.atoms.specs.Atoms.{first_points};
+ghost use Rattle.serial_exec.specs.Kept.{AreVersionsOf};
 
 use super::*;
 use atoms::Atoms;
 use bumpalo::Bump;
-use event_graph::{EventList, Graph, NodeIn, are_linked};
+use event_graph::{EventList, Graph, NodeIn, Order, are_linked};
 use log_decl::{Log, are_log_records, declare};
 use point_set::RunSet;
 use region_tree::ArenaSet;
@@ -15,7 +21,7 @@ use serial_exec::Versions;
 use spy_grammar::{Lined, read_line};
 use std::alloc::{AllocError, Global};
 use std::test::Fail;
-use value_terms::{Base, Contribution, Value};
+use value_terms::{Base, Contribution, Memory, Value};
 
 /// A base, and what is added to it, each time an operator, a task and a requirement.
 type Written = (Base, &'static [(u32, u32, u32)]);
@@ -157,6 +163,34 @@ fn value_of(alloc: Global, written: &Written) -> Result<Value, Fail> {
     Ok(value)
 }
 
+/// What a log wants at the first points of its atoms.
+fn versions_on<'a, P: ArenaSet<'a>>(
+    alloc: Global,
+    log: &Log<'a, P>,
+    atoms: &Atoms,
+) -> Result<Versions, Memory>
+    ensures { IfOk result (λ v. AreVersionsOf (cut (first_points atoms.now) log.now) v) }
+{
+    let points = atoms.firsts();
+    let versions = Versions::build_on(alloc, log, points)?;
+    Ok(versions)
+}
+
+/// Replays a log in its order, at the first points of its atoms.
+fn replay_by<'a, P: ArenaSet<'a>>(
+    alloc: Global,
+    log: &Log<'a, P>,
+    order: &Order,
+    atoms: &Atoms,
+) -> Result<Result<Reads, ReplayEnd>, Memory>
+    requires mapped { unmapped_fault log.now ≡ None }
+    requires order { IsOrderOf (graph_of log.now.nodes) order.now }
+    requires atoms { AreFirsts log.now (first_points atoms.now) }
+{
+    let versions = versions_on(alloc, log, atoms)?;
+    Ok(replay(alloc, log, order, &versions, atoms))
+}
+
 /// Replays a log.
 fn replay_of<'a, P: ArenaSet<'a>>(
     alloc: Global,
@@ -174,8 +208,7 @@ fn replay_of<'a, P: ArenaSet<'a>>(
         return Err("a cycle".into());
     };
     let atoms = Atoms::build(alloc, log)?;
-    let versions = Versions::build_on(alloc, log, atoms.firsts())?;
-    Ok(replay(alloc, log, &order, &versions, &atoms))
+    Ok(replay_by(alloc, log, &order, &atoms)?)
 }
 
 /// Replays the log of a text. The log is let go.
