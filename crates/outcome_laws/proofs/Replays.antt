@@ -77,12 +77,12 @@ module _ (t : Tables) (equal : (v w : Value) → (same_value v w ≡ true) ↔ (
   first_seen [] s r e = absurd cc
   first_seen (x ∷ xs) s r e = elim (none_or_some (difference t x.move s)) [
     | inl none ↦ (
-      let rest = first_seen xs (effect x.move s) r (sym (ap (λ o. option_or o (first_difference t xs (effect x.move s))) none) ∙ e) in
-      record { node = rest.node; inst = rest.inst; listed = inr rest.listed; reads = inr rest.reads; differ = rest.differ })
+        let rest = first_seen xs (effect x.move s) r (sym (ap (λ o. option_or o (first_difference t xs (effect x.move s))) none) ∙ e) in
+        record { node = rest.node; inst = rest.inst; listed = inr rest.listed; reads = inr rest.reads; differ = rest.differ })
     | inr some ↦ (
-      let both : ◌≡◌ {A = Option Seen} (Some some.0) (Some r) = sym (ap (λ o. option_or o (first_difference t xs (effect x.move s))) some.1) ∙ e in
-      let same : some.0 ≡ r = cc in
-      here_seen x xs s r (some.1 ∙ ap Some same))
+        let both : ◌≡◌ {A = Option Seen} (Some some.0) (Some r) = sym (ap (λ o. option_or o (first_difference t xs (effect x.move s))) some.1) ∙ e in
+        let same : some.0 ≡ r = cc in
+        here_seen x xs s r (some.1 ∙ ap Some same))
   ]
 
   module _ (one : (xs ys : List Step) → IsInterleaving t xs → IsInterleaving t ys → (s : State) (x : Step) (v : Value) → ReadsIn xs s x v → ReadsIn ys s x v) (whole : IsInterleaving t (replay_steps t)) where

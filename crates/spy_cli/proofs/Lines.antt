@@ -25,12 +25,14 @@ use Rattle.spy_cli.specs.Spelled.{IsLogAnswer, IsLinesAnswer}
 
 -- Its fault is told, whatever is asked.
 fault_told : (request : Request) (bytes : List ℕ) (fault : Fault) (s : Status) (x : List ℕ) → text_fault bytes ≡ Some fault → Tells (Faulty fault.line fault.code) s x → IsAnswer request bytes s x
+fault_told requests.Check bytes fault s x shown tells = record { finding = Faulty fault.line fault.code; outcome = inl (record { fault = fault; shown = shown; finding_is = refl }); tells = tells }
 fault_told requests.Ordered bytes fault s x shown tells = record { finding = Faulty fault.line fault.code; outcome = inl (record { fault = fault; shown = shown; finding_is = refl }); tells = tells }
 fault_told requests.Deps bytes fault s x shown tells = record { finding = Faulty fault.line fault.code; outcome = inl (record { fault = fault; shown = shown; finding_is = refl }); tells = tells }
 fault_told requests.Print bytes fault s x shown tells = inl (record { finding = Faulty fault.line fault.code; fault = record { fault = fault; shown = shown; finding_is = refl }; tells = tells })
 
 -- What is answered to the log that it spells.
 log_told : (request : Request) (bytes : List ℕ) (log : List Lined) (s : Status) (x : List ℕ) → text_fault bytes ≡ None → Reads bytes log → IsLogAnswer request (line_count bytes) log s x → IsAnswer request bytes s x
+log_told requests.Check bytes log s x spelled reads a = record { finding = a.0; outcome = inr (record { spelled = spelled; log = log; reads = reads; found = a.1 }); tells = a.2 }
 log_told requests.Ordered bytes log s x spelled reads a = record { finding = a.0; outcome = inr (record { spelled = spelled; log = log; reads = reads; found = a.1 }); tells = a.2 }
 log_told requests.Deps bytes log s x spelled reads a = record { finding = a.0; outcome = inr (record { spelled = spelled; log = log; reads = reads; found = a.1 }); tells = a.2 }
 log_told requests.Print bytes log s x spelled reads a = inr (a.0, record { spelled = spelled; log = log; reads = reads; text_is = a.1 })

@@ -13,7 +13,7 @@ use Rattle.semantics.specs.Records.{text_of, records_of, lined, line_count, Read
 use Rattle.semantics.specs.TextFaults.{text_fault}
 use Rattle.semantics.specs.Faults.{log_fault}
 use Rattle.semantics.specs.Tables.{Tables, tables_of}
-use Rattle.semantics.specs.Outcome.{IsFound, IsOutcome, IsPrinted, HasTextFault, Finds, OrderedFinds, DepsFinds}
+use Rattle.semantics.specs.Outcome.{IsFound, IsOutcome, IsPrinted, HasTextFault, Finds, CheckFinds, OrderedFinds, DepsFinds}
 use Rattle.spy_cli.specs.declared.request.Request.{Request}
 use Rattle.spy_cli.specs.declared.request.Request.TheVariants as requests
 use Rattle.spy_cli.specs.declared.status.Status.{Status}
@@ -42,6 +42,7 @@ clean_or_not : {A : Type 0} (bytes : List ℕ) (f : Finding) → HasTextFault by
 clean_or_not bytes f p e = let wrong : ◌≡◌ {A = Option Fault} (Some p.fault) None = sym p.shown ∙ e in absurd cc
 
 pub same_answer : OneLog → OneOutcome → (request : Request) (bytes : List ℕ) (s t : Status) (x y : List ℕ) → IsAnswer request bytes s x → IsAnswer request bytes t y → (s ≡ t) × (x ≡ y)
+same_answer one outcome requests.Check bytes s t x y p q = judged_alike outcome commands.Check bytes s t x y p q
 same_answer one outcome requests.Ordered bytes s t x y p q = judged_alike outcome commands.Ordered bytes s t x y p q
 same_answer one outcome requests.Deps bytes s t x y p q = judged_alike outcome commands.Deps bytes s t x y p q
 same_answer one outcome requests.Print bytes s t x y (inl p) (inl q) = told_alike p.finding q.finding s t x y (faults_alike bytes p.finding q.finding p.fault q.fault) p.tells q.tells
@@ -101,6 +102,13 @@ in_tables command bytes one keeps f (inr h) = (tables_of h.log, by f h.found)
     by Usage found = found.1
     by CannotRead found = found.1
 
+check_ends : (t : Tables) (f : Finding) → CheckFinds t f → (status_of f ≡ statuses.Yes) ⊎ (status_of f ≡ statuses.Refused)
+check_ends t (Cycle events) h = inr refl
+check_ends t (Race a b inst point field) h = inr refl
+check_ends t (Differ task number point field got want) h = inr refl
+check_ends t (Accepted tasks operations reads) h = inl refl
+check_ends t _ h = absurd h
+
 ordered_ends : (t : Tables) (f : Finding) → OrderedFinds t f → (status_of f ≡ statuses.Yes) ⊎ (status_of f ≡ statuses.Refused)
 ordered_ends t (Cycle events) h = inr refl
 ordered_ends t (Unordered a b tree point field) h = inr refl
@@ -113,6 +121,9 @@ deps_ends t _ h = absurd h
 
 -- So it is answered by what is found in it.
 pub answered_ends : OneLog → (request : Request) (bytes : List ℕ) (s : Status) (x : List ℕ) → Keeps request bytes → IsAnswer request bytes s x → Ends request s
+answered_ends one requests.Check bytes s x keeps a =
+    let found = in_tables commands.Check bytes one keeps a.finding a.outcome in
+    elim (check_ends found.0 a.finding found.1) [ inl holds ↦ inl (a.tells.status_is ∙ holds) | inr fails ↦ inr (inl (a.tells.status_is ∙ fails)) ]
 answered_ends one requests.Ordered bytes s x keeps a =
     let found = in_tables commands.Ordered bytes one keeps a.finding a.outcome in
     elim (ordered_ends found.0 a.finding found.1) [ inl holds ↦ inl (a.tells.status_is ∙ holds) | inr fails ↦ inr (inl (a.tells.status_is ∙ fails)) ]
@@ -123,6 +134,7 @@ answered_ends one requests.Print bytes s x keeps (inl a) = clean_or_not bytes a.
 answered_ends one requests.Print bytes s x keeps (inr a) = inl a.0
 
 pub memory_ends : (request : Request) → Ends request statuses.Memory
+memory_ends requests.Check = inr (inr refl)
 memory_ends requests.Ordered = inr (inr refl)
 memory_ends requests.Deps = inr refl
 memory_ends requests.Print = inr refl

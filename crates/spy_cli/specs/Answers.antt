@@ -21,7 +21,8 @@ use Rattle.spy_cli.specs.declared.status.Status.TheVariants as statuses
 -- What a word asks for.
 abbrev pub request_at : List ℕ → Option Request
 request_at word =
-    if bytes_eq word (codes "ordered") then Some requests.Ordered
+    if bytes_eq word (codes "check") then Some requests.Check
+    else if bytes_eq word (codes "ordered") then Some requests.Ordered
     else if bytes_eq word (codes "deps") then Some requests.Deps
     else if bytes_eq word (codes "print") then Some requests.Print
     else None
@@ -63,6 +64,7 @@ pub record IsFaulty (bytes : List ℕ) (status : Status) (text : List ℕ) : Typ
 
 -- What is answered to an input.
 abbrev pub IsAnswer : Request → List ℕ → Status → List ℕ → Type 0
+IsAnswer requests.Check bytes status text = IsJudged commands.Check bytes status text
 IsAnswer requests.Ordered bytes status text = IsJudged commands.Ordered bytes status text
 IsAnswer requests.Deps bytes status text = IsJudged commands.Deps bytes status text
 IsAnswer requests.Print bytes status text = IsFaulty bytes status text ⊎ ((status ≡ statuses.Yes) × IsPrinted bytes text)
@@ -91,12 +93,14 @@ pub record IsAdmitted (command : Command) (bytes : List ℕ) : Type 0 where
 
 -- The input keeps each rule that is judged.
 abbrev pub Keeps : Request → List ℕ → Type 0
+Keeps requests.Check bytes = IsAdmitted commands.Check bytes
 Keeps requests.Ordered bytes = IsAdmitted commands.Ordered bytes
 Keeps requests.Deps bytes = IsAdmitted commands.Deps bytes
 Keeps requests.Print bytes = text_fault bytes ≡ None
 
 -- How a call ends, if no device fails, on an input that keeps each rule.
 abbrev pub Ends : Request → Status → Type 0
+Ends requests.Check status = (status ≡ statuses.Yes) ⊎ (status ≡ statuses.Refused) ⊎ (status ≡ statuses.Memory)
 Ends requests.Ordered status = (status ≡ statuses.Yes) ⊎ (status ≡ statuses.Refused) ⊎ (status ≡ statuses.Memory)
 Ends _ status = (status ≡ statuses.Yes) ⊎ (status ≡ statuses.Memory)
 

@@ -38,6 +38,7 @@ end_at line faults.Memory = Memory
 
 -- What is answered to a log of so many lines.
 abbrev pub IsLogAnswer : Request → ℕ → List Lined → Status → List ℕ → Type 0
+IsLogAnswer requests.Check lines log status text = (f : Finding) × IsFound commands.Check lines log f × Tells f status text
 IsLogAnswer requests.Ordered lines log status text = (f : Finding) × IsFound commands.Ordered lines log f × Tells f status text
 IsLogAnswer requests.Deps lines log status text = (f : Finding) × IsFound commands.Deps lines log f × Tells f status text
 IsLogAnswer requests.Print lines log status text = (status ≡ statuses.Yes) × (text ≡ text_of (records_of log))

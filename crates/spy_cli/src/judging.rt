@@ -18,7 +18,22 @@ use spy_grammar::{Code, Lined};
 use spy_io::Memory;
 use spy_lines::{LineList, Lines};
 use std::alloc::Global;
-use verdict::{deps, ordered};
+use verdict::{check, deps, ordered};
+
+/// The report of `check` on the records of a log.
+fn check_report(alloc: Global, records: &Vec<Lined>, lines: u32) -> Result<Report, Memory>
+    requires good { All (λ l. Good l.rec) records.now.items }
+    requires lines { AreLines lines records.now.items }
+    ensures { IfOk result (λ r. IsLogAnswer Request.Check lines records.now.items r.status r.text.items) }
+{
+    match check(alloc, records, lines) {
+        Ok(finding) => {
+            let report = report_of(alloc, &finding)?;
+            Ok(report)
+        }
+        Err(_) => Err(Memory),
+    }
+}
 
 /// The report of `ordered` on the records of a log.
 fn ordered_report(alloc: Global, records: &Vec<Lined>, lines: u32) -> Result<Report, Memory>
@@ -62,6 +77,7 @@ fn log_report(
     ensures { IfOk result (λ r. IsLogAnswer request lines records.now.items r.status r.text.items) }
 {
     match request {
+        Request::Check => check_report(alloc, records, lines),
         Request::Ordered => ordered_report(alloc, records, lines),
         Request::Deps => deps_report(alloc, records, lines),
         Request::Print => Ok(Report {

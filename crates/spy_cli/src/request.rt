@@ -6,6 +6,8 @@ ghost use Rattle.spy_cli.specs.Answers.{asked, request_at};
 /// What is asked of an input.
 #[derive(Clone, Copy, Debug, PartialEq, Eq)]
 pub enum Request {
+    /// Whether the run computed what the sequential program computes.
+    Check,
     /// Whether each two tasks that interfere are run in serial order.
     Ordered,
     /// The pairs of items that interfere.
@@ -17,7 +19,9 @@ pub enum Request {
 fn request_of(word: &str) -> Option<Request>
     ensures { result ≡ request_at word.now }
 {
-    if word == "ordered" {
+    if word == "check" {
+        Some(Request::Check)
+    } else if word == "ordered" {
         Some(Request::Ordered)
     } else if word == "deps" {
         Some(Request::Deps)

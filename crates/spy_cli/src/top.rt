@@ -67,7 +67,7 @@ fn report_on<S: Source>(
 }
 
 /// Runs the command that the words ask for over the bytes of the source, and writes its report to the sink.
-/// The words do not hold the program's name. So far the commands are `ordered`, `deps` and `print`.
+/// The words do not hold the program's name. The commands are `check`, `ordered`, `deps` and `print`.
 #[tactic(auto, unfolding(findings::specs::Texts::text_of))]
 pub fn run<S: Source, K: Sink>(
     alloc: Global,

@@ -23,7 +23,10 @@ use spy_grammar::Lined;
 use std::alloc::Global;
 
 /// A log that passes all stages after its rules, or what stops it.
-fn passed<'a, P: ArenaSet<'a>>(alloc: Global, declared: Declared<'a, P>) -> Result<Judged<'a, P>, Stop>
+fn passed<'a, P: ArenaSet<'a>>(
+    alloc: Global,
+    declared: Declared<'a, P>,
+) -> Result<Judged<'a, P>, Stop>
     ensures judged { IfOk result (λ j. j ≡ declared.entry) }
     ensures stop { IfErr result (IsStop (CheckFinds declared.entry)) }
 {
@@ -37,7 +40,10 @@ fn passed<'a, P: ArenaSet<'a>>(alloc: Global, declared: Declared<'a, P>) -> Resu
 }
 
 /// What `check` finds in a log that keeps its rules.
-fn run_found<'a, P: ArenaSet<'a>>(alloc: Global, declared: Declared<'a, P>) -> Result<Finding, Memory>
+fn run_found<'a, P: ArenaSet<'a>>(
+    alloc: Global,
+    declared: Declared<'a, P>,
+) -> Result<Finding, Memory>
     ensures found { IfOk result (CheckFinds declared.entry) }
     ensures text { IfOk result texts.Good }
 {

@@ -92,14 +92,16 @@ fn judged_reads<'a, P: ArenaSet<'a>>(
     };
     match replay(alloc, log, &sorting.order, &versions, atoms) {
         Ok(reads) => Ok(reads.count),
-        Err(ReplayEnd::Differ {
-            task,
-            req,
-            point,
-            field,
-            got,
-            want,
-        }) => Err(Stop::Found(differ_found(task, req, point, field, got, want))),
+        Err(
+            ReplayEnd::Differ {
+                task,
+                req,
+                point,
+                field,
+                got,
+                want,
+            },
+        ) => Err(Stop::Found(differ_found(task, req, point, field, got, want))),
         Err(ReplayEnd::Memory) => Err(Stop::Memory),
     }
 }

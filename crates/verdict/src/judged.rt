@@ -53,6 +53,10 @@ impl<'a, P: ArenaSet<'a>> Judged<'a, P> {
         ensures text { texts.Good result }
     {
         self.log.is_declared();
-        accepted_found(task_count(&self.log), operation_count(&self.log), self.reads)
+        accepted_found(
+            task_count(&self.log),
+            operation_count(&self.log),
+            self.reads,
+        )
     }
 }

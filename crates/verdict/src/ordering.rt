@@ -51,7 +51,10 @@ fn tasks_found<'a, P: ArenaSet<'a>>(
 }
 
 /// The nodes of a log sorted, or the cycle that is shown.
-pub(crate) fn sort_log<'a, P: ArenaSet<'a>>(alloc: Global, log: &Log<'a, P>) -> Result<Sorting, Unsorted>
+pub(crate) fn sort_log<'a, P: ArenaSet<'a>>(
+    alloc: Global,
+    log: &Log<'a, P>,
+) -> Result<Sorting, Unsorted>
     requires few { length log.now.nodes < 2 ^ 32 }
     requires serial { faults.serial_fault log.now ≡ None }
     ensures sorted { IfOk result (AreSorted (graph_of log.now.nodes)) }

@@ -120,7 +120,14 @@ fn raced<'a, P: ArenaSet<'a>>(
     ensures free { OnOk result (IsRaceFree log.now) }
     ensures stop { IfErr result (IsStop (CheckFinds log.now)) }
 {
-    match scan(alloc, log, &sorting.graph, &sorting.order, &sorting.reach, atoms) {
+    match scan(
+        alloc,
+        log,
+        &sorting.graph,
+        &sorting.order,
+        &sorting.reach,
+        atoms,
+    ) {
         Ok(()) => Ok(()),
         Err(ScanEnd::Race { a, b, cell }) => {
             let found = race_found(event_at(log, a), event_at(log, b), cell);

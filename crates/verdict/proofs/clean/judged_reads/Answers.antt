@@ -18,8 +18,7 @@ returns-in-Err-Differ-clause-stop g c =
     let t = c.args.log.now in
     let law = of_declared (λ (s : Tables). HasNoCycle s → IsRaceFree s → (r : Seen) → shown_difference s ≡ Some r → Differs s r) c.replays_speak_for_all.ensures.differs t c.is_declared.ensures c.requires.faultless in
     let w = c.in-Err-Differ in
-    let end = told t c.replay.result w.field-0 w.task w.req w.point w.field w.got w.want c.replay.ensures.end w.is w.field-0-is in
-    (
+    let end = told t c.replay.result w.field-0 w.task w.req w.point w.field w.got w.want c.replay.ensures.end w.is w.field-0-is in (
       subst (CheckFinds t) (sym (c.differ_found.ensures.finding ∙ same_reads w.task-is w.req-is w.point-is w.field-is w.got-is w.want-is)) (
         c.requires.sorted.order.free,
         c.requires.free,
