@@ -4,6 +4,8 @@
 #[cfg(test)]
 mod answers;
 #[cfg(test)]
+mod checked;
+#[cfg(test)]
 mod devices;
 #[cfg(test)]
 mod lines;
