@@ -137,6 +137,11 @@ all-behind zero cs all = all
 all-behind (suc n) [] all = tt
 all-behind (suc n) (c ∷ cs) all = all-behind n cs all.1
 
+pub all-front : (n : ℕ) (cs : List Change) → AllByRecursion IsAdded cs → AllByRecursion IsAdded (take n cs)
+all-front zero cs all = tt
+all-front (suc n) [] all = tt
+all-front (suc n) (c ∷ cs) all = (all.0, all-front n cs all.1)
+
 by-run : (op n : ℕ) (cs : List Change) → AllByRecursion IsAdded cs → 0 < n → n ≤ length cs → AllByRecursion (λ c. adds_by op c.action ≡ true) (take n cs) → BeginsOther op (drop n cs)
     → summed [] cs ≡ record { op = op; bag = joined [] (all_added (take n cs)) } ∷ summed [] (drop n cs)
 by-run op zero cs adds some within run rest = absurd (omega (arith, some))
@@ -168,16 +173,6 @@ unfolding extended
 first-of op d = refl
 
 -- ---- group by group
-
-pub more-agree : (groups left more : List Group) (g : Group) (added cs rest : List Change) → left ≡ g ∷ more → IsRest g cs rest → (groups ≡ summed [] added ↔ left ≡ summed [] cs) → (groups ≡ summed [] added ↔ more ≡ summed [] rest)
-more-agree groups left more g added cs rest is begins agree = (
-  λ e. ap rest_of (sym is ∙ agree.0 e ∙ begins.start),
-  λ e. agree.1 (is ∙ ap (λ gs. g ∷ gs) e ∙ sym begins.start),
-)
-  where
-    rest_of : List Group → List Group
-    rest_of [] = []
-    rest_of (g ∷ gs) = gs
 
 -- Where groups end, changes do.
 pub ends-agree : (groups : List Group) (added cs : List Change) → AllByRecursion IsAdded cs → (groups ≡ summed [] added ↔ [] ≡ summed [] cs) → (groups ≡ summed [] added → cs ≡ []) × (cs ≡ [] → groups ≡ summed [] added)

@@ -35,6 +35,10 @@ lookup-mapped items test (e ∷ es) = elim (cases_Bool (test e.0)) [
 pub kept-changes : (moments : List ℕ) (h : Histories) (p : Place) → changes_in (kept moments h) p ≡ changes_at h p
 kept-changes moments h p = lookup-mapped (λ v. v.items) (same_key (key_of p)) h.lists.entries
 
+-- What is looked up by a key.
+pub found-at : {V X : Type 0} (items : V → List X) (at : PlaceKey → Option V) (key k : PlaceKey) (found : Option V) → key ≡ k → found ≡ at key → option_map_or items (at k) [] ≡ option_map_or items found []
+found-at items at key k found same is = ap (λ j. option_map_or items (at j) []) (sym same) ∙ ap (λ o. option_map_or items o []) (sym is)
+
 -- ---- in order
 
 rises-at : (cs : List Change) → Rises cs → (i j : ℕ) (d : Change) → i ≤ j → j < length cs → (get_or cs i d).moment ≤ (get_or cs j d).moment
@@ -77,7 +81,7 @@ versions-of on t moments h places are = record {
 
 -- ---- looking up
 
-pub taken-parted : (test : Change → Bool) (cs : List Change) (n : ℕ) → AllWithin (λ c. test c ≡ true) cs 0 n → AllWithin (λ c. test c ≡ false) cs n (length cs) → take n cs ≡ filter test cs
+pub taken-parted : {X : Type 0} (test : X → Bool) (cs : List X) (n : ℕ) → AllWithin (λ c. test c ≡ true) cs 0 n → AllWithin (λ c. test c ≡ false) cs n (length cs) → take n cs ≡ filter test cs
 taken-parted test [] zero early late = refl
 taken-parted test [] (suc n) early late = refl
 taken-parted test (c ∷ cs) zero early late =
@@ -99,10 +103,6 @@ added-more [] k d lt one all = absurd (omega (arith, lt))
 added-more (c ∷ cs) zero d lt one all = (one, all)
 added-more (c ∷ cs) (suc k) d lt one all = added-more cs k d (omega (arith, lt)) one (subst (λ n. AllByRecursion IsAdded (drop n (c ∷ cs))) (let e : suc k + 1 ≡ suc (k + 1) = omega arith in e) all)
 
-pub none-added : (cs : List Change) → AllByRecursion IsAdded (drop (length cs) cs)
-none-added [] = tt
-none-added (c ∷ cs) = none-added cs
-
 pub after-more : (cs : List Change) (k : ℕ) (d : Change) (v : Value) → k < length cs → after_changes (take (k + 1) cs) v ≡ acted_by (get_or cs k d).action (after_changes (take k cs) v)
 after-more [] k d v lt = absurd (omega (arith, lt))
 after-more (c ∷ cs) zero d v lt = refl
@@ -113,7 +113,7 @@ any-default [] i d e lt = absurd (omega (arith, lt))
 any-default (x ∷ xs) zero d e lt = refl
 any-default (x ∷ xs) (suc i) d e lt = any-default xs i d e (omega (arith, lt))
 
-pub rest-taken : (cs : List Change) (n : ℕ) → take (length cs - n) (drop n cs) ≡ drop n cs
+pub rest-taken : {X : Type 0} (cs : List X) (n : ℕ) → take (length cs - n) (drop n cs) ≡ drop n cs
 rest-taken cs n = take_all (length cs - n) (drop n cs) (let e : length (drop n cs) ≡ length cs - n = length-drop n cs in omega (arith, e))
 
 pub put-latest : (cs : List Change) (n : ℕ) (d : Change) (base : Base) (v : Value) → 0 < n → n ≤ length cs → (get_or cs (n - 1) d).action ≡ Put base → after_changes cs v ≡ after_changes (drop n cs) (plain base)

@@ -5,4 +5,6 @@ mod Owned
 mod Gathered
 mod Keeping
 mod Bags
+mod Marking
+mod Marked
 mod Grouping

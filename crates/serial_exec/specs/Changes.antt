@@ -83,3 +83,11 @@ IsAddedBy (Add op c) = ⊤
 
 abbrev pub IsAdded : Change → Type 0
 IsAdded c = IsAddedBy c.action
+
+-- These are the first of some changes.
+abbrev pub AreFirst : List Change → List Change → Type 0
+AreFirst cs first = (later : List Change) × (cs ≡ first ++ later)
+
+-- These are the last of some changes.
+abbrev pub AreLast : List Change → List Change → Type 0
+AreLast cs last = (earlier : List Change) × (cs ≡ earlier ++ last)

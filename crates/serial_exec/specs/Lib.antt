@@ -2,5 +2,6 @@ pub mod Changes
 pub mod Cutting
 pub mod Histories
 pub mod Kept
+pub mod Marks
 pub mod OwnReqs
 pub mod Summed

@@ -1,9 +1,8 @@
 -- The groups that changes make, run by run.
-use Rattle.std.specs.Prelude.{◌≡◌, ◌≢◌, ℕ, ◌==◌, Bool, true, false, List, [], ◌∷◌, ◌++◌}
-use Rattle.std.specs.List.{list_any, AllByRecursion}
-use Rattle.value_terms.specs.declared.terms.Contribution.{Contribution}
+use Rattle.std.specs.Prelude.{◌≡◌, ◌≢◌, ℕ, ◌==◌, Bool, false, List, [], ◌∷◌, ◌++◌}
+use Rattle.std.specs.List.{AllByRecursion}
 use Rattle.value_terms.specs.declared.bag.Group.{Group}
-use Rattle.value_terms.specs.Values.{Bag, extended, same_contribution}
+use Rattle.value_terms.specs.Values.{Bag, extended}
 use Rattle.serial_exec.specs.Changes.{IsAdded}
 use Rattle.serial_exec.specs.declared.change.Action.{Action}
 use Rattle.serial_exec.specs.declared.change.Action.TheVariants.{Put, Add}
@@ -38,15 +37,6 @@ summed groups (c ∷ cs) = summed (with_added c.action groups) cs
 abbrev pub BeginsOther : ℕ → List Change → Type 0
 BeginsOther op [] = Unit {0}
 BeginsOther op (c ∷ cs) = adds_by op c.action ≡ false
-
--- Whether a bag has a contribution.
-abbrev pub has : Contribution → Bag → Bool
-has c bag = list_any (λ e. same_contribution c e.0) bag
-
--- Whether a bag has what an action adds.
-abbrev pub holds : Bag → Action → Bool
-holds bag (Put base) = true
-holds bag (Add op c) = has c bag
 
 -- Changes do not begin with a group.
 abbrev pub IsNoStart : Group → List Change → Type 0

@@ -1,13 +1,15 @@
 //! Whether a value is what changes make, told without memory.
 
-ghost use Rattle.std.specs.Prelude.{◌≡◌, ◌↔◌, ◌≤◌, ◌∷◌, true, take, drop, length, All, IsTrue, MatchOption, []};
+ghost use Rattle.std.specs.Prelude.{◌≡◌, ◌↔◌, ◌+◌, ◌^◌, ◌<◌, ◌≤◌, ◌∷◌, true, take, drop, length, IsTrue, MatchOption, []};
 ghost use Rattle.std.specs.List.{AllByRecursion};
-ghost use Rattle.value_terms.specs.Values.{IsWellFormedBag, count_in, is_raw, joined, plain};
+ghost use Rattle.value_terms.specs.Values.{Ascends, IsWellFormedBag, is_raw, joined, plain, total};
 ghost use Rattle.serial_exec.specs.Changes.{IsAdded, after_changes};
+ghost use Rattle.serial_exec.specs.Marks.{AreSorted, AreMarksUntil, IsCounted, IsLeft, Tell};
 ghost use Rattle.serial_exec.specs.Summed as says;
 ghost use Rattle.serial_exec.specs.Summed.{BeginsOther, IsNoStart, IsRest, all_added, summed};
 
 use crate::change::{Action, Change};
+use crate::marks::{Mark, marks_until};
 use value_terms::{Base, Contribution, Group, Value};
 
 /// Whether a change adds by an operator.
@@ -60,99 +62,113 @@ fn is_in_order(bag: &[(Contribution, u64)], run: &[Change]) -> bool
     true
 }
 
-/// How often a change adds a contribution.
-#[tactic(auto, unfolding(value_terms::specs::Values::count_in, value_terms::specs::Values::same_contribution))]
-fn times(change: &Change, c: Contribution) -> u64
-    ensures count { result ≡ count_in c (says.added_by change.now.action) }
-    ensures once { result ≤ 1 }
+/// Whether the counts of a bag are so many in all.
+fn is_total(bag: &[(Contribution, u64)], count: u64) -> bool
+    ensures { IsTrue result ↔ (total bag.now ≡ count) }
 {
-    match change.action {
-        Action::Add { by, .. } => { if c == by { 1 } else { 0 } }
-        Action::Put(_) => 0,
+    let mut missing = count;
+    let mut left = bag;
+    while let [entry, more @ ..] = left {
+        if entry.1 > missing {
+            return false;
+        }
+        missing -= entry.1;
+        left = more;
+    }
+    missing == 0
+}
+
+/// What is left of marks behind those that an entry counts between two positions, or `None` where it does not count just these.
+fn behind_entry<'m>(
+    entry: &(Contribution, u64),
+    marks: &'m [Mark],
+    from: usize,
+    end: usize,
+) -> Option<&'m [Mark]>
+    requires sorted { AreSorted marks.now }
+    requires order { from ≤ end }
+    ensures { MatchOption result (IsCounted marks.now from end entry.now → ⊥)
+        (λ rest. IsCounted marks.now from end entry.now × IsLeft entry.now.0 marks.now rest.now) }
+{
+    let first = marks_until(marks, entry.0, from);
+    let last = marks_until(marks, entry.0, end);
+    if (last - first) as u64 == entry.1 {
+        Some(&marks[last..])
+    } else {
+        None
     }
 }
 
-/// How often changes add a contribution.
-fn count_of(run: &[Change], c: Contribution) -> u64
-    ensures { result ≡ count_in c (all_added run.now) }
+/// Whether each entry of a bag counts what marks tell between two positions. Each is looked for behind the one before.
+fn are_counts(bag: &[(Contribution, u64)], marks: &[Mark], from: usize, end: usize) -> bool
+    requires bag { Ascends bag.now }
+    requires sorted { AreSorted marks.now }
+    requires order { from ≤ end }
+    ensures { IsTrue result ↔ AllByRecursion (IsCounted marks.now from end) bag.now }
 {
-    let mut count = 0;
-    for change in run {
-        count += times(change, c);
+    let mut left = bag;
+    let mut ahead = marks;
+    while let [entry, more @ ..] = left {
+        let Some(rest) = behind_entry(entry, ahead, from, end) else {
+            return false;
+        };
+        left = more;
+        ahead = rest;
     }
-    count
+    true
 }
 
-/// Whether each contribution of a bag is counted as often as changes add it.
-fn are_counts(bag: &[(Contribution, u64)], run: &[Change]) -> bool
-    ensures { IsTrue result ↔ All (λ e. e.1 ≡ count_in e.0 (all_added run.now)) bag.now }
-{
-    bag.iter().all(|e| e.1 == count_of(run, e.0))
-}
-
-/// Whether a bag has a contribution.
-#[tactic(auto, unfolding(value_terms::specs::Values::same_contribution))]
-fn has(bag: &[(Contribution, u64)], c: Contribution) -> bool
-    ensures { result ≡ says.has c bag.now }
-{
-    bag.iter().any(|e| c == e.0)
-}
-
-/// Whether a bag has what a change adds.
-fn holds(bag: &[(Contribution, u64)], change: &Change) -> bool
-    ensures { result ≡ says.holds bag.now change.now.action }
-{
-    match change.action {
-        Action::Add { by, .. } => has(bag, by),
-        Action::Put(_) => true,
-    }
-}
-
-/// Whether a bag has what each change adds.
-fn holds_all(bag: &[(Contribution, u64)], run: &[Change]) -> bool
-    ensures { IsTrue result ↔ All (λ c. says.holds bag.now c.action ≡ true) run.now }
-{
-    run.iter().all(|change| holds(bag, change))
-}
-
-/// Whether a bag has just what changes add. Mostly they add in the order of the bag, and then one pass tells.
-fn is_bag_of(bag: &[(Contribution, u64)], run: &[Change]) -> bool
-    requires { IsWellFormedBag bag.now }
+/// Whether a bag has just what changes add, which marks tell from a position on. Mostly they add in the order of the bag, and then one pass tells.
+fn is_bag_of(bag: &[(Contribution, u64)], run: &[Change], marks: &[Mark], from: usize) -> bool
+    requires bag { IsWellFormedBag bag.now }
+    requires adds { AllByRecursion IsAdded run.now }
+    requires fits { from + length run.now < 2 ^ 64 }
+    requires sorted { AreSorted marks.now }
+    requires tell { Tell marks.now from run.now }
     ensures { IsTrue result ↔ (bag.now ≡ joined [] (all_added run.now)) }
 {
     if is_in_order(bag, run) {
         return true;
     }
-    are_counts(bag, run) && holds_all(bag, run)
+    is_total(bag, run.len() as u64) && are_counts(bag, marks, from, from + run.len())
 }
 
 /// What is left of changes behind a group that they begin with, or `None` where they do not begin with it.
-fn behind<'c>(group: &Group, changes: &'c [Change]) -> Option<&'c [Change]>
+fn behind<'c>(
+    group: &Group,
+    changes: &'c [Change],
+    marks: &[Mark],
+    end: usize,
+) -> Option<&'c [Change]>
     requires bag { IsWellFormedBag group.now.bag }
     requires adds { AllByRecursion IsAdded changes.now }
-    ensures { MatchOption result (IsNoStart group.now changes.now) (λ rest. IsRest group.now changes.now rest.now) }
+    requires marks { AreMarksUntil end marks.now changes.now }
+    ensures { MatchOption result (IsNoStart group.now changes.now)
+        (λ rest. IsRest group.now changes.now rest.now × AreMarksUntil end marks.now rest.now) }
 {
     let n = run_length(changes, group.op);
     if n == 0 {
         return None;
     }
-    if is_bag_of(group.bag.as_slice(), &changes[..n]) {
+    let from = end - changes.len();
+    if is_bag_of(group.bag.as_slice(), &changes[..n], marks, from) {
         Some(&changes[n..])
     } else {
         None
     }
 }
 
-/// Whether groups are just what changes make.
-pub(crate) fn are_sums(groups: &[Group], added: &[Change]) -> bool
+/// Whether groups are just what changes make, of which the last stands just before a position.
+fn are_sums(groups: &[Group], added: &[Change], marks: &[Mark], end: usize) -> bool
     requires bags { AllByRecursion (λ g. IsWellFormedBag g.bag) groups.now }
     requires adds { AllByRecursion IsAdded added.now }
+    requires marks { AreMarksUntil end marks.now added.now }
     ensures { IsTrue result ↔ (groups.now ≡ summed [] added.now) }
 {
     let mut left = groups;
     let mut changes = added;
     while let [group, more @ ..] = left {
-        let Some(rest) = behind(group, changes) else {
+        let Some(rest) = behind(group, changes, marks, end) else {
             return false;
         };
         left = more;
@@ -175,9 +191,10 @@ fn same_base(one: Base, other: Base) -> bool
     one == other
 }
 
-/// Whether a value is what changes that add make of a base.
-pub(crate) fn is_sum(v: &Value, base: Base, added: &[Change]) -> bool
-    requires { AllByRecursion IsAdded added.now }
+/// Whether a value is what changes that add make of a base, of which the last stands just before a position.
+pub(crate) fn is_sum(v: &Value, base: Base, added: &[Change], marks: &[Mark], end: usize) -> bool
+    requires adds { AllByRecursion IsAdded added.now }
+    requires marks { AreMarksUntil end marks.now added.now }
     ensures { IsTrue result ↔ (v.now ≡ after_changes added.now (plain base)) }
 {
     v.rules();
@@ -187,5 +204,5 @@ pub(crate) fn is_sum(v: &Value, base: Base, added: &[Change]) -> bool
     if is_raw(base) {
         return true;
     }
-    are_sums(v.groups(), added)
+    are_sums(v.groups(), added, marks, end)
 }

@@ -5,6 +5,7 @@ mod agreeing;
 mod change;
 mod gathering;
 mod histories;
+mod marks;
 mod own_reqs;
 mod points;
 mod sums;

@@ -4,7 +4,7 @@ ghost use Rattle.std.specs.Prelude.{◌≡◌, ◌+◌, ◌-◌, ◌<◌, ◌≤
 ghost use Rattle.std.specs.List.{AllByRecursion};
 ghost use Rattle.value_terms.specs.declared.terms.Base.TheVariants as bases;
 ghost use Rattle.value_terms.specs.Values.{plain, weight_of};
-ghost use Rattle.serial_exec.specs.Changes.{after_changes, acted_by, IsAdded};
+ghost use Rattle.serial_exec.specs.Changes.{after_changes, acted_by, AreLast, IsAdded};
 
 use crate::change::{Action, Change};
 use std::alloc::Global;
@@ -14,6 +14,7 @@ use value_terms::{Base, Memory, Value, weights_add_up};
 pub(crate) fn latest(changes: &[Change]) -> (Base, &[Change])
     ensures same { after_changes changes.now (plain bases.Init) ≡ after_changes result.1.now (plain result.0) }
     ensures adds { AllByRecursion IsAdded result.1.now }
+    ensures last { AreLast changes.now result.1.now }
 {
     let mut from = changes.len();
     while from > 0 {

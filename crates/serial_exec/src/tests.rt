@@ -118,6 +118,72 @@ const TURNED_ROWS: [Row; 5] = [
     (4, 1, 0, 1, Base::Out(1), &[(1, 3, 1), (1, 4, 1)]),
 ];
 
+/// Reductions in no order of their ids, between which two tasks read, and two by one task.
+const SHUFFLED: &[u8] = b"legion-spy 1
+ispace 1 0-9
+fields 1 1
+tree 1 1 1
+redop 1
+task 9
+req 9 1 1 1 red:1 ex
+task 4
+req 4 1 1 1 red:1 ex
+task 7
+req 7 1 1 1 red:1 ex
+req 7 1 1 1 red:1 ex
+task 20
+req 20 1 1 1 ro ex
+task 8
+req 8 1 1 1 red:1 ex
+task 2
+req 2 1 1 1 red:1 ex
+task 21
+req 21 1 1 1 ro ex
+run 9 1 -
+run 4 2 -
+run 7 3 -
+run 20 4 -
+run 8 5 -
+run 2 6 -
+run 21 7 -
+end 26
+";
+
+const SHUFFLED_ROWS: [Row; 4] = [
+    (2, 1, 0, 1, Base::Init, &[(1, 9, 1), (1, 4, 1)]),
+    (
+        3,
+        1,
+        0,
+        1,
+        Base::Init,
+        &[(1, 9, 1), (1, 4, 1), (1, 7, 1), (1, 7, 2)],
+    ),
+    (
+        5,
+        1,
+        0,
+        1,
+        Base::Init,
+        &[(1, 9, 1), (1, 4, 1), (1, 7, 1), (1, 7, 2), (1, 8, 1)],
+    ),
+    (
+        6,
+        1,
+        0,
+        1,
+        Base::Init,
+        &[
+            (1, 9, 1),
+            (1, 4, 1),
+            (1, 7, 1),
+            (1, 7, 2),
+            (1, 8, 1),
+            (1, 2, 1),
+        ],
+    ),
+];
+
 /// The records of a text, on their lines, and how many lines there are.
 fn records_of(alloc: Global, text: &[u8]) -> Result<(Vec<Lined>, u32), Fail> {
     let mut records = Vec::new(alloc);
@@ -198,11 +264,17 @@ fn ask(rt: &impl Abort, alloc: Global, versions: &Versions, row: &Row) -> Result
     let wanted = versions.want(alloc, item, &place)?;
     assert!(rt; wanted.same(&value), "{row:?}");
     assert!(rt; versions.agrees(item, &place, &value), "{row:?}");
-    // Another base, one contribution twice, another contribution.
+    // Another base, another contribution in place of the first, one twice.
     assert!(rt;
         !versions.agrees(item, &place, &value_of(alloc, Base::Out(9), added)?),
         "{row:?}"
     );
+    let mut other = value_of(alloc, base, added.get(1..).unwrap_or(&[]))?;
+    if other.weight() == u64::MAX {
+        return Err("a heavy value".into());
+    }
+    other.add(1, Contribution { task: 5, req: 9 })?;
+    assert!(rt; !versions.agrees(item, &place, &other), "{row:?}");
     let (op, task, req) = added.first().copied().unwrap_or((1, 9, 9));
     if value.weight() == u64::MAX {
         return Err("a heavy value".into());
@@ -224,6 +296,10 @@ fn wanted_values(rt: HostRuntime) -> Result<(), Fail> {
     let turned = versions_of(alloc, TURNED, false)?;
     for row in &TURNED_ROWS {
         ask(&rt, alloc, &turned, row)?;
+    }
+    let shuffled = versions_of(alloc, SHUFFLED, false)?;
+    for row in &SHUFFLED_ROWS {
+        ask(&rt, alloc, &shuffled, row)?;
     }
     Ok(())
 }

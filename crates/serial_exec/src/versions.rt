@@ -3,18 +3,21 @@
 ghost use Rattle.std.specs.Prelude.{◌≡◌, ◌↔◌, ℕ, ◌<◌, true, length, IfOk, IsTrue};
 ghost use Rattle.std.specs.Option.{option_map};
 ghost use Rattle.std.specs.List.Sorted.{IsNonDecreasingBy, IsStrictlyIncreasing};
-ghost use Rattle.serial_exec.specs.Changes.{before};
+ghost use Rattle.serial_exec.specs.Changes.{AreFirst, before};
 ghost use Rattle.semantics.specs.declared.places.Place.{Place};
 ghost use Rattle.semantics.specs.Points.{is_in};
 ghost use Rattle.semantics.specs.Sequential.{wanted};
 ghost use Rattle.point_laws.specs.Cut.{cut};
 ghost use Rattle.serial_exec.specs.Cutting.{cut_to};
-ghost use Rattle.serial_exec.specs.Kept.{AreVersionsOf, changes_before, value_at};
+ghost use Rattle.serial_exec.specs.Histories as says;
+ghost use Rattle.serial_exec.specs.Kept.{AreVersionsOf, changes_before, changes_in, value_at};
+ghost use Rattle.serial_exec.specs.Marks.{AreMarksOf};
 
 use crate::agreeing::is_sum;
 use crate::change::{Change, PlaceKey};
 use crate::gathering::histories_of;
 use crate::histories::Histories;
+use crate::marks::{Mark, Marks};
 use crate::sums::{latest, sum_of};
 use log_decl::Log;
 use point_laws::cut_tables_keep_points;
@@ -31,16 +34,18 @@ use value_terms::{Memory, Value};
 pub struct Versions {
     moments: Vec<usize>,
     histories: Histories,
+    marks: Marks,
 }
 
 impl Model for Versions {
     ghost use Rattle.serial_exec.specs.Kept.{Kept, kept, AreInOrder};
+    ghost use Rattle.serial_exec.specs.Marks.{AreMarked};
 
     ghost Value = { Kept };
 
     ghost view = { λ v. kept v.moments.items v.histories };
 
-    ghost invariant = { λ v. AreInOrder (kept v.moments.items v.histories) };
+    ghost invariant = { λ v. AreInOrder (kept v.moments.items v.histories) × AreMarked v.marks v.histories };
 }
 
 impl Versions {
@@ -55,7 +60,12 @@ impl Versions {
     {
         let moments = Vec::from_slice(alloc, log.serial_places())?;
         let histories = histories_of(alloc, log, listed)?;
-        Ok(Versions { moments, histories })
+        let marks = Marks::of(alloc, &histories)?;
+        Ok(Versions {
+            moments,
+            histories,
+            marks,
+        })
     }
 
     /// The versions at all points.
@@ -93,20 +103,33 @@ impl Versions {
         self.moments.len()
     }
 
+    /// The changes at a place.
+    fn changes_at(&self, place: &Place) -> &[Change]
+        ensures { result.now ≡ changes_in self.now place.now }
+    {
+        match self.histories.lists.get(&key_of(place)) {
+            Some(list) => list.as_slice(),
+            None => &[],
+        }
+    }
+
     /// The changes at a place by the items before an item.
     fn changes_before(&self, item: usize, place: &Place) -> &[Change]
         requires { item < length self.now.moments }
-        ensures { result.now ≡ changes_before self.now item place.now }
+        ensures before { result.now ≡ changes_before self.now item place.now }
+        ensures first { AreFirst (changes_in self.now place.now) result.now }
     {
-        let key = PlaceKey {
-            tree: place.tree,
-            point: place.point,
-            field: place.field,
-        };
-        let Some(list) = self.histories.lists.get(&key) else {
-            return &[];
-        };
-        changes_until(list.as_slice(), self.moments[item])
+        changes_until(self.changes_at(place), self.moments[item])
+    }
+
+    /// The marks of the changes at a place.
+    fn marks_at(&self, place: &Place) -> &[Mark]
+        ensures { AreMarksOf result.now (changes_in self.now place.now) }
+    {
+        match self.marks.lists.get(&key_of(place)) {
+            Some(list) => list.as_slice(),
+            None => &[],
+        }
     }
 
     /// The value that a read of an item should see at a place: that of sequential execution just before the item.
@@ -123,15 +146,28 @@ impl Versions {
         requires { item < length self.now.moments }
         ensures { IsTrue result ↔ (v.now ≡ value_at self.now item place.now) }
     {
-        let (base, added) = latest(self.changes_before(item, place));
-        is_sum(v, base, added)
+        let changes = self.changes_before(item, place);
+        let (base, added) = latest(changes);
+        is_sum(v, base, added, self.marks_at(place), changes.len())
+    }
+}
+
+/// A place as a key.
+fn key_of(place: &Place) -> PlaceKey
+    ensures { result ≡ says.key_of place.now }
+{
+    PlaceKey {
+        tree: place.tree,
+        point: place.point,
+        field: place.field,
     }
 }
 
 /// The changes by items that come earlier in serial order, by a binary search.
 fn changes_until(changes: &[Change], moment: usize) -> &[Change]
     requires { IsNonDecreasingBy (λ c. c.moment) changes.now }
-    ensures { result.now ≡ before moment changes.now }
+    ensures before { result.now ≡ before moment changes.now }
+    ensures first { AreFirst changes.now result.now }
 {
     let end = changes.partition_point(|change| change.moment < moment);
     &changes[..end]

@@ -1,32 +1,21 @@
-use Rattle.std.proofs.Common.{◌≡◌, ◌<◌, ◌∙◌, [], length, get_or, sym, ap, subst}
-use Rattle.std.specs.Option.{option_map_or, option_copied}
+use Rattle.std.proofs.Common.{◌<◌, ◌∙◌, length, get_or, sym, ap, subst}
 use Rattle.std.specs.List.Sorted.{IsNonDecreasingBy}
-use Rattle.serial_exec.specs.Changes.{before}
-use Rattle.serial_exec.specs.Kept.{Kept, changes_in, changes_before, kept}
-use Rattle.serial_exec.proofs.Keeping.{kept-changes, any-default}
+use Rattle.serial_exec.specs.Changes.{AreFirst, before}
+use Rattle.serial_exec.specs.Kept.{Kept, changes_in}
+use Rattle.serial_exec.proofs.Keeping.{any-default}
 use Rattle.serial_exec.proofs.versions.Versions.changes_before.Goals as goal
-
-pub returns-in_default : goal.returns-in_default
-returns-in_default c =
-    let k = kept c.self.inside.moments.items c.self.inside.histories in
-    let p = c.args.place.now in
-    let none : changes_in k p ≡ [] = kept-changes c.self.inside.moments.items c.self.inside.histories p ∙ ap (λ o. option_map_or (λ v. v.items) o []) (sym c.get.ensures.value ∙ ap option_copied c.in_default.is) in
-    ap (before (get_or k.moments c.args.item 0)) (sym none) ∙ ap (λ (k : Kept). changes_before k c.args.item p) c.self.view_is
 
 pub changes_until-requires : goal.changes_until-requires
 changes_until-requires c =
-    let k = kept c.self.inside.moments.items c.self.inside.histories in
-    let p = c.args.place.now in
-    let some = kept-changes c.self.inside.moments.items c.self.inside.histories p ∙ ap (λ o. option_map_or (λ v. v.items) o []) (sym c.get.ensures.value ∙ ap option_copied c.in-Some.is) ∙ sym c.as_slice.ensures.value in
-    subst (λ cs. IsNonDecreasingBy (λ d. d.moment) cs) some (c.self.invariant p)
+    subst (λ cs. IsNonDecreasingBy (λ d. d.moment) cs) (ap (λ (k : Kept). changes_in k c.args.place.now) c.self.view_is ∙ sym c.changes_at.ensures) (c.self.invariant.0 c.args.place.now)
 
-pub returns : goal.returns
-returns c =
-    let k = kept c.self.inside.moments.items c.self.inside.histories in
-    let p = c.args.place.now in
-    let some = kept-changes c.self.inside.moments.items c.self.inside.histories p ∙ ap (λ o. option_map_or (λ v. v.items) o []) (sym c.get.ensures.value ∙ ap option_copied c.in-Some.is) ∙ sym c.as_slice.ensures.value in
-    let lt : c.args.item < length c.self.inside.moments.items = subst (λ (k : Kept). c.args.item < length k.moments) (sym c.self.view_is) c.requires in
-    c.changes_until.ensures
-    ∙ ap (λ m. before m c.as_slice.result.now) (c.index.ensures ∙ any-default c.self.inside.moments.items c.args.item c.index.result.now 0 lt)
-    ∙ ap (before (get_or k.moments c.args.item 0)) (sym some)
-    ∙ ap (λ (k : Kept). changes_before k c.args.item p) c.self.view_is
+pub returns-clause-before : goal.returns-clause-before
+returns-clause-before c =
+    let moments = c.self.inside.moments.items in
+    let lt : c.args.item < length moments = subst (λ (k : Kept). c.args.item < length k.moments) (sym c.self.view_is) c.requires in
+    c.changes_until.ensures.before
+    ∙ ap (λ m. before m c.changes_at.result.now) (c.index.ensures ∙ any-default moments c.args.item c.index.result.now 0 lt ∙ ap (λ (k : Kept). get_or k.moments c.args.item 0) c.self.view_is)
+    ∙ ap (before (get_or c.args.self.now.moments c.args.item 0)) c.changes_at.ensures
+
+pub returns-clause-first : goal.returns-clause-first
+returns-clause-first c = subst (λ cs. AreFirst cs c.changes_until.result.now) c.changes_at.ensures c.changes_until.ensures.first

@@ -12,8 +12,9 @@ pub invariant_of-result : goal.invariant_of-result
 invariant_of-result g c =
     let on = option_map (λ q. g.Q.PointSet.points q.now) c.args.listed in
     let t = c.args.log.now in
-    kept-in_order (cut_to on t) c.in_ok-moments.moments.items c.in_ok-histories.histories
-    (λ p. c.in_ok-histories.ensures p ∙ ap (λ order. items_changes (cut_to on t) 0 order p) (sym (serial_cut on t)))
+    let up = kept-in_order (cut_to on t) c.in_ok-moments.moments.items c.in_ok-histories.histories
+    (λ p. c.in_ok-histories.ensures p ∙ ap (λ order. items_changes (cut_to on t) 0 order p) (sym (serial_cut on t))) in
+    (up, c.in_ok-marks.ensures)
 
 pub returns : goal.returns
 returns g c =
