@@ -1,0 +1,121 @@
+-- In an admitted log the places that a task reads ascend, by requirement, point and field.
+use Rattle.std.proofs.Common.{◌≡◌, ℕ, ◌<◌, ◌≤◌, ◌+◌, ◌-◌, inl, inr, Bool, true, List, [], ◌∷◌, ◌++◌, AllPairs, refl, sym, ap, ◌∙◌, subst, arith, map, flat_map, filter, find, nat_lt, zero, suc, ◌==◌}
+use Rattle.std.specs.List.{AllByRecursion}
+use Rattle.std.proofs.lemmas.Bool.{and_parts, ltb-true, eqb-true}
+use Rattle.std.proofs.lemmas.Bool.Decides.{nat_tests}
+use Rattle.std.proofs.lemmas.List.Kept.{AllPairs-filter}
+use Rattle.std.proofs.lemmas.List.Recursion.{same_from_clauses}
+use Rattle.spy_words.specs.Classes as classes
+use Rattle.spy_words.specs.Classes.{IsGood, IsNumberFrom, ascends, span_before, IsSpan}
+use Rattle.spy_grammar.specs.declared.record.Record.{Record}
+use Rattle.spy_grammar.specs.declared.record.Record.TheVariants as records
+use Rattle.spy_grammar.specs.declared.record.Lined.{Lined}
+use Rattle.spy_grammar.specs.Spelling.{Good}
+use Rattle.privilege.specs.Allowed.{may_read}
+use Rattle.semantics.specs.declared.places.Place.{Place}
+use Rattle.semantics.specs.declared.tables.Req.{Req}
+use Rattle.semantics.specs.Records.{records_of}
+use Rattle.semantics.specs.Tables.{Tables, Space, with_record, tables_of, numbers_from, points_of}
+use Rattle.semantics.specs.Points.{points_in}
+use Rattle.semantics.specs.Kinds.{req_grid, reqs_of, comes_first}
+use Rattle.semantics.specs.declared.command.Command.{Command}
+use Rattle.log_laws.proofs.Members.{Member, Each, each_more, member_map, member_filter, found_at, none_or_some}
+use Rattle.log_laws.proofs.Apart.{PairsBy, all_pairs, pairs_from, pairs_map, pairs_so, pairs_flat, number_between}
+use Rattle.log_laws.proofs.Sane.{AreSane}
+use Rattle.log_laws.proofs.Admitted.{IsFaultless, by_records, sane}
+use Rattle.long_values.specs.LongSequential.{places_of, places_read}
+
+abbrev Rise : List ℕ → Type 0
+Rise ns = PairsBy (λ m n. m < n) ns
+
+module _ {X : Type 0} (before : X → X → Bool) (P : X → Type 0) (R : X → X → Type 0) (tells : (x y : X) → P y → before x y ≡ true → R x y) (trans : (x y z : X) → R x y → R y z → R x z) where
+  ascending : (xs : List X) → AllByRecursion P xs → ascends before xs ≡ true → PairsBy R xs
+  ascending [] good up = tt
+  ascending (x ∷ []) good up = (λ y m. absurd m, tt)
+  ascending (x ∷ y ∷ xs) good up =
+      let parts = and_parts (before x y) (ascends before (y ∷ xs)) up in
+      let first = tells x y good.1.0 parts.0 in
+      let rest = ascending (y ∷ xs) good.1 parts.1 in
+      (λ z m. elim m [ inl is ↦ subst (R x) (sym is) first | inr later ↦ trans x y z first (rest.0 z later) ], rest)
+
+numbers_rise : (first n : ℕ) → Rise (numbers_from first n)
+numbers_rise first zero = tt
+numbers_rise first (suc n) = (λ m is. omega (arith, (number_between (first + 1) n m is).0), numbers_rise (first + 1) n)
+
+fields_rise : (ns : List ℕ) → IsGood classes.fields ns → Rise ns
+fields_rise ns good = ascending nat_lt (IsNumberFrom 0) _ (λ m n _ lt. ltb-true m n lt) (λ k m n a b. omega arith) ns good.0 good.1
+
+abbrev span : ℕ × ℕ → List ℕ
+span p = numbers_from p.0 (p.1 + 1 - p.0)
+
+points_rise : (ps : List (ℕ × ℕ)) → IsGood classes.points ps → Rise (points_of ps)
+points_rise ps good =
+    let all : points_of ps ≡ flat_map span ps = same_from_clauses points_of (flat_map span) (λ p xs. span p ++ xs) refl (λ p ps. refl) (λ p ps. refl) ps in
+    let rise = ascending span_before IsSpan (λ p q. (p.1 < q.0) × (q.0 ≤ q.1)) (λ p q good lt. (ltb-true p.1 q.0 lt, good.0)) (λ p q r a b. (omega arith, b.1)) ps good.0 good.1 in
+    subst Rise (sym all) (pairs_flat (λ m n. m < n) span ps (λ p _. numbers_rise p.0 (p.1 + 1 - p.0)) (pairs_so _ _ ps (λ p q _ _ up a b m n.
+    omega (arith, number_between p.0 (p.1 + 1 - p.0) a m, number_between q.0 (q.1 + 1 - q.0) b n, up)) rise))
+
+record DoRise (t : Tables) : Type 0 where
+  spaces : Each (λ (s : Space). Rise s.points) t.spaces
+  fields : Each (λ (r : Req). Rise r.fields) t.reqs
+
+with_good : (t : Tables) (line : ℕ) (r : Record) → Good r → DoRise t → DoRise (with_record t line r)
+with_good t line (records.Ispace id set) good h = record { spaces = each_more _ t.spaces _ h.spaces (points_rise set good.1.0); fields = h.fields }
+with_good t line (records.Req _ _ _ _ _ _) good h = record { spaces = h.spaces; fields = each_more _ t.reqs _ h.fields (fields_rise _ good.1.1.1.0) }
+with_good t line _ good h = record { spaces = h.spaces; fields = h.fields }
+
+points_in_rise : (t : Tables) (id : ℕ) → DoRise t → Rise (points_in t id)
+points_in_rise t id h = elim (none_or_some (find (λ (s : Space). s.id == id) t.spaces)) [
+  | inl none ↦ rw none tt
+  | inr some ↦ rw some.1 (h.spaces some.0 (found_at (λ (s : Space). s.id == id) t.spaces some.0 some.1).0)
+]
+
+-- A requirement and a place, as numbers.
+abbrev key : ℕ × Place → ℕ × ℕ × ℕ
+key e = (e.0, e.1.point, e.1.field)
+
+abbrev First : ℕ × Place → ℕ × Place → Type 0
+First d e = comes_first (key d) (key e) ≡ true
+
+by_number : (d e : ℕ × Place) → d.0 < e.0 → First d e
+by_number d e lt = grind (arith, nat_tests)
+
+by_point : (d e : ℕ × Place) → d.0 ≡ e.0 → d.1.point < e.1.point → First d e
+by_point d e same lt = grind (arith, nat_tests)
+
+by_field : (d e : ℕ × Place) → d.0 ≡ e.0 → d.1.point ≡ e.1.point → d.1.field < e.1.field → First d e
+by_field d e same at lt = grind (arith, nat_tests)
+
+-- Of two requirements of one item the later has the larger number.
+abbrev Later : Req → Req → Type 0
+Later q r = q.item ≡ r.item → q.number < r.number
+
+-- One requirement's places ascend.
+one_rises : (t : Tables) (r : Req) → DoRise t → Rise r.fields → PairsBy First (places_of t r)
+one_rises t r h fields = pairs_map First (λ (p : ℕ × ℕ). (r.number, record { tree = r.tree; point = p.0; field = p.1 })) (req_grid t r)
+    (pairs_flat _ (λ x. map (λ f. (x, f)) r.fields) (points_in t r.space)
+    (λ x _. pairs_map _ (λ f. (x, f)) r.fields (pairs_so _ _ r.fields (λ f g _ _ lt. by_field (r.number, record { tree = r.tree; point = x; field = f }) (r.number, record { tree = r.tree; point = x; field = g }) refl refl lt) fields))
+    (pairs_so _ _ (points_in t r.space) (λ x y _ _ lt p q m n.
+    let a = member_map (λ f. (x, f)) r.fields p m in
+    let b = member_map (λ f. (y, f)) r.fields q n in
+    by_point (r.number, record { tree = r.tree; point = p.0; field = p.1 }) (r.number, record { tree = r.tree; point = q.0; field = q.1 }) refl (omega (arith, lt, ap (λ (p : ℕ × ℕ). p.0) a.2, ap (λ (p : ℕ × ℕ). p.0) b.2))) (points_in_rise t r.space h)))
+
+number_of : (t : Tables) (r : Req) (e : ℕ × Place) → Member (places_of t r) e → e.0 ≡ r.number
+number_of t r e m = ap (λ (e : ℕ × Place). e.0) (member_map (λ (p : ℕ × ℕ). (r.number, record { tree = r.tree; point = p.0; field = p.1 })) (req_grid t r) e m).2
+
+all_rise : (t : Tables) (item : ℕ) → AreSane t → DoRise t → PairsBy First (places_read t item)
+all_rise t item sane h =
+    let own : List Req = reqs_of t item in
+    let reads : Req → Bool = λ (r : Req). may_read r.access in
+    let up : PairsBy Later t.reqs = pairs_so _ _ t.reqs (λ q r _ _ fit same. (fit same).0) sane.reqs in
+    let kept : PairsBy Later (filter reads own) = pairs_from Later (filter reads own) (AllPairs-filter Later reads own (AllPairs-filter Later (λ (r : Req). r.item == item) t.reqs (all_pairs Later t.reqs up))) in
+    pairs_flat First (places_of t) (filter reads own)
+    (λ r m. one_rises t r h (h.fields r (member_filter (λ (r : Req). r.item == item) t.reqs r (member_filter reads own r m).0).0))
+    (pairs_so _ _ (filter reads own) (λ q r m n up d e a b.
+    let at = (member_filter (λ (r : Req). r.item == item) t.reqs q (member_filter reads own q m).0).1 in
+    let there = (member_filter (λ (r : Req). r.item == item) t.reqs r (member_filter reads own r n).0).1 in
+    by_number d e (omega (arith, number_of t q d a, number_of t r e b, up (eqb-true q.item item at ∙ sym (eqb-true r.item item there))))) kept)
+
+pub places_rise : (command : Command) (log : List Lined) → AllByRecursion Good (records_of log) → IsFaultless command log → (item : ℕ) → AllPairs First (places_read (tables_of log) item)
+places_rise command log good f item = all_pairs First (places_read (tables_of log) item) (all_rise (tables_of log) item (sane command log f)
+    (by_records Good DoRise (records_of log) (λ earlier l u g h. with_good (tables_of earlier) l.line l.rec g h) [] log good f.records (record { spaces = λ s m. absurd m; fields = λ r m. absurd m })))
