@@ -11,7 +11,8 @@ use Rattle.interference.specs.declared.pair.Pair.{Pair}
 use Rattle.interference.specs.Pairing.{pair_of, row, left, all_pairs}
 use Rattle.interference.specs.Tasks.{are_tasks}
 use Rattle.interference.proofs.AllPairs.{all_are}
-use Rattle.interference.proofs.Rows.{met_at, meeting, rows_step}
+use Rattle.interference.specs.Pairing.{met_at}
+use Rattle.interference.proofs.Rows.{meeting, rows_step}
 
 length_filter : {X : Type 0} (p : X → Bool) (xs : List X) → length (filter p xs) ≤ length xs
 length_filter p [] = omega arith

@@ -1,18 +1,13 @@
 -- Rows of pairs, one item at a time.
-use Rattle.std.proofs.Common.{inl, inr, ◌≡◌, ℕ, zero, suc, ◌+◌, ◌-◌, ◌<◌, ◌≤◌, Bool, true, false, not, List, [], ◌∷◌, ◌++◌, length, refl, sym, ap, ◌∙◌, arith, min, ◌^◌, flat_map, get_or, Option}
+use Rattle.std.proofs.Common.{inl, inr, ◌≡◌, ℕ, zero, suc, ◌+◌, ◌-◌, ◌<◌, ◌≤◌, true, false, not, List, [], ◌∷◌, ◌++◌, length, refl, sym, ap, ◌∙◌, arith, min, ◌^◌, flat_map, Option}
 use Rattle.std.proofs.lemmas.Bool.{cases_lt, and_right}
 use Rattle.privilege.specs.declared.kinds.Kind.TheVariants.{Free}
 use Rattle.semantics.specs.Tables.{numbers_from}
 use Rattle.semantics.specs.Kinds.{is_free}
 use Rattle.item_uses.specs.Usages.{Usage, usages_at}
 use Rattle.item_uses.specs.Sharing.{kind_between}
-use Rattle.item_uses.proofs.Positions.{at_is}
 use Rattle.interference.specs.declared.pair.Pair.{Pair}
-use Rattle.interference.specs.Pairing.{is_asked, is_met, pair_between, row, rows, left}
-
--- What is asked for, of the items at two positions.
-abbrev pub met_at : Option (List ℕ) → List (List Usage) → ℕ → ℕ → Bool
-met_at asked us a b = is_met asked a b (usages_at us a) (usages_at us b)
+use Rattle.interference.specs.Pairing.{is_asked, met_at, pair_between, IsMeeting, StartsRow, row, rows, left}
 
 abbrev pub meeting : List (List Usage) → ℕ → ℕ → Pair
 meeting us a b = pair_between a b (usages_at us a) (usages_at us b)
@@ -26,7 +21,7 @@ row_from_other asked us a b n e f k = rw (e, f, k) refl
 row_same : (asked : Option (List ℕ)) (us : List (List Usage)) (a b : ℕ) → b < length us → met_at asked us a b ≡ true → row asked us a b ≡ meeting us a b ∷ row asked us a (b + 1)
 row_same asked us a b lt k = row_from_same asked us a b (length us - (b + 1)) (omega arith) refl k
 
-row_other : (asked : Option (List ℕ)) (us : List (List Usage)) (a b : ℕ) → b < length us → met_at asked us a b ≡ false → row asked us a b ≡ row asked us a (b + 1)
+pub row_other : (asked : Option (List ℕ)) (us : List (List Usage)) (a b : ℕ) → b < length us → met_at asked us a b ≡ false → row asked us a b ≡ row asked us a (b + 1)
 row_other asked us a b lt k = row_from_other asked us a b (length us - (b + 1)) (omega arith) refl k
 
 row_end : (asked : Option (List ℕ)) (us : List (List Usage)) (a b : ℕ) → length us ≤ b → row asked us a b ≡ []
@@ -61,24 +56,21 @@ next_from asked us a from next none is small lt =
       | inr last ↦ (next_row asked us a from none ∙ none_left asked us (a + 1) (a + 2) last (omega arith) ∙ sym (none_left asked us (a + 1) next last (omega arith)), omega arith)
     ]
 
--- ---- the same with the items that the code has read
+-- ---- the same with what the code has found
 
-met_here : (asked : Option (List ℕ)) (us : List (List Usage)) (a b : ℕ) (u v : List Usage) → u ≡ usages_at us a → v ≡ usages_at us b → met_at asked us a b ≡ is_met asked a b u v
-met_here asked us a b u v x y = ap (λ w. is_met asked a b w (usages_at us b)) (sym x) ∙ ap (is_met asked a b u) (sym y)
-
-pub row_found : (asked : Option (List ℕ)) (us : List (List Usage)) (a from b : ℕ) (u v : List Usage) (p : Pair) → a < length us → b < length us → u ≡ get_or us a u → v ≡ get_or us b v
-    → p ≡ pair_between a b u v → is_met asked a b u v ≡ true → row asked us a from ≡ row asked us a b → row asked us a from ≡ p ∷ row asked us a (p.b + 1)
-row_found asked us a from b u v p la lb ua vb is met so_far =
-    let x = at_is us a u la ua in
-    let y = at_is us b v lb vb in
-    so_far ∙ row_same asked us a b lb (met_here asked us a b u v x y ∙ met)
-    ∙ ap (λ (q : Pair). q ∷ row asked us a (q.b + 1)) (ap (λ w. pair_between a b (usages_at us a) w) (sym y) ∙ ap (λ w. pair_between a b w v) (sym x) ∙ sym is)
-
-pub row_passed : (asked : Option (List ℕ)) (us : List (List Usage)) (a b : ℕ) (u v : List Usage) → a < length us → b < length us → u ≡ get_or us a u → v ≡ get_or us b v → is_met asked a b u v ≡ false → row asked us a b ≡ row asked us a (b + 1)
-row_passed asked us a b u v la lb ua vb not_met = row_other asked us a b lb (met_here asked us a b u v (at_is us a u la ua) (at_is us b v lb vb) ∙ not_met)
+pub row_starts : (asked : Option (List ℕ)) (us : List (List Usage)) (a from b : ℕ) (p : Pair) → a ≤ b → b < length us → row asked us a from ≡ row asked us a b → IsMeeting asked us a b p → StartsRow asked us a from p
+row_starts asked us a from b p order within so_far is =
+    let first = ap (λ (p : Pair). p.a) is.pair in
+    let second = ap (λ (p : Pair). p.b) is.pair in
+    record {
+      head = so_far ∙ row_same asked us a b within is.met ∙ ap (λ (q : Pair). q ∷ row asked us a (q.b + 1)) (sym is.pair);
+      first = first;
+      order = omega (arith, second, order);
+      within = omega (arith, second, within);
+    }
 
 -- Items that do not interfere are passed over at once.
-free_not_met : (asked : Option (List ℕ)) (us : List (List Usage)) (a b : ℕ) → kind_between (usages_at us a) (usages_at us b) ≡ Free → met_at asked us a b ≡ false
+pub free_not_met : (asked : Option (List ℕ)) (us : List (List Usage)) (a b : ℕ) → kind_between (usages_at us a) (usages_at us b) ≡ Free → met_at asked us a b ≡ false
 free_not_met asked us a b free = and_right (is_asked asked a b) (not (is_free (kind_between (usages_at us a) (usages_at us b)))) (ap (λ k. not (is_free k)) free)
 
 row_skip : (asked : Option (List ℕ)) (us : List (List Usage)) (a b m : ℕ) → b + m ≤ length us → ((i : ℕ) → b ≤ i → i < b + m → kind_between (usages_at us a) (usages_at us i) ≡ Free) → row asked us a b ≡ row asked us a (b + m)

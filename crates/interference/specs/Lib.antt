@@ -1,3 +1,4 @@
 pub mod Pairing
+pub mod Remembering
 pub mod Tasks
 pub mod Turned

@@ -40,6 +40,15 @@ IsFor asked us = IfSome asked (λ (places : Bor (List ℕ)). length places.now �
 abbrev pub is_met : Option (List ℕ) → ℕ → ℕ → List Usage → List Usage → Bool
 is_met asked a b qs rs = is_asked asked a b && not (is_free (kind_between qs rs))
 
+-- The same of the items at two positions.
+abbrev pub met_at : Option (List ℕ) → List (List Usage) → ℕ → ℕ → Bool
+met_at asked us a b = is_met asked a b (usages_at us a) (usages_at us b)
+
+-- The pair of two items is asked for, and they interfere as it says.
+pub record IsMeeting (asked : Option (List ℕ)) (us : List (List Usage)) (a b : ℕ) (p : Pair) : Type 0 where
+  pub met : met_at asked us a b ≡ true
+  pub pair : p ≡ pair_between a b (usages_at us a) (usages_at us b)
+
 -- The pairs of an item with those from another on.
 abbrev pub row : Option (List ℕ) → List (List Usage) → ℕ → ℕ → List Pair
 row asked us a from = map (λ b. pair_between a b (usages_at us a) (usages_at us b)) (filter (λ b. is_met asked a b (usages_at us a) (usages_at us b)) (numbers_from from (length us - from)))

@@ -11,5 +11,5 @@ use region_tree::ArenaSet;
 pub fn pairs<'l, 'a, P: ArenaSet<'a>>(log: &'l Log<'a, P>) -> Pairs<'l, 'a, P>
     ensures { result ≡ all_pairs log.now }
 {
-    Pairs::of(log.uses(), log.blocks())
+    Pairs::of(log.uses(), log.blocks(), log.representatives())
 }

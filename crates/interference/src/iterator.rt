@@ -5,10 +5,13 @@ ghost use Rattle.std.specs.Iterator.{YieldsFirst, item_count};
 ghost use Rattle.semantics.specs.Tables.{Tables};
 ghost use Rattle.item_uses.specs.Usages.{usages};
 ghost use Rattle.item_uses.specs.Blocks.{AreBlocks};
+ghost use Rattle.item_uses.specs.Representatives.{AreRepresentatives};
 ghost use Rattle.interference.specs.Pairing.{asked_of, IsFor, all_pairs, left, StartsLeft};
+ghost use Rattle.interference.specs.Remembering.{AreRight};
 
+use crate::memory::Memory;
 use crate::pair::Pair;
-use crate::partners::next_partner;
+use crate::partners::{next_partner, remembered_pair};
 use item_uses::{ItemUses, Span};
 use point_set::PointSet;
 use std::marker::Model;
@@ -19,6 +22,8 @@ pub struct Pairs<'l, 'a, P: PointSet + Copy> {
     asked: Option<&'l [usize]>,
     items: &'l [ItemUses<'a, P>],
     blocks: &'l [Span],
+    standing: &'l [usize],
+    memory: Memory,
     a: usize,
     from: usize,
 }
@@ -26,6 +31,8 @@ pub struct Pairs<'l, 'a, P: PointSet + Copy> {
 impl<'l, 'a, P: PointSet + Copy> Model for Pairs<'l, 'a, P> {
     ghost use Rattle.std.specs.Prelude.{List, ◌≤◌};
     ghost use Rattle.item_uses.specs.Blocks.{AreBlocks};
+    ghost use Rattle.item_uses.specs.Representatives.{AreRepresentatives};
+    ghost use Rattle.interference.specs.Remembering.{AreRight};
     ghost use Rattle.interference.specs.declared.pair.Pair.{Pair};
     ghost use Rattle.interference.specs.Pairing.{left, asked_of, IsFor};
 
@@ -33,31 +40,64 @@ impl<'l, 'a, P: PointSet + Copy> Model for Pairs<'l, 'a, P> {
 
     ghost view = { λ s. left (asked_of s.asked) s.items.now s.a s.from };
 
-    ghost invariant = { λ s. (s.a ≤ s.from) × AreBlocks s.blocks.now s.items.now × IsFor s.asked s.items.now };
+    ghost invariant = { λ s. (s.a ≤ s.from) × AreBlocks s.blocks.now s.items.now × IsFor s.asked s.items.now
+        × AreRepresentatives s.standing.now s.items.now × AreRight s.items.now s.memory.answers };
 }
 
-/// The first pair that is left.
+/// The first pair that is left. It stays a call, so that what calls it stays small.
+#[inline(never)]
 fn first_left<'a, P: PointSet + Copy>(
     asked: Option<&[usize]>,
     items: &[ItemUses<'a, P>],
     blocks: &[Span],
+    standing: &[usize],
+    memory: &mut Memory,
     start: usize,
     start_from: usize,
 ) -> Option<Pair>
     requires asked { IsFor asked items.now }
+    requires standing { AreRepresentatives standing.now items.now }
+    requires memory { AreRight items.now memory.old.answers }
     requires blocks { AreBlocks blocks.now items.now }
     requires order { start ≤ start_from }
     ensures none { IfNone result (left (asked_of asked.entry) items.now start start_from ≡ []) }
     ensures some { IfSome result (StartsLeft (asked_of asked.entry) items.now start start_from) }
+    ensures memory { AreRight items.now memory.new.answers }
 {
     let mut from = start_from;
     for a in start..items.len() {
-        if let Some(pair) = next_partner(asked, items, blocks, a, from) {
+        if let Some(pair) = next_partner(asked, items, blocks, standing, memory, a, from) {
             return Some(pair);
         }
         from = a.saturating_add(2);
     }
     None
+}
+
+/// The same, where most often the next item is of a kind that was met before.
+#[inline]
+fn next_left<'a, P: PointSet + Copy>(
+    asked: Option<&[usize]>,
+    items: &[ItemUses<'a, P>],
+    blocks: &[Span],
+    standing: &[usize],
+    memory: &mut Memory,
+    a: usize,
+    from: usize,
+) -> Option<Pair>
+    requires asked { IsFor asked items.now }
+    requires standing { AreRepresentatives standing.now items.now }
+    requires memory { AreRight items.now memory.old.answers }
+    requires blocks { AreBlocks blocks.now items.now }
+    requires order { a ≤ from }
+    ensures none { IfNone result (left (asked_of asked.entry) items.now a from ≡ []) }
+    ensures some { IfSome result (StartsLeft (asked_of asked.entry) items.now a from) }
+    ensures memory { AreRight items.now memory.new.answers }
+{
+    match remembered_pair(asked, items, standing, memory, a, from) {
+        Some(pair) => Some(pair),
+        None => first_left(asked, items, blocks, standing, memory, a, from),
+    }
 }
 
 impl<'l, 'a, P: PointSet + Copy> Iterator for Pairs<'l, 'a, P> {
@@ -67,8 +107,17 @@ impl<'l, 'a, P: PointSet + Copy> Iterator for Pairs<'l, 'a, P> {
 
     ghost remaining = { item_count (λ rest. rest) };
 
+    #[inline]
     fn next(&mut self) -> Option<Pair> {
-        match first_left(self.asked, self.items, self.blocks, self.a, self.from) {
+        match next_left(
+            self.asked,
+            self.items,
+            self.blocks,
+            self.standing,
+            &mut self.memory,
+            self.a,
+            self.from,
+        ) {
             Some(pair) => {
                 self.a = pair.a;
                 self.from = pair.b + 1;
@@ -81,8 +130,13 @@ impl<'l, 'a, P: PointSet + Copy> Iterator for Pairs<'l, 'a, P> {
 
 impl<'l, 'a, P: PointSet + Copy> Pairs<'l, 'a, P> {
     /// All pairs of items that interfere.
-    pub(crate) fn of(items: &'l [ItemUses<'a, P>], blocks: &'l [Span]) -> Pairs<'l, 'a, P>
-        requires { AreBlocks blocks.now items.now }
+    pub(crate) fn of(
+        items: &'l [ItemUses<'a, P>],
+        blocks: &'l [Span],
+        standing: &'l [usize],
+    ) -> Pairs<'l, 'a, P>
+        requires blocks { AreBlocks blocks.now items.now }
+        requires standing { AreRepresentatives standing.now items.now }
         ensures left { result ≡ left None items.now 0 1 }
         ensures pairs { (t : Tables) → usages t ≡ items.now → result ≡ all_pairs t }
     {
@@ -90,6 +144,8 @@ impl<'l, 'a, P: PointSet + Copy> Pairs<'l, 'a, P> {
             asked: None,
             items,
             blocks,
+            standing,
+            memory: Memory::new(items.len()),
             a: 0,
             from: 1,
         }
@@ -100,8 +156,10 @@ impl<'l, 'a, P: PointSet + Copy> Pairs<'l, 'a, P> {
         places: &'l [usize],
         items: &'l [ItemUses<'a, P>],
         blocks: &'l [Span],
+        standing: &'l [usize],
     ) -> Pairs<'l, 'a, P>
         requires blocks { AreBlocks blocks.now items.now }
+        requires standing { AreRepresentatives standing.now items.now }
         requires each { length places.now ≡ length items.now }
         ensures { result ≡ left (Some places.now) items.now 0 1 }
     {
@@ -109,6 +167,8 @@ impl<'l, 'a, P: PointSet + Copy> Pairs<'l, 'a, P> {
             asked: Some(places),
             items,
             blocks,
+            standing,
+            memory: Memory::new(items.len()),
             a: 0,
             from: 1,
         }

@@ -4,6 +4,7 @@
 mod all;
 mod iterator;
 mod laws;
+mod memory;
 mod pair;
 mod partners;
 mod serial;

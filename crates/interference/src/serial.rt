@@ -4,6 +4,7 @@ ghost use Rattle.std.specs.Prelude.{◌≡◌, find, length, Some, None, OnOk, I
 ghost use Rattle.semantics.specs.Kinds.{is_before, least_place};
 ghost use Rattle.semantics.specs.SerialOrder.{turned_pair};
 ghost use Rattle.item_uses.specs.Blocks.{AreBlocks};
+ghost use Rattle.item_uses.specs.Representatives.{AreRepresentatives};
 ghost use Rattle.interference.specs.Pairing.{left};
 
 use crate::iterator::Pairs;
@@ -28,12 +29,14 @@ fn first_turned<'a, P: PointSet + Copy>(
     places: &[usize],
     items: &[ItemUses<'a, P>],
     blocks: &[Span],
+    standing: &[usize],
 ) -> Option<Pair>
     requires blocks { AreBlocks blocks.now items.now }
+    requires standing { AreRepresentatives standing.now items.now }
     requires each { length places.now ≡ length items.now }
     ensures { result ≡ find (λ p. is_before p.kind) (left (Some places.now) items.now 0 1) }
 {
-    for pair in Pairs::against(places, items, blocks) {
+    for pair in Pairs::against(places, items, blocks, standing) {
         if pair.kind == Kind::Before {
             return Some(pair);
         }
@@ -50,7 +53,12 @@ pub fn serial_ok<'a, P: ArenaSet<'a>>(log: &Log<'a, P>) -> Result<(), SerialBrea
     if !log.has_serial() {
         return Ok(());
     }
-    match first_turned(log.serial_places(), log.uses(), log.blocks()) {
+    match first_turned(
+        log.serial_places(),
+        log.uses(),
+        log.blocks(),
+        log.representatives(),
+    ) {
         Some(pair) => Err(SerialBreaks {
             a: pair.a,
             b: pair.b,

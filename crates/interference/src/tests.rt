@@ -30,7 +30,7 @@ struct Case<'c> {
     task_pairs: u64,
 }
 
-const CASES: [Case<'static>; 12] = [
+const CASES: [Case<'static>; 13] = [
     // No items, and one.
     Case {
         tasks: 0,
@@ -88,6 +88,22 @@ const CASES: [Case<'static>; 12] = [
         ],
         breaks: Some((0, 2, (1, 5, 1))),
         task_pairs: 3,
+    },
+    // Writes and reads of one point in turn, and then elsewhere: what is remembered of the one is not taken for the other.
+    Case {
+        tasks: 5,
+        records: b"task 1\nreq 1 1 4 1 rw ex\ntask 2\nreq 2 1 4 1 ro ex\ntask 3\nreq 3 1 4 1 rw ex\ntask 4\nreq 4 1 4 1 ro ex\ntask 5\nreq 5 1 3 1 ro ex\n",
+        pairs: &[
+            (0, 1, Kind::Before, (1, 4, 1)),
+            (0, 2, Kind::Before, (1, 4, 1)),
+            (0, 3, Kind::Before, (1, 4, 1)),
+            (0, 4, Kind::Before, (1, 5, 1)),
+            (1, 2, Kind::Before, (1, 4, 1)),
+            (2, 3, Kind::Before, (1, 4, 1)),
+            (2, 4, Kind::Before, (1, 5, 1)),
+        ],
+        breaks: None,
+        task_pairs: 7,
     },
     // Spaces of one disjoint partition, and one that meets both.
     Case {

@@ -8,4 +8,5 @@ pub mod LeastPlaces
 pub mod OneMore
 pub mod Positions
 pub mod Shared
+pub mod Standing
 pub mod Strongest

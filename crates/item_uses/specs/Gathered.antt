@@ -13,7 +13,7 @@ use Rattle.item_uses.specs.Usages.{Usage, usage, usages_at}
 abbrev pub own_usages : Tables → Item → List Usage
 own_usages t i = elim i.body [
   | Task ↦ []
-  | Fill tree space fields n ↦ usage tree (points_in t space) fields Wd Exclusive ∷ []
+  | Fill tree space fields n ↦ usage tree space (points_in t space) fields Wd Exclusive ∷ []
 ]
 
 -- One requirement of an item more. It counts where the item is a task.

@@ -7,19 +7,20 @@ use Rattle.semantics.specs.Tables.{Tables, numbers_from}
 use Rattle.semantics.specs.Points.{points_in}
 use Rattle.semantics.specs.Kinds.{uses_of}
 
--- What a requirement asks for, with its points.
+-- What a requirement asks for, with the points of its space.
 pub record Usage : Type 0 where
   pub tree : ℕ
+  pub space : ℕ
   pub points : List ℕ
   pub fields : List ℕ
   pub access : Priv
   pub coherence : Coherence
 
-abbrev pub usage : ℕ → List ℕ → List ℕ → Priv → Coherence → Usage
-usage tree points fields access coherence = record { tree = tree; points = points; fields = fields; access = access; coherence = coherence }
+abbrev pub usage : ℕ → ℕ → List ℕ → List ℕ → Priv → Coherence → Usage
+usage tree space points fields access coherence = record { tree = tree; space = space; points = points; fields = fields; access = access; coherence = coherence }
 
 abbrev pub usage_of : Tables → Req → Usage
-usage_of t r = usage r.tree (points_in t r.space) r.fields r.access r.coherence
+usage_of t r = usage r.tree r.space (points_in t r.space) r.fields r.access r.coherence
 
 -- What an item asks for.
 abbrev pub usages_of : Tables → ℕ → List Usage

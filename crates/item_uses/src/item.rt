@@ -1,16 +1,19 @@
 //! What an item asks for.
 
-ghost use Rattle.std.specs.Prelude.{◌≡◌, ◌↔◌, [], ◌∷◌, ◌++◌, List, OnOk, OnErr, false, None};
+ghost use Rattle.std.specs.Prelude.{◌≡◌, ◌↔◌, [], ◌∷◌, ◌++◌, List, OnOk, OnErr, true, false, None};
 ghost use Rattle.privilege.specs.declared.kinds.Kind.TheVariants as kinds;
 ghost use Rattle.item_uses.specs.Usages.{Usage};
+ghost use Rattle.item_uses.specs.Representatives.{AreAlike};
 ghost use Rattle.item_uses.specs.Sharing.{kind_between, place_between};
 ghost use Rattle.item_uses.specs.Spans.{Bounds};
 
+use crate::alike::are_alike;
 use crate::between::{Interference, interference_of_lists};
 use crate::span::Span;
 use crate::usage::Use;
 use point_set::PointSet;
 use std::alloc::{AllocError, Global};
+use std::hash::{DefaultHasher, Hasher};
 use std::marker::Model;
 
 /// What an item asks for, requirement by requirement, with bounds on it.
@@ -54,8 +57,24 @@ impl<'a, P: PointSet + Copy> ItemUses<'a, P> {
         Ok(())
     }
 
+    /// Whether another item asks for the same, but for the points.
+    pub(crate) fn is_alike(&self, other: &ItemUses<'a, P>) -> bool
+        ensures { result ≡ true → AreAlike self.now other.now }
+    {
+        are_alike(&self.uses, &other.uses)
+    }
+
+    /// A number that items that ask for the same have in common, and others hardly ever.
+    pub(crate) fn fingerprint(&self) -> u64 {
+        let mut hasher = DefaultHasher::new();
+        for one in &self.uses {
+            one.feed(&mut hasher);
+        }
+        hasher.finish()
+    }
+
     /// Bounds on all that it asks for.
-    pub(crate) fn span(&self) -> Span
+    pub fn span(&self) -> Span
         ensures { Bounds result self.now }
     {
         self.span

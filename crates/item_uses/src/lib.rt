@@ -2,6 +2,7 @@
 #![tactic(auto)]
 
 mod accesses;
+mod alike;
 mod between;
 mod blocks;
 mod fields;
@@ -12,6 +13,7 @@ mod span;
 mod usage;
 
 pub use accesses::Accesses;
+pub use alike::representatives;
 pub use between::Interference;
 pub use blocks::spans_of_blocks;
 pub use gathering::uses_of_items;

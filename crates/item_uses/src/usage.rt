@@ -1,12 +1,13 @@
 //! What a requirement asks for.
 
-ghost use Rattle.std.specs.Prelude.{◌≡◌, ℕ, ◌≤◌, Contains, [], is_some, None, if◌then◌else◌};
+ghost use Rattle.std.specs.Prelude.{◌≡◌, true, ℕ, ◌≤◌, Contains, [], is_some, None, if◌then◌else◌};
 ghost use Rattle.std.specs.Option.{option_map_or};
 ghost use Rattle.std.specs.List.Sorted.{IsStrictlyIncreasing};
 ghost use Rattle.semantics.specs.Kinds.{is_free};
 ghost use Rattle.privilege.specs.Interference.{kind_of};
 ghost use Rattle.privilege.specs.declared.kinds.Kind.TheVariants as kinds;
 ghost use Rattle.item_uses.specs.Usages.{usage};
+ghost use Rattle.item_uses.specs.Representatives.{without_points};
 ghost use Rattle.item_uses.specs.Spans.{IsWithin};
 ghost use Rattle.item_uses.specs.Sharing.{least_shared, shared_place, shared_kind, kind_place};
 
@@ -17,12 +18,14 @@ use crate::span::Span;
 use point_set::PointSet;
 use privilege::{Coherence, Kind, Priv, kind};
 use semantics::Place;
+use std::hash::{DefaultHasher, Hash, Hasher};
 use std::marker::Model;
 
 /// A requirement with its points, or a fill, which writes, is exclusive, and sees nothing of the old contents.
 #[derive(Drop)]
 pub struct Use<'a, P: PointSet + Copy> {
     tree: u32,
+    space: u32,
     // Without a set there are no points.
     set: Option<P>,
     fields: &'a [u32],
@@ -40,10 +43,10 @@ impl<'a, P: PointSet + Copy> Model for Use<'a, P> {
 
     ghost Value = { Usage };
 
-    ghost view = { λ u. usage u.tree (option_map_or P.points u.set []) u.fields.now u.access u.coherence };
+    ghost view = { λ u. usage u.tree u.space (option_map_or P.points u.set []) u.fields.now u.access u.coherence };
 
     ghost invariant = { λ u. IsStrictlyIncreasing u.fields.now
-        × IsWithin u.span (usage u.tree (option_map_or P.points u.set []) u.fields.now u.access u.coherence) };
+        × IsWithin u.span (usage u.tree u.space (option_map_or P.points u.set []) u.fields.now u.access u.coherence) };
 }
 
 /// A point of a set that none is less than.
@@ -98,17 +101,28 @@ fn shared_point<P: PointSet>(ours: &Option<P>, theirs: &Option<P>) -> Option<u64
     }
 }
 
+/// A number of its own for each privilege.
+fn access_number(access: Priv) -> u64 {
+    match access {
+        Priv::Ro => 0,
+        Priv::Rw => 1,
+        Priv::Wd => 2,
+        Priv::Red(operator) => 3 + operator as u64,
+    }
+}
+
 impl<'a, P: PointSet + Copy> Use<'a, P> {
-    /// The requirement of these fields at the points of this set, or at no point.
+    /// The requirement of these fields at the points of this set, those of the space, or at no point.
     pub fn new(
         tree: u32,
+        space: u32,
         set: Option<P>,
         fields: &'a [u32],
         access: Priv,
         coherence: Coherence,
     ) -> Use<'a, P>
         requires { IsStrictlyIncreasing fields.now }
-        ensures { result ≡ usage tree (option_map_or P.points set []) fields.now access coherence }
+        ensures { result ≡ usage tree space (option_map_or P.points set []) fields.now access coherence }
     {
         let (first_point, last_point) = ends_of(&set);
         let span = Span {
@@ -122,12 +136,33 @@ impl<'a, P: PointSet + Copy> Use<'a, P> {
         };
         Use {
             tree,
+            space,
             set,
             fields,
             access,
             coherence,
             span,
         }
+    }
+
+    /// Whether another requirement is the same, but for its points.
+    pub(crate) fn is_alike(&self, other: &Use<'a, P>) -> bool
+        ensures { result ≡ true → without_points self.now ≡ without_points other.now }
+    {
+        self.tree == other.tree
+            && self.space == other.space
+            && self.access == other.access
+            && self.coherence == other.coherence
+            && self.fields == other.fields
+    }
+
+    /// Feeds a hasher with all but the points.
+    pub(crate) fn feed(&self, hasher: &mut DefaultHasher) {
+        hasher.write_u32(self.tree);
+        hasher.write_u32(self.space);
+        hasher.write_u64(access_number(self.access));
+        hasher.write_u8((self.coherence == Coherence::Exclusive) as u8);
+        self.fields.hash(hasher);
     }
 
     /// Bounds on what it asks for.

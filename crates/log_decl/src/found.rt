@@ -2,6 +2,7 @@
 
 ghost use Rattle.std.specs.Prelude.{◌≡◌, nat_eq, map, IfOk};
 ghost use Rattle.item_uses.specs.Blocks.{AreBlocks};
+ghost use Rattle.item_uses.specs.Representatives.{AreRepresentatives};
 ghost use Rattle.item_uses.specs.Usages.{usages};
 ghost use Rattle.std.specs.HashMap.{get};
 ghost use Rattle.log_faults.specs.Decls.{decls_of};
@@ -10,7 +11,7 @@ ghost use Rattle.log_decl.specs.Looked.{AreFound};
 use crate::paths::paths_of;
 use crate::serial_order::{serial_lines, serial_order, serial_places};
 use bumpalo::Bump;
-use item_uses::{ItemUses, Span, spans_of_blocks, uses_of_items};
+use item_uses::{ItemUses, Span, representatives, spans_of_blocks, uses_of_items};
 use log_tables::{Draft, Space};
 use point_set::PointSet;
 use region_tree::{Forest, Memory, Path};
@@ -34,6 +35,8 @@ pub(crate) struct Found<'a, P: PointSet + Copy> {
     pub(crate) uses: Vec<ItemUses<'a, P>>,
     /// Bounds on each 64 items.
     pub(crate) blocks: Vec<Span>,
+    /// For each item one that asks for the same.
+    pub(crate) standing: Vec<usize>,
 }
 
 /// The ids of spaces.
@@ -53,6 +56,7 @@ pub(crate) fn found_in<'a, P: PointSet + Copy>(
     requires { forest.now ≡ decls_of draft.now }
     ensures uses { IfOk result (λ f. f.uses.items ≡ usages draft.now) }
     ensures blocks { IfOk result (λ f. AreBlocks f.blocks.items f.uses.items) }
+    ensures standing { IfOk result (λ f. AreRepresentatives f.standing.items f.uses.items) }
     ensures found { IfOk result (λ f. AreFound draft.now f.space_ids.items (get nat_eq f.paths) f.order.items f.places.items (get nat_eq f.lines)) }
 {
     let space_ids = ids_of(alloc, draft.spaces())?;
@@ -62,6 +66,7 @@ pub(crate) fn found_in<'a, P: PointSet + Copy>(
     let lines = serial_lines(alloc, draft.serials())?;
     let uses = uses_of_items(alloc, bump, draft)?;
     let blocks = spans_of_blocks(alloc, &uses)?;
+    let standing = representatives(alloc, &uses)?;
     Ok(Found {
         space_ids,
         paths,
@@ -70,5 +75,6 @@ pub(crate) fn found_in<'a, P: PointSet + Copy>(
         lines,
         uses,
         blocks,
+        standing,
     })
 }

@@ -19,6 +19,7 @@ ghost use Rattle.log_tables.specs.Ascending.{body_fields};
 ghost use Rattle.log_tables.specs.Mapped.{inst_mapped};
 ghost use Rattle.log_tables.specs.Views.{space_seen};
 ghost use Rattle.item_uses.specs.Blocks.{AreBlocks};
+ghost use Rattle.item_uses.specs.Representatives.{AreRepresentatives};
 ghost use Rattle.item_uses.specs.Usages.{usages};
 
 use crate::found::{Found, found_in};
@@ -49,6 +50,7 @@ impl<'a, P: PointSet + Copy> Model for Log<'a, P> {
     ghost use Rattle.log_decl.specs.Faultless.{AreDeclared};
     ghost use Rattle.log_decl.specs.Looked.{AreFound};
     ghost use Rattle.item_uses.specs.Blocks.{AreBlocks};
+    ghost use Rattle.item_uses.specs.Representatives.{AreRepresentatives};
     ghost use Rattle.item_uses.specs.Usages.{usages};
 
     ghost Value = { Tables };
@@ -57,6 +59,7 @@ impl<'a, P: PointSet + Copy> Model for Log<'a, P> {
 
     ghost invariant = { λ l. AreDeclared l.draft × (l.forest ≡ decls_of l.draft)
         × (l.found.uses.items ≡ usages l.draft) × AreBlocks l.found.blocks.items l.found.uses.items
+        × AreRepresentatives l.found.standing.items l.found.uses.items
         × AreFound l.draft l.found.space_ids.items (get nat_eq l.found.paths) l.found.order.items l.found.places.items (get nat_eq l.found.lines) };
 }
 
@@ -187,6 +190,13 @@ impl<'a, P: PointSet + Copy> Log<'a, P> {
         ensures { AreBlocks result.now (usages self.now) }
     {
         self.found.blocks.as_slice()
+    }
+
+    /// For each item one that asks for the same.
+    pub fn representatives(&self) -> &[usize]
+        ensures { AreRepresentatives result.now (usages self.now) }
+    {
+        self.found.standing.as_slice()
     }
 
     /// The declared spaces with their sets, in the order of their lines.

@@ -1,5 +1,6 @@
 use Rattle.std.proofs.Common.{◌≡◌, ◌+◌, ◌*◌, ◌≤◌, length, min}
 use Rattle.interference.specs.Pairing.{row, asked_of}
+use Rattle.interference.specs.Remembering.{AreRight}
 use Rattle.interference.proofs.partners.next_partner.Given as goal
 
 abbrev pub invariant-loop-k : goal.invariant-loop-k
@@ -8,4 +9,5 @@ invariant-loop-k g l = record {
   after : min (64 * l.k) (length l.items) ≤ l.start;
   before : l.start ≤ 64 * l.k + 64;
   order : l.a ≤ l.start;
+  memory : AreRight l.items l.memory.answers;
 }

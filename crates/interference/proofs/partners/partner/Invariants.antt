@@ -1,6 +1,10 @@
 use Rattle.std.proofs.Common.{◌≡◌}
 use Rattle.interference.specs.Pairing.{row, asked_of}
+use Rattle.interference.specs.Remembering.{AreRight}
 use Rattle.interference.proofs.partners.partner.Given as goal
 
 abbrev pub invariant-loop-b : goal.invariant-loop-b
-invariant-loop-b g l = row (asked_of l.asked) l.items l.a l.fn.from ≡ row (asked_of l.asked) l.items l.a l.b
+invariant-loop-b g l = record {
+  passed : row (asked_of l.asked) l.items l.a l.fn.from ≡ row (asked_of l.asked) l.items l.a l.b;
+  memory : AreRight l.items l.memory.answers;
+}

@@ -12,7 +12,7 @@ pub returns-clause-declared : goal.returns-clause-declared
 returns-clause-declared g c =
     let v = c.get.ensures.value in
     let space = c.args.space in
-    let found = c.self.invariant.4 in
+    let found = c.self.invariant.5 in
     let is = λ (t : Tables). IsSome (space_of (decls_of t) space) in (
       λ some. subst is c.self.view_is (found.paths.declared space (grind (arith, common_steps, v, some))),
       λ known.
