@@ -414,6 +414,31 @@ req 2 1 1 1 rw ex
 req 1 1 1 1 rw ex
 req 1 1 1 2 ro ex
 req 1 1 1 1 ro ex
+= task: 9 SelfInterference
+req 1 1 1 2 ro ex
+req 1 1 1 1 rw ex
+req 1 1 1 1 ro ex
+= task: 10 SelfInterference
+req 1 1 1 1 ro ex
+req 1 1 1 2 ro ex
+req 1 1 1 2 ro ex
+req 1 1 1 2 rw ex
+= tasks: none
+req 1 1 1 1 rw ex
+req 2 1 1 2 rw ex
+req 1 1 1 2 rw ex
+req 2 1 1 1 rw ex
+= tasks: 12 SelfInterference
+req 1 1 1 1 rw ex
+req 2 1 1 2 rw ex
+req 1 1 1 2 ro ex
+req 2 1 1 2 ro ex
+= tasks: 13 SelfInterference
+req 1 1 1 1 ro ex
+req 2 1 1 2 rw ex
+req 1 1 1 2 rw ex
+req 2 1 1 1 ro ex
+req 1 1 1 2 ro ex
 = task: 10 WrongTree
 tree 2 1 1
 req 1 1 1 1 rw ex

@@ -1,21 +1,23 @@
 -- How claimed places tell whether a requirement interferes with those of its task.
-use Rattle.std.proofs.Common.{◌≡◌, ℕ, ◌+◌, ◌<◌, ◌==◌, Bool, true, false, not, ◌&&◌, ◌||◌, cond, List, [], ◌∷◌, take, length, get_or, Option, Some, refl, sym, ap, ◌∙◌, inl, inr}
+use Rattle.std.proofs.Common.{◌≡◌, ℕ, ◌+◌, ◌<◌, ◌==◌, Bool, true, false, not, ◌&&◌, ◌||◌, cond, List, [], ◌∷◌, take, length, get_or, Option, Some, None, is_some, refl, sym, ap, ◌∙◌, inl, inr}
 use Rattle.std.specs.List.{list_any}
+use Rattle.std.specs.Option.{option_map, option_map_or}
 use Rattle.std.proofs.lemmas.Bool.{cases_Bool, eqb-true}
 use Rattle.std.proofs.lemmas.List.Folds.{list_any_more}
+use Rattle.std.proofs.lemmas.List.Sums.{length-filter}
 use Rattle.privilege.specs.declared.kinds.Priv.{Priv}
 use Rattle.privilege.specs.Interference.{agree}
 use Rattle.spy_words.specs.declared.access.PrivWord.{PrivWord}
 use Rattle.spy_grammar.specs.declared.record.Record.TheVariants as records
 use Rattle.semantics.specs.declared.tables.Req.{Req}
-use Rattle.semantics.specs.Tables.{Tables, place_of, privilege_of}
+use Rattle.semantics.specs.Tables.{Tables, place_of, privilege_of, reqs_before}
 use Rattle.semantics.specs.Points.{is_in, meets, points_in}
-use Rattle.semantics.specs.Rules.{interferes_with_own}
+use Rattle.semantics.specs.Reads.{req_at}
 use Rattle.log_rules.specs.declared.claims.OwnPlace.{OwnPlace}
 use Rattle.log_rules.specs.declared.claims.Claims.{Claims}
-use Rattle.log_rules.specs.Own.{AreClaims, clashes, claims_at, clashes_at, clashes_row, same_place}
-use Rattle.log_rules.proofs.Members.{meets-turned}
-use Rattle.log_rules.proofs.ListTests.{list_any-alike, list_any-false, list_any-and, list_any-list_any}
+use Rattle.log_rules.specs.Own.{AreClaims, clashes, claims_at, clashes_with, clashes_own, first_clashes, req_clashes_at, clashes_at, first_clashes_at, clashes_in, clashes_row, same_place, claimed}
+use Rattle.log_rules.proofs.Members.{apart, meets_turned}
+use Rattle.log_rules.proofs.ListTests.{list_any-alike, list_any-false, list_any-and, list_any-or, list_any-list_any, is_some-find, find-none}
 
 -- Places that are one.
 pub and_left : (a b : Bool) → (a && b) ≡ true → a ≡ true
@@ -108,23 +110,58 @@ row_told true true d ns ms P F = sym (
     ∙ list_any-and (list_any ms F && d) ns P ∙ turned (list_any ms F && d) (list_any ns P)
     )
 
--- Whether a requirement interferes with those of its task is told place by place.
-pub interferes_with_own-by_place : (t : Tables) (task tree space : ℕ) (fields : List ℕ) (access : PrivWord) (atomic : Bool) → interferes_with_own t (records.Req task tree space fields access atomic) ≡ list_any (λ x. list_any (λ f. clashes_at t (record { item = place_of t.items task; tree = tree; point = x; field = f }) (privilege_of access)) fields) (points_in t space)
-interferes_with_own-by_place t task tree space fields access atomic =
-    let I = place_of t.items task in
+-- Whether a requirement clashes is told place by place.
+abbrev place : ℕ → ℕ → ℕ → ℕ → OwnPlace
+place item tree point field = record { item = item; tree = tree; point = point; field = field }
+
+clashes_with-by_place : (t : Tables) (item tree space : ℕ) (fields : List ℕ) (a : Priv) (r : Req) → clashes_with t item tree (points_in t space) fields a r ≡ list_any (λ x. list_any (λ f. req_clashes_at t (place item tree x f) a r) fields) (points_in t space)
+clashes_with-by_place t item tree space fields a r =
     let P = points_in t space in
-    let a = privilege_of access in
-    let row : Req → ℕ → ℕ → Bool = λ r x f. claims_at r.item r.tree (points_in t r.space) r.fields r.access (record { item = I; tree = tree; point = x; field = f }) a in
-    list_any-alike _ (λ r. list_any (λ x. list_any (λ f. row r x f) fields) P) t.reqs
-    (λ r.
-    ap (λ b. (r.item == I) && ((r.tree == tree) && (b && (meets r.fields fields && not (agree r.access a))))) (meets-turned (points_in t r.space) P)
-    ∙ ap (λ b. (r.item == I) && ((r.tree == tree) && (meets P (points_in t r.space) && (b && not (agree r.access a))))) (meets-turned r.fields fields)
-    ∙ row_told (r.item == I) (r.tree == tree) (not (agree r.access a)) (is_in (points_in t r.space)) (is_in r.fields) P fields)
+    ap (λ b. (r.item == item) && ((r.tree == tree) && (b && (meets r.fields fields && not (agree r.access a))))) (meets_turned (points_in t r.space) P)
+    ∙ ap (λ b. (r.item == item) && ((r.tree == tree) && (meets P (points_in t r.space) && (b && not (agree r.access a))))) (meets_turned r.fields fields)
+    ∙ row_told (r.item == item) (r.tree == tree) (not (agree r.access a)) (is_in (points_in t r.space)) (is_in r.fields) P fields
+
+-- So is whether the first requirement does, and whether some requirement does.
+first_clashes-by_place : (t : Tables) (item tree space : ℕ) (fields : List ℕ) (a : Priv) → first_clashes t item tree space fields a ≡ list_any (λ x. list_any (λ f. first_clashes_at t (place item tree x f) a) fields) (points_in t space)
+first_clashes-by_place t item tree space fields a = by (req_at t item 1)
+  where
+    by : (o : Option Req) → option_map_or (clashes_with t item tree (points_in t space) fields a) o false ≡ list_any (λ x. list_any (λ f. option_map_or (req_clashes_at t (place item tree x f) a) o false) fields) (points_in t space)
+    by None = sym (list_any-alike _ (λ x. false) (points_in t space) (λ x. list_any-false fields) ∙ list_any-false (points_in t space))
+    by (Some r) = clashes_with-by_place t item tree space fields a r
+
+clashes_own-by_place : (t : Tables) (item tree space : ℕ) (fields : List ℕ) (a : Priv) → clashes_own t item tree space fields a ≡ list_any (λ x. list_any (λ f. clashes_at t (place item tree x f) a) fields) (points_in t space)
+clashes_own-by_place t item tree space fields a =
+    let P = points_in t space in
+    let row : Req → ℕ → ℕ → Bool = λ r x f. req_clashes_at t (place item tree x f) a r in
+    list_any-alike _ (λ r. list_any (λ x. list_any (λ f. row r x f) fields) P) t.reqs (clashes_with-by_place t item tree space fields a)
     ∙ list_any-list_any (λ r x. list_any (row r x) fields) t.reqs P
     ∙ list_any-alike _ _ P (λ x. list_any-list_any (λ r f. row r x f) t.reqs fields)
 
--- The claims tell it.
-pub interferes_with_own-by_claims : (t : Tables) (c : Claims) (task tree space : ℕ) (fields : List ℕ) (access : PrivWord) (atomic : Bool) → AreClaims t c → list_any (clashes_row c (place_of t.items task) tree fields (privilege_of access)) (points_in t space) ≡ interferes_with_own t (records.Req task tree space fields access atomic)
-interferes_with_own-by_claims t c task tree space fields access atomic are =
-    list_any-alike _ _ (points_in t space) (λ x. list_any-alike _ _ fields (λ f. are (record { item = place_of t.items task; tree = tree; point = x; field = f }) (privilege_of access)))
-    ∙ sym (interferes_with_own-by_place t task tree space fields access atomic)
+-- The first requirement and the claims tell whether some requirement does.
+pub own_by_claims : (t : Tables) (c : Claims) (item tree space : ℕ) (fields : List ℕ) (a : Priv) → AreClaims t c → (first_clashes t item tree space fields a || list_any (clashes_row c item tree fields a) (points_in t space)) ≡ clashes_own t item tree space fields a
+own_by_claims t c item tree space fields a are =
+    let P = points_in t space in
+    let first : ℕ → ℕ → Bool = λ x f. first_clashes_at t (place item tree x f) a in
+    let kept : ℕ → ℕ → Bool = λ x f. clashes_in c (place item tree x f) a in
+    ap (λ b. b || list_any (λ x. list_any (kept x) fields) P) (first_clashes-by_place t item tree space fields a)
+    ∙ sym (list_any-or (λ x. list_any (first x) fields) (λ x. list_any (kept x) fields) P)
+    ∙ list_any-alike _ _ P (λ x. sym (list_any-or (first x) (kept x) fields) ∙ list_any-alike _ _ fields (λ f. are (place item tree x f) a))
+    ∙ sym (clashes_own-by_place t item tree space fields a)
+
+-- An item with no requirements has none that clashes.
+pub own_alone : (t : Tables) (item tree space : ℕ) (fields : List ℕ) (a : Priv) → reqs_before t.reqs item ≡ 0 → clashes_own t item tree space fields a ≡ false
+own_alone t item tree space fields a none =
+    let p : Req → Bool = λ r. r.item == item in
+    let q : Req → Bool = clashes_with t item tree (points_in t space) fields a in
+    sym (is_some-find (λ (r : Req). r) q t.reqs)
+    ∙ ap (λ o. is_some (option_map (λ (r : Req). r) o))
+    (find-none p (λ (r : Req). (r.tree == tree) && (meets (points_in t r.space) (points_in t space) && (meets r.fields fields && not (agree r.access a)))) t.reqs (length-filter p t.reqs ∙ none))
+
+-- What a requirement claims, if it is the first of its item or a later one.
+pub first_claims_nothing : (t : Tables) (task tree space : ℕ) (fields : List ℕ) (access : PrivWord) (atomic : Bool) → reqs_before t.reqs (place_of t.items task) ≡ 0 → (k : OwnPlace) (a : Priv) → claimed t (records.Req task tree space fields access atomic) k a ≡ false
+first_claims_nothing t task tree space fields access atomic none k a =
+    ap (λ n. not (n == 0) && claims_at (place_of t.items task) tree (points_in t space) fields (privilege_of access) k a) none
+
+pub later_claims_all : (t : Tables) (task tree space : ℕ) (fields : List ℕ) (access : PrivWord) (atomic : Bool) → (reqs_before t.reqs (place_of t.items task) ≡ 0 → ⊥) → (k : OwnPlace) (a : Priv) → claimed t (records.Req task tree space fields access atomic) k a ≡ claims_at (place_of t.items task) tree (points_in t space) fields (privilege_of access) k a
+later_claims_all t task tree space fields access atomic some k a =
+    ap (λ b. not b && claims_at (place_of t.items task) tree (points_in t space) fields (privilege_of access) k a) (apart (reqs_before t.reqs (place_of t.items task)) 0 some)

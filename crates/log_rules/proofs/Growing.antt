@@ -1,10 +1,11 @@
 -- What one record more adds to tables, and what it leaves as it was.
-use Rattle.std.proofs.Common.{◌≡◌, ℕ, ◌+◌, ◌*◌, ◌-◌, ◌<◌, ◌≤◌, ◌==◌, ◌^◌, nat_lt, Bool, true, false, not, ◌&&◌, ◌||◌, List, [], ◌∷◌, ◌++◌, map, min, find, flat_map, length, Option, Some, None, is_some, unwrap_or, refl, sym, ap, ◌∙◌, append_assoc, lit<, inl, inr, arith}
+use Rattle.std.proofs.Common.{◌≡◌, ℕ, ◌+◌, ◌*◌, ◌-◌, ◌<◌, ◌≤◌, ◌==◌, ◌^◌, nat_lt, Bool, true, false, not, ◌&&◌, ◌||◌, List, [], ◌∷◌, ◌++◌, map, find, flat_map, length, Option, Some, None, refl, sym, ap, ◌∙◌, append_assoc, lit<, inl, inr, arith}
 use Rattle.std.specs.List.{list_any, list_all}
-use Rattle.std.specs.Option.{option_map_or, option_or}
-use Rattle.std.proofs.lemmas.Bool.{cases_Bool}
+use Rattle.std.specs.Option.{option_map_or}
+use Rattle.std.proofs.lemmas.Bool.{cases_Bool, eqb-true}
 use Rattle.std.proofs.lemmas.Bool.Decides.{nat_tests}
-use Rattle.std.proofs.lemmas.List.Folds.{list_any-append, list_all-append, find-append}
+use Rattle.std.proofs.lemmas.List.Folds.{list_any-append}
+use Rattle.std.proofs.lemmas.List.Sums.{length-filter}
 use Rattle.privilege.specs.declared.kinds.Priv.{Priv}
 use Rattle.privilege.specs.Interference.{agree}
 use Rattle.spy_grammar.specs.declared.record.Record.{Record}
@@ -18,10 +19,12 @@ use Rattle.semantics.specs.SerialOrder.{listed}
 use Rattle.semantics.specs.Rules.{total, size_of, accesses, is_declared, space_id, names, names_unknown, lacks_req, has_many_points, has_many_cells, has_many_accesses}
 use Rattle.log_rules.specs.declared.claims.OwnPlace.{OwnPlace}
 use Rattle.log_rules.specs.Counts.{point_total, cell_total, access_total, points_asked, cells_asked, asked, cut}
-use Rattle.log_rules.specs.Listing.{IsSetOf, ids_listed}
-use Rattle.log_rules.specs.Own.{claims_at, clashes_at, claimed}
-use Rattle.log_rules.specs.Tallied.{knows_space, AreKnown, MayCount}
+use Rattle.log_rules.specs.Listing.{ids_listed}
+use Rattle.log_rules.specs.declared.claims.Claims.{Claims}
+use Rattle.log_rules.specs.Own.{Adds, AreClaims, claims_at, claimed, clashes_in, clashes_at, first_clashes_at, req_clashes_at}
+use Rattle.log_rules.specs.Tallied.{knows_space, AreKnown}
 use Rattle.log_rules.proofs.Limits.{accesses-asked}
+use Rattle.log_rules.proofs.ListTests.{find-none, find-kept, find-last}
 
 nil : {A : Type 0} (xs : List A) → xs ≡ xs ++ []
 nil [] = refl
@@ -158,7 +161,7 @@ access_total-add earlier t line r known named =
     let l = accesses-grow t u r g (knows_asked t r (knows_all t r named)) in
     omega (arith, h, e, l)
 
--- ---- Sets and claims.
+-- ---- Listed items.
 
 is_in-append : (xs ys : List ℕ) (n : ℕ) → is_in (xs ++ ys) n ≡ (is_in xs n || is_in ys n)
 is_in-append xs ys n = list_any-append (λ m. m == n) xs ys
@@ -167,7 +170,7 @@ flat_map-append : (xs ys : List serials.Serial) → flat_map (λ (s : serials.Se
 flat_map-append [] ys = refl
 flat_map-append (x ∷ xs) ys = ap (λ (zs : List ℕ). x.ids ++ zs) (flat_map-append xs ys) ∙ sym (append_assoc x.ids (flat_map (λ (s : serials.Serial). s.ids) xs) (flat_map (λ (s : serials.Serial). s.ids) ys))
 
-or_false : (b : Bool) → b ≡ (b || false)
+pub or_false : (b : Bool) → b ≡ (b || false)
 or_false true = refl
 or_false false = refl
 
@@ -178,18 +181,89 @@ listed-add t line (Serial ids) n =
     ∙ ap (λ (xs : List ℕ). is_in (listed t) n || is_in xs n) (sym (nil ids))
 listed-add t line _ n = or_false (is_in (listed t) n)
 
-pub clashes_at-add : (t : Tables) (line : ℕ) (r : Record) (k : OwnPlace) (a : Priv) → list_all (λ (q : reqs.Req). is_declared t (space_id q.space)) t.reqs ≡ true → clashes_at (with_record t line r) k a ≡ (clashes_at t k a || claimed t r k a)
-clashes_at-add t line (Req task tree space fields access atomic) k a known =
-    let one : reqs.Req = record { item = place_of t.items task; number = reqs_before t.reqs (place_of t.items task) + 1; line = line; tree = tree; space = space; fields = fields; access = privilege_of access; coherence = coherence_of atomic } in
-    list_any-append (λ (q : reqs.Req). claims_at q.item q.tree (points_in t q.space) q.fields q.access k a) t.reqs (one ∷ [])
-    ∙ ap (λ b. clashes_at t k a || b) (sym (or_false (claims_at (place_of t.items task) tree (points_in t space) fields (privilege_of access) k a)))
-clashes_at-add t line (Ispace id set) k a known =
+-- ---- Claims.
+
+found-known : {A : Type 0} (p q f g : A → Bool) (xs : List A) → ((x : A) → p x ≡ true → f x ≡ g x) → list_all p xs ≡ true → option_map_or f (find q xs) false ≡ option_map_or g (find q xs) false
+found-known p q f g [] same all = refl
+found-known p q f g (x ∷ xs) same all =
+    elim (cases_Bool (q x)) [
+      | inl hit ↦ rw hit (same x (and_left (p x) (list_all p xs) all))
+      | inr miss ↦ rw miss (found-known p q f g xs same (and_right (p x) (list_all p xs) all))
+    ]
+
+or_assoc : (a b c : Bool) → (a || (b || c)) ≡ ((a || b) || c)
+or_assoc true b c = refl
+or_assoc false b c = refl
+
+or_turned : (a b : Bool) → (a || b) ≡ (b || a)
+or_turned true true = refl
+or_turned true false = refl
+or_turned false true = refl
+or_turned false false = refl
+
+-- What is added to the claims, where the first requirement stays, and where the record is the first.
+added : (first first2 old new at more : Bool) → first2 ≡ first → (first || old) ≡ at → new ≡ (old || more) → (first2 || new) ≡ (at || more)
+added first first2 old new at more same is adds = ap (λ b. b || new) same ∙ ap (λ b. first || b) adds ∙ or_assoc first old more ∙ ap (λ b. b || more) is
+
+started : (first first2 old new at more : Bool) → first ≡ false → first2 ≡ more → (first || old) ≡ at → new ≡ (old || false) → (first2 || new) ≡ (at || more)
+started first first2 old new at more none one is adds =
+    ap (λ b. b || new) one ∙ ap (λ b. more || b) (adds ∙ sym (or_false old) ∙ sym (ap (λ b. b || old) none) ∙ is) ∙ or_turned more at
+
+req_clashes_at-grow : (t u : Tables) (k : OwnPlace) (a : Priv) → Grows t u → (q : reqs.Req) → is_declared t (space_id q.space) ≡ true → req_clashes_at u k a q ≡ req_clashes_at t k a q
+req_clashes_at-grow t u k a g q here = ap (λ (xs : List ℕ). claims_at q.item q.tree xs q.fields q.access k a) (g.points q.space here)
+
+pub AreClaims-add : (t : Tables) (line : ℕ) (r : Record) (old new : Claims) → AreClaims t old → list_all (λ (q : reqs.Req). is_declared t (space_id q.space)) t.reqs ≡ true → Adds old new (claimed t r) → AreClaims (with_record t line r) new
+AreClaims-add t line (Req task tree space fields access atomic) old new are known adds = λ k a.
+    let I = place_of t.items task in
+    let n = reqs_before t.reqs I in
+    let one : reqs.Req = record { item = I; number = n + 1; line = line; tree = tree; space = space; fields = fields; access = privilege_of access; coherence = coherence_of atomic } in
+    let more = claims_at I tree (points_in t space) fields (privilege_of access) k a in
+    let p : reqs.Req → Bool = λ q. (q.item == k.item) && (q.number == 1) in
+    let f : reqs.Req → Bool = req_clashes_at t k a in
+    let first = option_map_or f (find p t.reqs) false in
+    let first2 = option_map_or f (find p (t.reqs ++ one ∷ [])) false in
+    let kept : p one ≡ false → first2 ≡ first = λ other. ap (λ o. option_map_or f o false) (find-kept p t.reqs one other) in
+    (elim (cases_Bool (n == 0)) [
+      | inl none ↦
+          elim (cases_Bool (I == k.item)) [
+            | inl ours ↦
+                let few : reqs_before t.reqs k.item ≡ 0 = ap (reqs_before t.reqs) (sym (eqb-true I k.item ours)) ∙ eqb-true n 0 none in
+                let no : find p t.reqs ≡ None = find-none (λ (q : reqs.Req). q.item == k.item) (λ (q : reqs.Req). q.number == 1) t.reqs (length-filter (λ (q : reqs.Req). q.item == k.item) t.reqs ∙ few) in
+                let yes_one : p one ≡ true = ap (λ b. b && (n + 1 == 1)) ours ∙ ap (λ m. m + 1 == 1) (eqb-true n 0 none) in
+                started first first2 (clashes_in old k a) (clashes_in new k a) (clashes_at t k a) more
+                (ap (λ o. option_map_or f o false) no)
+                (ap (λ o. option_map_or f o false) (find-last p t.reqs one no yes_one))
+                (are k a)
+                (adds k a ∙ ap (λ b. clashes_in old k a || (not b && more)) none)
+            | inr other ↦
+                added first first2 (clashes_in old k a) (clashes_in new k a) (clashes_at t k a) more
+                (kept (ap (λ b. b && (n + 1 == 1)) other))
+                (are k a)
+                (adds k a ∙ ap (λ b. clashes_in old k a || (not b && more)) none
+                ∙ sym (ap (λ b. clashes_in old k a || (b && ((tree == k.tree) && (is_in (points_in t space) k.point && (is_in fields k.field && not (agree (privilege_of access) a)))))) other))
+          ]
+      | inr some ↦
+          added first first2 (clashes_in old k a) (clashes_in new k a) (clashes_at t k a) more
+          (kept (later (I == k.item) n some))
+          (are k a)
+          (adds k a ∙ ap (λ b. clashes_in old k a || (not b && more)) some)
+    ])
+    ∙ ap (λ b. clashes_at t k a || b) (or_false more)
+    ∙ sym (list_any-append f t.reqs (one ∷ []))
+  where
+    later : (b : Bool) (n : ℕ) → (n == 0) ≡ false → (b && (n + 1 == 1)) ≡ false
+    later true n some = grind (arith, nat_tests)
+    later false n some = refl
+AreClaims-add t line (Ispace id set) old new are known adds = λ k a.
     let u = with_record t line (Ispace id set) in
     let g = grows t line (Ispace id set) in
-    any-known (λ (q : reqs.Req). is_declared t (space_id q.space)) (λ (q : reqs.Req). claims_at q.item q.tree (points_in u q.space) q.fields q.access k a) (λ (q : reqs.Req). claims_at q.item q.tree (points_in t q.space) q.fields q.access k a) t.reqs
-    (λ (q : reqs.Req) here. ap (λ (xs : List ℕ). claims_at q.item q.tree xs q.fields q.access k a) (g.points q.space here)) known
-    ∙ or_false (clashes_at t k a)
-clashes_at-add t line _ k a known = or_false (clashes_at t k a)
+    let here = λ (q : reqs.Req). is_declared t (space_id q.space) in
+    ap (λ b. b || clashes_in new k a) (found-known here (λ (q : reqs.Req). (q.item == k.item) && (q.number == 1)) (req_clashes_at u k a) (req_clashes_at t k a) t.reqs (req_clashes_at-grow t u k a g) known)
+    ∙ ap (λ b. first_clashes_at t k a || b) (adds k a ∙ sym (or_false (clashes_in old k a)))
+    ∙ are k a
+    ∙ sym (any-known here (req_clashes_at u k a) (req_clashes_at t k a) t.reqs (req_clashes_at-grow t u k a g) known)
+AreClaims-add t line _ old new are known adds = λ k a.
+    ap (λ b. first_clashes_at t k a || b) (adds k a ∙ sym (or_false (clashes_in old k a))) ∙ are k a
 
 -- ---- What is known stays known.
 

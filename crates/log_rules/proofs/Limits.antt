@@ -1,13 +1,12 @@
 -- Sums that are counted, and their limits.
-use Rattle.std.proofs.Common.{◌≡◌, ℕ, zero, suc, ◌+◌, ◌-◌, ◌*◌, ◌<◌, ◌≤◌, nat_lt, Bool, List, [], ◌∷◌, ◌++◌, map, min, take, length, get_or, Option, Some, None, refl, sym, ap, ◌∙◌, arith}
+use Rattle.std.proofs.Common.{◌≡◌, ℕ, zero, suc, ◌+◌, ◌-◌, ◌<◌, List, [], ◌∷◌, ◌++◌, min, take, length, get_or, refl, ap, ◌∙◌, arith}
 use Rattle.std.specs.Option.{option_map_or}
-use Rattle.std.proofs.lemmas.Bool.Decides.{nat_tests}
 use Rattle.std.proofs.lemmas.List.{take_more}
 use Rattle.spy_grammar.specs.declared.record.Record.{Record}
 use Rattle.spy_grammar.specs.declared.record.Record.TheVariants.{Req, Fill, Copy, Put, Reset, Fold}
 use Rattle.semantics.specs.Tables.{Tables, numbers_from, points_of}
-use Rattle.semantics.specs.Rules.{total, size_of, accesses}
-use Rattle.log_rules.specs.Counts.{cut, asked}
+use Rattle.semantics.specs.Rules.{size_of, accesses}
+use Rattle.log_rules.specs.Counts.{asked}
 
 pub cut-add : (a b m : ℕ) → min (min a m + b) m ≡ min (a + b) m
 cut-add a b m = omega arith

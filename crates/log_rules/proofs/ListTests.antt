@@ -1,8 +1,9 @@
 -- Tests of the members of lists.
-use Rattle.std.proofs.Common.{◌≡◌, Bool, true, false, ◌&&◌, ◌||◌, cond, List, [], ◌∷◌, find, Some, is_some, refl, sym, ap, ◌∙◌, inl, inr}
+use Rattle.std.proofs.Common.{◌≡◌, ℕ, suc, Bool, true, false, ◌&&◌, ◌||◌, cond, List, [], ◌∷◌, ◌++◌, filter, length, find, Option, Some, None, is_some, refl, sym, ap, ◌∙◌, inl, inr, arith}
 use Rattle.std.specs.List.{list_any, list_all}
-use Rattle.std.specs.Option.{option_map}
+use Rattle.std.specs.Option.{option_map, option_or}
 use Rattle.std.proofs.lemmas.Bool.{cases_Bool}
+use Rattle.std.proofs.lemmas.List.Folds.{find-append}
 
 pub list_any-alike : {X : Type 0} (p q : X → Bool) (xs : List X) → ((x : X) → p x ≡ q x) → list_any p xs ≡ list_any q xs
 list_any-alike p q [] e = refl
@@ -43,3 +44,28 @@ is_some-find f p (x ∷ xs) =
       | inr miss ↦
           ap (λ b. is_some (option_map f (cond b (Some x) (find p xs)))) miss ∙ is_some-find f p xs ∙ sym (ap (λ b. b || list_any p xs) miss)
     ]
+
+-- What a list is searched for, where no element passes a weaker test.
+pub find-none : {X : Type 0} (p q : X → Bool) (xs : List X) → length (filter p xs) ≡ 0 → find (λ x. p x && q x) xs ≡ None
+find-none p q [] none = refl
+find-none p q (x ∷ xs) none =
+    elim (cases_Bool (p x)) [
+      | inl hit ↦ absurd (no (length (filter p xs)) (sym (ap (λ b. length (cond b (x ∷ filter p xs) (filter p xs))) hit) ∙ none))
+      | inr miss ↦
+          ap (λ b. cond (b && q x) (Some x) (find (λ y. p y && q y) xs)) miss
+          ∙ find-none p q xs (sym (ap (λ b. length (cond b (x ∷ filter p xs) (filter p xs))) miss) ∙ none)
+    ]
+  where
+    no : (n : ℕ) → suc n ≡ 0 → ⊥
+    no n e = omega (arith, e)
+
+-- What a list with one element more is searched for.
+or_none : {X : Type 0} (o : Option X) → option_or o None ≡ o
+or_none None = refl
+or_none (Some x) = refl
+
+pub find-kept : {X : Type 0} (p : X → Bool) (xs : List X) (x : X) → p x ≡ false → find p (xs ++ x ∷ []) ≡ find p xs
+find-kept p xs x miss = find-append p xs (x ∷ []) ∙ ap (λ b. option_or (find p xs) (cond b (Some x) None)) miss ∙ or_none (find p xs)
+
+pub find-last : {X : Type 0} (p : X → Bool) (xs : List X) (x : X) → find p xs ≡ None → p x ≡ true → find p (xs ++ x ∷ []) ≡ Some x
+find-last p xs x none hit = find-append p xs (x ∷ []) ∙ ap (λ o. option_or o (find p (x ∷ []))) none ∙ ap (λ b. cond b (Some x) None) hit

@@ -1,6 +1,6 @@
 -- How counts of places tell the load of a log.
-use Rattle.std.proofs.Common.{◌≡◌, ℕ, suc, ◌+◌, ◌-◌, ◌<◌, ◌≤◌, ◌==◌, ◌^◌, Bool, true, false, ◌&&◌, ◌||◌, cond, List, [], ◌∷◌, ◌++◌, map, min, filter, flat_map, take, length, get_or, Contains, Option, Some, None, unwrap_or, refl, sym, ap, ◌∙◌, zero-add, inl, inr, arith}
-use Rattle.std.specs.List.{list_any, AllPairs}
+use Rattle.std.proofs.Common.{◌≡◌, ℕ, suc, ◌+◌, ◌<◌, ◌==◌, Bool, true, false, ◌&&◌, ◌||◌, cond, List, [], ◌∷◌, ◌++◌, map, take, length, get_or, Option, Some, unwrap_or, refl, sym, ap, ◌∙◌, zero-add, inl, inr, arith}
+use Rattle.std.specs.List.{AllPairs}
 use Rattle.std.specs.List.Sorted.{IsStrictlyIncreasing}
 use Rattle.std.proofs.lemmas.Bool.{cases_Bool, eqb-true}
 use Rattle.std.proofs.lemmas.Bool.Decides.{nat_tests}
@@ -12,7 +12,7 @@ use Rattle.semantics.specs.declared.tables.Req.{Req}
 use Rattle.semantics.specs.declared.tables.Inst.{Inst}
 use Rattle.semantics.specs.Tables.{Tables}
 use Rattle.semantics.specs.Points.{is_in, points_in}
-use Rattle.semantics.specs.Kinds.{grid, covers}
+use Rattle.semantics.specs.Kinds.{grid}
 use Rattle.semantics.specs.Rules.{total, load_of, reduces}
 use Rattle.log_rules.specs.declared.load.LoadPlace.{LoadPlace}
 use Rattle.log_rules.specs.Counts.{cut}

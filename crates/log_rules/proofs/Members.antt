@@ -22,7 +22,7 @@ rises xs up i j le lt =
       | inr ne ↦ let less : i < j = omega arith in let h : get_or xs i 0 < get_or xs j 0 = AllPairs-from_increasing xs up i j 0 less lt in omega arith
     ]
 
-apart : (a b : ℕ) → (a ≡ b → ⊥) → (a == b) ≡ false
+pub apart : (a b : ℕ) → (a ≡ b → ⊥) → (a == b) ≡ false
 apart a b ne = grind (arith, nat_tests)
 
 pub get_or_any : (xs : List ℕ) (k d : ℕ) → k < length xs → get_or xs k d ≡ get_or xs k 0
@@ -70,8 +70,8 @@ is_empty-told (Some p) [] least = absurd (omega (arith, least.0.1))
 is_empty-told (Some p) (x ∷ xs) least = refl
 
 -- Whether two lists meet does not depend on their order.
-pub meets-turned : (ns ms : List ℕ) → meets ns ms ≡ meets ms ns
-meets-turned ns ms =
+pub meets_turned : (ns ms : List ℕ) → meets ns ms ≡ meets ms ns
+meets_turned ns ms =
     list_any-list_any (λ n m. m == n) ns ms
     ∙ list_any-alike (λ m. list_any (λ n. m == n) ns) (is_in ns) ms (λ m. list_any-alike (λ n. m == n) (λ n. n == m) ns (λ n. eq_turned m n))
   where

@@ -1,14 +1,16 @@
 -- Places that the requirements of tasks claim.
-use Rattle.std.specs.Prelude.{◌≡◌, ℕ, ◌==◌, Bool, true, false, not, ◌&&◌, List, Option, Some, None}
+use Rattle.std.specs.Prelude.{◌≡◌, ℕ, ◌==◌, Bool, true, false, not, ◌&&◌, ◌||◌, List, Option, Some, None}
 use Rattle.std.specs.HashMap.{get}
+use Rattle.std.specs.Option.{option_map_or}
 use Rattle.std.specs.List.{list_any}
 use Rattle.privilege.specs.declared.kinds.Priv.{Priv}
 use Rattle.privilege.specs.Interference.{agree}
 use Rattle.semantics.specs.declared.tables.Req.{Req}
 use Rattle.spy_grammar.specs.declared.record.Record.{Record}
 use Rattle.spy_grammar.specs.declared.record.Record.TheVariants as records
-use Rattle.semantics.specs.Tables.{Tables, place_of, privilege_of}
+use Rattle.semantics.specs.Tables.{Tables, place_of, privilege_of, reqs_before}
 use Rattle.semantics.specs.Points.{is_in, meets, points_in}
+use Rattle.semantics.specs.Reads.{req_at}
 use Rattle.log_rules.specs.declared.claims.OwnPlace.{OwnPlace}
 use Rattle.log_rules.specs.declared.claims.Claims.{Claims}
 
@@ -20,9 +22,25 @@ claims_at item tree points fields access k a = (item == k.item) && ((tree == k.t
 abbrev pub clashes_with : Tables → ℕ → ℕ → List ℕ → List ℕ → Priv → Req → Bool
 clashes_with t item tree points fields access r = (r.item == item) && ((r.tree == tree) && (meets (points_in t r.space) points && (meets r.fields fields && not (agree r.access access))))
 
+-- Whether some requirement clashes so with one of this item, tree, space, fields and privilege.
+abbrev pub clashes_own : Tables → ℕ → ℕ → ℕ → List ℕ → Priv → Bool
+clashes_own t item tree space fields access = list_any (clashes_with t item tree (points_in t space) fields access) t.reqs
+
+-- Whether the first requirement of the item does.
+abbrev pub first_clashes : Tables → ℕ → ℕ → ℕ → List ℕ → Priv → Bool
+first_clashes t item tree space fields access = option_map_or (clashes_with t item tree (points_in t space) fields access) (req_at t item 1) false
+
+-- Whether a requirement is at a place and does not agree with a privilege there.
+abbrev pub req_clashes_at : Tables → OwnPlace → Priv → Req → Bool
+req_clashes_at t k a r = claims_at r.item r.tree (points_in t r.space) r.fields r.access k a
+
 -- Whether some requirement of the item at the place does not agree with a privilege.
 abbrev pub clashes_at : Tables → OwnPlace → Priv → Bool
-clashes_at t k a = list_any (λ (r : Req). claims_at r.item r.tree (points_in t r.space) r.fields r.access k a) t.reqs
+clashes_at t k a = list_any (req_clashes_at t k a) t.reqs
+
+-- Whether the first requirement of the item is at the place and does not agree with a privilege.
+abbrev pub first_clashes_at : Tables → OwnPlace → Priv → Bool
+first_clashes_at t k a = option_map_or (req_clashes_at t k a) (req_at t k.item 1) false
 
 -- What is kept of a place: nothing if no requirement is there, a privilege that agrees with what all of them agree with, or that no privilege does.
 abbrev pub clashes : Option (Option Priv) → Priv → Bool
@@ -42,11 +60,17 @@ clashes_in c k a = clashes (get same_place c.places k) a
 abbrev pub clashes_row : Claims → ℕ → ℕ → List ℕ → Priv → ℕ → Bool
 clashes_row c item tree fields access point = list_any (λ f. clashes_in c (record { item = item; tree = tree; point = point; field = f }) access) fields
 
--- What is kept of all places is right.
+-- At each place the first requirement of the item and what is kept there tell together whether some requirement of the item clashes.
 abbrev pub AreClaims : Tables → Claims → Type 0
-AreClaims t c = (k : OwnPlace) (a : Priv) → clashes_in c k a ≡ clashes_at t k a
+AreClaims t c = (k : OwnPlace) (a : Priv) → (first_clashes_at t k a || clashes_in c k a) ≡ clashes_at t k a
 
--- Whether a record is a requirement that is at a place and does not agree with a privilege there.
+-- What clashes with the claims is what did before, and what clashes with these further ones.
+abbrev pub Adds : Claims → Claims → (OwnPlace → Priv → Bool) → Type 0
+Adds old new more = (k : OwnPlace) (a : Priv) → clashes_in new k a ≡ (clashes_in old k a || more k a)
+
+-- Whether a record is a requirement, but not the first of its item, that is at a place and does not agree with a privilege there.
 abbrev pub claimed : Tables → Record → OwnPlace → Priv → Bool
-claimed t (records.Req task tree space fields access atomic) k a = claims_at (place_of t.items task) tree (points_in t space) fields (privilege_of access) k a
+claimed t (records.Req task tree space fields access atomic) k a =
+    not (reqs_before t.reqs (place_of t.items task) == 0)
+    && claims_at (place_of t.items task) tree (points_in t space) fields (privilege_of access) k a
 claimed t _ k a = false

@@ -1,5 +1,5 @@
 -- What is kept count of along a log.
-use Rattle.std.specs.Prelude.{◌≡◌, ◌≤◌, ℕ, nat_eq, Bool, true, false, List, Option, Some, None}
+use Rattle.std.specs.Prelude.{◌≡◌, ◌≤◌, nat_eq, Bool, true, false, List}
 use Rattle.std.specs.HashSet.{contains}
 use Rattle.std.specs.List.{list_all}
 use Rattle.std.specs.Option.{option_map_or}

@@ -4,7 +4,7 @@ ghost use Rattle.std.specs.Prelude.{◌≡◌, ◌==◌, ◌&&◌, ◌||◌, fal
 ghost use Rattle.std.specs.HashMap.{get};
 ghost use Rattle.std.specs.List.{list_any};
 ghost use Rattle.std.specs.Option.{option_copied};
-ghost use Rattle.log_rules.specs.Own.{clashes, clashes_in, same_place, claims_at, clashes_row};
+ghost use Rattle.log_rules.specs.Own.{Adds, clashes, clashes_in, same_place, claims_at, clashes_row};
 ghost use Rattle.log_rules.specs.declared.claims.OwnPlace.{OwnPlace};
 ghost use Rattle.privilege.specs.Interference.{agree};
 ghost use Rattle.privilege.specs.declared.kinds.Priv.{Priv};
@@ -123,7 +123,7 @@ impl Claims {
 
     /// One requirement more at a place.
     fn claim(&mut self, place: OwnPlace, access: Priv) -> Result<(), AllocError>
-        ensures { OnOk result ((k : OwnPlace) (a : Priv) → clashes_in self.new k a ≡ (clashes_in self.old k a || (same_place place k && not (agree access a)))) }
+        ensures { OnOk result (Adds self.old self.new (λ k a. same_place place k && not (agree access a))) }
     {
         let kept = self.places.get(&place).copied();
         let claim = joined(kept, access);
@@ -140,7 +140,7 @@ impl Claims {
         fields: &[u32],
         access: Priv,
     ) -> Result<(), AllocError>
-        ensures { OnOk result ((k : OwnPlace) (a : Priv) → clashes_in self.new k a ≡ (clashes_in self.old k a || claims_at item tree (point ∷ []) fields.now access k a)) }
+        ensures { OnOk result (Adds self.old self.new (claims_at item tree (point ∷ []) fields.now access)) }
     {
         for field in fields {
             let place = OwnPlace {
@@ -163,7 +163,7 @@ impl Claims {
         fields: &[u32],
         access: Priv,
     ) -> Result<(), AllocError>
-        ensures { OnOk result ((k : OwnPlace) (a : Priv) → clashes_in self.new k a ≡ (clashes_in self.old k a || claims_at item tree (P.points set.now) fields.now access k a)) }
+        ensures { OnOk result (Adds self.old self.new (claims_at item tree (P.points set.now) fields.now access)) }
     {
         for point in Points::of(set) {
             self.claim_at_point(item, tree, point, fields, access)?;

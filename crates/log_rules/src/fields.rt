@@ -21,9 +21,23 @@ pub(crate) fn is_within(ours: &[u32], theirs: &[u32]) -> bool
 }
 
 /// Whether some field of the first list is in the second, by a binary search for each.
-pub(crate) fn finds_any(ours: &[u32], theirs: &[u32]) -> bool
+fn finds_any(ours: &[u32], theirs: &[u32]) -> bool
     requires { IsStrictlyIncreasing theirs.now }
     ensures { result ≡ meets ours.now theirs.now }
 {
     ours.iter().any(|field| is_in(theirs, *field))
+}
+
+/// Whether two lists have a field in common, by a binary search for each field of the shorter one.
+#[tactic(auto, using(crate::proofs::Members::meets_turned))]
+pub(crate) fn meets(ours: &[u32], theirs: &[u32]) -> bool
+    requires ours { IsStrictlyIncreasing ours.now }
+    requires theirs { IsStrictlyIncreasing theirs.now }
+    ensures { result ≡ meets ours.now theirs.now }
+{
+    if ours.len() <= theirs.len() {
+        finds_any(ours, theirs)
+    } else {
+        finds_any(theirs, ours)
+    }
 }

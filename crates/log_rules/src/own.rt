@@ -9,11 +9,11 @@ ghost use Rattle.semantics.specs.Points.{points_in, meets};
 ghost use Rattle.semantics.specs.Tables.{place_of, privilege_of};
 ghost use Rattle.semantics.specs.Rules.{interferes_with_own};
 ghost use Rattle.log_tables.specs.Views.{Ascends};
-ghost use Rattle.log_rules.specs.Own.{clashes_with, clashes_row};
+ghost use Rattle.log_rules.specs.Own.{AreClaims, clashes_with, clashes_own, first_clashes, clashes_row};
 ghost use Rattle.log_rules.specs.Tallied.{IsTally};
 
 use crate::claims::{Claims, agree};
-use crate::fields::finds_any;
+use crate::fields::meets;
 use crate::tally::{Tally, has_many_accesses};
 use log_tables::{Draft, priv_of};
 use point_set::PointSet;
@@ -51,14 +51,15 @@ fn clashes_with<P: PointSet>(
     fields: &[u32],
     access: Priv,
 ) -> bool
-    requires { IsStrictlyIncreasing fields.now }
+    requires req { IsStrictlyIncreasing req.now.fields }
+    requires fields { IsStrictlyIncreasing fields.now }
     ensures { result ≡ clashes_with draft.now item tree (points_in draft.now space) fields.now access req.now }
 {
     req.item == item
         && req.tree == tree
-        && spaces_meet(draft, req.space, space)
-        && finds_any(req.fields.as_slice(), fields)
         && !agree(req.access, access)
+        && meets(req.fields.as_slice(), fields)
+        && spaces_meet(draft, req.space, space)
 }
 
 /// Whether some requirement of the item clashes so, requirement by requirement.
@@ -71,7 +72,7 @@ fn clashes_by_req<P: PointSet>(
     access: Priv,
 ) -> bool
     requires { IsStrictlyIncreasing fields.now }
-    ensures { result ≡ list_any (clashes_with draft.now item tree (points_in draft.now space) fields.now access) draft.now.reqs }
+    ensures { result ≡ clashes_own draft.now item tree space fields.now access }
 {
     for req in draft.reqs() {
         if clashes_with(draft, req, item, tree, space, fields, access) {
@@ -81,8 +82,26 @@ fn clashes_by_req<P: PointSet>(
     false
 }
 
-/// Whether some requirement of the item clashes so, place by place.
-fn clashes_by_place<P: PointSet>(
+/// Whether the first requirement of the item clashes so.
+fn first_clashes<P: PointSet>(
+    draft: &Draft<P>,
+    item: usize,
+    tree: u32,
+    space: u32,
+    fields: &[u32],
+    access: Priv,
+) -> bool
+    requires { IsStrictlyIncreasing fields.now }
+    ensures { result ≡ first_clashes draft.now item tree space fields.now access }
+{
+    match draft.req(item, 1) {
+        Some(first) => clashes_with(draft, first, item, tree, space, fields, access),
+        None => false,
+    }
+}
+
+/// Whether a privilege clashes with what is claimed at these fields of a space.
+fn clashes_with_claims<P: PointSet>(
     draft: &Draft<P>,
     claims: &Claims,
     item: usize,
@@ -99,9 +118,49 @@ fn clashes_by_place<P: PointSet>(
     }
 }
 
+/// Whether some requirement of the item clashes so: the first, or a later one, whose places are claimed.
+fn clashes_by_place<P: PointSet>(
+    draft: &Draft<P>,
+    claims: &Claims,
+    item: usize,
+    tree: u32,
+    space: u32,
+    fields: &[u32],
+    access: Priv,
+) -> bool
+    requires { IsStrictlyIncreasing fields.now }
+    ensures { AreClaims draft.now claims.now → result ≡ clashes_own draft.now item tree space fields.now access }
+{
+    first_clashes(draft, item, tree, space, fields, access)
+        || clashes_with_claims(draft, claims, item, tree, space, fields, access)
+}
+
+/// Whether some requirement of the item clashes so. The places are not gone through where nothing can clash, or where they may be too many.
+fn clashes_own<P: PointSet>(
+    draft: &Draft<P>,
+    claims: &Claims,
+    has_many: bool,
+    item: usize,
+    tree: u32,
+    space: u32,
+    fields: &[u32],
+    access: Priv,
+) -> bool
+    requires { IsStrictlyIncreasing fields.now }
+    ensures { AreClaims draft.now claims.now → result ≡ clashes_own draft.now item tree space fields.now access }
+{
+    if draft.req_count(item) == 0 {
+        false
+    } else if has_many {
+        clashes_by_req(draft, item, tree, space, fields, access)
+    } else {
+        clashes_by_place(draft, claims, item, tree, space, fields, access)
+    }
+}
+
 /// Whether a record is a requirement that shares a place with an earlier one of its task, where the two privileges do not agree.
 ///
-/// The places of the earlier requirements are claimed, and the accesses bound how many there are. A requirement that asks for too many accesses is held against each earlier one instead.
+/// It is held against the first of its task, and against the places that the others claim, of which the accesses bound how many there are. A requirement that asks for too many accesses is held against each earlier one instead.
 pub fn interferes_with_own<P: PointSet>(draft: &Draft<P>, tally: &Tally, rec: &Record) -> bool
     requires { Ascends rec.now }
     ensures { (earlier : List Record) → IsTally earlier draft.now tally.now → result ≡ interferes_with_own draft.now rec.now }
@@ -114,23 +173,16 @@ pub fn interferes_with_own<P: PointSet>(draft: &Draft<P>, tally: &Tally, rec: &R
             fields,
             access,
             ..
-        } => {
-            let item = draft.place(*task);
-            let access = priv_of(*access);
-            if has_many_accesses(draft, tally, rec) {
-                clashes_by_req(draft, item, *tree, *space, fields.as_slice(), access)
-            } else {
-                clashes_by_place(
-                    draft,
-                    &tally.claims,
-                    item,
-                    *tree,
-                    *space,
-                    fields.as_slice(),
-                    access,
-                )
-            }
-        }
+        } => clashes_own(
+            draft,
+            &tally.claims,
+            has_many_accesses(draft, tally, rec),
+            draft.place(*task),
+            *tree,
+            *space,
+            fields.as_slice(),
+            priv_of(*access),
+        ),
         _ => false,
     }
 }

@@ -2,13 +2,11 @@
 
 ghost use Rattle.std.specs.Prelude.{◌≡◌, ◌||◌, nat_eq, ℕ, List, [], ◌++◌, ◌∷◌, OnOk};
 ghost use Rattle.std.specs.HashSet.{contains};
-ghost use Rattle.privilege.specs.declared.kinds.Priv.{Priv};
 ghost use Rattle.spy_grammar.specs.declared.record.Record.{Record};
 ghost use Rattle.semantics.specs.Points.{is_in, points_in};
-ghost use Rattle.semantics.specs.Tables.{no_tables, with_record, place_of, privilege_of};
+ghost use Rattle.semantics.specs.Tables.{no_tables, with_record};
 ghost use Rattle.semantics.specs.Rules.{has_many_points, has_many_cells, has_many_accesses};
-ghost use Rattle.log_rules.specs.declared.claims.OwnPlace.{OwnPlace};
-ghost use Rattle.log_rules.specs.Own.{clashes_in, claims_at, claimed};
+ghost use Rattle.log_rules.specs.Own.{Adds, claims_at, claimed};
 ghost use Rattle.log_rules.specs.Listing.{ids_listed};
 ghost use Rattle.log_rules.specs.Tallied.{IsTally, MayCount};
 
@@ -17,7 +15,8 @@ use crate::counts::{accesses, cells_asked, exceeds, points_asked, raised};
 use crate::serial::note_all;
 use log_tables::{Draft, priv_of};
 use point_set::PointSet;
-use spy_grammar::{Nums, PrivWord, Record};
+use privilege::Priv;
+use spy_grammar::{Nums, Record};
 use std::alloc::{AllocError, Global};
 use std::collections::HashSet;
 
@@ -30,7 +29,7 @@ const MOST_CELLS: u128 = 1_048_576;
 /// How many accesses the records of a log may ask for together.
 const MOST_ACCESSES: u128 = 4_194_304;
 
-/// What the records so far add up to: their points, cells and accesses, the items that they list in serial order, and the places that the requirements of each task claim.
+/// What the records so far add up to: their points, cells and accesses, the items that they list in serial order, and the places that the requirements of each task claim, but for its first.
 #[derive(Drop)]
 pub struct Tally {
     pub(crate) points: u128,
@@ -50,33 +49,31 @@ fn note_listed(listed: &mut HashSet<u32>, rec: &Record) -> Result<(), AllocError
     }
 }
 
-/// Notes the places of a requirement.
+/// Claims the places of a requirement.
 fn claim_req<P: PointSet>(
     claims: &mut Claims,
     draft: &Draft<P>,
-    task: u32,
+    item: usize,
     tree: u32,
     space: u32,
     fields: &Nums,
-    access: PrivWord,
+    access: Priv,
 ) -> Result<(), AllocError>
-    ensures { OnOk result ((k : OwnPlace) (a : Priv) → clashes_in claims.new k a ≡ (clashes_in claims.old k a || claims_at (place_of draft.now.items task) tree (points_in draft.now space) fields.now (privilege_of access) k a)) }
+    ensures { OnOk result (Adds claims.old claims.new (claims_at item tree (points_in draft.now space) fields.now access)) }
 {
-    let item = draft.place(task);
-    let access = priv_of(access);
     match draft.set(space) {
         Some(set) => claims.claim_all(item, tree, set, fields.as_slice(), access),
         None => Ok(()),
     }
 }
 
-/// Notes the places of a record, if it is a requirement.
+/// Claims the places of a record, if it is a requirement and not the first of its task. Later ones are held against the first itself, so that a task with one requirement claims nothing.
 fn note_claims<P: PointSet>(
     claims: &mut Claims,
     draft: &Draft<P>,
     rec: &Record,
 ) -> Result<(), AllocError>
-    ensures { OnOk result ((k : OwnPlace) (a : Priv) → clashes_in claims.new k a ≡ (clashes_in claims.old k a || claimed draft.now rec.now k a)) }
+    ensures { OnOk result (Adds claims.old claims.new (claimed draft.now rec.now)) }
 {
     match rec {
         Record::Req {
@@ -86,7 +83,14 @@ fn note_claims<P: PointSet>(
             fields,
             access,
             ..
-        } => { claim_req(claims, draft, *task, *tree, *space, fields, *access) }
+        } => {
+            let item = draft.place(*task);
+            if draft.req_count(item) == 0 {
+                return Ok(());
+            }
+            claim_req(claims, draft, item, *tree, *space, fields, priv_of(*access))?;
+            Ok(())
+        }
         _ => Ok(()),
     }
 }

@@ -1,4 +1,4 @@
-use Rattle.std.proofs.Common.{◌≡◌, ◌+◌, ◌-◌, ◌^◌, length, take, arith}
+use Rattle.std.proofs.Common.{◌≡◌, ◌+◌, length, take, arith}
 use Rattle.semantics.specs.Tables.{points_of}
 use Rattle.log_rules.specs.Counts.{cut}
 use Rattle.log_rules.proofs.Limits.{points_of_more}

@@ -5,9 +5,8 @@ use Rattle.semantics.specs.Points.{is_in}
 use Rattle.semantics.specs.Rules.{accesses}
 use Rattle.log_rules.specs.Counts.{cut, points_asked, cells_asked}
 use Rattle.log_rules.specs.Listing.{ids_listed}
-use Rattle.log_rules.specs.Own.{claimed}
 use Rattle.log_rules.proofs.Limits.{cut-both}
-use Rattle.log_rules.proofs.Growing.{AreKnown-add, point_total-add, cell_total-add, access_total-add, points-exact, cells-exact, accesses-exact, listed-add, clashes_at-add}
+use Rattle.log_rules.proofs.Growing.{AreKnown-add, point_total-add, cell_total-add, access_total-add, points-exact, cells-exact, accesses-exact, listed-add, AreClaims-add}
 use Rattle.log_rules.proofs.tally.Tally.add.Goals as goal
 
 within_limit : (a b n : ℕ) → nat_lt 4194304 (a + b) ≡ false → n ≡ a + b → n ≤ 4194304
@@ -30,7 +29,7 @@ returns g c = λ earlier line is may.
           c.raised-self-3.ensures.sum ∙ ap (λ m. cut (old.accesses + m)) c.accesses.ensures
           ∙ cut-both old.accesses (accesses t r) most ∙ accesses-exact earlier t r old.accesses is.accesses may.accesses ∙ sym (access_total-add earlier t line r is.known.accesses may.known);
       lists = λ n. c.in_ok-note_listed.ensures n ∙ ap (λ b. b || is_in (ids_listed r) n) (is.lists n) ∙ sym (listed-add t line r n);
-      claims = λ k a. c.in_ok-note_claims.ensures k a ∙ ap (λ b. b || claimed t r k a) (is.claims k a) ∙ sym (clashes_at-add t line r k a is.known.reqs);
+      claims = AreClaims-add t line r old.claims c.note_claims.new.claims is.claims is.known.reqs c.in_ok-note_claims.ensures;
       known = AreKnown-add earlier t line r is.known may.known;
       within = within_limit _ (accesses t r) _ may.accesses (access_total-add earlier t line r is.known.accesses may.known);
     }
