@@ -1,5 +1,5 @@
 -- What sources and sinks count, take and hold: the words that the contracts share.
-use Rattle.std.specs.Prelude.{◌≡◌, ℕ, ◌+◌, ◌-◌, ◌^◌, ◌≤◌, min, Result, OnErr, OnOk, Option, List, length, ◌++◌}
+use Rattle.std.specs.Prelude.{◌≡◌, ℕ, ◌+◌, ◌-◌, ◌^◌, ◌≤◌, ◌==◌, min, Bool, true, not, ◌&&◌, if◌then◌else◌, Result, Ok, Err, OnErr, OnOk, Option, List, length, ◌++◌}
 use Rattle.std.specs.Io.KnownBytes.{Consumes, Appends}
 
 -- One more than the count, which stays at the largest u64.
@@ -15,6 +15,15 @@ pub record HasCause {T E : Type 0} (before now : ℕ) (result : Result T E) : Ty
   pub later : before ≤ now
   pub calm : OnOk result (now ≡ before)
   pub failed : OnErr result (Rose before now)
+
+-- Whether a call gave the end of input, or failed: the one with an answer for a buffer.
+abbrev pub is_last : {E : Type 0} → Result ℕ E → List ℕ → Bool
+is_last (Ok n) into = n == 0 && not (length into == 0)
+is_last (Err e) into = true
+
+-- How many calls were made from the first on that gave the end of input or failed, after one more that did or did not.
+abbrev pub ended_after : ℕ → Bool → ℕ
+ended_after ended last = if ended == 0 && not last then 0 else counted ended
 
 -- Some bytes, at most so many, were taken off the front of those left.
 pub record Takes (old new : Option (List ℕ)) (most : ℕ) : Type 0 where

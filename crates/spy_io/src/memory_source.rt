@@ -1,8 +1,9 @@
 ghost use Rattle.std.specs.Prelude.{◌≡◌, ◌≤◌, ◌↔◌, IfOk, OnErr, IsErr, Some, drop};
 ghost use Rattle.std.specs.Io.{ReadsAtMost};
 ghost use Rattle.std.specs.Io.KnownBytes.{ReadConsumes};
-ghost use Rattle.spy_io.specs.Causes.{HasCause};
+ghost use Rattle.spy_io.specs.Causes.{HasCause, ended_after, is_last};
 
+use crate::source::ended_after;
 use crate::{Failed, Source};
 use std::marker::Model;
 
@@ -15,6 +16,7 @@ pub struct MemSource {
     failing: Vec<u64>,
     calls: u64,
     faults: u64,
+    ended: u64,
 }
 
 impl Model for MemSource {
@@ -29,6 +31,7 @@ impl Model for MemSource {
       failing = s.failing.items;
       calls = s.calls;
       faults = s.faults;
+      ended = s.ended;
     } };
 
     ghost invariant = { λ s. (s.at ≤ length s.bytes.items) × (1 ≤ s.cut) };
@@ -50,6 +53,7 @@ impl MemSource {
             failing,
             calls: 0,
             faults: 0,
+            ended: 0,
         }
     }
 
@@ -68,25 +72,30 @@ impl Source for MemSource {
 
     ghost faults = { λ s. s.faults };
 
+    ghost ended = { λ s. s.ended };
+
     fn take(&mut self, into: &mut [u8]) -> Result<usize, Failed>
         // What each source does.
         ensures bound { ReadsAtMost result into.new }
         ensures bytes { ReadConsumes (Some self.old.left) (Some self.new.left) result into.new }
         ensures rest { IfOk result (λ n. drop n into.new ≡ drop n into.old) }
         ensures cause { HasCause self.old.faults self.new.faults result }
+        ensures ended { self.new.ended ≡ ended_after self.old.ended (is_last result into.old) }
 
         // When this one fails, and how many bytes it gives otherwise.
         ensures fails { IsErr result ↔ IsFailing self.old }
         ensures count { IfOk result (λ n. n ≡ given_count self.old into.old) }
-        ensures ok { IfOk result (λ n. self.new ≡ after_giving self.old n) }
+        ensures ok { IfOk result (λ n. self.new ≡ after_giving self.old n into.old) }
         ensures err { OnErr result (self.new ≡ after_fault self.old) }
     {
         self.calls = self.calls.saturating_add(1);
         if self.failing.contains(&self.calls) {
             self.faults = self.faults.saturating_add(1);
+            self.ended = ended_after(self.ended, true);
             return Err(Failed);
         }
         let count = self.cut.min(into.len()).min(self.bytes.len() - self.at);
+        self.ended = ended_after(self.ended, count == 0 && !into.is_empty());
         into[..count].copy_from_slice(&self.bytes[self.at..self.at + count]);
         self.at += count;
         Ok(count)

@@ -33,6 +33,9 @@ pub fn read_all<S: Source>(alloc: Global, source: &mut S, limit: u64) -> Result<
     ensures end { OnOk result (IsAtEnd (S.left source.new)) }
     ensures few { IfOk result (λ bytes. length bytes.items ≤ limit) }
 
+    // No call follows one that gave the end or failed.
+    ensures once { S.ended source.old ≡ 0 → S.ended source.new ≤ 1 }
+
     // How many bytes an error took.
     ensures too_long { IsErrOf result ReadEnd.TooLong → TakesExactly (S.left source.old) (S.left source.new) (limit + 1) }
     ensures fault_takes { IsErrOf result ReadEnd.ReadFault → Takes (S.left source.old) (S.left source.new) limit }

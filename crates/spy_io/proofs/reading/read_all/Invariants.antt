@@ -7,6 +7,7 @@ invariant-loop-piece g l = record {
   taken : Consumes (g.S.Source.left l.fn.source) (g.S.Source.left l.source) l.bytes.items;
   few : vec_len l.bytes ≤ l.most;
   most : l.most ≡ l.fn.limit + 1;
+  unended : g.S.Source.ended l.fn.source ≡ 0 → g.S.Source.ended l.source ≡ 0;
   calm : g.S.Source.faults l.source ≡ g.S.Source.faults l.fn.source;
 }
 
