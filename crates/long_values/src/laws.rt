@@ -17,14 +17,14 @@ ghost use Rattle.semantics.specs.declared.command.Command.{Command};
 ghost use Rattle.semantics.specs.declared.command.Command.TheVariants.{Check};
 ghost use Rattle.semantics.specs.Faults.{log_fault};
 ghost use Rattle.findings.specs.declared.finding.Finding.{Finding};
-ghost use Rattle.semantics.specs.Outcome.{IsFound, IsOutcome};
+ghost use Rattle.semantics.specs.Outcome.{CheckFinds, IsFound, IsOutcome};
 ghost use Rattle.semantics.specs.Steps.{Step};
 ghost use Rattle.semantics.specs.Sequential.{after_items, wanted};
 ghost use Rattle.semantics.specs.Execution.{start, executed, ReadsIn};
 ghost use Rattle.long_values.specs.LongValues.{Readings, Long, add_long, short};
 ghost use Rattle.long_values.specs.LongSequential.{LongRead, Places, after_items_long, places_read, wanted_long};
 ghost use Rattle.long_values.specs.LongExecution.{LongState, start_long, read_place, executed_long, reads_at, IsShort, IsRightLong};
-ghost use Rattle.long_values.specs.LongOutcome.{IsFoundLong, IsOutcomeLong};
+ghost use Rattle.long_values.specs.LongOutcome.{CheckFindsLong, IsFoundLong, IsOutcomeLong};
 
 use log_laws::{item_ids_are_apart, serial_order_lists};
 
@@ -72,8 +72,10 @@ pub fn right_reads_are_right_in_long()
     serial_order_lists();
 }
 
-/// What `check` finds in a log, and its outcome on an input, are told by long values as they are by values.
+/// What `check` finds in the tables of a log without a fault, in a log, and on an input, is told by long values as it is by values.
 pub fn check_finds_the_same_in_long()
+    ensures tables { (lines : ℕ) (log : List Lined) → log_fault Check lines log ≡ None → (f : Finding)
+        → CheckFinds (tables_of log) f ↔ CheckFindsLong (tables_of log) f }
     ensures found { (lines : ℕ) (log : List Lined) (f : Finding) → IsFound Check lines log f ↔ IsFoundLong lines log f }
     ensures outcome { (bytes : List ℕ) (f : Finding) → IsOutcome Check bytes f ↔ IsOutcomeLong bytes f }
 {

@@ -1,3 +1,4 @@
 mod Ends
 mod Listings
 mod Differing
+mod Stages

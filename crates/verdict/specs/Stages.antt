@@ -1,6 +1,12 @@
 -- How a stage of judging stops.
+use Rattle.std.specs.Prelude.{◌≡◌, Some}
 use Rattle.findings.specs.declared.finding.Finding.{Finding}
+use Rattle.findings.specs.declared.finding.Finding.TheVariants as findings
 use Rattle.findings.specs.Texts.{Good}
+use Rattle.semantics.specs.declared.command.Command.TheVariants.{Check}
+use Rattle.semantics.specs.Outcome.{CheckFinds}
+use Rattle.semantics.specs.Tables.{Tables}
+use Rattle.verdict.specs.Findings.{table_fault}
 use Rattle.verdict.specs.declared.stop.Stop.{Stop}
 use Rattle.verdict.specs.declared.stop.Stop.TheVariants.{Found, Memory}
 
@@ -8,3 +14,20 @@ use Rattle.verdict.specs.declared.stop.Stop.TheVariants.{Found, Memory}
 abbrev pub IsStop : (Finding → Type 0) → Stop → Type 0
 IsStop P (Found f) = P f × Good f
 IsStop P Memory = Unit {0}
+
+-- What each stage of `check` can find, and nothing else: a fault of the tables, a cycle, a race, a read that differs.
+abbrev pub FindsFault : Tables → Finding → Type 0
+FindsFault t (findings.Fault line code) = table_fault Check t ≡ Some (record { line = line; code = code })
+FindsFault t _ = ⊥
+
+abbrev pub FindsCycle : Tables → Finding → Type 0
+FindsCycle t (findings.Cycle events) = CheckFinds t (findings.Cycle events)
+FindsCycle t _ = ⊥
+
+abbrev pub FindsRace : Tables → Finding → Type 0
+FindsRace t (findings.Race a b inst point field) = CheckFinds t (findings.Race a b inst point field)
+FindsRace t _ = ⊥
+
+abbrev pub FindsDifference : Tables → Finding → Type 0
+FindsDifference t (findings.Differ task number point field got want) = CheckFinds t (findings.Differ task number point field got want)
+FindsDifference t _ = ⊥

@@ -3,15 +3,17 @@
 ghost use Rattle.std.specs.Prelude.{◌≡◌, None, IfOk, IfErr, OnOk};
 ghost use Rattle.semantics.specs.declared.command.Command.TheVariants.{Check};
 ghost use Rattle.semantics.specs.Events.{graph_of};
-ghost use Rattle.semantics.specs.Outcome.{CheckFinds, IsSound, read_count};
+ghost use Rattle.semantics.specs.Outcome.{IsSound, read_count};
 ghost use Rattle.semantics.specs.Races.{IsRaceFree};
+ghost use Rattle.long_values.specs.LongOutcome.{CheckFindsLong, IsSoundLong};
 ghost use Rattle.point_laws.specs.Alike.{AreFirsts};
 ghost use Rattle.atoms.specs.Atoms.{first_points};
+ghost use Rattle.verdict.specs.declared.stop.Stop.{Stop};
 ghost use Rattle.verdict.specs.Findings.{table_fault};
 ghost use Rattle.point_laws.specs.Cut.{cut};
 ghost use Rattle.serial_exec.specs.Kept.{AreVersionsOf};
 ghost use Rattle.verdict.specs.Sorted.{AreSorted};
-ghost use Rattle.verdict.specs.Stages.{IsStop};
+ghost use Rattle.verdict.specs.Stages.{FindsDifference, IsStop};
 
 use crate::judged::Judged;
 use crate::reports::differ_found;
@@ -19,6 +21,7 @@ use crate::sorting::Sorting;
 use crate::stop::Stop;
 use atoms::Atoms;
 use log_decl::Log;
+use long_values::check_finds_the_same_in_long;
 use outcome_laws::replays_speak_for_all;
 use point_set::PointSet;
 use region_tree::ArenaSet;
@@ -61,7 +64,7 @@ fn versions_of<'a, P: ArenaSet<'a>>(
     atoms: &Atoms,
 ) -> Result<Versions, Stop>
     ensures versions { IfOk result (λ v. AreVersionsOf (cut (first_points atoms.now) log.now) v) }
-    ensures stop { IfErr result (IsStop (CheckFinds log.now)) }
+    ensures stop { IfErr result (λ stop. stop ≡ Stop.Memory) }
 {
     match Versions::build_on(alloc, log, atoms.firsts()) {
         Ok(versions) => Ok(versions),
@@ -82,10 +85,13 @@ fn judged_reads<'a, P: ArenaSet<'a>>(
     requires free { IsRaceFree log.now }
     ensures sound { OnOk result (IsSound log.now) }
     ensures count { IfOk result (λ count. count ≡ read_count log.now) }
-    ensures stop { IfErr result (IsStop (CheckFinds log.now)) }
+    ensures stop { IfErr result (IsStop (FindsDifference log.now)) }
+    ensures sound_long { OnOk result (IsSoundLong log.now) }
+    ensures stop_long { IfErr result (IsStop (CheckFindsLong log.now)) }
 {
     log.is_declared();
     replays_speak_for_all();
+    check_finds_the_same_in_long();
     let versions = match versions_of(alloc, log, atoms) {
         Ok(versions) => versions,
         Err(stop) => return Err(stop),
@@ -122,10 +128,12 @@ impl<'a, P: ArenaSet<'a>> Clean<'a, P> {
         }
     }
 
-    /// The log, if each of its reads is right in every interleaving, or the read that is shown to differ in every interleaving.
+    /// The log, if each of its reads is right in every interleaving, or the read that is shown to differ in every interleaving. Told by long values, it is the same.
     pub fn replay(self, alloc: Global) -> Result<Judged<'a, P>, Stop>
         ensures judged { IfOk result (λ j. j ≡ self.entry) }
-        ensures stop { IfErr result (IsStop (CheckFinds self.entry)) }
+        ensures stop { IfErr result (IsStop (FindsDifference self.entry)) }
+        ensures sound_long { OnOk result (IsSoundLong self.entry) }
+        ensures stop_long { IfErr result (IsStop (CheckFindsLong self.entry)) }
     {
         match judged_reads(alloc, &self.log, &self.sorting, &self.atoms) {
             Ok(reads) => {

@@ -2,10 +2,9 @@
 
 ghost use Rattle.std.specs.Prelude.{◌≡◌, ◌≢◌, None, IfOk, OnOk, IfErr};
 ghost use Rattle.semantics.specs.declared.command.Command.TheVariants.{Check};
-ghost use Rattle.semantics.specs.Outcome.{CheckFinds};
 ghost use Rattle.verdict.specs.declared.stop.Stop.{Stop};
 ghost use Rattle.verdict.specs.Findings as faults;
-ghost use Rattle.verdict.specs.Stages.{IsStop};
+ghost use Rattle.verdict.specs.Stages.{FindsCycle, FindsFault, IsStop};
 
 use crate::reports::fault_found;
 use crate::serial::serial_fault;
@@ -59,7 +58,7 @@ impl<'a, P: ArenaSet<'a>> Declared<'a, P> {
     pub fn of(log: Log<'a, P>) -> Result<Declared<'a, P>, Stop>
         ensures declared { IfOk result (λ d. d ≡ log.entry) }
         ensures keeps { OnOk result (faults.table_fault Check log.entry ≡ None) }
-        ensures fault { IfErr result (IsStop (faults.IsFoundOf Check log.entry)) }
+        ensures fault { IfErr result (IsStop (FindsFault log.entry)) }
         ensures no_memory { IfErr result (λ stop. stop ≢ Stop.Memory) }
     {
         match table_fault(&log) {
@@ -74,7 +73,7 @@ impl<'a, P: ArenaSet<'a>> Declared<'a, P> {
     /// The log with its nodes sorted, or the cycle that is shown.
     pub fn sort(self, alloc: Global) -> Result<Sorted<'a, P>, Stop>
         ensures sorted { IfOk result (λ s. s ≡ self.entry) }
-        ensures stop { IfErr result (IsStop (CheckFinds self.entry)) }
+        ensures stop { IfErr result (IsStop (FindsCycle self.entry)) }
     {
         match sorted_parts(alloc, &self.log) {
             Ok((sorting, atoms)) => Ok(Sorted::of(self.log, sorting, atoms)),

@@ -3,13 +3,14 @@
 ghost use Rattle.std.specs.Prelude.{◌≡◌, None, IfOk, IfErr, OnOk};
 ghost use Rattle.semantics.specs.declared.command.Command.TheVariants.{Check};
 ghost use Rattle.semantics.specs.Events.{graph_of};
-ghost use Rattle.semantics.specs.Outcome.{CheckFinds, event_of};
+ghost use Rattle.semantics.specs.Outcome.{event_of};
 ghost use Rattle.semantics.specs.Races.{IsRaceFree};
 ghost use Rattle.point_laws.specs.Alike.{AreFirsts};
 ghost use Rattle.atoms.specs.Atoms.{first_points};
+ghost use Rattle.verdict.specs.declared.stop.Stop.{Stop};
 ghost use Rattle.verdict.specs.Findings.{table_fault};
 ghost use Rattle.verdict.specs.Sorted.{AreSorted};
-ghost use Rattle.verdict.specs.Stages.{IsStop};
+ghost use Rattle.verdict.specs.Stages.{FindsCycle, FindsRace, IsStop};
 
 use crate::clean::Clean;
 use crate::ordering::sort_log;
@@ -53,7 +54,7 @@ impl<'a, P: PointSet + Copy> Model for Sorted<'a, P> {
 fn sorting_of_log<'a, P: ArenaSet<'a>>(alloc: Global, log: &Log<'a, P>) -> Result<Sorting, Stop>
     requires { table_fault Check log.now ≡ None }
     ensures sorted { IfOk result (AreSorted (graph_of log.now.nodes)) }
-    ensures stop { IfErr result (IsStop (CheckFinds log.now)) }
+    ensures stop { IfErr result (IsStop (FindsCycle log.now)) }
 {
     log.is_declared();
     match sort_log(alloc, log) {
@@ -66,7 +67,7 @@ fn sorting_of_log<'a, P: ArenaSet<'a>>(alloc: Global, log: &Log<'a, P>) -> Resul
 /// The runs of points of a log that no space divides.
 fn atoms_of<'a, P: ArenaSet<'a>>(alloc: Global, log: &Log<'a, P>) -> Result<Atoms, Stop>
     ensures firsts { IfOk result (λ atoms. AreFirsts log.now (first_points atoms)) }
-    ensures stop { IfErr result (IsStop (CheckFinds log.now)) }
+    ensures stop { IfErr result (λ stop. stop ≡ Stop.Memory) }
 {
     match Atoms::build(alloc, log) {
         Ok(atoms) => Ok(atoms),
@@ -82,7 +83,7 @@ pub(crate) fn sorted_parts<'a, P: ArenaSet<'a>>(
     requires { table_fault Check log.now ≡ None }
     ensures sorted { IfOk result (λ parts. AreSorted (graph_of log.now.nodes) parts.0) }
     ensures firsts { IfOk result (λ parts. AreFirsts log.now (first_points parts.1)) }
-    ensures stop { IfErr result (IsStop (CheckFinds log.now)) }
+    ensures stop { IfErr result (IsStop (FindsCycle log.now)) }
 {
     let sorting = match sorting_of_log(alloc, log) {
         Ok(sorting) => sorting,
@@ -118,7 +119,7 @@ fn raced<'a, P: ArenaSet<'a>>(
     requires sorted { AreSorted (graph_of log.now.nodes) sorting.now }
     requires firsts { AreFirsts log.now (first_points atoms.now) }
     ensures free { OnOk result (IsRaceFree log.now) }
-    ensures stop { IfErr result (IsStop (CheckFinds log.now)) }
+    ensures stop { IfErr result (IsStop (FindsRace log.now)) }
 {
     match scan(
         alloc,
@@ -155,7 +156,7 @@ impl<'a, P: ArenaSet<'a>> Sorted<'a, P> {
     /// The log, if no two of its nodes race, or the race that is shown.
     pub fn scan(self, alloc: Global) -> Result<Clean<'a, P>, Stop>
         ensures clean { IfOk result (λ c. c ≡ self.entry) }
-        ensures stop { IfErr result (IsStop (CheckFinds self.entry)) }
+        ensures stop { IfErr result (IsStop (FindsRace self.entry)) }
     {
         match raced(alloc, &self.log, &self.sorting, &self.atoms) {
             Ok(()) => Ok(Clean::of(self.log, self.sorting, self.atoms)),

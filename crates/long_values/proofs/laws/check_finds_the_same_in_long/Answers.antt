@@ -56,6 +56,9 @@ module _ (same : (lines : ℕ) (log : List Lined) → log_fault Check lines log 
       back (inl h) = inl h
       back (inr h) = inr (record { spelled = h.spelled; log = h.log; reads = h.reads; found = (found_same (line_count bytes) h.log f).1 h.found })
 
+pub returns-clause-tables : goal.returns-clause-tables
+returns-clause-tables c lines log none f = finds_same (tables_of log) (c.right_reads_are_right_in_long.ensures lines log none) f
+
 pub returns-clause-found : goal.returns-clause-found
 returns-clause-found c = found_same c.right_reads_are_right_in_long.ensures
 

@@ -1,21 +1,12 @@
-use Rattle.std.proofs.Common.{◌<◌, ◌^◌, ◌∙◌, Err, ap, ap₂, length, refl, sym, subst}
 use Rattle.std.proofs.lemmas.Result.{IfOk-weaker}
 use Rattle.findings.specs.declared.finding.Finding.{Finding}
-use Rattle.findings.specs.declared.finding.Finding.TheVariants.{Fault}
 use Rattle.semantics.specs.declared.command.Command.TheVariants.{Check}
-use Rattle.semantics.specs.Tables.{Tables}
 use Rattle.semantics.specs.Outcome.{IsFound}
-use Rattle.verdict.specs.Findings.{IsFoundOf}
-use Rattle.verdict.proofs.Ends.{found_in_log, fault_in_log}
+use Rattle.long_values.specs.LongOutcome.{IsFoundLong}
 use Rattle.verdict.proofs.checking.check.Goals as goal
 
-pub returns-in-Ok-clause-found : goal.returns-in-Ok-clause-found
-returns-in-Ok-clause-found c =
-    IfOk-weaker c.check_in.result (IsFoundOf Check c.in-Ok.log) (IsFound Check c.args.lines c.args.records.now.items)
-    (λ (f : Finding) h. found_in_log Check c.args.lines c.args.records.now.items c.in-Ok.ensures.faultless f (subst (λ (t : Tables). IsFoundOf Check t f) c.in-Ok.ensures.tables h))
-    c.check_in.ensures.found
-
-pub returns-in-Err-Fault-clause-found : goal.returns-in-Err-Fault-clause-found
-returns-in-Err-Fault-clause-found c =
-    subst (IsFound Check c.args.lines c.args.records.now.items) (sym (c.fault_found.ensures.finding ∙ ap₂ Fault c.in-Err-Fault.line-is c.in-Err-Fault.code-is))
-    (fault_in_log Check c.args.lines c.args.records.now.items c.in-Err-Fault.line c.in-Err-Fault.code (c.in-Err-Fault.ensures.fault c.in-Err-Fault.line c.in-Err-Fault.code (ap Err c.in-Err-Fault.field-0-is)))
+pub returns-clause-long : goal.returns-clause-long
+returns-clause-long c =
+    IfOk-weaker c.check_records.result (IsFound Check c.args.lines c.args.records.now.items) (IsFoundLong c.args.lines c.args.records.now.items)
+    (λ (f : Finding) h. (c.check_finds_the_same_in_long.ensures.found c.args.lines c.args.records.now.items f).0 h)
+    c.check_records.ensures.found
