@@ -1,5 +1,5 @@
 -- What words ask for.
-use Rattle.std.specs.Prelude.{ℕ, Bool, ◌&&◌, not, nat_le, List, ◌∷◌, length, Option, Some, None, codes, bytes_eq, if◌then◌else◌, option_map, option_and_then}
+use Rattle.std.specs.Prelude.{ℕ, ◌≤◌, Bool, ◌&&◌, not, nat_le, List, ◌∷◌, length, Option, Some, None, codes, bytes_eq, if◌then◌else◌, option_map, option_and_then}
 use Rattle.std.specs.Str.Parse.{digits_value}
 use Rattle.clap.specs.Walk.{Text}
 use Rattle.spy_words.specs.Reading.{is_digits, has_leading_zero}
@@ -12,6 +12,11 @@ abbrev pub is_size : Text → Bool
 is_size word =
     is_digits word && nat_le (length word) 3 && not (has_leading_zero word)
     && nat_le 1 (digits_value 10 word) && nat_le (digits_value 10 word) 500
+
+-- A size that is asked for is from 1 to 500.
+abbrev pub IsSized : Request → Type 0
+IsSized (Demo size) = (1 ≤ size) × (size ≤ 500)
+IsSized _ = Unit {0}
 
 -- The size that a word says.
 abbrev pub size_at : Text → Option ℕ

@@ -1,8 +1,9 @@
 //! What words ask for.
 
-ghost use Rattle.std.specs.Prelude.{◌≡◌, ◌∷◌, IfOk, codes, map, string_bytes};
+ghost use Rattle.std.specs.Prelude.{◌≡◌, ◌∷◌, IfOk, IfSome, codes, map, string_bytes};
+ghost use Rattle.spy_args.specs.declared.request.Request.TheVariants.{Demo};
 ghost use Rattle.spy_args.specs.CommandLine.{text_of, texts_of};
-ghost use Rattle.spy_args.specs.Asked.{asked, plain_request, request_of, size_at};
+ghost use Rattle.spy_args.specs.Asked.{IsSized, asked, plain_request, request_of, size_at};
 
 use crate::command_line::given;
 use crate::request::Request;
@@ -16,7 +17,8 @@ const MOST_PIECES: u32 = 500;
 /// The size that a word says.
 #[tactic(auto, unfolding(spy_words::specs::Reading::number_from))]
 fn size_of(word: &[u8]) -> Option<u32>
-    ensures { result ≡ size_at word.now }
+    ensures size { result ≡ size_at word.now }
+    ensures sized { IfSome result (λ size. IsSized (Demo size)) }
 {
     if word.len() > 3 {
         return None;
@@ -29,7 +31,8 @@ fn size_of(word: &[u8]) -> Option<u32>
 
 /// What a command without a size asks for.
 fn plain(command: &str) -> Option<Request>
-    ensures { result ≡ plain_request command.now }
+    ensures request { result ≡ plain_request command.now }
+    ensures sized { IfSome result IsSized }
 {
     if command == "check" {
         Some(Request::Check)
@@ -46,7 +49,8 @@ fn plain(command: &str) -> Option<Request>
 
 /// What a command asks for, with a size or without.
 fn request(command: &str, size: Option<&str>) -> Option<Request>
-    ensures { result ≡ request_of command.now (text_of size.entry) }
+    ensures request { result ≡ request_of command.now (text_of size.entry) }
+    ensures sized { IfSome result IsSized }
 {
     match size {
         None => plain(command),
@@ -75,7 +79,8 @@ fn program_words<'a>(alloc: Global, words: &'a Vec<String>) -> Result<Vec<&'a st
 
 /// What the words ask for, if they are taken. They do not hold the program's name.
 pub fn request_in(alloc: Global, words: &Vec<String>) -> Result<Option<Request>, Memory>
-    ensures { IfOk result (λ r. r ≡ asked (map string_bytes words.now.items)) }
+    ensures asked { IfOk result (λ r. r ≡ asked (map string_bytes words.now.items)) }
+    ensures sized { IfOk result (λ r. IfSome r IsSized) }
 {
     let all = program_words(alloc, words)?;
     match given(alloc, &all)? {

@@ -1,4 +1,6 @@
+mod Cut
 mod Lines
 mod Numbered
 mod Reports
 mod Spelled
+mod Stencils

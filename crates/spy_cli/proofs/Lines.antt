@@ -1,87 +1,66 @@
--- An input, cut into lines, and what is answered to it.
-use Rattle.std.proofs.Common.{◌≡◌, ℕ, suc, ◌+◌, ◌-◌, ◌≤◌, ◌<◌, ◌==◌, List, [], ◌∷◌, ◌++◌, length, take, drop, Option, Some, None, refl, sym, ap, ap₂, subst, ◌∙◌, arith, ◌^◌, Bool, false, not, append-nil, length-append, inl, inr, count_by, All}
-use Rattle.std.specs.Prelude.{IfSome, slice_get, Result, Ok, Err, IfOk}
+-- An input, cut into lines.
+use Rattle.std.proofs.Common.{◌≡◌, ℕ, suc, ◌+◌, ◌-◌, ◌≤◌, ◌<◌, ◌==◌, List, [], ◌∷◌, ◌++◌, length, take, drop, Some, None, refl, sym, ap, ap₂, subst, ◌∙◌, arith, ◌^◌, Bool, false, not, append_assoc, append-nil, length-append, inl, inr, count_by, All}
+use Rattle.std.specs.Prelude.{slice_get, Result, Err}
 use Rattle.std.specs.List.{AllByRecursion, onto_first, list_all}
-use Rattle.std.specs.Io.KnownBytes.{Consumes, IsAtEnd}
 use Rattle.std.proofs.lemmas.Bool.{lt-ltb, le-ltb, ne_eqb, eqb-true, cases_Bool}
 use Rattle.std.proofs.lemmas.List.Elements.{recursion_from_All}
 use Rattle.std.proofs.lemmas.List.Splits.{length-slice_split, slice_split_at, slice_split-cons_yes, slice_split-cons_no}
 use Rattle.std.proofs.Math.Seq.{take-append_seam, drop-append_seam}
-use Rattle.spy_io.specs.Causes.{TakesExactly}
 use Rattle.spy_lines.specs.LinesOf.{with_ends, IsLine, IsUnended}
+use Rattle.spy_grammar.specs.declared.code.Code.{Code}
 use Rattle.spy_grammar.specs.declared.code.Code.TheVariants.{TooLong, Newline}
 use Rattle.spy_grammar.specs.declared.record.Lined.{Lined}
-use Rattle.findings.specs.declared.finding.Finding.TheVariants.{Fault as Faulty}
-use Rattle.semantics.specs.declared.faults.Fault.{Fault}
 use Rattle.semantics.specs.Records.{parts_of, line_count, Hold, Reads}
 use Rattle.semantics.specs.TextFaults.{ends_within_line, lines_fault, text_fault}
-use Rattle.spy_cli.specs.declared.request.Request.{Request}
-use Rattle.spy_cli.specs.declared.request.Request.TheVariants as requests
-use Rattle.spy_cli.specs.declared.status.Status.{Status}
-use Rattle.spy_cli.specs.Answers.{Tells, IsAnswer}
-use Rattle.spy_cli.specs.Spelled.{IsLogAnswer, IsLinesAnswer}
+use Rattle.spy_cli.specs.Spelled.{HasFault, HasFaultOfLines, Spells}
+use Rattle.spy_cli.specs.declared.reading.SpellEnd.{SpellEnd}
+use Rattle.spy_cli.specs.declared.reading.SpellEnd.TheVariants.{Fault}
 
--- ---- what is answered to an input
-
--- Its fault is told, whatever is asked.
-fault_told : (request : Request) (bytes : List ℕ) (fault : Fault) (s : Status) (x : List ℕ) → text_fault bytes ≡ Some fault → Tells (Faulty fault.line fault.code) s x → IsAnswer request bytes s x
-fault_told requests.Check bytes fault s x shown tells = record { finding = Faulty fault.line fault.code; outcome = inl (record { fault = fault; shown = shown; finding_is = refl }); tells = tells }
-fault_told requests.Ordered bytes fault s x shown tells = record { finding = Faulty fault.line fault.code; outcome = inl (record { fault = fault; shown = shown; finding_is = refl }); tells = tells }
-fault_told requests.Deps bytes fault s x shown tells = record { finding = Faulty fault.line fault.code; outcome = inl (record { fault = fault; shown = shown; finding_is = refl }); tells = tells }
-fault_told requests.Print bytes fault s x shown tells = inl (record { finding = Faulty fault.line fault.code; fault = record { fault = fault; shown = shown; finding_is = refl }; tells = tells })
-
--- What is answered to the log that it spells.
-log_told : (request : Request) (bytes : List ℕ) (log : List Lined) (s : Status) (x : List ℕ) → text_fault bytes ≡ None → Reads bytes log → IsLogAnswer request (line_count bytes) log s x → IsAnswer request bytes s x
-log_told requests.Check bytes log s x spelled reads a = record { finding = a.0; outcome = inr (record { spelled = spelled; log = log; reads = reads; found = a.1 }); tells = a.2 }
-log_told requests.Ordered bytes log s x spelled reads a = record { finding = a.0; outcome = inr (record { spelled = spelled; log = log; reads = reads; found = a.1 }); tells = a.2 }
-log_told requests.Deps bytes log s x spelled reads a = record { finding = a.0; outcome = inr (record { spelled = spelled; log = log; reads = reads; found = a.1 }); tells = a.2 }
-log_told requests.Print bytes log s x spelled reads a = inr (a.0, record { spelled = spelled; log = log; reads = reads; text_is = a.1 })
-
--- All the bytes that a source had left.
-pub all_left : (P : List ℕ → Type 0) (old new : Option (List ℕ)) (bytes : List ℕ) → Consumes old new bytes → IsAtEnd new → P bytes → IfSome old P
-all_left P None new bytes taken end h = tt
-all_left P (Some xs) None bytes taken end h = absurd taken
-all_left P (Some xs) (Some ys) bytes taken end h = subst P (sym (taken ∙ ap (λ w. bytes ++ w) end ∙ append-nil bytes)) h
-
-long : (bytes : List ℕ) → 67108864 < length bytes → text_fault bytes ≡ Some (record { line = 0; code = TooLong })
+pub long : (bytes : List ℕ) → 2 ^ 26 < length bytes → HasFault bytes 0 TooLong
 unfolding text_fault
-long bytes h = rw (lt-ltb 67108864 (length bytes) h) refl
+long bytes h = rw (lt-ltb 67108864 (length bytes) (omega (arith, h))) refl
 
--- More bytes than an input may have.
-pub too_long : (request : Request) (old new : Option (List ℕ)) (status : Status) (text : List ℕ) → TakesExactly old new (2 ^ 26 + 1) → Tells (Faulty 0 TooLong) status text → IfSome old (λ bytes. IsAnswer request bytes status text)
-too_long request None new status text taken told = tt
-too_long request (Some xs) None status text taken told = absurd taken.taken
-too_long request (Some xs) (Some ys) status text taken told = fault_told request xs (record { line = 0; code = TooLong }) status text (long xs (omega (arith, taken.all, ap length taken.taken, length-append taken.bytes ys))) told
+-- The lines of an input, as it is cut at each line feed: whole lines, and then those of what stands behind them.
+pub parts_before : (lines : List (List ℕ)) (behind : List ℕ) → AllByRecursion IsLine lines → parts_of (with_ends lines ++ behind) ≡ lines ++ parts_of behind
+parts_before [] behind h = refl
+parts_before (l ∷ lines) behind h =
+    ap parts_of (append_assoc l (10 ∷ with_ends lines) behind)
+    ∙ slice_split_at (λ b. b == 10) l 10 (with_ends lines ++ behind) (λ k d lt. ne_eqb _ 10 (h.0 k d lt)) refl
+    ∙ ap (λ ps. l ∷ ps) (parts_before lines behind h.1)
 
--- ---- an input, judged
-
--- The lines of an input, as it is cut at each line feed.
 parts_are : (lines : List (List ℕ)) → AllByRecursion IsLine lines → parts_of (with_ends lines) ≡ lines ++ [] ∷ []
-parts_are [] h = refl
-parts_are (l ∷ lines) h = slice_split_at (λ b. b == 10) l 10 (with_ends lines) (λ k d lt. ne_eqb _ 10 (h.0 k d lt)) refl ∙ ap (λ ps. l ∷ ps) (parts_are lines h.1)
+parts_are lines h = ap parts_of (sym (append-nil (with_ends lines))) ∙ parts_before lines [] h
 
-count_is : (lines : List (List ℕ)) → AllByRecursion IsLine lines → line_count (with_ends lines) ≡ length lines
+pub count_is : (lines : List (List ℕ)) → AllByRecursion IsLine lines → line_count (with_ends lines) ≡ length lines
 count_is lines h = let many : length (parts_of (with_ends lines)) ≡ length lines + 1 = ap length (parts_are lines h) ∙ length-append lines ([] ∷ []) in omega (arith, many)
 
-lines_are : (lines : List (List ℕ)) → AllByRecursion IsLine lines → take (line_count (with_ends lines)) (parts_of (with_ends lines)) ≡ lines
+pub lines_are : (lines : List (List ℕ)) → AllByRecursion IsLine lines → take (line_count (with_ends lines)) (parts_of (with_ends lines)) ≡ lines
 lines_are lines h = ap₂ take (count_is lines h) (parts_are lines h) ∙ take-append_seam lines ([] ∷ [])
 
-end_is : (lines : List (List ℕ)) → AllByRecursion IsLine lines → drop (line_count (with_ends lines)) (parts_of (with_ends lines)) ≡ [] ∷ []
+pub end_is : (lines : List (List ℕ)) → AllByRecursion IsLine lines → drop (line_count (with_ends lines)) (parts_of (with_ends lines)) ≡ [] ∷ []
 end_is lines h = ap₂ drop (count_is lines h) (parts_are lines h) ∙ drop-append_seam lines ([] ∷ [])
 
 -- The fault of an input of whole lines is that of its lines.
-lines_decide : (lines : List (List ℕ)) → AllByRecursion IsLine lines → length (with_ends lines) ≤ 67108864 → text_fault (with_ends lines) ≡ lines_fault 1 lines
+pub lines_decide : (lines : List (List ℕ)) → AllByRecursion IsLine lines → length (with_ends lines) ≤ 67108864 → text_fault (with_ends lines) ≡ lines_fault 1 lines
 unfolding text_fault
 lines_decide lines h short =
     let ended : ends_within_line (with_ends lines) ≡ false = ap (λ ps. not (list_all (λ w. length w == 0) ps)) (end_is lines h) in
     rw (le-ltb 67108864 (length (with_ends lines)) short, ended) (ap (lines_fault 1) (lines_are lines h))
 
-pub lines_to_bytes : (request : Request) (lines : List (List ℕ)) (s : Status) (x : List ℕ) → All IsLine lines → length (with_ends lines) ≤ 2 ^ 26 → IsLinesAnswer request lines s x → IsAnswer request (with_ends lines) s x
-lines_to_bytes request lines s x single short (inl h) = fault_told request (with_ends lines) h.fault s x (lines_decide lines (recursion_from_All _ lines single) (omega (arith, short)) ∙ h.shown) h.tells
-lines_to_bytes request lines s x single short (inr h) =
+pub lines_fault_is : (lines : List (List ℕ)) (line : ℕ) (code : Code) → All IsLine lines → length (with_ends lines) ≤ 2 ^ 26
+    → HasFaultOfLines lines line code → HasFault (with_ends lines) line code
+lines_fault_is lines line code single short shown = lines_decide lines (recursion_from_All _ lines single) (omega (arith, short)) ∙ shown
+
+-- What lines hold, their bytes spell.
+pub lines_spell : (lines : List (List ℕ)) (log : List Lined) → All IsLine lines → length (with_ends lines) ≤ 2 ^ 26
+    → lines_fault 1 lines ≡ None → Hold 1 lines log → Spells (with_ends lines) (length lines) log
+lines_spell lines log single short clean held =
     let each = recursion_from_All _ lines single in
-    let reads : Reads (with_ends lines) h.log = record { ended = end_is lines each; hold = subst (λ ls. Hold 1 ls h.log) (sym (lines_are lines each)) h.held } in
-    log_told request (with_ends lines) h.log s x (lines_decide lines each (omega (arith, short)) ∙ h.clean) reads (subst (λ n. IsLogAnswer request n h.log s x) (sym (count_is lines each)) h.answered)
+    record {
+      clean = lines_decide lines each (omega (arith, short)) ∙ clean;
+      reads = record { ended = end_is lines each; hold = subst (λ ls. Hold 1 ls log) (sym (lines_are lines each)) held };
+      count = sym (count_is lines each);
+    }
 
 -- Whether nothing stands behind the last cut.
 abbrev none_left : List (List ℕ) → Bool
@@ -121,11 +100,15 @@ unended_fault : (bytes : List ℕ) → length bytes ≤ 67108864 → IsUnended b
 unfolding text_fault
 unended_fault bytes short un = rw (le-ltb 67108864 (length bytes) short, unended_left bytes un) refl
 
-pub unended : (request : Request) (bytes : List ℕ) (line : ℕ) (s : Status) (x : List ℕ) → length bytes ≤ 2 ^ 26 → IsUnended bytes → line ≡ count_by (λ b. b == 10) bytes + 1 → Tells (Faulty line Newline) s x → IsAnswer request bytes s x
-unended request bytes line s x short un at told =
+pub unended : (bytes : List ℕ) (line : ℕ) → length bytes ≤ 2 ^ 26 → IsUnended bytes
+    → line ≡ count_by (λ b. b == 10) bytes + 1 → HasFault bytes line Newline
+unended bytes line short un at =
     let count : line_count bytes + 1 ≡ line = omega (arith, at, length-slice_split (λ b. b == 10) bytes) in
-    fault_told request bytes (record { line = line; code = Newline }) s x (unended_fault bytes (omega (arith, short)) un ∙ ap (λ n. Some (record { line = n; code = Newline })) count) told
+    unended_fault bytes (omega (arith, short)) un ∙ ap (λ n. Some (record { line = n; code = Newline })) count
 
-pub when_ok : {A E : Type 0} (P : A → Type 0) (result : Result A E) (a : A) → result ≡ Ok a → IfOk result P → P a
-when_ok P (Ok b) a is h = let same : b ≡ a = cc in subst P same h
-when_ok P (Err e) a is h = absurd (cc is)
+-- What holds of the fault in an answer holds of the one that it is said to be.
+pub same_end : {T : Type 0} (P : ℕ → Code → Type 0) (l m : ℕ) (k n : Code) → ◌≡◌ {A = Result T SpellEnd} (Err (Fault l k)) (Err (Fault m n)) → P l k → P m n
+same_end P l m k n is h =
+    let a : l ≡ m = cc in
+    let b : k ≡ n = cc in
+    subst (P m) b (subst (λ x. P x k) a h)

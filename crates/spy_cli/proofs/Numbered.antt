@@ -2,7 +2,7 @@
 use Rattle.std.proofs.Common.{◌≡◌, ℕ, zero, suc, ◌+◌, ◌≤◌, ◌<◌, ◌^◌, List, [], ◌∷◌, length, map, slice_index, sym, ap, subst, arith, inl, inr, All}
 use Rattle.std.specs.List.{AllByRecursion}
 use Rattle.std.specs.List.Sorted.{IsStrictlyIncreasing}
-use Rattle.std.proofs.lemmas.List.Elements.{All-cons}
+use Rattle.std.proofs.lemmas.List.Elements.{All-cons, All-head, All-tail}
 use Rattle.spy_grammar.specs.declared.record.Lined.{Lined}
 use Rattle.spy_grammar.specs.Spelling.{Good}
 use Rattle.semantics.specs.Records.{Hold, records_of}
@@ -12,11 +12,15 @@ pub each_good : (log : List Lined) → AllByRecursion Good (records_of log) → 
 each_good [] good = λ k d lt. absurd (omega (arith, lt))
 each_good (l ∷ log) good = All-cons (λ (l : Lined). Good l.rec) l log good.0 (each_good log good.1)
 
+pub good_records : (log : List Lined) → All (λ (l : Lined). Good l.rec) log → AllByRecursion Good (records_of log)
+good_records [] good = tt
+good_records (l ∷ log) good = (All-head (λ (l : Lined). Good l.rec) l log good, good_records log (All-tail (λ (l : Lined). Good l.rec) l log good))
+
 abbrev numbers : List Lined → List ℕ
 numbers log = map (λ (l : Lined). l.line) log
 
 -- Each record stands on one of the lines.
-within : (n : ℕ) (lines : List (List ℕ)) (log : List Lined) → Hold n lines log → (top : ℕ) → n + length lines ≤ top + 1 → All (λ (l : Lined). l.line ≤ top) log
+pub within : (n : ℕ) (lines : List (List ℕ)) (log : List Lined) → Hold n lines log → (top : ℕ) → n + length lines ≤ top + 1 → All (λ (l : Lined). l.line ≤ top) log
 within n [] log h top le = subst (λ ls. All (λ (l : Lined). l.line ≤ top) ls) (sym h) (λ k d lt. absurd (omega (arith, lt)))
 within n (line ∷ lines) log (inl h) top le = within (n + 1) lines log h.1 top (omega (arith, le))
 within n (line ∷ lines) log (inr h) top le = subst (λ ls. All (λ (l : Lined). l.line ≤ top) ls) (sym h.4) (All-cons (λ (l : Lined). l.line ≤ top) (record { line = n; rec = h.0 }) h.1 (omega (arith, le)) (within (n + 1) lines h.1 h.5 top (omega (arith, le))))

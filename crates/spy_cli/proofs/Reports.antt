@@ -1,6 +1,9 @@
 -- One thing is answered to an input.
-use Rattle.std.proofs.Common.{◌≡◌, ℕ, List, Option, Some, None, refl, sym, ap, subst, ◌∙◌, inl, inr, ◌⊎◌, ◌↔◌}
+use Rattle.std.proofs.Common.{◌≡◌, ◌≤◌, ◌<◌, ◌^◌, ℕ, arith, List, length, Option, Some, None, refl, sym, ap, subst, ◌∙◌, inl, inr, ◌⊎◌, ◌↔◌}
+use Rattle.std.specs.List.{AllByRecursion}
+use Rattle.spy_grammar.specs.Spelling.{Good}
 use Rattle.spy_grammar.specs.declared.code.Code.{Code}
+use Rattle.spy_grammar.specs.declared.code.Code.TheVariants.{TooLong}
 use Rattle.spy_grammar.specs.declared.record.Lined.{Lined}
 use Rattle.findings.specs.declared.finding.Finding.{Finding}
 use Rattle.findings.specs.declared.finding.Finding.TheVariants.{Accepted, Ordered, Deps, Cycle, Race, Unordered, Differ, Usage, CannotRead}
@@ -14,11 +17,15 @@ use Rattle.semantics.specs.TextFaults.{text_fault}
 use Rattle.semantics.specs.Faults.{log_fault}
 use Rattle.semantics.specs.Tables.{Tables, tables_of}
 use Rattle.semantics.specs.Outcome.{IsFound, IsOutcome, IsPrinted, HasTextFault, Finds, CheckFinds, OrderedFinds, DepsFinds}
-use Rattle.spy_cli.specs.declared.request.Request.{Request}
-use Rattle.spy_cli.specs.declared.request.Request.TheVariants as requests
+use Rattle.log_gen.specs.Stencil.{stencil}
+use Rattle.spy_args.specs.Asked.{IsSized}
+use Rattle.spy_args.specs.declared.request.Request.{Request}
+use Rattle.spy_args.specs.declared.request.Request.TheVariants as requests
 use Rattle.spy_cli.specs.declared.status.Status.{Status}
 use Rattle.spy_cli.specs.declared.status.Status.TheVariants as statuses
-use Rattle.spy_cli.specs.Answers.{status_of, Tells, IsJudged, IsAnswer, IsAdmitted, Keeps, Ends}
+use Rattle.spy_cli.specs.Answers.{status_of, Tells, IsJudged, IsDemo, IsAnswer, IsDecided, IsInput, IsAdmitted, Keeps, Ends}
+use Rattle.spy_cli.proofs.Lines.{long}
+use Rattle.spy_cli.proofs.Stencils.{records_are}
 
 abbrev OneLog : Type 0
 OneLog = (bytes : List ℕ) (log other : List Lined) → Reads bytes log → Reads bytes other → log ≡ other
@@ -41,14 +48,28 @@ faults_alike bytes f g p q =
 clean_or_not : {A : Type 0} (bytes : List ℕ) (f : Finding) → HasTextFault bytes f → text_fault bytes ≡ None → A
 clean_or_not bytes f p e = let wrong : ◌≡◌ {A = Option Fault} (Some p.fault) None = sym p.shown ∙ e in absurd cc
 
-pub same_answer : OneLog → OneOutcome → (request : Request) (bytes : List ℕ) (s t : Status) (x y : List ℕ) → IsAnswer request bytes s x → IsAnswer request bytes t y → (s ≡ t) × (x ≡ y)
-same_answer one outcome requests.Check bytes s t x y p q = judged_alike outcome commands.Check bytes s t x y p q
-same_answer one outcome requests.Ordered bytes s t x y p q = judged_alike outcome commands.Ordered bytes s t x y p q
-same_answer one outcome requests.Deps bytes s t x y p q = judged_alike outcome commands.Deps bytes s t x y p q
-same_answer one outcome requests.Print bytes s t x y (inl p) (inl q) = told_alike p.finding q.finding s t x y (faults_alike bytes p.finding q.finding p.fault q.fault) p.tells q.tells
-same_answer one outcome requests.Print bytes s t x y (inl p) (inr q) = clean_or_not bytes p.finding p.fault q.1.spelled
-same_answer one outcome requests.Print bytes s t x y (inr p) (inl q) = clean_or_not bytes q.finding q.fault p.1.spelled
-same_answer one outcome requests.Print bytes s t x y (inr p) (inr q) = (p.0 ∙ sym q.0, p.1.text_is ∙ ap (λ log. text_of (records_of log)) (one bytes p.1.log q.1.log p.1.reads q.1.reads) ∙ sym q.1.text_is)
+abbrev OneFinding : Type 0
+OneFinding = (command : Command) (lines : ℕ) (log : List Lined) → AllByRecursion Good (records_of log) → (f g : Finding) → IsFound command lines log f → IsFound command lines log g → f ≡ g
+
+-- Two answers of one `demo` are one.
+demos_alike : OneFinding → (size : ℕ) → AllByRecursion Good (stencil size) → (s t : Status) (x y : List ℕ) → IsDemo size s x → IsDemo size t y → (s ≡ t) × (x ≡ y)
+demos_alike one size good s t x y p q =
+    let good_log = subst (AllByRecursion Good) (sym (records_are 1 (stencil size))) good in
+    let same = one commands.Check (length (stencil size)) (lined (stencil size)) good_log p.finding q.finding p.found q.found in
+    told_alike p.finding q.finding s t x y same p.tells q.tells
+
+abbrev DemosAreGood : Type 0
+DemosAreGood = (n : ℕ) → 1 ≤ n → n ≤ 500 → AllByRecursion Good (stencil n)
+
+pub same_answer : OneLog → OneOutcome → OneFinding → DemosAreGood → (request : Request) (bytes : List ℕ) (s t : Status) (x y : List ℕ) → IsSized request → IsAnswer request bytes s x → IsAnswer request bytes t y → (s ≡ t) × (x ≡ y)
+same_answer one outcome finding good requests.Check bytes s t x y sized p q = judged_alike outcome commands.Check bytes s t x y p q
+same_answer one outcome finding good requests.Ordered bytes s t x y sized p q = judged_alike outcome commands.Ordered bytes s t x y p q
+same_answer one outcome finding good requests.Deps bytes s t x y sized p q = judged_alike outcome commands.Deps bytes s t x y p q
+same_answer one outcome finding good requests.Print bytes s t x y sized (inl p) (inl q) = told_alike p.finding q.finding s t x y (faults_alike bytes p.finding q.finding p.fault q.fault) p.tells q.tells
+same_answer one outcome finding good requests.Print bytes s t x y sized (inl p) (inr q) = clean_or_not bytes p.finding p.fault q.1.spelled
+same_answer one outcome finding good requests.Print bytes s t x y sized (inr p) (inl q) = clean_or_not bytes q.finding q.fault p.1.spelled
+same_answer one outcome finding good requests.Print bytes s t x y sized (inr p) (inr q) = (p.0 ∙ sym q.0, p.1.text_is ∙ ap (λ log. text_of (records_of log)) (one bytes p.1.log q.1.log p.1.reads q.1.reads) ∙ sym q.1.text_is)
+same_answer one outcome finding good (requests.Demo size) bytes s t x y sized p q = demos_alike finding size (good size sized.0 sized.1) s t x y p q
 
 -- ---- what is printed, printed again
 
@@ -119,6 +140,22 @@ deps_ends : (t : Tables) (f : Finding) → DepsFinds t f → status_of f ≡ sta
 deps_ends t (Deps list items before turn) h = refl
 deps_ends t _ h = absurd h
 
+-- What is found in a log by `check` is told with a status that the log decides.
+check_decides : (lines : ℕ) (log : List Lined) (f : Finding) → IsFound commands.Check lines log f → IsDecided (status_of f)
+check_decides lines log (Faulty line code) found = tt
+check_decides lines log (Accepted tasks operations reads) found = tt
+check_decides lines log (Cycle events) found = tt
+check_decides lines log (Race a b inst point field) found = tt
+check_decides lines log (Differ task number point field got want) found = tt
+check_decides lines log (Unordered a b tree point field) found = absurd found.1
+check_decides lines log (Ordered tasks pairs) found = absurd found.1
+check_decides lines log (Deps list items before turn) found = absurd found.1
+check_decides lines log Usage found = absurd found.1
+check_decides lines log CannotRead found = absurd found.1
+
+pub demo_decides : (size : ℕ) (s : Status) (x : List ℕ) → IsDemo size s x → IsDecided s
+demo_decides size s x a = subst IsDecided (sym a.tells.status_is) (check_decides (length (stencil size)) (lined (stencil size)) a.finding a.found)
+
 -- So it is answered by what is found in it.
 pub answered_ends : OneLog → (request : Request) (bytes : List ℕ) (s : Status) (x : List ℕ) → Keeps request bytes → IsAnswer request bytes s x → Ends request s
 answered_ends one requests.Check bytes s x keeps a =
@@ -130,6 +167,7 @@ answered_ends one requests.Ordered bytes s x keeps a =
 answered_ends one requests.Deps bytes s x keeps a =
     let found = in_tables commands.Deps bytes one keeps a.finding a.outcome in
     inl (a.tells.status_is ∙ deps_ends found.0 a.finding found.1)
+answered_ends one (requests.Demo size) bytes s x keeps a = inl (demo_decides size s x a)
 answered_ends one requests.Print bytes s x keeps (inl a) = clean_or_not bytes a.finding a.fault keeps
 answered_ends one requests.Print bytes s x keeps (inr a) = inl a.0
 
@@ -138,3 +176,18 @@ memory_ends requests.Check = inr (inr refl)
 memory_ends requests.Ordered = inr (inr refl)
 memory_ends requests.Deps = inr refl
 memory_ends requests.Print = inr refl
+memory_ends (requests.Demo size) = inr refl
+
+-- ---- an input that is too long
+
+told_long : (bytes : List ℕ) → 2 ^ 26 < length bytes → HasTextFault bytes (Faulty 0 TooLong)
+told_long bytes h = record { fault = record { line = 0; code = TooLong }; shown = long bytes h; finding_is = refl }
+
+-- Its fault is told, whatever is asked. (`demo` has no input.)
+pub too_long_told : (request : Request) (left : Option (List ℕ)) (bytes : List ℕ) (s : Status) (x : List ℕ) → IsInput request left bytes → 2 ^ 26 < length bytes
+    → Tells (Faulty 0 TooLong) s x → IsAnswer request bytes s x
+too_long_told requests.Check left bytes s x input long tells = record { finding = Faulty 0 TooLong; outcome = inl (told_long bytes long); tells = tells }
+too_long_told requests.Ordered left bytes s x input long tells = record { finding = Faulty 0 TooLong; outcome = inl (told_long bytes long); tells = tells }
+too_long_told requests.Deps left bytes s x input long tells = record { finding = Faulty 0 TooLong; outcome = inl (told_long bytes long); tells = tells }
+too_long_told requests.Print left bytes s x input long tells = inl (record { finding = Faulty 0 TooLong; fault = told_long bytes long; tells = tells })
+too_long_told (requests.Demo size) left bytes s x input long tells = absurd (omega (arith, long, ap length input))

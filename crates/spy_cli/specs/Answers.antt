@@ -1,37 +1,47 @@
 -- What a call answers: the status and the text that the words and the input decide.
-use Rattle.std.specs.Prelude.{◌≡◌, ℕ, ◌-◌, ◌^◌, ◌<◌, List, [], ◌∷◌, codes, bytes_eq, Option, Some, None, ◌⊎◌, if◌then◌else◌}
-use Rattle.std.specs.Io.KnownBytes.{Appends}
+use Rattle.std.specs.Prelude.{◌≡◌, ℕ, ◌+◌, ◌-◌, ◌^◌, ◌<◌, ◌≤◌, Bool, true, false, List, [], length, Option, Some, None, ◌⊎◌}
+use Rattle.std.specs.Io.KnownBytes.{Appends, Consumes, IsAtEnd}
+use Rattle.spy_io.specs.Causes.{TakesExactly}
 use Rattle.spy_grammar.specs.declared.record.Lined.{Lined}
 use Rattle.findings.specs.declared.finding.Finding.{Finding}
 use Rattle.findings.specs.declared.finding.Finding.TheVariants as findings
 use Rattle.findings.specs.Texts as reports
 use Rattle.semantics.specs.declared.command.Command.{Command}
 use Rattle.semantics.specs.declared.command.Command.TheVariants as commands
-use Rattle.semantics.specs.Records.{Reads, line_count}
+use Rattle.semantics.specs.Records.{Reads, line_count, lined}
 use Rattle.semantics.specs.TextFaults.{text_fault}
 use Rattle.semantics.specs.Faults.{log_fault}
-use Rattle.semantics.specs.Outcome.{HasTextFault, IsOutcome, IsPrinted}
-use Rattle.spy_cli.specs.declared.request.Request.{Request}
-use Rattle.spy_cli.specs.declared.request.Request.TheVariants as requests
+use Rattle.semantics.specs.Outcome.{HasTextFault, IsFound, IsOutcome, IsPrinted}
+use Rattle.long_values.specs.LongOutcome.{IsOutcomeLong}
+use Rattle.log_gen.specs.Stencil.{stencil}
+use Rattle.spy_args.specs.declared.request.Request.{Request}
+use Rattle.spy_args.specs.declared.request.Request.TheVariants as requests
 use Rattle.spy_cli.specs.declared.status.Status.{Status}
 use Rattle.spy_cli.specs.declared.status.Status.TheVariants as statuses
 
 -- ---- words
 
--- What a word asks for.
-abbrev pub request_at : List ℕ → Option Request
-request_at word =
-    if bytes_eq word (codes "check") then Some requests.Check
-    else if bytes_eq word (codes "ordered") then Some requests.Ordered
-    else if bytes_eq word (codes "deps") then Some requests.Deps
-    else if bytes_eq word (codes "print") then Some requests.Print
-    else None
+-- Whether words ask for a command that reads the source: `demo` does not, and where no command is asked for nothing does.
+abbrev pub takes_input : Option Request → Bool
+takes_input None = false
+takes_input (Some (requests.Demo size)) = false
+takes_input (Some _) = true
 
--- What words ask for: they are the one word that names it.
-abbrev pub asked : List (List ℕ) → Option Request
-asked [] = None
-asked (word ∷ []) = request_at word
-asked (word ∷ more ∷ words) = None
+-- What a command reads: all that the source has left. `demo` reads nothing, whatever the source has.
+abbrev pub IsInput : Request → Option (List ℕ) → List ℕ → Type 0
+IsInput (requests.Demo size) left bytes = bytes ≡ []
+IsInput _ left bytes = left ≡ Some bytes
+
+-- All that a source had left was taken, to its end: no more bytes than an input may have.
+pub record TakesAll (before after : Option (List ℕ)) : Type 0 where
+  pub bytes : List ℕ
+  pub taken : Consumes before after bytes
+  pub few : length bytes ≤ 2 ^ 26
+  pub end : IsAtEnd after
+
+-- A source was read: all that it had left was taken, or one byte more than an input may have.
+abbrev pub IsRead : Option (List ℕ) → Option (List ℕ) → Type 0
+IsRead before after = TakesAll before after ⊎ TakesExactly before after (2 ^ 26 + 1)
 
 -- ---- answers
 
@@ -62,12 +72,25 @@ pub record IsFaulty (bytes : List ℕ) (status : Status) (text : List ℕ) : Typ
   pub fault : HasTextFault bytes finding
   pub tells : Tells finding status text
 
+-- What `check` finds in the stencil log of so many pieces is answered. Its records stand on lines of their own, from line 1 on.
+pub record IsDemo (size : ℕ) (status : Status) (text : List ℕ) : Type 0 where
+  pub finding : Finding
+  pub found : IsFound commands.Check (length (stencil size)) (lined (stencil size)) finding
+  pub tells : Tells finding status text
+
 -- What is answered to an input.
 abbrev pub IsAnswer : Request → List ℕ → Status → List ℕ → Type 0
 IsAnswer requests.Check bytes status text = IsJudged commands.Check bytes status text
 IsAnswer requests.Ordered bytes status text = IsJudged commands.Ordered bytes status text
 IsAnswer requests.Deps bytes status text = IsJudged commands.Deps bytes status text
 IsAnswer requests.Print bytes status text = IsFaulty bytes status text ⊎ ((status ≡ statuses.Yes) × IsPrinted bytes text)
+IsAnswer (requests.Demo size) bytes status text = IsDemo size status text
+
+-- What is answered to an input under `check`, told by long values.
+pub record IsAnswerLong (bytes : List ℕ) (status : Status) (text : List ℕ) : Type 0 where
+  pub finding : Finding
+  pub outcome : IsOutcomeLong bytes finding
+  pub tells : Tells finding status text
 
 -- The statuses that the input decides.
 abbrev pub IsDecided : Status → Type 0
@@ -82,6 +105,12 @@ pub record Answers (request : Request) (bytes : List ℕ) (status : Status) (bef
   pub answer : IsAnswer request bytes status text
   pub written : Appends before after text
 
+-- The same, told by long values.
+pub record AnswersLong (bytes : List ℕ) (status : Status) (before after : Option (List ℕ)) : Type 0 where
+  pub text : List ℕ
+  pub answer : IsAnswerLong bytes status text
+  pub written : Appends before after text
+
 -- ---- completeness
 
 -- The input spells a log, and the log keeps each rule that the command judges.
@@ -91,20 +120,27 @@ pub record IsAdmitted (command : Command) (bytes : List ℕ) : Type 0 where
   pub reads : Reads bytes log
   pub keeps : log_fault command (line_count bytes) log ≡ None
 
--- The input keeps each rule that is judged.
+-- The input keeps each rule that is judged. (Of the stencil log nothing is asked.)
 abbrev pub Keeps : Request → List ℕ → Type 0
 Keeps requests.Check bytes = IsAdmitted commands.Check bytes
 Keeps requests.Ordered bytes = IsAdmitted commands.Ordered bytes
 Keeps requests.Deps bytes = IsAdmitted commands.Deps bytes
 Keeps requests.Print bytes = text_fault bytes ≡ None
+Keeps (requests.Demo size) bytes = Unit {0}
 
 -- How a call ends, if no device fails, on an input that keeps each rule.
 abbrev pub Ends : Request → Status → Type 0
 Ends requests.Check status = (status ≡ statuses.Yes) ⊎ (status ≡ statuses.Refused) ⊎ (status ≡ statuses.Memory)
 Ends requests.Ordered status = (status ≡ statuses.Yes) ⊎ (status ≡ statuses.Refused) ⊎ (status ≡ statuses.Memory)
+Ends (requests.Demo size) status = IsDecided status ⊎ (status ≡ statuses.Memory)
 Ends _ status = (status ≡ statuses.Yes) ⊎ (status ≡ statuses.Memory)
 
 -- A count of faults did not rise, and it could have.
 pub record IsCalm (before now : ℕ) : Type 0 where
   pub same : now ≡ before
   pub room : before < 2 ^ 64 - 1
+
+-- The source of an input is calm; nothing is asked of that of `demo`, which reads none.
+abbrev pub IsInputCalm : Request → ℕ → ℕ → Type 0
+IsInputCalm (requests.Demo size) before now = Unit {0}
+IsInputCalm _ before now = IsCalm before now

@@ -1,3 +1,4 @@
 pub mod Statuses
 pub mod Answers
 pub mod Spelled
+pub mod Cut

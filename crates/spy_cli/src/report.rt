@@ -5,17 +5,17 @@ ghost use Rattle.findings.specs.declared.finding.Finding.TheVariants as findings
 ghost use Rattle.findings.specs.Texts as reports;
 ghost use Rattle.spy_cli.specs.Answers as answers;
 
+use crate::memory::Memory;
 use crate::status::Status;
 use findings::{Finding, text};
 use spy_grammar::Code;
-use spy_io::Memory;
 use std::alloc::Global;
 
 /// What is answered: how the call ends if its text is written, and that text.
 #[derive(Debug, Drop)]
-pub struct Report {
-    pub status: Status,
-    pub text: Vec<u8>,
+pub(crate) struct Report {
+    pub(crate) status: Status,
+    pub(crate) text: Vec<u8>,
 }
 
 /// The status with which a finding is answered.
@@ -35,21 +35,19 @@ fn status_of(finding: &Finding) -> Status
 }
 
 /// The report of a finding.
-pub fn report_of(alloc: Global, finding: &Finding) -> Result<Report, Memory>
+pub(crate) fn report_of(alloc: Global, finding: &Finding) -> Result<Report, Memory>
     requires { reports.Good finding.now }
     ensures { IfOk result (λ r. answers.Tells finding.now r.status r.text.items) }
 {
-    match text(alloc, finding) {
-        Ok(text) => Ok(Report {
-            status: status_of(finding),
-            text,
-        }),
-        Err(_) => Err(Memory),
-    }
+    let text = text(alloc, finding)?;
+    Ok(Report {
+        status: status_of(finding),
+        text,
+    })
 }
 
 /// The report of a fault.
-pub fn fault_report(alloc: Global, line: u32, code: Code) -> Result<Report, Memory>
+pub(crate) fn fault_report(alloc: Global, line: u32, code: Code) -> Result<Report, Memory>
     ensures { IfOk result (λ r. answers.Tells (findings.Fault line code) r.status r.text.items) }
 {
     report_of(alloc, &Finding::Fault { line, code })

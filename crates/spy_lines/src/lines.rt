@@ -56,6 +56,14 @@ impl Lines {
         }
     }
 
+    /// All bytes at once. They are kept as they are, and no memory is taken.
+    pub fn of(bytes: Vec<u8>) -> Lines
+        requires { length bytes.items ≤ 2 ^ 26 }
+        ensures { result ≡ bytes.items }
+    {
+        Lines { bytes }
+    }
+
     /// Takes the next piece.
     pub fn feed(&mut self, piece: &[u8]) -> Result<(), Memory>
         requires { length self.old + length piece.now ≤ 2 ^ 26 }

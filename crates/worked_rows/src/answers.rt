@@ -16,9 +16,14 @@ pub fn words_of(alloc: Global, texts: &[&str]) -> Result<Vec<String>, Fail> {
 
 /// The status of a command over an input, and what it writes.
 pub fn answer(alloc: Global, command: &str, log: &[u8]) -> Result<(Status, Vec<u8>), Fail> {
-    let words = words_of(alloc, &[command])?;
+    answer_to(alloc, &[command], log)
+}
+
+/// The same of a command line.
+pub fn answer_to(alloc: Global, texts: &[&str], log: &[u8]) -> Result<(Status, Vec<u8>), Fail> {
+    let words = words_of(alloc, texts)?;
     let mut source = MemSource::new(log.to_vec(alloc)?, 1000, Vec::new(alloc));
-    let mut sink = MemSink::with_room(alloc, 1000, 1000, Vec::new(alloc))?;
+    let mut sink = MemSink::with_room(alloc, 65_536, 1000, Vec::new(alloc))?;
     let status = run(alloc, &words, &mut source, &mut sink);
     Ok((status, sink.held().to_vec(alloc)?))
 }

@@ -1,11 +1,10 @@
 //! The worked examples of `check`, each through `run`.
 
-use crate::answers::{answer, edited, words_of};
+use crate::answers::{answer, edited};
 use crate::logs::{
     GATHERED_REDUCTIONS, STALE_COPY, TURNED_WRITES, TWO_OPERATORS, TWO_TASKS, WRITE_THEN_READ,
 };
-use spy_cli::{Status, run};
-use spy_io::{MemSink, MemSource};
+use spy_cli::Status;
 use std::alloc::Global;
 use std::test::Fail;
 
@@ -115,26 +114,5 @@ fn logs_at_the_limits(rt: HostRuntime) -> Result<(), Fail> {
         b"accepted tasks 0 operations 0 reads 0\n".as_slice()
     );
     assert_eq!(rt; status, Status::Yes);
-    Ok(())
-}
-
-#[test]
-fn devices_that_fail_under_check(rt: HostRuntime) -> Result<(), Fail> {
-    let alloc = rt.alloc();
-    let words = words_of(alloc, &["check"])?;
-    let mut source = MemSource::new(WRITE_THEN_READ.to_vec(alloc)?, 100, [2].to_vec(alloc)?);
-    let mut sink = MemSink::with_room(alloc, 1000, 1000, Vec::new(alloc))?;
-    assert_eq!(rt;
-        run(alloc, &words, &mut source, &mut sink),
-        Status::ReadFault
-    );
-    assert_eq!(rt; sink.held(), b"cannot read\n".as_slice());
-    let mut source = MemSource::new(WRITE_THEN_READ.to_vec(alloc)?, 100, Vec::new(alloc));
-    let mut sink = MemSink::with_room(alloc, 1000, 5, [2].to_vec(alloc)?)?;
-    assert_eq!(rt;
-        run(alloc, &words, &mut source, &mut sink),
-        Status::WriteFault
-    );
-    assert_eq!(rt; sink.held(), b"accep".as_slice());
     Ok(())
 }

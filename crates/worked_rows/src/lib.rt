@@ -8,6 +8,10 @@ mod checked;
 #[cfg(test)]
 mod devices;
 #[cfg(test)]
+mod examples;
+#[cfg(test)]
+mod hostile;
+#[cfg(test)]
 mod lines;
 #[cfg(test)]
 mod logs;
@@ -15,3 +19,5 @@ mod logs;
 mod printed;
 #[cfg(test)]
 mod rows;
+#[cfg(test)]
+mod words;

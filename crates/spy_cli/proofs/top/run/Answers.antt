@@ -1,15 +1,37 @@
-use Rattle.std.proofs.Common.{◌≡◌, Option, Some, subst, ◌∙◌}
+use Rattle.std.proofs.Common.{◌≡◌, Option, Some, subst, sym, ◌∙◌}
 use Rattle.std.specs.Prelude.{IfSome}
 use Rattle.std.specs.Io.KnownBytes.{Appends}
-use Rattle.spy_cli.specs.declared.request.Request.{Request}
-use Rattle.spy_cli.specs.Answers.{IsAnswer, IsDecided}
+use Rattle.spy_args.specs.declared.request.Request.{Request}
+use Rattle.spy_args.specs.declared.request.Request.TheVariants.{Check}
+use Rattle.spy_args.specs.Asked.{IsSized}
+use Rattle.spy_cli.specs.Answers.{IsAnswer, IsDecided, IsInput}
 use Rattle.spy_cli.proofs.top.run.Goals as goal
 
-pub returns-in-Ok-clause-exact : goal.returns-in-Ok-clause-exact
-returns-in-Ok-clause-exact g c request asks bytes status text left out decided =
-    let both : ◌≡◌ {A = Option Request} (Some c.in-Some.request) (Some request) = c.in-Some.ensures ∙ asks in
-    let same : c.in-Some.request ≡ request = cc in
-    let own : IsAnswer c.in-Some.request bytes c.in-Ok.report.status c.in-Ok.report.text.items = subst (λ o. IfSome o (λ bs. IsAnswer c.in-Some.request bs c.in-Ok.report.status c.in-Ok.report.text.items)) left c.in-Ok.ensures.outcome in
-    let one = c.one_report.ensures request bytes c.in-Ok.report.status status c.in-Ok.report.text.items text (subst (λ k. IsAnswer k bytes c.in-Ok.report.status c.in-Ok.report.text.items) same own) out in
+pub returns-in-Ok-clause-answer : goal.returns-in-Ok-clause-answer
+returns-in-Ok-clause-answer g c request asks decided bytes input =
+    let r = c.in-Ok.report in
+    let both : ◌≡◌ {A = Option Request} (Some c.in-Ok-Some.request) (Some request) = sym c.in-Ok-Some.field-0-is ∙ c.in-Ok-Some.ensures.asked ∙ asks in
+    let same : c.in-Ok-Some.request ≡ request = cc in
+    let own = c.in-Ok.ensures.outcome bytes (subst (λ k. IsInput k (g.S.Source.left c.args.source.now) bytes) (sym same) input) in
     let done = c.written-in-Ok.ensures.done (λ e. subst IsDecided e decided) in
-    (done.0 ∙ one.0, subst (Appends (g.K.Sink.held c.args.sink.now) (g.K.Sink.held c.written-in-Ok.new.sink)) (c.deref.ensures.value ∙ one.1) done.1)
+    record {
+      text = r.text.items;
+      answer = subst (λ s. IsAnswer request bytes s r.text.items) (sym done.0) (subst (λ k. IsAnswer k bytes r.status r.text.items) same own);
+      written = subst (Appends (g.K.Sink.held c.args.sink.now) (g.K.Sink.held c.written-in-Ok.new.sink)) c.deref.ensures.value done.1;
+    }
+
+pub returns-in-Ok-clause-exact : goal.returns-in-Ok-clause-exact
+returns-in-Ok-clause-exact g c request asks bytes status text input out decided =
+    let a = returns-in-Ok-clause-answer g c request asks decided bytes input in
+    let sized = subst (λ o. IfSome o IsSized) (c.in-Ok-Some.ensures.asked ∙ asks) c.in-Ok-Some.ensures.sized in
+    let one = c.one_report.ensures request bytes c.written-in-Ok.result status a.text text sized a.answer out in
+    (one.0, subst (Appends (g.K.Sink.held c.args.sink.now) (g.K.Sink.held c.written-in-Ok.new.sink)) one.1 a.written)
+
+pub returns-in-Ok-clause-answer_long : goal.returns-in-Ok-clause-answer_long
+returns-in-Ok-clause-answer_long g c asks decided bytes left =
+    let a = returns-in-Ok-clause-answer g c Check asks decided bytes left in
+    record { text = a.text; answer = (c.answers_in_long.ensures bytes c.written-in-Ok.result a.text).0 a.answer; written = a.written }
+
+pub returns-in-Ok-clause-exact_long : goal.returns-in-Ok-clause-exact_long
+returns-in-Ok-clause-exact_long g c asks bytes status text left out decided =
+    returns-in-Ok-clause-exact g c Check asks bytes status text left ((c.answers_in_long.ensures bytes status text).1 out) decided

@@ -1,0 +1,37 @@
+use Rattle.std.proofs.Common.{◌≡◌, ◌∙◌, ap, arith, length, map, sym, subst}
+use Rattle.std.specs.List.{AllByRecursion}
+use Rattle.std.proofs.lemmas.List.{length-map}
+use Rattle.std.proofs.lemmas.Result.{IfOk-weaker}
+use Rattle.spy_grammar.specs.Spelling.{Good, spelling}
+use Rattle.semantics.specs.declared.command.Command.TheVariants.{Check}
+use Rattle.semantics.specs.Outcome.{IsFound}
+use Rattle.semantics.specs.Records.{lined, records_of}
+use Rattle.log_faults.specs.Lines.{AreLines}
+use Rattle.log_gen.specs.Stencil.{stencil}
+use Rattle.spy_cli.specs.declared.report.Report.{Report}
+use Rattle.spy_cli.proofs.Numbered.{are_lines, each_good}
+use Rattle.spy_cli.proofs.Stencils.{records_are, spellings_hold}
+use Rattle.spy_cli.proofs.demo.demo_report.Goals as goal
+
+pub finding_in-requires-clause-good : goal.finding_in-requires-clause-good
+finding_in-requires-clause-good c =
+    let rs = c.in_ok-records.records.items in
+    let good = subst (AllByRecursion Good) (sym (records_are 1 rs)) c.in_ok-records.ensures.good in
+    each_good c.in_ok-log.log.items (subst (λ ls. AllByRecursion Good (records_of ls)) (sym c.in_ok-log.ensures) good)
+
+pub finding_in-requires-clause-lines : goal.finding_in-requires-clause-lines
+finding_in-requires-clause-lines c =
+    let rs = c.in_ok-records.records.items in
+    let many = length-map rs spelling in
+    let own = c.in_ok-records.records.ok in
+    let lines = are_lines (map spelling rs) (lined rs) (spellings_hold 1 rs c.in_ok-records.ensures.good) (omega (arith, many, c.in_ok-records.ensures.count, c.requires.few)) in
+    subst (AreLines c.len-lines.result) (sym c.in_ok-log.ensures) (subst (λ n. AreLines n (lined rs)) (omega (arith, many, c.len-lines.ensures, own)) lines)
+
+pub returns : goal.returns
+returns c =
+    let same = c.in_ok-log.ensures ∙ ap lined c.in_ok-records.ensures.exact in
+    let own = c.in_ok-records.records.ok in
+    let count : c.len-lines.result ≡ length (stencil c.args.size) = omega (arith, c.len-lines.ensures, own, ap length c.in_ok-records.ensures.exact) in
+    let f = c.in_ok-finding.finding in
+    let found = subst (λ n. IsFound Check n (lined (stencil c.args.size)) f) count (subst (λ ls. IsFound Check c.len-lines.result ls f) same c.in_ok-finding.ensures.found) in
+    IfOk-weaker c.report_of.result _ _ (λ (r : Report) tells. record { finding = f; found = found; tells = tells }) c.report_of.ensures

@@ -1,0 +1,66 @@
+//! An input, and the records that it spells.
+
+ghost use Rattle.std.specs.Prelude.{◌≡◌, ℕ, ◌≤◌, ◌^◌, All, Err, length, IfOk, None, OnOk};
+ghost use Rattle.spy_lines.specs.LinesOf.{with_ends, IsLine};
+ghost use Rattle.spy_grammar.specs.declared.code.Code.{Code};
+ghost use Rattle.spy_grammar.specs.Spelling.{Good};
+ghost use Rattle.semantics.specs.Records.{Hold};
+ghost use Rattle.semantics.specs.TextFaults.{lines_fault};
+ghost use Rattle.log_faults.specs.Lines.{AreLines};
+ghost use Rattle.spy_cli.specs.Spelled.{HasFault, HasFaultOfLines, Spells};
+
+use crate::reading::{SpellEnd, read_records};
+use log_laws::read_logs_are_good;
+use spy_grammar::{Code, Lined};
+use spy_lines::{LineList, Lines};
+use std::alloc::Global;
+
+/// The records of an input, and how many lines it has.
+#[derive(Drop)]
+pub(crate) struct Input {
+    pub(crate) records: Vec<Lined>,
+    pub(crate) lines: u32,
+}
+
+/// The lines of an input, over its bytes.
+fn lines_of(bytes: Vec<u8>) -> Result<LineList, SpellEnd>
+    requires { length bytes.items ≤ 2 ^ 26 }
+    ensures bytes { IfOk result (λ lines. with_ends lines ≡ bytes.items) }
+    ensures lines { IfOk result (λ lines. All IsLine lines) }
+    ensures fault { (line : ℕ) (code : Code) → result ≡ Err (SpellEnd.Fault line code) → HasFault bytes.items line code }
+{
+    match Lines::of(bytes).finish() {
+        Ok(list) => Ok(list),
+        Err(end) => Err(SpellEnd::Fault {
+            line: end.line,
+            code: Code::Newline,
+        }),
+    }
+}
+
+/// The records of lines, which are not kept.
+fn records_of(alloc: Global, list: LineList) -> Result<Input, SpellEnd>
+    ensures held { IfOk result (λ i. Hold 1 list i.records.items) }
+    ensures clean { OnOk result (lines_fault 1 list ≡ None) }
+    ensures count { IfOk result (λ i. i.lines ≡ length list) }
+    ensures good { IfOk result (λ i. All (λ l. Good l.rec) i.records.items) }
+    ensures lines { IfOk result (λ i. AreLines i.lines i.records.items) }
+    ensures fault { (line : ℕ) (code : Code) → result ≡ Err (SpellEnd.Fault line code) → HasFaultOfLines list line code }
+{
+    read_logs_are_good();
+    let lines = list.len() as u32;
+    let records = read_records(alloc, &list)?;
+    Ok(Input { records, lines })
+}
+
+/// The records of an input.
+pub(crate) fn input_in(alloc: Global, bytes: Vec<u8>) -> Result<Input, SpellEnd>
+    requires { length bytes.items ≤ 2 ^ 26 }
+    ensures spelled { IfOk result (λ i. Spells bytes.items i.lines i.records.items) }
+    ensures good { IfOk result (λ i. All (λ l. Good l.rec) i.records.items) }
+    ensures lines { IfOk result (λ i. AreLines i.lines i.records.items) }
+    ensures fault { (line : ℕ) (code : Code) → result ≡ Err (SpellEnd.Fault line code) → HasFault bytes.items line code }
+{
+    let list = lines_of(bytes)?;
+    records_of(alloc, list)
+}

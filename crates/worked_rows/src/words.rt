@@ -1,0 +1,106 @@
+//! Words of the command line, and `demo`.
+
+use crate::answers::{answer, answer_to, words_of};
+use crate::logs::WRITE_THEN_READ;
+use log_gen::stencil;
+use spy_cli::{Status, run};
+use spy_grammar::{good, write_record};
+use spy_io::{MemSink, MemSource};
+use std::alloc::Global;
+use std::test::Fail;
+
+#[rattlefmt::skip]
+#[test]
+fn words_that_read_nothing(rt: HostRuntime) -> Result<(), Fail> {
+    let alloc = rt.alloc();
+    let rows: [(&[&str], Status, &[u8]); 20] = [
+        (&[], Status::Usage, b"usage\n"),
+        (&[""], Status::Usage, b"usage\n"),
+        (&["orderd"], Status::Usage, b"usage\n"),
+        (&["ordered", "ordered"], Status::Usage, b"usage\n"),
+        (&["--help"], Status::Usage, b"usage\n"),
+        (&["check", "--size", "4"], Status::Usage, b"usage\n"),
+        (&["demo"], Status::Usage, b"usage\n"),
+        (&["demo", "--size"], Status::Usage, b"usage\n"),
+        (&["demo", "--size", "0"], Status::Usage, b"usage\n"),
+        (&["demo", "--size", "501"], Status::Usage, b"usage\n"),
+        (&["demo", "--size", "016"], Status::Usage, b"usage\n"),
+        (&["demo", "--size", "4", "--size", "4"], Status::Usage, b"usage\n"),
+        // The stencil log, of a row of pieces with halos, over ten steps.
+        (&["demo", "--size", "1"], Status::Yes, b"accepted tasks 20 operations 21 reads 300\n"),
+        (&["demo", "--size", "2"], Status::Yes, b"accepted tasks 40 operations 62 reads 620\n"),
+        (&["demo", "--size=4"], Status::Yes, b"accepted tasks 80 operations 144 reads 1260\n"),
+        (&["--size=4", "demo"], Status::Yes, b"accepted tasks 80 operations 144 reads 1260\n"),
+        (&["--size", "4", "demo"], Status::Yes, b"accepted tasks 80 operations 144 reads 1260\n"),
+        (&["demo", "--size", "4", "--"], Status::Yes, b"accepted tasks 80 operations 144 reads 1260\n"),
+        (&["demo", "--size", "16"], Status::Yes, b"accepted tasks 320 operations 636 reads 5100\n"),
+        (&["demo", "--size", "500"], Status::Yes, b"accepted tasks 10000 operations 20480 reads 159980\n"),
+    ];
+    for (texts, status, report) in rows {
+        let words = words_of(alloc, texts)?;
+        // A call of the source would fail.
+        let mut source = MemSource::new(WRITE_THEN_READ.to_vec(alloc)?, 1000, [1].to_vec(alloc)?);
+        let mut sink = MemSink::with_room(alloc, 1000, 1000, Vec::new(alloc))?;
+        assert_eq!(rt; run(alloc, &words, &mut source, &mut sink), status);
+        assert_eq!(rt; sink.held(), report);
+        assert_eq!(rt; source.left(), WRITE_THEN_READ);
+    }
+    Ok(())
+}
+
+#[test]
+fn the_command_may_stand_behind_dashes(rt: HostRuntime) -> Result<(), Fail> {
+    let alloc = rt.alloc();
+    let rows: [&[&str]; 3] = [&["check"], &["check", "--"], &["--", "check"]];
+    for texts in rows {
+        let (status, said) = answer_to(alloc, texts, WRITE_THEN_READ)?;
+        assert_eq!(rt; status, Status::Yes);
+        assert_eq!(rt;
+            said.as_slice(),
+            b"accepted tasks 2 operations 2 reads 4\n".as_slice()
+        );
+    }
+    Ok(())
+}
+
+/// The text of the stencil log of so many pieces, from 1 to 500.
+fn stencil_text(alloc: Global, size: u32) -> Result<Vec<u8>, Fail> {
+    let mut text = Vec::new(alloc);
+    for rec in stencil(alloc, size.max(1).min(500))? {
+        // Each has a spelling.
+        if good(&rec) {
+            text.extend_from_slice(&write_record(alloc, &rec)?)?;
+        }
+    }
+    Ok(text)
+}
+
+/// An update and a neighbour's stencil work on different instances and need no order, so `ordered` refuses what `check` accepts. The log of 3 pieces lies in the folder `examples` as `stencil_3.log`.
+#[test]
+fn the_stencil_log_is_accepted_though_not_ordered(rt: HostRuntime) -> Result<(), Fail> {
+    let alloc = rt.alloc();
+    let rows: [(u32, &[u8], &[u8]); 2] = [
+        (
+            2,
+            b"accepted tasks 40 operations 62 reads 620\n",
+            b"unordered 2 5 tree 1 point 10 field 1\n",
+        ),
+        (
+            3,
+            b"accepted tasks 60 operations 103 reads 940\n",
+            b"unordered 2 6 tree 1 point 10 field 1\n",
+        ),
+    ];
+    for (size, checked, ordered) in rows {
+        let log = stencil_text(alloc, size)?;
+        let (status, said) = answer(alloc, "check", &log)?;
+        assert_eq!(rt; said.as_slice(), checked);
+        assert_eq!(rt; status, Status::Yes);
+        let (status, said) = answer(alloc, "ordered", &log)?;
+        assert_eq!(rt; said.as_slice(), ordered);
+        assert_eq!(rt; status, Status::Refused);
+        let (_, printed) = answer(alloc, "print", &log)?;
+        assert_eq!(rt; printed, log);
+    }
+    Ok(())
+}
