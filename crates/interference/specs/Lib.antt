@@ -1,4 +1,5 @@
 pub mod Pairing
 pub mod Remembering
+pub mod Stretched
 pub mod Tasks
 pub mod Turned

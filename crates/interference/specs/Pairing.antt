@@ -64,6 +64,7 @@ left asked us a from = row asked us a from ++ rows asked us (a + 1)
 -- A pair is the first of a row from an item on.
 pub record StartsRow (asked : Option (List ℕ)) (us : List (List Usage)) (a from : ℕ) (p : Pair) : Type 0 where
   pub head : row asked us a from ≡ p ∷ row asked us a (p.b + 1)
+  pub meets : IsMeeting asked us p.a p.b p
   pub first : p.a ≡ a
   pub order : a ≤ p.b
   pub within : p.b < length us
@@ -71,5 +72,6 @@ pub record StartsRow (asked : Option (List ℕ)) (us : List (List Usage)) (a fro
 -- A pair is the first of what is left.
 pub record StartsLeft (asked : Option (List ℕ)) (us : List (List Usage)) (a from : ℕ) (p : Pair) : Type 0 where
   pub head : left asked us a from ≡ p ∷ left asked us p.a (p.b + 1)
+  pub meets : IsMeeting asked us p.a p.b p
   pub order : p.a ≤ p.b
   pub within : p.b < length us

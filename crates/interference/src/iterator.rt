@@ -8,10 +8,12 @@ ghost use Rattle.item_uses.specs.Blocks.{AreBlocks};
 ghost use Rattle.item_uses.specs.Representatives.{AreRepresentatives};
 ghost use Rattle.interference.specs.Pairing.{asked_of, IsFor, all_pairs, left, StartsLeft};
 ghost use Rattle.interference.specs.Remembering.{AreRight};
+ghost use Rattle.interference.specs.Stretched.{StartsWith};
 
 use crate::memory::Memory;
 use crate::pair::Pair;
-use crate::partners::{next_partner, remembered_pair};
+use crate::partners::{alike_end, next_partner, remembered_pair};
+use crate::stretch::Stretch;
 use item_uses::{ItemUses, Span};
 use point_set::PointSet;
 use std::marker::Model;
@@ -129,6 +131,32 @@ impl<'l, 'a, P: PointSet + Copy> Iterator for Pairs<'l, 'a, P> {
 }
 
 impl<'l, 'a, P: PointSet + Copy> Pairs<'l, 'a, P> {
+    /// The pairs that come next, of one item with items in a row that ask for the same: at least one, where any is left.
+    pub fn next_stretch(&mut self) -> Option<Stretch>
+        ensures none { IfNone result (self.old ≡ []) }
+        ensures some { IfSome result (StartsWith self.old self.new) }
+    {
+        let pair = next_left(
+            self.asked,
+            self.items,
+            self.blocks,
+            self.standing,
+            &mut self.memory,
+            self.a,
+            self.from,
+        )?;
+        let to = alike_end(self.asked, self.standing, pair.a, pair.b);
+        self.a = pair.a;
+        self.from = to;
+        Some(Stretch {
+            a: pair.a,
+            from: pair.b,
+            to,
+            kind: pair.kind,
+            place: pair.place,
+        })
+    }
+
     /// All pairs of items that interfere.
     pub(crate) fn of(
         items: &'l [ItemUses<'a, P>],

@@ -8,6 +8,7 @@ mod memory;
 mod pair;
 mod partners;
 mod serial;
+mod stretch;
 mod tasks;
 #[cfg(test)]
 mod tests;
@@ -17,4 +18,5 @@ pub use iterator::Pairs;
 pub use laws::pairs_are_of_items;
 pub use pair::Pair;
 pub use serial::{SerialBreaks, serial_ok};
+pub use stretch::Stretch;
 pub use tasks::{are_tasks, task_pair_count};

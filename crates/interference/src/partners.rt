@@ -7,6 +7,7 @@ ghost use Rattle.item_uses.specs.Spans.{Bounds};
 ghost use Rattle.item_uses.specs.Blocks.{AreBlocks};
 ghost use Rattle.interference.specs.Pairing.{asked_of, IsFor, is_asked, met_at, IsMeeting, row, StartsRow};
 ghost use Rattle.interference.specs.Remembering.{IsHow, AreRight, pair_found};
+ghost use Rattle.interference.specs.Stretched.{AreAlikeTo};
 
 use crate::memory::Memory;
 use crate::pair::Pair;
@@ -14,6 +15,7 @@ use item_uses::{Interference, ItemUses, Span};
 use point_set::PointSet;
 
 /// Whether a pair is asked for: any is, or one of which the second item comes before the first by these places.
+#[inline]
 fn is_asked(asked: Option<&[usize]>, a: usize, b: usize) -> bool
     requires a { IfSome asked (λ places. a < length places.now) }
     requires b { IfSome asked (λ places. b < length places.now) }
@@ -116,6 +118,22 @@ pub(crate) fn remembered_pair<'a, P: PointSet + Copy>(
     }
     let found = memory.recall(standing[a], standing[b])?;
     pair_with(a, b, found)
+}
+
+/// Where the items in a row end that come after one, ask for the same, and are asked for with a first.
+pub(crate) fn alike_end(asked: Option<&[usize]>, standing: &[usize], a: usize, b: usize) -> usize
+    requires asked { IfSome asked (λ places. length places.now ≡ length standing.now) }
+    requires a { a < length standing.now }
+    requires b { b < length standing.now }
+    ensures { AreAlikeTo (asked_of asked.entry) standing.now a b result }
+{
+    let same = standing[b];
+    for i in b + 1..standing.len() {
+        if standing[i] != same || !is_asked(asked, a, i) {
+            return i;
+        }
+    }
+    standing.len()
 }
 
 /// The first pair of an item with those from one to before another.

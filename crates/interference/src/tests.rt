@@ -314,16 +314,31 @@ fn hundreds(alloc: Global, tasks: u32) -> Result<Vec<u8>, Fail> {
     framed(alloc, &records, tasks)
 }
 
-/// How many pairs of tasks of the log of a text interfere.
+/// How many stretches the pairs of a log are, and how many pairs these have.
+fn stretches_of<'a, P: ArenaSet<'a>>(log: &Log<'a, P>) -> (usize, usize) {
+    let mut left = pairs(log);
+    let mut found = (0usize, 0usize);
+    for _turn in 0..1000 {
+        let Some(stretch) = left.next_stretch() else {
+            break;
+        };
+        let count = stretch.to.saturating_sub(stretch.from);
+        found = (found.0.saturating_add(1), found.1.saturating_add(count));
+    }
+    found
+}
+
+/// How many pairs of tasks of the log of a text interfere, and its stretches.
 fn count_in<'a, P: ArenaSet<'a> + 'a>(
     alloc: Global,
     bump: &'a Bump,
     text: &[u8],
-) -> Result<u64, Fail> {
+) -> Result<(u64, (usize, usize)), Fail> {
     let log = log_of::<P>(alloc, bump, text)?;
     let count = count_of(&log);
+    let stretches = stretches_of(&log);
     drop(log);
-    count
+    Ok((count?, stretches))
 }
 
 #[test]
@@ -332,7 +347,7 @@ fn pairs_of_several_blocks(rt: HostRuntime) -> Result<(), Fail> {
     let text = hundreds(alloc, 250)?;
     let bump = Bump::new(alloc);
     let count = count_in::<RunSet>(alloc, &bump, &text)?;
-    // 100 * 99 / 2 and 150 * 149 / 2.
-    assert_eq!(rt; count, 16125);
+    // 100 * 99 / 2 and 150 * 149 / 2. Each task but the last of its kind begins one stretch.
+    assert_eq!(rt; count, (16125, (248, 16125)));
     Ok(())
 }

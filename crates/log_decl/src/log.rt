@@ -1,6 +1,6 @@
 //! The log of a recorded run.
 
-ghost use Rattle.std.specs.Prelude.{◌≡◌, ◌<◌, ◌↔◌, map, length, slice_get, Some, None, [], IfOk, OnOk, IfErr, IsSome, IfSome, IsTrue, All, MatchOption};
+ghost use Rattle.std.specs.Prelude.{◌≡◌, ◌<◌, ◌==◌, ◌&&◌, ◌↔◌, map, length, position, slice_get, Some, None, [], IfOk, OnOk, IfErr, IsSome, IfSome, IsTrue, All, MatchOption};
 ghost use Rattle.std.specs.List.Sorted.{IsStrictlyIncreasing};
 ghost use Rattle.std.specs.Option.{option_and_then, option_copied};
 ghost use Rattle.region_tree.specs.Regions.{space_of};
@@ -249,6 +249,14 @@ impl<'a, P: PointSet + Copy> Log<'a, P> {
         ensures ascend { IfSome result (λ req. IsStrictlyIncreasing req.now.fields) }
     {
         self.draft.req(item, number)
+    }
+
+    /// The position of the requirement of an item with this number.
+    pub fn req_place(&self, item: usize, number: u32) -> Option<usize>
+        ensures place { result ≡ position (λ r. (r.item == item) && (r.number == number)) self.now.reqs }
+        ensures req { option_and_then (slice_get self.now.reqs) result ≡ req_at self.now item number }
+    {
+        self.draft.req_place(item, number)
     }
 
     /// How many requirements an item has.

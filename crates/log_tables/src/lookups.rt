@@ -1,7 +1,7 @@
 //! Look-ups in the tables.
 
-ghost use Rattle.std.specs.Prelude.{All, ◌≡◌, ◌==◌, ◌≤◌, length, map};
-ghost use Rattle.std.specs.Option.{option_copied, option_map};
+ghost use Rattle.std.specs.Prelude.{All, ◌≡◌, ◌==◌, ◌&&◌, ◌≤◌, length, map, position, slice_get};
+ghost use Rattle.std.specs.Option.{option_and_then, option_copied, option_map};
 ghost use Rattle.semantics.specs.Tables.{place_of, reqs_before};
 ghost use Rattle.semantics.specs.Points.{tree_at, part_at};
 ghost use Rattle.semantics.specs.Rules.{is_sub};
@@ -88,6 +88,14 @@ impl<P: PointSet> Draft<P> {
         ensures ascend { IfSome result (λ req. IsStrictlyIncreasing req.now.fields) }
     {
         self.reqs.get(item, number)
+    }
+
+    /// The position of the requirement of an item with this number.
+    pub fn req_place(&self, item: usize, number: u32) -> Option<usize>
+        ensures place { result ≡ position (λ r. (r.item == item) && (r.number == number)) self.now.reqs }
+        ensures req { option_and_then (slice_get self.now.reqs) result ≡ req_at self.now item number }
+    {
+        self.reqs.place(item, number)
     }
 
     /// Whether a space is a subspace.

@@ -1,6 +1,7 @@
 //! Requirements of tasks.
 
 ghost use Rattle.std.specs.Prelude.{◌≡◌, ◌++◌, ◌∷◌, [], ◌==◌, ◌&&◌, ◌+◌, ◌<◌, ◌≤◌, ◌^◌, length, find, nat_eq, OnOk, OnErr};
+ghost use Rattle.std.specs.List.{position_from};
 ghost use Rattle.std.specs.Option.{option_copied};
 ghost use Rattle.semantics.specs.Tables.{reqs_before};
 
@@ -55,6 +56,13 @@ impl Reqs {
         ensures few { result ≤ length self.now }
     {
         self.counts.get(&item).copied().unwrap_or(0)
+    }
+
+    /// The position of the requirement of an item with this number.
+    pub fn place(&self, item: usize, number: u32) -> Option<usize>
+        ensures { result ≡ position_from (λ r. (r.item == item) && (r.number == number)) 0 self.now }
+    {
+        self.rows.place(ReqKey { item, number })
     }
 
     /// The requirement of an item with this number.

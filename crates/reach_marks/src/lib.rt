@@ -3,6 +3,7 @@
 
 mod bits;
 mod block;
+mod fronts;
 mod joining;
 mod laws;
 mod memory;

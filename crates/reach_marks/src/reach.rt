@@ -3,6 +3,7 @@
 ghost use Rattle.std.specs.Prelude.{◌≡◌, ℕ, ◌<◌, length, IfOk, All, not, position};
 ghost use Rattle.event_graph.specs.Orders.{IsOrderOf};
 
+use crate::fronts::fronts_of;
 use crate::memory::Memory;
 use crate::mixed::mixed_in;
 use crate::row::Row;
@@ -13,21 +14,22 @@ use log_laws::{replay_order_lists, stuck_nodes_have_cycles};
 use std::alloc::Global;
 use std::marker::Model;
 
-/// For each node its place in the replay order, and for each place the places of the nodes before its node.
+/// For each node its place in the replay order, and for each place the places of the nodes before its node. How many blocks at the front of a row are whole stands in a list of its own, which is all that most questions read.
 #[derive(Drop)]
 pub struct Reach {
     places: Vec<usize>,
     rows: Vec<Row>,
+    fronts: Vec<usize>,
 }
 
 impl Model for Reach {
-    ghost use Rattle.reach_marks.specs.Reached.{Marks, AreSound, marks_of};
+    ghost use Rattle.reach_marks.specs.Reached.{Marks, AreFronts, AreSound, marks_of};
 
     ghost Value = { Marks };
 
     ghost view = { λ r. marks_of r.places.items r.rows.items };
 
-    ghost invariant = { λ r. AreSound r.places.items r.rows.items };
+    ghost invariant = { λ r. AreSound r.places.items r.rows.items × AreFronts r.rows.items r.fronts.items };
 }
 
 impl Reach {
@@ -44,7 +46,12 @@ impl Reach {
         stuck_nodes_have_cycles();
         let places = Vec::from_slice(alloc, order.places())?;
         let rows = rows_of(alloc, graph, order.as_slice(), places.as_slice())?;
-        Ok(Reach { places, rows })
+        let fronts = fronts_of(alloc, rows.as_slice())?;
+        Ok(Reach {
+            places,
+            rows,
+            fronts,
+        })
     }
 
     /// How many nodes there are.
@@ -60,8 +67,10 @@ impl Reach {
         requires b { b < length self.now.places }
         ensures { result ≡ before_in self.now a b }
     {
-        let row = &self.rows[self.places[b]];
-        row.has(self.places[a])
+        let a = self.places[a];
+        let b = self.places[b];
+        let row = &self.rows[b];
+        a / 1024 < self.fronts[b] || row.has(a)
     }
 
     /// The least index in `group` whose node is not before node `b`.

@@ -1,19 +1,22 @@
 -- The search for the first pair that is not kept, one pair after another.
-use Rattle.std.proofs.Common.{◌≡◌, ℕ, ◌+◌, ◌<◌, ◌≤◌, ◌^◌, inl, inr, Bool, true, false, List, [], ◌∷◌, length, filter, refl, sym, ap, ◌∙◌, subst, arith, Contains, slice_index, get_or, add-one}
+use Rattle.std.proofs.Common.{◌≡◌, ℕ, zero, suc, ◌+◌, ◌-◌, ◌<◌, ◌≤◌, ◌^◌, inl, inr, Bool, true, false, List, [], ◌∷◌, ◌++◌, map, length, filter, refl, sym, ap, ◌∙◌, subst, arith, Contains, slice_index, get_or, add-one}
 use Rattle.std.specs.Prelude.{position, unwrap_or}
 use Rattle.std.specs.List.{AllByRecursion, position_or_len}
-use Rattle.std.proofs.lemmas.Bool.{cases_Bool, lt-ltb, le-ltb, cases_lt}
-use Rattle.std.proofs.lemmas.List.{length-map}
+use Rattle.std.proofs.lemmas.Bool.{cases_Bool, cases_eq, lt-ltb, le-ltb, cases_lt}
+use Rattle.std.proofs.lemmas.List.{length-map, length-append}
 use Rattle.semantics.specs.declared.tables.Item.{Item}
 use Rattle.semantics.specs.declared.tables.LogNode.{LogNode}
 use Rattle.semantics.specs.Rules.{runs_item}
-use Rattle.semantics.specs.Tables.{Tables}
+use Rattle.semantics.specs.Tables.{Tables, numbers_from}
 use Rattle.semantics.specs.Shown.{run_of, task_pairs, IsKept, AreKept, IsShownPair}
+use Rattle.log_laws.proofs.Members.{Member, contains_of, map_member, member_left}
 use Rattle.interference.specs.declared.pair.Pair.{Pair}
+use Rattle.interference.specs.declared.stretch.Stretch.{Stretch}
+use Rattle.interference.specs.Stretched.{StartsWith, pair_in, pairs_from}
 use Rattle.interference.specs.Pairing.{all_pairs}
 use Rattle.interference.specs.Tasks.{are_tasks}
 use Rattle.task_order.specs.Runs.{AreRunsFrom}
-use Rattle.task_order.specs.Searched.{tasks_among, IsFirstFailing, IsSearched}
+use Rattle.task_order.specs.Searched.{tasks_among, IsFirstFailing, IsSearched, GoesOn, Shows}
 
 -- ---- runs
 
@@ -97,6 +100,73 @@ listed t left count p rest h same = h.listed p (subst (λ ps. Contains ps p) (sy
 -- There is room to count one more.
 pub room : (t : Tables) (left : List Pair) (count : ℕ) (p : Pair) (rest : List Pair) → IsSearched t left count → left ≡ p ∷ rest → are_tasks t.items p ≡ true → count + 1 < 2 ^ 64
 room t left count p rest h same e = omega (arith, h.few, h.counted, ap length (ap (tasks_among t.items) same ∙ among_more t.items p rest e))
+
+-- ---- stretches of pairs
+
+pub stretch_head : (s : Stretch) (b : ℕ) (rest : List Pair) → b < s.to → pairs_from s b ++ rest ≡ pair_in s b ∷ (pairs_from s (b + 1) ++ rest)
+stretch_head s b rest lt = let e : s.to - b ≡ suc (s.to - (b + 1)) = omega (arith, lt) in ap (λ n. map (pair_in s) (numbers_from b n) ++ rest) e
+
+stretch_end : (s : Stretch) (b : ℕ) (rest : List Pair) → s.to ≤ b → pairs_from s b ++ rest ≡ rest
+stretch_end s b rest le = let e : s.to - b ≡ 0 = omega (arith, le) in ap (λ n. map (pair_in s) (numbers_from b n) ++ rest) e
+
+-- What is known of the search where the pairs of a stretch are left from one of its items on.
+abbrev pub StretchGoesOn : Tables → Stretch → ℕ → ℕ → Type 0
+StretchGoesOn t s b n = (rest : List Pair) (count : ℕ) → IsSearched t (pairs_from s s.from ++ rest) count → IsSearched t (pairs_from s b ++ rest) (count + n)
+
+-- Whether a pair of a stretch is of tasks, by what the code reads.
+pub tasks_in : (items read : List Item) (s : Stretch) (b : ℕ) (p : Pair) (test : Bool) → read ≡ items → p ≡ pair_in s b → test ≡ are_tasks read p → are_tasks items (pair_in s b) ≡ test
+tasks_in items read s b p test same pair is = sym (is ∙ ap (are_tasks read) pair ∙ ap (λ items. are_tasks items (pair_in s b)) same)
+
+pub stretch_begun : (t : Tables) (s : Stretch) → StretchGoesOn t s s.from 0
+stretch_begun t s rest count h = let e : count ≡ count + 0 = omega arith in subst (IsSearched t (pairs_from s s.from ++ rest)) e h
+
+pub stretch_kept : (t : Tables) (s : Stretch) (b n : ℕ) → b < s.to → are_tasks t.items (pair_in s b) ≡ true → IsKept t (s.a, b) → StretchGoesOn t s b n → StretchGoesOn t s (b + 1) (n + 1)
+stretch_kept t s b n lt tasks kept h rest count begins =
+    let e : count + n + 1 ≡ count + (n + 1) = omega arith in
+    subst (IsSearched t (pairs_from s (b + 1) ++ rest)) e (kept_on t (pairs_from s b ++ rest) (count + n) (pair_in s b) (pairs_from s (b + 1) ++ rest) (h rest count begins) (stretch_head s b rest lt) tasks kept)
+
+pub stretch_passed : (t : Tables) (s : Stretch) (b n : ℕ) → b < s.to → are_tasks t.items (pair_in s b) ≡ false → StretchGoesOn t s b n → StretchGoesOn t s (b + 1) n
+stretch_passed t s b n lt other h rest count begins = passed t (pairs_from s b ++ rest) (count + n) (pair_in s b) (pairs_from s (b + 1) ++ rest) (h rest count begins) (stretch_head s b rest lt) other
+
+pub stretch_shows : (t : Tables) (s : Stretch) (b n : ℕ) → b < s.to → are_tasks t.items (pair_in s b) ≡ true → (IsKept t (s.a, b) → ⊥) → StretchGoesOn t s b n → Shows t s b
+stretch_shows t s b n lt tasks not h rest count begins =
+    let before = h rest count begins in
+    let head = stretch_head s b rest lt in (
+      found t (pairs_from s b ++ rest) (count + n) (pair_in s b) (pairs_from s (b + 1) ++ rest) before head tasks not,
+      listed t (pairs_from s b ++ rest) (count + n) (pair_in s b) (pairs_from s (b + 1) ++ rest) before head,
+    )
+
+pub stretch_over : (t : Tables) (s : Stretch) (b n : ℕ) → s.to ≤ b → StretchGoesOn t s b n → GoesOn t s n
+stretch_over t s b n le h rest count begins = subst (λ ps. IsSearched t ps (count + n)) (stretch_end s b rest le) (h rest count begins)
+
+-- The last pair of a stretch is one of the log.
+pub last_listed : (t : Tables) (s : Stretch) (rest : List Pair) (count : ℕ) → s.from < s.to → IsSearched t (pairs_from s s.from ++ rest) count → (b : ℕ) × (b + 1 ≡ s.to) × Contains (all_pairs t) (pair_in s b)
+last_listed t s rest count lt h =
+    let b = s.to - 1 in
+    let ns = numbers_from s.from (s.to - s.from) in
+    let here : Member ns b = number_at s.from (s.to - s.from) b (omega (arith, lt)) (omega (arith, lt)) in
+    (b, omega (arith, lt), h.listed (pair_in s b) (contains_of (pairs_from s s.from ++ rest) (pair_in s b) (member_left (pairs_from s s.from) rest (pair_in s b) (map_member (pair_in s) ns b here))))
+  where
+    number_at : (first n k : ℕ) → first ≤ k → k < first + n → Member (numbers_from first n) k
+    number_at first zero k low high = absurd (omega (arith, low, high))
+    number_at first (suc n) k low high = elim (cases_eq k first) [
+      | inl same ↦ inl same
+      | inr other ↦ inr (number_at (first + 1) n k (omega (arith, low, other)) (omega (arith, high)))
+    ]
+
+-- So is the first.
+pub first_listed : (t : Tables) (s : Stretch) (rest : List Pair) (count : ℕ) → s.from < s.to → IsSearched t (pairs_from s s.from ++ rest) count → Contains (all_pairs t) (pair_in s s.from)
+first_listed t s rest count lt h = listed t (pairs_from s s.from ++ rest) count (pair_in s s.from) (pairs_from s (s.from + 1) ++ rest) h (stretch_head s s.from rest lt)
+
+-- Behind a stretch fewer pairs are left.
+pub fewer_left : (s : Stretch) (pairs rest : List Pair) → StartsWith pairs rest s → suc (length rest) ≤ length pairs
+fewer_left s pairs rest h =
+    let e : length pairs ≡ suc (length (pairs_from s (s.from + 1) ++ rest)) = ap length (h.parts ∙ stretch_head s s.from rest h.some) in
+    omega (arith, e, length-append (pairs_from s (s.from + 1)) rest)
+
+-- Pairs are few, and so are those of tasks that were passed.
+pub count_room : (t : Tables) (left : List Pair) (count n : ℕ) → IsSearched t left (count + n) → count + n < 2 ^ 64
+count_room t left count n h = let few = h.few in let counted = h.counted in omega (arith, few, counted)
 
 pub none_left : (t : Tables) (left : List Pair) (count : ℕ) → IsSearched t left count → left ≡ [] → AreKept t × (count ≡ length (task_pairs t))
 none_left t left count h same =

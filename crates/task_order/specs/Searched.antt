@@ -8,6 +8,8 @@ use Rattle.semantics.specs.Shown.{task_pairs, IsKept, AreKept, IsShownPair}
 use Rattle.interference.specs.declared.pair.Pair.{Pair}
 use Rattle.interference.specs.Pairing.{all_pairs}
 use Rattle.interference.specs.Tasks.{are_tasks}
+use Rattle.interference.specs.declared.stretch.Stretch.{Stretch}
+use Rattle.interference.specs.Stretched.{pair_in, pairs_from}
 use Rattle.task_order.specs.declared.search.TaskOrder.{TaskOrder}
 use Rattle.task_order.specs.declared.search.TaskOrder.TheVariants.{Kept, Unordered}
 
@@ -29,6 +31,14 @@ pub record IsSearched (t : Tables) (left : List Pair) (count : ℕ) : Type 0 whe
   pub kept : AllByRecursion (IsKept t) (tasks_among t.items left) → AreKept t
   pub counted : length (task_pairs t) ≡ count + length (tasks_among t.items left)
   pub few : length (task_pairs t) < 2 ^ 64
+
+-- Behind a stretch the search goes on, with so many pairs of tasks more.
+abbrev pub GoesOn : Tables → Stretch → ℕ → Type 0
+GoesOn t s n = (rest : List Pair) (count : ℕ) → IsSearched t (pairs_from s s.from ++ rest) count → IsSearched t rest (count + n)
+
+-- The pair of a stretch with an item is the one that is shown.
+abbrev pub Shows : Tables → Stretch → ℕ → Type 0
+Shows t s b = (rest : List Pair) (count : ℕ) → IsSearched t (pairs_from s s.from ++ rest) count → IsShownPair t (s.a, b) × Contains (all_pairs t) (pair_in s b)
 
 -- What is said of the tasks of some tables: each two that interfere are run in serial order, and so many pairs there are; or the pair that is shown, with its least place.
 abbrev pub IsTaskOrder : Tables → TaskOrder → Type 0

@@ -1,16 +1,17 @@
 //! The first two tasks that interfere and are not run in serial order.
 
-ghost use Rattle.std.specs.Prelude.{◌<◌, ◌^◌, length, IfOk};
+ghost use Rattle.std.specs.Prelude.{◌<◌, ◌≤◌, ◌^◌, length, IfErr, IfOk};
 ghost use Rattle.semantics.specs.Events.{graph_of};
 ghost use Rattle.reach_marks.specs.Reached.{AreMarksOf};
 ghost use Rattle.task_order.specs.Runs.{AreRunsOf};
-ghost use Rattle.task_order.specs.Searched.{IsTaskOrder};
+ghost use Rattle.task_order.specs.Searched.{GoesOn, IsTaskOrder, Shows};
 
 use crate::kept::is_kept;
 use crate::memory::Memory;
 use crate::runs::runs_of;
-use interference::{are_tasks, pairs, pairs_are_of_items};
+use interference::{Stretch, are_tasks, pairs, pairs_are_of_items};
 use log_decl::Log;
+use point_set::PointSet;
 use reach_marks::Reach;
 use region_tree::ArenaSet;
 use semantics::Place;
@@ -25,6 +26,34 @@ pub enum TaskOrder {
     Unordered { a: usize, b: usize, place: Place },
 }
 
+/// How many pairs of a stretch are of two tasks, if these are run in serial order, or the second item of the first pair of which the tasks are not.
+fn kept_in<'a, P: PointSet + Copy>(
+    log: &Log<'a, P>,
+    reach: &Reach,
+    runs: &[usize],
+    stretch: &Stretch,
+) -> Result<u64, usize>
+    requires order { (stretch.now.a < stretch.now.from) × (stretch.now.from ≤ stretch.now.to) }
+    requires within { stretch.now.to ≤ length log.now.items }
+    requires marks { AreMarksOf (graph_of log.now.nodes) reach.now }
+    requires runs { AreRunsOf log.now runs.now }
+    ensures kept { IfOk result (GoesOn log.now stretch.now) }
+    ensures few { IfOk result (λ n. n ≤ stretch.now.to) }
+    ensures unkept { IfErr result (Shows log.now stretch.now) }
+{
+    let items = log.items();
+    let mut count = 0;
+    for b in stretch.from..stretch.to {
+        if are_tasks(items, stretch.pair(b)) {
+            if !is_kept(log, reach, runs, stretch.a, b) {
+                return Err(b);
+            }
+            count += 1;
+        }
+    }
+    Ok(count)
+}
+
 /// The same by the runs of the items.
 fn order_by_runs<'a, P: ArenaSet<'a>>(log: &Log<'a, P>, reach: &Reach, runs: &[usize]) -> TaskOrder
     requires few { length log.now.items < 2 ^ 32 }
@@ -33,18 +62,18 @@ fn order_by_runs<'a, P: ArenaSet<'a>>(log: &Log<'a, P>, reach: &Reach, runs: &[u
     ensures { IsTaskOrder log.now result }
 {
     pairs_are_of_items();
-    let items = log.items();
+    let mut left = pairs(log);
     let mut count = 0;
-    for pair in pairs(log) {
-        if are_tasks(items, pair) {
-            if !is_kept(log, reach, runs, pair.a, pair.b) {
+    while let Some(stretch) = left.next_stretch() {
+        match kept_in(log, reach, runs, &stretch) {
+            Ok(kept) => count += kept,
+            Err(b) => {
                 return TaskOrder::Unordered {
-                    a: pair.a,
-                    b: pair.b,
-                    place: pair.place,
+                    a: stretch.a,
+                    b,
+                    place: stretch.place,
                 };
             }
-            count += 1;
         }
     }
     TaskOrder::Kept { pairs: count }

@@ -14,8 +14,8 @@ pub invariant_of-result : goal.invariant_of-result
 invariant_of-result c =
     let whole = all_listed c.args.graph.now c.args.order.now c.requires (c.replay_order_lists.ensures.nodes c.args.graph.now) (c.stuck_nodes_have_cycles.ensures.stuck c.args.graph.now c.len-linked.ensures.linked) in
     let placed = placed_in c.args.graph.now c.args.order.now c.places.result.now c.places.ensures c.requires.replayed whole in
-    rw c.in_ok-places.ensures.items (all_sound c.args.graph.now c.args.order.now c.places.result.now c.in_ok-rows.rows.items c.requires.replayed c.len-linked.ensures.few placed whole
-    (c.in_ok-rows.ensures.each ∙ ap (λ (ks : List ℕ). length ks) c.as_slice.ensures) c.in_ok-rows.ensures.tidy (rw (← c.as_slice.ensures) c.in_ok-rows.ensures.rows))
+    (rw c.in_ok-places.ensures.items (all_sound c.args.graph.now c.args.order.now c.places.result.now c.in_ok-rows.rows.items c.requires.replayed c.len-linked.ensures.few placed whole
+    (c.in_ok-rows.ensures.each ∙ ap (λ (ks : List ℕ). length ks) c.as_slice.ensures) c.in_ok-rows.ensures.tidy (rw (← c.as_slice.ensures) c.in_ok-rows.ensures.rows)), rw (← c.as_slice-3.ensures.value) c.in_ok-fronts.ensures)
 
 pub returns : goal.returns
 returns c =
