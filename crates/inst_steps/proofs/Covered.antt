@@ -272,13 +272,13 @@ module _ (log : List Lined) (f : IsFaultless Check log) (listed : Option (List �
           let n = eqb-true q.number m.number (and_right (q.item == m.item) (q.number == m.number) at.1) in
           elim (two_reqs (tables_of log) (sane Check log f) q r at.0 own (i ∙ item)) [ inl is ↦ is | inr apart ↦ absurd (apart.0 (n ∙ number)) ]
 
-  read_held : (task : ℕ) (r : Req) → Member (tables_of log).reqs r → (a : Priv) → r.access ≡ a → (p : Pass) → pass_for r (reading task r) ≡ Some p → Held (tables_of log) listed p.act p.space p.fields
+  read_held : (task : ℕ) (r : Req) → Member (tables_of log).reqs r → (a : Priv) → r.access ≡ a → (p : Pass) → pass_for r (reading (tables_of log) task r) ≡ Some p → Held (tables_of log) listed p.act p.space p.fields
   read_held task r own privileges.Ro e p is = subst (λ (o : Option Pass). IfSome o (λ (p : Pass). Held (tables_of log) listed p.act p.space p.fields)) (rw e at is) (req_held r own)
   read_held task r own privileges.Rw e p is = subst (λ (o : Option Pass). IfSome o (λ (p : Pass). Held (tables_of log) listed p.act p.space p.fields)) (rw e at is) (req_held r own)
   read_held task r own privileges.Wd e p is = absurd (let bad = rw e at is in cc)
   read_held task r own (privileges.Red op) e p is = absurd (let bad = rw e at is in cc)
 
-  change_held : (task : ℕ) (r : Req) → Member (tables_of log).reqs r → (a : Priv) → r.access ≡ a → (p : Pass) → pass_for r (changing task r) ≡ Some p → Held (tables_of log) listed p.act p.space p.fields
+  change_held : (task : ℕ) (r : Req) → Member (tables_of log).reqs r → (a : Priv) → r.access ≡ a → (p : Pass) → pass_for r (changing (tables_of log) task r) ≡ Some p → Held (tables_of log) listed p.act p.space p.fields
   change_held task r own privileges.Ro e p is = absurd (let bad = rw e at is in cc)
   change_held task r own privileges.Rw e p is = subst (λ (o : Option Pass). IfSome o (λ (p : Pass). Held (tables_of log) listed p.act p.space p.fields)) (rw e at is) (req_held r own)
   change_held task r own privileges.Wd e p is = subst (λ (o : Option Pass). IfSome o (λ (p : Pass). Held (tables_of log) listed p.act p.space p.fields)) (rw e at is) (req_held r own)
@@ -291,8 +291,8 @@ module _ (log : List Lined) (f : IsFaultless Check log) (listed : Option (List �
   pass_held (operations.Run item) w p m =
       let t = tables_of log in
       let task = id_of t item in
-      let reads : Req → Option Pass = λ r. pass_for r (reading task r) in
-      let changes : Req → Option Pass = λ r. pass_for r (changing task r) in
+      let reads : Req → Option Pass = λ r. pass_for r (reading t task r) in
+      let changes : Req → Option Pass = λ r. pass_for r (changing t task r) in
       let own : (r : Req) → Member (reqs_of t item) r → Member t.reqs r = λ r m. (member_filter (λ (r : Req). r.item == item) t.reqs r m).0 in
       elim (member_append (map reads (reqs_of t item)) (map changes (reqs_of t item)) (Some p) m) [
         | inl a ↦ let r = member_map reads (reqs_of t item) (Some p) a in read_held task r.0 (own r.0 r.1) r.0.access refl p (sym r.2)

@@ -2,10 +2,11 @@
 use Rattle.std.proofs.Common.{◌≡◌, ℕ, zero, suc, ◌+◌, ◌<◌, ◌≤◌, List, [], ◌∷◌, ◌++◌, map, flat_map, drop, length, get_or, Option, Some, None, unwrap_or, slice_get, refl, sym, ap, ap₂, ◌∙◌, arith}
 use Rattle.std.specs.Option.{option_map_or}
 use Rattle.std.proofs.Math.Path.{fun_ext}
-use Rattle.std.proofs.lemmas.List.{drop_all, append-nil}
+use Rattle.std.proofs.lemmas.List.{drop_all, append-nil, map-append}
 use Rattle.std.proofs.lemmas.List.Concat.{flat_map_single}
 use Rattle.privilege.specs.declared.kinds.Priv.{Priv}
 use Rattle.privilege.specs.declared.kinds.Priv.TheVariants as privileges
+use Rattle.semantics.specs.declared.moves.Move.{Move}
 use Rattle.semantics.specs.declared.tables.Req.{Req}
 use Rattle.semantics.specs.declared.tables.Op.{Op}
 use Rattle.semantics.specs.declared.tables.Op.TheVariants as operations
@@ -17,13 +18,15 @@ use Rattle.point_laws.specs.Cut.{cut}
 use Rattle.point_laws.proofs.Cuts.{points_cut}
 use Rattle.inst_steps.specs.declared.act.Act.{Act}
 use Rattle.inst_steps.specs.declared.act.Act.TheVariants as acts
+use Rattle.inst_steps.specs.declared.act.Action.{Action}
+use Rattle.inst_steps.specs.Acting.{steps_in}
 use Rattle.inst_steps.specs.Grids.{kept, cut_to}
-use Rattle.inst_steps.specs.Sweeps.{Pass, pass, pass_at, move_at, pass_moves, moves_of_pass, reading, changing, pass_for, passes_of}
+use Rattle.inst_steps.specs.Sweeps.{Pass, pass, pass_at, action_at, move_at, req_in, own_place, pass_actions, pass_moves, actions_of_pass, moves_of_pass, reading, changing, pass_for, passes_of}
 use Rattle.semantics.specs.declared.tables.LogNode.{LogNode}
 use Rattle.std.proofs.lemmas.Option.{slice_get-get_or}
 use Rattle.std.specs.Prelude.{IfSome}
 use Rattle.inst_steps.specs.declared.spot.Spot.{Spot}
-use Rattle.inst_steps.specs.Stepping.{rest_moves, moves_at, spots_left, spot_grid, spot_here, spot_moves, moves_from}
+use Rattle.inst_steps.specs.Stepping.{rest_actions, moves_at, spots_left, spot_grid, spot_here, spot_actions, actions_from}
 
 -- ---- the sweeps of an operation make its moves
 
@@ -31,17 +34,17 @@ none_of : {X Y : Type 0} (xs : List X) → ◌≡◌ {A = List Y} (flat_map (λ 
 none_of [] = refl
 none_of (x ∷ xs) = none_of xs
 
-reads_are : (t : Tables) (task : ℕ) (r : Req) → (a : Priv) → r.access ≡ a → flat_map (λ p. reads_by task r.number r.access (mapped_cell t r p)) (req_grid t r) ≡ moves_of_pass t (pass_for r (reading task r))
-reads_are t task r privileges.Ro e = rw e (flat_map_single (move_at t (acts.Read task r.item r.number)) (req_grid t r))
-reads_are t task r privileges.Rw e = rw e (flat_map_single (move_at t (acts.Read task r.item r.number)) (req_grid t r))
+reads_are : (t : Tables) (task : ℕ) (r : Req) → (a : Priv) → r.access ≡ a → flat_map (λ p. reads_by task r.number r.access (mapped_cell t r p)) (req_grid t r) ≡ moves_of_pass t (pass_for r (reading t task r))
+reads_are t task r privileges.Ro e = rw e (flat_map_single (move_at t (acts.Read task r.item r.number (own_place t r))) (req_grid t r))
+reads_are t task r privileges.Rw e = rw e (flat_map_single (move_at t (acts.Read task r.item r.number (own_place t r))) (req_grid t r))
 reads_are t task r privileges.Wd e = rw e (none_of (req_grid t r))
 reads_are t task r (privileges.Red op) e = rw e (none_of (req_grid t r))
 
-changes_are : (t : Tables) (task : ℕ) (r : Req) → (a : Priv) → r.access ≡ a → flat_map (λ p. changes_by task r.number r.access (mapped_cell t r p)) (req_grid t r) ≡ moves_of_pass t (pass_for r (changing task r))
+changes_are : (t : Tables) (task : ℕ) (r : Req) → (a : Priv) → r.access ≡ a → flat_map (λ p. changes_by task r.number r.access (mapped_cell t r p)) (req_grid t r) ≡ moves_of_pass t (pass_for r (changing t task r))
 changes_are t task r privileges.Ro e = rw e (none_of (req_grid t r))
-changes_are t task r privileges.Rw e = rw e (flat_map_single (move_at t (acts.Write task r.item r.number)) (req_grid t r))
-changes_are t task r privileges.Wd e = rw e (flat_map_single (move_at t (acts.Write task r.item r.number)) (req_grid t r))
-changes_are t task r (privileges.Red op) e = rw e (flat_map_single (move_at t (acts.Reduce task r.item r.number op)) (req_grid t r))
+changes_are t task r privileges.Rw e = rw e (flat_map_single (move_at t (acts.Write task r.item r.number (own_place t r))) (req_grid t r))
+changes_are t task r privileges.Wd e = rw e (flat_map_single (move_at t (acts.Write task r.item r.number (own_place t r))) (req_grid t r))
+changes_are t task r (privileges.Red op) e = rw e (flat_map_single (move_at t (acts.Reduce task r.item r.number (own_place t r) op)) (req_grid t r))
 
 flat_of_map : {X Y Z : Type 0} (g : Y → List Z) (f : X → Y) (h : X → List Z) → ((x : X) → h x ≡ g (f x)) → (xs : List X) → flat_map h xs ≡ flat_map g (map f xs)
 flat_of_map g f h e [] = refl
@@ -61,11 +64,11 @@ only_one g x = append-nil (g x)
 pub sweeps_are : (t : Tables) (op : Op) → flat_map (moves_of_pass t) (passes_of t op) ≡ moves_of t op
 sweeps_are t (operations.Run item) =
     let task = id_of t item in
-    let reads = map (λ r. pass_for r (reading task r)) (reqs_of t item) in
-    let changes = map (λ r. pass_for r (changing task r)) (reqs_of t item) in
+    let reads = map (λ r. pass_for r (reading t task r)) (reqs_of t item) in
+    let changes = map (λ r. pass_for r (changing t task r)) (reqs_of t item) in
     flat_append (moves_of_pass t) reads changes
-    ∙ sym (ap₂ (λ a b. a ++ b) (flat_of_map (moves_of_pass t) (λ r. pass_for r (reading task r)) _ (λ r. reads_are t task r r.access refl) (reqs_of t item))
-    (flat_of_map (moves_of_pass t) (λ r. pass_for r (changing task r)) _ (λ r. changes_are t task r r.access refl) (reqs_of t item)))
+    ∙ sym (ap₂ (λ a b. a ++ b) (flat_of_map (moves_of_pass t) (λ r. pass_for r (reading t task r)) _ (λ r. reads_are t task r r.access refl) (reqs_of t item))
+    (flat_of_map (moves_of_pass t) (λ r. pass_for r (changing t task r)) _ (λ r. changes_are t task r r.access refl) (reqs_of t item)))
 sweeps_are t (operations.Copy src dst space fields) = only_one (moves_of_pass t) (Some (pass (acts.Copy src dst) space fields))
 sweeps_are t (operations.Put inst space fields n) = only_one (moves_of_pass t) (Some (pass (acts.Put inst n) space fields))
 sweeps_are t (operations.Reset inst space fields) = only_one (moves_of_pass t) (Some (pass (acts.Reset inst) space fields))
@@ -84,20 +87,39 @@ passes_cut (Some ps) t (operations.Fold src dst space fields) = refl
 passes_cut (Some ps) t operations.Merge = refl
 
 act_cut : (ps : List ℕ) (t : Tables) (a : Act) (p : ℕ × ℕ) → move_at (cut ps t) a p ≡ move_at t a p
-act_cut ps t (acts.Read task item number) p = refl
-act_cut ps t (acts.Write task item number) p = refl
-act_cut ps t (acts.Reduce task item number op) p = refl
+act_cut ps t (acts.Read task item number req) p = refl
+act_cut ps t (acts.Write task item number req) p = refl
+act_cut ps t (acts.Reduce task item number req op) p = refl
 act_cut ps t (acts.Copy src dst) p = refl
 act_cut ps t (acts.Put inst n) p = refl
 act_cut ps t (acts.Reset inst) p = refl
 act_cut ps t (acts.Fold op src dst) p = refl
 
-pub pass_cut : (listed : Option (List ℕ)) (t : Tables) (p : Pass) → pass_moves (cut_to listed t) p ≡ map (move_at t p.act) (grid (kept listed (points_in t p.space)) p.fields)
-pass_cut None t p = refl
-pass_cut (Some ps) t p = ap (λ f. map f (grid (points_in (cut ps t) p.space) p.fields)) (fun_ext (act_cut ps t p.act)) ∙ ap (λ points. map (move_at t p.act) (grid points p.fields)) (points_cut ps t p.space)
+pub actions_cut : (listed : Option (List ℕ)) (t : Tables) (p : Pass) → pass_actions (cut_to listed t) p ≡ map (action_at t p.act) (grid (kept listed (points_in t p.space)) p.fields)
+actions_cut None t p = refl
+actions_cut (Some ps) t p =
+    ap (λ (f : ℕ × ℕ → Move). map (λ q. record { req = req_in p.act; step = f q }) (grid (points_in (cut ps t) p.space) p.fields)) (fun_ext (act_cut ps t p.act))
+    ∙ ap (λ points. map (action_at t p.act) (grid points p.fields)) (points_cut ps t p.space)
 
-pub all_moves : (listed : Option (List ℕ)) (t : Tables) (op : Op) → rest_moves t op listed 0 ≡ moves_of (cut_to listed t) op
-all_moves listed t op = ap (flat_map (moves_of_pass (cut_to listed t))) (sym (passes_cut listed t op)) ∙ sweeps_are (cut_to listed t) op
+-- ---- the moves of actions
+
+steps_at : (t : Tables) (a : Act) (ps : List (ℕ × ℕ)) → steps_in (map (action_at t a) ps) ≡ map (move_at t a) ps
+steps_at t a [] = refl
+steps_at t a (p ∷ ps) = ap (λ ms. move_at t a p ∷ ms) (steps_at t a ps)
+
+pass_steps : (t : Tables) (o : Option Pass) → steps_in (actions_of_pass t o) ≡ moves_of_pass t o
+pass_steps t None = refl
+pass_steps t (Some p) = steps_at t p.act (grid (points_in t p.space) p.fields)
+
+passes_steps : (t : Tables) (ps : List (Option Pass)) → steps_in (flat_map (actions_of_pass t) ps) ≡ flat_map (moves_of_pass t) ps
+passes_steps t [] = refl
+passes_steps t (o ∷ ps) = map-append (λ (a : Action). a.step) (actions_of_pass t o) (flat_map (actions_of_pass t) ps) ∙ ap₂ (λ xs ys. xs ++ ys) (pass_steps t o) (passes_steps t ps)
+
+pub pass_cut : (listed : Option (List ℕ)) (t : Tables) (p : Pass) → pass_moves (cut_to listed t) p ≡ map (move_at t p.act) (grid (kept listed (points_in t p.space)) p.fields)
+pass_cut listed t p = sym (pass_steps (cut_to listed t) (Some p)) ∙ ap steps_in (actions_cut listed t p) ∙ steps_at t p.act (grid (kept listed (points_in t p.space)) p.fields)
+
+pub all_steps : (listed : Option (List ℕ)) (t : Tables) (op : Op) → steps_in (rest_actions t op listed 0) ≡ moves_of (cut_to listed t) op
+all_steps listed t op = passes_steps (cut_to listed t) (passes_of t op) ∙ ap (flat_map (moves_of_pass (cut_to listed t))) (sym (passes_cut listed t op)) ∙ sweeps_are (cut_to listed t) op
 
 -- ---- one sweep on
 
@@ -107,11 +129,11 @@ at_place g none [] (suc k) = sym (ap₂ (λ xs ys. xs ++ flat_map g ys) none (dr
 at_place g none (p ∷ ps) zero = refl
 at_place g none (p ∷ ps) (suc k) = at_place g none ps k ∙ ap (λ n. g (unwrap_or (slice_get ps k) None) ++ flat_map g (drop n (p ∷ ps))) (let e : suc (k + 1) ≡ suc k + 1 = omega arith in e)
 
-pub one_sweep : (listed : Option (List ℕ)) (t : Tables) (op : Op) (k : ℕ) → rest_moves t op listed k ≡ moves_of_pass (cut_to listed t) (pass_at (passes_of t op) k) ++ rest_moves t op listed (k + 1)
-one_sweep listed t op k = at_place (moves_of_pass (cut_to listed t)) refl (passes_of t op) k
+pub one_sweep : (listed : Option (List ℕ)) (t : Tables) (op : Op) (k : ℕ) → rest_actions t op listed k ≡ actions_of_pass (cut_to listed t) (pass_at (passes_of t op) k) ++ rest_actions t op listed (k + 1)
+one_sweep listed t op k = at_place (actions_of_pass (cut_to listed t)) refl (passes_of t op) k
 
-pub no_sweep : (listed : Option (List ℕ)) (t : Tables) (op : Op) (k : ℕ) → length (passes_of t op) ≤ k → rest_moves t op listed k ≡ []
-no_sweep listed t op k past = ap (flat_map (moves_of_pass (cut_to listed t))) (drop_all k (passes_of t op) past)
+pub no_sweep : (listed : Option (List ℕ)) (t : Tables) (op : Op) (k : ℕ) → length (passes_of t op) ≤ k → rest_actions t op listed k ≡ []
+no_sweep listed t op k past = ap (flat_map (actions_of_pass (cut_to listed t))) (drop_all k (passes_of t op) past)
 
 -- ---- where a sweep stands
 
@@ -119,17 +141,17 @@ kept_nothing : (listed : Option (List ℕ)) → kept listed [] ≡ []
 kept_nothing (Some ps) = refl
 kept_nothing None = refl
 
-pub no_points : (listed : Option (List ℕ)) (t : Tables) (p : Pass) → points_in t p.space ≡ [] → pass_moves (cut_to listed t) p ≡ []
-no_points listed t p none = pass_cut listed t p ∙ ap (λ points. map (move_at t p.act) (grid (kept listed points) p.fields)) none ∙ ap (λ points. map (move_at t p.act) (grid points p.fields)) (kept_nothing listed)
+pub no_points : (listed : Option (List ℕ)) (t : Tables) (p : Pass) → points_in t p.space ≡ [] → pass_actions (cut_to listed t) p ≡ []
+no_points listed t p none = actions_cut listed t p ∙ ap (λ points. map (action_at t p.act) (grid (kept listed points) p.fields)) none ∙ ap (λ points. map (action_at t p.act) (grid points p.fields)) (kept_nothing listed)
 
 module _ {P : Type 0} (points : P → List ℕ) (t : Tables) (listed : Option (List ℕ)) where
-  pub spot_moves_are : (act : Act) (o : Option (Spot P)) → IfSome o (λ (s : Spot P). s.act ≡ act) → spot_moves points t listed o ≡ map (move_at t act) (spots_left points listed o)
-  spot_moves_are act None h = refl
-  spot_moves_are act (Some s) h = ap (λ a. map (move_at t a) (spot_grid points listed s)) h
+  pub spot_actions_are : (act : Act) (o : Option (Spot P)) → IfSome o (λ (s : Spot P). s.act ≡ act) → spot_actions points t listed o ≡ map (action_at t act) (spots_left points listed o)
+  spot_actions_are act None h = refl
+  spot_actions_are act (Some s) h = ap (λ a. map (action_at t a) (spot_grid points listed s)) h
 
   pub spot_step : (s : Spot P) (o : Option (Spot P)) → spot_grid points listed s ≡ spot_here s ∷ spots_left points listed o → IfSome o (λ (n : Spot P). n.act ≡ s.act)
-      → moves_from points t listed s ≡ move_at t s.act (spot_here s) ∷ spot_moves points t listed o
-  spot_step s o e h = ap (map (move_at t s.act)) e ∙ ap (λ ms. move_at t s.act (spot_here s) ∷ ms) (sym (spot_moves_are s.act o h))
+      → actions_from points t listed s ≡ action_at t s.act (spot_here s) ∷ spot_actions points t listed o
+  spot_step s o e h = ap (map (action_at t s.act)) e ∙ ap (λ rest. action_at t s.act (spot_here s) ∷ rest) (sym (spot_actions_are s.act o h))
 
 -- ---- the moves of a node
 

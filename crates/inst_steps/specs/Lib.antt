@@ -1,3 +1,4 @@
+pub mod Acting
 pub mod Sweeps
 pub mod Viewing
 pub mod Weighing

@@ -8,11 +8,12 @@ use Rattle.semantics.specs.Tables.{Tables}
 use Rattle.semantics.specs.Kinds.{reqs_of}
 use Rattle.semantics.specs.Reads.{req_at}
 use Rattle.semantics.specs.Steps.{moves_of}
+use Rattle.inst_steps.specs.declared.act.Action.{Action}
 use Rattle.inst_steps.specs.declared.sweep.Sweep.{Sweep}
 use Rattle.inst_steps.specs.declared.spot.Spot.{Spot}
 use Rattle.inst_steps.specs.declared.iterator.At.{At}
 use Rattle.inst_steps.specs.Grids.{kept, cut_to, grid_from}
-use Rattle.inst_steps.specs.Sweeps.{Pass, pass, passes_of, moves_of_pass, move_at}
+use Rattle.inst_steps.specs.Sweeps.{Pass, pass, passes_of, actions_of_pass, action_at}
 
 -- What the node at a position does, move by move.
 abbrev pub moves_at : Tables → ℕ → List Move
@@ -44,27 +45,27 @@ module _ {P : Type 0} (points : P → List ℕ) where
   spots_left listed s = option_map_or (spot_grid listed) s []
 
   -- What is done from a spot on.
-  abbrev pub moves_from : Tables → Option (List ℕ) → Spot P → List Move
-  moves_from t listed s = map (move_at t s.act) (spot_grid listed s)
+  abbrev pub actions_from : Tables → Option (List ℕ) → Spot P → List Action
+  actions_from t listed s = map (action_at t s.act) (spot_grid listed s)
 
-  abbrev pub spot_moves : Tables → Option (List ℕ) → Option (Spot P) → List Move
-  spot_moves t listed s = option_map_or (moves_from t listed) s []
+  abbrev pub spot_actions : Tables → Option (List ℕ) → Option (Spot P) → List Action
+  spot_actions t listed s = option_map_or (actions_from t listed) s []
 
 -- The point and the field of a spot.
 abbrev pub spot_here : {P : Type 0} → Spot P → ℕ × ℕ
 spot_here s = (s.point, slice_index s.fields.now s.place)
 
 -- What the sweeps from a place on do at listed points.
-abbrev pub rest_moves : Tables → Op → Option (List ℕ) → ℕ → List Move
-rest_moves t op listed k = flat_map (moves_of_pass (cut_to listed t)) (drop k (passes_of t op))
+abbrev pub rest_actions : Tables → Op → Option (List ℕ) → ℕ → List Action
+rest_actions t op listed k = flat_map (actions_of_pass (cut_to listed t)) (drop k (passes_of t op))
 
 module _ {P : Type 0} (points : P → List ℕ) where
   abbrev pub IsAt : Option (List ℕ) → Option (At P) → Type 0
   IsAt listed at = IfSome at (λ (a : At P). IsSpot points listed a.spot)
 
   -- What is left to do from where an operation stands.
-  abbrev pub left_from : Tables → Op → Option (List ℕ) → At P → List Move
-  left_from t op listed a = moves_from points t listed a.spot ++ rest_moves t op listed a.rest
+  abbrev pub left_from : Tables → Op → Option (List ℕ) → At P → List Action
+  left_from t op listed a = actions_from points t listed a.spot ++ rest_actions t op listed a.rest
 
-  abbrev pub at_left : Tables → Op → Option (List ℕ) → Option (At P) → List Move
+  abbrev pub at_left : Tables → Op → Option (List ℕ) → Option (At P) → List Action
   at_left t op listed at = option_map_or (left_from t op listed) at []

@@ -1,5 +1,5 @@
 -- Operations as sweeps, each of which does one thing at each point and field of a space.
-use Rattle.std.specs.Prelude.{ℕ, List, [], ◌∷◌, ◌++◌, map, Option, Some, None, option_map, unwrap_or, slice_get, if◌then◌else◌}
+use Rattle.std.specs.Prelude.{ℕ, List, [], ◌∷◌, ◌++◌, ◌==◌, ◌&&◌, map, Option, Some, None, option_map, unwrap_or, position, slice_get, if◌then◌else◌}
 use Rattle.std.specs.Option.{option_map_or}
 use Rattle.privilege.specs.declared.kinds.Priv.{Priv}
 use Rattle.privilege.specs.declared.kinds.Priv.TheVariants as privileges
@@ -16,6 +16,7 @@ use Rattle.semantics.specs.Points.{points_in}
 use Rattle.semantics.specs.Kinds.{reqs_of, grid}
 use Rattle.semantics.specs.Steps.{cell_in, id_of, operator_of}
 use Rattle.inst_steps.specs.declared.act.Act.{Act}
+use Rattle.inst_steps.specs.declared.act.Action.{Action}
 use Rattle.inst_steps.specs.declared.act.Act.TheVariants as acts
 
 -- The cell to which a point and a field of a requirement are mapped. The requirement is named by its item and number.
@@ -24,13 +25,23 @@ cell_of t item number p = cell_in (unwrap_or (inst_mapped t.maps (record { item 
 
 -- What an act does at a point and a field.
 abbrev pub move_at : Tables → Act → ℕ × ℕ → Move
-move_at t (acts.Read task item number) p = moves.Read task number (cell_of t item number p)
-move_at t (acts.Write task item number) p = moves.Write task (cell_of t item number p)
-move_at t (acts.Reduce task item number op) p = moves.Reduce task number op (cell_of t item number p)
+move_at t (acts.Read task item number req) p = moves.Read task number (cell_of t item number p)
+move_at t (acts.Write task item number req) p = moves.Write task (cell_of t item number p)
+move_at t (acts.Reduce task item number req op) p = moves.Reduce task number op (cell_of t item number p)
 move_at t (acts.Copy src dst) p = moves.Copy (cell_in src p) (cell_in dst p)
 move_at t (acts.Put inst n) p = moves.Put (cell_in inst p) n
 move_at t (acts.Reset inst) p = moves.Reset (cell_in inst p)
 move_at t (acts.Fold op src dst) p = moves.Fold op (cell_in src p) (cell_in dst p)
+
+-- The position of the requirement by which a run acts.
+abbrev pub req_in : Act → Option ℕ
+req_in (acts.Read task item number req) = req
+req_in (acts.Write task item number req) = req
+req_in (acts.Reduce task item number req op) = req
+req_in _ = None
+
+abbrev pub action_at : Tables → Act → ℕ × ℕ → Action
+action_at t act p = record { req = req_in act; step = move_at t act p }
 
 -- What is done at each point of a space and each of some fields.
 pub record Pass : Type 0 where
@@ -47,23 +58,34 @@ pass_moves t p = map (move_at t p.act) (grid (points_in t p.space) p.fields)
 abbrev pub moves_of_pass : Tables → Option Pass → List Move
 moves_of_pass t p = option_map_or (pass_moves t) p []
 
+-- The same, each move with its requirement.
+abbrev pub pass_actions : Tables → Pass → List Action
+pass_actions t p = map (action_at t p.act) (grid (points_in t p.space) p.fields)
+
+abbrev pub actions_of_pass : Tables → Option Pass → List Action
+actions_of_pass t p = option_map_or (pass_actions t) p []
+
+-- The position of the first requirement with the item and the number of this one, which is its own.
+abbrev pub own_place : Tables → Req → Option ℕ
+own_place t r = position (λ (q : Req). (q.item == r.item) && (q.number == r.number)) t.reqs
+
 -- How a task reads for a requirement, and how it changes, where its privilege allows that.
-abbrev pub reading : ℕ → Req → Option Act
-reading task r = if may_read r.access then Some (acts.Read task r.item r.number) else None
+abbrev pub reading : Tables → ℕ → Req → Option Act
+reading t task r = if may_read r.access then Some (acts.Read task r.item r.number (own_place t r)) else None
 
-abbrev pub changing_by : ℕ → Req → Priv → Option Act
-changing_by task r (privileges.Red op) = Some (acts.Reduce task r.item r.number op)
-changing_by task r p = if may_write p then Some (acts.Write task r.item r.number) else None
+abbrev pub changing_by : Tables → ℕ → Req → Priv → Option Act
+changing_by t task r (privileges.Red op) = Some (acts.Reduce task r.item r.number (own_place t r) op)
+changing_by t task r p = if may_write p then Some (acts.Write task r.item r.number (own_place t r)) else None
 
-abbrev pub changing : ℕ → Req → Option Act
-changing task r = changing_by task r r.access
+abbrev pub changing : Tables → ℕ → Req → Option Act
+changing t task r = changing_by t task r r.access
 
 abbrev pub pass_for : Req → Option Act → Option Pass
 pass_for r act = option_map (λ (a : Act). pass a r.space r.fields) act
 
 -- The sweeps of an operation. A run reads for each requirement, and then changes for each.
 abbrev pub passes_of : Tables → Op → List (Option Pass)
-passes_of t (operations.Run item) = map (λ r. pass_for r (reading (id_of t item) r)) (reqs_of t item) ++ map (λ r. pass_for r (changing (id_of t item) r)) (reqs_of t item)
+passes_of t (operations.Run item) = map (λ r. pass_for r (reading t (id_of t item) r)) (reqs_of t item) ++ map (λ r. pass_for r (changing t (id_of t item) r)) (reqs_of t item)
 passes_of t (operations.Copy src dst space fields) = Some (pass (acts.Copy src dst) space fields) ∷ []
 passes_of t (operations.Put inst space fields n) = Some (pass (acts.Put inst n) space fields) ∷ []
 passes_of t (operations.Reset inst space fields) = Some (pass (acts.Reset inst) space fields) ∷ []

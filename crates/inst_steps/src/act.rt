@@ -1,22 +1,27 @@
 //! What an operation does at each of some points and fields.
 
-/// What one sweep of an operation does at each point and field. A requirement is named by the position of its item, and by its number there.
+use semantics::Move;
+
+/// What one sweep of an operation does at each point and field. A requirement is named by the position of its item and its number there, and by its own position.
 #[derive(Clone, Copy, Debug, PartialEq, Eq)]
 pub(crate) enum Act {
     Read {
         task: u32,
         item: usize,
         number: u32,
+        req: Option<usize>,
     },
     Write {
         task: u32,
         item: usize,
         number: u32,
+        req: Option<usize>,
     },
     Reduce {
         task: u32,
         item: usize,
         number: u32,
+        req: Option<usize>,
         op: u32,
     },
     Copy {
@@ -35,4 +40,11 @@ pub(crate) enum Act {
         src: u32,
         dst: u32,
     },
+}
+
+/// A move of a node, with the position of the requirement by which a run makes it.
+#[derive(Clone, Copy, Debug, PartialEq, Eq)]
+pub struct Action {
+    pub req: Option<usize>,
+    pub step: Move,
 }

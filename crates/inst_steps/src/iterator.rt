@@ -1,14 +1,17 @@
-//! The steps of a node, one after the other.
+//! What a node does, one move after the other.
 
-ghost use Rattle.std.specs.Prelude.{◌≡◌, ◌<◌, ◌∷◌, Some, None, drop, flat_map, length, IfSome, IfNone};
+ghost use Rattle.std.specs.Prelude.{◌≡◌, ◌<◌, ◌∷◌, Some, None, drop, flat_map, length, map, IfSome, IfNone};
 ghost use Rattle.std.specs.Iterator.{YieldsFirst, item_count};
+ghost use Rattle.std.specs.List.{AllByRecursion};
 ghost use Rattle.std.specs.List.Sorted.{IsStrictlyIncreasing};
 ghost use Rattle.semantics.specs.Points.{points_in};
+ghost use Rattle.inst_steps.specs.Acting.{IsBy, steps_in};
 ghost use Rattle.inst_steps.specs.Grids.{IsAscending, cut_to, listed_of};
-ghost use Rattle.inst_steps.specs.Stepping.{AreNumbered, IsSpot, IsAt, at_left, rest_moves, moves_at, spot_here, spot_moves};
-ghost use Rattle.inst_steps.specs.Sweeps.{move_at, passes_of, pass_at, moves_of_pass};
+ghost use Rattle.inst_steps.specs.Stepping.{AreNumbered, IsSpot, IsAt, at_left, rest_actions, moves_at, spot_here, spot_actions};
+ghost use Rattle.inst_steps.specs.Sweeps.{action_at, passes_of, pass_at, actions_of_pass};
 
-use crate::spot::{Spot, first_spot, move_here, next_spot};
+use crate::act::Action;
+use crate::spot::{Spot, action_here, first_spot, next_spot};
 use crate::sweep::{sweep_at, sweep_count};
 use log_decl::Log;
 use point_set::PointSet;
@@ -22,26 +25,42 @@ pub(crate) struct At<'l, P: PointSet + Copy> {
     pub(crate) rest: usize,
 }
 
-/// The moves of a node that are left, in order. No call takes memory.
+/// The moves of a node that are left, in order, each with its requirement. No call takes memory.
 #[derive(Drop)]
-pub struct Steps<'l, 'a, 'p, P: PointSet + Copy> {
+pub struct Actions<'l, 'a, 'p, P: PointSet + Copy> {
     log: &'l Log<'a, P>,
     op: &'l Op,
     listed: Option<&'p [u64]>,
     at: Option<At<'l, P>>,
 }
 
-impl<'l, 'a, 'p, P: PointSet + Copy> Model for Steps<'l, 'a, 'p, P> {
+impl<'l, 'a, 'p, P: PointSet + Copy> Model for Actions<'l, 'a, 'p, P> {
     ghost use Rattle.std.specs.Prelude.{List};
-    ghost use Rattle.semantics.specs.declared.moves.Move.{Move};
+    ghost use Rattle.inst_steps.specs.declared.act.Action.{Action};
     ghost use Rattle.inst_steps.specs.Grids.{IsAscending, listed_of};
     ghost use Rattle.inst_steps.specs.Stepping.{AreNumbered, IsAt, at_left};
 
-    ghost Value = { List Move };
+    ghost Value = { List Action };
 
     ghost view = { λ s. at_left P.points s.log.now s.op.now (listed_of s.listed) s.at };
 
     ghost invariant = { λ s. AreNumbered s.log.now × IsAscending s.listed × IsAt P.points (listed_of s.listed) s.at };
+}
+
+/// The moves of a node that are left, in order. No call takes memory.
+#[derive(Drop)]
+pub struct Steps<'l, 'a, 'p, P: PointSet + Copy> {
+    pub(crate) actions: Actions<'l, 'a, 'p, P>,
+}
+
+impl<'l, 'a, 'p, P: PointSet + Copy> Model for Steps<'l, 'a, 'p, P> {
+    ghost use Rattle.std.specs.Prelude.{List, map};
+    ghost use Rattle.semantics.specs.declared.moves.Move.{Move};
+    ghost use Rattle.inst_steps.specs.Acting.{steps_in};
+
+    ghost Value = { List Move };
+
+    ghost view = { λ s. steps_in s.actions };
 }
 
 /// The requirements of an item are found by their numbers. There is nothing to do.
@@ -61,8 +80,8 @@ fn sweep_start<'l, P: PointSet + Copy>(
     requires numbers { AreNumbered log.now }
     requires ascending { IsAscending listed }
     ensures spot { IfSome result (IsSpot P.points (listed_of listed.entry)) }
-    ensures moves { spot_moves P.points log.now (listed_of listed.entry) result
-        ≡ moves_of_pass (cut_to (listed_of listed.entry) log.now) (pass_at (passes_of log.now op.now) k) }
+    ensures actions { spot_actions P.points log.now (listed_of listed.entry) result
+        ≡ actions_of_pass (cut_to (listed_of listed.entry) log.now) (pass_at (passes_of log.now op.now) k) }
 {
     let sweep = sweep_at(log, op, k)?;
     match log.set(sweep.space) {
@@ -81,8 +100,8 @@ fn start_from<'l, P: PointSet + Copy>(
     requires numbers { AreNumbered log.now }
     requires ascending { IsAscending listed }
     ensures at { IsAt P.points (listed_of listed.entry) result }
-    ensures moves { at_left P.points log.now op.now (listed_of listed.entry) result
-        ≡ rest_moves log.now op.now (listed_of listed.entry) from }
+    ensures actions { at_left P.points log.now op.now (listed_of listed.entry) result
+        ≡ rest_actions log.now op.now (listed_of listed.entry) from }
 {
     for k in from..sweep_count(log, op) {
         if let Some(spot) = sweep_start(log, op, listed, k) {
@@ -103,8 +122,8 @@ fn after<'l, P: PointSet + Copy>(
     requires ascending { IsAscending listed }
     requires at { IsAt P.points (listed_of listed) (Some at.now) }
     ensures at { IsAt P.points (listed_of listed.entry) result }
-    ensures moves { at_left P.points log.now op.now (listed_of listed.entry) (Some at.now)
-        ≡ move_at log.now at.now.spot.act (spot_here at.now.spot) ∷ at_left P.points log.now op.now (listed_of listed.entry) result }
+    ensures actions { at_left P.points log.now op.now (listed_of listed.entry) (Some at.now)
+        ≡ action_at log.now at.now.spot.act (spot_here at.now.spot) ∷ at_left P.points log.now op.now (listed_of listed.entry) result }
 {
     match next_spot(&at.spot, listed) {
         Some(spot) => Some(At {
@@ -112,6 +131,21 @@ fn after<'l, P: PointSet + Copy>(
             rest: at.rest,
         }),
         None => start_from(log, op, listed, at.rest),
+    }
+}
+
+impl<'l, 'a, 'p, P: PointSet + Copy> Iterator for Actions<'l, 'a, 'p, P> {
+    type Item = Action;
+
+    ghost next_gives = { YieldsFirst (λ left. left) };
+
+    ghost remaining = { item_count (λ left. left) };
+
+    fn next(&mut self) -> Option<Action> {
+        let at = self.at?;
+        let action = action_here(self.log, &at.spot);
+        self.at = after(self.log, self.op, self.listed, &at);
+        Some(action)
     }
 }
 
@@ -123,27 +157,28 @@ impl<'l, 'a, 'p, P: PointSet + Copy> Iterator for Steps<'l, 'a, 'p, P> {
     ghost remaining = { item_count (λ left. left) };
 
     fn next(&mut self) -> Option<Move> {
-        let at = self.at?;
-        let step = move_here(self.log, &at.spot);
-        self.at = after(self.log, self.op, self.listed, &at);
-        Some(step)
+        match self.actions.next() {
+            Some(action) => Some(action.step),
+            None => None,
+        }
     }
 }
 
-impl<'l, 'a, 'p, P: PointSet + Copy> Steps<'l, 'a, 'p, P> {
+impl<'l, 'a, 'p, P: PointSet + Copy> Actions<'l, 'a, 'p, P> {
     /// What a node does, at listed points where there is a list.
     pub(crate) fn of(
         log: &'l Log<'a, P>,
         node: usize,
         listed: Option<&'p [u64]>,
-    ) -> Steps<'l, 'a, 'p, P>
+    ) -> Actions<'l, 'a, 'p, P>
         requires node { node < length log.now.nodes }
         requires ascending { IsAscending listed }
-        ensures { result ≡ moves_at (cut_to (listed_of listed.entry) log.now) node }
+        ensures steps { steps_in result ≡ moves_at (cut_to (listed_of listed.entry) log.now) node }
+        ensures by { AllByRecursion (IsBy log.now) result }
     {
         reqs_are_numbered(log);
         let op = &log.nodes()[node].op;
-        Steps {
+        Actions {
             log,
             op,
             listed,

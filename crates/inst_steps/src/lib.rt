@@ -15,8 +15,9 @@ mod sweep;
 mod tests;
 mod view;
 
-pub use iterator::Steps;
+pub use act::Action;
+pub use iterator::{Actions, Steps};
 pub use laws::{steps_touch_cells_of_instances, stores_hold_states, weights_grow_by_moves};
-pub use of_nodes::{steps, steps_on};
+pub use of_nodes::{actions_on, steps, steps_on};
 pub use store::Store;
 pub use view::View;

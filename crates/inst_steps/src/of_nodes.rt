@@ -1,11 +1,13 @@
-//! The steps of a node.
+//! What a node does.
 
 ghost use Rattle.std.specs.Prelude.{◌≡◌, ◌<◌, length};
+ghost use Rattle.std.specs.List.{AllByRecursion};
 ghost use Rattle.std.specs.List.Sorted.{IsStrictlyIncreasing};
 ghost use Rattle.point_laws.specs.Cut.{cut};
+ghost use Rattle.inst_steps.specs.Acting.{IsBy, steps_in};
 ghost use Rattle.inst_steps.specs.Stepping.{moves_at};
 
-use crate::iterator::Steps;
+use crate::iterator::{Actions, Steps};
 use log_decl::Log;
 use point_set::PointSet;
 
@@ -14,7 +16,9 @@ pub fn steps<'l, 'a, P: PointSet + Copy>(log: &'l Log<'a, P>, node: usize) -> St
     requires { node < length log.now.nodes }
     ensures { result ≡ moves_at log.now node }
 {
-    Steps::of(log, node, None)
+    Steps {
+        actions: Actions::of(log, node, None),
+    }
 }
 
 /// Those of them at listed points, in the same order. It passes over points that are not listed by searches, and takes no memory.
@@ -27,5 +31,21 @@ pub fn steps_on<'l, 'a, 'p, P: PointSet + Copy>(
     requires ascend { IsStrictlyIncreasing points.now }
     ensures { result ≡ moves_at (cut points.now log.now) node }
 {
-    Steps::of(log, node, Some(points))
+    Steps {
+        actions: Actions::of(log, node, Some(points)),
+    }
+}
+
+/// The same, each with the position of the requirement by which a run makes it: its privilege allows the move, in the cell that its view has there.
+pub fn actions_on<'l, 'a, 'p, P: PointSet + Copy>(
+    log: &'l Log<'a, P>,
+    node: usize,
+    points: &'p [u64],
+) -> Actions<'l, 'a, 'p, P>
+    requires node { node < length log.now.nodes }
+    requires ascend { IsStrictlyIncreasing points.now }
+    ensures steps { steps_in result ≡ moves_at (cut points.now log.now) node }
+    ensures by { AllByRecursion (IsBy log.now) result }
+{
+    Actions::of(log, node, Some(points))
 }

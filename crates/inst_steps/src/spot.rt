@@ -3,10 +3,10 @@
 ghost use Rattle.std.specs.Prelude.{◌≡◌, [], ◌∷◌, ◌++◌, IfSome, IfNone};
 ghost use Rattle.semantics.specs.Kinds.{grid};
 ghost use Rattle.inst_steps.specs.Grids.{IsAscending, kept, listed_of};
-ghost use Rattle.inst_steps.specs.Stepping.{IsSpot, spot_here, spot_grid, spot_moves, spots_left, pass_seen, IsWithin};
-ghost use Rattle.inst_steps.specs.Sweeps.{move_at, cell_of};
+ghost use Rattle.inst_steps.specs.Stepping.{IsSpot, spot_here, spot_grid, spots_left, pass_seen, IsWithin};
+ghost use Rattle.inst_steps.specs.Sweeps.{action_at, move_at, cell_of, req_in};
 
-use crate::act::Act;
+use crate::act::{Act, Action};
 use crate::listed::{next_behind, next_listed};
 use log_decl::Log;
 use point_set::PointSet;
@@ -112,12 +112,22 @@ fn move_at<P: PointSet + Copy>(log: &Log<'_, P>, act: Act, point: u64, field: u3
     ensures { result ≡ move_at log.now act (point, field) }
 {
     match act {
-        Act::Read { task, item, number } => Move::Read {
+        Act::Read {
+            task,
+            item,
+            number,
+            ..
+        } => Move::Read {
             task,
             req: number,
             cell: cell_of(log, item, number, point, field),
         },
-        Act::Write { task, item, number } => Move::Write {
+        Act::Write {
+            task,
+            item,
+            number,
+            ..
+        } => Move::Write {
             task,
             cell: cell_of(log, item, number, point, field),
         },
@@ -126,6 +136,7 @@ fn move_at<P: PointSet + Copy>(log: &Log<'_, P>, act: Act, point: u64, field: u3
             item,
             number,
             op,
+            ..
         } => Move::Reduce {
             task,
             req: number,
@@ -151,10 +162,25 @@ fn move_at<P: PointSet + Copy>(log: &Log<'_, P>, act: Act, point: u64, field: u3
     }
 }
 
-/// What is done where a sweep stands.
-pub(crate) fn move_here<P: PointSet + Copy>(log: &Log<'_, P>, spot: &Spot<'_, P>) -> Move
-    requires { IsWithin spot.now }
-    ensures { result ≡ move_at log.now spot.now.act (spot_here spot.now) }
+/// The position of the requirement by which a run acts.
+fn req_in(act: Act) -> Option<usize>
+    ensures { result ≡ req_in act }
 {
-    move_at(log, spot.act, spot.point, spot.fields[spot.place])
+    match act {
+        Act::Read { req, .. } => req,
+        Act::Write { req, .. } => req,
+        Act::Reduce { req, .. } => req,
+        _ => None,
+    }
+}
+
+/// What is done where a sweep stands.
+pub(crate) fn action_here<P: PointSet + Copy>(log: &Log<'_, P>, spot: &Spot<'_, P>) -> Action
+    requires { IsWithin spot.now }
+    ensures { result ≡ action_at log.now spot.now.act (spot_here spot.now) }
+{
+    Action {
+        req: req_in(spot.act),
+        step: move_at(log, spot.act, spot.point, spot.fields[spot.place]),
+    }
 }

@@ -23,22 +23,23 @@ pub(crate) struct Sweep<'l> {
 }
 
 /// How a task reads for a requirement.
-fn reading(task: u32, req: &Req) -> Option<Act>
-    ensures { result ≡ reading task req.now }
+fn reading<P: PointSet + Copy>(log: &Log<'_, P>, task: u32, req: &Req) -> Option<Act>
+    ensures { result ≡ reading log.now task req.now }
 {
     match req.access {
         Priv::Ro | Priv::Rw => Some(Act::Read {
             task,
             item: req.item,
             number: req.number,
+            req: log.req_place(req.item, req.number),
         }),
         Priv::Wd | Priv::Red(_) => None,
     }
 }
 
 /// How a task changes for a requirement.
-fn changing(task: u32, req: &Req) -> Option<Act>
-    ensures { result ≡ changing task req.now }
+fn changing<P: PointSet + Copy>(log: &Log<'_, P>, task: u32, req: &Req) -> Option<Act>
+    ensures { result ≡ changing log.now task req.now }
 {
     match req.access {
         Priv::Ro => None,
@@ -46,11 +47,13 @@ fn changing(task: u32, req: &Req) -> Option<Act>
             task,
             item: req.item,
             number: req.number,
+            req: log.req_place(req.item, req.number),
         }),
         Priv::Red(op) => Some(Act::Reduce {
             task,
             item: req.item,
             number: req.number,
+            req: log.req_place(req.item, req.number),
             op,
         }),
     }
@@ -132,11 +135,11 @@ fn sweep_of_run<'l, P: PointSet + Copy>(
     let task = id_of(log, item);
     if k < count {
         let req = own_req(log, item, k)?;
-        return sweep_for(req, reading(task, req));
+        return sweep_for(req, reading(log, task, req));
     }
     if k - count < count {
         let req = own_req(log, item, k - count)?;
-        return sweep_for(req, changing(task, req));
+        return sweep_for(req, changing(log, task, req));
     }
     None
 }

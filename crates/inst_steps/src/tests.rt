@@ -218,7 +218,19 @@ fn next_at_one(moves: &[Move], from: usize) -> usize {
     moves.len()
 }
 
-/// Asks for what a node does at points 1 and 5.
+/// The position of the requirement of a move.
+fn req_of(step: Move) -> Option<usize> {
+    match step {
+        Move::Read { req: 1, .. } | Move::Write { task: 1, .. } => Some(0),
+        Move::Read { .. } => Some(1),
+        Move::Write { .. } => Some(3),
+        Move::Reduce { req: 1, .. } => Some(4),
+        Move::Reduce { .. } => Some(5),
+        _ => None,
+    }
+}
+
+/// Asks for what a node does at points 1 and 5, and by which requirements.
 fn ask_steps_on<P: PointSet + Copy>(
     rt: &impl Abort,
     log: &Log<'_, P>,
@@ -230,8 +242,11 @@ fn ask_steps_on<P: PointSet + Copy>(
     }
     let points = [1, 5];
     let mut place = next_at_one(want, 0);
-    for step in steps_on(log, node, &points) {
+    let mut steps = steps_on(log, node, &points);
+    for Action { req, step } in actions_on(log, node, &points) {
         assert!(rt; want.get(place).copied() == Some(step));
+        assert!(rt; steps.next() == Some(step));
+        assert!(rt; req == req_of(step));
         place = next_at_one(want, place.saturating_add(1));
     }
     assert_eq!(rt; place, want.len());

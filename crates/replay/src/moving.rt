@@ -1,24 +1,26 @@
 //! One move of a replay.
 
-ghost use Rattle.std.specs.Prelude.{◌≡◌, ◌<◌, length, IfErr, IfOk, MatchOption, None, OnErr, OnOk};
+ghost use Rattle.std.specs.Prelude.{◌≡◌, ◌<◌, length, option_map, slice_get, IfErr, IfOk, MatchOption, None, OnErr, OnOk};
 ghost use Rattle.std.specs.List.Sorted.{IsStrictlyIncreasing};
 ghost use Rattle.std.specs.Option.{option_map_or};
 ghost use Rattle.semantics.specs.declared.tables.Req.{Req};
 ghost use Rattle.semantics.specs.Reads.{difference, req_at};
 ghost use Rattle.point_laws.specs.Cut.{cut};
 ghost use Rattle.serial_exec.specs.Kept.{AreVersionsOf, value_at};
+ghost use Rattle.inst_steps.specs.Acting.{IsAllowed, IsBy};
 ghost use Rattle.inst_steps.specs.Stores.{HasCells, IsLight, after_move, value_in};
 ghost use Rattle.replay.specs.Ends.{IsUnlike, Tells};
 ghost use Rattle.replay.specs.Fitting.{IsOfItem, item_at};
 
 use crate::ends::ReplayEnd;
-use inst_steps::Store;
+use inst_steps::{Action, Store};
 use log_decl::Log;
 use point_set::PointSet;
+use privilege::Priv;
 use semantics::{Cell, Move, Op, Place};
 use serial_exec::Versions;
 use std::alloc::Global;
-use value_terms::{Memory, Value};
+use value_terms::{Base, Contribution, Memory, Value};
 
 /// A value that differs from the one that is wanted.
 #[derive(Drop)]
@@ -43,6 +45,16 @@ fn tree_of<P: PointSet + Copy>(log: &Log<'_, P>, item: usize, number: u32) -> u3
     match log.req(item, number) {
         Some(req) => req.tree,
         None => 0,
+    }
+}
+
+/// The privilege of the requirement at a position.
+fn privilege_of<P: PointSet + Copy>(log: &Log<'_, P>, req: usize) -> Option<Priv>
+    ensures { result ≡ option_map (λ r. r.access) (slice_get log.now.reqs req) }
+{
+    match log.reqs().get(req) {
+        Some(req) => Some(req.access),
+        None => None,
     }
 }
 
@@ -78,26 +90,22 @@ impl<'r, 'a, P: PointSet + Copy> Replay<'r, 'a, P> {
         }
     }
 
-    /// Judges what a cell holds that an item reads.
+    /// Judges a value that an item reads from a cell.
     fn judge(
         &self,
-        store: &Store,
         item: usize,
         task: u32,
         req: u32,
         cell: &Cell,
+        value: &Value,
     ) -> Result<(), ReplayEnd>
         requires item { IsOfItem self.now.log.now item (Move.Read task req cell.now) }
         requires versions { AreVersionsOf (cut self.now.points.now self.now.log.now) self.now.versions.now }
-        requires cell { HasCells store.now (Move.Read task req cell.now) }
         ensures right { OnOk result (difference (cut self.now.points.now self.now.log.now)
-            (Move.Read task req cell.now) (value_in store.now) ≡ None) }
+            (Move.Read task req cell.now) (λ c. value.now) ≡ None) }
         ensures end { IfErr result (Tells (cut self.now.points.now self.now.log.now)
-            (difference (cut self.now.points.now self.now.log.now) (Move.Read task req cell.now) (value_in store.now))) }
+            (difference (cut self.now.points.now self.now.log.now) (Move.Read task req cell.now) (λ c. value.now))) }
     {
-        let Some(value) = store.value(cell) else {
-            unreachable!()
-        };
         let place = Place {
             tree: tree_of(self.log, item, req),
             point: cell.point,
@@ -116,8 +124,68 @@ impl<'r, 'a, P: PointSet + Copy> Replay<'r, 'a, P> {
         }
     }
 
-    /// Takes a move of a node that runs an item: judges a read, and does what others do.
-    pub(crate) fn take(&self, store: &mut Store, item: usize, step: &Move) -> Result<(), ReplayEnd>
+    /// Judges a read by the requirement at a position, in its view.
+    fn read(
+        &self,
+        store: &mut Store,
+        item: usize,
+        req: usize,
+        task: u32,
+        number: u32,
+        cell: &Cell,
+    ) -> Result<(), ReplayEnd>
+        requires allowed { IsAllowed self.now.log.now (Move.Read task number cell.now) req }
+        requires item { IsOfItem self.now.log.now item (Move.Read task number cell.now) }
+        requires versions { AreVersionsOf (cut self.now.points.now self.now.log.now) self.now.versions.now }
+        requires cell { HasCells store.old (Move.Read task number cell.now) }
+        ensures right { OnOk result (difference (cut self.now.points.now self.now.log.now)
+            (Move.Read task number cell.now) (value_in store.old) ≡ None) }
+        ensures kept { store.new ≡ store.old }
+        ensures end { IfErr result (Tells (cut self.now.points.now self.now.log.now)
+            (difference (cut self.now.points.now self.now.log.now) (Move.Read task number cell.now) (value_in store.old))) }
+    {
+        match privilege_of(self.log, req) {
+            Some(Priv::Ro) => {
+                let view = store.view_ro(self.log, req);
+                self.judge(item, task, number, cell, view.get(cell.point, cell.field))
+            }
+            Some(Priv::Rw) => {
+                let view = store.view_rw(self.log, req);
+                self.judge(item, task, number, cell, view.get(cell.point, cell.field))
+            }
+            _ => unreachable!(),
+        }
+    }
+
+    /// Puts what a task writes by the requirement at a position into its view.
+    fn write(&self, store: &mut Store, req: usize, task: u32, cell: &Cell)
+        requires allowed { IsAllowed self.now.log.now (Move.Write task cell.now) req }
+        requires cell { HasCells store.old (Move.Write task cell.now) }
+        ensures { store.new ≡ after_move (Move.Write task cell.now) store.old }
+    {
+        let value = Value::of(self.alloc, Base::Out(task));
+        match privilege_of(self.log, req) {
+            Some(Priv::Rw) => {
+                let mut view = store.view_rw(self.log, req);
+                view.set(cell.point, cell.field, value);
+            }
+            Some(Priv::Wd) => {
+                let mut view = store.view_wd(self.log, req);
+                view.set(cell.point, cell.field, value);
+            }
+            _ => unreachable!(),
+        }
+    }
+
+    /// Takes a move of a run in the view of the requirement at a position: judges a read, and does what others do.
+    fn take_by(
+        &self,
+        store: &mut Store,
+        item: usize,
+        req: usize,
+        step: &Move,
+    ) -> Result<(), ReplayEnd>
+        requires allowed { IsAllowed self.now.log.now step.now req }
         requires item { IsOfItem self.now.log.now item step.now }
         requires versions { AreVersionsOf (cut self.now.points.now self.now.log.now) self.now.versions.now }
         requires cells { HasCells store.old step.now }
@@ -128,10 +196,52 @@ impl<'r, 'a, P: PointSet + Copy> Replay<'r, 'a, P> {
         ensures end { IfErr result (Tells (cut self.now.points.now self.now.log.now)
             (difference (cut self.now.points.now self.now.log.now) step.now (value_in store.old))) }
     {
-        match step {
-            Move::Read { task, req, cell } => self.judge(store, item, *task, *req, cell),
-            _ => {
-                store.apply(step)?;
+        match *step {
+            Move::Read {
+                task,
+                req: number,
+                cell,
+            } => self.read(store, item, req, task, number, &cell),
+            Move::Write { task, cell } => {
+                self.write(store, req, task, &cell);
+                Ok(())
+            }
+            Move::Reduce {
+                task,
+                req: number,
+                cell,
+                ..
+            } => {
+                let mut view = store.view_red(self.log, req);
+                view.fold_in(cell.point, cell.field, Contribution { task, req: number })?;
+                Ok(())
+            }
+            _ => unreachable!(),
+        }
+    }
+
+    /// Takes a move of a node that runs an item: those of the run through the view of their requirement, and others as they are.
+    pub(crate) fn take(
+        &self,
+        store: &mut Store,
+        item: usize,
+        action: &Action,
+    ) -> Result<(), ReplayEnd>
+        requires by { IsBy self.now.log.now action.now }
+        requires item { IsOfItem self.now.log.now item action.now.step }
+        requires versions { AreVersionsOf (cut self.now.points.now self.now.log.now) self.now.versions.now }
+        requires cells { HasCells store.old action.now.step }
+        requires light { IsLight store.old action.now.step }
+        ensures right { OnOk result (difference (cut self.now.points.now self.now.log.now)
+            action.now.step (value_in store.old) ≡ None) }
+        ensures moved { OnOk result (store.new ≡ after_move action.now.step store.old) }
+        ensures end { IfErr result (Tells (cut self.now.points.now self.now.log.now)
+            (difference (cut self.now.points.now self.now.log.now) action.now.step (value_in store.old))) }
+    {
+        match action.req {
+            Some(req) => self.take_by(store, item, req, &action.step),
+            None => {
+                store.apply(&action.step)?;
                 Ok(())
             }
         }

@@ -21,7 +21,7 @@ use crate::laws::{first_points_tell, stands_go_on, starts_stand};
 use crate::moving::Replay;
 use atoms::Atoms;
 use event_graph::Order;
-use inst_steps::{Store, steps_on};
+use inst_steps::{Store, actions_on};
 use log_decl::Log;
 use log_laws::replay_order_lists;
 use point_set::PointSet;
@@ -45,8 +45,8 @@ impl<'r, 'a, P: PointSet + Copy> Replay<'r, 'a, P> {
         stands_go_on();
         let node = order[place];
         let item = self.item_at(node);
-        for step in steps_on(self.log, node, self.points) {
-            self.take(store, item, &step)?;
+        for action in actions_on(self.log, node, self.points) {
+            self.take(store, item, &action)?;
         }
         Ok(())
     }

@@ -2,27 +2,27 @@ use Rattle.std.proofs.Common.{map, sym, ap, ◌∙◌}
 use Rattle.std.specs.Option.{option_map}
 use Rattle.semantics.specs.Kinds.{grid}
 use Rattle.inst_steps.specs.Grids.{kept, cut_to, listed_of}
-use Rattle.inst_steps.specs.Sweeps.{move_at, moves_of_pass}
+use Rattle.inst_steps.specs.Sweeps.{action_at, actions_of_pass}
 use Rattle.inst_steps.specs.Stepping.{pass_seen}
-use Rattle.inst_steps.proofs.Sweeping.{pass_cut, no_points, spot_moves_are}
+use Rattle.inst_steps.proofs.Sweeping.{actions_cut, no_points, spot_actions_are}
 use Rattle.inst_steps.proofs.iterator.sweep_start.Goals as goal
 
-pub returns-in-Some-clause-moves : goal.returns-in-Some-clause-moves
-returns-in-Some-clause-moves g c =
+pub returns-in-Some-clause-actions : goal.returns-in-Some-clause-actions
+returns-in-Some-clause-actions g c =
     let t = c.args.log.now in
     let listed = listed_of c.args.listed in
     let sweep = c.in_ok-sweep.sweep in
     let seen = pass_seen sweep in
-    spot_moves_are g.P.PointSet.points t listed sweep.act c.first_spot.result c.first_spot.ensures.act
-    ∙ ap (map (move_at t sweep.act)) c.first_spot.ensures.grid
-    ∙ ap (λ points. map (move_at t sweep.act) (grid (kept listed points) sweep.fields.now)) (sym c.in-Some.ensures)
-    ∙ sym (pass_cut listed t seen)
-    ∙ ap (moves_of_pass (cut_to listed t)) (ap (option_map pass_seen) (sym c.in_ok-sweep.was) ∙ c.sweep_at.ensures)
+    spot_actions_are g.P.PointSet.points t listed sweep.act c.first_spot.result c.first_spot.ensures.act
+    ∙ ap (map (action_at t sweep.act)) c.first_spot.ensures.grid
+    ∙ ap (λ points. map (action_at t sweep.act) (grid (kept listed points) sweep.fields.now)) (sym c.in-Some.ensures)
+    ∙ sym (actions_cut listed t seen)
+    ∙ ap (actions_of_pass (cut_to listed t)) (ap (option_map pass_seen) (sym c.in_ok-sweep.was) ∙ c.sweep_at.ensures)
 
-pub returns-in-None-clause-moves : goal.returns-in-None-clause-moves
-returns-in-None-clause-moves g c =
+pub returns-in-None-clause-actions : goal.returns-in-None-clause-actions
+returns-in-None-clause-actions g c =
     let t = c.args.log.now in
     let listed = listed_of c.args.listed in
     let sweep = c.in_ok-sweep.sweep in
     sym (no_points listed t (pass_seen sweep) c.in-None.ensures)
-    ∙ ap (moves_of_pass (cut_to listed t)) (ap (option_map pass_seen) (sym c.in_ok-sweep.was) ∙ c.sweep_at.ensures)
+    ∙ ap (actions_of_pass (cut_to listed t)) (ap (option_map pass_seen) (sym c.in_ok-sweep.was) ∙ c.sweep_at.ensures)

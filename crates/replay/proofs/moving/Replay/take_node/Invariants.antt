@@ -1,8 +1,11 @@
+use Rattle.std.specs.List.{AllByRecursion}
 use Rattle.point_laws.specs.Cut.{cut}
+use Rattle.inst_steps.specs.Acting.{IsBy, steps_in}
 use Rattle.replay.specs.Standing.{Stands, left_in}
 use Rattle.replay.proofs.moving.Replay.take_node.Given as goal
 
-abbrev pub invariant-loop-step : goal.invariant-loop-step
-invariant-loop-step g l =
-    (goal.iterator-loop-step g).can_next l.step-iterator × (goal.iterator-loop-step g).is_finite l.step-iterator
-    × Stands (cut l.self.points.now l.self.log.now) (left_in (cut l.self.points.now l.self.log.now) l.order l.place l.node l.step-iterator) l.store
+abbrev pub invariant-loop-action : goal.invariant-loop-action
+invariant-loop-action g l =
+    (goal.iterator-loop-action g).can_next l.action-iterator × (goal.iterator-loop-action g).is_finite l.action-iterator
+    × AllByRecursion (IsBy l.self.log.now) l.action-iterator
+    × Stands (cut l.self.points.now l.self.log.now) (left_in (cut l.self.points.now l.self.log.now) l.order l.place l.node (steps_in l.action-iterator)) l.store

@@ -1,0 +1,35 @@
+-- Moves of a node, and the requirements by which a run makes them.
+use Rattle.std.specs.Prelude.{◌≡◌, ℕ, ◌⊎◌, List, map, MatchOption}
+use Rattle.privilege.specs.declared.kinds.Priv.TheVariants.{Ro, Rw, Wd, Red}
+use Rattle.semantics.specs.declared.places.Cell.{Cell}
+use Rattle.semantics.specs.declared.moves.Move.{Move}
+use Rattle.semantics.specs.declared.moves.Move.TheVariants as moves
+use Rattle.semantics.specs.Tables.{Tables}
+use Rattle.inst_steps.specs.declared.act.Action.{Action}
+use Rattle.inst_steps.specs.Viewing.{HasPrivilege, viewed_cell}
+
+-- The moves of some actions.
+abbrev pub steps_in : List Action → List Move
+steps_in actions = map (λ (a : Action). a.step) actions
+
+-- The requirement at a position is mapped to a cell, at the cell's point and field.
+abbrev pub IsMappedTo : Tables → ℕ → Cell → Type 0
+IsMappedTo t req c = viewed_cell t req c.point c.field ≡ c
+
+-- The requirement at a position allows a move: its privilege does, and it is mapped to the cell.
+abbrev pub IsAllowed : Tables → Move → ℕ → Type 0
+IsAllowed t (moves.Read task number cell) req = (HasPrivilege t req Ro ⊎ HasPrivilege t req Rw) × IsMappedTo t req cell
+IsAllowed t (moves.Write task cell) req = (HasPrivilege t req Rw ⊎ HasPrivilege t req Wd) × IsMappedTo t req cell
+IsAllowed t (moves.Reduce task number op cell) req = HasPrivilege t req (Red op) × IsMappedTo t req cell
+IsAllowed t _ req = ⊥
+
+-- A move is of an operation that is no run.
+abbrev pub IsOfNoRun : Move → Type 0
+IsOfNoRun (moves.Read task number cell) = ⊥
+IsOfNoRun (moves.Write task cell) = ⊥
+IsOfNoRun (moves.Reduce task number op cell) = ⊥
+IsOfNoRun _ = Unit {0}
+
+-- The requirement that an action names allows its move. Only an action of no run names none.
+abbrev pub IsBy : Tables → Action → Type 0
+IsBy t a = MatchOption a.req (IsOfNoRun a.step) (IsAllowed t a.step)
