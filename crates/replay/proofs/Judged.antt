@@ -1,19 +1,15 @@
 -- What versions want is what a read should see, and a read is told to differ where it does.
-use Rattle.std.proofs.Common.{◌≡◌, ◌≢◌, ℕ, ◌<◌, length, List, All, Contains, MatchOption, Option, Some, None, cond, get_or, refl, sym, ap, ◌∙◌, subst}
+use Rattle.std.proofs.Common.{◌≡◌, ◌≢◌, ℕ, ◌<◌, length, List, All, Contains, MatchOption, Option, Some, None, cond, get_or, sym, ap, ◌∙◌, subst}
 use Rattle.std.specs.Option.{option_map_or}
 use Rattle.std.proofs.lemmas.Bool.{false_from_ne_true}
 use Rattle.std.proofs.lemmas.List.{get_or_default}
 use Rattle.value_terms.specs.Values.{Value, same_value}
 use Rattle.value_terms.proofs.Equality.{value_decides}
-use Rattle.semantics.specs.declared.moves.Move.{Move}
-use Rattle.semantics.specs.declared.moves.Move.TheVariants as moves
 use Rattle.semantics.specs.declared.tables.Req.{Req}
 use Rattle.semantics.specs.Tables.{Tables, place_of}
 use Rattle.semantics.specs.Sequential.{wanted}
-use Rattle.semantics.specs.Execution.{State}
-use Rattle.semantics.specs.Reads.{Seen, difference, differing, req_at, want_of}
+use Rattle.semantics.specs.Reads.{Seen, differing, req_at, want_of}
 use Rattle.serial_exec.specs.Kept.{Kept, AreVersionsOf, value_at}
-use Rattle.inst_steps.specs.Acting.{IsOfNoRun}
 
 pub want_is : (t : Tables) (k : Kept) → AreVersionsOf t k → (item task number tree point field : ℕ) (got : Value) → place_of t.items task ≡ item → item < length t.items
     → tree ≡ option_map_or (λ (r : Req). r.tree) (req_at t item number) 0
@@ -28,11 +24,6 @@ agrees t r e = ap (λ b. cond b None (Some r)) ((value_decides r.got (want_of t 
 
 pub differs : (t : Tables) (r : Seen) → (r.got ≢ want_of t r) → differing t r ≡ Some r
 differs t r ne = ap (λ b. cond b None (Some r)) (false_from_ne_true (same_value r.got (want_of t r)) (λ same. ne ((value_decides r.got (want_of t r)).0 same)))
-
--- A move of no run reads nothing.
-pub none_read : (t : Tables) (m : Move) (s : State) → IsOfNoRun m → difference t m s ≡ None
-none_read t (moves.Read task number cell) s h = absurd h
-none_read t _ s h = refl
 
 pub all_below : (ks : List ℕ) (n : ℕ) → ((k : ℕ) → Contains ks k → k < n) → All (λ k. k < n) ks
 all_below ks n h i d lt = h (get_or ks i d) (i, lt, get_or_default ks i (get_or ks i d) d lt)

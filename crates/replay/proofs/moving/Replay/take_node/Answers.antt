@@ -12,7 +12,7 @@ loop-action-preserved g c =
     let order = c.args.order.now in
     let node = slice_index order c.args.place in
     let left = left_in t order c.args.place node (steps_in c.next.new.self) in
-    let by = subst (AllByRecursion (IsBy c.args.self.now.log.now)) c.in-Some.ensures.actions_on c.loop-action.invariant.2 in
-    let before = subst (λ rest. Stands t (left_in t order c.args.place node (steps_in rest)) c.loop-action.store) c.in-Some.ensures.actions_on c.loop-action.invariant.3 in
+    let by = subst (AllByRecursion (IsBy c.args.self.now.log.now)) c.in-Some.ensures.steps c.loop-action.invariant.2 in
+    let before = subst (λ rest. Stands t (left_in t order c.args.place node (steps_in rest)) c.loop-action.store) c.in-Some.ensures.steps c.loop-action.invariant.3 in
     let after = c.stands_go_on.ensures.next t (record { node = node; move = c.in-Some.action.step }) left c.loop-action.store before c.in_ok-take.ensures.right in
     (tt, tt, by.1, subst (Stands t left) (sym c.in_ok-take.ensures.moved) after)
