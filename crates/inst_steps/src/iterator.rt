@@ -1,6 +1,6 @@
 //! What a node does, one move after the other.
 
-ghost use Rattle.std.specs.Prelude.{◌≡◌, ◌<◌, ◌∷◌, Some, None, drop, flat_map, length, map, IfSome, IfNone};
+ghost use Rattle.std.specs.Prelude.{◌≡◌, ◌<◌, ◌∷◌, Some, None, drop, flat_map, length, IfSome, IfNone};
 ghost use Rattle.std.specs.Iterator.{YieldsFirst, item_count};
 ghost use Rattle.std.specs.List.{AllByRecursion};
 ghost use Rattle.std.specs.List.Sorted.{IsStrictlyIncreasing};
@@ -54,7 +54,7 @@ pub struct Steps<'l, 'a, 'p, P: PointSet + Copy> {
 }
 
 impl<'l, 'a, 'p, P: PointSet + Copy> Model for Steps<'l, 'a, 'p, P> {
-    ghost use Rattle.std.specs.Prelude.{List, map};
+    ghost use Rattle.std.specs.Prelude.{List};
     ghost use Rattle.semantics.specs.declared.moves.Move.{Move};
     ghost use Rattle.inst_steps.specs.Acting.{steps_in};
 
