@@ -9,18 +9,11 @@ ghost use Rattle.semantics.specs.TextFaults.{lines_fault};
 ghost use Rattle.log_faults.specs.Lines.{AreLines};
 ghost use Rattle.spy_cli.specs.Spelled.{HasFault, HasFaultOfLines, Spells};
 
-use crate::reading::{SpellEnd, read_records};
+use crate::reading::{Input, SpellEnd, read_input};
 use log_laws::read_logs_are_good;
-use spy_grammar::{Code, Lined};
+use spy_grammar::Code;
 use spy_lines::{LineList, Lines};
 use std::alloc::Global;
-
-/// The records of an input, and how many lines it has.
-#[derive(Drop)]
-pub(crate) struct Input {
-    pub(crate) records: Vec<Lined>,
-    pub(crate) lines: u32,
-}
 
 /// The lines of an input, over its bytes.
 fn lines_of(bytes: Vec<u8>) -> Result<LineList, SpellEnd>
@@ -48,9 +41,8 @@ fn records_of(alloc: Global, list: LineList) -> Result<Input, SpellEnd>
     ensures fault { (line : ℕ) (code : Code) → result ≡ Err (SpellEnd.Fault line code) → HasFaultOfLines list line code }
 {
     read_logs_are_good();
-    let lines = list.len() as u32;
-    let records = read_records(alloc, &list)?;
-    Ok(Input { records, lines })
+    let input = read_input(alloc, &list)?;
+    Ok(input)
 }
 
 /// The records of an input.

@@ -1,6 +1,6 @@
 //! The records of an input.
 
-ghost use Rattle.std.specs.Prelude.{◌≡◌, ◌<◌, ◌^◌, ◌∷◌, [], ◌++◌, ℕ, None, Some, Err, IfOk, OnOk};
+ghost use Rattle.std.specs.Prelude.{◌≡◌, ◌<◌, ◌≤◌, ◌^◌, ◌∷◌, [], ◌++◌, ℕ, None, Some, Err, IfOk, OnOk, length};
 ghost use Rattle.spy_grammar.specs.declared.code.Code.{Code};
 ghost use Rattle.semantics.specs.Records.{Hold};
 ghost use Rattle.semantics.specs.TextFaults.{code_of, line_fault, lines_fault};
@@ -41,25 +41,14 @@ impl<T: Drop> From<AllocFailed<T>> for SpellEnd {
 fn end_of(line: u32, fault: LineFault) -> SpellEnd
     ensures { result ≡ end_at line fault }
 {
-    match fault {
-        LineFault::Word => SpellEnd::Fault {
-            line,
-            code: Code::Word,
-        },
-        LineFault::Form => SpellEnd::Fault {
-            line,
-            code: Code::Form,
-        },
-        LineFault::Number => SpellEnd::Fault {
-            line,
-            code: Code::Number,
-        },
-        LineFault::Order => SpellEnd::Fault {
-            line,
-            code: Code::Order,
-        },
-        LineFault::Memory => SpellEnd::Memory,
-    }
+    let code = match fault {
+        LineFault::Word => Code::Word,
+        LineFault::Form => Code::Form,
+        LineFault::Number => Code::Number,
+        LineFault::Order => Code::Order,
+        LineFault::Memory => return SpellEnd::Memory,
+    };
+    SpellEnd::Fault { line, code }
 }
 
 /// Adds what one line says.
@@ -78,9 +67,18 @@ fn add_line(alloc: Global, records: &mut Vec<Lined>, line: u32, text: &[u8]) -> 
     }
 }
 
-/// The records of lines, each with the number of its line. A line that is blank or a comment has none.
-pub fn read_records(alloc: Global, list: &LineList) -> Result<Vec<Lined>, SpellEnd>
-    ensures held { IfOk result (λ log. Hold 1 list.now log.items) }
+/// The records of an input, each with the number of its line, and how many lines it has.
+#[derive(Drop)]
+pub(crate) struct Input {
+    pub(crate) records: Vec<Lined>,
+    pub(crate) lines: u32,
+}
+
+/// What lines say, in one pass over them.
+pub(crate) fn read_input(alloc: Global, list: &LineList) -> Result<Input, SpellEnd>
+    ensures held { IfOk result (λ i. Hold 1 list.now i.records.items) }
+    ensures count { IfOk result (λ i. i.lines ≡ length list.now) }
+    ensures few { IfOk result (λ i. i.lines ≤ 2 ^ 26) }
     ensures clean { OnOk result (lines_fault 1 list.now ≡ None) }
     ensures fault { (line : ℕ) (code : Code) → result ≡ Err (SpellEnd.Fault line code) → lines_fault 1 list.now ≡ Some (record { line = line; code = code }) }
 {
@@ -90,5 +88,18 @@ pub fn read_records(alloc: Global, list: &LineList) -> Result<Vec<Lined>, SpellE
         add_line(alloc, &mut records, line, text)?;
         line += 1;
     }
-    Ok(records)
+    Ok(Input {
+        records,
+        lines: line - 1,
+    })
+}
+
+/// The records of lines, each with the number of its line. A line that is blank or a comment has none.
+pub fn read_records(alloc: Global, list: &LineList) -> Result<Vec<Lined>, SpellEnd>
+    ensures held { IfOk result (λ log. Hold 1 list.now log.items) }
+    ensures clean { OnOk result (lines_fault 1 list.now ≡ None) }
+    ensures fault { (line : ℕ) (code : Code) → result ≡ Err (SpellEnd.Fault line code) → lines_fault 1 list.now ≡ Some (record { line = line; code = code }) }
+{
+    let input = read_input(alloc, list)?;
+    Ok(input.records)
 }

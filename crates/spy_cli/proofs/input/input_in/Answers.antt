@@ -4,7 +4,7 @@ use Rattle.spy_lines.specs.LinesOf.{with_ends, IsLine}
 use Rattle.semantics.specs.Records.{Hold}
 use Rattle.semantics.specs.TextFaults.{lines_fault}
 use Rattle.spy_cli.specs.Spelled.{HasFault, Spells}
-use Rattle.spy_cli.specs.declared.input.Input.{Input}
+use Rattle.spy_cli.specs.declared.reading.Input.{Input}
 use Rattle.spy_cli.specs.declared.reading.SpellEnd.{SpellEnd}
 use Rattle.spy_cli.proofs.Lines.{lines_fault_is, lines_spell}
 use Rattle.spy_cli.proofs.input.input_in.Goals as goal

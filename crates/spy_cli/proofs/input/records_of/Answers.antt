@@ -5,9 +5,12 @@ use Rattle.spy_cli.proofs.input.records_of.Goals as goal
 
 pub returns-clause-good : goal.returns-clause-good
 returns-clause-good c =
-    each_good c.in_ok-records.records.items (c.read_logs_are_good.ensures.held 1 c.args.list c.in_ok-records.records.items c.in_ok-records.ensures.held)
+    let read = c.in_ok-input.input.records.items in
+    each_good read (c.read_logs_are_good.ensures.held 1 c.args.list read c.in_ok-input.ensures.held)
 
 pub returns-clause-lines : goal.returns-clause-lines
 returns-clause-lines c =
-    subst (λ n. AreLines n c.in_ok-records.records.items) (sym c.len-lines.ensures.count)
-    (are_lines c.args.list c.in_ok-records.records.items c.in_ok-records.ensures.held (omega (arith, c.len-lines.ensures.few, c.len-lines.ensures.count)))
+    let read = c.in_ok-input.input.records.items in
+    let count = c.in_ok-input.ensures.count in
+    let few = c.in_ok-input.ensures.few in
+    subst (λ n. AreLines n read) (sym count) (are_lines c.args.list read c.in_ok-input.ensures.held (omega (arith, few, count)))

@@ -4,7 +4,7 @@ use Rattle.std.proofs.lemmas.List.{append-nil}
 use Rattle.semantics.specs.Records.{Hold}
 use Rattle.semantics.specs.TextFaults.{lines_fault}
 use Rattle.spy_cli.proofs.Spelled.{held_behind}
-use Rattle.spy_cli.proofs.reading.read_records.Goals as goal
+use Rattle.spy_cli.proofs.reading.read_input.Goals as goal
 
 pub loop-text-preserved : goal.loop-text-preserved
 loop-text-preserved c =
@@ -16,6 +16,7 @@ loop-text-preserved c =
           let behind = held_behind line c.in-Some.text.now rest c.loop-text.records.items c.add_line.new.records.items more c.in_ok-add_line.ensures.said h in
           subst (Hold 1 c.args.list.now) behind.2 (c.loop-text.invariant.held behind.0 (subst (λ ls. Hold line ls behind.0) (sym cut) behind.1));
       fault = c.loop-text.invariant.fault ∙ ap (lines_fault line) cut ∙ ap (λ o. option_or o (lines_fault (line + 1) rest)) c.in_ok-add_line.ensures.clean;
+      count = omega (arith, c.loop-text.invariant.count, ap length cut);
       few = omega (arith, c.loop-text.invariant.few, ap length cut);
     }
 
