@@ -15,7 +15,7 @@ use crate::report_laws::{answers_in_long, one_report};
 use crate::status::Status;
 use log_laws::one_log;
 use spy_args::{Request, request_in};
-use spy_io::{Memory, Sink, Source, write_all};
+use spy_io::{Memory, Sink, Source, WriteFault, write_all};
 use std::alloc::Global;
 
 /// Writes the text, and ends with this status if that succeeds.
@@ -27,7 +27,7 @@ fn written<K: Sink>(sink: &mut K, text: &[u8], status: Status) -> Status
 {
     match write_all(sink, text) {
         Ok(()) => status,
-        Err(_) => Status::WriteFault,
+        Err(WriteFault) => Status::WriteFault,
     }
 }
 
