@@ -4,13 +4,13 @@ use Rattle.std.specs.List.Sorted.{IsNonDecreasingBy}
 use Rattle.std.proofs.lemmas.Bool.{cases_lt}
 use Rattle.std.proofs.lemmas.Bool.Decides.{nat_tests}
 use Rattle.std.proofs.lemmas.List.Elements.{All-cons, Contains-get_or}
-use Rattle.log_laws.proofs.Members.{Member, member_of, only}
+use Rattle.log_laws.proofs.lemmas.Members.{Member, member_of, only}
 use Rattle.point_set.specs.Runs.{AreRuns}
 use Rattle.atoms.specs.Atoms.{HasPoint}
 use Rattle.atoms.specs.Parts.{part_before, joined, parts_from, parts_of}
 use Rattle.atoms.specs.declared.edges.Edge.{Edge}
 
--- each edge is at the number or behind it, and so on from edge to edge
+-- each edge is at the number or after it, and so on from edge to edge
 abbrev pub Rises : ℕ → List Edge → Type 0
 Rises n [] = Unit {0}
 Rises n (e ∷ es) = (n ≤ e.at) × Rises e.at es
@@ -31,11 +31,11 @@ pub record Reaches (edges : List Edge) (p : ℕ) : Type 0 where
   pub low : edge.at ≤ p
   pub high : p ≤ edge.last
 
--- behind a run that ends before some edge there is an edge
+-- after a run that ends before some edge there is an edge
 abbrev pub IsClosed : List Edge → Type 0
 IsClosed edges = (d c : Edge) → Member edges d → Member edges c → d.at ≤ d.last → d.last < c.at → (b : Edge) × Member edges b × (b.at ≡ d.last + 1)
 
--- the spans stand from a number on: they begin at edges, no edge is behind the first point of one up to its last, and they have the points over which runs of the edges go
+-- the spans stand from a number on: they begin at edges, no edge is after the first point of one up to its last, and they have the points over which runs of the edges go
 pub record AreCut (low : ℕ) (edges : List Edge) (spans : List (ℕ × ℕ)) : Type 0 where
   pub above : (s : ℕ × ℕ) → Member spans s → low ≤ s.0
   pub runs : AreRuns spans

@@ -4,11 +4,11 @@ use Rattle.std.specs.List.Sorted.{IsNonDecreasingBy}
 use Rattle.std.proofs.lemmas.Bool.{cases_Bool, cases_lt, true≢false}
 use Rattle.std.proofs.lemmas.List.{length-map, get_or-map, get_or_default}
 use Rattle.std.proofs.lemmas.List.Elements.{Contains-get_or}
-use Rattle.log_laws.proofs.Members.{member_of, contains_of}
+use Rattle.log_laws.proofs.lemmas.Members.{member_of, contains_of}
 use Rattle.semantics.specs.Tables.{Tables, Space}
 use Rattle.semantics.specs.Points.{is_in}
 use Rattle.point_set.specs.Runs.{AreRuns, points_of}
-use Rattle.point_set.proofs.InRuns.{Holds, in_run, of_run, ends_before}
+use Rattle.point_set.proofs.lemmas.InRuns.{Holds, in_run, of_run, ends_before}
 use Rattle.point_laws.specs.Alike.{AreFirsts}
 use Rattle.atoms.specs.Atoms.{HasPoint, IsDeclared, AreAtomsOf, first_points}
 use Rattle.atoms.specs.Edges.{IsEdgeOf, HasEdges, AreEdgesOf}
@@ -19,7 +19,7 @@ use Rattle.atoms.proofs.Cutting.{Reaches, IsClosed, AreCut, cut_parts}
 
 -- ---- edges
 
--- behind a run that ends before some edge there is an edge
+-- after a run that ends before some edge there is an edge
 closed : (spaces : List Space) (edges : List Edge) → AreEdgesOf spaces edges → IsClosed edges
 closed spaces edges h d c here there some ends =
     let from = h.sound d (contains_of edges d here) in

@@ -6,7 +6,7 @@ use Rattle.std.proofs.lemmas.List.{length-map, get_or-map}
 use Rattle.std.proofs.lemmas.List.Sorted.{Contains-permutation, IsPermutation-sym}
 use Rattle.std.specs.List.{Any}
 use Rattle.std.specs.List.Sorted.{IsPermutation}
-use Rattle.log_laws.proofs.Members.{member_of, contains_of, member_map}
+use Rattle.log_laws.proofs.lemmas.Members.{member_of, contains_of, member_map}
 use Rattle.semantics.specs.Tables.{Space}
 use Rattle.atoms.specs.declared.edges.Edge.{Edge}
 use Rattle.atoms.specs.Edges.{IsRunOf, IsFirstRun, IsEdgeOf, HasEdges, AddsEdges, AreEdgesOf}

@@ -1,5 +1,5 @@
-pub mod Maximal
-pub mod Places
-pub mod Gathered
-pub mod Cutting
-pub mod Divided
+mod Maximal
+mod Places
+mod Gathered
+mod Cutting
+mod Divided

@@ -21,7 +21,7 @@ not_missing xs x h = elim (cases_Bool (is_in xs x)) [
   | inr missed ↦ absurd (h (λ c. true≢false (sym (in_has xs x c) ∙ missed)))
 ]
 
--- the run from the first point up to a point behind which there is none
+-- the run from the first point up to a point after which there is none
 run_up_to : (points : List ℕ) (from first last : ℕ) → (Contains points from → from ≡ 0) → IsLeastFrom points from (Some first) → first ≤ last → ((q : ℕ) → first ≤ q → q ≤ last → Contains points q) → (Contains points (last + 1) → ⊥) → IsFirstRun points from (Some (first, last))
 run_up_to points from first last outside least some inside behind = (
   record {

@@ -5,7 +5,7 @@ use Rattle.std.proofs.lemmas.List.{length-map, get_or-map}
 use Rattle.std.specs.List.Sorted.{IsStrictlyIncreasing}
 use Rattle.std.specs.Option.{IsSomeAnd}
 use Rattle.point_set.specs.Runs.{AreRuns, points_of}
-use Rattle.point_set.proofs.InRuns.{Parts, has_here, has_point, ends_before}
+use Rattle.point_set.proofs.lemmas.InRuns.{Parts, has_here, has_point, ends_before}
 use Rattle.atoms.specs.Atoms.{HasPoint, IsAtomAt, first_points}
 
 pub found_at : (spans : List (ℕ × ℕ)) (p k : ℕ) → Parts spans p k → k < length spans → (get_or spans k (0, 0)).0 ≤ p → IsAtomAt spans p (Some k)

@@ -5,7 +5,7 @@ use Rattle.semantics.specs.Tables.{Space}
 use Rattle.atoms.specs.declared.edges.Edge.{Edge}
 use Rattle.atoms.specs.Atoms.{HasPoint}
 
--- The set has each point of the run, and neither the number before it nor the one behind it.
+-- The set has each point of the run, and neither the number before it nor the one after it.
 pub record IsRunOf (points : List ℕ) (run : ℕ × ℕ) : Type 0 where
   pub some : run.0 ≤ run.1
   pub inside : (p : ℕ) → HasPoint run p → Contains points p

@@ -42,7 +42,7 @@ fn firsts_of(alloc: Global, spans: &[(u64, u64)]) -> Result<Vec<u64>, Memory>
     Ok(firsts)
 }
 
-/// The place of the first span that ends at `p` or behind it, by a binary search.
+/// The place of the first span that ends at `p` or after it, by a binary search.
 fn place_from(spans: &[(u64, u64)], p: u64) -> usize
     requires { AreRuns spans.now }
     ensures { IsPartitionPoint (λ span. span.1 < p) (λ span. p ≤ span.1) spans.now result }

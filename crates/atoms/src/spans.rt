@@ -57,7 +57,8 @@ pub(crate) fn spans_of<P: PointSet>(
     alloc: Global,
     spaces: &[Space<P>],
 ) -> Result<Vec<(u64, u64)>, Memory>
-    ensures { IfOk result (λ spans. (t : Tables) → map (space_seen P.points) spaces.now ≡ t.spaces → AreAtomsOf t spans.items) }
+    ensures { IfOk result (λ spans. (t : Tables) → map (space_seen P.points) spaces.now ≡ t.spaces
+        → AreAtomsOf t spans.items) }
 {
     let edges = sorted_edges(alloc, spaces)?;
     parts_between(alloc, edges.as_slice())

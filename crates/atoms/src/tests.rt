@@ -2,15 +2,15 @@
 
 ghost use Rattle.std.specs.Prelude.{All};
 ghost use Rattle.spy_grammar.specs.Spelling.{Good};
-ghost use Rattle.log_faults.specs.Lines.{AreLines};
+ghost use Rattle.semantics.specs.Records.{AreLines};
 
 use super::*;
 use crate::spans::spans_of;
 use bumpalo::Bump;
-use log_decl::{are_log_records, declare};
+use log_decl::declare;
+use log_reading::{Input, input_in};
 use log_tables::Space;
 use point_set::RunSet;
-use spy_grammar::{Lined, read_line};
 use std::alloc::Global;
 use std::process::Abort;
 use std::test::Fail;
@@ -66,33 +66,12 @@ fn atoms_of_sets(rt: HostRuntime) -> Result<(), Fail> {
     Ok(())
 }
 
-/// The records of a text, on their lines, and how many lines there are.
-fn records_of(alloc: Global, text: &[u8]) -> Result<(Vec<Lined>, u32), Fail> {
-    let mut records = Vec::new(alloc);
-    let mut lines = 0u32;
-    for part in text.split(|b| *b == b'\n') {
-        lines = lines.saturating_add(1);
-        match read_line(alloc, part) {
-            Ok(Some(rec)) => records.push(Lined { line: lines, rec })?,
-            Ok(None) => {}
-            Err(_) => return Err("a line that spells no record".into()),
-        }
-    }
-    // Nothing stands behind the last line feed.
-    Ok((records, lines.saturating_sub(1)))
-}
-
 /// The atoms of the log of these records. The log is let go.
-fn atoms_in<'a>(
-    alloc: Global,
-    bump: &'a Bump,
-    records: &Vec<Lined>,
-    lines: u32,
-) -> Result<Atoms, Fail>
-    requires good { All (λ l. Good l.rec) records.now.items }
-    requires lines { AreLines lines records.now.items }
+fn atoms_in<'a>(alloc: Global, bump: &'a Bump, input: &Input) -> Result<Atoms, Fail>
+    requires good { All (λ l. Good l.rec) input.now.records.items }
+    requires lines { AreLines input.now.lines input.now.records.items }
 {
-    match declare::<RunSet<'a>>(alloc, bump, records, lines) {
+    match declare::<RunSet<'a>>(alloc, bump, &input.records, input.lines) {
         Ok(log) => {
             let atoms = Atoms::build(alloc, &log);
             drop(log);
@@ -104,12 +83,11 @@ fn atoms_in<'a>(
 
 /// The atoms of the log that a text spells.
 fn atoms_of(alloc: Global, text: &[u8]) -> Result<Atoms, Fail> {
-    let (records, lines) = records_of(alloc, text)?;
-    if !are_log_records(alloc, &records, lines)? {
-        return Err("records that make no log".into());
-    }
+    let Ok(input) = input_in(alloc, text.to_vec(alloc)?) else {
+        return Err("a text that spells no records".into());
+    };
     let bump = Bump::new(alloc);
-    atoms_in(alloc, &bump, &records, lines)
+    atoms_in(alloc, &bump, &input)
 }
 
 /// Asks atoms that are to have just these spans for all that they say.

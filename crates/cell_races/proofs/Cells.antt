@@ -13,7 +13,7 @@ use Rattle.cell_races.specs.Touches.{key, comes_before}
 use Rattle.cell_races.specs.Visits.{visit_of, visits_of}
 use Rattle.cell_races.specs.Races.{race_in}
 use Rattle.cell_races.specs.Clashes.{Clash, IsFree, IsShown}
-use Rattle.log_laws.proofs.Members.{member_right, map_member, member_map, Member, member_of, contains_of, member_append, member_left}
+use Rattle.log_laws.proofs.lemmas.Members.{member_right, map_member, member_map, Member, member_of, contains_of, member_append, member_left}
 use Rattle.cell_races.proofs.Members.{all_at}
 use Rattle.cell_races.proofs.Ordered.{Ordered, ordered_append, ordered_map}
 use Rattle.cell_races.proofs.Merging.{Climbs}
@@ -50,7 +50,7 @@ place_after x y same e =
     let at : same_cell y.cell x.cell ≡ true = rw same (same_itself y.cell) in
     not_less y.place x.place (sym (ap (λ b. b && nat_lt y.place x.place) at) ∙ (or_false _ (same_cell y.cell x.cell && nat_lt y.place x.place) e).1)
 
--- ---- the touches of one cell, those before and those behind them
+-- ---- the touches of one cell, those before and those after them
 
 abbrev pub NotAfter : Touch → Touch → Type 0
 NotAfter x y = comes_before y x ≡ false

@@ -13,11 +13,11 @@ use Rattle.cell_races.specs.Accesses.{conflicts}
 use Rattle.cell_races.specs.Races.{is_loose, race_from, race_in, IsInTurn, Races, IsFirstRace, IsTransitive}
 use Rattle.std.proofs.lemmas.List.Elements.{All-cons, All-nil, All-push, All-head, All-tail}
 use Rattle.cell_races.specs.Groups.{asked, Groups, no_groups, groups_of, groups_from, with_visit}
-use Rattle.log_laws.proofs.Members.{Member, member_of, none_at, find_any}
+use Rattle.log_laws.proofs.lemmas.Members.{Member, member_of, none_at, find_any}
 use Rattle.cell_races.proofs.Members.{find_none, all_of}
 use Rattle.cell_races.proofs.Stands.{Stands, stands_none, stands_more, tells, loose}
 
--- What is found stands behind what does not pass.
+-- What is found stands after what does not pass.
 pub find_split : {X : Type 0} (p : X → Bool) (xs : List X) (x : X) → find p xs ≡ Some x
     → (front : List X) × (back : List X) × (xs ≡ front ++ x ∷ back) × (p x ≡ true) × ((y : X) → Member front y → p y ≡ false)
 find_split p [] x e = absurd cc

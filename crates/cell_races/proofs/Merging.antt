@@ -9,7 +9,7 @@ use Rattle.cell_races.specs.Accesses.{conflicts, joined}
 use Rattle.cell_races.specs.declared.touches.Touch.{Touch}
 use Rattle.cell_races.specs.Visits.{with_access, merged_from, merged, visit_of, visits_of}
 use Rattle.cell_races.proofs.Ordered.{Ordered}
-use Rattle.log_laws.proofs.Members.{member_map, Member}
+use Rattle.log_laws.proofs.lemmas.Members.{member_map, Member}
 use Rattle.cell_races.proofs.Members.{all_of, all_at}
 
 -- An access conflicts with two joined ones where it does with one of them.

@@ -12,7 +12,7 @@ use Rattle.cell_races.specs.declared.access.Access.TheVariants.{Reads, Writes, F
 use Rattle.cell_races.specs.declared.touches.Touch.{Touch}
 use Rattle.cell_races.specs.Accesses.{meant, conflicts}
 use Rattle.cell_races.specs.Touches.{touch, touches_of, both_touched}
-use Rattle.log_laws.proofs.Members.{Member, only}
+use Rattle.log_laws.proofs.lemmas.Members.{Member, only}
 use Rattle.cell_races.proofs.Sorting.{same_is, same_itself}
 
 inst_same : (a b : Cell) → same_cell a b ≡ true → a.inst ≡ b.inst

@@ -9,7 +9,7 @@ use Rattle.cell_races.specs.Touches.{AreInOrder}
 use Rattle.cell_races.specs.Visits.{visits_of}
 use Rattle.cell_races.specs.Races.{race_in}
 use Rattle.cell_races.specs.Clashes.{IsFree, IsShown}
-use Rattle.log_laws.proofs.Members.{Member, contains_of, member_append}
+use Rattle.log_laws.proofs.lemmas.Members.{Member, contains_of, member_append}
 use Rattle.cell_races.proofs.Ordered.{Ordered, ordered_of, ordered_append}
 use Rattle.cell_races.proofs.Cells.{IsCellOf, IsApart, BeginsElsewhere, NotAfter, cell_of, free_more, shown_of}
 

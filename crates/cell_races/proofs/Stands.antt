@@ -11,7 +11,7 @@ use Rattle.cell_races.specs.declared.access.Visit.{Visit}
 use Rattle.cell_races.specs.Accesses.{conflicts}
 use Rattle.cell_races.specs.Races.{is_loose, race_from, IsTransitive}
 use Rattle.cell_races.specs.Groups.{Groups, no_groups, with_visit, asked, fails_at}
-use Rattle.log_laws.proofs.Members.{Member, only, member_left, member_append, any_at, none_at, find_any}
+use Rattle.log_laws.proofs.lemmas.Members.{Member, only, member_left, member_append, any_at, none_at, find_any}
 use Rattle.cell_races.proofs.Members.{member_last, any_same, all_of, all_at, find_none}
 
 -- Two accesses that do not conflict are the same.
@@ -51,7 +51,7 @@ loose before b a e = grind (arith, common_steps)
 pub loose_at : (before : ℕ → ℕ → Bool) (b a : Visit) → conflicts a.access b.access ≡ true → not (before a.node b.node) ≡ true → is_loose before b a ≡ true
 loose_at before b a c n = grind (arith, common_steps)
 
--- What is not before a third is not before it either where it is behind one that is.
+-- What is not before a third is not before it either where it is after one that is.
 reaches : {before : ℕ → ℕ → Bool} → IsTransitive before → (a b c : ℕ) → before a b ≡ true → before a c ≡ false → not (before b c) ≡ true
 reaches {before} goes a b c ab ac = elim (cases_Bool (before b c)) [ inl bc ↦ absurd (true≢false (sym (goes a b c ab bc) ∙ ac)) | inr not_so ↦ rw not_so refl ]
 

@@ -26,7 +26,7 @@ pub struct Clashing {
     pub cell: Cell,
 }
 
-/// The first place behind `from` of what is at another cell, or else how many touches there are.
+/// The first place after `from` of what is at another cell, or else how many touches there are.
 fn cell_end(touches: &[Touch], from: usize) -> usize
     requires { from < length touches.now }
     ensures { IsCellEnd touches.now from result }

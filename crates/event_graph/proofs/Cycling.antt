@@ -5,7 +5,7 @@ use Rattle.std.proofs.lemmas.List.Elements.{Contains-get_or}
 use Rattle.std.proofs.lemmas.Option.{slice_get_within}
 use Rattle.semantics.specs.Events.{Node, IsChain, IsCycle}
 use Rattle.semantics.specs.ReplayOrder.{is_stuck}
-use Rattle.log_laws.proofs.Members.{Member, member_of, contains_of}
+use Rattle.log_laws.proofs.lemmas.Members.{Member, member_of, contains_of}
 
 -- What is waited on along a chain is a node.
 chain_within : (nodes : List Node) (start : ℕ) (between : List ℕ) (end : ℕ) → IsChain nodes start between end → (k : ℕ) → Member (start ∷ between) k → k < length nodes

@@ -4,11 +4,11 @@ use Rattle.std.proofs.lemmas.Bool.{eq-eqb, ne_eqb, eqb-true}
 use Rattle.std.specs.List.{position_from}
 use Rattle.std.proofs.lemmas.List.{get_or_default}
 use Rattle.std.proofs.lemmas.Option.{same_Some, slice_get-get_or, slice_get_within, get_or_from_slice_get}
-use Rattle.log_laws.proofs.Members.{none_or_some, contains_of}
-use Rattle.log_laws.proofs.Apart.{pairs_from}
-use Rattle.log_laws.proofs.Lists.{few}
+use Rattle.log_laws.proofs.lemmas.Members.{none_or_some, contains_of}
+use Rattle.log_laws.proofs.lemmas.Apart.{pairs_from}
+use Rattle.log_laws.proofs.lemmas.Lists.{few}
 use Rattle.event_graph.specs.Inverse.{AreInverse}
-use Rattle.event_graph.proofs.Placed.{stands, finds}
+use Rattle.event_graph.proofs.lemmas.Placed.{stands, finds}
 
 module _ (count : ℕ) (nodes places : List ℕ) (within : All (λ n. n < count) nodes) (apart : AllPairs (λ m n. m ≢ n) nodes) (whole : (n : ℕ) → n < count → Contains nodes n)
     (each : length places ≡ count) (placed : (p : ℕ) → p < length nodes → get_or places (get_or nodes p 0) 0 ≡ p) where

@@ -1,7 +1,7 @@
-pub mod Times
-pub mod Taking
-pub mod Placed
-pub mod Walks
-pub mod Waited
-pub mod Inverted
-pub mod Cycling
+pub mod lemmas
+mod Times
+mod Taking
+mod Walks
+mod Waited
+mod Inverted
+mod Cycling

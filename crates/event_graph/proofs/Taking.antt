@@ -1,18 +1,17 @@
 -- How the nodes that wait, the queue and the replay order go together.
 use Rattle.std.proofs.Common.{AllPairs, map, add-one, ◌≡◌, ◌≢◌, ℕ, zero, suc, ◌+◌, ◌<◌, ◌≤◌, ◌==◌, ◌&&◌, ◌||◌, not, Bool, true, false, List, [], ◌∷◌, ◌++◌, length, get_or, arith, refl, sym, ap, ◌∙◌, subst, if◌then◌else◌, inl, inr, ◌↔◌, find, Some, None, slice_get}
-use Rattle.std.specs.List.{list_all}
+use Rattle.std.specs.List.{list_all, range_with_len}
 use Rattle.std.proofs.lemmas.Bool.{true≢false, false_from_ne_true, and_parts, or_cases, cases_eq, not-true, or_parts, or_right, eqb-true}
 use Rattle.std.proofs.lemmas.Bool.Decides.{nat_tests}
 use Rattle.std.proofs.lemmas.List.Folds.{list_any-append}
 use Rattle.std.proofs.lemmas.List.{length-map, get_or_past}
 use Rattle.std.proofs.lemmas.Option.{gets, slice_get_cases, slice_get_within, slice_get-map, get_or_from_slice_get}
-use Rattle.semantics.specs.Tables.{numbers_from}
 use Rattle.semantics.specs.Points.{is_in}
 use Rattle.semantics.specs.Events.{Node}
 use Rattle.semantics.specs.ReplayOrder.{positions, waits_at, has_event, is_ready, after_rounds}
-use Rattle.log_laws.proofs.Members.{Member, none_or_some, is_in_of, member_in, found_at, any_found, member_append, only}
-use Rattle.log_laws.proofs.Apart.{number_within}
-use Rattle.log_laws.proofs.Rounds.{is_met}
+use Rattle.log_laws.proofs.lemmas.Members.{Member, none_or_some, is_in_of, member_in, found_at, any_found, member_append, only}
+use Rattle.log_laws.proofs.lemmas.Apart.{number_within}
+use Rattle.log_laws.proofs.lemmas.Rounds.{is_met}
 use Rattle.event_graph.specs.WaitCounts.{times, AreWaiters}
 
 -- How many of some events are not those of nodes taken.
@@ -23,7 +22,7 @@ unmet nodes taken (e ∷ es) = (if is_met nodes taken e then 0 else 1) + unmet n
 -- ---- least ready node
 
 -- The first number of a range that passes.
-find_number : (p : ℕ → Bool) (first n k : ℕ) → first ≤ k → k < first + n → p k ≡ true → ((j : ℕ) → first ≤ j → j < k → p j ≡ false) → find p (numbers_from first n) ≡ Some k
+find_number : (p : ℕ → Bool) (first n k : ℕ) → first ≤ k → k < first + n → p k ≡ true → ((j : ℕ) → first ≤ j → j < k → p j ≡ false) → find p (range_with_len first n) ≡ Some k
 find_number p first zero k low high passes below = absurd (omega (arith, low, high))
 find_number p first (suc n) k low high passes below = elim (cases_eq first k) [
   | inl e ↦ let here : p first ≡ true = subst (λ j. p j ≡ true) (sym e) passes in rw here (ap (λ j. Some j) e)

@@ -5,10 +5,10 @@ use Rattle.std.proofs.lemmas.List.Elements.{Contains-get_or}
 use Rattle.std.proofs.lemmas.Option.{same_Some, slice_get-get_or, slice_get_within, get_or_from_slice_get}
 use Rattle.semantics.specs.Events.{Node, AreLinked, WaitsOn}
 use Rattle.semantics.specs.ReplayOrder.{waits_at}
-use Rattle.log_laws.proofs.Members.{none_or_some}
+use Rattle.log_laws.proofs.lemmas.Members.{none_or_some}
 use Rattle.event_graph.specs.EventPlaces.{IsIndexed}
 use Rattle.event_graph.specs.Orders.{IsWait}
-use Rattle.event_graph.proofs.Placed.{node_at}
+use Rattle.event_graph.proofs.lemmas.Placed.{node_at}
 
 no_node : Node
 no_node = record { done = 0; waits = [] }

@@ -7,14 +7,14 @@ use Rattle.std.proofs.lemmas.Option.{same_Some}
 use Rattle.semantics.specs.Points.{is_in}
 use Rattle.semantics.specs.Events.{Node}
 use Rattle.semantics.specs.ReplayOrder.{positions, waits_at, done_at, has_event, replay_order, is_stuck, stuck_wait, walk, up_to, cycle_from, from_least, shown_cycle}
-use Rattle.log_laws.proofs.Members.{none_or_some, member_of}
-use Rattle.log_laws.proofs.Rounds.{replay, taken_within}
+use Rattle.log_laws.proofs.lemmas.Members.{none_or_some, member_of}
+use Rattle.log_laws.proofs.lemmas.Rounds.{replay, taken_within}
 use Rattle.std.proofs.lemmas.List.Elements.{Contains-get_or}
 use Rattle.event_graph.specs.EventPlaces.{is_place, ArePlaces}
 use Rattle.event_graph.specs.Marked.{AreMarked}
 use Rattle.event_graph.proofs.Taking.{find_least, find_nothing}
 
--- Whether a node has an event is told by the place of the event.
+-- Whether a node has an event is read off the place of the event.
 not_there : (nodes : List Node) (place : ℕ → Option ℕ) → ArePlaces nodes place → (j e : ℕ) → (done_at nodes j ≡ Some e → ⊥) → is_place j (place e) ≡ false
 not_there nodes place are j e bad = elim (none_or_some (place e)) [
   | inl none ↦ ap (is_place j) none

@@ -113,7 +113,7 @@ impl Graph {
         ensures { IfOk result (λ v. v.items ≡ replay_order self.now) }
     {
         let waiters = waiters_of(alloc, self.nodes.as_slice(), &self.places)?;
-        order_by(alloc, self.nodes.as_slice(), waiters.as_slice())
+        order_by(alloc, self.nodes.as_slice(), &waiters)
     }
 
     // The cycle that is shown, if these are the nodes that are ever taken.

@@ -1,6 +1,11 @@
 //! The nodes that a graph is built of.
 
+ghost use Rattle.std.specs.Prelude.{◌≡◌, IfOk};
+ghost use Rattle.semantics.specs.Events.{graph_of};
+
+use semantics::LogNode;
 use spy_words::Nums;
+use std::alloc::{AllocError, Global};
 use std::marker::Model;
 
 /// Events in order.
@@ -19,4 +24,26 @@ impl Model for NodeIn {
     ghost Value = { Node };
 
     ghost view = { λ n. record { done = n.done; waits = n.waits } };
+}
+
+/// A node of a log, as far as order goes.
+fn node_in(alloc: Global, node: &LogNode) -> Result<NodeIn, AllocError>
+    ensures { IfOk result (λ n. n ≡ record { done = node.now.done; waits = node.now.waits }) }
+{
+    let waits = Vec::from_slice(alloc, node.waits.as_slice())?;
+    Ok(NodeIn {
+        done: node.done,
+        waits: EventList::from_vec(waits),
+    })
+}
+
+/// The nodes of a log, as far as order goes.
+pub fn nodes_in(alloc: Global, nodes: &[LogNode]) -> Result<Vec<NodeIn>, AllocError>
+    ensures { IfOk result (λ ns. ns.items ≡ graph_of nodes.now) }
+{
+    let mut list = Vec::new(alloc);
+    for node in nodes {
+        list.push(node_in(alloc, node)?)?;
+    }
+    Ok(list)
 }

@@ -1,4 +1,4 @@
-pub mod CellLaws
-pub mod NumberLaws
-pub mod ValueLaws
-pub mod ReadLaws
+pub mod lemmas
+mod NumberLaws
+mod ValueLaws
+mod ReadLaws

@@ -17,7 +17,7 @@ use Rattle.findings.specs.declared.finding.Dep.{Dep}
 use Rattle.findings.specs.declared.finding.Finding.{Finding}
 use Rattle.findings.specs.declared.finding.Finding.TheVariants.{Accepted, Ordered, Deps, Cycle, Race, Unordered, Differ, Fault, Usage, CannotRead}
 use Rattle.findings.specs.Codes.{code_text, code_at}
-use Rattle.findings.specs.Texts.{Word, says, small, large, names, holds, Line, last_line, deps_of, dep_line, lines_of, word_text, row_text, line_text, lines_text, text_of, IsInRange, Fits, Good}
+use Rattle.findings.specs.Texts.{Word, says, small, large, names, holds, Line, last_line, deps_of, dep_line, lines_of, word_text, row_text, line_text, lines_text, report_text, IsInRange, Fits, Good}
 use Rattle.findings.specs.Numbers.{word_at}
 use Rattle.findings.specs.Reading.{dep_at, events_at, report_at, last_place, report_in, finding_at}
 use Rattle.findings.proofs.NumberLaws.{own, digit_is, small_again, large_again}
@@ -179,8 +179,8 @@ ends : (ls : List Line) (l : Line) → map line_text (ls ++ l ∷ []) ++ [] ∷ 
 ends [] l = refl
 ends (k ∷ ls) l = ap (λ (xs : List (List ℕ)). line_text k ∷ xs) (ends ls l)
 
-pub read_again : Sums → (f : Finding) → Good f → finding_at (text_of f) ≡ f
-unfolding finding_at text_of
+pub read_again : Sums → (f : Finding) → Good f → finding_at (report_text f) ≡ f
+unfolding finding_at report_text
 read_again sums f good =
     let all = all_plain f (deps_of f) good.0 in
     let lines = map line_text (map dep_line (deps_of f)) in
@@ -191,19 +191,19 @@ read_again sums f good =
 
 -- Every report is what its text says.
 abbrev pub AreReadAgain : Type 0
-AreReadAgain = (f : Finding) → Good f → finding_at (text_of f) ≡ f
+AreReadAgain = (f : Finding) → Good f → finding_at (report_text f) ≡ f
 
 -- where what a text says does not have that text, no report has it
-pub no_report : AreReadAgain → (bytes : List ℕ) (said : Finding) → said ≡ finding_at bytes → (Good said × (bytes ≡ text_of said) → ⊥) → (f : Finding) → Good f → bytes ≢ text_of f
+pub no_report : AreReadAgain → (bytes : List ℕ) (said : Finding) → said ≡ finding_at bytes → (Good said × (bytes ≡ report_text said) → ⊥) → (f : Finding) → Good f → bytes ≢ report_text f
 no_report again bytes said is other f good e =
     let same : said ≡ f = is ∙ ap finding_at e ∙ again f good in
-    other (subst Good (sym same) good, e ∙ ap text_of (sym same))
+    other (subst Good (sym same) good, e ∙ ap report_text (sym same))
 
 -- what lines say that a program holds, seen by `view`
 pub lines_told : {A : Type 0} (view : A → List ℕ) (lines : List A) (last : ℕ) (list : List Dep) (words : List (List ℕ)) → last ≡ length lines - 2 → list ≡ map (λ l. dep_at (parts 32 l)) (map view (take last lines)) → words ≡ parts 32 (word_at (map view lines) last) → report_at list words ≡ report_in (map view lines)
 lines_told view lines last list words is listed parted = rw (listed, parted, is, length-map lines view, take-map view (length lines - 2) lines) refl
 
-pub texts_apart : AreReadAgain → (f g : Finding) → Good f → Good g → text_of f ≡ text_of g → f ≡ g
+pub texts_apart : AreReadAgain → (f g : Finding) → Good f → Good g → report_text f ≡ report_text g → f ≡ g
 texts_apart again f g good fine e = sym (again f good) ∙ ap finding_at e ∙ again g fine
 
 pub codes_apart : (c d : Code) → code_text c ≡ code_text d → c ≡ d

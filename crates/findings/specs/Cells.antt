@@ -1,11 +1,11 @@
 -- A line of a report as the program holds it: six cells, each a word, no word, or several words.
 use Rattle.std.specs.Prelude.{List, [], ◌∷◌, ◌++◌, map, codes}
-use Rattle.findings.specs.declared.cells.Cell.{Cell}
-use Rattle.findings.specs.declared.cells.Cell.TheVariants as cells
+use Rattle.findings.specs.declared.cells.ReportCell.{ReportCell}
+use Rattle.findings.specs.declared.cells.ReportCell.TheVariants as cells
 use Rattle.findings.specs.Texts.{Word, says, small, large, names, holds}
 
 -- What a cell holds, before further words.
-abbrev pub with_cell : Cell → List Word → List Word
+abbrev pub with_cell : ReportCell → List Word → List Word
 with_cell cells.No ws = ws
 with_cell (cells.Says w) ws = says w.now ∷ ws
 with_cell (cells.Small n) ws = small n ∷ ws
@@ -16,6 +16,6 @@ with_cell (cells.At point field) ws = says (codes "point") ∷ large point ∷ s
 with_cell (cells.Differs got want) ws = says (codes "got") ∷ holds got.now ∷ says (codes "want") ∷ holds want.now ∷ ws
 
 -- What cells hold.
-abbrev pub words_in : List Cell → List Word
+abbrev pub words_in : List ReportCell → List Word
 words_in [] = []
 words_in (c ∷ cs) = with_cell c (words_in cs)

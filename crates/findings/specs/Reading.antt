@@ -31,7 +31,7 @@ report_at list ws =
     else if bytes_eq (word_at ws 0) (codes "usage") then Usage
     else CannotRead
 
--- The place of the last line, behind which a text has one empty part.
+-- The place of the last line, after which a text has one empty part.
 abbrev pub last_place : List (List ℕ) → ℕ
 last_place lines = length lines - 2
 

@@ -61,7 +61,7 @@ abbrev pub row_text : List Word → List ℕ
 row_text [] = []
 row_text (w ∷ ws) = 32 ∷ word_text w ++ row_text ws
 
--- A line: its words, with one space between each two.
+-- A line: its words, with one space between every two.
 abbrev pub line_text : Line → List ℕ
 line_text l = l.name ++ row_text l.row
 
@@ -71,8 +71,8 @@ lines_text [] = []
 lines_text (l ∷ ls) = line_text l ++ 10 ∷ lines_text ls
 
 -- The text of a report.
-unfoldable pub text_of : Finding → List ℕ
-text_of f = lines_text (lines_of f)
+unfoldable pub report_text : Finding → List ℕ
+report_text f = lines_text (lines_of f)
 
 -- A number lies in the range of its type, and a value is one that the program holds.
 abbrev pub IsInRange : Word → Type 0

@@ -17,7 +17,7 @@ base_at w =
     else if bytes_eq (word_at (parts 58 w) 0) (codes "const") then Const (small_at (parts 58 w) 1)
     else Out (small_at (parts 58 w) 1)
 
--- A contribution with its count, of which the requirement and the count stand behind the dot.
+-- A contribution with its count, of which the requirement and the count stand after the dot.
 abbrev pub ids_and_count : List (List ℕ) → List (List ℕ) → Contribution × ℕ
 ids_and_count ids counts = (record { task = small_at ids 0; req = small_at counts 0 }, large_at counts 1)
 
@@ -46,6 +46,6 @@ abbrev pub with_groups : List (List ℕ) → Value → Value
 with_groups [] v = v
 with_groups (w ∷ ws) v = with_groups ws (with_group w v)
 
--- The value: the base stands before the first plus sign, each group behind one.
+-- The value: the base stands before the first plus sign, each group after one.
 unfoldable pub value_at : List ℕ → Value
 value_at w = with_groups (drop 1 (parts 43 w)) (plain (base_at (word_at (parts 43 w) 0)))

@@ -19,7 +19,7 @@ base_text (Out t) = codes "out:" ++ decimal t
 abbrev pub entry_text : Contribution × ℕ → List ℕ
 entry_text e = decimal e.0.task ++ 46 ∷ decimal e.0.req ++ 42 ∷ decimal e.1
 
--- A bag: its contributions, with a comma between each two.
+-- A bag: its contributions, with a comma between every two.
 abbrev pub bag_text : Bag → List ℕ
 bag_text [] = []
 bag_text (e ∷ bag) = entry_text e ++ follow 44 (map entry_text bag)

@@ -3,18 +3,18 @@
 ghost use Rattle.std.specs.Prelude.{◌≡◌, map};
 ghost use Rattle.std.specs.List.{AllByRecursion};
 ghost use Rattle.value_terms.specs.Values.{IsHeld};
-ghost use Rattle.findings.specs.declared.cells.Cell.TheVariants as cells;
+ghost use Rattle.findings.specs.declared.cells.ReportCell.TheVariants as cells;
 ghost use Rattle.findings.specs.Cells.{words_in};
 ghost use Rattle.findings.specs.Texts.{dep_line, last_line, small, Fits, IsInRange};
 
-use crate::cells::Cell::*;
+use crate::cells::ReportCell::*;
 use crate::finding::{Dep, Finding};
 use spy_grammar::Code;
 use value_terms::Value;
 
 /// A word of a report, no word, or several words.
 #[derive(Clone, Copy, Debug)]
-pub enum Cell<'a> {
+pub enum ReportCell<'a> {
     No,
     Says(&'a [u8]),
     Small(u32),
@@ -29,7 +29,7 @@ pub enum Cell<'a> {
 }
 
 /// The first word of a line, and the words after it.
-pub type Words<'a> = (&'static [u8], [Cell<'a>; 6]);
+pub type Words<'a> = (&'static [u8], [ReportCell<'a>; 6]);
 
 /// The line of a pair of items.
 #[rattlefmt::skip]
@@ -45,7 +45,7 @@ pub fn dep_words(dep: &Dep) -> Words<'_>
 }
 
 /// Events, each a word.
-fn event_words(events: &[u32]) -> [Cell<'_>; 6]
+fn event_words(events: &[u32]) -> [ReportCell<'_>; 6]
     ensures words { words_in result ≡ map small events.now }
     ensures fits { AllByRecursion IsInRange (map small events.now) }
 {
@@ -53,7 +53,7 @@ fn event_words(events: &[u32]) -> [Cell<'_>; 6]
 }
 
 /// Two values that differ, as cells of a line: each is one that the program holds.
-fn differing<'a>(got: &'a Value, want: &'a Value) -> Cell<'a>
+fn differing<'a>(got: &'a Value, want: &'a Value) -> ReportCell<'a>
     ensures cell { result ≡ cells.Differs got.entry want.entry }
     ensures got { IsHeld got.now }
     ensures want { IsHeld want.now }

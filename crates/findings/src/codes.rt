@@ -17,7 +17,7 @@ const CODES: [Code; 36] = [
 ];
 
 /// The text of a code.
-pub fn text_of(code: Code) -> &'static [u8]
+pub fn code_text(code: Code) -> &'static [u8]
     ensures { result.now ≡ code_text code }
 {
     match code {
@@ -67,7 +67,7 @@ pub fn code_of(word: &[u8]) -> Code
 {
     let mut rest = CODES.as_slice();
     while let [code, more @ ..] = rest {
-        if word == text_of(*code) {
+        if word == code_text(*code) {
             return *code;
         }
         rest = more;

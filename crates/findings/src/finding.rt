@@ -21,23 +21,23 @@ pub struct Dep {
     pub field: u32,
 }
 
-/// A report. Places are told by region tree, or by instance, with point and field.
+/// A report. Places are named by region tree, or by instance, with point and field.
 #[derive(Debug, Drop)]
 #[rattlefmt::skip]
 pub enum Finding {
     /// Every read got the value that the sequential program reads.
     Accepted { tasks: u32, operations: u32, reads: u64 },
-    /// Each two tasks that interfere are ordered. So many pairs interfere.
+    /// Every two tasks that interfere are ordered. So many pairs interfere.
     Ordered { tasks: u32, pairs: u64 },
     /// The pairs of items that interfere, and how many of them are of each kind.
     Deps { list: DepList, items: u32, before: u64, turn: u64 },
     /// Events that wait on each other in a cycle.
     Cycle { events: EventList },
-    /// Two nodes, told by their events, that reach a place of an instance in either order.
+    /// Two nodes, named by their events, that reach a place of an instance in either order.
     Race { a: u32, b: u32, inst: u32, point: u64, field: u32 },
     /// Two tasks that interfere and are not ordered, and the least place at which they interfere.
     Unordered { t: u32, u: u32, tree: u32, point: u64, field: u32 },
-    /// A read of a requirement of a task, told by its place, that gets another value than the sequential program reads.
+    /// A read of a requirement of a task, named by its place, that gets another value than the sequential program reads.
     Differ { task: u32, req: u32, point: u64, field: u32, got: Value, want: Value },
     /// The rule that the log breaks, and the line that breaks it.
     Fault { line: u32, code: Code },

@@ -5,13 +5,13 @@ ghost use Rattle.spy_grammar.specs.declared.code.Code.{Code};
 ghost use Rattle.findings.specs.declared.finding.Finding.{Finding};
 ghost use Rattle.findings.specs.Codes.{code_text};
 ghost use Rattle.findings.specs.Reading.{finding_at};
-ghost use Rattle.findings.specs.Texts.{text_of, Good};
+ghost use Rattle.findings.specs.Texts.{report_text, Good};
 
 use value_terms::{values_are_sums, weights_add_up};
 
 /// What the text of a report says is that report.
 pub(crate) fn texts_are_read_again()
-    ensures { (f : Finding) → Good f → finding_at (text_of f) ≡ f }
+    ensures { (f : Finding) → Good f → finding_at (report_text f) ≡ f }
 {
     values_are_sums();
     weights_add_up();
@@ -19,7 +19,7 @@ pub(crate) fn texts_are_read_again()
 
 /// No two reports have one text.
 pub fn one_text()
-    ensures { (f g : Finding) → Good f → Good g → text_of f ≡ text_of g → f ≡ g }
+    ensures { (f g : Finding) → Good f → Good g → report_text f ≡ report_text g → f ≡ g }
 {
     texts_are_read_again();
 }

@@ -7,7 +7,7 @@
 ghost use Rattle.std.specs.Prelude.{◌≡◌, ◌≢◌, ◌≤◌, ◌-◌, ◌^◌, ◌⊎◌, ◌↔◌, map, drop, IsTrue, IfOk, Ok, Err};
 ghost use Rattle.findings.specs.declared.finding.Finding.{Finding};
 ghost use Rattle.findings.specs.Reading as says;
-ghost use Rattle.findings.specs.Texts.{text_of, Good};
+ghost use Rattle.findings.specs.Texts.{report_text, Good};
 ghost use Rattle.findings.specs.declared.reading.TextFault.TheVariants as faults;
 ghost use Rattle.spy_words.specs.Reading.{parts};
 
@@ -121,7 +121,7 @@ fn deps_at(alloc: Global, lines: &[&[u8]]) -> Result<DepList, AllocError>
     Ok(DepList::from_vec(deps))
 }
 
-/// The report that lines say. Behind the last line feed a text has one empty part.
+/// The report that lines say. After the last line feed a text has one empty part.
 fn report_in(alloc: Global, lines: &[&[u8]]) -> Result<Finding, Memory>
     ensures { IfOk result (λ f. f ≡ says.report_in (map (λ w. w.now) lines.now)) }
 {
@@ -142,7 +142,7 @@ fn finding_at(alloc: Global, bytes: &[u8]) -> Result<Finding, Memory>
 
 /// Whether the report has a text, and it is this.
 fn has_text(alloc: Global, f: &Finding, bytes: &[u8]) -> Result<bool, Memory>
-    ensures { IfOk result (λ b. IsTrue b ↔ (Good f.now × (bytes.now ≡ text_of f.now))) }
+    ensures { IfOk result (λ b. IsTrue b ↔ (Good f.now × (bytes.now ≡ report_text f.now))) }
 {
     if !good_finding(f) {
         return Ok(false);
@@ -154,9 +154,10 @@ fn has_text(alloc: Global, f: &Finding, bytes: &[u8]) -> Result<bool, Memory>
 /// The one report that has this text.
 pub fn read_text(alloc: Global, bytes: &[u8]) -> Result<Finding, TextFault>
     // A report that is read has this text, and a report that has it is read, unless memory runs out.
-    ensures found { (f : Finding) → result ≡ Ok f → (bytes.now ≡ text_of f) × Good f }
-    ensures only { (f : Finding) → Good f → bytes.now ≡ text_of f → (result ≡ Ok f) ⊎ (result ≡ Err faults.Memory) }
-    ensures none { result ≡ Err faults.NotAReport → (f : Finding) → Good f → bytes.now ≢ text_of f }
+    ensures found { (f : Finding) → result ≡ Ok f → (bytes.now ≡ report_text f) × Good f }
+    ensures only { (f : Finding) → Good f → bytes.now ≡ report_text f → (result ≡ Ok f)
+        ⊎ (result ≡ Err faults.Memory) }
+    ensures none { result ≡ Err faults.NotAReport → (f : Finding) → Good f → bytes.now ≢ report_text f }
 {
     texts_are_read_again();
     let f = finding_at(alloc, bytes)?;

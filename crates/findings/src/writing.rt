@@ -2,13 +2,13 @@
 
 ghost use Rattle.std.specs.Prelude.{◌≡◌, ◌↔◌, ◌++◌, ◌∷◌, [], not, map, count_by, IsTrue, IfOk, OnOk};
 ghost use Rattle.std.specs.List.{AllByRecursion};
-ghost use Rattle.findings.specs.declared.cells.Cell.TheVariants as cells;
+ghost use Rattle.findings.specs.declared.cells.ReportCell.TheVariants as cells;
 ghost use Rattle.findings.specs.Cells.{with_cell, words_in};
 ghost use Rattle.findings.specs.Texts as texts;
 ghost use Rattle.findings.specs.Texts.{small, dep_line, row_text, line_text, lines_text, Fits, IsWhole, Good};
 
-use crate::cells::Cell::*;
-use crate::cells::{Cell, dep_words, last_words};
+use crate::cells::ReportCell::*;
+use crate::cells::{ReportCell, dep_words, last_words};
 use crate::codes;
 use crate::finding::{Dep, Finding};
 use crate::value_text::push_value;
@@ -122,7 +122,8 @@ fn push_place(out: &mut Vec<u8>, point: u64, field: u32) -> Result<(), AllocErro
 }
 
 fn push_values(out: &mut Vec<u8>, got: &Value, want: &Value) -> Result<(), AllocError>
-    ensures { OnOk result (out.new.items ≡ out.old.items ++ row_text (with_cell (cells.Differs got.entry want.entry) [])) }
+    ensures { OnOk result (out.new.items ≡ out.old.items
+        ++ row_text (with_cell (cells.Differs got.entry want.entry) [])) }
 {
     out.extend_from_slice(b" got ")?;
     push_value(out, got)?;
@@ -130,7 +131,7 @@ fn push_values(out: &mut Vec<u8>, got: &Value, want: &Value) -> Result<(), Alloc
     push_value(out, want)
 }
 
-fn push_cell(out: &mut Vec<u8>, cell: &Cell<'_>) -> Result<(), AllocError>
+fn push_cell(out: &mut Vec<u8>, cell: &ReportCell<'_>) -> Result<(), AllocError>
     ensures { OnOk result (out.new.items ≡ out.old.items ++ row_text (with_cell cell.now [])) }
 {
     match *cell {
@@ -144,12 +145,12 @@ fn push_cell(out: &mut Vec<u8>, cell: &Cell<'_>) -> Result<(), AllocError>
         Says(word) => out.extend_from_slice(word),
         Small(n) => push_u64(out, u64::from(n)),
         Large(n) => push_u64(out, n),
-        Names(code) => out.extend_from_slice(codes::text_of(code)),
+        Names(code) => out.extend_from_slice(codes::code_text(code)),
         No | Events(_) | At(..) | Differs(..) => Ok(()),
     }
 }
 
-fn push_row(out: &mut Vec<u8>, row: &[Cell<'_>]) -> Result<(), AllocError>
+fn push_row(out: &mut Vec<u8>, row: &[ReportCell<'_>]) -> Result<(), AllocError>
     ensures { OnOk result (out.new.items ≡ out.old.items ++ row_text (words_in row.now)) }
 {
     let mut rest = row;
@@ -160,8 +161,9 @@ fn push_row(out: &mut Vec<u8>, row: &[Cell<'_>]) -> Result<(), AllocError>
     Ok(())
 }
 
-fn push_line(out: &mut Vec<u8>, name: &[u8], row: &[Cell<'_>]) -> Result<(), AllocError>
-    ensures { OnOk result (out.new.items ≡ out.old.items ++ (name.now ++ row_text (words_in row.now)) ++ 10 ∷ []) }
+fn push_line(out: &mut Vec<u8>, name: &[u8], row: &[ReportCell<'_>]) -> Result<(), AllocError>
+    ensures { OnOk result (out.new.items ≡ out.old.items ++ (name.now ++ row_text (words_in row.now))
+        ++ 10 ∷ []) }
 {
     out.extend_from_slice(name)?;
     push_row(out, row)?;
@@ -190,7 +192,7 @@ fn push_deps(out: &mut Vec<u8>, deps: &[Dep]) -> Result<(), AllocError>
 pub fn text(alloc: Global, f: &Finding) -> Result<Vec<u8>, Memory>
     // Another report's text would not be read again.
     requires { Good f.now }
-    ensures { IfOk result (λ v. v.items ≡ texts.text_of f.now) }
+    ensures { IfOk result (λ v. v.items ≡ texts.report_text f.now) }
 {
     let mut out = Vec::new(alloc);
     push_deps(&mut out, deps_of(f))?;

@@ -16,13 +16,13 @@ use Rattle.semantics.specs.Points.{points_in}
 use Rattle.semantics.specs.Kinds.{reqs_of, grid}
 use Rattle.semantics.specs.Reads.{req_at}
 use Rattle.semantics.specs.Steps.{cell_in, id_of, mapped}
-use Rattle.log_laws.proofs.Members.{Member, Each, contains_of, found_at, member_append, member_flat, member_map, none_or_some, only}
-use Rattle.log_tables.proofs.Places.{find_by_place}
+use Rattle.log_laws.proofs.lemmas.Members.{Member, Each, contains_of, found_at, member_append, member_flat, member_map, none_or_some, only}
+use Rattle.log_tables.proofs.lemmas.Places.{find_by_place}
 use Rattle.inst_steps.specs.declared.act.Act.{Act}
 use Rattle.inst_steps.specs.declared.act.Act.TheVariants as acts
 use Rattle.inst_steps.specs.declared.act.Action.{Action}
 use Rattle.inst_steps.specs.Acting.{IsBy, IsMappedTo}
-use Rattle.inst_steps.specs.Grids.{kept, cut_to}
+use Rattle.point_laws.specs.Cut.{kept, cut_to}
 use Rattle.inst_steps.specs.Stepping.{AreNumbered, rest_actions}
 use Rattle.inst_steps.specs.Sweeps.{Pass, action_at, actions_of_pass, cell_of, changing, own_place, pass_for, passes_of, reading}
 use Rattle.inst_steps.specs.Viewing.{HasPrivilege}

@@ -6,10 +6,10 @@ use Rattle.std.proofs.lemmas.List.{drop_more, drop_all, get_or_default}
 use Rattle.std.proofs.lemmas.Map.Keys.{sorted_tail, sorted_from_strictly_increasing, IsStrictlyIncreasing-from_sorted}
 use Rattle.std.specs.Ordering.{nat_cmp}
 use Rattle.point_set.specs.Least.{IsLeastFrom, points_from}
-use Rattle.point_set.proofs.Ahead.{spread}
+use Rattle.point_set.proofs.lemmas.Ahead.{spread}
 use Rattle.semantics.specs.Kinds.{grid}
-use Rattle.log_laws.proofs.Members.{Member, contains_of, member_of}
-use Rattle.log_laws.proofs.Apart.{Rise}
+use Rattle.log_laws.proofs.lemmas.Members.{Member, contains_of, member_of}
+use Rattle.log_laws.proofs.lemmas.Apart.{Rise}
 use Rattle.inst_steps.specs.Grids.{behind, grid_from}
 
 filter_same : (f g : ℕ → Bool) (xs : List ℕ) → ((q : ℕ) → Member xs q → f q ≡ g q) → filter f xs ≡ filter g xs

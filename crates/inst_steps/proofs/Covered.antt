@@ -29,13 +29,13 @@ use Rattle.semantics.specs.Rules.{is_declared, names, space_id, lacks, is_not_co
 use Rattle.semantics.specs.declared.command.Command.TheVariants.{Check}
 use Rattle.semantics.specs.Faults.{unmapped_fault}
 use Rattle.log_decl.specs.Faultless.{AreDeclared}
-use Rattle.log_laws.proofs.Members.{Member, Each, each_more, member_of, member_at, member_flat, member_map, member_append, member_filter, all_at, is_in_of, member_in, found_at, find_any, find_still, none_or_some, only}
-use Rattle.log_laws.proofs.Apart.{member_grid}
-use Rattle.log_laws.proofs.Sane.{two_reqs}
-use Rattle.log_laws.proofs.Admitted.{Unbroken, by_records, no_broken_rule, IsFaultless, sane, all_mapped}
+use Rattle.log_laws.proofs.lemmas.Members.{Member, Each, each_more, member_of, member_at, member_flat, member_map, member_append, member_filter, all_at, is_in_of, member_in, found_at, find_any, find_still, none_or_some, only}
+use Rattle.log_laws.proofs.lemmas.Apart.{member_grid}
+use Rattle.log_laws.proofs.lemmas.Sane.{two_reqs}
+use Rattle.log_laws.proofs.lemmas.Admitted.{Unbroken, by_records, no_broken_rule, IsFaultless, sane, all_mapped}
 use Rattle.inst_steps.specs.declared.act.Act.{Act}
 use Rattle.inst_steps.specs.declared.act.Act.TheVariants as acts
-use Rattle.inst_steps.specs.Grids.{kept, cut_to}
+use Rattle.point_laws.specs.Cut.{kept, cut_to, cut}
 use Rattle.inst_steps.specs.Sweeps.{Pass, pass, move_at, moves_of_pass, reading, changing, pass_for, passes_of, cell_of}
 use Rattle.inst_steps.specs.Stores.{Contents, IsStart, HasCells, has_cell}
 use Rattle.inst_steps.specs.Celled.{AreOfInsts, HasCellsOf}
@@ -44,7 +44,6 @@ use Rattle.inst_steps.proofs.Starting.{inst_cut, cut_points}
 use Rattle.inst_steps.proofs.Sweeping.{pass_cut, sweeps_are, passes_cut, nodes_cut}
 use Rattle.inst_steps.specs.Stepping.{moves_at}
 use Rattle.semantics.specs.Steps.{moves_of}
-use Rattle.point_laws.specs.Cut.{cut}
 use Rattle.semantics.specs.Execution.{start}
 use Rattle.value_terms.specs.Values.{Value}
 

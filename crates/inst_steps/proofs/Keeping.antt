@@ -5,8 +5,8 @@ use Rattle.std.proofs.lemmas.Bool.{cases_Bool}
 use Rattle.std.proofs.lemmas.List.Kept.{IsStrictlyIncreasing-filter}
 use Rattle.point_set.specs.Least.{IsLeast, IsLeastFrom}
 use Rattle.semantics.specs.Points.{is_in}
-use Rattle.log_laws.proofs.Members.{Member, contains_of, member_of, member_filter, is_in_of, member_in}
-use Rattle.inst_steps.specs.Grids.{kept}
+use Rattle.log_laws.proofs.lemmas.Members.{Member, contains_of, member_of, member_filter, is_in_of, member_in}
+use Rattle.point_laws.specs.Cut.{kept}
 
 pub filter_member : (p : ℕ → Bool) (xs : List ℕ) (x : ℕ) → Member xs x → p x ≡ true → Member (filter p xs) x
 filter_member p [] x m e = absurd m

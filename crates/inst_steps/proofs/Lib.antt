@@ -1,9 +1,9 @@
-pub mod Allowed
-pub mod Behind
-pub mod Keeping
-pub mod Numbers
-pub mod Starting
-pub mod StoreLaws
-pub mod StoreMaps
-pub mod Sweeping
-pub mod Covered
+pub mod lemmas
+mod Allowed
+mod Behind
+mod Keeping
+mod Numbers
+mod Starting
+mod StoreLaws
+mod Sweeping
+mod Covered

@@ -1,6 +1,6 @@
 -- The requirements of an item are numbered from 1 on.
 use Rattle.std.proofs.Common.{◌≡◌, ℕ, zero, suc, ◌+◌, ◌≤◌, ◌==◌, ◌&&◌, nat_lt, inl, inr, false, List, [], ◌∷◌, ◌++◌, map, filter, find, fold, length, None, slice_get, get_or, drop, refl, sym, ap, ◌∙◌, subst, arith}
-use Rattle.std.specs.List.{AllByRecursion, count_by}
+use Rattle.std.specs.List.{AllByRecursion, count_by, range_with_len}
 use Rattle.std.proofs.lemmas.Bool.{cases_Bool, eq-eqb, ne_eqb, eqb-true, ltb-false}
 use Rattle.std.proofs.lemmas.List.{map-append, length-map, length-append, append-nil}
 use Rattle.std.proofs.lemmas.List.Sums.{length-filter, count_by-le-length}
@@ -10,16 +10,13 @@ use Rattle.spy_grammar.specs.declared.record.Record.TheVariants as records
 use Rattle.spy_grammar.specs.declared.record.Lined.{Lined}
 use Rattle.semantics.specs.declared.tables.Req.{Req}
 use Rattle.semantics.specs.Records.{records_of}
-use Rattle.semantics.specs.Tables.{Tables, numbers_from, with_record, no_tables, tables_of}
+use Rattle.semantics.specs.Tables.{Tables, with_record, no_tables, tables_of}
 use Rattle.semantics.specs.Faults.{declaration_fault}
 use Rattle.semantics.specs.Rules as rules
-use Rattle.log_laws.proofs.Admitted.{Unbroken, by_records, no_broken_rule}
+use Rattle.log_laws.proofs.lemmas.Admitted.{Unbroken, by_records, no_broken_rule}
+use Rattle.log_laws.proofs.lemmas.Apart.{range-more}
 use Rattle.log_decl.specs.Faultless.{AreDeclared}
 use Rattle.inst_steps.specs.Stepping.{AreNumbered}
-
-numbers_from-more : (first n : ℕ) → numbers_from first (suc n) ≡ numbers_from first n ++ (first + n) ∷ []
-numbers_from-more first zero = ap (λ a. a ∷ []) (omega arith)
-numbers_from-more first (suc n) = ap (λ ns. first ∷ ns) (numbers_from-more (first + 1) n) ∙ ap (λ a. first ∷ (numbers_from (first + 1) n ++ a ∷ [])) (omega arith)
 
 abbrev of_item : ℕ → List Req → List Req
 of_item item rs = filter (λ (r : Req). r.item == item) rs
@@ -30,14 +27,14 @@ numbers rs = map (λ (r : Req). r.number) rs
 -- ---- requirements that are numbered
 
 abbrev Numbered : Tables → Type 0
-Numbered t = (item : ℕ) → numbers (of_item item t.reqs) ≡ numbers_from 1 (length (of_item item t.reqs))
+Numbered t = (item : ℕ) → numbers (of_item item t.reqs) ≡ range_with_len 1 (length (of_item item t.reqs))
 
 counted : (item : ℕ) (rs : List Req) → count_by (λ (r : Req). r.item == item) rs ≡ length (of_item item rs)
 counted item rs = sym (length-filter (λ (r : Req). r.item == item) rs)
 
 one_req : (rs : List Req) (r : Req) → r.number ≡ count_by (λ (q : Req). q.item == r.item) rs + 1
-    → ((item : ℕ) → numbers (of_item item rs) ≡ numbers_from 1 (length (of_item item rs)))
-    → (item : ℕ) → numbers (of_item item (rs ++ r ∷ [])) ≡ numbers_from 1 (length (of_item item (rs ++ r ∷ [])))
+    → ((item : ℕ) → numbers (of_item item rs) ≡ range_with_len 1 (length (of_item item rs)))
+    → (item : ℕ) → numbers (of_item item (rs ++ r ∷ [])) ≡ range_with_len 1 (length (of_item item (rs ++ r ∷ [])))
 one_req rs r is h item =
     let split = filter-append (λ (q : Req). q.item == item) rs (r ∷ []) in
     elim (cases_Bool (r.item == item)) [
@@ -47,7 +44,7 @@ one_req rs r is h item =
           let n = length (of_item item rs) in
           let long : length (of_item item rs ++ r ∷ []) ≡ suc n = length-append (of_item item rs) (r ∷ []) ∙ omega arith in
           let number : r.number ≡ 1 + n = is ∙ ap (λ i. count_by (λ (q : Req). q.item == i) rs + 1) (eqb-true r.item item own) ∙ ap (λ m. m + 1) (counted item rs) ∙ omega arith in
-          rw (all, long) (map-append (λ (q : Req). q.number) (of_item item rs) (r ∷ []) ∙ ap (λ ns. ns ++ r.number ∷ []) (h item) ∙ ap (λ m. numbers_from 1 n ++ m ∷ []) number ∙ sym (numbers_from-more 1 n))
+          rw (all, long) (map-append (λ (q : Req). q.number) (of_item item rs) (r ∷ []) ∙ ap (λ ns. ns ++ r.number ∷ []) (h item) ∙ ap (λ m. range_with_len 1 n ++ m ∷ []) number ∙ sym (range-more 1 n))
       | inr other ↦
           let none : of_item item (r ∷ []) ≡ [] = rw other refl in
           let all : of_item item (rs ++ r ∷ []) ≡ of_item item rs = split ∙ ap (λ xs. of_item item rs ++ xs) none ∙ append-nil (of_item item rs) in
@@ -99,7 +96,7 @@ find_filtered item n (r ∷ rs) = elim (cases_Bool (r.item == item)) [
   | inr other ↦ rw other (find_filtered item n rs)
 ]
 
-found_at : (rs : List Req) (first k : ℕ) → numbers rs ≡ numbers_from first (length rs) → find (λ (r : Req). r.number == first + k) rs ≡ slice_get rs k
+found_at : (rs : List Req) (first k : ℕ) → numbers rs ≡ range_with_len first (length rs) → find (λ (r : Req). r.number == first + k) rs ≡ slice_get rs k
 found_at [] first k e = refl
 found_at (r ∷ rs) first zero e =
     let here : r.number ≡ first + 0 = ap (λ ns. get_or ns 0 0) e ∙ omega arith in

@@ -6,7 +6,7 @@ use Rattle.std.proofs.lemmas.Bool.{cases_Bool, cases_lt, eq-eqb, ne_eqb, eqb-tru
 use Rattle.std.proofs.lemmas.List.{take_more}
 use Rattle.std.proofs.lemmas.List.Folds.{list_any-append}
 use Rattle.point_set.specs.Least.{IsLeastFrom}
-use Rattle.point_laws.proofs.Cuts.{points_cut}
+use Rattle.point_laws.proofs.lemmas.Cuts.{points_cut}
 use Rattle.spy_words.specs.declared.access.InstKind.{InstKind}
 use Rattle.value_terms.specs.declared.terms.Base.{Base}
 use Rattle.value_terms.specs.declared.terms.Base.TheVariants.{Raw, Init}
@@ -17,10 +17,10 @@ use Rattle.semantics.specs.Tables.{Tables}
 use Rattle.semantics.specs.Points.{is_in, points_in}
 use Rattle.semantics.specs.Steps.{inst_at}
 use Rattle.semantics.specs.Execution.{is_home, start}
-use Rattle.log_laws.proofs.Members.{contains_of, member_in, is_in_of, member_of}
-use Rattle.inst_steps.specs.Grids.{kept, cut_to}
+use Rattle.log_laws.proofs.lemmas.Members.{contains_of, member_in, is_in_of, member_of}
+use Rattle.point_laws.specs.Cut.{kept, cut_to}
 use Rattle.inst_steps.specs.Stores.{Contents, HoldsMore, IsStart, has_cell, base_of, is_at_point, is_at_points, is_of, is_of_some}
-use Rattle.inst_steps.proofs.StoreMaps.{get_put}
+use Rattle.inst_steps.proofs.lemmas.StoreMaps.{get_put}
 
 -- ---- tests
 

@@ -5,7 +5,7 @@ use Rattle.std.specs.FinMap.{get, insert, contains_key}
 use Rattle.std.proofs.lemmas.Bool.{cases_Bool, true≢false, false≢true, false_from_ne_true, eqb-true}
 use Rattle.value_terms.specs.declared.terms.Base.TheVariants.{Raw}
 use Rattle.value_terms.specs.Values.{Value, plain, add_one, fold_in, weight_of}
-use Rattle.value_terms.proofs.Sums.{weight_added, weight_folded}
+use Rattle.value_terms.proofs.lemmas.Sums.{weight_added, weight_folded}
 use Rattle.semantics.specs.declared.places.Cell.{Cell}
 use Rattle.semantics.specs.declared.moves.Move.{Move}
 use Rattle.semantics.specs.declared.moves.Move.TheVariants as moves
@@ -14,11 +14,11 @@ use Rattle.semantics.specs.Execution.{State, start, same_cell, stored, effect}
 use Rattle.semantics.specs.Points.{is_in, points_in}
 use Rattle.semantics.specs.Steps.{inst_at}
 use Rattle.point_laws.specs.Cut.{cut}
-use Rattle.point_laws.proofs.Cuts.{points_cut, start_cut}
-use Rattle.log_laws.proofs.Members.{member_filter, member_in, none_or_some}
+use Rattle.point_laws.proofs.lemmas.Cuts.{points_cut, start_cut}
+use Rattle.log_laws.proofs.lemmas.Members.{member_filter, member_in, none_or_some}
 use Rattle.inst_steps.specs.Stores.{Contents, HasCells, Holds, IsStart, has_cell, after_move, value_in}
 use Rattle.inst_steps.specs.Weighing.{weight_at, weight_after}
-use Rattle.inst_steps.proofs.StoreMaps.{get_put}
+use Rattle.inst_steps.proofs.lemmas.StoreMaps.{get_put}
 
 three : (a b c : Bool) → (a && (b && c)) ≡ ((a && b) && c)
 three false b c = refl

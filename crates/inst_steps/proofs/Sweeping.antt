@@ -14,13 +14,12 @@ use Rattle.semantics.specs.Tables.{Tables}
 use Rattle.semantics.specs.Points.{points_in}
 use Rattle.semantics.specs.Kinds.{reqs_of, grid, req_grid}
 use Rattle.semantics.specs.Steps.{id_of, operator_of, mapped_cell, reads_by, changes_by, moves_of}
-use Rattle.point_laws.specs.Cut.{cut}
-use Rattle.point_laws.proofs.Cuts.{points_cut}
+use Rattle.point_laws.specs.Cut.{cut, kept, cut_to}
+use Rattle.point_laws.proofs.lemmas.Cuts.{points_cut}
 use Rattle.inst_steps.specs.declared.act.Act.{Act}
 use Rattle.inst_steps.specs.declared.act.Act.TheVariants as acts
 use Rattle.inst_steps.specs.declared.act.Action.{Action}
 use Rattle.inst_steps.specs.Acting.{steps_in}
-use Rattle.inst_steps.specs.Grids.{kept, cut_to}
 use Rattle.inst_steps.specs.Sweeps.{Pass, pass, pass_at, action_at, move_at, req_in, own_place, pass_actions, pass_moves, actions_of_pass, moves_of_pass, reading, changing, pass_for, passes_of}
 use Rattle.semantics.specs.declared.tables.LogNode.{LogNode}
 use Rattle.std.proofs.lemmas.Option.{slice_get-get_or}

@@ -1,11 +1,8 @@
 -- Points and fields, in the order in which they are gone over.
-use Rattle.std.specs.Prelude.{ℕ, ◌+◌, List, ◌++◌, map, drop, filter, nat_le, Option, Some, None, option_map, IfSome}
+use Rattle.std.specs.Prelude.{ℕ, ◌+◌, List, ◌++◌, map, drop, filter, nat_le, Option, option_map, IfSome}
 use Rattle.std.specs.Borrow.{Bor}
 use Rattle.std.specs.List.Sorted.{IsStrictlyIncreasing}
-use Rattle.semantics.specs.Points.{is_in}
 use Rattle.semantics.specs.Kinds.{grid}
-use Rattle.semantics.specs.Tables.{Tables}
-use Rattle.point_laws.specs.Cut.{cut}
 
 -- The points behind a reference to them, where there is one.
 abbrev pub listed_of : Option (Bor (List ℕ)) → Option (List ℕ)
@@ -14,17 +11,7 @@ listed_of listed = option_map (λ (points : Bor (List ℕ)). points.now) listed
 abbrev pub IsAscending : Option (Bor (List ℕ)) → Type 0
 IsAscending listed = IfSome listed (λ (points : Bor (List ℕ)). IsStrictlyIncreasing points.now)
 
--- Those of some points that are listed: all, where there is no list.
-abbrev pub kept : Option (List ℕ) → List ℕ → List ℕ
-kept (Some listed) points = filter (is_in listed) points
-kept None points = points
-
--- The tables that are cut to the listed points: all, where there is no list.
-abbrev pub cut_to : Option (List ℕ) → Tables → Tables
-cut_to (Some listed) t = cut listed t
-cut_to None t = t
-
--- The points behind a point.
+-- The points after a point.
 abbrev pub behind : List ℕ → ℕ → List ℕ
 behind points point = filter (λ q. nat_le (point + 1) q) points
 

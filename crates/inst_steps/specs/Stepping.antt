@@ -12,7 +12,8 @@ use Rattle.inst_steps.specs.declared.act.Action.{Action}
 use Rattle.inst_steps.specs.declared.sweep.Sweep.{Sweep}
 use Rattle.inst_steps.specs.declared.spot.Spot.{Spot}
 use Rattle.inst_steps.specs.declared.iterator.At.{At}
-use Rattle.inst_steps.specs.Grids.{kept, cut_to, grid_from}
+use Rattle.point_laws.specs.Cut.{kept, cut_to}
+use Rattle.inst_steps.specs.Grids.{grid_from}
 use Rattle.inst_steps.specs.Sweeps.{Pass, pass, passes_of, actions_of_pass, action_at}
 
 -- What the node at a position does, move by move.

@@ -55,7 +55,7 @@ impl Store {
         self.put(cell, value);
     }
 
-    /// Does a move: what its cells hold afterwards is what the definition of its effect gives. On want of memory the store is as it was.
+    /// Does a move: what its cells hold afterwards is what the definition of its effect gives. Where memory runs out the store is as it was.
     pub fn apply(&mut self, step: &Move) -> Result<(), Memory>
         requires cells { HasCells self.old step.now }
         // Its counts would no longer fit.

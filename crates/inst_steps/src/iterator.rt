@@ -6,7 +6,8 @@ ghost use Rattle.std.specs.List.{AllByRecursion};
 ghost use Rattle.std.specs.List.Sorted.{IsStrictlyIncreasing};
 ghost use Rattle.semantics.specs.Points.{points_in};
 ghost use Rattle.inst_steps.specs.Acting.{IsBy, steps_in};
-ghost use Rattle.inst_steps.specs.Grids.{IsAscending, cut_to, listed_of};
+ghost use Rattle.point_laws.specs.Cut.{cut_to};
+ghost use Rattle.inst_steps.specs.Grids.{IsAscending, listed_of};
 ghost use Rattle.inst_steps.specs.Stepping.{AreNumbered, IsSpot, IsAt, at_left, rest_actions, moves_at, spot_here, spot_actions};
 ghost use Rattle.inst_steps.specs.Sweeps.{action_at, passes_of, pass_at, actions_of_pass};
 
@@ -18,7 +19,7 @@ use point_set::PointSet;
 use semantics::{Move, Op};
 use std::marker::Model;
 
-/// Where an operation stands: in a sweep, and before the sweeps that are left behind it.
+/// Where an operation stands: in a sweep, and before the sweeps that are left after it.
 #[derive(Clone, Copy)]
 pub(crate) struct At<'l, P: PointSet + Copy> {
     pub(crate) spot: Spot<'l, P>,
@@ -44,7 +45,8 @@ impl<'l, 'a, 'p, P: PointSet + Copy> Model for Actions<'l, 'a, 'p, P> {
 
     ghost view = { λ s. at_left P.points s.log.now s.op.now (listed_of s.listed) s.at };
 
-    ghost invariant = { λ s. AreNumbered s.log.now × IsAscending s.listed × IsAt P.points (listed_of s.listed) s.at };
+    ghost invariant = { λ s. AreNumbered s.log.now × IsAscending s.listed
+        × IsAt P.points (listed_of s.listed) s.at };
 }
 
 /// The moves of a node that are left, in order. No call takes memory.

@@ -3,7 +3,8 @@
 ghost use Rattle.std.specs.Prelude.{◌<◌, ◌≤◌, ◌+◌, filter, Contains};
 ghost use Rattle.std.specs.List.Sorted.{IsPartitionPoint, IsStrictlyIncreasing};
 ghost use Rattle.point_set.specs.Least.{IsLeast, IsLeastFrom};
-ghost use Rattle.inst_steps.specs.Grids.{kept, listed_of, IsAscending};
+ghost use Rattle.point_laws.specs.Cut.{kept};
+ghost use Rattle.inst_steps.specs.Grids.{listed_of, IsAscending};
 
 use point_set::PointSet;
 
@@ -54,7 +55,7 @@ pub(crate) fn next_listed<P: PointSet>(set: &P, listed: Option<&[u64]>, low: u64
     }
 }
 
-/// The least such point behind a point.
+/// The least such point after a point.
 pub(crate) fn next_behind<P: PointSet>(set: &P, listed: Option<&[u64]>, point: u64) -> Option<u64>
     requires { IsAscending listed }
     ensures { IsLeastFrom (kept (listed_of listed.entry) (P.points set.now)) (point + 1) result }

@@ -2,7 +2,8 @@
 
 ghost use Rattle.std.specs.Prelude.{◌≡◌, [], ◌∷◌, ◌++◌, IfSome, IfNone};
 ghost use Rattle.semantics.specs.Kinds.{grid};
-ghost use Rattle.inst_steps.specs.Grids.{IsAscending, kept, listed_of};
+ghost use Rattle.point_laws.specs.Cut.{kept};
+ghost use Rattle.inst_steps.specs.Grids.{IsAscending, listed_of};
 ghost use Rattle.inst_steps.specs.Stepping.{IsSpot, spot_here, spot_grid, spots_left, pass_seen, IsWithin};
 ghost use Rattle.inst_steps.specs.Sweeps.{action_at, move_at, cell_of, req_in};
 
@@ -50,7 +51,7 @@ pub(crate) fn first_spot<'l, P: PointSet + Copy>(
     }
 }
 
-/// The field behind this one, or the first field of the point behind.
+/// The field after this one, or the first field of the point after.
 pub(crate) fn next_spot<'l, P: PointSet + Copy>(
     spot: &Spot<'l, P>,
     listed: Option<&[u64]>,

@@ -5,8 +5,8 @@ ghost use Rattle.std.specs.List.Sorted.{IsStrictlyIncreasing};
 ghost use Rattle.value_terms.specs.Values.{plain};
 ghost use Rattle.semantics.specs.Execution as says;
 ghost use Rattle.semantics.specs.Points.{is_in};
-ghost use Rattle.point_laws.specs.Cut.{cut};
-ghost use Rattle.inst_steps.specs.Grids.{IsAscending, cut_to, kept, listed_of};
+ghost use Rattle.point_laws.specs.Cut.{cut, cut_to, kept};
+ghost use Rattle.inst_steps.specs.Grids.{IsAscending, listed_of};
 ghost use Rattle.inst_steps.specs.Stores.{HoldsMore, IsStart, base_of, is_at_point, is_at_points, is_of, is_of_some};
 
 use crate::listed::next_listed;

@@ -110,7 +110,8 @@ impl Store {
     pub(crate) fn fold(&mut self, cell: Cell, op: u32, from: &Value) -> Result<(), Memory>
         requires there { map.contains_key self.old cell ≡ true }
         requires fits { weight_of (value_in self.old cell) + weight_of from.now < 2 ^ 64 }
-        ensures ok { OnOk result (self.new ≡ map.insert self.old cell (fold_in (value_in self.old cell) op from.now)) }
+        ensures ok { OnOk result (self.new
+            ≡ map.insert self.old cell (fold_in (value_in self.old cell) op from.now)) }
         ensures err { OnErr result (self.new ≡ self.old) }
     {
         match self.cells.get_mut(&key_of(&cell)) {

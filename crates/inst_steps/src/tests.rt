@@ -8,12 +8,12 @@ ghost use Rattle.inst_steps.specs.Viewing.{HasPrivilege, viewed_cell};
 
 use super::*;
 use bumpalo::Bump;
-use log_decl::{Log, are_log_records, declare};
+use log_decl::{Log, declare};
+use log_reading::input_in;
 use point_set::{PointList, PointSet, RunSet};
 use privilege::Priv;
 use region_tree::ArenaSet;
 use semantics::{Cell, Move};
-use spy_grammar::{Lined, read_line};
 use std::alloc::Global;
 use std::process::Abort;
 use std::test::Fail;
@@ -161,29 +161,12 @@ const HELD: [((u32, u64, u32), Option<(Base, u64)>); 9] = [
     ((4, 1, 1), None),
 ];
 
-/// The records of a text, on their lines, and how many lines there are.
-fn records_of(alloc: Global, text: &[u8]) -> Result<(Vec<Lined>, u32), Fail> {
-    let mut records = Vec::new(alloc);
-    let mut lines = 0u32;
-    for part in text.split(|b| *b == b'\n') {
-        lines = lines.saturating_add(1);
-        match read_line(alloc, part) {
-            Ok(Some(rec)) => records.push(Lined { line: lines, rec })?,
-            Ok(None) => {}
-            Err(_) => return Err("a line that spells no record".into()),
-        }
-    }
-    // Nothing stands behind the last line feed.
-    Ok((records, lines.saturating_sub(1)))
-}
-
 /// The log of the text.
 fn log_of<'a, P: ArenaSet<'a> + 'a>(alloc: Global, bump: &'a Bump) -> Result<Log<'a, P>, Fail> {
-    let (records, lines) = records_of(alloc, LOG)?;
-    if !are_log_records(alloc, &records, lines)? {
-        return Err("records that make no log".into());
-    }
-    match declare::<P>(alloc, bump, &records, lines) {
+    let Ok(input) = input_in(alloc, LOG.to_vec(alloc)?) else {
+        return Err("a text that spells no records".into());
+    };
+    match declare::<P>(alloc, bump, &input.records, input.lines) {
         Ok(log) => Ok(log),
         Err(_) => Err("a log with a fault".into()),
     }

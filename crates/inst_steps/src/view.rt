@@ -136,7 +136,8 @@ impl<'s, 'a, P: PointSet + Copy, V: Reads> View<'s, 'a, P, V> {
     /// What the cell of a point and a field holds.
     pub fn get(&self, point: u64, field: u32) -> &Value
         requires { map.contains_key self.now.store.now (viewed_cell self.now.log.now self.now.req point field) ≡ true }
-        ensures { map.get self.now.store.now (viewed_cell self.now.log.now self.now.req point field) ≡ Some result.now }
+        ensures { map.get self.now.store.now (viewed_cell self.now.log.now self.now.req point field)
+            ≡ Some result.now }
     {
         let cell = viewed_cell(self.log, self.req, point, field);
         match self.store.value(&cell) {
@@ -162,7 +163,7 @@ impl<'s, 'a, P: PointSet + Copy, V: Writes> View<'s, 'a, P, V> {
 }
 
 impl<'s, 'a, P: PointSet + Copy, V: Folds> View<'s, 'a, P, V> {
-    /// Adds a contribution once to the cell of a point and a field, and to no other, with the operator of the privilege. On want of memory the store is as it was.
+    /// Adds a contribution once to the cell of a point and a field, and to no other, with the operator of the privilege. Where memory runs out the store is as it was.
     pub fn fold_in(&mut self, point: u64, field: u32, c: Contribution) -> Result<(), Memory>
         requires there { map.contains_key self.old.store.now (viewed_cell self.old.log.now self.old.req point field) ≡ true }
         requires fits { weight_of (value_in self.old.store.now (viewed_cell self.old.log.now self.old.req point field)) < 2 ^ 64 - 1 }

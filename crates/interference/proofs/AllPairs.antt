@@ -1,16 +1,17 @@
 -- The rows of what items ask for are the pairs of the log.
 use Rattle.std.proofs.Common.{◌≡◌, ℕ, ◌+◌, ◌-◌, ◌<◌, inl, inr, not, List, [], ◌∷◌, ◌++◌, length, refl, sym, ap, ◌∙◌, arith, map, filter, flat_map, unwrap_or, None}
+use Rattle.std.specs.List.{range_with_len}
 use Rattle.std.proofs.lemmas.Bool.{cases_Bool}
 use Rattle.std.proofs.lemmas.List.{map-append}
-use Rattle.semantics.specs.Tables.{Tables, numbers_from}
+use Rattle.semantics.specs.Tables.{Tables}
 use Rattle.semantics.specs.Kinds.{is_free, item_kind, least_place}
-use Rattle.log_laws.proofs.Members.{Member}
-use Rattle.log_laws.proofs.Apart.{number_between}
+use Rattle.log_laws.proofs.lemmas.Members.{Member}
+use Rattle.log_laws.proofs.lemmas.Apart.{number_between}
 use Rattle.item_uses.specs.Usages.{Usage, usages_of, usages, usages_at}
 use Rattle.item_uses.specs.Sharing.{kind_between, place_between}
-use Rattle.item_uses.proofs.ItemKinds.{kind_is}
-use Rattle.item_uses.proofs.LeastPlaces.{place_is}
-use Rattle.item_uses.proofs.Growing.{usages_length, usages_is}
+use Rattle.item_uses.proofs.lemmas.ItemKinds.{kind_is}
+use Rattle.item_uses.proofs.lemmas.LeastPlaces.{place_is}
+use Rattle.item_uses.proofs.lemmas.Growing.{usages_length, usages_is}
 use Rattle.interference.specs.Pairing.{pair_of, all_pairs, no_place, row, rows, left}
 use Rattle.interference.proofs.Rows.{meeting, rows_step}
 
@@ -48,12 +49,12 @@ flat_same f g (x ∷ xs) h = ap (λ ys. ys ++ flat_map f xs) (h x (inl refl)) �
 rows_are : (t : Tables) → rows None (usages t) 0 ≡ all_pairs t
 rows_are t =
     let long : length (usages t) - 0 ≡ length t.items = omega (arith, usages_length t) in
-    ap (λ m. flat_map (λ i. row None (usages t) i (i + 1)) (numbers_from 0 m)) long
-    ∙ flat_same (λ i. row None (usages t) i (i + 1)) (λ a. map (pair_of t) (map (λ b. (a, b)) (filter (λ b. not (is_free (item_kind t a b))) (numbers_from (a + 1) (length t.items - (a + 1)))))) (numbers_from 0 (length t.items))
-    (λ a m. ap (λ m. map (meeting (usages t) a) (filter (λ b. not (is_free (kind_between (usages_at (usages t) a) (usages_at (usages t) b)))) (numbers_from (a + 1) (m - (a + 1))))) (usages_length t)
-    ∙ row_is t a (omega (arith, (number_between 0 (length t.items) a m).1)) (numbers_from (a + 1) (length t.items - (a + 1)))
+    ap (λ m. flat_map (λ i. row None (usages t) i (i + 1)) (range_with_len 0 m)) long
+    ∙ flat_same (λ i. row None (usages t) i (i + 1)) (λ a. map (pair_of t) (map (λ b. (a, b)) (filter (λ b. not (is_free (item_kind t a b))) (range_with_len (a + 1) (length t.items - (a + 1)))))) (range_with_len 0 (length t.items))
+    (λ a m. ap (λ m. map (meeting (usages t) a) (filter (λ b. not (is_free (kind_between (usages_at (usages t) a) (usages_at (usages t) b)))) (range_with_len (a + 1) (m - (a + 1))))) (usages_length t)
+    ∙ row_is t a (omega (arith, (number_between 0 (length t.items) a m).1)) (range_with_len (a + 1) (length t.items - (a + 1)))
     (λ b k. let r = number_between (a + 1) (length t.items - (a + 1)) b k in omega (arith, r.0, r.1)))
-    ∙ sym (map_flat (pair_of t) (λ a. map (λ b. (a, b)) (filter (λ b. not (is_free (item_kind t a b))) (numbers_from (a + 1) (length t.items - (a + 1))))) (numbers_from 0 (length t.items)))
+    ∙ sym (map_flat (pair_of t) (λ a. map (λ b. (a, b)) (filter (λ b. not (is_free (item_kind t a b))) (range_with_len (a + 1) (length t.items - (a + 1))))) (range_with_len 0 (length t.items)))
 
 pub all_are : (t : Tables) (us : List (List Usage)) → usages t ≡ us → left None us 0 1 ≡ all_pairs t
 all_are t us e = ap (λ us. left None us 0 1) (sym e) ∙ sym (rows_step None (usages t) 0) ∙ rows_are t

@@ -10,7 +10,7 @@ use Rattle.item_uses.specs.declared.between.Interference.{Interference}
 use Rattle.item_uses.specs.Usages.{Usage, usages_at}
 use Rattle.item_uses.specs.Sharing.{kind_between, place_between}
 use Rattle.item_uses.specs.Representatives.{AreRepresentatives}
-use Rattle.item_uses.proofs.Bounded.{none_free, some_not}
+use Rattle.item_uses.proofs.lemmas.Bounded.{none_free, some_not}
 use Rattle.interference.specs.declared.pair.Pair.{Pair}
 use Rattle.interference.specs.Pairing.{is_asked, met_at, IsMeeting, StartsRow}
 use Rattle.interference.specs.Remembering.{IsHow, pair_found}

@@ -1,12 +1,13 @@
 -- How many pairs of tasks there are.
 use Rattle.std.proofs.Common.{◌≡◌, ℕ, ◌+◌, ◌-◌, ◌*◌, ◌<◌, ◌≤◌, inl, inr, Bool, true, false, List, [], ◌∷◌, length, refl, sym, ap, ◌∙◌, arith, map, filter, flat_map, ◌^◌, None, subst}
+use Rattle.std.specs.List.{range_with_len}
 use Rattle.std.proofs.lemmas.Bool.{cases_Bool}
 use Rattle.std.proofs.lemmas.List.{length-map, length-append}
-use Rattle.semantics.specs.Tables.{Tables, numbers_from}
+use Rattle.semantics.specs.Tables.{Tables}
 use Rattle.semantics.specs.Kinds as kinds
 use Rattle.semantics.specs.Shown.{task_pairs}
 use Rattle.item_uses.specs.Usages.{Usage, usages}
-use Rattle.item_uses.proofs.Growing.{numbers_length, usages_length}
+use Rattle.item_uses.proofs.lemmas.Growing.{numbers_length, usages_length}
 use Rattle.interference.specs.declared.pair.Pair.{Pair}
 use Rattle.interference.specs.Pairing.{pair_of, row, left, all_pairs}
 use Rattle.interference.specs.Tasks.{are_tasks}
@@ -19,7 +20,7 @@ length_filter p [] = omega arith
 length_filter p (x ∷ xs) = elim (cases_Bool (p x)) [ inl t ↦ rw t (omega (arith, length_filter p xs)) | inr f ↦ rw f (omega (arith, length_filter p xs)) ]
 
 row_few : (us : List (List Usage)) (a from : ℕ) → length (row None us a from) ≤ length us
-row_few us a from = omega (arith, length-map (filter (met_at None us a) (numbers_from from (length us - from))) (meeting us a), length_filter (met_at None us a) (numbers_from from (length us - from)), numbers_length from (length us - from))
+row_few us a from = omega (arith, length-map (filter (met_at None us a) (range_with_len from (length us - from))) (meeting us a), length_filter (met_at None us a) (range_with_len from (length us - from)), numbers_length from (length us - from))
 
 flat_few : (f : ℕ → List Pair) (xs : List ℕ) → ((x : ℕ) → length (f x) ≤ 4294967295) → length (flat_map f xs) ≤ length xs * 4294967295
 flat_few f [] h = omega arith
@@ -27,7 +28,7 @@ flat_few f (x ∷ xs) h = omega (arith, length-append (f x) (flat_map f xs), h x
 
 few_left : (q : Pair → Bool) (us : List (List Usage)) → length us < 2 ^ 32 → length (filter q (left None us 0 1)) < 2 ^ 64
 few_left q us small =
-    let all = flat_few (λ i. row None us i (i + 1)) (numbers_from 0 (length us - 0)) (λ a. omega (arith, row_few us a (a + 1), small)) in
+    let all = flat_few (λ i. row None us i (i + 1)) (range_with_len 0 (length us - 0)) (λ a. omega (arith, row_few us a (a + 1), small)) in
     omega (arith, length_filter q (left None us 0 1), ap length (sym (rows_step None us 0)), all, numbers_length 0 (length us - 0), small)
 
 -- ---- steps of the count

@@ -1,5 +1,5 @@
-pub mod AllPairs
-pub mod Answering
-pub mod Counting
-pub mod Rows
-pub mod Turning
+mod AllPairs
+mod Answering
+mod Counting
+mod Rows
+mod Turning

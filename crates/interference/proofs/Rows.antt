@@ -1,10 +1,10 @@
 -- Rows of pairs, one item at a time.
 use Rattle.std.proofs.Common.{inl, inr, ◌≡◌, ℕ, zero, suc, ◌+◌, ◌-◌, ◌<◌, ◌≤◌, true, false, not, List, [], ◌∷◌, ◌++◌, length, refl, sym, ap, ◌∙◌, subst, arith, min, ◌^◌, flat_map, map, Option}
+use Rattle.std.specs.List.{range_with_len}
 use Rattle.std.proofs.Math.Path.{ap₂}
 use Rattle.std.proofs.lemmas.Bool.{cases_lt, and_right, and_parts, and_from}
 use Rattle.std.proofs.lemmas.List.{append_assoc}
 use Rattle.privilege.specs.declared.kinds.Kind.TheVariants.{Free}
-use Rattle.semantics.specs.Tables.{numbers_from}
 use Rattle.semantics.specs.Kinds.{is_free}
 use Rattle.item_uses.specs.Usages.{Usage, usages_at}
 use Rattle.item_uses.specs.Sharing.{kind_between}
@@ -35,7 +35,7 @@ rows_end : (asked : Option (List ℕ)) (us : List (List Usage)) (a : ℕ) → le
 rows_end asked us a le = let e : length us - a ≡ 0 = omega arith in rw e refl
 
 rows_from : (asked : Option (List ℕ)) (us : List (List Usage)) (a n : ℕ) → length us - a ≡ suc n → length us - (a + 1) ≡ n → rows asked us a ≡ left asked us a (a + 1)
-rows_from asked us a n e f = rw e (ap (λ (m : ℕ). row asked us a (a + 1) ++ flat_map (λ i. row asked us i (i + 1)) (numbers_from (a + 1) m)) (sym f))
+rows_from asked us a n e f = rw e (ap (λ (m : ℕ). row asked us a (a + 1) ++ flat_map (λ i. row asked us i (i + 1)) (range_with_len (a + 1) m)) (sym f))
 
 pub rows_step : (asked : Option (List ℕ)) (us : List (List Usage)) (a : ℕ) → rows asked us a ≡ left asked us a (a + 1)
 rows_step asked us a =
@@ -76,14 +76,14 @@ alike_meets asked us p i h same asks =
     )
 
 row_along : (asked : Option (List ℕ)) (us : List (List Usage)) (p : Pair) (b m : ℕ) → b + m ≤ length us
-    → ((i : ℕ) → b ≤ i → i < b + m → (met_at asked us p.a i ≡ true) × (meeting us p.a i ≡ paired p i)) → row asked us p.a b ≡ map (paired p) (numbers_from b m) ++ row asked us p.a (b + m)
+    → ((i : ℕ) → b ≤ i → i < b + m → (met_at asked us p.a i ≡ true) × (meeting us p.a i ≡ paired p i)) → row asked us p.a b ≡ map (paired p) (range_with_len b m) ++ row asked us p.a (b + m)
 row_along asked us p b zero le each = let same : b ≡ b + 0 = omega arith in ap (row asked us p.a) same
 row_along asked us p b (suc m) le each =
     let same : b + 1 + m ≡ b + suc m = omega arith in
     let here = each b (omega arith) (omega arith) in
     row_same asked us p.a b (omega (arith, le)) here.0
     ∙ ap₂ (λ (q : Pair) (qs : List Pair). q ∷ qs) here.1 (row_along asked us p (b + 1) m (omega (arith, le)) (λ i low high. each i (omega (arith, low)) (omega (arith, high))))
-    ∙ ap (λ n. paired p b ∷ (map (paired p) (numbers_from (b + 1) m) ++ row asked us p.a n)) same
+    ∙ ap (λ n. paired p b ∷ (map (paired p) (range_with_len (b + 1) m) ++ row asked us p.a n)) same
 
 pub stretched : (asked : Option (List ℕ)) (us : List (List Usage)) (standing : List ℕ) (a from : ℕ) (p : Pair) (to : ℕ) → StartsLeft asked us a from p → AreRepresentatives standing us → AreAlikeTo asked standing p.a p.b to
     → StartsWith (left asked us a from) (left asked us p.a to) (record { a = p.a; from = p.b; to = to; kind = p.kind; place = p.place })
@@ -97,13 +97,13 @@ stretched asked us standing a from p to starts stand alike =
     alike_meets asked us p i starts.meets
     (sym (stand.same i (omega (arith, before, alike.within, stand.each))) ∙ ap (usages_at us) (alike.same i after before) ∙ stand.same p.b starts.within) (alike.asks i after before) in
     let along = row_along asked us p (p.b + 1) m (omega (arith, end, alike.within, stand.each)) each in
-    let pairs = map (paired p) (numbers_from (p.b + 1) m) in
+    let pairs = map (paired p) (range_with_len (p.b + 1) m) in
     record {
       some = alike.order;
       parts = starts.head
           ∙ ap (λ (qs : List Pair). p ∷ (qs ++ rows asked us (p.a + 1))) (along ∙ ap (λ n. pairs ++ row asked us p.a n) end)
           ∙ ap (λ (qs : List Pair). p ∷ qs) (append_assoc pairs (row asked us p.a to) (rows asked us (p.a + 1)))
-          ∙ sym (ap (λ n. map (paired p) (numbers_from p.b n) ++ left asked us p.a to) first);
+          ∙ sym (ap (λ n. map (paired p) (range_with_len p.b n) ++ left asked us p.a to) first);
     }
 
 -- ---- the same with what the code has found

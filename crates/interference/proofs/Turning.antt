@@ -1,21 +1,21 @@
 -- The first pair that stands against the serial order.
 use Rattle.std.proofs.Common.{◌≡◌, ℕ, zero, suc, ◌+◌, ◌-◌, ◌<◌, inl, inr, Bool, true, false, not, nat_lt, ◌&&◌, List, [], ◌∷◌, ◌++◌, length, refl, sym, ap, ◌∙◌, arith, map, filter, flat_map, get_or, unwrap_or, subst, Option, Some, None, option_map, find, position, ◌==◌, Contains}
-use Rattle.std.specs.List.{position_or_len}
+use Rattle.std.specs.List.{position_or_len, range_with_len}
 use Rattle.std.proofs.lemmas.Bool.{cases_Bool, and_right, le-ltb, lt-ltb, eq-eqb, ne_eqb}
 use Rattle.std.proofs.lemmas.List.Elements.{filter-append}
-use Rattle.semantics.specs.Tables.{Tables, numbers_from}
+use Rattle.semantics.specs.Tables.{Tables}
 use Rattle.semantics.specs.Kinds.{is_free, is_before, item_kind, least_place}
 use Rattle.semantics.specs.Kinds as kinds
 use Rattle.semantics.specs.SerialOrder.{serial, serial_place, turned_pair}
-use Rattle.log_laws.proofs.Members.{Member, member_of, member_map, member_flat, member_filter, found_at, none_or_some}
-use Rattle.log_laws.proofs.Apart.{number_between}
+use Rattle.log_laws.proofs.lemmas.Members.{Member, member_of, member_map, member_flat, member_filter, found_at, none_or_some}
+use Rattle.log_laws.proofs.lemmas.Apart.{number_between}
 use Rattle.log_decl.specs.Listing.{ArePlacesIn}
 use Rattle.item_uses.specs.Usages.{Usage, usages_of, usages, usages_at}
 use Rattle.item_uses.specs.Sharing.{kind_between}
-use Rattle.item_uses.proofs.ItemKinds.{kind_is}
-use Rattle.item_uses.proofs.LeastPlaces.{place_is}
-use Rattle.item_uses.proofs.Bounded.{none_free}
-use Rattle.item_uses.proofs.Growing.{numbers_length}
+use Rattle.item_uses.proofs.lemmas.ItemKinds.{kind_is}
+use Rattle.item_uses.proofs.lemmas.LeastPlaces.{place_is}
+use Rattle.item_uses.proofs.lemmas.Bounded.{none_free}
+use Rattle.item_uses.proofs.lemmas.Growing.{numbers_length}
 use Rattle.interference.specs.declared.pair.Pair.{Pair}
 use Rattle.interference.specs.Pairing.{pair_of, all_pairs, no_place, row, rows, left}
 use Rattle.interference.specs.Turned.{is_turned, turned}
@@ -41,12 +41,12 @@ kept_flat q g h [] same = refl
 kept_flat q g h (x ∷ xs) same = ap (λ ys. ys ++ flat_map h xs) (same x) ∙ ap (λ ys. filter q (g x) ++ ys) (kept_flat q g h xs same) ∙ sym (filter-append q (g x) (flat_map g xs))
 
 row_against : (places : List ℕ) (us : List (List Usage)) (a from : ℕ) → row (Some places) us a from ≡ filter (against places) (row None us a from)
-row_against places us a from = kept_both (meeting us a) (against places) (λ b. not (is_free (kind_between (usages_at us a) (usages_at us b)))) (numbers_from from (length us - from))
+row_against places us a from = kept_both (meeting us a) (against places) (λ b. not (is_free (kind_between (usages_at us a) (usages_at us b)))) (range_with_len from (length us - from))
 
 left_against : (places : List ℕ) (us : List (List Usage)) (a from : ℕ) → left (Some places) us a from ≡ filter (against places) (left None us a from)
 left_against places us a from =
     ap (λ ps. ps ++ rows (Some places) us (a + 1)) (row_against places us a from)
-    ∙ ap (λ ps. filter (against places) (row None us a from) ++ ps) (kept_flat (against places) (λ i. row None us i (i + 1)) (λ i. row (Some places) us i (i + 1)) (numbers_from (a + 1) (length us - (a + 1))) (λ i. row_against places us i (i + 1)))
+    ∙ ap (λ ps. filter (against places) (row None us a from) ++ ps) (kept_flat (against places) (λ i. row None us i (i + 1)) (λ i. row (Some places) us i (i + 1)) (range_with_len (a + 1) (length us - (a + 1))) (λ i. row_against places us i (i + 1)))
     ∙ sym (filter-append (against places) (row None us a from) (rows None us (a + 1)))
 
 find_kept : {X : Type 0} (p q : X → Bool) (xs : List X) → find p (filter q xs) ≡ find (λ x. p x && q x) xs
@@ -82,9 +82,9 @@ pub record OfPair (t : Tables) (p : ℕ × ℕ) : Type 0 where
 
 pub pair_within : (t : Tables) (p : ℕ × ℕ) → Member (kinds.pairs t) p → OfPair t p
 pair_within t p m =
-    let at = member_flat (λ a. map (λ b. (a, b)) (filter (λ b. not (is_free (item_kind t a b))) (numbers_from (a + 1) (length t.items - (a + 1))))) (numbers_from 0 (length t.items)) p m in
-    let of = member_map (λ b. (at.0, b)) (filter (λ b. not (is_free (item_kind t at.0 b))) (numbers_from (at.0 + 1) (length t.items - (at.0 + 1)))) p at.2 in
-    let f = member_filter (λ b. not (is_free (item_kind t at.0 b))) (numbers_from (at.0 + 1) (length t.items - (at.0 + 1))) of.0 of.1 in
+    let at = member_flat (λ a. map (λ b. (a, b)) (filter (λ b. not (is_free (item_kind t a b))) (range_with_len (a + 1) (length t.items - (a + 1))))) (range_with_len 0 (length t.items)) p m in
+    let of = member_map (λ b. (at.0, b)) (filter (λ b. not (is_free (item_kind t at.0 b))) (range_with_len (at.0 + 1) (length t.items - (at.0 + 1)))) p at.2 in
+    let f = member_filter (λ b. not (is_free (item_kind t at.0 b))) (range_with_len (at.0 + 1) (length t.items - (at.0 + 1))) of.0 of.1 in
     let n = number_between (at.0 + 1) (length t.items - (at.0 + 1)) of.0 f.0 in
     subst (OfPair t) (sym of.2) (record { order = omega (arith, n.0); within = omega (arith, n.0, n.1); meets = not_so (is_free (item_kind t at.0 of.0)) f.1 })
   where
@@ -108,24 +108,24 @@ turned_is t places is =
     place_at i lt = is.place i lt
 
 -- Where no line lists items, serial order is program order.
-place_number : (k n i : ℕ) → i < n → position_or_len (λ j. j == k + i) (numbers_from k n) ≡ i
+place_number : (k n i : ℕ) → i < n → position_or_len (λ j. j == k + i) (range_with_len k n) ≡ i
 place_number k zero i lt = absurd (omega (arith, lt))
 place_number k (suc n) zero lt = let same : k ≡ k + 0 = omega arith in rw (eq-eqb k (k + 0) same) refl
 place_number k (suc n) (suc i) lt =
     let other : (k ≡ k + suc i → ⊥) = λ e. omega (arith, e) in
     let same : k + suc i ≡ k + 1 + i = omega arith in
-    let rest : position_or_len (λ j. j == k + suc i) (numbers_from (k + 1) n) ≡ i = rw same (place_number (k + 1) n i (omega (arith, lt))) in
+    let rest : position_or_len (λ j. j == k + suc i) (range_with_len (k + 1) n) ≡ i = rw same (place_number (k + 1) n i (omega (arith, lt))) in
     rw (ne_eqb k (k + suc i) other, rest) (omega arith)
 
-position_number : (k n i : ℕ) → i < n → position (λ j. j == k + i) (numbers_from k n) ≡ Some i
+position_number : (k n i : ℕ) → i < n → position (λ j. j == k + i) (range_with_len k n) ≡ Some i
 position_number k n i lt = rw (place_number k n i lt, numbers_length k n, lt-ltb i n lt) refl
 
 place_unlisted : (t : Tables) (i : ℕ) → length t.serials ≡ 0 → i < length t.items → serial_place t i ≡ i
 place_unlisted t i e lt =
-    let all : serial t ≡ numbers_from 0 (length t.items) = rw e refl in
+    let all : serial t ≡ range_with_len 0 (length t.items) = rw e refl in
     let same : 0 + i ≡ i = omega arith in
-    let at : position (λ j. j == i) (numbers_from 0 (length t.items)) ≡ Some i = subst (λ m. position (λ j. j == m) (numbers_from 0 (length t.items)) ≡ Some i) same (position_number 0 (length t.items) i lt) in
-    ap (λ ns. unwrap_or (position (λ j. j == i) ns) (length ns)) all ∙ ap (λ o. unwrap_or o (length (numbers_from 0 (length t.items)))) at
+    let at : position (λ j. j == i) (range_with_len 0 (length t.items)) ≡ Some i = subst (λ m. position (λ j. j == m) (range_with_len 0 (length t.items)) ≡ Some i) same (position_number 0 (length t.items) i lt) in
+    ap (λ ns. unwrap_or (position (λ j. j == i) ns) (length ns)) all ∙ ap (λ o. unwrap_or o (length (range_with_len 0 (length t.items)))) at
 
 pub none_turned : (t : Tables) → length t.serials ≡ 0 → turned_pair t ≡ None
 none_turned t e = find_none (is_turned_pair t) (kinds.pairs t) (λ p m.

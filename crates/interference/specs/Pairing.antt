@@ -1,7 +1,8 @@
 -- Pairs of items that interfere, one at a time.
 use Rattle.std.specs.Prelude.{◌≡◌, ℕ, IfSome, option_map, ◌+◌, ◌-◌, nat_lt, Bool, true, ◌&&◌, not, ◌<◌, ◌≤◌, List, ◌∷◌, ◌++◌, map, filter, flat_map, length, slice_index, Option, Some, None, unwrap_or}
+use Rattle.std.specs.List.{range_with_len}
 use Rattle.std.specs.Borrow.{Bor}
-use Rattle.semantics.specs.Tables.{Tables, numbers_from}
+use Rattle.semantics.specs.Tables.{Tables}
 use Rattle.semantics.specs.Kinds.{is_free, item_kind, least_place}
 use Rattle.semantics.specs.Kinds as kinds
 use Rattle.semantics.specs.declared.places.Place.{Place}
@@ -51,11 +52,11 @@ pub record IsMeeting (asked : Option (List ℕ)) (us : List (List Usage)) (a b :
 
 -- The pairs of an item with those from another on.
 abbrev pub row : Option (List ℕ) → List (List Usage) → ℕ → ℕ → List Pair
-row asked us a from = map (λ b. pair_between a b (usages_at us a) (usages_at us b)) (filter (λ b. is_met asked a b (usages_at us a) (usages_at us b)) (numbers_from from (length us - from)))
+row asked us a from = map (λ b. pair_between a b (usages_at us a) (usages_at us b)) (filter (λ b. is_met asked a b (usages_at us a) (usages_at us b)) (range_with_len from (length us - from)))
 
 -- The rows from an item on.
 abbrev pub rows : Option (List ℕ) → List (List Usage) → ℕ → List Pair
-rows asked us a = flat_map (λ i. row asked us i (i + 1)) (numbers_from a (length us - a))
+rows asked us a = flat_map (λ i. row asked us i (i + 1)) (range_with_len a (length us - a))
 
 -- What is left of a row, and the rows after it.
 abbrev pub left : Option (List ℕ) → List (List Usage) → ℕ → ℕ → List Pair

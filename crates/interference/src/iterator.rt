@@ -134,6 +134,7 @@ impl<'l, 'a, P: PointSet + Copy> Pairs<'l, 'a, P> {
     /// The pairs that come next, of one item with items in a row that ask for the same: at least one, where any is left.
     pub fn next_stretch(&mut self) -> Option<Stretch>
         ensures none { IfNone result (self.old ≡ []) }
+        ensures end { IfNone result (self.new ≡ []) }
         ensures some { IfSome result (StartsWith self.old self.new) }
     {
         let pair = next_left(

@@ -14,7 +14,8 @@ pub fn pairs_are_of_items()
     ensures order { (t : Tables) (p : Pair) → Contains (all_pairs t) p → p.a < p.b }
     ensures within { (t : Tables) (p : Pair) → Contains (all_pairs t) p → p.b < length t.items }
     ensures place { (t : Tables) (p : Pair) → Contains (all_pairs t) p → least_place t p.a p.b ≡ Some p.place }
-    ensures tasks { (t : Tables) → map (λ p. (p.a, p.b)) (filter (are_tasks t.items) (all_pairs t)) ≡ task_pairs t }
+    ensures tasks { (t : Tables) → map (λ p. (p.a, p.b)) (filter (are_tasks t.items) (all_pairs t))
+        ≡ task_pairs t }
     ensures turned { (t : Tables) (p : ℕ × ℕ) → turned_pair t ≡ Some p → (p.0 < p.1) × (p.1 < length t.items) }
     ensures few { (t : Tables) → length t.items < 2 ^ 32 → length (all_pairs t) < 2 ^ 64 }
 {}

@@ -42,7 +42,8 @@ impl Memory {
     /// How two items interfere, if that is remembered.
     #[inline]
     pub(crate) fn recall(&self, ours: usize, theirs: usize) -> Option<Interference>
-        ensures { (us : List (List Usage)) → AreRight us self.now.answers → IfSome result (IsHow us ours theirs) }
+        ensures { (us : List (List Usage)) → AreRight us self.now.answers
+            → IfSome result (IsHow us ours theirs) }
     {
         let answer = &self.answers[theirs % 16];
         if answer.ours == ours && answer.theirs == theirs {

@@ -152,7 +152,8 @@ fn partner<'a, P: PointSet + Copy>(
     requires place { a < length items.now }
     requires order { a ≤ from }
     requires end { (from ≤ to) × (to ≤ length items.now) }
-    ensures none { IfNone result (row (asked_of asked.entry) items.now a from ≡ row (asked_of asked.entry) items.now a to) }
+    ensures none { IfNone result (row (asked_of asked.entry) items.now a from
+        ≡ row (asked_of asked.entry) items.now a to) }
     ensures some { IfSome result (StartsRow (asked_of asked.entry) items.now a from) }
     ensures memory { AreRight items.now memory.new.answers }
 {
@@ -182,7 +183,8 @@ fn partner_in_block<'a, P: PointSet + Copy>(
     requires order { a ≤ from }
     requires end { (from ≤ to) × (to ≤ length items.now) }
     requires block { (i : ℕ) → from ≤ i → i < to → Bounds block.now (usages_at items.now i) }
-    ensures none { IfNone result (row (asked_of asked.entry) items.now a from ≡ row (asked_of asked.entry) items.now a to) }
+    ensures none { IfNone result (row (asked_of asked.entry) items.now a from
+        ≡ row (asked_of asked.entry) items.now a to) }
     ensures some { IfSome result (StartsRow (asked_of asked.entry) items.now a from) }
     ensures memory { AreRight items.now memory.new.answers }
 {

@@ -2,12 +2,12 @@
 
 use super::*;
 use bumpalo::Bump;
-use log_decl::{Log, are_log_records, declare};
+use log_decl::{Log, declare};
+use log_reading::input_in;
 use point_set::{PointList, RunSet};
 use privilege::Kind;
 use region_tree::ArenaSet;
 use semantics::Place;
-use spy_grammar::{Lined, read_line};
 use std::alloc::Global;
 use std::process::Abort;
 use std::test::Fail;
@@ -172,23 +172,7 @@ const CASES: [Case<'static>; 13] = [
     },
 ];
 
-/// The records of a text, on their lines, and how many lines there are.
-fn records_of(alloc: Global, text: &[u8]) -> Result<(Vec<Lined>, u32), Fail> {
-    let mut records = Vec::new(alloc);
-    let mut lines = 0u32;
-    for part in text.split(|b| *b == b'\n') {
-        lines = lines.saturating_add(1);
-        match read_line(alloc, part) {
-            Ok(Some(rec)) => records.push(Lined { line: lines, rec })?,
-            Ok(None) => {}
-            Err(_) => return Err("a line that spells no record".into()),
-        }
-    }
-    // Nothing stands behind the last line feed.
-    Ok((records, lines.saturating_sub(1)))
-}
-
-/// A log with these records behind those of the region, and a run of each task.
+/// A log with these records after those of the region, and a run of each task.
 fn framed(alloc: Global, records: &[u8], tasks: u32) -> Result<Vec<u8>, Fail> {
     let mut text = b"legion-spy 1\n".to_vec(alloc)?;
     text.extend_from_slice(REGION)?;
@@ -212,11 +196,10 @@ fn log_of<'a, P: ArenaSet<'a> + 'a>(
     bump: &'a Bump,
     text: &[u8],
 ) -> Result<Log<'a, P>, Fail> {
-    let (records, lines) = records_of(alloc, text)?;
-    if !are_log_records(alloc, &records, lines)? {
-        return Err("records that make no log".into());
-    }
-    match declare::<P>(alloc, bump, &records, lines) {
+    let Ok(input) = input_in(alloc, text.to_vec(alloc)?) else {
+        return Err("a text that spells no records".into());
+    };
+    match declare::<P>(alloc, bump, &input.records, input.lines) {
         Ok(log) => Ok(log),
         Err(_) => Err("a log with a fault".into()),
     }

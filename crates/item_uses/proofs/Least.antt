@@ -3,7 +3,7 @@ use Rattle.std.proofs.Common.{◌≡◌, ◌≤◌, inl, inr, Bool, true, false,
 use Rattle.std.proofs.lemmas.Bool.Decides.{nat_tests}
 use Rattle.semantics.specs.declared.places.Place.{Place}
 use Rattle.semantics.specs.Kinds.{least_of, lesser, comes_first}
-use Rattle.log_laws.proofs.Members.{Member, member_append, member_left, member_right}
+use Rattle.log_laws.proofs.lemmas.Members.{Member, member_append, member_left, member_right}
 use Rattle.item_uses.specs.Sharing.{lesser_place}
 
 abbrev pub first : Place → Place → Bool
@@ -21,7 +21,7 @@ first_chain p q r a b = grind (arith, nat_tests)
 pub first_one_way : (p q : Place) → first p q ≡ true → first q p ≡ false
 first_one_way p q a = grind (arith, nat_tests)
 
--- A place with numbers no greater is not behind.
+-- A place with numbers no greater is not after.
 pub not_behind : (p q : Place) → p.tree ≡ q.tree → p.point ≤ q.point → p.field ≤ q.field → first q p ≡ false
 not_behind p q a b c = grind (arith, nat_tests)
 

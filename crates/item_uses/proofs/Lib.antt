@@ -1,12 +1,8 @@
-pub mod Agreeing
-pub mod Bounded
-pub mod Ends
-pub mod Growing
-pub mod ItemKinds
-pub mod Least
-pub mod LeastPlaces
-pub mod OneMore
-pub mod Positions
-pub mod Shared
-pub mod Standing
-pub mod Strongest
+pub mod lemmas
+mod Agreeing
+mod Ends
+mod Least
+mod OneMore
+mod Shared
+mod Standing
+mod Strongest

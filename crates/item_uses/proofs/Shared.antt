@@ -11,7 +11,7 @@ use Rattle.std.proofs.lemmas.List.Folds.{list_any_at, list_any_none}
 use Rattle.std.proofs.lemmas.Option.{slice_get-get_or, get_or_from_slice_get}
 use Rattle.semantics.specs.Points.{is_in}
 use Rattle.point_set.specs.Least.{IsLeast, IsLeastCommon}
-use Rattle.log_laws.proofs.Members.{Member, member_of, contains_of, member_filter, is_in_of, member_in}
+use Rattle.log_laws.proofs.lemmas.Members.{Member, member_of, contains_of, member_filter, is_in_of, member_in}
 use Rattle.item_uses.specs.Sharing.{least_number, less_or, least_shared}
 use Rattle.item_uses.proofs.Ends.{first_least}
 

@@ -8,7 +8,7 @@ use Rattle.semantics.specs.Points.{points_in}
 use Rattle.semantics.specs.Kinds.{uses_of}
 use Rattle.item_uses.specs.Usages.{Usage, usage_of, usages_of, usages, usages_at}
 use Rattle.item_uses.specs.Representatives.{without_points, AreAlike}
-use Rattle.item_uses.proofs.Growing.{usages_length, usages_is}
+use Rattle.item_uses.proofs.lemmas.Growing.{usages_length, usages_is}
 use Rattle.item_uses.proofs.OneMore.{one_more}
 
 pub alike_more : (qs rs : List Usage) (i : ℕ) (q r : Usage) → i < length qs → i < length rs → q ≡ get_or qs i q → r ≡ get_or rs i r

@@ -4,7 +4,7 @@ use Rattle.privilege.specs.declared.kinds.Kind.{Kind}
 use Rattle.privilege.specs.declared.kinds.Kind.TheVariants.{Free, Turn, Before}
 use Rattle.privilege.specs.Interference.{stronger}
 use Rattle.semantics.specs.Kinds.{strongest}
-use Rattle.log_laws.proofs.Members.{Member}
+use Rattle.log_laws.proofs.lemmas.Members.{Member}
 
 abbrev pub AtMost : Kind → Kind → Type 0
 AtMost j k = stronger j k ≡ k

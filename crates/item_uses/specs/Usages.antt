@@ -1,9 +1,10 @@
 -- What the items of a log ask for.
 use Rattle.std.specs.Prelude.{ℕ, List, [], map, length, slice_index_or}
+use Rattle.std.specs.List.{range_with_len}
 use Rattle.privilege.specs.declared.kinds.Priv.{Priv}
 use Rattle.privilege.specs.declared.kinds.Coherence.{Coherence}
 use Rattle.semantics.specs.declared.tables.Req.{Req}
-use Rattle.semantics.specs.Tables.{Tables, numbers_from}
+use Rattle.semantics.specs.Tables.{Tables}
 use Rattle.semantics.specs.Points.{points_in}
 use Rattle.semantics.specs.Kinds.{uses_of}
 
@@ -28,7 +29,7 @@ usages_of t item = map (usage_of t) (uses_of t item)
 
 -- What each item asks for.
 abbrev pub usages : Tables → List (List Usage)
-usages t = map (usages_of t) (numbers_from 0 (length t.items))
+usages t = map (usages_of t) (range_with_len 0 (length t.items))
 
 -- What the item at a position asks for.
 abbrev pub usages_at : List (List Usage) → ℕ → List Usage

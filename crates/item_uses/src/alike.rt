@@ -52,7 +52,8 @@ pub fn representatives<'a, P: PointSet + Copy>(
     alloc: Global,
     items: &[ItemUses<'a, P>],
 ) -> Result<Vec<usize>, AllocError>
-    ensures { IfOk result (λ standing. (t : Tables) → usages t ≡ items.now → AreRepresentatives standing.items items.now) }
+    ensures { IfOk result (λ standing. (t : Tables) → usages t ≡ items.now
+        → AreRepresentatives standing.items items.now) }
 {
     let mut firsts = HashMap::new(alloc);
     let mut standing = Vec::new(alloc);

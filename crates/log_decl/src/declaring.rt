@@ -6,7 +6,7 @@ ghost use Rattle.spy_grammar.specs.declared.code.Code.{Code};
 ghost use Rattle.spy_grammar.specs.Spelling.{Good};
 ghost use Rattle.semantics.specs.Tables.{tables_of};
 ghost use Rattle.semantics.specs.Faults.{at_line, declaration_fault};
-ghost use Rattle.log_faults.specs.Lines.{AreLines};
+ghost use Rattle.semantics.specs.Records.{AreLines};
 
 use crate::log::Log;
 use bumpalo::Bump;
@@ -31,7 +31,8 @@ pub fn declare<'a, P: ArenaSet<'a>>(
     requires lines { AreLines lines records.now.items }
     ensures tables { IfOk result (λ log. log ≡ tables_of records.now.items) }
     ensures faultless { OnOk result (declaration_fault lines records.now.items ≡ None) }
-    ensures fault { (line : ℕ) (code : Code) → result ≡ Err (DeclEnd.Fault line code) → declaration_fault lines records.now.items ≡ Some (at_line code line) }
+    ensures fault { (line : ℕ) (code : Code) → result ≡ Err (DeclEnd.Fault line code)
+        → declaration_fault lines records.now.items ≡ Some (at_line code line) }
 {
     match declarations(alloc, bump, records, lines) {
         Ok(declared) => match Log::of(alloc, bump, declared.draft, declared.forest) {
@@ -81,7 +82,8 @@ fn is_ascending(numbers: &[u32]) -> bool
 
 /// Whether each record has a spelling, and the records stand on lines that ascend, each on one of these many lines: what [`declare`] asks of records.
 pub fn are_log_records(alloc: Global, records: &[Lined], lines: u32) -> Result<bool, AllocError>
-    ensures { IfOk result (λ are. IsTrue are ↔ (All (λ l. Good l.rec) records.now × AreLines lines records.now)) }
+    ensures { IfOk result (λ are. IsTrue are
+        ↔ (All (λ l. Good l.rec) records.now × AreLines lines records.now)) }
 {
     let numbers = lines_of(alloc, records)?;
     let few = lines <= MOST_LINES;

@@ -230,7 +230,8 @@ impl<'a, P: PointSet + Copy> Log<'a, P> {
 
     /// The set of a space: none of a space that is not declared, which has no points.
     pub fn set(&self, space: u32) -> Option<&P>
-        ensures { MatchOption result (points_in self.now space ≡ []) (λ s. points_in self.now space ≡ P.points s.now) }
+        ensures { MatchOption result (points_in self.now space ≡ []) (λ s. points_in self.now space
+            ≡ P.points s.now) }
     {
         self.draft.set(space)
     }

@@ -1,9 +1,10 @@
 //! The serial order of the items of a log.
 
 ghost use Rattle.std.specs.Prelude.{◌≡◌, ◌++◌, ◌<◌, ℕ, nat_eq, map, flat_map, length, IfOk, OnOk, if◌then◌else◌, Some};
+ghost use Rattle.std.specs.List.{range_with_len};
 ghost use Rattle.std.specs.HashMap.{get};
 ghost use Rattle.semantics.specs.Points.{is_in};
-ghost use Rattle.semantics.specs.Tables.{place_of, numbers_from};
+ghost use Rattle.semantics.specs.Tables.{place_of};
 ghost use Rattle.semantics.specs.SerialOrder.{listed, serial};
 ghost use Rattle.log_decl.specs.Listing.{line_listing, ArePlacesIn};
 
@@ -16,7 +17,7 @@ use std::collections::HashMap;
 /// All positions below a count, upward.
 #[tactic(auto, using(crate::proofs::Numbers::numbers_more))]
 fn program_order(alloc: Global, count: usize) -> Result<Vec<usize>, AllocError>
-    ensures { IfOk result (λ order. order.items ≡ numbers_from 0 count) }
+    ensures { IfOk result (λ order. order.items ≡ range_with_len 0 count) }
 {
     let mut order = Vec::with_capacity(alloc, count)?;
     for item in 0..count {
@@ -82,7 +83,8 @@ pub(crate) fn serial_places(
 
 /// Notes the line that lists some items.
 fn note_line(lines: &mut HashMap<u32, u32>, ids: &[u32], line: u32) -> Result<(), AllocError>
-    ensures { OnOk result ((id : ℕ) → get nat_eq lines.new id ≡ (if is_in ids.now id then Some line else get nat_eq lines.old id)) }
+    ensures { OnOk result ((id : ℕ) → get nat_eq lines.new id
+        ≡ (if is_in ids.now id then Some line else get nat_eq lines.old id)) }
 {
     for id in ids {
         lines.insert(*id, line)?;

@@ -2,13 +2,13 @@
 
 ghost use Rattle.std.specs.Prelude.{All};
 ghost use Rattle.spy_grammar.specs.Spelling.{Good};
-ghost use Rattle.log_faults.specs.Lines.{AreLines};
+ghost use Rattle.semantics.specs.Records.{AreLines};
 
 use super::*;
 use bumpalo::Bump;
+use log_reading::{Input, input_in};
 use point_set::{PointList, RunSet};
 use region_tree::ArenaSet;
-use spy_grammar::{Lined, read_line};
 use std::alloc::Global;
 use std::process::Abort;
 use std::test::Fail;
@@ -28,7 +28,7 @@ const MILLION: &[u8] = b"ispace 1 0-1048575\nfields 1 1\ntree 1 1 1\ninst 1 1 1 
 /// That instance, put four times.
 const PUTS: &[u8] = b"put 1 1 1 0 1 -\nput 1 1 1 0 2 1\nput 1 1 1 0 3 2\nput 1 1 1 0 4 3\n";
 
-/// Whole logs, each behind a line that says the fault of its frame.
+/// Whole logs, each after a line that says the fault of its frame.
 const FRAMES: &[u8] = b"= whole: 1 Header
 = whole: 2 Header
 # note
@@ -137,7 +137,7 @@ run 2 2 1
 end 12
 ";
 
-/// Records, each behind a line that says what comes before them in the log, and the fault. For each rule there are logs that break it, that just keep it, and in which another fault comes first.
+/// Records, each after a line that says what comes before them in the log, and the fault. For each rule there are logs that break it, that just keep it, and in which another fault comes first.
 const RECORDS: &[u8] = b"= region: 5 RepeatedId
 ispace 1 0
 = region: 5 RepeatedId
@@ -687,33 +687,16 @@ merge 5 4
 put 1 1 1 0 4 4
 ";
 
-/// The records of a text, on their lines, and how many lines there are.
-fn records_of(alloc: Global, text: &[u8]) -> Result<(Vec<Lined>, u32), Fail> {
-    let mut records = Vec::new(alloc);
-    let mut lines = 0u32;
-    for part in text.split(|b| *b == b'\n') {
-        lines = lines.saturating_add(1);
-        match read_line(alloc, part) {
-            Ok(Some(rec)) => records.push(Lined { line: lines, rec })?,
-            Ok(None) => {}
-            Err(_) => return Err("a line that spells no record".into()),
-        }
-    }
-    // Nothing stands behind the last line feed.
-    Ok((records, lines.saturating_sub(1)))
-}
-
 /// Whether records make a log. The log is let go.
 fn end_of<'a, P: ArenaSet<'a> + 'a>(
     alloc: Global,
     bump: &'a Bump,
-    records: &Vec<Lined>,
-    lines: u32,
+    input: &Input,
 ) -> Result<(), DeclEnd>
-    requires good { All (λ l. Good l.rec) records.now.items }
-    requires lines { AreLines lines records.now.items }
+    requires good { All (λ l. Good l.rec) input.now.records.items }
+    requires lines { AreLines input.now.lines input.now.records.items }
 {
-    match declare::<P>(alloc, bump, records, lines) {
+    match declare::<P>(alloc, bump, &input.records, input.lines) {
         Ok(log) => {
             drop(log);
             Ok(())
@@ -737,11 +720,14 @@ fn fault_of<'a, P: ArenaSet<'a> + 'a>(
     bump: &'a Bump,
     text: &[u8],
 ) -> Result<String, Fail> {
-    let (records, lines) = records_of(alloc, text)?;
-    if !are_log_records(alloc, &records, lines)? {
+    let Ok(input) = input_in(alloc, text.to_vec(alloc)?) else {
+        return Err("a text that spells no records".into());
+    };
+    // They are what a caller may hand over who has them from elsewhere.
+    if !are_log_records(alloc, &input.records, input.lines)? {
         return Err("records that make no log".into());
     }
-    said_of(alloc, end_of::<P>(alloc, bump, &records, lines))
+    said_of(alloc, end_of::<P>(alloc, bump, &input))
 }
 
 /// Adds parts of a log to a text.
@@ -765,7 +751,7 @@ fn framed(alloc: Global, parts: &[&[u8]]) -> Result<Vec<u8>, Fail> {
     Ok(text)
 }
 
-/// The log of records that come behind others, which are named.
+/// The log of records that come after others, which are named.
 fn log_of(alloc: Global, before: &[u8], records: &[u8]) -> Result<Vec<u8>, Fail> {
     match before {
         b"whole" => Ok(records.to_vec(alloc)?),
@@ -778,7 +764,7 @@ fn log_of(alloc: Global, before: &[u8], records: &[u8]) -> Result<Vec<u8>, Fail>
     }
 }
 
-/// What stands before the first such byte, and what stands behind it.
+/// What stands before the first such byte, and what stands after it.
 fn cut(text: &[u8], at: u8) -> Result<(&[u8], &[u8]), Fail> {
     let mut parts = text.splitn(2, |b| *b == at);
     match (parts.next(), parts.next()) {
@@ -885,7 +871,7 @@ fn levels(alloc: Global, count: u32) -> Result<Vec<u8>, Fail> {
     Ok(text)
 }
 
-/// Asks for the fault of levels, with more records behind them.
+/// Asks for the fault of levels, with more records after them.
 fn ask_levels(
     rt: &impl Abort,
     alloc: Global,
@@ -919,7 +905,7 @@ fn load(alloc: Global, count: u32) -> Result<Vec<u8>, Fail> {
     Ok(text)
 }
 
-/// Asks for the fault of that log, with more records behind.
+/// Asks for the fault of that log, with more records after.
 fn ask_load(
     rt: &impl Abort,
     alloc: Global,

@@ -10,7 +10,7 @@ use Rattle.region_tree.specs.declared.decls.PartDecl.{PartDecl}
 use Rattle.region_tree.specs.declared.decls.SubDecl.{SubDecl}
 use Rattle.region_tree.specs.Regions.{whole_of, parent_of}
 use Rattle.region_tree.specs.Ancestors.{ancestor_of}
-use Rattle.region_tree.proofs.Climbs.{ancestor-sum, ends}
+use Rattle.region_tree.proofs.lemmas.Climbs.{ancestor-sum, ends}
 use Rattle.semantics.specs.Tables.{Tables}
 use Rattle.semantics.specs.declared.tables.Part as parts
 use Rattle.semantics.specs.declared.tables.Sub as subs

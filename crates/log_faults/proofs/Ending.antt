@@ -16,13 +16,13 @@ use Rattle.log_faults.specs.declared.decl_end.DeclEnd.TheVariants as ends
 use Rattle.log_faults.specs.Walk.{space_broken, spaces_fault, StandsAt}
 use Rattle.log_faults.proofs.FirstFault.{AreWithin, walk_told, tried_told}
 
--- The records behind some of them.
+-- The records after some of them.
 behind : {X : Type 0} (xs : List X) (k : ℕ) (x : X) → slice_get xs k ≡ Some x → (rest : List X) × (drop k xs ≡ x ∷ rest)
 behind [] k x at = absurd (none-some x at)
 behind (y ∷ ys) zero x at = (ys, ap (λ z. z ∷ ys) (same_Some y x at))
 behind (y ∷ ys) (suc k) x at = behind ys k x at
 
--- The first fault, by the records that the walk kept and those behind them.
+-- The first fault, by the records that the walk kept and those after them.
 parted : (log : List Lined) (k : ℕ) (t : Tables) (code : Option Code) → StandsAt log k t code → records_fault (records_of log) [] log ≡ option_or (spaces_fault [] (take k log)) (records_fault (records_of log) (take k log) (drop k log))
 parted log k t code stands =
     ap (records_fault (records_of log) []) (sym (take-append-drop k log)) ∙ walk_told (records_of log) [] (take k log) (drop k log) stands.kept

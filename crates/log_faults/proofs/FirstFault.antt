@@ -10,7 +10,7 @@ use Rattle.std.proofs.lemmas.List.Folds.{find-append}
 use Rattle.spy_grammar.specs.declared.code.Code.{Code}
 use Rattle.spy_grammar.specs.declared.code.Code.TheVariants as codes
 use Rattle.spy_grammar.specs.declared.record.Record.{Record}
-use Rattle.spy_grammar.specs.declared.record.Record.TheVariants.{Header, Ispace, Part, Sub, Fields, Tree, Redop, Task, Req, Fill, Serial, Inst, Map, Run, Copy, Put, Reset, Fold, Merge, End}
+use Rattle.spy_grammar.specs.declared.record.Record.TheVariants.{Sub}
 use Rattle.spy_grammar.specs.declared.record.Lined.{Lined}
 use Rattle.semantics.specs.Records.{records_of}
 use Rattle.semantics.specs.Tables.{Tables, tables_of}
@@ -82,25 +82,7 @@ cases_told log earlier (Sub part colour space) few =
     let r = Sub part colour space in
     let asks : rules.has_many_accesses (records_of earlier) (tables_of earlier) r ≡ false = not_more (access_total (tables_of earlier) (records_of earlier)) 4194304 few in
     turned (first_broken (tried_before (records_of earlier) (tables_of earlier) r)) (space_broken (tables_of earlier) r) (first_broken (tried_after log (records_of earlier) (tables_of earlier) r)) (after_none log (records_of earlier) (tables_of earlier) part colour space asks)
-cases_told log earlier (Header v) few = apart_here log earlier (Header v) refl
-cases_told log earlier (Ispace a b) few = apart_here log earlier (Ispace a b) refl
-cases_told log earlier (Part a b c) few = apart_here log earlier (Part a b c) refl
-cases_told log earlier (Fields a b) few = apart_here log earlier (Fields a b) refl
-cases_told log earlier (Tree a b c) few = apart_here log earlier (Tree a b c) refl
-cases_told log earlier (Redop a) few = apart_here log earlier (Redop a) refl
-cases_told log earlier (Task a) few = apart_here log earlier (Task a) refl
-cases_told log earlier (Req a b c d e f) few = apart_here log earlier (Req a b c d e f) refl
-cases_told log earlier (Fill a b c d e) few = apart_here log earlier (Fill a b c d e) refl
-cases_told log earlier (Serial a) few = apart_here log earlier (Serial a) refl
-cases_told log earlier (Inst a b c d e) few = apart_here log earlier (Inst a b c d e) refl
-cases_told log earlier (Map a b c d) few = apart_here log earlier (Map a b c d) refl
-cases_told log earlier (Run a b c) few = apart_here log earlier (Run a b c) refl
-cases_told log earlier (Copy a b c d e f) few = apart_here log earlier (Copy a b c d e f) refl
-cases_told log earlier (Put a b c d e f) few = apart_here log earlier (Put a b c d e f) refl
-cases_told log earlier (Reset a b c d e) few = apart_here log earlier (Reset a b c d e) refl
-cases_told log earlier (Fold a b c d e f) few = apart_here log earlier (Fold a b c d e f) refl
-cases_told log earlier (Merge a b) few = apart_here log earlier (Merge a b) refl
-cases_told log earlier (End n) few = apart_here log earlier (End n) refl
+cases_told log earlier r few = apart_here log earlier r refl
 
 -- The first broken rule is the first of the others, or else of the two of the forest.
 pub tried_told : (log : List Record) (earlier : List Lined) (r : Record) → AreWithin earlier
@@ -139,7 +121,7 @@ few_kept log earlier r e =
     (or_right (first_broken (tried_before (records_of earlier) (tables_of earlier) r)) (first_broken (tried_after log (records_of earlier) (tables_of earlier) r)) e) refl
     )
 
--- Where the first records keep the other rules, the first fault is theirs against the forest, or else that of the records behind them.
+-- Where the first records keep the other rules, the first fault is theirs against the forest, or else that of the records after them.
 pub walk_told : (log : List Record) (earlier kept rest : List Lined) → Keep log earlier kept → records_fault log earlier (kept ++ rest) ≡ option_or (spaces_fault earlier kept) (records_fault log (earlier ++ kept) rest)
 walk_told log earlier [] rest keep = ap (λ (ls : List Lined). records_fault log ls rest) (sym (append-nil earlier))
 walk_told log earlier (l ∷ kept) rest keep =

@@ -7,7 +7,7 @@ use Rattle.std.proofs.lemmas.Bool.{cases_Bool, false≢true}
 use Rattle.std.proofs.lemmas.List.{append-nil}
 use Rattle.std.proofs.lemmas.List.Sums.{fold-append}
 use Rattle.spy_grammar.specs.declared.record.Record.{Record}
-use Rattle.spy_grammar.specs.declared.record.Record.TheVariants.{Header, Ispace, Part, Sub, Fields, Tree, Redop, Task, Req, Fill, Serial, Inst, Map, Run, Copy, Put, Reset, Fold, Merge, End}
+use Rattle.spy_grammar.specs.declared.record.Record.TheVariants.{Ispace, Part, Sub}
 use Rattle.spy_grammar.specs.declared.record.Lined.{Lined}
 use Rattle.semantics.specs.declared.tables.Part as parts
 use Rattle.semantics.specs.declared.tables.Sub as subs
@@ -37,23 +37,7 @@ extends_with : (t : Tables) (line : ℕ) (r : Record) → Extends t (with_record
 extends_with t line (Ispace id set) = record { more_spaces = _; more_parts = []; more_subs = []; spaces = refl; parts = sym (append-nil t.parts); subs = sym (append-nil t.subs) }
 extends_with t line (Part id space disjoint) = record { more_spaces = []; more_parts = _; more_subs = []; spaces = sym (append-nil t.spaces); parts = refl; subs = sym (append-nil t.subs) }
 extends_with t line (Sub part colour space) = record { more_spaces = []; more_parts = []; more_subs = _; spaces = sym (append-nil t.spaces); parts = sym (append-nil t.parts); subs = refl }
-extends_with t line (Header v) = extends_itself t _ refl refl refl
-extends_with t line (Fields id fields) = extends_itself t _ refl refl refl
-extends_with t line (Tree id space fspace) = extends_itself t _ refl refl refl
-extends_with t line (Redop id) = extends_itself t _ refl refl refl
-extends_with t line (Task id) = extends_itself t _ refl refl refl
-extends_with t line (Req task tree space fields access atomic) = extends_itself t _ refl refl refl
-extends_with t line (Fill id tree space fields n) = extends_itself t _ refl refl refl
-extends_with t line (Serial ids) = extends_itself t _ refl refl refl
-extends_with t line (Inst id tree space fields kind) = extends_itself t _ refl refl refl
-extends_with t line (Map task number fields inst) = extends_itself t _ refl refl refl
-extends_with t line (Run task done waits) = extends_itself t _ refl refl refl
-extends_with t line (Copy src dst space fields done waits) = extends_itself t _ refl refl refl
-extends_with t line (Put inst space fields n done waits) = extends_itself t _ refl refl refl
-extends_with t line (Reset inst space fields done waits) = extends_itself t _ refl refl refl
-extends_with t line (Fold src dst space fields done waits) = extends_itself t _ refl refl refl
-extends_with t line (Merge done waits) = extends_itself t _ refl refl refl
-extends_with t line (End n) = extends_itself t _ refl refl refl
+extends_with t line _ = extends_itself t _ refl refl refl
 
 extends_on : (t u v : Tables) → Extends t u → Extends u v → Extends t v
 extends_on t u v e f = record {

@@ -1,11 +1,11 @@
-pub mod Ascending
-pub mod Depth
-pub mod Ending
-pub mod FirstFault
-pub mod Growing
-pub mod Members
-pub mod Placing
-pub mod SpaceFaults
-pub mod Steady
-pub mod SubFaults
-pub mod Walking
+pub mod lemmas
+mod Depth
+mod Ending
+mod FirstFault
+mod Growing
+mod Members
+mod Placing
+mod SpaceFaults
+mod Steady
+mod SubFaults
+mod Walking

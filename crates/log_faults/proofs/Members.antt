@@ -2,7 +2,7 @@
 use Rattle.std.proofs.Common.{◌≡◌, ℕ, zero, suc, ◌==◌, Bool, true, false, not, ◌||◌, ◌&&◌, List, [], ◌∷◌, Contains, get_or, slice_get, Some, refl, sym, ap, ◌∙◌, inl, inr, eq-eqb, arith}
 use Rattle.std.specs.Bool.{Decides}
 use Rattle.std.specs.List.{list_any, list_all}
-use Rattle.std.proofs.lemmas.Bool.{cases_Bool, eqb-true, false≢true}
+use Rattle.std.proofs.lemmas.Bool.{cases_Bool, eqb-true, false≢true, or_right}
 use Rattle.std.proofs.lemmas.Bool.Decides.{Decides-by_and}
 use Rattle.std.proofs.lemmas.List.Folds.{list_any_at}
 use Rattle.std.proofs.lemmas.List.Elements.{All-contains}
@@ -58,11 +58,7 @@ passing p (x ∷ xs) e =
 pub passes : {X : Type 0} (p : X → Bool) (xs : List X) (i : ℕ) (x : X) → slice_get xs i ≡ Some x → p x ≡ true → list_any p xs ≡ true
 passes p [] i x at e = absurd (none-some x at)
 passes p (y ∷ ys) zero x at e = let here : p y ≡ true = ap p (same_Some y x at) ∙ e in ap (λ b. b || list_any p ys) here
-passes p (y ∷ ys) (suc i) x at e = ap (λ b. p y || b) (passes p ys i x at e) ∙ or_true (p y)
-  where
-    or_true : (b : Bool) → (b || true) ≡ true
-    or_true true = refl
-    or_true false = refl
+passes p (y ∷ ys) (suc i) x at e = ap (λ b. p y || b) (passes p ys i x at e) ∙ or_right (p y) true refl
 
 contains_at : (xs : List ℕ) (i x : ℕ) → slice_get xs i ≡ Some x → Contains xs x
 contains_at [] i x at = absurd (none-some x at)

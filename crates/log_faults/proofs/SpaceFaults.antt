@@ -2,13 +2,13 @@
 use Rattle.std.proofs.Common.{◌≡◌, ℕ, suc, ◌+◌, ◌-◌, ◌<◌, ◌≤◌, false, cond, List, [], ◌∷◌, ◌++◌, length, slice_get, Option, Some, None, subst, refl, sym, ap, ◌∙◌, inl, inr, ◌⊎◌, append_assoc, length-append, arith}
 use Rattle.std.specs.List.{cons_option}
 use Rattle.std.specs.Option.{option_map, option_or}
-use Rattle.std.proofs.lemmas.Bool.{cases_Bool, cases_eq}
+use Rattle.std.proofs.lemmas.Bool.{and_parts, cases_Bool, cases_eq, or_parts}
 use Rattle.std.proofs.lemmas.Option.{none-some, slice_get_within}
 use Rattle.std.proofs.lemmas.List.{length-map, append-nil}
 use Rattle.spy_grammar.specs.declared.code.Code.{Code}
 use Rattle.spy_grammar.specs.declared.code.Code.TheVariants as codes
 use Rattle.spy_grammar.specs.declared.record.Record.{Record}
-use Rattle.spy_grammar.specs.declared.record.Record.TheVariants.{Header, Ispace, Part, Sub, Fields, Tree, Redop, Task, Req, Fill, Serial, Inst, Map, Run, Copy, Put, Reset, Fold, Merge, End}
+use Rattle.spy_grammar.specs.declared.record.Record.TheVariants.{Sub}
 use Rattle.spy_grammar.specs.declared.record.Lined.{Lined}
 use Rattle.region_tree.specs.Faults.{IsFaulty, IsOutside, MeetsEarlier}
 use Rattle.semantics.specs.declared.tables.Sub as subs
@@ -20,7 +20,7 @@ use Rattle.region_tree.specs.Growing.{IsGrown}
 use Rattle.log_faults.specs.SubLines.{sub_line, sub_lines}
 use Rattle.log_faults.specs.Walk.{other_broken, space_broken, spaces_fault, Keep}
 use Rattle.log_faults.proofs.Growing.{extends_tables, tables_by}
-use Rattle.log_faults.proofs.Steady.{keeps_of, grown_with, or_false, and_true, not_false}
+use Rattle.log_faults.proofs.Steady.{keeps_of, grown_with, not_false}
 use Rattle.log_faults.proofs.SubFaults.{IsNext, Decides-is_outside, Decides-is_not_disjoint}
 
 -- One record later.
@@ -29,11 +29,7 @@ grown_later log earlier l grown e =
     subst (λ (t : Tables). IsGrown (decls_of t)) (sym (tables_by earlier (l ∷ []))) (grown_with (tables_of earlier) l.line l.rec grown (keeps_of log earlier l.rec e))
 
 pub grown_all : (log : List Record) (earlier kept : List Lined) → IsGrown (decls_of (tables_of earlier)) → Keep log earlier kept → IsGrown (decls_of (tables_of (earlier ++ kept)))
-grown_all log earlier [] grown keep = subst (λ (ls : List Lined). IsGrown (decls_of (tables_of ls))) (sym (nil earlier)) grown
-  where
-    nil : (xs : List Lined) → xs ++ [] ≡ xs
-    nil [] = refl
-    nil (x ∷ xs) = ap (λ (ys : List Lined). x ∷ ys) (nil xs)
+grown_all log earlier [] grown keep = subst (λ (ls : List Lined). IsGrown (decls_of (tables_of ls))) (sym (append-nil earlier)) grown
 grown_all log earlier (l ∷ kept) grown keep =
     subst (λ (ls : List Lined). IsGrown (decls_of (tables_of ls))) (append_assoc earlier (l ∷ []) kept) (grown_all log (earlier ++ l ∷ []) kept (grown_later log earlier l grown keep.0) keep.1)
 
@@ -49,7 +45,7 @@ next_of log earlier rest line part colour space grown e =
     let l : Lined = record { line = line; rec = Sub part colour space } in
     let s : subs.Sub = record { part = part; colour = colour; space = space } in
     let keeps = keeps_of log earlier (Sub part colour space) e in
-    let named = and_true _ _ (not_false _ (or_false _ _ keeps.known).0) in
+    let named = and_parts _ _ (not_false _ (or_parts _ _ keeps.known).0) in
     let later = extends_tables (earlier ++ l ∷ []) rest in
     let here : (tables_of (earlier ++ l ∷ [])).subs ≡ t.subs ++ s ∷ [] = ap (λ (u : Tables). u.subs) (tables_by earlier (l ∷ [])) in
     let all : (tables_of (earlier ++ l ∷ rest)).subs ≡ t.subs ++ s ∷ later.more_subs =
@@ -59,77 +55,23 @@ next_of log earlier rest line part colour space grown e =
       extends = extends_tables earlier (l ∷ rest);
       tied = grown.tied;
       has_part = named.0;
-      has_space = (and_true _ _ named.1).0;
+      has_space = (and_parts _ _ named.1).0;
       at = ap (λ (xs : List subs.Sub). slice_get xs (length t.subs)) all ∙ at_end t.subs later.more_subs s;
     }
 
 -- How many subspaces there are, one record later.
 sub_count_with : (t : Tables) (line : ℕ) (r : Record) → sub_line line r ≡ None → (with_record t line r).subs ≡ t.subs
 sub_count_with t line (Sub part colour space) e = absurd (none-some line (sym e))
-sub_count_with t line (Header v) e = refl
-sub_count_with t line (Ispace id set) e = refl
-sub_count_with t line (Part id space disjoint) e = refl
-sub_count_with t line (Fields id fields) e = refl
-sub_count_with t line (Tree id space fspace) e = refl
-sub_count_with t line (Redop id) e = refl
-sub_count_with t line (Task id) e = refl
-sub_count_with t line (Req task tree space fields access atomic) e = refl
-sub_count_with t line (Fill id tree space fields n) e = refl
-sub_count_with t line (Serial ids) e = refl
-sub_count_with t line (Inst id tree space fields kind) e = refl
-sub_count_with t line (Map task number fields inst) e = refl
-sub_count_with t line (Run task done waits) e = refl
-sub_count_with t line (Copy src dst space fields done waits) e = refl
-sub_count_with t line (Put inst space fields n done waits) e = refl
-sub_count_with t line (Reset inst space fields done waits) e = refl
-sub_count_with t line (Fold src dst space fields done waits) e = refl
-sub_count_with t line (Merge done waits) e = refl
-sub_count_with t line (End n) e = refl
+sub_count_with t line _ e = refl
 
 -- A record that declares no subspace breaks no rule of the forest.
 calm : (t : Tables) (line : ℕ) (r : Record) → sub_line line r ≡ None → space_broken t r ≡ None
 calm t line (Sub part colour space) e = absurd (none-some line (sym e))
-calm t line (Header v) e = refl
-calm t line (Ispace id set) e = refl
-calm t line (Part id space disjoint) e = refl
-calm t line (Fields id fields) e = refl
-calm t line (Tree id space fspace) e = refl
-calm t line (Redop id) e = refl
-calm t line (Task id) e = refl
-calm t line (Req task tree space fields access atomic) e = refl
-calm t line (Fill id tree space fields n) e = refl
-calm t line (Serial ids) e = refl
-calm t line (Inst id tree space fields kind) e = refl
-calm t line (Map task number fields inst) e = refl
-calm t line (Run task done waits) e = refl
-calm t line (Copy src dst space fields done waits) e = refl
-calm t line (Put inst space fields n done waits) e = refl
-calm t line (Reset inst space fields done waits) e = refl
-calm t line (Fold src dst space fields done waits) e = refl
-calm t line (Merge done waits) e = refl
-calm t line (End n) e = refl
+calm t line _ e = refl
 
 cases_line : (line : ℕ) (r : Record) → (sub_line line r ≡ None) ⊎ ((part : ℕ) × (colour : ℕ) × (space : ℕ) × (r ≡ Sub part colour space))
 cases_line line (Sub part colour space) = inr (part, colour, space, refl)
-cases_line line (Header v) = inl refl
-cases_line line (Ispace id set) = inl refl
-cases_line line (Part id space disjoint) = inl refl
-cases_line line (Fields id fields) = inl refl
-cases_line line (Tree id space fspace) = inl refl
-cases_line line (Redop id) = inl refl
-cases_line line (Task id) = inl refl
-cases_line line (Req task tree space fields access atomic) = inl refl
-cases_line line (Fill id tree space fields n) = inl refl
-cases_line line (Serial ids) = inl refl
-cases_line line (Inst id tree space fields kind) = inl refl
-cases_line line (Map task number fields inst) = inl refl
-cases_line line (Run task done waits) = inl refl
-cases_line line (Copy src dst space fields done waits) = inl refl
-cases_line line (Put inst space fields n done waits) = inl refl
-cases_line line (Reset inst space fields done waits) = inl refl
-cases_line line (Fold src dst space fields done waits) = inl refl
-cases_line line (Merge done waits) = inl refl
-cases_line line (End n) = inl refl
+cases_line line _ = inl refl
 
 -- A subspace that is not faulty breaks no rule of the forest.
 sound_here : (log : List Record) (earlier rest : List Lined) (line part colour space : ℕ) → IsGrown (decls_of (tables_of earlier)) → other_broken log earlier (Sub part colour space) ≡ None
@@ -172,7 +114,7 @@ sub_at : (all : Tables) (i : ℕ) (code : Code) → IsBroken all i code → i < 
 sub_at all i code (outside point out) = omega (arith, slice_get_within (decls_of all).subs i out.0 out.1, length-map all.subs sub_decl)
 sub_at all i code (met j meets within) = omega (arith, slice_get_within (decls_of all).subs i meets.1.0 meets.1.3, length-map all.subs sub_decl)
 
--- The record is the one that is told, and what it does to the number of subspaces.
+-- The record is the one that is reported, and what it does to the number of subspaces.
 count_same : (earlier : List Lined) (l : Lined) → sub_line l.line l.rec ≡ None → (tables_of (earlier ++ l ∷ [])).subs ≡ (tables_of earlier).subs
 count_same earlier l none = ap (λ (u : Tables). u.subs) (tables_by earlier (l ∷ [])) ∙ sub_count_with (tables_of earlier) l.line l.rec none
 

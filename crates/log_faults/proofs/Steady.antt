@@ -1,19 +1,19 @@
 -- A forest, record by record, as long as the rules but for the two of the forest are kept.
-use Rattle.std.proofs.Common.{◌≡◌, ◌≢◌, ℕ, suc, ◌==◌, Bool, true, false, not, ◌||◌, ◌&&◌, List, [], ◌∷◌, map, All, IsSome, None, subst, refl, sym, ap, ◌∙◌, eq-eqb, arith}
+use Rattle.std.proofs.Common.{◌≡◌, ◌≢◌, ℕ, suc, ◌==◌, Bool, true, false, not, ◌&&◌, List, [], ◌∷◌, map, All, IsSome, None, subst, refl, sym, ap, ◌∙◌, eq-eqb, arith}
 use Rattle.std.specs.List.{list_any}
 use Rattle.std.proofs.lemmas.List.{map-append}
 use Rattle.std.specs.Option.{option_map}
-use Rattle.std.proofs.lemmas.Bool.{false≢true}
+use Rattle.std.proofs.lemmas.Bool.{and_from, and_parts, false≢true, or_parts}
 use Rattle.std.proofs.lemmas.List.Elements.{All-nil, All-cons}
 use Rattle.spy_grammar.specs.declared.code.Code.TheVariants as codes
 use Rattle.spy_grammar.specs.declared.record.Record.{Record}
-use Rattle.spy_grammar.specs.declared.record.Record.TheVariants.{Header, Ispace, Part, Sub, Fields, Tree, Redop, Task, Req, Fill, Serial, Inst, Map, Run, Copy, Put, Reset, Fold, Merge, End}
+use Rattle.spy_grammar.specs.declared.record.Record.TheVariants.{Ispace, Part, Sub}
 use Rattle.spy_grammar.specs.declared.record.Lined.{Lined}
 use Rattle.region_tree.specs.declared.decls.PartDecl.{PartDecl}
 use Rattle.region_tree.specs.declared.decls.SubDecl.{SubDecl}
 use Rattle.region_tree.specs.declared.path.Step.{Step}
 use Rattle.region_tree.specs.Regions as regions
-use Rattle.region_tree.specs.Regions.{Regions, space_of, part_of, step_of}
+use Rattle.region_tree.specs.Regions.{space_of, part_of, step_of}
 use Rattle.semantics.specs.declared.tables.Part as parts
 use Rattle.semantics.specs.declared.tables.Sub as subs
 use Rattle.semantics.specs.Records.{records_of}
@@ -25,27 +25,17 @@ use Rattle.region_tree.specs.Growing.{IsGrown, MaySub, with_space, with_part, wi
 use Rattle.log_faults.specs.Walk.{other_broken, tried_before}
 use Rattle.log_faults.proofs.Depth.{depth_told}
 use Rattle.log_faults.proofs.FirstFault.{none_at, or_left}
-use Rattle.region_tree.proofs.Growth.{grown_space, grown_part, grown_sub}
+use Rattle.region_tree.proofs.lemmas.Growth.{grown_space, grown_part, grown_sub}
 use Rattle.log_faults.proofs.SubFaults.{found_any, space_is, part_is}
 
 -- Facts from tests.
-pub or_false : (a b : Bool) → (a || b) ≡ false → (a ≡ false) × (b ≡ false)
-or_false false false e = (refl, refl)
-or_false false true e = absurd (false≢true (sym e))
-or_false true b e = absurd (false≢true (sym e))
-
-pub and_true : (a b : Bool) → (a && b) ≡ true → (a ≡ true) × (b ≡ true)
-and_true true true e = (refl, refl)
-and_true true false e = absurd (false≢true e)
-and_true false b e = absurd (false≢true e)
-
 pub not_false : (b : Bool) → not b ≡ false → b ≡ true
 not_false true e = refl
 not_false false e = absurd (false≢true (sym e))
 
 none_like : {X : Type 0} (P : X → Type 0) (p : X → Bool) (xs : List X) → ((x : X) → P x → p x ≡ true) → list_any p xs ≡ false → All (λ x. ¬ P x) xs
 none_like P p [] tells e = All-nil (λ x. ¬ P x)
-none_like P p (x ∷ xs) tells e = let both = or_false (p x) (list_any p xs) e in All-cons (λ x. ¬ P x) x xs (λ h. false≢true (sym both.0 ∙ tells x h)) (none_like P p xs tells both.1)
+none_like P p (x ∷ xs) tells e = let both = or_parts (p x) (list_any p xs) e in All-cons (λ x. ¬ P x) x xs (λ h. false≢true (sym both.0 ∙ tells x h)) (none_like P p xs tells both.1)
 
 all_map : {X Y : Type 0} (P : Y → Type 0) (f : X → Y) (xs : List X) → All (λ x. P (f x)) xs → All P (map f xs)
 all_map P f [] all = All-nil P
@@ -90,30 +80,27 @@ space_step t line id set grown keeps =
     let d = decls_of t in
     let s : Space = record { id = id; points = _ } in
     let e : decls_of (with_record t line (Ispace id set)) ≡ with_space d (space_decl s) = ap (λ (xs : List regions.Space). record d { spaces = xs }) (map-append space_decl t.spaces (s ∷ [])) in
-    subst IsGrown (sym e) (grown_space d (space_decl s) grown (all_map (λ (x : regions.Space). x.id ≢ id) space_decl t.spaces (none_like (λ (x : Space). x.id ≡ id) (λ (x : Space). x.id == id) t.spaces (λ x same. eq-eqb x.id id same) (or_false _ _ keeps.new).0)))
+    subst IsGrown (sym e) (grown_space d (space_decl s) grown (all_map (λ (x : regions.Space). x.id ≢ id) space_decl t.spaces (none_like (λ (x : Space). x.id ≡ id) (λ (x : Space). x.id == id) t.spaces (λ x same. eq-eqb x.id id same) (or_parts _ _ keeps.new).0)))
 
 part_step : (t : Tables) (line id space : ℕ) (disjoint : Bool) → IsGrown (decls_of t) → Keeps t (Part id space disjoint) → IsGrown (decls_of (with_record t line (Part id space disjoint)))
 part_step t line id space disjoint grown keeps =
     let d = decls_of t in
     let p : parts.Part = record { id = id; space = space; disjoint = disjoint } in
     let e : decls_of (with_record t line (Part id space disjoint)) ≡ with_part d (part_decl p) = ap (λ (xs : List PartDecl). record d { parts = xs }) (map-append part_decl t.parts (p ∷ [])) in
-    let named = not_false _ (or_false _ _ keeps.known).0 in
-    subst IsGrown (sym e) (grown_part d (part_decl p) grown (all_map (λ (x : PartDecl). x.id ≢ id) part_decl t.parts (none_like (λ (x : parts.Part). x.id ≡ id) (λ (x : parts.Part). x.id == id) t.parts (λ x same. eq-eqb x.id id same) (or_false _ _ keeps.new).0)) (known_space t space (and_true _ _ named).0))
-
-true_both : (a b : Bool) → a ≡ true → b ≡ true → (a && b) ≡ true
-true_both a b x y = ap (λ c. c && b) x ∙ y
+    let named = not_false _ (or_parts _ _ keeps.known).0 in
+    subst IsGrown (sym e) (grown_part d (part_decl p) grown (all_map (λ (x : PartDecl). x.id ≢ id) part_decl t.parts (none_like (λ (x : parts.Part). x.id ≡ id) (λ (x : parts.Part). x.id == id) t.parts (λ x same. eq-eqb x.id id same) (or_parts _ _ keeps.new).0)) (known_space t space (and_parts _ _ named).0))
 
 sub_step : (t : Tables) (line part colour space : ℕ) → IsGrown (decls_of t) → Keeps t (Sub part colour space) → IsGrown (decls_of (with_record t line (Sub part colour space)))
 sub_step t line part colour space grown keeps =
     let d = decls_of t in
     let s : subs.Sub = record { part = part; colour = colour; space = space } in
     let e : decls_of (with_record t line (Sub part colour space)) ≡ with_sub d (sub_decl s) = ap (λ (xs : List SubDecl). record d { subs = xs }) (map-append sub_decl t.subs (s ∷ [])) in
-    let named = and_true _ _ (not_false _ (or_false _ _ keeps.known).0) in
-    let late = or_false _ _ keeps.early in
+    let named = and_parts _ _ (not_false _ (or_parts _ _ keeps.known).0) in
+    let late = or_parts _ _ keeps.early in
     let may : MaySub d (sub_decl s) = record {
       part = known_part t part named.0;
-      space = known_space t space (and_true _ _ named.1).0;
-      step = all_map (λ (u : SubDecl). step_of u ≢ step_of (sub_decl s)) sub_decl t.subs (none_like (λ (x : subs.Sub). step_of (sub_decl x) ≡ step_of (sub_decl s)) (λ (x : subs.Sub). (x.part == part) && (x.colour == colour)) t.subs (λ x same. true_both (x.part == part) (x.colour == colour) (eq-eqb x.part part (ap (λ (u : Step). u.part) same)) (eq-eqb x.colour colour (ap (λ (u : Step). u.colour) same))) keeps.new);
+      space = known_space t space (and_parts _ _ named.1).0;
+      step = all_map (λ (u : SubDecl). step_of u ≢ step_of (sub_decl s)) sub_decl t.subs (none_like (λ (x : subs.Sub). step_of (sub_decl x) ≡ step_of (sub_decl s)) (λ (x : subs.Sub). (x.part == part) && (x.colour == colour)) t.subs (λ x same. and_from (x.part == part) (x.colour == colour) (eq-eqb x.part part (ap (λ (u : Step). u.part) same)) (eq-eqb x.colour colour (ap (λ (u : Step). u.colour) same))) keeps.new);
       sub = all_map (λ (u : SubDecl). u.space ≢ space) sub_decl t.subs (none_like (λ (x : subs.Sub). x.space ≡ space) (λ (x : subs.Sub). x.space == space) t.subs (λ x same. eq-eqb x.space space same) keeps.once);
       whole = all_map (λ (p : PartDecl). p.space ≢ space) part_decl t.parts (none_like (λ (p : parts.Part). p.space ≡ space) (λ (p : parts.Part). p.space == space) t.parts (λ p same. eq-eqb p.space space same) late.0);
       depth = depth_told t part colour space grown keeps.shallow;
@@ -124,20 +111,4 @@ pub grown_with : (t : Tables) (line : ℕ) (r : Record) → IsGrown (decls_of t)
 grown_with t line (Ispace id set) grown keeps = space_step t line id set grown keeps
 grown_with t line (Part id space disjoint) grown keeps = part_step t line id space disjoint grown keeps
 grown_with t line (Sub part colour space) grown keeps = sub_step t line part colour space grown keeps
-grown_with t line (Header v) grown keeps = grown
-grown_with t line (Fields id fields) grown keeps = grown
-grown_with t line (Tree id space fspace) grown keeps = grown
-grown_with t line (Redop id) grown keeps = grown
-grown_with t line (Task id) grown keeps = grown
-grown_with t line (Req task tree space fields access atomic) grown keeps = grown
-grown_with t line (Fill id tree space fields n) grown keeps = grown
-grown_with t line (Serial ids) grown keeps = grown
-grown_with t line (Inst id tree space fields kind) grown keeps = grown
-grown_with t line (Map task number fields inst) grown keeps = grown
-grown_with t line (Run task done waits) grown keeps = grown
-grown_with t line (Copy src dst space fields done waits) grown keeps = grown
-grown_with t line (Put inst space fields n done waits) grown keeps = grown
-grown_with t line (Reset inst space fields done waits) grown keeps = grown
-grown_with t line (Fold src dst space fields done waits) grown keeps = grown
-grown_with t line (Merge done waits) grown keeps = grown
-grown_with t line (End n) grown keeps = grown
+grown_with t line _ grown keeps = grown

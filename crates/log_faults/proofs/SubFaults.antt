@@ -3,16 +3,16 @@ use Rattle.std.proofs.Common.{◌≡◌, ℕ, zero, suc, ◌<◌, ◌==◌, Bool
 use Rattle.std.specs.Bool.{Decides}
 use Rattle.std.specs.List.{list_any}
 use Rattle.std.specs.Option.{option_map, option_map_or}
-use Rattle.std.proofs.lemmas.Bool.{cases_Bool, eqb-true, false≢true}
+use Rattle.std.proofs.lemmas.Bool.{and_parts, cases_Bool, eqb-true, false≢true}
 use Rattle.std.proofs.lemmas.Option.{none-some, same_Some, slice_get_within}
 use Rattle.spy_grammar.specs.declared.record.Record.TheVariants.{Sub}
 use Rattle.region_tree.specs.declared.decls.PartDecl.{PartDecl}
 use Rattle.region_tree.specs.declared.decls.SubDecl.{SubDecl}
 use Rattle.region_tree.specs.Regions as regions
-use Rattle.region_tree.specs.Regions.{Regions, space_of, part_of, whole_of, points_of}
+use Rattle.region_tree.specs.Regions.{space_of, part_of, space_points}
 use Rattle.region_tree.specs.Faults.{IsOutside, MeetsEarlier, points_cut, is_disjoint}
 use Rattle.region_tree.specs.Tied.{IsTied}
-use Rattle.region_tree.proofs.Firsts.{find_some, all_at}
+use Rattle.region_tree.proofs.lemmas.Firsts.{find_some, all_at}
 use Rattle.semantics.specs.declared.tables.Part as parts
 use Rattle.semantics.specs.declared.tables.Sub as subs
 use Rattle.semantics.specs.Tables.{Tables, Space}
@@ -55,7 +55,7 @@ points_seen : (o : Option Space) → option_map_or (λ (s : regions.Space). s.po
 points_seen None = refl
 points_seen (Some s) = refl
 
-pub points_is : (t : Tables) (id : ℕ) → points_of (decls_of t) id ≡ points_in t id
+pub points_is : (t : Tables) (id : ℕ) → space_points (decls_of t) id ≡ points_in t id
 points_is t id = ap (λ (o : Option regions.Space). option_map_or (λ (s : regions.Space). s.points) o []) (space_is t id) ∙ points_seen (find (λ (s : Space). s.id == id) t.spaces)
 
 some_map : {X Y : Type 0} (f : X → Y) (o : Option X) → IsSome (option_map f o) → IsSome o
@@ -80,7 +80,7 @@ pub record IsNext (t u : Tables) (s : subs.Sub) : Type 0 where
   pub has_space : list_any (λ (x : Space). x.id == s.space) t.spaces ≡ true
   pub at : slice_get u.subs (length t.subs) ≡ Some s
 
-points_then : (t u : Tables) (s : subs.Sub) → IsNext t u s → (id : ℕ) → list_any (λ (x : Space). x.id == id) t.spaces ≡ true → points_of (decls_of u) id ≡ points_in t id
+points_then : (t u : Tables) (s : subs.Sub) → IsNext t u s → (id : ℕ) → list_any (λ (x : Space). x.id == id) t.spaces ≡ true → space_points (decls_of u) id ≡ points_in t id
 points_then t u s next id has = points_is u id ∙ points_kept t u next.extends id has
 
 -- The partition, and the space that it splits.
@@ -89,7 +89,7 @@ whole_then t u s next =
     let found = found_any (λ (p : parts.Part). p.id == s.part) t.parts next.has_part in
     let here = find_some (λ (p : parts.Part). p.id == s.part) t.parts found.0 found.1 in
     let declared = declared_is t (found.0).space (all_at (λ (p : PartDecl). IsSome (space_of (decls_of t) p.space)) (decls_of t).parts here.0 (part_decl found.0) next.tied.wholes_declared (at_map part_decl t.parts here.0 found.0 here.1)) in
-    ap (λ (o : Option ℕ). option_map_or (points_of (decls_of u)) o []) (whole_is u s.part ∙ ap (option_map (λ (p : parts.Part). p.space)) (part_kept t u next.extends s.part next.has_part ∙ found.1))
+    ap (λ (o : Option ℕ). option_map_or (space_points (decls_of u)) o []) (whole_is u s.part ∙ ap (option_map (λ (p : parts.Part). p.space)) (part_kept t u next.extends s.part next.has_part ∙ found.1))
     ∙ points_then t u s next (found.0).space declared
     ∙ sym (ap (λ (o : Option parts.Part). option_map_or (λ (p : parts.Part). points_in t p.space) o []) found.1)
 
@@ -105,21 +105,16 @@ Decides-is_outside t u s next =
     let P = points_in t s.space in
     let Q = option_map_or (λ (p : parts.Part). points_in t p.space) (part_at t s.part) [] in
     let here = at_map sub_decl u.subs (length t.subs) s next.at in
-    let is_P : points_of (decls_of u) s.space ≡ P = points_then t u s next s.space next.has_space in
+    let is_P : space_points (decls_of u) s.space ≡ P = points_then t u s next s.space next.has_space in
     let is_Q : points_cut (decls_of u) s.part ≡ Q = whole_then t u s next in (
       λ e. let h = (Decides-outside P Q).0 e in (h.0, (sub_decl s, here, subst (λ (xs : List ℕ). Contains xs h.0) (sym is_P) h.1, λ has. h.2 (subst (λ (xs : List ℕ). Contains xs h.0) is_Q has))),
       λ h.
           let out = h.1 in
           let same : out.0 ≡ sub_decl s = same_Some out.0 (sub_decl s) (sym out.1 ∙ here) in
-          let has = subst (λ (x : SubDecl). Contains (points_of (decls_of u) x.space) h.0) same out.2 in
+          let has = subst (λ (x : SubDecl). Contains (space_points (decls_of u) x.space) h.0) same out.2 in
           let not = subst (λ (x : SubDecl). ¬ Contains (points_cut (decls_of u) x.part) h.0) same out.3 in
           (Decides-outside P Q).1 (h.0, subst (λ (xs : List ℕ). Contains xs h.0) is_P has, λ q. not (subst (λ (xs : List ℕ). Contains xs h.0) (sym is_Q) q)),
     )
-
-and_true : (a b : Bool) → (a && b) ≡ true → (a ≡ true) × (b ≡ true)
-and_true true true e = (refl, refl)
-and_true true false e = absurd (false≢true e)
-and_true false b e = absurd (false≢true e)
 
 true_and : (a b : Bool) → a ≡ true → b ≡ true → (a && b) ≡ true
 true_and a b x y = ap (λ c. c && b) x ∙ y
@@ -132,16 +127,16 @@ Decides-is_not_disjoint t u s next =
     let dis = option_map_or (λ (p : parts.Part). p.disjoint) (part_at t s.part) false in
     let test : subs.Sub → Bool = λ (x : subs.Sub). (x.part == s.part) && meets P (points_in t x.space) in
     let here = at_map sub_decl u.subs n s next.at in
-    let is_P : points_of (decls_of u) s.space ≡ P = points_then t u s next s.space next.has_space in
-    let points_at : (j : ℕ) (x : subs.Sub) → slice_get t.subs j ≡ Some x → points_of (decls_of u) x.space ≡ points_in t x.space =
+    let is_P : space_points (decls_of u) s.space ≡ P = points_then t u s next s.space next.has_space in
+    let points_at : (j : ℕ) (x : subs.Sub) → slice_get t.subs j ≡ Some x → space_points (decls_of u) x.space ≡ points_in t x.space =
     λ j x at. points_then t u s next x.space (declared_is t x.space (all_at (λ (y : SubDecl). IsSome (space_of (decls_of t) y.space)) (decls_of t).subs j (sub_decl x) next.tied.spaces_declared (at_map sub_decl t.subs j x at)))
     in
     let among : (j : ℕ) → j < n → slice_get u.subs j ≡ slice_get t.subs j = λ j lt. ap (λ (xs : List subs.Sub). slice_get xs j) next.extends.subs ∙ at_left t.subs next.extends.more_subs j lt in (
       λ e.
-          let both = and_true dis (list_any test t.subs) e in
+          let both = and_parts dis (list_any test t.subs) e in
           let h = passing test t.subs both.1 in
           let x = h.1 in
-          let tests = and_true (x.part == s.part) (meets P (points_in t x.space)) h.3 in
+          let tests = and_parts (x.part == s.part) (meets P (points_in t x.space)) h.3 in
           let shared = (Decides-meets P (points_in t x.space)).0 tests.1 in
           let lt : h.0 < n = slice_get_within t.subs h.0 x h.2 in (
             h.0,
@@ -172,8 +167,8 @@ Decides-is_not_disjoint t u s next =
           let is_x : sub_decl x ≡ m.1 = other.2 in
           let one_part : x.part ≡ s.part = ap (λ (y : SubDecl). y.part) is_x ∙ sym c.0 ∙ ap (λ (y : SubDecl). y.part) same in
           let is_dis : dis ≡ true = sym (disjoint_then t u s next) ∙ ap (λ (y : SubDecl). is_disjoint (decls_of u) y.part) (sym same) ∙ c.1 in
-          let in_P : Contains P point = subst (λ (xs : List ℕ). Contains xs point) (ap (λ (y : SubDecl). points_of (decls_of u) y.space) same ∙ is_P) c.2 in
-          let in_x : Contains (points_in t x.space) point = subst (λ (xs : List ℕ). Contains xs point) (ap (λ (y : SubDecl). points_of (decls_of u) y.space) (sym is_x) ∙ points_at h.0 x other.1) c.3 in
+          let in_P : Contains P point = subst (λ (xs : List ℕ). Contains xs point) (ap (λ (y : SubDecl). space_points (decls_of u) y.space) same ∙ is_P) c.2 in
+          let in_x : Contains (points_in t x.space) point = subst (λ (xs : List ℕ). Contains xs point) (ap (λ (y : SubDecl). space_points (decls_of u) y.space) (sym is_x) ∙ points_at h.0 x other.1) c.3 in
           true_and dis (list_any test t.subs) is_dis (passes test t.subs h.0 x other.1 (true_and (x.part == s.part) (meets P (points_in t x.space)) (eq-eqb x.part s.part one_part) ((Decides-meets P (points_in t x.space)).1 (point, in_P, in_x)))),
     )
   where

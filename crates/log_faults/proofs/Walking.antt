@@ -3,7 +3,7 @@ use Rattle.std.proofs.Common.{◌≡◌, ℕ, ◌+◌, ◌<◌, ◌≤◌, List,
 use Rattle.std.specs.Option.{option_or}
 use Rattle.std.proofs.lemmas.Bool.{false≢true}
 use Rattle.std.proofs.lemmas.Option.{slice_get-get_or}
-use Rattle.std.proofs.lemmas.List.{take_more, map-append, length-map, length-take}
+use Rattle.std.proofs.lemmas.List.{append-nil, take_more, map-append, length-map, length-take}
 use Rattle.std.proofs.lemmas.List.Sums.{fold-append}
 use Rattle.spy_grammar.specs.declared.code.Code.{Code}
 use Rattle.spy_grammar.specs.declared.code.Code.TheVariants as codes
@@ -53,11 +53,7 @@ may_count log es t r e =
 
 -- One record more.
 pub keep_more : (log : List Record) (earlier xs : List Lined) (l : Lined) → Keep log earlier xs → other_broken log (earlier ++ xs) l.rec ≡ None → Keep log earlier (xs ++ l ∷ [])
-keep_more log earlier [] l keep none = (subst (λ (ls : List Lined). other_broken log ls l.rec ≡ None) (nil earlier) none, tt)
-  where
-    nil : (xs : List Lined) → xs ++ [] ≡ xs
-    nil [] = refl
-    nil (x ∷ xs) = ap (λ (ys : List Lined). x ∷ ys) (nil xs)
+keep_more log earlier [] l keep none = (subst (λ (ls : List Lined). other_broken log ls l.rec ≡ None) (append-nil earlier) none, tt)
 keep_more log earlier (x ∷ xs) l keep none =
     (keep.0, keep_more log (earlier ++ x ∷ []) xs l keep.1 (subst (λ (ls : List Lined). other_broken log ls l.rec ≡ None) (sym (append_assoc earlier (x ∷ []) xs)) none))
 

@@ -1,4 +1,4 @@
 pub mod Decls
-pub mod Lines
+pub mod Ends
 pub mod SubLines
 pub mod Walk

@@ -3,12 +3,12 @@
 ghost use Rattle.std.specs.Prelude.{◌≡◌, ◌<◌, ◌-◌, ◌^◌, ℕ, All, [], None, Some, Err, length, IfOk, OnOk};
 ghost use Rattle.spy_grammar.specs.declared.code.Code.{Code};
 ghost use Rattle.spy_grammar.specs.Spelling.{Good};
-ghost use Rattle.semantics.specs.Records.{records_of};
+ghost use Rattle.semantics.specs.Records.{records_of, AreLines};
 ghost use Rattle.semantics.specs.Tables.{no_tables, tables_of};
 ghost use Rattle.semantics.specs.Faults.{at_line, declaration_fault, records_fault};
 ghost use Rattle.log_tables.specs.Views.{Ascends};
 ghost use Rattle.log_faults.specs.Decls.{decls_of};
-ghost use Rattle.log_faults.specs.Lines.{AreLines};
+ghost use Rattle.log_faults.specs.Ends.{IsFaultOf};
 
 use crate::decl_end::DeclEnd;
 use crate::declared::Declarations;
@@ -37,7 +37,7 @@ fn grown_forest<'a, P: ArenaSet<'a>>(
     ensures tables { OnOk result (draft.new ≡ tables_of records.now) }
     ensures forest { IfOk result (λ forest. forest ≡ decls_of (tables_of records.now)) }
     ensures faultless { OnOk result (records_fault (records_of records.now) [] records.now ≡ None) }
-    ensures fault { (line : ℕ) (code : Code) → result ≡ Err (DeclEnd.Fault line code) → records_fault (records_of records.now) [] records.now ≡ Some (at_line code line) }
+    ensures fault { IsFaultOf result (records_fault (records_of records.now) [] records.now) }
 {
     let whole = WholeLog::new(alloc, records)?;
     let mut tally = Tally::new(alloc);
@@ -54,7 +54,7 @@ fn grown_forest<'a, P: ArenaSet<'a>>(
 
 /// What the records of a log declare, or the fault of its frame and records that is shown. `lines` is the number of lines.
 ///
-/// Each record has a spelling, and the lines on which the records stand ascend. Want of memory is the only other answer.
+/// Each record has a spelling, and the lines on which the records stand ascend. That memory ran out is the only other answer.
 pub fn declarations<'a, P: ArenaSet<'a>>(
     alloc: Global,
     bump: &'a Bump,
@@ -66,7 +66,8 @@ pub fn declarations<'a, P: ArenaSet<'a>>(
     ensures tables { IfOk result (λ d. d.draft ≡ tables_of records.now) }
     ensures forest { IfOk result (λ d. d.forest ≡ decls_of (tables_of records.now)) }
     ensures faultless { OnOk result (declaration_fault lines records.now ≡ None) }
-    ensures fault { (line : ℕ) (code : Code) → result ≡ Err (DeclEnd.Fault line code) → declaration_fault lines records.now ≡ Some (at_line code line) }
+    ensures fault { (line : ℕ) (code : Code) → result ≡ Err (DeclEnd.Fault line code)
+        → declaration_fault lines records.now ≡ Some (at_line code line) }
 {
     if let Some(fault) = frame_fault(records, lines) {
         return Err(DeclEnd::Fault {

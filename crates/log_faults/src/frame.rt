@@ -1,6 +1,6 @@
 //! The frame of a log: its header, its end, and the count that the end gives.
 
-ghost use Rattle.std.specs.Prelude.{◌≡◌, ◌<◌, ◌-◌, ◌+◌, ◌^◌, length, drop, true};
+ghost use Rattle.std.specs.Prelude.{◌≡◌, ◌<◌, ◌-◌, ◌+◌, ◌^◌, true};
 ghost use Rattle.semantics.specs.Faults.{opens, is_header, is_end, miscounts, first_with, header_fault, ended_fault, count_fault};
 ghost use Rattle.spy_grammar.specs.declared.code.Code.TheVariants as codes;
 ghost use Rattle.std.specs.Option.{option_or};
@@ -124,7 +124,8 @@ fn count_fault(records: &[Lined]) -> Option<Fault>
 /// The fault of the frame: of the header, else of the end, else of the count.
 pub(crate) fn frame_fault(records: &[Lined], lines: u32) -> Option<Fault>
     requires { lines < 2 ^ 32 - 1 }
-    ensures { result ≡ option_or (header_fault lines records.now) (option_or (ended_fault lines records.now) (count_fault records.now)) }
+    ensures { result ≡ option_or (header_fault lines records.now)
+        (option_or (ended_fault lines records.now) (count_fault records.now)) }
 {
     let header = header_fault(records, lines);
     if header.is_some() {

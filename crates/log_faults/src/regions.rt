@@ -1,11 +1,10 @@
 //! The forest that a log declares, or the line of the first subspace that breaks a rule of it.
 
-ghost use Rattle.std.specs.Prelude.{◌≡◌, ◌<◌, ℕ, List, [], IfOk, OnOk, length, map, slice_get};
-ghost use Rattle.spy_grammar.specs.declared.code.Code.{Code};
+ghost use Rattle.std.specs.Prelude.{◌≡◌, ◌<◌, List, [], IfOk, OnOk, length, map, slice_get};
 ghost use Rattle.spy_grammar.specs.declared.record.Record.{Record};
 ghost use Rattle.semantics.specs.Tables.{tables_of};
-ghost use Rattle.semantics.specs.Faults.{at_line};
 ghost use Rattle.log_faults.specs.Decls.{decls_of, space_kept, part_decl, sub_decl};
+ghost use Rattle.log_faults.specs.Ends.{IsFaultOf};
 ghost use Rattle.log_faults.specs.SubLines.{sub_line, sub_lines};
 ghost use Rattle.log_faults.specs.Walk.{Keep, spaces_fault};
 
@@ -112,7 +111,7 @@ pub(crate) fn placed_forest<'a, P: ArenaSet<'a>>(
     requires keep { (log : List Record) × Keep log [] records.now }
     ensures forest { IfOk result (λ forest. forest ≡ decls_of draft.now) }
     ensures faultless { OnOk result (spaces_fault [] records.now ≡ None) }
-    ensures fault { (line : ℕ) (code : Code) → result ≡ Err (DeclEnd.Fault line code) → spaces_fault [] records.now ≡ Some (at_line code line) }
+    ensures fault { IsFaultOf result (spaces_fault [] records.now) }
 {
     declarations_grow();
     let decls = decls(alloc, draft)?;

@@ -1,9 +1,8 @@
 //! The walk over the records of a log, up to the first that breaks a rule. The two rules of the forest are left out: the forest judges all subspaces at once.
 
-ghost use Rattle.std.specs.Prelude.{◌≡◌, ◌<◌, ◌-◌, ◌^◌, ℕ, All, List, [], length, IfOk};
+ghost use Rattle.std.specs.Prelude.{◌≡◌, ◌<◌, ◌-◌, ◌^◌, All, [], length, IfOk};
 ghost use Rattle.log_tables.specs.Views.{Ascends};
-ghost use Rattle.log_rules.specs.Tallied.{IsTally};
-ghost use Rattle.spy_grammar.specs.declared.record.Record.{Record};
+ghost use Rattle.log_rules.specs.Tallied.{IfTally, IsTally};
 ghost use Rattle.semantics.specs.Faults.{first_broken};
 ghost use Rattle.semantics.specs.Records.{records_of};
 ghost use Rattle.semantics.specs.Tables.{no_tables};
@@ -36,7 +35,8 @@ fn broken_name<P: PointSet>(
     before: usize,
     rec: &Record,
 ) -> Option<Code>
-    ensures { (earlier : List Record) → IsTally earlier draft.now tally.now → before ≡ length earlier → result ≡ first_broken (tried_before earlier draft.now rec.now) }
+    ensures { IfTally draft.now tally.now (λ earlier. before ≡ length earlier
+        → result ≡ first_broken (tried_before earlier draft.now rec.now)) }
 {
     if is_late(before, rec) {
         Some(Code::TooManyRecords)
@@ -60,7 +60,8 @@ fn broken_name<P: PointSet>(
 /// The first rule on trees, fields and privileges that a record breaks.
 fn broken_use<P: PointSet>(draft: &Draft<P>, tally: &Tally, rec: &Record) -> Option<Code>
     requires { Ascends rec.now }
-    ensures { (earlier : List Record) → IsTally earlier draft.now tally.now → result ≡ first_broken (tried_of_uses draft.now rec.now) }
+    ensures { IfTally draft.now tally.now (λ earlier.
+        result ≡ first_broken (tried_of_uses draft.now rec.now)) }
 {
     if is_no_root(draft, rec) {
         Some(Code::NotRoot)
@@ -100,7 +101,8 @@ fn broken_run<P: PointSet>(
     tally: &Tally,
     rec: &Record,
 ) -> Result<Option<Code>, AllocError>
-    ensures { (earlier : List Record) → IsTally earlier draft.now tally.now → IfOk result (λ code. code ≡ first_broken (tried_of_runs whole.now draft.now rec.now)) }
+    ensures { IfTally draft.now tally.now (λ earlier.
+        IfOk result (λ code. code ≡ first_broken (tried_of_runs whole.now draft.now rec.now))) }
 {
     if has_no_run(whole, rec) {
         Ok(Some(Code::NoRun))
@@ -124,7 +126,8 @@ fn broken_limit<P: PointSet>(
     tally: &Tally,
     rec: &Record,
 ) -> Result<Option<Code>, AllocError>
-    ensures { (earlier : List Record) → IsTally earlier draft.now tally.now → IfOk result (λ code. code ≡ first_broken (tried_of_limits earlier draft.now rec.now)) }
+    ensures { IfTally draft.now tally.now (λ earlier.
+        IfOk result (λ code. code ≡ first_broken (tried_of_limits earlier draft.now rec.now))) }
 {
     if has_many_cells(draft, tally, rec) {
         Ok(Some(Code::TooManyCells))
@@ -147,7 +150,8 @@ fn broken<P: PointSet>(
     rec: &Record,
 ) -> Result<Option<Code>, AllocError>
     requires { Ascends rec.now }
-    ensures { (earlier : List Record) → IsTally earlier draft.now tally.now → before ≡ length earlier → IfOk result (λ code. code ≡ broken_of whole.now earlier draft.now rec.now) }
+    ensures { IfTally draft.now tally.now (λ earlier. before ≡ length earlier
+        → IfOk result (λ code. code ≡ broken_of whole.now earlier draft.now rec.now)) }
 {
     let of_name = broken_name(draft, tally, before, rec);
     let of_use = broken_use(draft, tally, rec);

@@ -1,4 +1,4 @@
-pub mod Each
-pub mod Numbered
-pub mod Spelled
-pub mod Counted
+mod Each
+mod Numbered
+mod Spelled
+mod Counted

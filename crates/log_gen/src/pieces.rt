@@ -89,7 +89,8 @@ fn push_halo(alloc: Global, records: &mut Vec<Record>, n: u32, i: u32) -> Result
 /// Adds the pieces, each with a point of each neighbour.
 pub fn push_halos(alloc: Global, records: &mut Vec<Record>, n: u32) -> Result<(), AllocError>
     requires few { n ≤ 500 }
-    ensures { OnOk result (records.new.items ≡ records.old.items ++ stencils.for_each n (stencils.halo_space n)) }
+    ensures { OnOk result (records.new.items
+        ≡ records.old.items ++ stencils.for_each n (stencils.halo_space n)) }
 {
     for i in 0..n {
         push_halo(alloc, records, n, i)?;
@@ -121,7 +122,8 @@ fn push_boundary(alloc: Global, records: &mut Vec<Record>, n: u32, j: u32) -> Re
 pub fn push_boundaries(alloc: Global, records: &mut Vec<Record>, n: u32) -> Result<(), AllocError>
     requires some { 1 ≤ n }
     requires few { n ≤ 500 }
-    ensures { OnOk result (records.new.items ≡ records.old.items ++ stencils.for_each (n - 1) (stencils.boundary_spaces n)) }
+    ensures { OnOk result (records.new.items
+        ≡ records.old.items ++ stencils.for_each (n - 1) (stencils.boundary_spaces n)) }
 {
     for j in 0..n - 1 {
         push_boundary(alloc, records, n, j)?;

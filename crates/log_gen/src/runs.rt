@@ -19,7 +19,8 @@ fn push_req(
     field: u32,
     access: PrivWord,
 ) -> Result<(), AllocError>
-    ensures { OnOk result (records.new.items ≡ records.old.items ++ rows.Req task 1 space (field ∷ []) access false ∷ []) }
+    ensures { OnOk result (records.new.items
+        ≡ records.old.items ++ rows.Req task 1 space (field ∷ []) access false ∷ []) }
 {
     let fields = numbers(alloc, &[field])?;
     records.push(Record::Req {
@@ -91,7 +92,8 @@ fn push_stencil_runs(
 ) -> Result<(), AllocError>
     requires few { n ≤ 500 }
     requires step { s < 10 }
-    ensures { OnOk result (records.new.items ≡ records.old.items ++ stencils.for_each n (stencils.stencil_run n s)) }
+    ensures { OnOk result (records.new.items
+        ≡ records.old.items ++ stencils.for_each n (stencils.stencil_run n s)) }
 {
     for i in 0..n {
         push_stencil_run(alloc, records, n, s, i)?;
@@ -136,7 +138,8 @@ fn push_update_runs(
 ) -> Result<(), AllocError>
     requires few { n ≤ 500 }
     requires step { s < 10 }
-    ensures { OnOk result (records.new.items ≡ records.old.items ++ stencils.for_each n (stencils.update_run n s)) }
+    ensures { OnOk result (records.new.items
+        ≡ records.old.items ++ stencils.for_each n (stencils.update_run n s)) }
 {
     for i in 0..n {
         push_update_run(alloc, records, n, s, i)?;
@@ -219,7 +222,8 @@ fn push_copies(alloc: Global, records: &mut Vec<Record>, n: u32, s: u32) -> Resu
     requires some { 1 ≤ n }
     requires few { n ≤ 500 }
     requires step { s < 10 }
-    ensures { OnOk result (records.new.items ≡ records.old.items ++ stencils.for_each (n - 1) (stencils.copies n s)) }
+    ensures { OnOk result (records.new.items
+        ≡ records.old.items ++ stencils.for_each (n - 1) (stencils.copies n s)) }
 {
     for j in 0..n - 1 {
         push_copies_over(alloc, records, n, s, j)?;

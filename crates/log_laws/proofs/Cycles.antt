@@ -10,10 +10,10 @@ use Rattle.std.proofs.lemmas.Option.{gets, slice_get-get_or, same_Some}
 use Rattle.semantics.specs.Points.{is_in}
 use Rattle.semantics.specs.Events.{Node, WaitsOn, IsChain, IsCycle, AreLinked}
 use Rattle.semantics.specs.ReplayOrder.{positions, waits_at, has_event, replay_order, is_stuck, stuck_nodes, stuck_wait, up_to, walk, from_least, cycle_from, shown_cycle}
-use Rattle.log_laws.proofs.Members.{Member, contains_of, member_filter, any_at, any_found, is_in_of, member_in, find_any, found_at}
-use Rattle.log_laws.proofs.Apart.{Apart, all_pairs, number_within, number_in}
-use Rattle.log_laws.proofs.Lists.{split_at, one_fails, few}
-use Rattle.log_laws.proofs.Rounds.{is_met, not_before_itself, replay, listed}
+use Rattle.log_laws.proofs.lemmas.Members.{Member, contains_of, member_filter, any_at, any_found, is_in_of, member_in, find_any, found_at}
+use Rattle.log_laws.proofs.lemmas.Apart.{Apart, all_pairs, number_within, number_in}
+use Rattle.log_laws.proofs.lemmas.Lists.{split_at, one_fails, few}
+use Rattle.log_laws.proofs.lemmas.Rounds.{is_met, not_before_itself, replay, listed}
 
 apart_turned : (k : ℕ) (ks : List ℕ) → AllPairs (λ a b. a ≢ b) (k ∷ ks) → AllPairs (λ a b. a ≢ b) (ks ++ k ∷ [])
 apart_turned k ks h x y d lt within e = grind (arith, common_steps, h (suc x) (suc y) d, h zero (suc x) d)

@@ -1,16 +1,9 @@
-pub mod Members
-pub mod Apart
-pub mod Lists
-pub mod Rounds
-pub mod Cycles
-pub mod Reorder
-pub mod Sane
-pub mod Admitted
-pub mod Strict
-pub mod StepLists
-pub mod Tidy
-pub mod ReadLogs
-pub mod Linked
-pub mod Listed
-pub mod SerialOrder
-pub mod Replay
+pub mod lemmas
+mod Cycles
+mod Reorder
+mod Strict
+mod ReadLogs
+mod Linked
+mod Listed
+mod SerialOrder
+mod Replay

@@ -9,9 +9,9 @@ use Rattle.semantics.specs.Tables.{tables_of}
 use Rattle.semantics.specs.Events.{Node, graph_of, AreLinked}
 use Rattle.semantics.specs.Rules.{node_of, completes}
 use Rattle.semantics.specs.declared.command.Command.{Command}
-use Rattle.log_laws.proofs.Members.{Member, member_of, contains_of, member_filter_map, filter_map_member, any_found, all_at}
-use Rattle.log_laws.proofs.Apart.{all_pairs}
-use Rattle.log_laws.proofs.Admitted.{IsFaultless, each_unbroken, events_are_completed}
+use Rattle.log_laws.proofs.lemmas.Members.{Member, member_of, contains_of, member_filter_map, filter_map_member, any_found, all_at}
+use Rattle.log_laws.proofs.lemmas.Apart.{all_pairs}
+use Rattle.log_laws.proofs.lemmas.Admitted.{IsFaultless, each_unbroken, events_are_completed}
 use Rattle.log_laws.proofs.Strict.{AreStrict}
 
 -- The nodes of a log are those of its records.

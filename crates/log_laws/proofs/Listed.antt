@@ -19,10 +19,10 @@ use Rattle.semantics.specs.SerialOrder.{listed}
 use Rattle.semantics.specs.Steps.{id_of}
 use Rattle.semantics.specs.Rules.{is_declared, item_id, names, repeats_id, has_repeat, items_listed, items_declared, is_bad_serial}
 use Rattle.semantics.specs.Faults.{records_fault}
-use Rattle.log_laws.proofs.Members.{Member, Each, each_more, member_of, member_at, member_append, map_member, member_flat, any_at, find_any, none_at, all_at, is_in_of, member_in, meets_of}
-use Rattle.log_laws.proofs.Apart.{Apart, PairsBy, pairs_append, pairs_more}
-use Rattle.log_laws.proofs.Sane.{Keeps}
-use Rattle.log_laws.proofs.Admitted.{Unbroken, by_records, keeps_of, id_is_new, serial_is_good}
+use Rattle.log_laws.proofs.lemmas.Members.{Member, Each, each_more, member_of, member_at, member_append, map_member, member_flat, any_at, find_any, none_at, all_at, is_in_of, member_in, meets_of}
+use Rattle.log_laws.proofs.lemmas.Apart.{Apart, PairsBy, pairs_append, pairs_more}
+use Rattle.log_laws.proofs.lemmas.Sane.{Keeps}
+use Rattle.log_laws.proofs.lemmas.Admitted.{Unbroken, by_records, keeps_of, id_is_new, serial_is_good}
 
 -- Whether a record lists items.
 abbrev lists : Record → Bool

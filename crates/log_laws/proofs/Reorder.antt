@@ -10,10 +10,10 @@ use Rattle.semantics.specs.Steps.{Step, steps}
 use Rattle.semantics.specs.Execution.{State, effect, sees, executed, ReadsIn}
 use Rattle.semantics.specs.Interleavings.{is_read, IsInterleaving}
 use Rattle.semantics.specs.Races.{access, conflicts, IsCalm, IsTidy, IsRaceFree}
-use Rattle.log_laws.proofs.Members.{Member, member_of, contains_of, member_left}
-use Rattle.log_laws.proofs.Apart.{PairsBy, pairs_append, pairs_from}
-use Rattle.log_laws.proofs.Lists.{split_at, pairs_parts, left_out_same}
-use Rattle.log_laws.proofs.StepLists.{MayFollow}
+use Rattle.log_laws.proofs.lemmas.Members.{Member, member_of, contains_of, member_left}
+use Rattle.log_laws.proofs.lemmas.Apart.{PairsBy, pairs_append, pairs_from}
+use Rattle.log_laws.proofs.lemmas.Lists.{split_at, pairs_parts, left_out_same}
+use Rattle.log_laws.proofs.lemmas.StepLists.{MayFollow}
 
 pub record Agrees (xs ys : List Step) : Type 0 where
   pub state : (s : State) (cell : Cell) → executed xs s cell ≡ executed ys s cell

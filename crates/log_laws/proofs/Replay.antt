@@ -1,22 +1,23 @@
 -- The steps of a log without a cycle, taken node by node in replay order, are an interleaving.
 use Rattle.std.proofs.Common.{slice_get, ◌≢◌, get_or, Contains, AllPairs, arith, ◌≡◌, ℕ, ◌<◌, inl, inr, true, false, List, [], length, sym, ap, ◌∙◌}
+use Rattle.std.specs.List.{range_with_len}
 use Rattle.std.proofs.lemmas.Bool.{true≢false, false_from_ne_true}
 use Rattle.std.proofs.lemmas.List.{length-map}
 use Rattle.semantics.specs.declared.moves.Move.{Move}
 use Rattle.semantics.specs.declared.tables.LogNode.{LogNode}
 use Rattle.semantics.specs.declared.tables.Op.{Op}
 use Rattle.semantics.specs.declared.tables.Op.TheVariants as operations
-use Rattle.semantics.specs.Tables.{Tables, numbers_from}
+use Rattle.semantics.specs.Tables.{Tables}
 use Rattle.semantics.specs.Kinds.{reqs_of}
 use Rattle.semantics.specs.Events.{Node, Before, graph_of, IsCycle, AreLinked}
 use Rattle.semantics.specs.ReplayOrder.{replay_order, is_stuck}
 use Rattle.semantics.specs.Steps.{Step, id_of, moves_of, steps_by}
 use Rattle.semantics.specs.Interleavings.{is_read, IsInterleaving}
-use Rattle.log_laws.proofs.Members.{Member, member_of, contains_of, member_at, member_flat, flat_member, none_or_some}
-use Rattle.log_laws.proofs.Apart.{Apart, PairsBy, all_pairs, pairs_from, pairs_append, pairs_map, pairs_where, pairs_flat, number_in, number_within}
-use Rattle.log_laws.proofs.StepLists.{moves_at, steps_at, MayFollow, step_at}
-use Rattle.log_laws.proofs.Tidy.{is_of, a_read, no_read}
-use Rattle.log_laws.proofs.Rounds.{once, taken_within, in_turn, not_before_itself, replay, listed}
+use Rattle.log_laws.proofs.lemmas.Members.{Member, member_of, contains_of, member_at, member_flat, flat_member, none_or_some}
+use Rattle.log_laws.proofs.lemmas.Apart.{Apart, PairsBy, all_pairs, pairs_from, pairs_append, pairs_map, pairs_where, pairs_flat, number_in, number_within}
+use Rattle.log_laws.proofs.lemmas.StepLists.{moves_at, steps_at, MayFollow, step_at}
+use Rattle.log_laws.proofs.lemmas.Tidy.{is_of, a_read, no_read}
+use Rattle.log_laws.proofs.lemmas.Rounds.{once, taken_within, in_turn, not_before_itself, replay, listed}
 use Rattle.log_laws.proofs.Cycles.{stuck_in, stuck_cycle}
 
 -- ---- the moves of one node: reads come first
@@ -79,7 +80,7 @@ module _ (t : Tables) (linked : AreLinked (graph_of t.nodes)) (moves : (k : ℕ)
       let all : length nodes ≡ length t.nodes = length-map t.nodes _ in
       record {
         once = λ i j d lt within. (steps_in_turn i j d lt within).0;
-        in_log = among t order (numbers_from 0 (length t.nodes)) (λ k m. number_in (length t.nodes) k (rw all at (taken_within (replay nodes).taken k m)));
-        whole = among t (numbers_from 0 (length t.nodes)) order (λ k m. listed nodes k (free k (rw all (number_within (length t.nodes) k m))));
+        in_log = among t order (range_with_len 0 (length t.nodes)) (λ k m. number_in (length t.nodes) k (rw all at (taken_within (replay nodes).taken k m)));
+        whole = among t (range_with_len 0 (length t.nodes)) order (λ k m. listed nodes k (free k (rw all (number_within (length t.nodes) k m))));
         in_order = λ i j d lt within. (steps_in_turn i j d lt within).1;
       }

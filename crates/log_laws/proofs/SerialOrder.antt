@@ -1,6 +1,6 @@
 -- The serial order of a log without a broken rule has each of its items once.
 use Rattle.std.proofs.Common.{◌≡◌, ◌≢◌, ◌↔◌, ℕ, ◌<◌, ◌==◌, true, List, [], length, map, sym, ap, ◌∙◌, subst, arith, Some, None, slice_get, get_or, false}
-use Rattle.std.specs.List.{list_any}
+use Rattle.std.specs.List.{list_any, range_with_len}
 use Rattle.std.proofs.lemmas.Bool.{eq-eqb, eqb-true, ne_eqb, cond_both}
 use Rattle.std.proofs.lemmas.Bool.Decides.{nat_tests}
 use Rattle.std.proofs.lemmas.Grind.{common_steps}
@@ -10,12 +10,12 @@ use Rattle.spy_grammar.specs.declared.record.Record.{Record}
 use Rattle.spy_grammar.specs.declared.record.Lined.{Lined}
 use Rattle.semantics.specs.declared.tables.Item.{Item}
 use Rattle.semantics.specs.Records.{records_of}
-use Rattle.semantics.specs.Tables.{Tables, place_of, numbers_from, tables_of}
+use Rattle.semantics.specs.Tables.{Tables, place_of, tables_of}
 use Rattle.semantics.specs.SerialOrder.{listed, serial}
 use Rattle.semantics.specs.Steps.{id_of}
 use Rattle.semantics.specs.Faults.{records_fault}
-use Rattle.log_laws.proofs.Members.{Member, contains_of, member_map, map_member, any_found}
-use Rattle.log_laws.proofs.Apart.{Apart, PairsBy, all_pairs, pairs_so, pairs_map, number_in, number_within, numbers_apart}
+use Rattle.log_laws.proofs.lemmas.Members.{Member, contains_of, member_map, map_member, any_found}
+use Rattle.log_laws.proofs.lemmas.Apart.{Apart, PairsBy, all_pairs, pairs_so, pairs_map, number_in, number_within, numbers_apart}
 use Rattle.log_laws.proofs.Listed.{AreListed, item_at, are_listed, each_listed}
 
 -- ---- the places of the ids of items, no two of which have one
@@ -60,7 +60,7 @@ module _ (log : List Record) (t : Tables) (h : AreListed log t) where
       sym i.2 ∙ ap (λ (i : Item). i.id) (same_Some i.0 j.0 (sym i.1 ∙ ap (slice_get t.items) same ∙ j.1)) ∙ j.2
 
   serial_has_each_by : (0 < length t.serials → (item : ℕ) → item < length t.items → Member (listed t) (id_of t item)) → HasEachBelow (length t.items) (serial t)
-  serial_has_each_by whole = cond_both (length t.serials == 0) (numbers_from 0 (length t.items)) (map (place_of t.items) (listed t)) (HasEachBelow (length t.items))
+  serial_has_each_by whole = cond_both (length t.serials == 0) (range_with_len 0 (length t.items)) (map (place_of t.items) (listed t)) (HasEachBelow (length t.items))
       (λ _. (numbers_apart 0 (length t.items), λ k. (number_within (length t.items) k, number_in (length t.items) k)))
       (λ some. (
         pairs_map (λ a b. a ≢ b) (place_of t.items) (listed t) (pairs_so (λ m n. m ≢ n) _ (listed t) (λ m n a b differ same. differ (one_place m n a b same)) h.once),

@@ -16,9 +16,9 @@ use Rattle.semantics.specs.Events.{Node, graph_of}
 use Rattle.semantics.specs.Points.{points_in}
 use Rattle.semantics.specs.Rules.{repeats_event}
 use Rattle.semantics.specs.declared.command.Command.{Command}
-use Rattle.log_laws.proofs.Members.{Each, each_more, member_map, none_at, found_at, none_or_some}
-use Rattle.log_laws.proofs.Apart.{Apart, PairsBy, pairs_more, points_apart, fields_apart}
-use Rattle.log_laws.proofs.Admitted.{IsFaultless, by_records, event_is_new}
+use Rattle.log_laws.proofs.lemmas.Members.{Each, each_more, member_map, none_at, found_at, none_or_some}
+use Rattle.log_laws.proofs.lemmas.Apart.{Apart, PairsBy, pairs_more, points_apart, fields_apart}
+use Rattle.log_laws.proofs.lemmas.Admitted.{IsFaultless, by_records, event_is_new}
 
 -- An operation has no field twice.
 abbrev pub HasFieldsApart : Op → Type 0

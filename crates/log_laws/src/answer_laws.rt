@@ -14,7 +14,8 @@ use value_terms::changes_commute;
 
 /// Two moves that conflict at no cell may change places, from any state: the state after them stays, and so does what the one reads.
 pub fn swap_law()
-    ensures state { (m n : Move) → IsCalm m n → (s : State) (cell : Cell) → effect n (effect m s) cell ≡ effect m (effect n s) cell }
+    ensures state { (m n : Move) → IsCalm m n → (s : State) (cell : Cell)
+        → effect n (effect m s) cell ≡ effect m (effect n s) cell }
     ensures sight { (m n : Move) → IsCalm m n → (s : State) → sees n (effect m s) ≡ sees n s }
 {
     changes_commute();
@@ -22,9 +23,11 @@ pub fn swap_law()
 
 /// All interleavings of a log without a race end in one state, and in all of them each step reads the same value.
 pub fn one_answer()
-    ensures state { (t : Tables) → IsTidy t → IsRaceFree t → (xs ys : List Step) → IsInterleaving t xs → IsInterleaving t ys
+    ensures state { (t : Tables) → IsTidy t → IsRaceFree t → (xs ys : List Step) → IsInterleaving t xs
+        → IsInterleaving t ys
         → (s : State) (cell : Cell) → executed xs s cell ≡ executed ys s cell }
-    ensures reads { (t : Tables) → IsTidy t → IsRaceFree t → (xs ys : List Step) → IsInterleaving t xs → IsInterleaving t ys
+    ensures reads { (t : Tables) → IsTidy t → IsRaceFree t → (xs ys : List Step) → IsInterleaving t xs
+        → IsInterleaving t ys
         → (s : State) (x : Step) (v : Value) → ReadsIn xs s x v → ReadsIn ys s x v }
 {
     swap_law();

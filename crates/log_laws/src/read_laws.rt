@@ -11,8 +11,10 @@ use spy_grammar::{spelling_is_one_line, spelling_is_read};
 
 /// The records of a log that lines hold, or that is read, are good.
 pub fn read_logs_are_good()
-    ensures held { (line : ℕ) (lines : List (List ℕ)) (log : List Lined) → Hold line lines log → AllByRecursion Good (records_of log) }
-    ensures read { (bytes : List ℕ) (log : List Lined) → Reads bytes log → AllByRecursion Good (records_of log) }
+    ensures held { (line : ℕ) (lines : List (List ℕ)) (log : List Lined) → Hold line lines log
+        → AllByRecursion Good (records_of log) }
+    ensures read { (bytes : List ℕ) (log : List Lined) → Reads bytes log
+        → AllByRecursion Good (records_of log) }
 {}
 
 /// No input holds two logs.
@@ -24,9 +26,12 @@ pub fn one_log()
 
 /// The text of the records of an input has no fault of its bytes or lines if the input has none, and holds these records and nothing else.
 pub fn printed_logs_are_read()
-    ensures fault { (bytes : List ℕ) (log : List Lined) → text_fault bytes ≡ None → Reads bytes log → text_fault (text_of (records_of log)) ≡ None }
-    ensures log { (bytes : List ℕ) (log : List Lined) → Reads bytes log → Reads (text_of (records_of log)) (lined (records_of log)) }
-    ensures records { (bytes : List ℕ) (log : List Lined) → Reads bytes log → records_of (lined (records_of log)) ≡ records_of log }
+    ensures fault { (bytes : List ℕ) (log : List Lined) → text_fault bytes ≡ None → Reads bytes log
+        → text_fault (text_of (records_of log)) ≡ None }
+    ensures log { (bytes : List ℕ) (log : List Lined) → Reads bytes log
+        → Reads (text_of (records_of log)) (lined (records_of log)) }
+    ensures records { (bytes : List ℕ) (log : List Lined) → Reads bytes log
+        → records_of (lined (records_of log)) ≡ records_of log }
 {
     read_logs_are_good();
     spelling_is_read();

@@ -24,7 +24,8 @@ use semantics::nodes_are_of_records;
 
 /// The nodes have different events, and wait on events of nodes alone.
 pub fn faultless_logs_are_linked()
-    ensures { (command : Command) (lines : ℕ) (log : List Lined) → AllByRecursion Good (records_of log) → log_fault command lines log ≡ None
+    ensures { (command : Command) (lines : ℕ) (log : List Lined) → AllByRecursion Good (records_of log)
+        → log_fault command lines log ≡ None
         → AreLinked (graph_of (tables_of log).nodes) }
 {
     nodes_are_of_records();
@@ -37,7 +38,8 @@ pub fn faultless_logs_are_tidy()
 
 /// Where there is no cycle, the steps in replay order are an interleaving: so there is one.
 pub fn replay_is_an_interleaving()
-    ensures { (lines : ℕ) (log : List Lined) → AllByRecursion Good (records_of log) → log_fault Check lines log ≡ None
+    ensures { (lines : ℕ) (log : List Lined) → AllByRecursion Good (records_of log)
+        → log_fault Check lines log ≡ None
         → HasNoCycle (tables_of log) → IsInterleaving (tables_of log) (replay_steps (tables_of log)) }
 {
     nodes_are_of_records();
@@ -45,10 +47,14 @@ pub fn replay_is_an_interleaving()
 
 /// Where there is no race, all interleavings end in one state, and in all of them each step reads the same value.
 pub fn faultless_logs_have_one_answer()
-    ensures state { (lines : ℕ) (log : List Lined) → log_fault Check lines log ≡ None → IsRaceFree (tables_of log) → (xs ys : List Step)
-        → IsInterleaving (tables_of log) xs → IsInterleaving (tables_of log) ys → (s : State) (cell : Cell) → executed xs s cell ≡ executed ys s cell }
-    ensures reads { (lines : ℕ) (log : List Lined) → log_fault Check lines log ≡ None → IsRaceFree (tables_of log) → (xs ys : List Step)
-        → IsInterleaving (tables_of log) xs → IsInterleaving (tables_of log) ys → (s : State) (x : Step) (v : Value) → ReadsIn xs s x v → ReadsIn ys s x v }
+    ensures state { (lines : ℕ) (log : List Lined) → log_fault Check lines log ≡ None
+        → IsRaceFree (tables_of log) → (xs ys : List Step)
+        → IsInterleaving (tables_of log) xs → IsInterleaving (tables_of log) ys → (s : State) (cell : Cell)
+        → executed xs s cell ≡ executed ys s cell }
+    ensures reads { (lines : ℕ) (log : List Lined) → log_fault Check lines log ≡ None
+        → IsRaceFree (tables_of log) → (xs ys : List Step)
+        → IsInterleaving (tables_of log) xs → IsInterleaving (tables_of log) ys
+        → (s : State) (x : Step) (v : Value) → ReadsIn xs s x v → ReadsIn ys s x v }
 {
     faultless_logs_are_tidy();
     one_answer();

@@ -2,7 +2,7 @@
 use Rattle.std.proofs.Common.{◌≡◌, ℕ, ◌+◌, ◌<◌, ◌==◌, Bool, true, false, not, ◌&&◌, ◌||◌, cond, List, [], ◌∷◌, take, length, get_or, Option, Some, None, is_some, refl, sym, ap, ◌∙◌, inl, inr}
 use Rattle.std.specs.List.{list_any}
 use Rattle.std.specs.Option.{option_map, option_map_or}
-use Rattle.std.proofs.lemmas.Bool.{cases_Bool, eqb-true}
+use Rattle.std.proofs.lemmas.Bool.{and_parts, cases_Bool, eqb-true}
 use Rattle.std.proofs.lemmas.List.Folds.{list_any_more}
 use Rattle.std.proofs.lemmas.List.Sums.{length-filter}
 use Rattle.privilege.specs.declared.kinds.Priv.{Priv}
@@ -16,21 +16,11 @@ use Rattle.semantics.specs.Reads.{req_at}
 use Rattle.log_rules.specs.declared.claims.OwnPlace.{OwnPlace}
 use Rattle.log_rules.specs.declared.claims.Claims.{Claims}
 use Rattle.log_rules.specs.Own.{AreClaims, clashes, claims_at, clashes_with, clashes_own, first_clashes, req_clashes_at, clashes_at, first_clashes_at, clashes_in, clashes_row, same_place, claimed}
+use Rattle.log_rules.proofs.Booleans.{or_false, or_assoc}
 use Rattle.log_rules.proofs.Members.{apart, meets_turned}
 use Rattle.log_rules.proofs.ListTests.{list_any-alike, list_any-false, list_any-and, list_any-or, list_any-list_any, is_some-find, find-none}
 
 -- Places that are one.
-pub and_left : (a b : Bool) → (a && b) ≡ true → a ≡ true
-and_left true b h = refl
-and_left false b h = h
-
-pub and_right : (a b : Bool) → (a && b) ≡ true → b ≡ true
-and_right true b h = h
-and_right false b h = absurd (no h)
-  where
-    no : false ≡ true → ⊥
-    no e = cc
-
 place_of_parts : (i j s t p q f g : ℕ) → i ≡ j → s ≡ t → p ≡ q → f ≡ g → (let x : OwnPlace = record { item = i; tree = s; point = p; field = f } in x) ≡ record { item = j; tree = t; point = q; field = g }
 place_of_parts i j s t p q f g a b c d = cc
 
@@ -38,17 +28,13 @@ same_place-true : (j k : OwnPlace) → same_place j k ≡ true → j ≡ k
 same_place-true j k h =
     let point = (j.point == k.point) && (j.field == k.field) in
     let tree = (j.tree == k.tree) && point in
-    let rest = and_right (j.item == k.item) tree h in
-    let last = and_right (j.tree == k.tree) point rest in
+    let rest = (and_parts (j.item == k.item) tree h).1 in
+    let last = (and_parts (j.tree == k.tree) point rest).1 in
     place_of_parts j.item k.item j.tree k.tree j.point k.point j.field k.field
-    (eqb-true j.item k.item (and_left (j.item == k.item) tree h))
-    (eqb-true j.tree k.tree (and_left (j.tree == k.tree) point rest))
-    (eqb-true j.point k.point (and_left (j.point == k.point) (j.field == k.field) last))
-    (eqb-true j.field k.field (and_right (j.point == k.point) (j.field == k.field) last))
-
-or_false : (b : Bool) → b ≡ (b || false)
-or_false true = refl
-or_false false = refl
+    (eqb-true j.item k.item (and_parts (j.item == k.item) tree h).0)
+    (eqb-true j.tree k.tree (and_parts (j.tree == k.tree) point rest).0)
+    (eqb-true j.point k.point (and_parts (j.point == k.point) (j.field == k.field) last).0)
+    (eqb-true j.field k.field (and_parts (j.point == k.point) (j.field == k.field) last).1)
 
 -- One requirement more at a place.
 pub clashes-put : (old : OwnPlace → Option (Option Priv)) (j k : OwnPlace) (claim : Option Priv) (new : Option (Option Priv)) (access a : Priv) → new ≡ cond (same_place j k) (Some claim) (old k) → clashes (Some claim) a ≡ (clashes (old j) a || not (agree access a)) → clashes new a ≡ (clashes (old k) a || (same_place j k && not (agree access a)))
@@ -64,10 +50,6 @@ clashes-put old j k claim new access a is joins =
           ∙ or_false (clashes (old k) a)
           ∙ sym (ap (λ b. clashes (old k) a || (b && not (agree access a))) other)
     ]
-
-or_assoc : (a b c : Bool) → ((a || b) || c) ≡ (a || (b || c))
-or_assoc true b c = refl
-or_assoc false b c = refl
 
 one_more : (i t p fs f n : Bool) → ((i && (t && ((p || false) && (fs && n)))) || ((i && (t && (p && f))) && n)) ≡ (i && (t && ((p || false) && ((fs || f) && n))))
 one_more false t p fs f n = refl
@@ -110,7 +92,7 @@ row_told true true d ns ms P F = sym (
     ∙ list_any-and (list_any ms F && d) ns P ∙ turned (list_any ms F && d) (list_any ns P)
     )
 
--- Whether a requirement clashes is told place by place.
+-- Whether a requirement clashes is found place by place.
 abbrev place : ℕ → ℕ → ℕ → ℕ → OwnPlace
 place item tree point field = record { item = item; tree = tree; point = point; field = field }
 

@@ -1,11 +1,13 @@
 -- What one record more adds to tables, and what it leaves as it was.
-use Rattle.std.proofs.Common.{◌≡◌, ℕ, ◌+◌, ◌*◌, ◌-◌, ◌<◌, ◌≤◌, ◌==◌, ◌^◌, nat_lt, Bool, true, false, not, ◌&&◌, ◌||◌, List, [], ◌∷◌, ◌++◌, map, find, flat_map, length, Option, Some, None, refl, sym, ap, ◌∙◌, append_assoc, lit<, inl, inr, arith}
+use Rattle.std.proofs.Common.{◌≡◌, ℕ, ◌+◌, ◌*◌, ◌-◌, ◌<◌, ◌≤◌, ◌==◌, ◌^◌, nat_lt, Bool, true, false, not, ◌&&◌, ◌||◌, List, [], ◌∷◌, ◌++◌, map, find, flat_map, length, Option, Some, None, refl, sym, ap, ◌∙◌, lit<, inl, inr, arith, sum_by}
 use Rattle.std.specs.List.{list_any, list_all}
 use Rattle.std.specs.Option.{option_map_or}
-use Rattle.std.proofs.lemmas.Bool.{cases_Bool, eqb-true}
+use Rattle.std.proofs.lemmas.Bool.{and_from, and_parts, cases_Bool, eqb-true, false≢true}
 use Rattle.std.proofs.lemmas.Bool.Decides.{nat_tests}
-use Rattle.std.proofs.lemmas.List.Folds.{list_any-append}
-use Rattle.std.proofs.lemmas.List.Sums.{length-filter}
+use Rattle.std.proofs.lemmas.List.Folds.{list_all-append, list_any-append}
+use Rattle.std.proofs.lemmas.Grind.{flat_map-append}
+use Rattle.std.proofs.lemmas.List.{append-nil}
+use Rattle.std.proofs.lemmas.List.Sums.{sum_by-cons, sum_by_push, length-filter}
 use Rattle.privilege.specs.declared.kinds.Priv.{Priv}
 use Rattle.privilege.specs.Interference.{agree}
 use Rattle.spy_grammar.specs.declared.record.Record.{Record}
@@ -16,19 +18,16 @@ use Rattle.semantics.specs.declared.tables.Serial as serials
 use Rattle.semantics.specs.Tables.{Tables, Space, points_of, place_of, privilege_of, coherence_of, reqs_before, with_record}
 use Rattle.semantics.specs.Points.{is_in, points_in}
 use Rattle.semantics.specs.SerialOrder.{listed}
-use Rattle.semantics.specs.Rules.{total, size_of, accesses, is_declared, space_id, names, names_unknown, lacks_req, has_many_points, has_many_cells, has_many_accesses}
+use Rattle.semantics.specs.Rules.{size_of, accesses, is_declared, space_id, names, names_unknown, lacks_req, has_many_points, has_many_cells, has_many_accesses}
 use Rattle.log_rules.specs.declared.claims.OwnPlace.{OwnPlace}
 use Rattle.log_rules.specs.Counts.{point_total, cell_total, access_total, points_asked, cells_asked, asked, cut}
 use Rattle.log_rules.specs.Listing.{ids_listed}
 use Rattle.log_rules.specs.declared.claims.Claims.{Claims}
 use Rattle.log_rules.specs.Own.{Adds, AreClaims, claims_at, claimed, clashes_in, clashes_at, first_clashes_at, req_clashes_at}
 use Rattle.log_rules.specs.Tallied.{knows_space, AreKnown}
+use Rattle.log_rules.proofs.Booleans.{or_false, or_assoc}
 use Rattle.log_rules.proofs.Limits.{accesses-asked}
 use Rattle.log_rules.proofs.ListTests.{find-none, find-kept, find-last}
-
-nil : {A : Type 0} (xs : List A) → xs ≡ xs ++ []
-nil [] = refl
-nil (x ∷ xs) = ap (λ ys. x ∷ ys) (nil xs)
 
 -- ---- Spaces that are declared keep their points.
 
@@ -37,10 +36,7 @@ record Grows (t u : Tables) : Type 0 where
   declared : (id : ℕ) → is_declared t (space_id id) ≡ true → is_declared u (space_id id) ≡ true
 
 found_first : (id : ℕ) (xs ys : List Space) → list_any (λ (s : Space). s.id == id) xs ≡ true → find (λ (s : Space). s.id == id) (xs ++ ys) ≡ find (λ (s : Space). s.id == id) xs
-found_first id [] ys h = absurd (no h)
-  where
-    no : false ≡ true → ⊥
-    no e = cc
+found_first id [] ys h = absurd (false≢true h)
 found_first id (x ∷ xs) ys h =
     elim (cases_Bool (x.id == id)) [
       | inl hit ↦ rw hit refl
@@ -58,43 +54,23 @@ grows t line _ = record { points = λ other known. refl; declared = λ other kno
 
 -- ---- Sums over lists.
 
-total-append : (xs ys : List ℕ) → total (xs ++ ys) ≡ total xs + total ys
-total-append [] ys = omega arith
-total-append (x ∷ xs) ys = let h = total-append xs ys in omega (arith, h)
-
-pub total-map-append : {A : Type 0} (f : A → ℕ) (xs ys : List A) → total (map f (xs ++ ys)) ≡ total (map f xs) + total (map f ys)
-total-map-append f [] ys = omega arith
-total-map-append f (x ∷ xs) ys = let h = total-map-append f xs ys in omega (arith, h)
-
-and_left : (a b : Bool) → (a && b) ≡ true → a ≡ true
-and_left true b h = refl
-and_left false b h = h
-
-and_right : (a b : Bool) → (a && b) ≡ true → b ≡ true
-and_right true b h = h
-and_right false b h = absurd (no h)
-  where
-    no : false ≡ true → ⊥
-    no e = cc
-
-total-known : {A : Type 0} (p : A → Bool) (f g : A → ℕ) (xs : List A) → ((x : A) → p x ≡ true → f x ≡ g x) → list_all p xs ≡ true → total (map f xs) ≡ total (map g xs)
-total-known p f g [] same all = refl
-total-known p f g (x ∷ xs) same all =
-    let head = same x (and_left (p x) (list_all p xs) all) in
-    let tail = total-known p f g xs same (and_right (p x) (list_all p xs) all) in
-    omega (arith, head, tail)
+sum-known : {A : Type 0} (p : A → Bool) (f g : A → ℕ) (xs : List A) → ((x : A) → p x ≡ true → f x ≡ g x) → list_all p xs ≡ true → sum_by f xs ≡ sum_by g xs
+sum-known p f g [] same all = refl
+sum-known p f g (x ∷ xs) same all =
+    let head = same x (and_parts (p x) (list_all p xs) all).0 in
+    let tail = sum-known p f g xs same (and_parts (p x) (list_all p xs) all).1 in
+    omega (arith, head, tail, sum_by-cons f x xs, sum_by-cons g x xs)
 
 any-known : {A : Type 0} (p f g : A → Bool) (xs : List A) → ((x : A) → p x ≡ true → f x ≡ g x) → list_all p xs ≡ true → list_any f xs ≡ list_any g xs
 any-known p f g [] same all = refl
-any-known p f g (x ∷ xs) same all = rw (same x (and_left (p x) (list_all p xs) all), any-known p f g xs same (and_right (p x) (list_all p xs) all)) refl
+any-known p f g (x ∷ xs) same all = rw (same x (and_parts (p x) (list_all p xs) all).0, any-known p f g xs same (and_parts (p x) (list_all p xs) all).1) refl
 
 all-known : {A : Type 0} (p q : A → Bool) (xs : List A) → ((x : A) → p x ≡ true → q x ≡ true) → list_all p xs ≡ true → list_all q xs ≡ true
 all-known p q [] then all = refl
-all-known p q (x ∷ xs) then all = ap (λ b. b && list_all q xs) (then x (and_left (p x) (list_all p xs) all)) ∙ all-known p q xs then (and_right (p x) (list_all p xs) all)
+all-known p q (x ∷ xs) then all = ap (λ b. b && list_all q xs) (then x (and_parts (p x) (list_all p xs) all).0) ∙ all-known p q xs then (and_parts (p x) (list_all p xs) all).1
 
 all-snoc : {A : Type 0} (p : A → Bool) (xs : List A) (x : A) → list_all p xs ≡ true → p x ≡ true → list_all p (xs ++ x ∷ []) ≡ true
-all-snoc p [] x all here = ap (λ b. b && true) here
-all-snoc p (y ∷ ys) x all here = ap (λ b. b && list_all p (ys ++ x ∷ [])) (and_left (p y) (list_all p ys) all) ∙ all-snoc p ys x (and_right (p y) (list_all p ys) all) here
+all-snoc p xs x all here = list_all-append p xs (x ∷ []) ∙ and_from (list_all p xs) (p x && true) all (and_from (p x) true here refl)
 
 within : (sum more limit old : ℕ) → old ≡ sum → nat_lt limit (sum + more) ≡ false → limit < 2 ^ 128 - 1 → cut (old + more) ≡ sum + more
 within sum more limit old is fits small = let low : sum + more ≤ limit = under (sum + more) limit fits in omega arith
@@ -112,10 +88,10 @@ knows_all t r h = told (list_all (is_declared t) (names r)) (lacks_req t r) h
     told false b h = sym h
 
 second : (a b : Bool) (c : Bool) → (a && (b && c)) ≡ true → b ≡ true
-second a b c h = and_left b c (and_right a (b && c) h)
+second a b c h = (and_parts b c (and_parts a (b && c) h).1).0
 
 third : (a b c d : Bool) → (a && (b && (c && d))) ≡ true → c ≡ true
-third a b c d h = second b c d (and_right a (b && (c && d)) h)
+third a b c d h = second b c d (and_parts a (b && (c && d)) h).1
 
 knows_asked : (t : Tables) (r : Record) → list_all (is_declared t) (names r) ≡ true → knows_space t r ≡ true
 knows_asked t (Req task tree space fields access atomic) h = third _ _ _ _ h
@@ -129,18 +105,18 @@ knows_asked t _ h = refl
 -- ---- Points, cells and accesses.
 
 pub point_total-add : (t : Tables) (line : ℕ) (r : Record) → point_total (with_record t line r) ≡ point_total t + points_asked r
-point_total-add t line (Ispace id set) = let h = total-map-append (λ (s : Space). length s.points) t.spaces (record { id = id; points = points_of set } ∷ []) in omega (arith, h)
+point_total-add t line (Ispace id set) = let h = sum_by_push (λ (s : Space). length s.points) t.spaces (record { id = id; points = points_of set }) in omega (arith, h)
 point_total-add t line _ = omega arith
 
 size-grows : (t u : Tables) (space : ℕ) (fields : List ℕ) → Grows t u → is_declared t (space_id space) ≡ true → size_of u space fields ≡ size_of t space fields
 size-grows t u space fields g known = ap (λ (xs : List ℕ). length xs * length fields) (g.points space known)
 
-cells_grow : (t u : Tables) → Grows t u → list_all (λ (i : insts.Inst). is_declared t (space_id i.space)) t.insts ≡ true → total (map (λ (i : insts.Inst). size_of u i.space i.fields) t.insts) ≡ cell_total t
-cells_grow t u g known = total-known (λ (i : insts.Inst). is_declared t (space_id i.space)) (λ (i : insts.Inst). size_of u i.space i.fields) (λ (i : insts.Inst). size_of t i.space i.fields) t.insts (λ (i : insts.Inst) here. size-grows t u i.space i.fields g here) known
+cells_grow : (t u : Tables) → Grows t u → list_all (λ (i : insts.Inst). is_declared t (space_id i.space)) t.insts ≡ true → sum_by (λ (i : insts.Inst). size_of u i.space i.fields) t.insts ≡ cell_total t
+cells_grow t u g known = sum-known (λ (i : insts.Inst). is_declared t (space_id i.space)) (λ (i : insts.Inst). size_of u i.space i.fields) (λ (i : insts.Inst). size_of t i.space i.fields) t.insts (λ (i : insts.Inst) here. size-grows t u i.space i.fields g here) known
 
 pub cell_total-add : (t : Tables) (line : ℕ) (r : Record) → list_all (λ (i : insts.Inst). is_declared t (space_id i.space)) t.insts ≡ true → names_unknown t r ≡ false → cell_total (with_record t line r) ≡ cell_total t + cells_asked t r
 cell_total-add t line (Inst id tree space fields kind) known named =
-    let h = total-map-append (λ (i : insts.Inst). size_of t i.space i.fields) t.insts (record { id = id; tree = tree; space = space; fields = fields; kind = kind } ∷ []) in
+    let h = sum_by_push (λ (i : insts.Inst). size_of t i.space i.fields) t.insts (record { id = id; tree = tree; space = space; fields = fields; kind = kind }) in
     omega (arith, h)
 cell_total-add t line (Ispace id set) known named = let h = cells_grow t (with_record t line (Ispace id set)) (grows t line (Ispace id set)) known in omega (arith, h)
 cell_total-add t line _ known named = omega arith
@@ -156,8 +132,8 @@ pub access_total-add : (earlier : List Record) (t : Tables) (line : ℕ) (r : Re
 access_total-add earlier t line r known named =
     let u = with_record t line r in
     let g = grows t line r in
-    let h = total-map-append (accesses u) earlier (r ∷ []) in
-    let e = total-known (knows_space t) (accesses u) (accesses t) earlier (λ x here. accesses-grow t u x g here) known in
+    let h = sum_by_push (accesses u) earlier r in
+    let e = sum-known (knows_space t) (accesses u) (accesses t) earlier (λ x here. accesses-grow t u x g here) known in
     let l = accesses-grow t u r g (knows_asked t r (knows_all t r named)) in
     omega (arith, h, e, l)
 
@@ -166,19 +142,11 @@ access_total-add earlier t line r known named =
 is_in-append : (xs ys : List ℕ) (n : ℕ) → is_in (xs ++ ys) n ≡ (is_in xs n || is_in ys n)
 is_in-append xs ys n = list_any-append (λ m. m == n) xs ys
 
-flat_map-append : (xs ys : List serials.Serial) → flat_map (λ (s : serials.Serial). s.ids) (xs ++ ys) ≡ flat_map (λ (s : serials.Serial). s.ids) xs ++ flat_map (λ (s : serials.Serial). s.ids) ys
-flat_map-append [] ys = refl
-flat_map-append (x ∷ xs) ys = ap (λ (zs : List ℕ). x.ids ++ zs) (flat_map-append xs ys) ∙ sym (append_assoc x.ids (flat_map (λ (s : serials.Serial). s.ids) xs) (flat_map (λ (s : serials.Serial). s.ids) ys))
-
-pub or_false : (b : Bool) → b ≡ (b || false)
-or_false true = refl
-or_false false = refl
-
 pub listed-add : (t : Tables) (line : ℕ) (r : Record) (n : ℕ) → is_in (listed (with_record t line r)) n ≡ (is_in (listed t) n || is_in (ids_listed r) n)
 listed-add t line (Serial ids) n =
-    ap (λ (xs : List ℕ). is_in xs n) (flat_map-append t.serials (record { line = line; ids = ids } ∷ []))
+    ap (λ (xs : List ℕ). is_in xs n) (flat_map-append (λ (s : serials.Serial). s.ids) t.serials (record { line = line; ids = ids } ∷ []))
     ∙ is_in-append (listed t) (ids ++ []) n
-    ∙ ap (λ (xs : List ℕ). is_in (listed t) n || is_in xs n) (sym (nil ids))
+    ∙ ap (λ (xs : List ℕ). is_in (listed t) n || is_in xs n) (append-nil ids)
 listed-add t line _ n = or_false (is_in (listed t) n)
 
 -- ---- Claims.
@@ -187,13 +155,9 @@ found-known : {A : Type 0} (p q f g : A → Bool) (xs : List A) → ((x : A) →
 found-known p q f g [] same all = refl
 found-known p q f g (x ∷ xs) same all =
     elim (cases_Bool (q x)) [
-      | inl hit ↦ rw hit (same x (and_left (p x) (list_all p xs) all))
-      | inr miss ↦ rw miss (found-known p q f g xs same (and_right (p x) (list_all p xs) all))
+      | inl hit ↦ rw hit (same x (and_parts (p x) (list_all p xs) all).0)
+      | inr miss ↦ rw miss (found-known p q f g xs same (and_parts (p x) (list_all p xs) all).1)
     ]
-
-or_assoc : (a b c : Bool) → (a || (b || c)) ≡ ((a || b) || c)
-or_assoc true b c = refl
-or_assoc false b c = refl
 
 or_turned : (a b : Bool) → (a || b) ≡ (b || a)
 or_turned true true = refl
@@ -203,7 +167,7 @@ or_turned false false = refl
 
 -- What is added to the claims, where the first requirement stays, and where the record is the first.
 added : (first first2 old new at more : Bool) → first2 ≡ first → (first || old) ≡ at → new ≡ (old || more) → (first2 || new) ≡ (at || more)
-added first first2 old new at more same is adds = ap (λ b. b || new) same ∙ ap (λ b. first || b) adds ∙ or_assoc first old more ∙ ap (λ b. b || more) is
+added first first2 old new at more same is adds = ap (λ b. b || new) same ∙ ap (λ b. first || b) adds ∙ sym (or_assoc first old more) ∙ ap (λ b. b || more) is
 
 started : (first first2 old new at more : Bool) → first ≡ false → first2 ≡ more → (first || old) ≡ at → new ≡ (old || false) → (first2 || new) ≡ (at || more)
 started first first2 old new at more none one is adds =

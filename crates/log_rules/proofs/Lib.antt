@@ -1,12 +1,13 @@
-pub mod Ascending
-pub mod Claiming
-pub mod Climbs
-pub mod Growing
-pub mod Limits
-pub mod ListTests
-pub mod Listings
-pub mod Loading
-pub mod Mappings
-pub mod Members
-pub mod Noding
-pub mod Repeats
+mod Ascending
+mod Booleans
+mod Claiming
+mod Climbs
+mod Growing
+mod Limits
+mod ListTests
+mod Listings
+mod Loading
+mod Mappings
+mod Members
+mod Noding
+mod Repeats

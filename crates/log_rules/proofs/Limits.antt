@@ -1,10 +1,12 @@
 -- Sums that are counted, and their limits.
 use Rattle.std.proofs.Common.{◌≡◌, ℕ, zero, suc, ◌+◌, ◌-◌, ◌<◌, List, [], ◌∷◌, ◌++◌, min, take, length, get_or, refl, ap, ◌∙◌, arith}
+use Rattle.std.specs.List.{range_with_len}
 use Rattle.std.specs.Option.{option_map_or}
-use Rattle.std.proofs.lemmas.List.{take_more}
+use Rattle.std.proofs.lemmas.List.{length-append, take_more}
+use Rattle.std.proofs.lemmas.List.FromFn.{length-range_with_len}
 use Rattle.spy_grammar.specs.declared.record.Record.{Record}
 use Rattle.spy_grammar.specs.declared.record.Record.TheVariants.{Req, Fill, Copy, Put, Reset, Fold}
-use Rattle.semantics.specs.Tables.{Tables, numbers_from, points_of}
+use Rattle.semantics.specs.Tables.{Tables, points_of}
 use Rattle.semantics.specs.Rules.{size_of, accesses}
 use Rattle.log_rules.specs.Counts.{asked}
 
@@ -14,23 +16,15 @@ cut-add a b m = omega arith
 pub cut-both : (a b m : ℕ) → min (a + min b m) m ≡ min (a + b) m
 cut-both a b m = omega arith
 
-length-numbers_from : (a n : ℕ) → length (numbers_from a n) ≡ n
-length-numbers_from a zero = refl
-length-numbers_from a (suc n) = ap (λ k. suc k) (length-numbers_from (a + 1) n)
-
-length-app : (xs ys : List ℕ) → length (xs ++ ys) ≡ length xs + length ys
-length-app [] ys = omega arith
-length-app (x ∷ xs) ys = let h = length-app xs ys in omega (arith, h)
-
 points_of-snoc : (runs : List (ℕ × ℕ)) (r : ℕ × ℕ) → length (points_of (runs ++ r ∷ [])) ≡ length (points_of runs) + (r.1 + 1 - r.0)
 points_of-snoc [] r =
-    let h = length-app (numbers_from r.0 (r.1 + 1 - r.0)) [] in
-    let n = length-numbers_from r.0 (r.1 + 1 - r.0) in
+    let h = length-append (range_with_len r.0 (r.1 + 1 - r.0)) [] in
+    let n = length-range_with_len r.0 (r.1 + 1 - r.0) in
     omega (arith, h, n)
 points_of-snoc (s ∷ runs) r =
-    let first : List ℕ = numbers_from s.0 (s.1 + 1 - s.0) in
-    let h = length-app first (points_of (runs ++ r ∷ [])) in
-    let g = length-app first (points_of runs) in
+    let first : List ℕ = range_with_len s.0 (s.1 + 1 - s.0) in
+    let h = length-append first (points_of (runs ++ r ∷ [])) in
+    let g = length-append first (points_of runs) in
     let rest = points_of-snoc runs r in
     omega (arith, h, g, rest)
 

@@ -1,10 +1,10 @@
 -- How counts of places tell the load of a log.
-use Rattle.std.proofs.Common.{◌≡◌, ℕ, suc, ◌+◌, ◌<◌, ◌==◌, Bool, true, false, ◌&&◌, ◌||◌, cond, List, [], ◌∷◌, ◌++◌, map, take, length, get_or, Option, Some, unwrap_or, refl, sym, ap, ◌∙◌, zero-add, inl, inr, arith}
+use Rattle.std.proofs.Common.{◌≡◌, ℕ, suc, ◌+◌, ◌<◌, ◌==◌, Bool, true, false, ◌&&◌, ◌||◌, cond, List, [], ◌∷◌, ◌++◌, map, take, length, get_or, Option, Some, unwrap_or, refl, sym, ap, ◌∙◌, zero-add, inl, inr, arith, sum_by}
 use Rattle.std.specs.List.{AllPairs}
 use Rattle.std.specs.List.Sorted.{IsStrictlyIncreasing}
-use Rattle.std.proofs.lemmas.Bool.{cases_Bool, eqb-true}
-use Rattle.std.proofs.lemmas.Bool.Decides.{nat_tests}
+use Rattle.std.proofs.lemmas.Bool.{and_parts, cases_Bool, eqb-true, false_from_ne_true, true≢false}
 use Rattle.std.proofs.lemmas.List.{take_more, get_or-take, length-take}
+use Rattle.std.proofs.lemmas.List.Sums.{sum_by-append, sum_by-cons}
 use Rattle.std.proofs.lemmas.List.Filters.{length-filter_more}
 use Rattle.std.proofs.lemmas.List.Folds.{list_any_more}
 use Rattle.std.proofs.lemmas.List.Kept.{AllPairs-from_increasing}
@@ -13,12 +13,10 @@ use Rattle.semantics.specs.declared.tables.Inst.{Inst}
 use Rattle.semantics.specs.Tables.{Tables}
 use Rattle.semantics.specs.Points.{is_in, points_in}
 use Rattle.semantics.specs.Kinds.{grid}
-use Rattle.semantics.specs.Rules.{total, load_of, reduces}
+use Rattle.semantics.specs.Rules.{load_of, reduces}
 use Rattle.log_rules.specs.declared.load.LoadPlace.{LoadPlace}
 use Rattle.log_rules.specs.Counts.{cut}
 use Rattle.log_rules.specs.Loads.{one, same_load_place, is_held, covers_place, load_at, row_load, inst_load}
-use Rattle.log_rules.proofs.Claiming.{and_left, and_right}
-use Rattle.log_rules.proofs.Growing.{total-map-append}
 use Rattle.log_rules.proofs.Members.{Decides-is_in, get_or_any}
 
 -- ---- Places that are one.
@@ -28,11 +26,11 @@ place_of_parts s t p q f g a b c = cc
 
 same_load_place-true : (j k : LoadPlace) → same_load_place j k ≡ true → j ≡ k
 same_load_place-true j k h =
-    let rest = and_right (j.tree == k.tree) ((j.point == k.point) && (j.field == k.field)) h in
+    let rest = (and_parts (j.tree == k.tree) ((j.point == k.point) && (j.field == k.field)) h).1 in
     place_of_parts j.tree k.tree j.point k.point j.field k.field
-    (eqb-true j.tree k.tree (and_left (j.tree == k.tree) ((j.point == k.point) && (j.field == k.field)) h))
-    (eqb-true j.point k.point (and_left (j.point == k.point) (j.field == k.field) rest))
-    (eqb-true j.field k.field (and_right (j.point == k.point) (j.field == k.field) rest))
+    (eqb-true j.tree k.tree (and_parts (j.tree == k.tree) ((j.point == k.point) && (j.field == k.field)) h).0)
+    (eqb-true j.point k.point (and_parts (j.point == k.point) (j.field == k.field) rest).0)
+    (eqb-true j.field k.field (and_parts (j.point == k.point) (j.field == k.field) rest).1)
 
 -- One more at a place.
 pub load-put : (old : LoadPlace → Option ℕ) (j k : LoadPlace) (count : ℕ) (new : Option ℕ) → new ≡ cond (same_load_place j k) (Some count) (old k) → count ≡ cut (unwrap_or (old j) 0 + 1) → cut (unwrap_or new 0) ≡ cut (unwrap_or (old k) 0 + one (same_load_place j k))
@@ -51,16 +49,9 @@ load-put old j k count new is more =
 
 -- ---- Fields and points that stand once.
 
-apart : (a b : ℕ) → a < b → (a == b) ≡ false
-apart a b lt = grind (arith, nat_tests)
-
-not_true : (b : Bool) → (b ≡ true → ⊥) → b ≡ false
-not_true true h = absurd (h refl)
-not_true false h = refl
-
 fresh_field : (fields : List ℕ) (i n : ℕ) → IsStrictlyIncreasing fields → i < length fields → (get_or fields i 0 == n) ≡ true → is_in (take i fields) n ≡ false
 fresh_field fields i n up lt here =
-    not_true (is_in (take i fields) n) (λ h.
+    false_from_ne_true (is_in (take i fields) n) (λ h.
     let c = (Decides-is_in (take i fields) n).0 h in
     let l = length-take i fields in
     let low : c.0 < i = omega (arith, c.1, l) in
@@ -73,10 +64,7 @@ fresh_field fields i n up lt here =
 split_field : (t p fs e : Bool) → (e ≡ true → fs ≡ false) → one (t && ((p || false) && fs)) + one (t && (p && e)) ≡ one (t && ((p || false) && (fs || e)))
 split_field false p fs e h = refl
 split_field true false fs e h = refl
-split_field true true true true h = absurd (no (h refl))
-  where
-    no : true ≡ false → ⊥
-    no e = cc
+split_field true true true true h = absurd (true≢false (h refl))
 split_field true true true false h = refl
 split_field true true false e h = zero-add (one e)
 
@@ -91,17 +79,14 @@ load-field old mid new tree point fields i k up lt before after =
 
 split_point : (t e r f : Bool) → (e ≡ true → r ≡ false) → one (t && ((e || false) && f)) + one (t && (r && f)) ≡ one (t && ((e || r) && f))
 split_point false e r f h = refl
-split_point true true true f h = absurd (no (h refl))
-  where
-    no : true ≡ false → ⊥
-    no e = cc
+split_point true true true f h = absurd (true≢false (h refl))
 split_point true true false true h = refl
 split_point true true false false h = refl
 split_point true false r f h = zero-add (one (r && f))
 
 fresh_point : (p : ℕ) (rest : List ℕ) (n : ℕ) → AllPairs (λ a b. a < b) (p ∷ rest) → (p == n) ≡ true → is_in rest n ≡ false
 fresh_point p rest n up here =
-    not_true (is_in rest n) (λ h.
+    false_from_ne_true (is_in rest n) (λ h.
     let c = (Decides-is_in rest n).0 h in
     let below : p < get_or rest c.0 n = up 0 (suc c.0) n (omega arith) (omega (arith, c.1)) in
     let f : p ≡ n = eqb-true p n here in
@@ -131,35 +116,30 @@ load-req t k reqs i d mid new lt before after =
 
 -- ---- Sums.
 
-pub total_more : {A : Type 0} (f : A → ℕ) (xs : List A) (i : ℕ) (d : A) → i < length xs → total (map f (take (i + 1) xs)) ≡ total (map f (take i xs)) + f (get_or xs i d)
-total_more f xs i d lt =
-    let more : total (map f (take (i + 1) xs)) ≡ total (map f (take i xs ++ get_or xs i d ∷ [])) = ap (λ ys. total (map f ys)) (take_more xs i d lt) in
-    let split = total-map-append f (take i xs) (get_or xs i d ∷ []) in
-    omega (arith, more, split)
-
-cut-total : {A : Type 0} (f g : A → ℕ) (xs : List A) → ((x : A) → cut (f x) ≡ cut (g x)) → cut (total (map f xs)) ≡ cut (total (map g xs))
-cut-total f g [] same = refl
-cut-total f g (x ∷ xs) same =
+cut-sum : {A : Type 0} (f g : A → ℕ) (xs : List A) → ((x : A) → cut (f x) ≡ cut (g x)) → cut (sum_by f xs) ≡ cut (sum_by g xs)
+cut-sum f g [] same = refl
+cut-sum f g (x ∷ xs) same =
     let head = same x in
-    let tail = cut-total f g xs same in
-    omega (arith, head, tail)
+    let tail = cut-sum f g xs same in
+    omega (arith, head, tail, sum_by-cons f x xs, sum_by-cons g x xs)
 
-total-map-map : {A B : Type 0} (g : B → ℕ) (h : A → B) (xs : List A) → total (map g (map h xs)) ≡ total (map (λ x. g (h x)) xs)
-total-map-map g h [] = refl
-total-map-map g h (x ∷ xs) = ap (λ n. g (h x) + n) (total-map-map g h xs)
+sum-map-map : {A B : Type 0} (g : B → ℕ) (h : A → B) (xs : List A) → sum_by g (map h xs) ≡ sum_by (λ x. g (h x)) xs
+sum-map-map g h [] = refl
+sum-map-map g h (x ∷ xs) = sum_by-cons g (h x) (map h xs) ∙ ap (λ n. g (h x) + n) (sum-map-map g h xs) ∙ sym (sum_by-cons (λ x. g (h x)) x xs)
 
-total-grid : (g : ℕ × ℕ → ℕ) (points fields : List ℕ) → total (map g (grid points fields)) ≡ total (map (λ x. total (map (λ f. g (x, f)) fields)) points)
-total-grid g [] fields = refl
-total-grid g (x ∷ xs) fields =
-    let split = total-map-append g (map (λ f. (x, f)) fields) (grid xs fields) in
-    let head = total-map-map g (λ f. (x, f)) fields in
-    let tail = total-grid g xs fields in
-    omega (arith, split, head, tail)
+sum-grid : (g : ℕ × ℕ → ℕ) (points fields : List ℕ) → sum_by g (grid points fields) ≡ sum_by (λ x. sum_by (λ f. g (x, f)) fields) points
+sum-grid g [] fields = refl
+sum-grid g (x ∷ xs) fields =
+    let split = sum_by-append g (map (λ f. (x, f)) fields) (grid xs fields) in
+    let head = sum-map-map g (λ f. (x, f)) fields in
+    let tail = sum-grid g xs fields in
+    let all = sum_by-cons (λ x. sum_by (λ f. g (x, f)) fields) x xs in
+    omega (arith, split, head, tail, all)
 
-pub loads-told : (t : Tables) (count : LoadPlace → ℕ) (insts : List Inst) → ((k : LoadPlace) → cut (count k) ≡ cut (load_at t k t.reqs)) → cut (total (map (inst_load count t) insts)) ≡ cut (total (map (load_of t) insts))
+pub loads-told : (t : Tables) (count : LoadPlace → ℕ) (insts : List Inst) → ((k : LoadPlace) → cut (count k) ≡ cut (load_at t k t.reqs)) → cut (sum_by (inst_load count t) insts) ≡ cut (sum_by (load_of t) insts)
 loads-told t count insts are =
-    cut-total (inst_load count t) (load_of t) insts (λ (i : Inst).
+    cut-sum (inst_load count t) (load_of t) insts (λ (i : Inst).
     let exact = λ (k : LoadPlace). load_at t k t.reqs in
-    cut-total (row_load count i.tree i.fields) (row_load exact i.tree i.fields) (points_in t i.space) (λ x.
-    cut-total (λ f. count (record { tree = i.tree; point = x; field = f })) (λ f. exact (record { tree = i.tree; point = x; field = f })) i.fields (λ f. are (record { tree = i.tree; point = x; field = f })))
-    ∙ ap cut (sym (total-grid (λ p. exact (record { tree = i.tree; point = p.0; field = p.1 })) (points_in t i.space) i.fields)))
+    cut-sum (row_load count i.tree i.fields) (row_load exact i.tree i.fields) (points_in t i.space) (λ x.
+    cut-sum (λ f. count (record { tree = i.tree; point = x; field = f })) (λ f. exact (record { tree = i.tree; point = x; field = f })) i.fields (λ f. are (record { tree = i.tree; point = x; field = f })))
+    ∙ ap cut (sym (sum-grid (λ p. exact (record { tree = i.tree; point = p.0; field = p.1 })) (points_in t i.space) i.fields)))

@@ -25,6 +25,9 @@ rises xs up i j le lt =
 pub apart : (a b : ℕ) → (a ≡ b → ⊥) → (a == b) ≡ false
 apart a b ne = grind (arith, nat_tests)
 
+pub eq_turned : (a b : ℕ) → (a == b) ≡ (b == a)
+eq_turned a b = grind (arith, nat_tests)
+
 pub get_or_any : (xs : List ℕ) (k d : ℕ) → k < length xs → get_or xs k d ≡ get_or xs k 0
 get_or_any xs k d lt = sym (get_or_from_slice_get xs k (get_or xs k d) 0 (slice_get-get_or xs k d lt))
 
@@ -74,6 +77,3 @@ pub meets_turned : (ns ms : List ℕ) → meets ns ms ≡ meets ms ns
 meets_turned ns ms =
     list_any-list_any (λ n m. m == n) ns ms
     ∙ list_any-alike (λ m. list_any (λ n. m == n) ns) (is_in ns) ms (λ m. list_any-alike (λ n. m == n) (λ n. n == m) ns (λ n. eq_turned m n))
-  where
-    eq_turned : (a b : ℕ) → (a == b) ≡ (b == a)
-    eq_turned a b = grind (arith, nat_tests)

@@ -1,15 +1,13 @@
 -- Numbers that stand twice in a list.
-use Rattle.std.proofs.Common.{◌≡◌, ℕ, ◌+◌, ◌<◌, ◌==◌, Bool, true, false, not, ◌||◌, cond, List, [], ◌∷◌, ◌++◌, take, drop, take-append-drop, length, get_or, refl, sym, ap, ◌∙◌, inl, inr, arith}
-use Rattle.std.proofs.lemmas.Bool.{cases_Bool}
+use Rattle.std.proofs.Common.{◌≡◌, ℕ, ◌+◌, ◌<◌, ◌==◌, Bool, true, false, not, ◌||◌, cond, List, [], ◌∷◌, ◌++◌, take, drop, take-append-drop, length, get_or, refl, sym, ap, ◌∙◌, inl, inr}
+use Rattle.std.proofs.lemmas.Bool.{cases_Bool, false≢true, or_right}
 use Rattle.std.proofs.lemmas.List.{take_more}
-use Rattle.std.proofs.lemmas.Bool.Decides.{nat_tests}
 use Rattle.std.proofs.lemmas.List.Folds.{list_any-append, list_any_more}
 use Rattle.semantics.specs.Points.{is_in}
 use Rattle.semantics.specs.Rules.{has_repeat}
 use Rattle.log_rules.specs.Listing.{IsSetOf}
-
-eq_turned : (a b : ℕ) → (a == b) ≡ (b == a)
-eq_turned a b = grind (arith, nat_tests)
+use Rattle.log_rules.proofs.Booleans.{or_false}
+use Rattle.log_rules.proofs.Members.{eq_turned}
 
 mixed : (a e r s : Bool) → ((a || (e || false)) || (r || s)) ≡ ((a || r) || (e || s))
 mixed true e r s = refl
@@ -26,22 +24,15 @@ has_repeat-snoc (y ∷ ys) x =
     ∙ ap (λ b. (is_in ys y || has_repeat ys) || (b || is_in ys x)) (eq_turned x y)
 
 has_repeat-front : (xs ys : List ℕ) → has_repeat xs ≡ true → has_repeat (xs ++ ys) ≡ true
-has_repeat-front [] ys h = absurd (no h)
-  where
-    no : false ≡ true → ⊥
-    no e = cc
+has_repeat-front [] ys h = absurd (false≢true h)
 has_repeat-front (x ∷ xs) ys h =
     ap (λ b. b || has_repeat (xs ++ ys)) (list_any-append (λ m. m == x) xs ys)
     ∙ elim (cases_Bool (is_in xs x)) [
       | inl here ↦ ap (λ b. (b || is_in ys x) || has_repeat (xs ++ ys)) here
       | inr none ↦
           let rest : has_repeat xs ≡ true = ap (λ b. b || has_repeat xs) (sym none) ∙ h in
-          ap (λ b. (is_in xs x || is_in ys x) || b) (has_repeat-front xs ys rest) ∙ or_true (is_in xs x || is_in ys x)
+          ap (λ b. (is_in xs x || is_in ys x) || b) (has_repeat-front xs ys rest) ∙ or_right (is_in xs x || is_in ys x) true refl
     ]
-  where
-    or_true : (b : Bool) → (b || true) ≡ true
-    or_true true = refl
-    or_true false = refl
 
 not_not : (b : Bool) → not (not b) ≡ b
 not_not true = refl
@@ -64,15 +55,7 @@ pub IsSetOf_more : (ids : List ℕ) (i : ℕ) (old new : ℕ → Bool) → i < l
 IsSetOf_more ids i old new lt is puts n =
     puts n
     ∙ elim (cases_Bool (get_or ids i 0 == n)) [
-      | inl same ↦ ap (λ b. cond b true (old n)) same ∙ sym (ap (λ b. is_in (take i ids) n || b) same ∙ or_true (is_in (take i ids) n))
-      | inr other ↦ ap (λ b. cond b true (old n)) other ∙ is n ∙ sym (ap (λ b. is_in (take i ids) n || b) other ∙ or_false (is_in (take i ids) n))
+      | inl same ↦ ap (λ b. cond b true (old n)) same ∙ sym (ap (λ b. is_in (take i ids) n || b) same ∙ or_right (is_in (take i ids) n) true refl)
+      | inr other ↦ ap (λ b. cond b true (old n)) other ∙ is n ∙ sym (ap (λ b. is_in (take i ids) n || b) other ∙ sym (or_false (is_in (take i ids) n)))
     ]
     ∙ sym (list_any_more (λ m. m == n) ids i 0 lt)
-  where
-    or_true : (b : Bool) → (b || true) ≡ true
-    or_true true = refl
-    or_true false = refl
-
-    or_false : (b : Bool) → (b || false) ≡ b
-    or_false true = refl
-    or_false false = refl

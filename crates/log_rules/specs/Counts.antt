@@ -1,24 +1,24 @@
 -- What the limits on a log count.
-use Rattle.std.specs.Prelude.{◌≡◌, ℕ, ◌-◌, ◌^◌, min, List, map, length, Option, Some, None}
+use Rattle.std.specs.Prelude.{◌≡◌, ℕ, ◌-◌, ◌^◌, min, List, map, length, Option, Some, None, sum_by}
 use Rattle.std.specs.Borrow.{Bor}
 use Rattle.std.specs.Option.{option_map}
 use Rattle.spy_grammar.specs.declared.record.Record.{Record}
 use Rattle.spy_grammar.specs.declared.record.Record.TheVariants.{Ispace, Inst, Req, Fill, Copy, Put, Reset, Fold}
 use Rattle.semantics.specs.declared.tables.Inst as insts
 use Rattle.semantics.specs.Tables.{Tables, Space, points_of}
-use Rattle.semantics.specs.Rules.{total, size_of, accesses}
+use Rattle.semantics.specs.Rules.{size_of, accesses}
 
 -- The points of all spaces together.
 abbrev pub point_total : Tables → ℕ
-point_total t = total (map (λ (s : Space). length s.points) t.spaces)
+point_total t = sum_by (λ (s : Space). length s.points) t.spaces
 
 -- The cells of all instances together.
 abbrev pub cell_total : Tables → ℕ
-cell_total t = total (map (λ (i : insts.Inst). size_of t i.space i.fields) t.insts)
+cell_total t = sum_by (λ (i : insts.Inst). size_of t i.space i.fields) t.insts
 
 -- The accesses that some records ask for together.
 abbrev pub access_total : Tables → List Record → ℕ
-access_total t earlier = total (map (accesses t) earlier)
+access_total t earlier = sum_by (accesses t) earlier
 
 -- The points that a record declares.
 abbrev pub points_asked : Record → ℕ

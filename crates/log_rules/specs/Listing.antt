@@ -15,11 +15,19 @@ ids_listed r = unwrap_or (items_listed r) []
 abbrev pub IsSetOf : List ℕ → (ℕ → Bool) → Type 0
 IsSetOf ids set = (n : ℕ) → set n ≡ is_in ids n
 
+-- A set has what it had, and the numbers of a list.
+abbrev pub AddsAll : (ℕ → Bool) → (ℕ → Bool) → List ℕ → Type 0
+AddsAll old new ids = (n : ℕ) → new n ≡ (old n || is_in ids n)
+
+-- Whether the item that a record declares, if it declares one, is in one of two sets.
+abbrev pub is_listed : (ℕ → Bool) → (ℕ → Bool) → Record → Bool
+is_listed listed here r = list_all (λ id. listed id || here id) (items_declared r)
+
 -- Whether a record lists items badly, given the records of the log, how many records list items before, and the items that those list.
 abbrev pub lists_badly : List Record → ℕ → (ℕ → Bool) → List ℕ → Bool
 lists_badly log before listed ids =
     has_repeat ids || list_any listed ids
-    || ((list_count log == before + 1) && not (list_all (λ r. list_all (λ id. listed id || is_in ids id) (items_declared r)) log))
+    || ((list_count log == before + 1) && not (list_all (is_listed listed (is_in ids)) log))
 
 module _ {S : Type 0} where
   -- The numbers of a list as a set, or none where one of them stands there twice.

@@ -1,14 +1,15 @@
 -- How many requirements reduce at places.
-use Rattle.std.specs.Prelude.{ℕ, ◌==◌, Bool, ◌&&◌, List, map, filter, length, unwrap_or, if◌then◌else◌}
+use Rattle.std.specs.Prelude.{◌≡◌, ℕ, ◌+◌, ◌==◌, Bool, ◌&&◌, List, map, filter, length, unwrap_or, if◌then◌else◌, sum_by}
 use Rattle.std.specs.HashMap.{get}
 use Rattle.semantics.specs.declared.tables.Req.{Req}
 use Rattle.semantics.specs.declared.tables.Inst.{Inst}
 use Rattle.semantics.specs.Tables.{Tables}
 use Rattle.semantics.specs.Points.{is_in, points_in}
 use Rattle.semantics.specs.Kinds.{covers}
-use Rattle.semantics.specs.Rules.{total, reduces}
+use Rattle.semantics.specs.Rules.{reduces}
 use Rattle.log_rules.specs.declared.load.LoadPlace.{LoadPlace}
 use Rattle.log_rules.specs.declared.load.Loads.{Loads}
+use Rattle.log_rules.specs.Counts.{cut}
 
 -- Whether two places are one.
 abbrev pub same_load_place : LoadPlace → LoadPlace → Bool
@@ -36,8 +37,20 @@ load_at t k rs = length (filter (λ (r : Req). reduces r.access && covers_place 
 
 -- The counts of a point and some fields together.
 abbrev pub row_load : (LoadPlace → ℕ) → ℕ → List ℕ → ℕ → ℕ
-row_load count tree fields point = total (map (λ f. count (record { tree = tree; point = point; field = f })) fields)
+row_load count tree fields point = sum_by (λ f. count (record { tree = tree; point = point; field = f })) fields
+
+-- The counts of some points and fields together.
+abbrev pub grid_load : (LoadPlace → ℕ) → ℕ → List ℕ → List ℕ → ℕ
+grid_load count tree fields points = sum_by (row_load count tree fields) points
 
 -- The counts of an instance's cells together.
 abbrev pub inst_load : (LoadPlace → ℕ) → Tables → Inst → ℕ
-inst_load count t i = total (map (row_load count i.tree i.fields) (points_in t i.space))
+inst_load count t i = grid_load count i.tree i.fields (points_in t i.space)
+
+-- One requirement more is counted at the places that pass a test, and none at the others.
+abbrev pub CountsAt : Loads → Loads → (LoadPlace → Bool) → Type 0
+CountsAt old new test = (k : LoadPlace) → cut (load_in new k) ≡ cut (load_in old k + one (test k))
+
+-- The counts are those of these requirements.
+abbrev pub AreLoads : Tables → Loads → List Req → Type 0
+AreLoads t loads rs = (k : LoadPlace) → cut (load_in loads k) ≡ cut (load_at t k rs)

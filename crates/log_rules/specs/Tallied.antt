@@ -34,6 +34,10 @@ pub record IsTally (earlier : List Record) (t : Tables) (tally : Tally) : Type 0
   pub known : AreKnown earlier t
   pub within : access_total t earlier ≤ 4194304
 
+-- A fact of all earlier records whose tally and tables these are.
+abbrev pub IfTally : Tables → Tally → (List Record → Type 0) → Type 0
+IfTally t tally P = (earlier : List Record) → IsTally earlier t tally → P earlier
+
 -- The record keeps the rules on names and the limits, so that it may be counted.
 pub record MayCount (earlier : List Record) (t : Tables) (r : Record) : Type 0 where
   pub known : names_unknown t r ≡ false

@@ -1,9 +1,8 @@
 //! Places that the requirements of tasks claim.
 
-ghost use Rattle.std.specs.Prelude.{◌≡◌, ◌==◌, ◌&&◌, ◌||◌, false, not, List, [], ◌∷◌, OnOk, Some};
+ghost use Rattle.std.specs.Prelude.{◌≡◌, ◌&&◌, ◌||◌, false, not, [], ◌∷◌, OnOk, Some};
 ghost use Rattle.std.specs.HashMap.{get};
 ghost use Rattle.std.specs.List.{list_any};
-ghost use Rattle.std.specs.Option.{option_copied};
 ghost use Rattle.log_rules.specs.Own.{Adds, clashes, clashes_in, same_place, claims_at, clashes_row};
 ghost use Rattle.log_rules.specs.declared.claims.OwnPlace.{OwnPlace};
 ghost use Rattle.privilege.specs.Interference.{agree};
@@ -163,7 +162,8 @@ impl Claims {
         fields: &[u32],
         access: Priv,
     ) -> Result<(), AllocError>
-        ensures { OnOk result (Adds self.old self.new (claims_at item tree (P.points set.now) fields.now access)) }
+        ensures { OnOk result (Adds self.old self.new
+            (claims_at item tree (P.points set.now) fields.now access)) }
     {
         for point in Points::of(set) {
             self.claim_at_point(item, tree, point, fields, access)?;

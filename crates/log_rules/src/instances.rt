@@ -1,11 +1,10 @@
 //! Instances: of which tree and kind they are, and what they cover.
 
-ghost use Rattle.std.specs.Prelude.{◌≡◌, ◌==◌, ◌&&◌, ◌||◌, false, [], not};
+ghost use Rattle.std.specs.Prelude.{◌≡◌, ◌||◌, false, [], not};
 ghost use Rattle.std.specs.List.{list_any};
-ghost use Rattle.std.specs.Option.{option_map, option_map_or};
-ghost use Rattle.log_tables.specs.Mapped.{names_field};
-ghost use Rattle.semantics.specs.Points.{points_in, tree_at, is_within, meets};
-ghost use Rattle.semantics.specs.Steps.{inst_at};
+ghost use Rattle.std.specs.Option.{option_map_or};
+ghost use Rattle.log_rules.specs.Instances.{tree_of_req, points_of_req, root_points, fits_inst, is_mapped, is_any_mapped};
+ghost use Rattle.semantics.specs.Points.{points_in, is_within};
 ghost use Rattle.semantics.specs.Rules.{is_of_wrong_tree, is_of_wrong_kind, is_not_covered, is_mapped_again, is_reduction, reduces_in, tree_of_inst, is_of_tree, fits, lacks, named_req};
 
 use crate::fields::is_within;
@@ -37,7 +36,7 @@ fn is_of_tree<P: PointSet>(draft: &Draft<P>, tree: Option<u32>, id: u32) -> bool
 
 /// Whether an instance is of another tree than a requirement.
 fn is_apart<P: PointSet>(draft: &Draft<P>, task: u32, number: u32, inst: u32) -> bool
-    ensures { result ≡ not (is_of_tree draft.now (option_map (λ r. r.tree) (named_req draft.now task number)) inst) }
+    ensures { result ≡ not (is_of_tree draft.now (tree_of_req draft.now task number) inst) }
 {
     match named_req(draft, task, number) {
         Some(req) => !is_of_tree(draft, Some(req.tree), inst),
@@ -104,7 +103,7 @@ fn fits(access: Priv, kind: InstKind) -> bool
 
 /// Whether a requirement with this privilege may be mapped to this instance.
 fn fits_inst<P: PointSet>(draft: &Draft<P>, access: Priv, id: u32) -> bool
-    ensures { result ≡ option_map_or (λ i. fits access i.kind) (inst_at draft.now id) false }
+    ensures { result ≡ fits_inst draft.now id access }
 {
     match draft.inst(id) {
         Some(inst) => fits(access, inst.kind),
@@ -114,7 +113,8 @@ fn fits_inst<P: PointSet>(draft: &Draft<P>, access: Priv, id: u32) -> bool
 
 /// Whether a requirement may be mapped to this instance.
 fn fits_req<P: PointSet>(draft: &Draft<P>, task: u32, number: u32, inst: u32) -> bool
-    ensures { result ≡ option_map_or (λ r. option_map_or (λ i. fits r.access i.kind) (inst_at draft.now inst) false) (named_req draft.now task number) false }
+    ensures { result ≡ option_map_or (λ r. fits_inst draft.now inst r.access)
+        (named_req draft.now task number) false }
 {
     match named_req(draft, task, number) {
         Some(req) => fits_inst(draft, req.access, inst),
@@ -202,7 +202,8 @@ fn either_lacks<P: PointSet>(
     src: u32,
     dst: u32,
 ) -> bool
-    ensures { result ≡ (lacks draft.now (points_in draft.now space) fields.now src || lacks draft.now (points_in draft.now space) fields.now dst) }
+    ensures { result ≡ (lacks draft.now (points_in draft.now space) fields.now src
+        || lacks draft.now (points_in draft.now space) fields.now dst) }
 {
     lacks(draft, space, fields, src) || lacks(draft, space, fields, dst)
 }
@@ -225,7 +226,7 @@ fn lacks_of_req<P: PointSet>(
     fields: &Nums,
     inst: u32,
 ) -> bool
-    ensures { result ≡ lacks draft.now (option_map_or (λ r. points_in draft.now r.space) (named_req draft.now task number) []) fields.now inst }
+    ensures { result ≡ lacks draft.now (points_of_req draft.now task number) fields.now inst }
 {
     match named_req(draft, task, number) {
         Some(req) => lacks(draft, req.space, fields, inst),
@@ -235,7 +236,7 @@ fn lacks_of_req<P: PointSet>(
 
 /// Whether a space has a point outside the root space of a tree.
 fn exceeds_root<P: PointSet>(draft: &Draft<P>, tree: u32, space: u32) -> bool
-    ensures { result ≡ not (is_within (points_in draft.now space) (option_map_or (λ r. points_in draft.now r.space) (tree_at draft.now tree) [])) }
+    ensures { result ≡ not (is_within (points_in draft.now space) (root_points draft.now tree)) }
 {
     match draft.tree(tree) {
         Some(tree) => !is_space_within(draft, space, tree.space),
@@ -287,14 +288,14 @@ pub fn is_not_covered<P: PointSet>(draft: &Draft<P>, rec: &Record) -> bool
 
 /// Whether a field of an item's requirement is mapped.
 fn is_mapped<P: PointSet>(draft: &Draft<P>, item: usize, number: u32, field: u32) -> bool
-    ensures { result ≡ list_any (λ m. names_field m.item m.number m.fields (record { item = item; number = number; field = field })) draft.now.maps }
+    ensures { result ≡ is_mapped draft.now item number field }
 {
     draft.inst_of(item, number, field).is_some()
 }
 
 /// Whether one of some fields of an item's requirement is mapped, field by field.
 fn finds_mapped<P: PointSet>(draft: &Draft<P>, item: usize, number: u32, fields: &[u32]) -> bool
-    ensures { result ≡ list_any (λ f. list_any (λ m. names_field m.item m.number m.fields (record { item = item; number = number; field = f })) draft.now.maps) fields.now }
+    ensures { result ≡ list_any (is_mapped draft.now item number) fields.now }
 {
     fields
         .iter()
@@ -303,7 +304,7 @@ fn finds_mapped<P: PointSet>(draft: &Draft<P>, item: usize, number: u32, fields:
 
 /// Whether one of some fields of an item's requirement is mapped.
 fn is_any_mapped<P: PointSet>(draft: &Draft<P>, item: usize, number: u32, fields: &Nums) -> bool
-    ensures { result ≡ list_any (λ m. (m.item == item) && ((m.number == number) && meets m.fields fields.now)) draft.now.maps }
+    ensures { result ≡ is_any_mapped draft.now item number fields.now }
 {
     finds_mapped(draft, item, number, fields.as_slice())
 }

@@ -1,12 +1,12 @@
 //! The load of a log: for each cell of each instance, the requirements that reduce at the place of the cell.
 
-ghost use Rattle.std.specs.Prelude.{◌≡◌, ◌+◌, ◌^◌, ◌<◌, ◌&&◌, [], ◌∷◌, map, All, IfOk, OnOk};
+ghost use Rattle.std.specs.Prelude.{◌≡◌, ◌&&◌, [], ◌∷◌, map, IfOk, OnOk, sum_by};
 ghost use Rattle.std.specs.List.Sorted.{IsStrictlyIncreasing};
 ghost use Rattle.semantics.specs.Points.{points_in};
-ghost use Rattle.semantics.specs.Rules.{total, has_much_load, reduces};
+ghost use Rattle.semantics.specs.Rules.{has_much_load, reduces};
 ghost use Rattle.log_rules.specs.declared.load.LoadPlace.{LoadPlace};
 ghost use Rattle.log_rules.specs.Counts.{cut};
-ghost use Rattle.log_rules.specs.Loads.{load_in, one, same_load_place, is_held, covers_place, load_at, row_load, inst_load};
+ghost use Rattle.log_rules.specs.Loads.{AreLoads, CountsAt, load_in, same_load_place, is_held, covers_place, row_load, grid_load, inst_load};
 
 use crate::counts::{exceeds, raised};
 use crate::points::Points;
@@ -67,7 +67,7 @@ impl Loads {
 
     /// One requirement more at a place.
     fn add(&mut self, place: LoadPlace) -> Result<(), AllocError>
-        ensures { OnOk result ((k : LoadPlace) → cut (load_in self.new k) ≡ cut (load_in self.old k + one (same_load_place place k))) }
+        ensures { OnOk result (CountsAt self.old self.new (same_load_place place)) }
     {
         let count = raised(self.at(place), 1);
         self.counts.insert(place, count)?;
@@ -77,7 +77,7 @@ impl Loads {
     /// One requirement more at a point and these fields.
     fn add_at_point(&mut self, tree: u32, point: u64, fields: &[u32]) -> Result<(), AllocError>
         requires { IsStrictlyIncreasing fields.now }
-        ensures { OnOk result ((k : LoadPlace) → cut (load_in self.new k) ≡ cut (load_in self.old k + one (is_held tree (point ∷ []) fields.now k))) }
+        ensures { OnOk result (CountsAt self.old self.new (is_held tree (point ∷ []) fields.now)) }
     {
         for field in fields {
             let place = LoadPlace {
@@ -93,7 +93,7 @@ impl Loads {
     /// One requirement more at these points and fields.
     fn add_all<P: PointSet>(&mut self, tree: u32, set: &P, fields: &[u32]) -> Result<(), AllocError>
         requires { IsStrictlyIncreasing fields.now }
-        ensures { OnOk result ((k : LoadPlace) → cut (load_in self.new k) ≡ cut (load_in self.old k + one (is_held tree (P.points set.now) fields.now k))) }
+        ensures { OnOk result (CountsAt self.old self.new (is_held tree (P.points set.now) fields.now)) }
     {
         for point in Points::of(set) {
             self.add_at_point(tree, point, fields)?;
@@ -110,7 +110,8 @@ impl Loads {
         fields: &[u32],
     ) -> Result<(), AllocError>
         requires { IsStrictlyIncreasing fields.now }
-        ensures { OnOk result ((k : LoadPlace) → cut (load_in self.new k) ≡ cut (load_in self.old k + one (is_held tree (points_in draft.now space) fields.now k))) }
+        ensures { OnOk result (CountsAt self.old self.new
+            (is_held tree (points_in draft.now space) fields.now)) }
     {
         match draft.set(space) {
             Some(set) => self.add_all(tree, set, fields),
@@ -121,7 +122,8 @@ impl Loads {
     /// One requirement more, if it reduces.
     fn add_req<P: PointSet>(&mut self, draft: &Draft<P>, req: &Req) -> Result<(), AllocError>
         requires { IsStrictlyIncreasing req.now.fields }
-        ensures { OnOk result ((k : LoadPlace) → cut (load_in self.new k) ≡ cut (load_in self.old k + one (reduces req.now.access && covers_place draft.now k req.now))) }
+        ensures { OnOk result (CountsAt self.old self.new (λ k.
+            reduces req.now.access && covers_place draft.now k req.now)) }
     {
         if reduces(req.access) {
             self.add_space(draft, req.tree, req.space, req.fields.as_slice())
@@ -132,7 +134,7 @@ impl Loads {
 
     /// How many requirements of a log reduce at each place.
     fn of<P: PointSet>(alloc: Global, draft: &Draft<P>) -> Result<Loads, AllocError>
-        ensures { IfOk result (λ loads. (k : LoadPlace) → cut (load_in loads k) ≡ cut (load_at draft.now k draft.now.reqs)) }
+        ensures { IfOk result (λ loads. AreLoads draft.now loads draft.now.reqs) }
     {
         let mut loads = Loads::new(alloc);
         for req in draft.reqs() {
@@ -159,7 +161,7 @@ impl Loads {
 
     /// The load at these points and fields.
     fn at_all<P: PointSet>(&self, tree: u32, set: &P, fields: &[u32]) -> u128
-        ensures { result ≡ cut (total (map (row_load (load_in self.now) tree fields.now) (P.points set.now))) }
+        ensures { result ≡ cut (grid_load (load_in self.now) tree fields.now (P.points set.now)) }
     {
         let mut load = 0u128;
         for point in Points::of(set) {
@@ -180,7 +182,7 @@ impl Loads {
 
     /// The load of some instances.
     fn of_insts<P: PointSet>(&self, draft: &Draft<P>, insts: &[Inst]) -> u128
-        ensures { result ≡ cut (total (map (inst_load (load_in self.now) draft.now) insts.now)) }
+        ensures { result ≡ cut (sum_by (inst_load (load_in self.now) draft.now) insts.now) }
     {
         let mut load = 0u128;
         for inst in insts {

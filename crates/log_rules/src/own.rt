@@ -1,16 +1,15 @@
 //! Requirements of one task that share a place.
 
-ghost use Rattle.std.specs.Prelude.{◌≡◌, ◌==◌, ◌&&◌, not, List};
+ghost use Rattle.std.specs.Prelude.{◌≡◌};
 ghost use Rattle.std.specs.List.{list_any};
 ghost use Rattle.std.specs.List.Sorted.{IsStrictlyIncreasing};
 ghost use Rattle.privilege.specs.Interference.{agree};
 ghost use Rattle.spy_grammar.specs.declared.record.Record.{Record};
 ghost use Rattle.semantics.specs.Points.{points_in, meets};
-ghost use Rattle.semantics.specs.Tables.{place_of, privilege_of};
 ghost use Rattle.semantics.specs.Rules.{interferes_with_own};
 ghost use Rattle.log_tables.specs.Views.{Ascends};
 ghost use Rattle.log_rules.specs.Own.{AreClaims, clashes_with, clashes_own, first_clashes, clashes_row};
-ghost use Rattle.log_rules.specs.Tallied.{IsTally};
+ghost use Rattle.log_rules.specs.Tallied.{IfTally};
 
 use crate::claims::{Claims, agree};
 use crate::fields::meets;
@@ -53,7 +52,8 @@ fn clashes_with<P: PointSet>(
 ) -> bool
     requires req { IsStrictlyIncreasing req.now.fields }
     requires fields { IsStrictlyIncreasing fields.now }
-    ensures { result ≡ clashes_with draft.now item tree (points_in draft.now space) fields.now access req.now }
+    ensures { result
+        ≡ clashes_with draft.now item tree (points_in draft.now space) fields.now access req.now }
 {
     req.item == item
         && req.tree == tree
@@ -110,7 +110,8 @@ fn clashes_with_claims<P: PointSet>(
     fields: &[u32],
     access: Priv,
 ) -> bool
-    ensures { result ≡ list_any (clashes_row claims.now item tree fields.now access) (points_in draft.now space) }
+    ensures { result
+        ≡ list_any (clashes_row claims.now item tree fields.now access) (points_in draft.now space) }
 {
     match draft.set(space) {
         Some(set) => claims.clashes_any(item, tree, set, fields, access),
@@ -129,7 +130,8 @@ fn clashes_by_place<P: PointSet>(
     access: Priv,
 ) -> bool
     requires { IsStrictlyIncreasing fields.now }
-    ensures { AreClaims draft.now claims.now → result ≡ clashes_own draft.now item tree space fields.now access }
+    ensures { AreClaims draft.now claims.now
+        → result ≡ clashes_own draft.now item tree space fields.now access }
 {
     first_clashes(draft, item, tree, space, fields, access)
         || clashes_with_claims(draft, claims, item, tree, space, fields, access)
@@ -147,7 +149,8 @@ fn clashes_own<P: PointSet>(
     access: Priv,
 ) -> bool
     requires { IsStrictlyIncreasing fields.now }
-    ensures { AreClaims draft.now claims.now → result ≡ clashes_own draft.now item tree space fields.now access }
+    ensures { AreClaims draft.now claims.now
+        → result ≡ clashes_own draft.now item tree space fields.now access }
 {
     if draft.req_count(item) == 0 {
         false
@@ -163,7 +166,7 @@ fn clashes_own<P: PointSet>(
 /// It is held against the first of its task, and against the places that the others claim, of which the accesses bound how many there are. A requirement that asks for too many accesses is held against each earlier one instead.
 pub fn interferes_with_own<P: PointSet>(draft: &Draft<P>, tally: &Tally, rec: &Record) -> bool
     requires { Ascends rec.now }
-    ensures { (earlier : List Record) → IsTally earlier draft.now tally.now → result ≡ interferes_with_own draft.now rec.now }
+    ensures { IfTally draft.now tally.now (λ earlier. result ≡ interferes_with_own draft.now rec.now) }
 {
     match rec {
         Record::Req {

@@ -1,9 +1,9 @@
 //! Where requirements and fills lie, and which fields a tree or a requirement has.
 
-ghost use Rattle.std.specs.Prelude.{◌≡◌, [], not};
-ghost use Rattle.std.specs.Option.{option_map_or};
+ghost use Rattle.std.specs.Prelude.{◌≡◌, not};
+ghost use Rattle.log_rules.specs.Instances.{fields_of_req};
 ghost use Rattle.semantics.specs.Points.{is_within};
-ghost use Rattle.semantics.specs.Rules.{is_not_in_tree, has_wrong_fields, exceeds_tree, named_req};
+ghost use Rattle.semantics.specs.Rules.{is_not_in_tree, has_wrong_fields, exceeds_tree};
 
 use crate::fields::is_within;
 use crate::names::named_req;
@@ -36,7 +36,7 @@ fn exceeds_tree<P: PointSet>(draft: &Draft<P>, tree: u32, fields: &Nums) -> bool
 
 /// Whether some field is none of a requirement's.
 fn exceeds_req<P: PointSet>(draft: &Draft<P>, task: u32, number: u32, fields: &Nums) -> bool
-    ensures { result ≡ not (is_within fields.now (option_map_or (λ r. r.fields) (named_req draft.now task number) [])) }
+    ensures { result ≡ not (is_within fields.now (fields_of_req draft.now task number)) }
 {
     match named_req(draft, task, number) {
         Some(req) => !is_within(fields.as_slice(), req.fields.as_slice()),

@@ -1,14 +1,12 @@
 //! The serial order that a log lists.
 
-ghost use Rattle.std.specs.Prelude.{◌≡◌, ◌+◌, ◌==◌, ◌||◌, nat_eq, ℕ, List, IfOk, OnOk};
+ghost use Rattle.std.specs.Prelude.{◌≡◌, ◌+◌, ◌==◌, nat_eq, IfOk, OnOk};
 ghost use Rattle.std.specs.HashSet.{contains};
 ghost use Rattle.std.specs.List.{list_any, list_all};
-ghost use Rattle.semantics.specs.Points.{is_in};
 ghost use Rattle.semantics.specs.Records.{records_of};
-ghost use Rattle.semantics.specs.Rules.{items_declared, is_bad_serial};
-ghost use Rattle.spy_grammar.specs.declared.record.Record.{Record};
-ghost use Rattle.log_rules.specs.Tallied.{IsTally};
-ghost use Rattle.log_rules.specs.Listing.{TellsRepeat, lists_badly};
+ghost use Rattle.semantics.specs.Rules.{is_bad_serial};
+ghost use Rattle.log_rules.specs.Tallied.{IfTally};
+ghost use Rattle.log_rules.specs.Listing.{AddsAll, TellsRepeat, is_listed, lists_badly};
 
 use crate::tally::Tally;
 use crate::whole_log::WholeLog;
@@ -33,7 +31,7 @@ fn distinct(alloc: Global, ids: &[u32]) -> Result<Option<HashSet<u32>>, AllocErr
 
 /// Notes more numbers.
 pub(crate) fn note_all(set: &mut HashSet<u32>, ids: &[u32]) -> Result<(), AllocError>
-    ensures { OnOk result ((n : ℕ) → contains nat_eq set.new n ≡ (contains nat_eq set.old n || is_in ids.now n)) }
+    ensures { OnOk result (AddsAll (contains nat_eq set.old) (contains nat_eq set.new) ids.now) }
 {
     for id in ids {
         set.insert(*id)?;
@@ -50,7 +48,7 @@ fn finds_any(set: &HashSet<u32>, ids: &[u32]) -> bool
 
 /// Whether the item that a record declares, if it declares one, is in one of two sets.
 fn is_listed(rec: &Record, listed: &HashSet<u32>, here: &HashSet<u32>) -> bool
-    ensures { result ≡ list_all (λ id. contains nat_eq listed.now id || contains nat_eq here.now id) (items_declared rec.now) }
+    ensures { result ≡ is_listed (contains nat_eq listed.now) (contains nat_eq here.now) rec.now }
 {
     match rec {
         Record::Task { id } | Record::Fill { id, .. } => listed.contains(id) || here.contains(id),
@@ -60,7 +58,8 @@ fn is_listed(rec: &Record, listed: &HashSet<u32>, here: &HashSet<u32>) -> bool
 
 /// Whether each item of a log is in one of two sets.
 fn are_listed(log: &[Lined], listed: &HashSet<u32>, here: &HashSet<u32>) -> bool
-    ensures { result ≡ list_all (λ r. list_all (λ id. contains nat_eq listed.now id || contains nat_eq here.now id) (items_declared r)) (records_of log.now) }
+    ensures { result ≡ list_all (is_listed (contains nat_eq listed.now) (contains nat_eq here.now))
+        (records_of log.now) }
 {
     for l in log {
         if !is_listed(&l.rec, listed, here) {
@@ -105,7 +104,8 @@ pub fn is_bad_serial<P: PointSet>(
     tally: &Tally,
     rec: &Record,
 ) -> Result<bool, AllocError>
-    ensures { (earlier : List Record) → IsTally earlier draft.now tally.now → IfOk result (λ bad. bad ≡ is_bad_serial whole.now draft.now rec.now) }
+    ensures { IfTally draft.now tally.now (λ earlier.
+        IfOk result (λ bad. bad ≡ is_bad_serial whole.now draft.now rec.now)) }
 {
     match rec {
         Record::Serial { items } => {

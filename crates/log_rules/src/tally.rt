@@ -1,14 +1,14 @@
 //! What is kept count of along a log, and the limits on it.
 
-ghost use Rattle.std.specs.Prelude.{◌≡◌, ◌||◌, nat_eq, ℕ, List, [], ◌++◌, ◌∷◌, OnOk};
+ghost use Rattle.std.specs.Prelude.{◌≡◌, nat_eq, ℕ, List, [], ◌++◌, ◌∷◌, OnOk};
 ghost use Rattle.std.specs.HashSet.{contains};
 ghost use Rattle.spy_grammar.specs.declared.record.Record.{Record};
-ghost use Rattle.semantics.specs.Points.{is_in, points_in};
+ghost use Rattle.semantics.specs.Points.{points_in};
 ghost use Rattle.semantics.specs.Tables.{no_tables, with_record};
 ghost use Rattle.semantics.specs.Rules.{has_many_points, has_many_cells, has_many_accesses};
 ghost use Rattle.log_rules.specs.Own.{Adds, claims_at, claimed};
-ghost use Rattle.log_rules.specs.Listing.{ids_listed};
-ghost use Rattle.log_rules.specs.Tallied.{IsTally, MayCount};
+ghost use Rattle.log_rules.specs.Listing.{AddsAll, ids_listed};
+ghost use Rattle.log_rules.specs.Tallied.{IfTally, IsTally, MayCount};
 
 use crate::claims::Claims;
 use crate::counts::{accesses, cells_asked, exceeds, points_asked, raised};
@@ -41,7 +41,8 @@ pub struct Tally {
 
 /// Notes the items that a record lists.
 fn note_listed(listed: &mut HashSet<u32>, rec: &Record) -> Result<(), AllocError>
-    ensures { OnOk result ((n : ℕ) → contains nat_eq listed.new n ≡ (contains nat_eq listed.old n || is_in (ids_listed rec.now) n)) }
+    ensures { OnOk result (AddsAll (contains nat_eq listed.old) (contains nat_eq listed.new)
+        (ids_listed rec.now)) }
 {
     match rec {
         Record::Serial { items } => note_all(listed, items.as_slice()),
@@ -59,7 +60,8 @@ fn claim_req<P: PointSet>(
     fields: &Nums,
     access: Priv,
 ) -> Result<(), AllocError>
-    ensures { OnOk result (Adds claims.old claims.new (claims_at item tree (points_in draft.now space) fields.now access)) }
+    ensures { OnOk result (Adds claims.old claims.new
+        (claims_at item tree (points_in draft.now space) fields.now access)) }
 {
     match draft.set(space) {
         Some(set) => claims.claim_all(item, tree, set, fields.as_slice(), access),
@@ -109,9 +111,10 @@ impl Tally {
         }
     }
 
-    /// Counts one record more, given what the records before it declare. Want of memory leaves the tally of no use.
+    /// Counts one record more, given what the records before it declare. Where memory runs out the tally is of no use.
     pub fn add<P: PointSet>(&mut self, draft: &Draft<P>, rec: &Record) -> Result<(), AllocError>
-        ensures { OnOk result ((earlier : List Record) (line : ℕ) → IsTally earlier draft.now self.old → MayCount earlier draft.now rec.now
+        ensures { OnOk result ((earlier : List Record) (line : ℕ) → IsTally earlier draft.now self.old
+            → MayCount earlier draft.now rec.now
             → IsTally (earlier ++ rec.now ∷ []) (with_record draft.now line rec.now) self.new) }
     {
         self.points = raised(self.points, points_asked(rec));
@@ -125,7 +128,7 @@ impl Tally {
 
 /// Whether the spaces up to a record have too many points together.
 pub fn has_many_points<P: PointSet>(draft: &Draft<P>, tally: &Tally, rec: &Record) -> bool
-    ensures { (earlier : List Record) → IsTally earlier draft.now tally.now → result ≡ has_many_points draft.now rec.now }
+    ensures { IfTally draft.now tally.now (λ earlier. result ≡ has_many_points draft.now rec.now) }
 {
     match rec {
         Record::Ispace { .. } => exceeds(tally.points, points_asked(rec), MOST_POINTS),
@@ -135,7 +138,7 @@ pub fn has_many_points<P: PointSet>(draft: &Draft<P>, tally: &Tally, rec: &Recor
 
 /// Whether the instances up to a record have too many cells together.
 pub fn has_many_cells<P: PointSet>(draft: &Draft<P>, tally: &Tally, rec: &Record) -> bool
-    ensures { (earlier : List Record) → IsTally earlier draft.now tally.now → result ≡ has_many_cells draft.now rec.now }
+    ensures { IfTally draft.now tally.now (λ earlier. result ≡ has_many_cells draft.now rec.now) }
 {
     match rec {
         Record::Inst { .. } => exceeds(tally.cells, cells_asked(draft, rec), MOST_CELLS),
@@ -145,7 +148,7 @@ pub fn has_many_cells<P: PointSet>(draft: &Draft<P>, tally: &Tally, rec: &Record
 
 /// Whether the records up to this one ask for too many accesses together.
 pub fn has_many_accesses<P: PointSet>(draft: &Draft<P>, tally: &Tally, rec: &Record) -> bool
-    ensures { (earlier : List Record) → IsTally earlier draft.now tally.now → result ≡ has_many_accesses earlier draft.now rec.now }
+    ensures { IfTally draft.now tally.now (λ earlier. result ≡ has_many_accesses earlier draft.now rec.now) }
 {
     exceeds(tally.accesses, accesses(draft, rec), MOST_ACCESSES)
 }

@@ -1,6 +1,6 @@
 //! What some rules ask of a log as a whole.
 
-ghost use Rattle.std.specs.Prelude.{◌≡◌, nat_eq, filter, length, IfOk};
+ghost use Rattle.std.specs.Prelude.{◌≡◌, nat_eq, IfOk};
 ghost use Rattle.std.specs.HashSet.{contains};
 ghost use Rattle.std.specs.List.{list_any, list_all};
 ghost use Rattle.std.specs.Option.{is_some};
@@ -33,7 +33,8 @@ impl<'l> Model for WholeLog<'l> {
 
     ghost view = { λ w. records_of w.log.now };
 
-    ghost invariant = { λ w. IsGathered (records_of w.log.now) (contains nat_eq w.completed) (contains nat_eq w.run) w.lists };
+    ghost invariant = { λ w. IsGathered (records_of w.log.now)
+        (contains nat_eq w.completed) (contains nat_eq w.run) w.lists };
 }
 
 /// The completion event of a record.

@@ -1,3 +1,4 @@
-pub mod Ascending
-pub mod Mapping
-pub mod Places
+pub mod lemmas
+mod Ascending
+mod Mapping
+mod Noting

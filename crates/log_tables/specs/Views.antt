@@ -1,5 +1,5 @@
 -- How entries are seen, and what records have to have.
-use Rattle.std.specs.Prelude.{ℕ, List}
+use Rattle.std.specs.Prelude.{◌≡◌, ℕ, List}
 use Rattle.spy_grammar.specs.declared.record.Record.{Record}
 use Rattle.spy_grammar.specs.declared.record.Record.TheVariants.{Ispace, Part, Sub, Fields, Tree, Redop, Task, Req, Fill, Serial, Inst, Map, Run, Copy, Put, Reset, Fold, Merge}
 use Rattle.std.specs.List.Sorted.{IsStrictlyIncreasing}
@@ -10,6 +10,10 @@ use Rattle.log_tables.specs.declared.entries.Space as spaces
 -- A space is seen as its id and its points.
 abbrev pub space_seen : {P : Type 0} → (P → List ℕ) → spaces.Space P → tables.Space
 space_seen points s = record { id = s.id; points = points s.set }
+
+-- What a record declares is added, where its line plays no part.
+abbrev pub Declares : tables.Tables → tables.Tables → Record → Type 0
+Declares old new rec = new ≡ tables.with_record old 0 rec
 
 -- The runs of a record's set ascend, and so do the fields of a field space, a requirement, a fill or an instance.
 abbrev pub Ascends : Record → Type 0

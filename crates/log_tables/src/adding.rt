@@ -107,7 +107,8 @@ impl<'a, P: ArenaSet<'a>> Draft<P> {
     ) -> Result<(), AllocError>
         requires few { length self.old.reqs < 2 ^ 32 - 1 }
         requires ascend { IsStrictlyIncreasing fields }
-        ensures { OnOk result (self.new ≡ with_record self.old line (records.Req task tree space fields access atomic)) }
+        ensures { OnOk result (self.new ≡ with_record self.old line
+            (records.Req task tree space fields access atomic)) }
     {
         let item = self.place(task);
         let number = self.req_count(item) as u32 + 1;
@@ -151,16 +152,13 @@ impl<'a, P: ArenaSet<'a>> Draft<P> {
                 n,
             } => {
                 let fields = copied(alloc, fields)?;
-                self.add_item(
-                    *id,
-                    line,
-                    ItemBody::Fill {
-                        tree: *tree,
-                        space: *space,
-                        fields,
-                        n: *n,
-                    },
-                )?;
+                let body = ItemBody::Fill {
+                    tree: *tree,
+                    space: *space,
+                    fields,
+                    n: *n,
+                };
+                self.add_item(*id, line, body)?;
             }
             Record::Serial { items } => {
                 let ids = copied(alloc, items)?;
@@ -218,17 +216,13 @@ impl<'a, P: ArenaSet<'a>> Draft<P> {
             } => {
                 let fields = copied(alloc, fields)?;
                 let waits = copied(alloc, waits)?;
-                self.add_node(
-                    line,
-                    *done,
-                    waits,
-                    Op::Copy {
-                        src: *src,
-                        dst: *dst,
-                        space: *space,
-                        fields,
-                    },
-                )?;
+                let op = Op::Copy {
+                    src: *src,
+                    dst: *dst,
+                    space: *space,
+                    fields,
+                };
+                self.add_node(line, *done, waits, op)?;
             }
             Record::Put {
                 inst,
@@ -240,17 +234,13 @@ impl<'a, P: ArenaSet<'a>> Draft<P> {
             } => {
                 let fields = copied(alloc, fields)?;
                 let waits = copied(alloc, waits)?;
-                self.add_node(
-                    line,
-                    *done,
-                    waits,
-                    Op::Put {
-                        inst: *inst,
-                        space: *space,
-                        fields,
-                        n: *n,
-                    },
-                )?;
+                let op = Op::Put {
+                    inst: *inst,
+                    space: *space,
+                    fields,
+                    n: *n,
+                };
+                self.add_node(line, *done, waits, op)?;
             }
             Record::Reset {
                 inst,
@@ -261,16 +251,12 @@ impl<'a, P: ArenaSet<'a>> Draft<P> {
             } => {
                 let fields = copied(alloc, fields)?;
                 let waits = copied(alloc, waits)?;
-                self.add_node(
-                    line,
-                    *done,
-                    waits,
-                    Op::Reset {
-                        inst: *inst,
-                        space: *space,
-                        fields,
-                    },
-                )?;
+                let op = Op::Reset {
+                    inst: *inst,
+                    space: *space,
+                    fields,
+                };
+                self.add_node(line, *done, waits, op)?;
             }
             Record::Fold {
                 src,
@@ -282,17 +268,13 @@ impl<'a, P: ArenaSet<'a>> Draft<P> {
             } => {
                 let fields = copied(alloc, fields)?;
                 let waits = copied(alloc, waits)?;
-                self.add_node(
-                    line,
-                    *done,
-                    waits,
-                    Op::Fold {
-                        src: *src,
-                        dst: *dst,
-                        space: *space,
-                        fields,
-                    },
-                )?;
+                let op = Op::Fold {
+                    src: *src,
+                    dst: *dst,
+                    space: *space,
+                    fields,
+                };
+                self.add_node(line, *done, waits, op)?;
             }
             Record::Merge { done, waits } => {
                 let waits = copied(alloc, waits)?;

@@ -2,8 +2,10 @@
 
 ghost use Rattle.std.specs.Prelude.{◌≡◌, ◌++◌, ◌∷◌, [], ◌^◌, ◌<◌, length, OnOk};
 ghost use Rattle.std.specs.List.Sorted.{IsStrictlyIncreasing};
-ghost use Rattle.semantics.specs.Tables.{no_tables, with_item, with_node};
+ghost use Rattle.semantics.specs.Tables.{no_tables, with_item, with_node, with_record};
 ghost use Rattle.log_tables.specs.Ascending.{body_fields};
+ghost use Rattle.log_tables.specs.Views.{Declares};
+ghost use Rattle.spy_grammar.specs.declared.record.Record.TheVariants as records;
 
 use crate::entries::{Space, SubKey};
 use crate::maps::Maps;
@@ -84,13 +86,16 @@ impl<P: PointSet> Draft<P> {
     pub(crate) fn add_space(&mut self, id: u32, set: P) -> Result<(), AllocError>
     where
         P: Drop,
-        ensures { OnOk result (self.new ≡ record self.old { spaces = self.old.spaces ++ record { id = id; points = P.points set } ∷ [] }) }
+        ensures { OnOk result (self.new ≡ record self.old {
+          spaces = self.old.spaces
+              ++ record { id = id; points = P.points set } ∷ [];
+        }) }
     {
         self.spaces.push(Space { id, set })
     }
 
     pub(crate) fn add_part(&mut self, id: u32, space: u32, disjoint: bool) -> Result<(), AllocError>
-        ensures { OnOk result (self.new ≡ record self.old { parts = self.old.parts ++ record { id = id; space = space; disjoint = disjoint } ∷ [] }) }
+        ensures { OnOk result (Declares self.old self.new (records.Part id space disjoint)) }
     {
         self.parts.push(Part {
             id,
@@ -100,7 +105,7 @@ impl<P: PointSet> Draft<P> {
     }
 
     pub(crate) fn add_sub(&mut self, part: u32, colour: u32, space: u32) -> Result<(), AllocError>
-        ensures { OnOk result (self.new ≡ record self.old { subs = self.old.subs ++ record { part = part; colour = colour; space = space } ∷ [] }) }
+        ensures { OnOk result (Declares self.old self.new (records.Sub part colour space)) }
     {
         self.subs.push(Sub {
             part,
@@ -111,19 +116,19 @@ impl<P: PointSet> Draft<P> {
 
     pub(crate) fn add_field_space(&mut self, id: u32, fields: Nums) -> Result<(), AllocError>
         requires { IsStrictlyIncreasing fields }
-        ensures { OnOk result (self.new ≡ record self.old { field_spaces = self.old.field_spaces ++ record { id = id; fields = fields } ∷ [] }) }
+        ensures { OnOk result (Declares self.old self.new (records.Fields id fields)) }
     {
         self.field_spaces.push(FieldSpace { id, fields })
     }
 
     pub(crate) fn add_tree(&mut self, id: u32, space: u32, fspace: u32) -> Result<(), AllocError>
-        ensures { OnOk result (self.new ≡ record self.old { trees = self.old.trees ++ record { id = id; space = space; fspace = fspace } ∷ [] }) }
+        ensures { OnOk result (Declares self.old self.new (records.Tree id space fspace)) }
     {
         self.trees.push(Tree { id, space, fspace })
     }
 
     pub(crate) fn add_operator(&mut self, id: u32) -> Result<(), AllocError>
-        ensures { OnOk result (self.new ≡ record self.old { operators = self.old.operators ++ id ∷ [] }) }
+        ensures { OnOk result (Declares self.old self.new (records.Redop id)) }
     {
         self.operators.push(id)
     }
@@ -144,7 +149,7 @@ impl<P: PointSet> Draft<P> {
     }
 
     pub(crate) fn add_serial(&mut self, line: u32, ids: Nums) -> Result<(), AllocError>
-        ensures { OnOk result (self.new ≡ record self.old { serials = self.old.serials ++ record { line = line; ids = ids } ∷ [] }) }
+        ensures { OnOk result (self.new ≡ with_record self.old line (records.Serial ids)) }
     {
         self.serials.push(Serial { line, ids })?;
         Ok(())
@@ -164,7 +169,10 @@ impl<P: PointSet> Draft<P> {
         fields: Nums,
         inst: u32,
     ) -> Result<(), AllocError>
-        ensures { OnOk result (self.new ≡ record self.old { maps = self.old.maps ++ record { item = item; number = number; fields = fields; inst = inst } ∷ [] }) }
+        ensures { OnOk result (self.new ≡ record self.old {
+          maps = self.old.maps
+              ++ record { item = item; number = number; fields = fields; inst = inst } ∷ [];
+        }) }
     {
         self.maps.push(Map {
             item,

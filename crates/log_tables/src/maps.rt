@@ -1,11 +1,9 @@
 //! Maps of requirements' fields to instances.
 
-ghost use Rattle.std.specs.Prelude.{◌≡◌, ◌++◌, ◌∷◌, [], ◌==◌, ◌&&◌, ◌≤◌, OnOk, OnErr, IsOk, length, Some, None, if◌then◌else◌};
-ghost use Rattle.std.specs.Option.{option_or};
+ghost use Rattle.std.specs.Prelude.{◌≡◌, ◌++◌, ◌∷◌, [], ◌≤◌, OnOk, IsOk, length};
 ghost use Rattle.indexmap.specs.IndexMap.{get, spare};
-ghost use Rattle.semantics.specs.Points.{is_in};
-ghost use Rattle.log_tables.specs.declared.maps.FieldKey.{FieldKey};
 ghost use Rattle.log_tables.specs.Mapped.{same_field, inst_mapped, names_field};
+ghost use Rattle.log_tables.specs.Noted.{NotesFirst};
 
 use crate::rows::note_first;
 use indexmap::IndexMap;
@@ -50,7 +48,8 @@ fn note_fields(
     fields: &[u32],
     inst: u32,
 ) -> Result<(), AllocError>
-    ensures ok { OnOk result ((k : FieldKey) → get same_field insts.new k ≡ option_or (get same_field insts.old k) (if names_field item number fields.now k then Some inst else None)) }
+    ensures ok { OnOk result (NotesFirst (get same_field insts.old) (get same_field insts.new)
+        (names_field item number fields.now) inst) }
     ensures room { length fields.now ≤ spare insts.old → IsOk result }
 {
     for field in fields {

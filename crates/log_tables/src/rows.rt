@@ -1,9 +1,10 @@
 //! Rows that are looked up by a key.
 
-ghost use Rattle.std.specs.Prelude.{◌≡◌, ◌++◌, ◌∷◌, [], OnOk, OnErr, IsOk, ◌<◌, ◌≤◌, ◌+◌, Some, None, find, length, slice_get, option_and_then, if◌then◌else◌};
+ghost use Rattle.std.specs.Prelude.{◌≡◌, ◌++◌, ◌∷◌, [], OnOk, OnErr, IsOk, ◌<◌, ◌≤◌, ◌+◌, find, length, slice_get, option_and_then};
 ghost use Rattle.std.specs.List.{list_any, position_from};
-ghost use Rattle.std.specs.Option.{option_copied, option_or};
+ghost use Rattle.std.specs.Option.{option_copied};
 ghost use Rattle.indexmap.specs.IndexMap.{get, spare};
+ghost use Rattle.log_tables.specs.Noted.{NotesFirst};
 
 use indexmap::IndexMap;
 use std::alloc::{AllocError, Global};
@@ -26,15 +27,15 @@ pub struct Rows<K: Copy + Eq + Hash, T: Keyed<K>> {
 }
 
 impl<K: Copy + Eq + Hash, T: Keyed<K>> Model for Rows<K, T> {
-    ghost use Rattle.std.specs.Prelude.{◌≡◌, List};
-    ghost use Rattle.std.specs.List.{position_from};
+    ghost use Rattle.std.specs.Prelude.{List};
     ghost use Rattle.indexmap.specs.IndexMap.{get};
+    ghost use Rattle.log_tables.specs.Noted.{HoldsPlaces};
 
     ghost Value = { List T };
 
     ghost view = { λ r. r.rows.items };
 
-    ghost invariant = { λ r. (q : K) → get K.eq r.places q ≡ position_from (λ x. K.eq (T.key_of x) q) 0 r.rows.items };
+    ghost invariant = { λ r. HoldsPlaces K.eq T.key_of (get K.eq r.places) r.rows.items };
 }
 
 /// Notes a value of a key, if the key has none yet.
@@ -43,7 +44,7 @@ pub(crate) fn note_first<K: Copy + Eq + Hash, V: Copy>(
     key: K,
     value: V,
 ) -> Result<(), AllocError>
-    ensures ok { OnOk result ((q : K) → get K.eq values.new q ≡ option_or (get K.eq values.old q) (if K.eq key q then Some value else None)) }
+    ensures ok { OnOk result (NotesFirst (get K.eq values.old) (get K.eq values.new) (K.eq key) value) }
     ensures err { OnErr result ((q : K) → get K.eq values.new q ≡ get K.eq values.old q) }
     ensures room { 0 < spare values.old → IsOk result }
     ensures spare { spare values.old ≤ spare values.new + 1 }

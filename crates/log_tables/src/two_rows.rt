@@ -27,15 +27,15 @@ pub struct TwoRows<K: Copy + Eq + Hash, L: Copy + Eq + Hash, T: Keyed<K> + AlsoK
 
 impl<K: Copy + Eq + Hash, L: Copy + Eq + Hash, T: Keyed<K> + AlsoKeyed<L>> Model
     for TwoRows<K, L, T> {
-    ghost use Rattle.std.specs.Prelude.{◌≡◌, List};
-    ghost use Rattle.std.specs.List.{position_from};
+    ghost use Rattle.std.specs.Prelude.{List};
     ghost use Rattle.indexmap.specs.IndexMap.{get};
+    ghost use Rattle.log_tables.specs.Noted.{HoldsPlaces};
 
     ghost Value = { List T };
 
     ghost view = { λ r. r.rows };
 
-    ghost invariant = { λ r. (q : L) → get L.eq r.places q ≡ position_from (λ x. L.eq (T.also_of x) q) 0 r.rows };
+    ghost invariant = { λ r. HoldsPlaces L.eq T.also_of (get L.eq r.places) r.rows };
 }
 
 impl<K: Copy + Eq + Hash, L: Copy + Eq + Hash, T: Keyed<K> + AlsoKeyed<L>> TwoRows<K, L, T> {

@@ -4,9 +4,8 @@ use Rattle.std.specs.List.{AllByRecursion}
 use Rattle.std.proofs.lemmas.Bool.{and_parts, ltb-true, eqb-true}
 use Rattle.std.proofs.lemmas.Bool.Decides.{nat_tests}
 use Rattle.std.proofs.lemmas.List.Kept.{AllPairs-filter}
-use Rattle.std.proofs.lemmas.List.Recursion.{same_from_clauses}
 use Rattle.spy_words.specs.Classes as classes
-use Rattle.spy_words.specs.Classes.{IsGood, IsNumberFrom, ascends, span_before, IsSpan}
+use Rattle.spy_words.specs.Classes.{IsGood}
 use Rattle.spy_grammar.specs.declared.record.Record.{Record}
 use Rattle.spy_grammar.specs.declared.record.Record.TheVariants as records
 use Rattle.spy_grammar.specs.declared.record.Lined.{Lined}
@@ -15,45 +14,15 @@ use Rattle.privilege.specs.Allowed.{may_read}
 use Rattle.semantics.specs.declared.places.Place.{Place}
 use Rattle.semantics.specs.declared.tables.Req.{Req}
 use Rattle.semantics.specs.Records.{records_of}
-use Rattle.semantics.specs.Tables.{Tables, Space, with_record, tables_of, numbers_from, points_of}
+use Rattle.semantics.specs.Tables.{Tables, Space, with_record, tables_of, points_of}
 use Rattle.semantics.specs.Points.{points_in}
 use Rattle.semantics.specs.Kinds.{req_grid, reqs_of, comes_first}
 use Rattle.semantics.specs.declared.command.Command.{Command}
-use Rattle.log_laws.proofs.Members.{Member, Each, each_more, member_map, member_filter, found_at, none_or_some}
-use Rattle.log_laws.proofs.Apart.{PairsBy, all_pairs, pairs_from, pairs_map, pairs_so, pairs_flat, number_between}
-use Rattle.log_laws.proofs.Sane.{AreSane}
-use Rattle.log_laws.proofs.Admitted.{IsFaultless, by_records, sane}
+use Rattle.log_laws.proofs.lemmas.Members.{Member, Each, each_more, member_map, member_filter, found_at, none_or_some}
+use Rattle.log_laws.proofs.lemmas.Apart.{PairsBy, Rise, all_pairs, pairs_from, pairs_map, pairs_so, pairs_flat, number_between, fields_rise, points_rise}
+use Rattle.log_laws.proofs.lemmas.Sane.{AreSane}
+use Rattle.log_laws.proofs.lemmas.Admitted.{IsFaultless, by_records, sane}
 use Rattle.long_values.specs.LongSequential.{places_of, places_read}
-
-abbrev Rise : List ℕ → Type 0
-Rise ns = PairsBy (λ m n. m < n) ns
-
-module _ {X : Type 0} (before : X → X → Bool) (P : X → Type 0) (R : X → X → Type 0) (tells : (x y : X) → P y → before x y ≡ true → R x y) (trans : (x y z : X) → R x y → R y z → R x z) where
-  ascending : (xs : List X) → AllByRecursion P xs → ascends before xs ≡ true → PairsBy R xs
-  ascending [] good up = tt
-  ascending (x ∷ []) good up = (λ y m. absurd m, tt)
-  ascending (x ∷ y ∷ xs) good up =
-      let parts = and_parts (before x y) (ascends before (y ∷ xs)) up in
-      let first = tells x y good.1.0 parts.0 in
-      let rest = ascending (y ∷ xs) good.1 parts.1 in
-      (λ z m. elim m [ inl is ↦ subst (R x) (sym is) first | inr later ↦ trans x y z first (rest.0 z later) ], rest)
-
-numbers_rise : (first n : ℕ) → Rise (numbers_from first n)
-numbers_rise first zero = tt
-numbers_rise first (suc n) = (λ m is. omega (arith, (number_between (first + 1) n m is).0), numbers_rise (first + 1) n)
-
-fields_rise : (ns : List ℕ) → IsGood classes.fields ns → Rise ns
-fields_rise ns good = ascending nat_lt (IsNumberFrom 0) _ (λ m n _ lt. ltb-true m n lt) (λ k m n a b. omega arith) ns good.0 good.1
-
-abbrev span : ℕ × ℕ → List ℕ
-span p = numbers_from p.0 (p.1 + 1 - p.0)
-
-points_rise : (ps : List (ℕ × ℕ)) → IsGood classes.points ps → Rise (points_of ps)
-points_rise ps good =
-    let all : points_of ps ≡ flat_map span ps = same_from_clauses points_of (flat_map span) (λ p xs. span p ++ xs) refl (λ p ps. refl) (λ p ps. refl) ps in
-    let rise = ascending span_before IsSpan (λ p q. (p.1 < q.0) × (q.0 ≤ q.1)) (λ p q good lt. (ltb-true p.1 q.0 lt, good.0)) (λ p q r a b. (omega arith, b.1)) ps good.0 good.1 in
-    subst Rise (sym all) (pairs_flat (λ m n. m < n) span ps (λ p _. numbers_rise p.0 (p.1 + 1 - p.0)) (pairs_so _ _ ps (λ p q _ _ up a b m n.
-    omega (arith, number_between p.0 (p.1 + 1 - p.0) a m, number_between q.0 (q.1 + 1 - q.0) b n, up)) rise))
 
 record DoRise (t : Tables) : Type 0 where
   spaces : Each (λ (s : Space). Rise s.points) t.spaces

@@ -8,8 +8,8 @@ use Rattle.value_terms.specs.declared.terms.Base.TheVariants as bases
 use Rattle.value_terms.specs.declared.terms.Contribution.{Contribution}
 use Rattle.value_terms.specs.declared.bag.Group.{Group}
 use Rattle.value_terms.specs.Values.{Bag, Value, comes_before, counted, joined, extended, add, add_one, fold_parts, fold_in, CountsEach, IsWellFormedBag, NeighboursDiffer, IsWellFormed}
-use Rattle.value_terms.proofs.Order.{Below, compared, before_trans, before_differ}
-use Rattle.value_terms.proofs.Counting.{counts}
+use Rattle.value_terms.proofs.lemmas.Order.{Below, compared, before_trans, before_differ}
+use Rattle.value_terms.proofs.lemmas.Counting.{counts}
 use Rattle.long_values.specs.LongValues.{Long, raw, init, ident, const, out, added, Readings, add_long, fold_long}
 
 -- ---- adding one contribution

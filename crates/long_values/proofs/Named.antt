@@ -22,9 +22,9 @@ use Rattle.semantics.specs.SerialOrder.{serial}
 use Rattle.semantics.specs.Steps.{id_of}
 use Rattle.semantics.specs.Rules.{is_declared, is_task, names, task_id, is_run_again, runs_item}
 use Rattle.semantics.specs.Faults.{declaration_fault, log_fault}
-use Rattle.log_laws.proofs.Members.{Member, Each, both_none, each_more, none_at, any_at, any_found, find_any, member_at, found_at}
-use Rattle.log_laws.proofs.Apart.{PairsBy, all_pairs, pairs_more}
-use Rattle.log_laws.proofs.Admitted.{Unbroken, IsFaultless, by_records, keeps_of}
+use Rattle.log_laws.proofs.lemmas.Members.{Member, Each, both_none, each_more, none_at, any_at, any_found, find_any, member_at, found_at}
+use Rattle.log_laws.proofs.lemmas.Apart.{PairsBy, all_pairs, pairs_more}
+use Rattle.log_laws.proofs.lemmas.Admitted.{Unbroken, IsFaultless, by_records, keeps_of}
 use Rattle.long_values.proofs.LiftSequential.{AreNamed}
 use Rattle.long_values.proofs.LiftExecution.{AreRunOnce}
 

@@ -7,9 +7,9 @@ use Rattle.value_terms.specs.declared.terms.Base.TheVariants.{Raw, Ident}
 use Rattle.value_terms.specs.declared.terms.Contribution.{Contribution}
 use Rattle.value_terms.specs.declared.bag.Group.{Group}
 use Rattle.value_terms.specs.Values.{Bag, Value, counted, joined, comes_before, extended, add, add_one, plain, fold_parts, fold_in}
-use Rattle.value_terms.proofs.Order.{compared}
-use Rattle.value_terms.proofs.Counting.{counts, joined_joined}
-use Rattle.value_terms.proofs.Changes.{add_add, add_raw}
+use Rattle.value_terms.proofs.lemmas.Order.{compared}
+use Rattle.value_terms.proofs.lemmas.Counting.{counts, joined_joined}
+use Rattle.value_terms.proofs.lemmas.Changes.{add_add, add_raw}
 use Rattle.long_values.specs.LongValues.{Long, raw, ident, added, Readings, add_long, fold_long, short}
 
 pub short_add : (op : ℕ) (c : Contribution) (reads : Readings) (v : Long) → short (add_long op c reads v) ≡ add_one op c (short v)

@@ -12,7 +12,7 @@ use Rattle.spy_grammar.specs.Reading.{is_passed_over, line_at}
 use Rattle.spy_grammar.specs.Spelling.{spelling, Good}
 use Rattle.semantics.specs.Records.{parts_of, line_count, Hold, Reads}
 use Rattle.semantics.specs.TextFaults.{is_too_long, ends_within_line, line_fault, lines_fault, text_fault}
-use Rattle.log_laws.proofs.Members.{both_none}
+use Rattle.log_laws.proofs.lemmas.Members.{both_none}
 
 -- A line without a fault is passed over, or spells a record.
 abbrev Said : List ℕ → Type 0
@@ -23,7 +23,7 @@ said n line (Ok None) is e = inl is
 said n line (Ok (Some r)) is e = inr (r, is)
 said n line (Err f) is e = absurd cc
 
--- A part behind the last line feed that has no byte.
+-- A part after the last line feed that has no byte.
 single : (xs : List (List ℕ)) → length xs ≡ 1 → list_all (λ w. length w == 0) xs ≡ true → xs ≡ [] ∷ []
 single [] e a = absurd (omega (arith, e))
 single ([] ∷ []) e a = refl

@@ -3,20 +3,20 @@ use Rattle.std.proofs.Common.{◌≡◌, ℕ, ◌<◌, ◌≤◌, ◌==◌, inl,
 use Rattle.std.proofs.lemmas.Bool.{cases_Bool, eq-eqb, eqb-true, lt-ltb}
 use Rattle.std.proofs.lemmas.List.Quantifiers.{position-Some}
 use Rattle.std.proofs.Common.{get_or}
-use Rattle.std.specs.List.{position_or_len}
+use Rattle.std.specs.List.{position_or_len, range_with_len}
 use Rattle.std.proofs.lemmas.Bool.Decides.{nat_tests}
 use Rattle.std.proofs.lemmas.Option.{slice_get_within}
 use Rattle.std.specs.Prelude.{position, unwrap_or}
 use Rattle.semantics.specs.declared.places.Cell.{Cell}
 use Rattle.semantics.specs.declared.moves.Move.{Move}
-use Rattle.semantics.specs.Tables.{Tables, numbers_from}
+use Rattle.semantics.specs.Tables.{Tables}
 use Rattle.semantics.specs.Kinds.{comes_first}
 use Rattle.semantics.specs.Events.{graph_of}
 use Rattle.semantics.specs.ReplayOrder.{replay_order}
 use Rattle.semantics.specs.Steps.{steps}
 use Rattle.semantics.specs.Shown.{replay_place, IsShownRace}
-use Rattle.log_laws.proofs.Members.{Member, member_of}
-use Rattle.log_laws.proofs.StepLists.{of_node}
+use Rattle.log_laws.proofs.lemmas.Members.{Member, member_of}
+use Rattle.log_laws.proofs.lemmas.StepLists.{of_node}
 
 one_place : (a b c d e f : ℕ) → comes_first (a, b, c) (d, e, f) ≡ false → comes_first (d, e, f) (a, b, c) ≡ false → (a ≡ d) × (b ≡ e) × (c ≡ f)
 one_place a b c d e f p q = (grind (arith, nat_tests), grind (arith, nat_tests), grind (arith, nat_tests))
@@ -48,7 +48,7 @@ module _ (t : Tables) (replayed : (k : ℕ) → k < length t.nodes → Contains 
       same_by_place order (length t.nodes) b d (member_of order b (replayed b lt)) (member_of order d (replayed d less)) e
 
   within : (b : ℕ) (m : Move) → Contains (steps t) (record { node = b; move = m }) → b < length t.nodes
-  within b m at = let node = of_node t (numbers_from 0 (length t.nodes)) _ (member_of (steps t) _ at) in slice_get_within t.nodes b node.node node.is_node
+  within b m at = let node = of_node t (range_with_len 0 (length t.nodes)) _ (member_of (steps t) _ at) in slice_get_within t.nodes b node.node node.is_node
 
   one_node : (b d : ℕ) (m n : Move) → Contains (steps t) (record { node = b; move = m }) → Contains (steps t) (record { node = d; move = n }) → replay_place t b ≤ replay_place t d → replay_place t d ≤ replay_place t b → b ≡ d
   one_node b d m n at there le ge = node_of_place b d (within b m at) (within d n there) (omega (arith, le, ge))

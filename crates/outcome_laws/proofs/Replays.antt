@@ -1,17 +1,16 @@
 -- What one replay shows, in every interleaving.
-use Rattle.std.proofs.Common.{◌≡◌, ◌≢◌, ℕ, ◌⊎◌, ◌↔◌, inl, inr, Bool, true, false, List, [], ◌∷◌, refl, sym, ap, ◌∙◌, subst, Option, Some, None, Contains}
+use Rattle.std.proofs.Common.{◌≡◌, ◌≢◌, ℕ, ◌↔◌, inl, inr, true, List, [], ◌∷◌, refl, sym, ap, ◌∙◌, subst, Option, Some, None}
 use Rattle.std.specs.Option.{option_or}
 use Rattle.std.proofs.lemmas.Bool.{cases_Bool}
 use Rattle.value_terms.specs.Values.{Value, same_value}
-use Rattle.semantics.specs.declared.places.Cell.{Cell}
 use Rattle.semantics.specs.declared.moves.Move.{Move}
 use Rattle.semantics.specs.declared.moves.Move.TheVariants as moves
 use Rattle.semantics.specs.Tables.{Tables}
-use Rattle.semantics.specs.Steps.{Step, steps}
+use Rattle.semantics.specs.Steps.{Step}
 use Rattle.semantics.specs.Execution.{State, start, effect, sees, ReadsIn}
 use Rattle.semantics.specs.Interleavings.{IsInterleaving}
 use Rattle.semantics.specs.Reads.{Seen, want_of, read_step, IsRight, Differs, differing, difference, first_difference, replay_steps, shown_difference}
-use Rattle.log_laws.proofs.Members.{Member, contains_of, both_none, none_or_some}
+use Rattle.log_laws.proofs.lemmas.Members.{Member, contains_of, both_none, none_or_some}
 
 module _ (t : Tables) (equal : (v w : Value) → (same_value v w ≡ true) ↔ (v ≡ w)) where
   -- A read that does not differ saw what it should.

@@ -27,7 +27,8 @@ pub fn one_finding()
 
 /// A command has one outcome on an input.
 pub fn one_outcome()
-    ensures { (command : Command) (bytes : List ℕ) (f g : Finding) → IsOutcome command bytes f → IsOutcome command bytes g → f ≡ g }
+    ensures { (command : Command) (bytes : List ℕ) (f g : Finding) → IsOutcome command bytes f
+        → IsOutcome command bytes g → f ≡ g }
 {
     one_log();
     read_logs_are_good();

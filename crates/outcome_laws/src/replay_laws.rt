@@ -17,10 +17,14 @@ use value_terms::same_values_are_equal;
 
 /// In a log without a fault, a cycle and a race: where the replay shows no differing read, each read is right in every interleaving; and a read that it shows differs in every interleaving.
 pub fn replays_speak_for_all()
-    ensures right { (lines : ℕ) (log : List Lined) → AllByRecursion Good (records_of log) → log_fault Check lines log ≡ None
-        → HasNoCycle (tables_of log) → IsRaceFree (tables_of log) → shown_difference (tables_of log) ≡ None → IsRight (tables_of log) }
-    ensures differs { (lines : ℕ) (log : List Lined) → AllByRecursion Good (records_of log) → log_fault Check lines log ≡ None
-        → HasNoCycle (tables_of log) → IsRaceFree (tables_of log) → (r : Seen) → shown_difference (tables_of log) ≡ Some r → Differs (tables_of log) r }
+    ensures right { (lines : ℕ) (log : List Lined) → AllByRecursion Good (records_of log)
+        → log_fault Check lines log ≡ None
+        → HasNoCycle (tables_of log) → IsRaceFree (tables_of log) → shown_difference (tables_of log) ≡ None
+        → IsRight (tables_of log) }
+    ensures differs { (lines : ℕ) (log : List Lined) → AllByRecursion Good (records_of log)
+        → log_fault Check lines log ≡ None
+        → HasNoCycle (tables_of log) → IsRaceFree (tables_of log) → (r : Seen)
+        → shown_difference (tables_of log) ≡ Some r → Differs (tables_of log) r }
 {
     faultless_logs_have_one_answer();
     replay_is_an_interleaving();

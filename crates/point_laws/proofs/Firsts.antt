@@ -22,15 +22,15 @@ use Rattle.semantics.specs.Execution.{State, start, effect, executed}
 use Rattle.semantics.specs.Interleavings.{is_read}
 use Rattle.semantics.specs.Sequential.{wanted}
 use Rattle.semantics.specs.Reads.{Seen, req_at, want_of, differing, difference, first_difference}
-use Rattle.log_laws.proofs.Members.{Member, Each, is_in_of, member_in, member_filter, member_map, none_or_some}
-use Rattle.log_laws.proofs.StepLists.{steps_at}
-use Rattle.log_laws.proofs.Tidy.{is_of, a_read, no_read}
+use Rattle.log_laws.proofs.lemmas.Members.{Member, Each, is_in_of, member_in, member_filter, member_map, none_or_some}
+use Rattle.log_laws.proofs.lemmas.StepLists.{steps_at}
+use Rattle.log_laws.proofs.lemmas.Tidy.{is_of, a_read, no_read}
 use Rattle.point_laws.specs.Alike.{AreAlike, HasPointsInOrder, AreFirsts, target, cell_at, is_at}
 use Rattle.point_laws.proofs.Values.{in_both, first_in, wanted_alike}
 use Rattle.point_laws.proofs.Rows.{filter_map_of, filter_flat, flat_grid, kept_parts}
 use Rattle.point_laws.proofs.Moves.{at_points, reads_kept, steps_at_same, steps_at_stay}
 use Rattle.point_laws.proofs.Effects.{Agree, Mirrors, executed_agree}
-use Rattle.log_laws.proofs.Apart.{Rise}
+use Rattle.log_laws.proofs.lemmas.Apart.{Rise}
 use Rattle.point_laws.proofs.Order.{points_in_rise, points_in_apart}
 use Rattle.point_laws.proofs.Mirrored.{same_mirrors, start_mirrors}
 

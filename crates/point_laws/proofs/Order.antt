@@ -8,8 +8,8 @@ use Rattle.spy_grammar.specs.Spelling.{Good}
 use Rattle.semantics.specs.Records.{records_of}
 use Rattle.semantics.specs.Tables.{Tables, Space, with_record, no_tables, tables_of}
 use Rattle.semantics.specs.Points.{points_in}
-use Rattle.log_laws.proofs.Members.{Each, member_of, contains_of, each_more, found_at, none_or_some}
-use Rattle.log_laws.proofs.Apart.{Apart, Rise, rise_apart, all_pairs, pairs_from, points_rise}
+use Rattle.log_laws.proofs.lemmas.Members.{Each, member_of, contains_of, each_more, found_at, none_or_some}
+use Rattle.log_laws.proofs.lemmas.Apart.{Apart, Rise, rise_apart, all_pairs, pairs_from, points_rise}
 use Rattle.point_laws.specs.Alike.{HasPointsInOrder}
 
 -- ---- the tables of a log whose records are good

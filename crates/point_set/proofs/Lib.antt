@@ -1,6 +1,4 @@
-pub mod Ahead
-pub mod Defaults
-pub mod InRuns
-pub mod Maximal
-pub mod RunPoints
-pub mod Left
+pub mod lemmas
+mod Defaults
+mod RunPoints
+mod Left

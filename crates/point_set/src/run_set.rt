@@ -18,7 +18,7 @@ pub struct RunSet<'a> {
 }
 
 impl<'a> RunSet<'a> {
-    /// The set of the points in these runs, or `None` if the first point of some run is behind its last, or is not behind the last point of the run before.
+    /// The set of the points in these runs, or `None` if the first point of some run is after its last, or is not after the last point of the run before.
     pub fn over(runs: &'a [(u64, u64)]) -> Option<RunSet<'a>>
         ensures ordered { IsSome result ↔ AreRuns runs.now }
         ensures points { IfSome result (λ s. ⟦<RunSet<'a> as PointSet>⟧.points s ≡ points_of runs.now) }

@@ -1,3 +1,3 @@
-pub mod Collected
-pub mod Placed
-pub mod Tied
+mod Collected
+mod Placed
+mod Tied

@@ -7,7 +7,7 @@ use Rattle.std.proofs.lemmas.List.{get_or_default}
 use Rattle.std.proofs.lemmas.List.Quantifiers.{position-Some}
 use Rattle.std.proofs.lemmas.List.Sums.{fails_before_first}
 use Rattle.reach_marks.specs.Reached.{Marks}
-use Rattle.log_laws.proofs.Members.{none_or_some}
+use Rattle.log_laws.proofs.lemmas.Members.{none_or_some}
 use Rattle.cell_races.specs.Ranks.{rank_in}
 use Rattle.race_scan.specs.Placed.{ArePlaced}
 

@@ -1,19 +1,20 @@
 -- Races of a log are the clashes of what is gathered of it.
 use Rattle.std.proofs.Common.{◌≡◌, ℕ, ◌<◌, true, false, List, Some, None, Contains, Option, MatchOption, refl, sym, ap, ◌∙◌, subst, length, slice_index, unwrap_or, position, ◌==◌, All, get_or}
+use Rattle.std.specs.List.{range_with_len}
 use Rattle.std.proofs.lemmas.Bool.{true≢false, false_from_ne_true}
 use Rattle.std.proofs.lemmas.List.{length-map, get_or_default}
 use Rattle.semantics.specs.declared.places.Cell.{Cell}
 use Rattle.semantics.specs.declared.moves.Move.{Move}
-use Rattle.semantics.specs.Tables.{Tables, numbers_from}
+use Rattle.semantics.specs.Tables.{Tables}
 use Rattle.semantics.specs.Events.{graph_of, Before}
 use Rattle.semantics.specs.ReplayOrder.{replay_order}
 use Rattle.semantics.specs.Steps.{Step, steps}
 use Rattle.semantics.specs.Races as races
 use Rattle.semantics.specs.Races.{Race, IsRaceFree, access}
 use Rattle.semantics.specs.Shown.{IsShownRace, replay_place}
-use Rattle.log_laws.proofs.Members.{Member, member_of, contains_of, member_flat, flat_member, map_member}
-use Rattle.log_laws.proofs.StepLists.{steps_at, step_at}
-use Rattle.log_laws.proofs.Apart.{number_within, number_in}
+use Rattle.log_laws.proofs.lemmas.Members.{Member, member_of, contains_of, member_flat, flat_member, map_member}
+use Rattle.log_laws.proofs.lemmas.StepLists.{steps_at, step_at}
+use Rattle.log_laws.proofs.lemmas.Apart.{number_within, number_in}
 use Rattle.reach_marks.specs.Reached.{Marks, AreMarksOf, before_in}
 use Rattle.cell_races.specs.declared.access.Access.{Access}
 use Rattle.cell_races.specs.declared.touches.Touch.{Touch}
@@ -44,14 +45,14 @@ IsMeant = (a b : races.Access) → races.conflicts a b ≡ true → (c d : Acces
 step_in : (t : Tables) (k : ℕ) (m : Move) → Contains (steps t) (record { node = k; move = m }) → (k < length t.nodes) × Member (moves_at t k) m
 step_in t k m c =
     let x : Step = record { node = k; move = m } in
-    let at = member_flat (steps_at t) (numbers_from 0 (length t.nodes)) x (member_of (steps t) x c) in
+    let at = member_flat (steps_at t) (range_with_len 0 (length t.nodes)) x (member_of (steps t) x c) in
     let of = step_at t at.0 x at.2 in
     (subst (λ n. n < length t.nodes) (sym of.0) (number_within (length t.nodes) at.0 at.1), of.1)
 
 in_steps : (t : Tables) (k : ℕ) (m : Move) → k < length t.nodes → Member (moves_at t k) m → Contains (steps t) (record { node = k; move = m })
 in_steps t k m lt h =
     contains_of (steps t) (record { node = k; move = m })
-    (flat_member (steps_at t) (numbers_from 0 (length t.nodes)) k (record { node = k; move = m }) (number_in (length t.nodes) k lt)
+    (flat_member (steps_at t) (range_with_len 0 (length t.nodes)) k (record { node = k; move = m }) (number_in (length t.nodes) k lt)
     (map_member (λ m. record { node = k; move = m }) (moves_at t k) m h))
 
 module _ (t : Tables) (order : List ℕ) (marks : Marks) (replayed : order ≡ replay_order (graph_of t.nodes)) (marked : AreMarksOf (graph_of t.nodes) marks)

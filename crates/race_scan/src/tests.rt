@@ -1,19 +1,17 @@
 //! The races of a few logs, found by hand.
 
 ghost use Rattle.std.specs.Prelude.{◌≡◌, IfOk};
-ghost use Rattle.semantics.specs.Events.{graph_of};
 
 use super::*;
 use atoms::Atoms;
 use bumpalo::Bump;
-use event_graph::{EventList, Graph, NodeIn, are_linked};
-use log_decl::{Log, are_log_records, declare};
+use event_graph::{Graph, are_linked, nodes_in};
+use log_decl::{Log, declare};
+use log_reading::input_in;
 use point_set::RunSet;
 use reach_marks::Reach;
 use region_tree::ArenaSet;
-use semantics::LogNode;
-use spy_grammar::{Lined, read_line};
-use std::alloc::{AllocError, Global};
+use std::alloc::Global;
 use std::test::Fail;
 
 /// Nodes that race, and the instance, the point and the field where they do.
@@ -22,7 +20,7 @@ type Found = Option<(usize, usize, (u32, u64, u32))>;
 /// One space with one tree, and tasks 1 to 4 on all of it, as each case has them.
 const TREE: &[u8] = b"ispace 1 0-3\nfields 1 1,2\ntree 1 1 1\nredop 1\nredop 2\n";
 
-/// What is declared behind the tree, and the race that is shown.
+/// What is declared after the tree, and the race that is shown.
 const CASES: [(&[u8], Found); 21] = [
     // A task writes, and another reads: in order, and not.
     (
@@ -113,35 +111,19 @@ const CASES: [(&[u8], Found); 21] = [
         b"task 1\nreq 1 1 1 1 ro ex\ntask 2\nreq 2 1 1 1 ro ex\ntask 3\nreq 3 1 1 1 ro ex\ntask 4\nreq 4 1 1 1 wd ex\ninst 1 1 1 1 home\nmap 1 1 1 1\nmap 2 1 1 1\nmap 3 1 1 1\nmap 4 1 1 1\nrun 1 1 -\nrun 2 2 -\nrun 3 3 -\nrun 4 4 1\n",
         Some((1, 3, (1, 0, 1))),
     ),
-    // A reader behind a write joins an earlier one, and waits on nothing.
+    // A reader after a write joins an earlier one, and waits on nothing.
     (
         b"task 1\nreq 1 1 1 1 wd ex\ntask 2\nreq 2 1 1 1 ro ex\ntask 3\nreq 3 1 1 1 ro ex\ninst 1 1 1 1 home\nmap 1 1 1 1\nmap 2 1 1 1\nmap 3 1 1 1\nrun 1 1 -\nrun 2 2 1\nrun 3 3 -\n",
         Some((0, 2, (1, 0, 1))),
     ),
-    // The first node waits on the last, and so stands behind the one in the middle.
+    // The first node waits on the last, and so stands after the one in the middle.
     (
         b"task 1\nreq 1 1 1 1 wd ex\ntask 2\nreq 2 1 1 1 ro ex\ntask 3\nreq 3 1 1 1 ro ex\ninst 1 1 1 1 home\nmap 1 1 1 1\nmap 2 1 1 1\nmap 3 1 1 1\nrun 1 1 3\nrun 2 2 -\nrun 3 3 -\n",
         Some((1, 0, (1, 0, 1))),
     ),
 ];
 
-/// The records of a text, on their lines, and how many lines there are.
-fn records_of(alloc: Global, text: &[u8]) -> Result<(Vec<Lined>, u32), Fail> {
-    let mut records = Vec::new(alloc);
-    let mut lines = 0u32;
-    for part in text.split(|b| *b == b'\n') {
-        lines = lines.saturating_add(1);
-        match read_line(alloc, part) {
-            Ok(Some(rec)) => records.push(Lined { line: lines, rec })?,
-            Ok(None) => {}
-            Err(_) => return Err("a line that spells no record".into()),
-        }
-    }
-    // Nothing stands behind the last line feed.
-    Ok((records, lines.saturating_sub(1)))
-}
-
-/// A log with these records behind those of the tree.
+/// A log with these records after those of the tree.
 fn framed(alloc: Global, records: &[u8]) -> Result<Vec<u8>, Fail> {
     let mut text = b"legion-spy 1\n".to_vec(alloc)?;
     text.extend_from_slice(TREE)?;
@@ -161,29 +143,13 @@ fn log_of<'a, P: ArenaSet<'a> + 'a>(
     bump: &'a Bump,
     text: &[u8],
 ) -> Result<Log<'a, P>, Fail> {
-    let (records, lines) = records_of(alloc, text)?;
-    if !are_log_records(alloc, &records, lines)? {
-        return Err("records that make no log".into());
-    }
-    match declare::<P>(alloc, bump, &records, lines) {
+    let Ok(input) = input_in(alloc, text.to_vec(alloc)?) else {
+        return Err("a text that spells no records".into());
+    };
+    match declare::<P>(alloc, bump, &input.records, input.lines) {
         Ok(log) => Ok(log),
         Err(_) => Err("a log with a fault".into()),
     }
-}
-
-/// Nodes, as far as order goes.
-fn nodes_of(alloc: Global, nodes: &[LogNode]) -> Result<Vec<NodeIn>, AllocError>
-    ensures { IfOk result (λ v. v.items ≡ graph_of nodes.now) }
-{
-    let mut found = Vec::new(alloc);
-    for node in nodes {
-        let waits = EventList::from_vec(Vec::from_slice(alloc, node.waits.as_slice())?);
-        found.push(NodeIn {
-            done: node.done,
-            waits,
-        })?;
-    }
-    Ok(found)
 }
 
 /// The race of a log that is shown.
@@ -191,7 +157,7 @@ fn race_in<'a, P: ArenaSet<'a>>(alloc: Global, log: &Log<'a, P>) -> Result<Found
     if log.mapped().is_err() {
         return Err("a requirement that is not mapped".into());
     }
-    let nodes = nodes_of(alloc, log.nodes())?;
+    let nodes = nodes_in(alloc, log.nodes())?;
     if nodes.len() >= 1 << 32 || !are_linked(alloc, nodes.as_slice())? {
         return Err("no graph".into());
     }

@@ -1,7 +1,7 @@
-pub mod BitWords
-pub mod Tagged
-pub mod Joins
-pub mod Replayed
-pub mod Counted
-pub mod Seen
-pub mod Firsts
+mod BitWords
+mod Tagged
+mod Joins
+mod Replayed
+mod Counted
+mod Seen
+mod Firsts

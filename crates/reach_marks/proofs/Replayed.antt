@@ -9,10 +9,10 @@ use Rattle.std.proofs.lemmas.Option.{slice_get_within, slice_get-get_or, get_or_
 use Rattle.std.proofs.Math.Seq.{get_or-append_seam}
 use Rattle.semantics.specs.Events.{Node, WaitsOn, IsChain, Before, IsCycle, AreLinked}
 use Rattle.semantics.specs.ReplayOrder.{replay_order, is_stuck}
-use Rattle.log_laws.proofs.Members.{Member, member_of, contains_of, member_map, map_member}
-use Rattle.log_laws.proofs.Rounds.{AreTaken, replay, once, taken_within, before_met, listed}
-use Rattle.log_laws.proofs.Apart.{pairs_from}
-use Rattle.log_laws.proofs.Lists.{few}
+use Rattle.log_laws.proofs.lemmas.Members.{Member, member_of, contains_of, member_map, map_member}
+use Rattle.log_laws.proofs.lemmas.Rounds.{AreTaken, replay, once, taken_within, before_met, listed}
+use Rattle.log_laws.proofs.lemmas.Apart.{pairs_from}
+use Rattle.log_laws.proofs.lemmas.Lists.{few}
 use Rattle.event_graph.specs.Inverse.{AreInverse}
 use Rattle.event_graph.specs.Orders.{IsOrderOf}
 use Rattle.reach_marks.specs.declared.block.Block.{Block}

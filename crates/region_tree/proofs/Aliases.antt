@@ -1,20 +1,20 @@
 -- Points along paths.
-use Rattle.std.proofs.Common.{◌≡◌, ℕ, zero, suc, ◌+◌, ◌-◌, Bool, true, ◌==◌, ◌&&◌, List, [], ◌∷◌, length, get_or, Contains, Some, None, IsTrue, slice_get, subst, refl, sym, ap, ◌∙◌, inl, inr, ◌⊎◌, eq-eqb, arith}
+use Rattle.std.proofs.Common.{◌≡◌, ℕ, zero, suc, ◌+◌, ◌-◌, Bool, ◌==◌, List, [], ◌∷◌, length, get_or, Contains, Some, None, IsTrue, slice_get, subst, refl, sym, ap, ◌∙◌, inl, inr, ◌⊎◌, arith}
 use Rattle.std.specs.List.{list_any}
 use Rattle.std.specs.Option.{option_map_or}
-use Rattle.std.proofs.lemmas.Bool.{cases_Bool, cases_order, eqb-true, and_parts, and_from}
+use Rattle.std.proofs.lemmas.Bool.{cases_Bool, cases_order}
 use Rattle.std.proofs.lemmas.Bool.Decides.{Decides-eqb, Decides-by_or, not_from_Decides}
 use Rattle.std.proofs.lemmas.List.Elements.{Decides-contains}
 use Rattle.std.proofs.lemmas.Option.{none-some, same_Some, slice_get-get_or, slice_get_within, get_or_from_slice_get}
 use Rattle.point_set.specs.Least.{IsLeastCommon}
 use Rattle.region_tree.specs.declared.decls.SubDecl.{SubDecl}
 use Rattle.region_tree.specs.declared.path.Step.{Step}
-use Rattle.region_tree.specs.Regions.{Regions, step_of, child_of, whole_of, points_of}
+use Rattle.region_tree.specs.Regions.{Regions, step_of, is_at, child_of, whole_of, space_points}
 use Rattle.region_tree.specs.Tied.{IsTied}
 use Rattle.region_tree.specs.Faults.{points_cut, is_disjoint, IsFaulty}
 use Rattle.region_tree.specs.Paths.{Way, Leads, IsPath}
-use Rattle.region_tree.proofs.Distinct.{found_by}
-use Rattle.region_tree.proofs.Firsts.{find_place}
+use Rattle.region_tree.proofs.Distinct.{found_by, steps_told}
+use Rattle.region_tree.proofs.lemmas.Firsts.{find_place}
 
 at_contains : {X : Type 0} (xs : List X) (x : X) (h : Contains xs x) → slice_get xs h.0 ≡ Some x
 at_contains xs x h = slice_get-get_or xs h.0 x h.1 ∙ ap (λ y. Some y) h.2
@@ -26,28 +26,28 @@ in_or_not xs p =
     elim (cases_Bool (list_any test xs)) [ inl found ↦ inl (d.0 found) | inr missed ↦ inr (not_from_Decides (list_any test xs) d missed) ]
 
 -- a subspace has only points of the space that is cut
-step_within : (d : Regions) → ((i : ℕ) → ¬ IsFaulty d i) → (s : SubDecl) (from p : ℕ) → Contains d.subs s → whole_of d s.part ≡ Some from → Contains (points_of d s.space) p → Contains (points_of d from) p
+step_within : (d : Regions) → ((i : ℕ) → ¬ IsFaulty d i) → (s : SubDecl) (from p : ℕ) → Contains d.subs s → whole_of d s.part ≡ Some from → Contains (space_points d s.space) p → Contains (space_points d from) p
 step_within d faultless s from p has whole there =
-    let cut : points_cut d s.part ≡ points_of d from = ap (λ o. option_map_or (points_of d) o []) whole in
+    let cut : points_cut d s.part ≡ space_points d from = ap (λ o. option_map_or (space_points d) o []) whole in
     elim (in_or_not (points_cut d s.part) p) [
       | inl found ↦ subst (λ ps. Contains ps p) cut found
       | inr missed ↦ absurd (faultless has.0 (inl (p, (s, at_contains d.subs s has, there, missed))))
     ]
 
-leads_within : (d : Regions) → ((i : ℕ) → ¬ IsFaulty d i) → (from : ℕ) (steps : List Step) (to p : ℕ) → Leads d from steps to → Contains (points_of d to) p → Contains (points_of d from) p
-leads_within d faultless from [] to p leads there = subst (λ space. Contains (points_of d space) p) (sym leads) there
+leads_within : (d : Regions) → ((i : ℕ) → ¬ IsFaulty d i) → (from : ℕ) (steps : List Step) (to p : ℕ) → Leads d from steps to → Contains (space_points d to) p → Contains (space_points d from) p
+leads_within d faultless from [] to p leads there = subst (λ space. Contains (space_points d space) p) (sym leads) there
 leads_within d faultless from (step ∷ steps) to p leads there =
     step_within d faultless leads.0 from p leads.1 leads.3 (leads_within d faultless leads.0.space steps to p leads.4 there)
 
 -- below each step of its path a space has only points of the subspace there
-pub passes : (d : Regions) → ((i : ℕ) → ¬ IsFaulty d i) → (from : ℕ) (steps : List Step) (to k : ℕ) (x : Step) → Leads d from steps to → slice_get steps k ≡ Some x → (s : SubDecl) × Contains d.subs s × (step_of s ≡ x) × ((p : ℕ) → Contains (points_of d to) p → Contains (points_of d s.space) p)
+pub passes : (d : Regions) → ((i : ℕ) → ¬ IsFaulty d i) → (from : ℕ) (steps : List Step) (to k : ℕ) (x : Step) → Leads d from steps to → slice_get steps k ≡ Some x → (s : SubDecl) × Contains d.subs s × (step_of s ≡ x) × ((p : ℕ) → Contains (space_points d to) p → Contains (space_points d s.space) p)
 passes d faultless from [] to k x leads at = absurd (none-some x at)
 passes d faultless from (step ∷ steps) to zero x leads at =
     (leads.0, leads.1, leads.2 ∙ same_Some step x at, λ p there. leads_within d faultless leads.0.space steps to p leads.4 there)
 passes d faultless from (step ∷ steps) to (suc k) x leads at = passes d faultless leads.0.space steps to k x leads.4 at
 
 -- two subspaces of one disjoint partition share no point
-clash : (d : Regions) → ((i : ℕ) → ¬ IsFaulty d i) → (s t : SubDecl) (p : ℕ) → Contains d.subs s → Contains d.subs t → (step_of s ≡ step_of t → ⊥) → s.part ≡ t.part → IsTrue (is_disjoint d s.part) → Contains (points_of d s.space) p → Contains (points_of d t.space) p → ⊥
+clash : (d : Regions) → ((i : ℕ) → ¬ IsFaulty d i) → (s t : SubDecl) (p : ℕ) → Contains d.subs s → Contains d.subs t → (step_of s ≡ step_of t → ⊥) → s.part ≡ t.part → IsTrue (is_disjoint d s.part) → Contains (space_points d s.space) p → Contains (space_points d t.space) p → ⊥
 clash d faultless s t p has_s has_t apart same disjoint in_s in_t =
     let at_s = at_contains d.subs s has_s in
     let at_t = at_contains d.subs t has_t in
@@ -59,7 +59,7 @@ clash d faultless s t p has_s has_t apart same disjoint in_s in_t =
       ]
     ]
 
-pub none_shared : (d : Regions) → ((i : ℕ) → ¬ IsFaulty d i) → (a b : Way) (s t : ℕ) (x y : Step) → IsPath d a s → IsPath d b t → Contains a.steps x → Contains b.steps y → (x ≡ y → ⊥) → x.part ≡ y.part → IsTrue (is_disjoint d x.part) → IsLeastCommon (points_of d s) (points_of d t) None
+pub none_shared : (d : Regions) → ((i : ℕ) → ¬ IsFaulty d i) → (a b : Way) (s t : ℕ) (x y : Step) → IsPath d a s → IsPath d b t → Contains a.steps x → Contains b.steps y → (x ≡ y → ⊥) → x.part ≡ y.part → IsTrue (is_disjoint d x.part) → IsLeastCommon (space_points d s) (space_points d t) None
 none_shared d faultless a b s t x y path_a path_b has_x has_y apart same disjoint p h =
     let u = passes d faultless a.top a.steps s has_x.0 x path_a.2 (at_contains a.steps x has_x) in
     let v = passes d faultless b.top b.steps t has_y.0 y path_b.2 (at_contains b.steps y has_y) in
@@ -86,16 +86,11 @@ one_sub d tied i j s t at_s at_t same =
 
 child_found : (d : Regions) → IsTied d → (s : SubDecl) (step : Step) → Contains d.subs s → step_of s ≡ step → child_of d step ≡ Some s
 child_found d tied s step has is =
-    let test : SubDecl → Bool = λ t. (step.part == t.part) && (step.colour == t.colour) in
-    let part : step.part ≡ s.part = ap (λ (z : Step). z.part) (sym is) in
-    let colour : step.colour ≡ s.colour = ap (λ (z : Step). z.colour) (sym is) in
-    let hit : test s ≡ true = and_from (step.part == s.part) (step.colour == s.colour) (eq-eqb step.part s.part part) (eq-eqb step.colour s.colour colour) in
     let at = at_contains d.subs s has in
-    let h = found_by test 0 has.0 s d.subs at hit in
+    let h = found_by (is_at step) 0 has.0 s d.subs at ((steps_told step (step_of s)).1 (sym is)) in
     let z : 0 + h.0 ≡ h.0 = omega arith in
-    let q = and_parts (step.part == h.1.part) (step.colour == h.1.colour) h.5 in
-    let same : step_of h.1 ≡ step_of s = (λ i. record { part = (sym (eqb-true step.part h.1.part q.0)) i; colour = (sym (eqb-true step.colour h.1.colour q.1)) i }) ∙ sym is in
-    find_place test h.0 d.subs (h.3 ∙ ap (λ n. Some n) z) ∙ h.4 ∙ ap (λ t. Some t) (one_sub d tied h.0 has.0 h.1 s h.4 at same)
+    let same : step_of h.1 ≡ step_of s = sym ((steps_told step (step_of h.1)).0 h.5) ∙ sym is in
+    find_place (is_at step) h.0 d.subs (h.3 ∙ ap (λ n. Some n) z) ∙ h.4 ∙ ap (λ t. Some t) (one_sub d tied h.0 has.0 h.1 s h.4 at same)
 
 -- the last step leads to the space
 last_leads : (d : Regions) (from : ℕ) (steps : List Step) (to : ℕ) (x : Step) → slice_get steps (length steps - 1) ≡ Some x → Leads d from steps to → (s : SubDecl) × Contains d.subs s × (step_of s ≡ x) × (s.space ≡ to)

@@ -14,9 +14,9 @@ use Rattle.point_set.specs.Least.{IsLeastOf, IsLeastFrom, IsLeastGap}
 use Rattle.region_tree.proofs.Aliases.{in_or_not}
 use Rattle.region_tree.specs.declared.claims.Claim.{Claim}
 use Rattle.region_tree.specs.declared.decls.SubDecl.{SubDecl}
-use Rattle.region_tree.specs.Regions.{Regions, points_of}
+use Rattle.region_tree.specs.Regions.{Regions, space_points}
 use Rattle.region_tree.specs.Faults.{is_disjoint, IsFaulty}
-use Rattle.region_tree.specs.Claims.{IsRunEnd, IsRun, IsIn, Claims, ClaimsNothing, ClaimsAll, AreClaims, AddsRuns, IsBefore, AreInOrder, AreOwn, Clash, Overlap, AreApart, SomeOverlap, MeetsSome, IsFirstMeeting}
+use Rattle.region_tree.specs.Claims.{IsRunEnd, IsRun, IsIn, Claims, ClaimsNothing, ClaimsAll, AreClaims, AddsRuns, IsBefore, AreInOrder, AreOwn, Clash, Overlap, AreApart, SomeOverlap, IsFirstOverlap, MeetsSome, IsFirstMeeting}
 
 -- the points below a number are claimed, and the number is no point
 pub record ClaimedBelow (old new : List Claim) (part sub : ℕ) (points : List ℕ) (low : ℕ) : Type 0 where
@@ -99,7 +99,7 @@ claims_more d i part points old new before all added = record {
   whole = λ j of p lt claim. elim (cases_eq j i) [
     | inl e ↦
         let same : claim.0 ≡ all.0 = same_Some claim.0 all.0 (sym claim.1 ∙ ap (slice_get d.subs) e ∙ all.1) in
-        let has : Contains points p = subst (λ ps. Contains ps p) (ap (λ (s : SubDecl). points_of d s.space) same ∙ all.4) claim.4 in
+        let has : Contains points p = subst (λ ps. Contains ps p) (ap (λ (s : SubDecl). space_points d s.space) same ∙ all.4) claim.4 in
         let w = added.whole p has in
         (w.0, w.1, w.2 ∙ sym e, w.3)
     | inr ne ↦ let w = before.whole j of p (omega (arith, lt)) claim in (w.0, added.kept w.0 w.1, w.2, w.3)
@@ -144,9 +144,9 @@ are_own d n claims are = record {
       let x = (are.sound a in_a).1 in
       let y = (are.sound b in_b).1 in
       let same : x.0 ≡ y.0 = same_Some x.0 y.0 (sym x.1 ∙ ap (slice_get d.subs) sub ∙ y.1) in
-      let points = points_of d x.0.space in
+      let points = space_points d x.0.space in
       let ours : IsRun points a.first a.last = x.4 in
-      let theirs : IsRun points b.first b.last = subst (λ (s : SubDecl). IsRun (points_of d s.space) b.first b.last) (sym same) y.4 in
+      let theirs : IsRun points b.first b.last = subst (λ (s : SubDecl). IsRun (space_points d s.space) b.first b.last) (sym same) y.4 in
       let part : a.part ≡ b.part = sym x.2 ∙ ap (λ (s : SubDecl). s.part) same ∙ y.2 in
       let first : a.first ≡ b.first = omega (arith, same_first points a.first a.last b.first b.last p ours theirs at.0 at.1 bt.0 bt.1, same_first points b.first b.last a.first a.last p theirs ours bt.0 bt.1 at.0 at.1) in
       let last : a.last ≡ b.last = omega (arith, same_last points a.first a.last b.first b.last p ours theirs at.0 at.1 bt.0 bt.1, same_last points b.first b.last a.first a.last p theirs ours bt.0 bt.1 at.0 at.1) in
@@ -323,7 +323,7 @@ met_some d n limit claims are some =
       | inr le ↦ (b.sub, some.5, met_by d n claims b a are some.3 some.2 (overlap_back a b o) (let ne : (a.sub ≡ b.sub → ⊥) = o.1 in omega (arith, le)))
     ]
 
-pub meeting_from : (d : Regions) (claims : List Claim) (o : Option ℕ) → AreClaims d (length d.subs) claims → MatchOption o (AreApart claims (length d.subs)) (λ i. AreApart claims i × SomeOverlap claims (i + 1)) → IsFirstMeeting d o
+pub meeting_from : (d : Regions) (claims : List Claim) (o : Option ℕ) → AreClaims d (length d.subs) claims → IsFirstOverlap claims (length d.subs) o → IsFirstMeeting d o
 meeting_from d claims None are apart = λ i h. met_not d (length d.subs) (length d.subs) claims are (omega arith) apart i (slice_get_within d.subs i h.1.1.0 h.1.1.3) h
 meeting_from d claims (Some i) are h =
     let before = met_not d (length d.subs) i claims are (omega arith) h.0 in

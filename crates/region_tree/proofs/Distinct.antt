@@ -1,14 +1,18 @@
 -- Keys of which no two are alike.
-use Rattle.std.proofs.Common.{◌≡◌, ℕ, zero, suc, ◌+◌, ◌<◌, ◌≤◌, Bool, true, false, List, [], ◌∷◌, length, get_or, Option, Some, AllPairs, refl, sym, ap, ◌∙◌, inl, inr, arith, slice_get, nat_eq, IsTrue, ◌↔◌, None, eq-eqb, ◌==◌, ◌&&◌}
+use Rattle.std.proofs.Common.{◌≡◌, ◌≢◌, ℕ, zero, suc, ◌+◌, ◌<◌, ◌≤◌, Bool, true, false, not, List, [], ◌∷◌, length, map, get_or, Option, Some, AllPairs, Bor, refl, sym, ap, subst, ◌∙◌, inl, inr, arith, slice_get, nat_eq, IsTrue, MatchBool, ◌↔◌, None, eq-eqb, ◌==◌, ◌&&◌}
+use Rattle.std.specs.Fn.{Shared}
 use Rattle.std.specs.List.{position_from}
-use Rattle.std.specs.Option.{option_eq}
+use Rattle.std.specs.Option.{option_eq, option_map}
 use Rattle.std.specs.Cmp.Derive.{both_true}
-use Rattle.region_tree.specs.declared.decls.SubDecl.{SubDecl}
 use Rattle.region_tree.specs.declared.path.Step.{Step}
-use Rattle.region_tree.specs.Regions.{step_of}
 use Rattle.std.proofs.lemmas.Bool.{cases_Bool, cases_eq, eqb-true, and_parts}
-use Rattle.region_tree.specs.Index.{IsFirstAt}
-use Rattle.std.proofs.lemmas.Option.{none-some, same_Some, slice_get-get_or, get_or_from_slice_get, slice_get_within}
+use Rattle.region_tree.specs.Index.{AllFirst, SomeLater}
+use Rattle.region_tree.proofs.lemmas.Firsts.{seen_back}
+use Rattle.std.proofs.lemmas.Option.{none-some, same_Some, slice_get-get_or, slice_get-map, get_or_from_slice_get, slice_get_within}
+
+-- the element at this place is the first that is like it.
+abbrev pub IsFirstAt : {X : Type 0} → (X → X → Bool) → List X → ℕ → Type 0
+IsFirstAt {X} same xs i = (x : X) → slice_get xs i ≡ Some x → position_from (same x) 0 xs ≡ Some i
 
 -- the first place of what passes: no element before it does
 none_before : {X : Type 0} (p : X → Bool) (k i j : ℕ) (d : X) (xs : List X) → position_from p k xs ≡ Some i → k + j < i → p (get_or xs j d) ≡ false
@@ -21,7 +25,7 @@ none_before p k i (suc j) d (x ∷ xs) e lt =
       | inr miss ↦ none_before p (k + 1) i j d xs (rw miss at e) (omega arith)
     ]
 
--- an element that passes stands at the first place or behind it
+-- an element that passes stands at the first place or after it
 pub found_by : {X : Type 0} (p : X → Bool) (k i : ℕ) (x : X) (xs : List X) → slice_get xs i ≡ Some x → p x ≡ true → (j : ℕ) × (y : X) × (j ≤ i) × (position_from p k xs ≡ Some (k + j)) × (slice_get xs j ≡ Some y) × (p y ≡ true)
 found_by p k i x [] at e = absurd (none-some x at)
 found_by p k zero x (y ∷ ys) at e =
@@ -58,37 +62,50 @@ first_from_apart {X} same R xs i clash itself pairs x at =
           absurd (clash h.1 x h.5 (rw (one, two) at (pairs h.0 i x lt (slice_get_within xs i x at))))
     ]
 
-option_eq-true : (o : Option ℕ) (i : ℕ) → option_eq nat_eq o (Some i) ≡ true → o ≡ Some i
-option_eq-true (Some j) i e = ap (λ n. Some n) (eqb-true j i e)
-option_eq-true None i e = absurd (let no : ⊥ = cc in no)
+-- what `!=` tells of an optional number
+pub same_told : (o : Option ℕ) (i : ℕ) (ne : Bool) → ne ≡ not (option_eq nat_eq o (Some i)) → ne ≡ false → o ≡ Some i
+same_told (Some j) i ne is off =
+    elim (cases_Bool (nat_eq j i)) [
+      | inl hit ↦ ap (λ n. Some n) (eqb-true j i hit)
+      | inr miss ↦ absurd (let f : ⊥ = let e : false ≡ true = sym off ∙ is ∙ ap not miss in cc in f)
+    ]
+same_told None i ne is off = absurd (let f : ⊥ = let e : false ≡ true = sym off ∙ is in cc in f)
 
--- whether an element stands where its like is found first
-pub first_answer : {X : Type 0} (same : X → X → Bool) (xs : List X) (i : ℕ) (x : X) (o : Option ℕ) (r : Bool) → Some x ≡ slice_get xs i → o ≡ position_from (same x) 0 xs → r ≡ option_eq nat_eq o (Some i) → IsTrue r ↔ IsFirstAt same xs i
-first_answer {X} same xs i x o r at place is = (
-  λ hit y at_y. let z : x ≡ y = same_Some x y (at ∙ at_y) in ap (λ (w : X). position_from (same w) 0 xs) (sym z) ∙ sym place ∙ option_eq-true o i (sym is ∙ hit),
-  λ first. is ∙ ap (λ p. option_eq nat_eq p (Some i)) (place ∙ first x (sym at)) ∙ eq-eqb i i refl,
+pub other_told : (o : Option ℕ) (i : ℕ) (ne : Bool) → ne ≡ not (option_eq nat_eq o (Some i)) → ne ≡ true → o ≢ Some i
+other_told o i ne is on same =
+    let no : ⊥ = let e : true ≡ false = sym on ∙ is ∙ ap (λ p. not (option_eq nat_eq p (Some i))) same ∙ ap not (eq-eqb i i refl) in cc in no
+
+-- whether no two elements have one key, as the first places of their keys tell; the elements are items as they are seen
+pub distinct_told : {T X K F : Type 0} (g : Shared F (Bor T × Unit {0}) (Option ℕ)) (f : F) (show : T → X) (key : X → K) (same : K → K → Bool) → ((a b : K) → same a b ≡ true ↔ a ≡ b) → (items : List T) (xs : List X) (r : Bool) → map show items ≡ xs → ((p : Bor T) (o : Option ℕ) → g.post f (p, tt) o → o ≡ position_from (λ x. same (key (show p.now)) (key x)) 0 xs) → MatchBool r (AllFirst g f items) (SomeLater g f items) → IsTrue r ↔ AllPairs (λ x y. key x ≢ key y) xs
+distinct_told {T} {X} g f show key same is items xs true seen finds told = (
+  λ _. all_apart (λ x y. same (key x) (key y)) (λ x y. key x ≢ key y) xs
+      (λ x y e one. let no : ⊥ = let t : true ≡ false = sym ((is (key y) (key x)).1 (sym one)) ∙ e in cc in no)
+      (λ k lt x at.
+      let h = seen_back show items k x (ap (λ (ys : List X). slice_get ys k) seen ∙ at) in
+      let t = told k h.0 h.1 in
+      let e : show t.shown.now ≡ x = ap show t.shows ∙ h.2 in
+      subst (λ (y : X). position_from (λ z. same (key y) (key z)) 0 xs ≡ Some k) e (sym (finds t.shown (Some k) t.says.met))),
+  λ _. refl,
+)
+distinct_told {T} {X} g f show key same is items xs false seen finds told = (
+  λ no. absurd (let e : ⊥ = cc in e),
+  λ pairs.
+      let t = told.4 in
+      let at : slice_get xs told.0 ≡ Some (show t.shown.now) = ap (λ (ys : List X). slice_get ys told.0) (sym seen) ∙ slice_get-map show items told.0 ∙ ap (option_map show) told.3 ∙ ap (λ (y : T). Some (show y)) (sym t.shows) in
+      let first = first_from_apart (λ x y. same (key x) (key y)) (λ x y. key x ≢ key y) xs told.0 (λ x y e ne. ne (sym ((is (key y) (key x)).0 e))) (λ x. (is (key x) (key x)).1 refl) pairs in
+      absurd (told.5 (finds t.shown told.2 t.says.met ∙ first (show t.shown.now) at)),
 )
 
--- whether no two are alike, as the loop tells
-pub apart_answer : {X : Type 0} (same : X → X → Bool) (R : X → X → Type 0) (xs : List X) (n : ℕ) → ((x y : X) → same y x ≡ false → R x y) → length xs ≤ n → ((k : ℕ) → k < n → IsFirstAt same xs k) → IsTrue true ↔ AllPairs R xs
-apart_answer {X} same R xs n apart le first = (λ _. all_apart same R xs apart (λ k lt. first k (omega arith)), λ _. refl)
+-- numbers are one where `==` says so, and steps where it does of both their numbers
+pub ids_told : (a b : ℕ) → (a == b) ≡ true ↔ a ≡ b
+ids_told a b = (eqb-true a b, eq-eqb a b)
 
-pub alike_answer : {X : Type 0} (same : X → X → Bool) (R : X → X → Type 0) (xs : List X) (i : ℕ) (r : Bool) → ((x y : X) → same y x ≡ true → R x y → ⊥) → ((x : X) → same x x ≡ true) → r ≡ false → IsTrue r ↔ IsFirstAt same xs i → IsTrue false ↔ AllPairs R xs
-alike_answer {X} same R xs i r clash itself none told = (λ no. absurd (let e : ⊥ = cc in e), λ pairs. sym none ∙ told.1 (first_from_apart same R xs i clash itself pairs))
-
--- steps are alike where partition and colour are
-pub steps_alike : (x y : SubDecl) → ((y.part == x.part) && (y.colour == x.colour)) ≡ true → (step_of x ≡ step_of y → ⊥) → ⊥
-steps_alike x y e ne =
-    let h = and_parts (y.part == x.part) (y.colour == x.colour) e in
-    let part : x.part ≡ y.part = sym (eqb-true y.part x.part h.0) in
-    let colour : x.colour ≡ y.colour = sym (eqb-true y.colour x.colour h.1) in
-    ne (λ i. record { part = part i; colour = colour i })
-
-pub steps_apart : (x y : SubDecl) → ((y.part == x.part) && (y.colour == x.colour)) ≡ false → step_of x ≡ step_of y → ⊥
-steps_apart x y e same =
-    let part : (y.part == x.part) ≡ true = eq-eqb y.part x.part (ap (λ (s : Step). s.part) (sym same)) in
-    let colour : (y.colour == x.colour) ≡ true = eq-eqb y.colour x.colour (ap (λ (s : Step). s.colour) (sym same)) in
-    let no : ⊥ = let f : true ≡ false = sym (both_true part colour) ∙ e in cc in no
-
-pub step_itself : (x : SubDecl) → ((x.part == x.part) && (x.colour == x.colour)) ≡ true
-step_itself x = both_true (eq-eqb x.part x.part refl) (eq-eqb x.colour x.colour refl)
+pub steps_told : (a b : Step) → ((a.part == b.part) && (a.colour == b.colour)) ≡ true ↔ a ≡ b
+steps_told a b = (
+  λ e.
+      let h = and_parts (a.part == b.part) (a.colour == b.colour) e in
+      let part = eqb-true a.part b.part h.0 in
+      let colour = eqb-true a.colour b.colour h.1 in
+      λ i. record { part = part i; colour = colour i },
+  λ e. both_true (eq-eqb a.part b.part (ap (λ (s : Step). s.part) e)) (eq-eqb a.colour b.colour (ap (λ (s : Step). s.colour) e)),
+)

@@ -2,7 +2,7 @@
 use Rattle.std.proofs.Common.{◌≡◌, ℕ, zero, suc, ◌+◌, ◌<◌, ◌≤◌, List, [], ◌∷◌, ◌++◌, All, length, get_or, sym, ap, ◌∙◌, arith, add-one, append_assoc}
 use Rattle.std.proofs.lemmas.List.Elements.{All-nil, All-cons, All-tail}
 use Rattle.point_set.specs.Runs.{run_points, points_of, AreRuns}
-use Rattle.point_set.proofs.Maximal.{joined_run}
+use Rattle.point_set.proofs.lemmas.Maximal.{joined_run}
 use Rattle.region_tree.specs.RunsFrom.{AreRunsFrom}
 
 -- both ways to say that runs are in order
@@ -41,7 +41,7 @@ points_joined all first last next behind some more touch is =
 pub order_joined : (low first last : ℕ) (next : ℕ × ℕ) (behind : List (ℕ × ℕ)) → AreRunsFrom low ((first, last) ∷ next ∷ behind) → AreRunsFrom low ((first, next.1) ∷ behind)
 order_joined low first last next behind h = (h.0, omega (arith, h.1, h.2.0, h.2.1), h.2.2)
 
--- the runs behind those that are placed, with others in their stead
+-- the runs after those that are placed, with others in their stead
 pub order_behind : (low : ℕ) (placed rest : List (ℕ × ℕ)) (run : ℕ × ℕ) (behind : List (ℕ × ℕ)) → ((m : ℕ) → AreRunsFrom m rest → AreRunsFrom m (run ∷ behind)) → AreRunsFrom low (placed ++ rest) → AreRunsFrom low ((placed ++ run ∷ []) ++ behind)
 order_behind low [] rest run behind there h = there low h
 order_behind low (p ∷ placed) rest run behind there h = (h.0, h.1, order_behind (p.1 + 1) placed rest run behind there h.2)

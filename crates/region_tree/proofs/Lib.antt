@@ -1,10 +1,8 @@
-pub mod RunPoints
-pub mod Firsts
-pub mod Distinct
-pub mod Climbs
-pub mod Finding
-pub mod Claiming
-pub mod Ways
-pub mod Aliases
-pub mod Joining
-pub mod Growth
+pub mod lemmas
+mod RunPoints
+mod Distinct
+mod Finding
+mod Claiming
+mod Ways
+mod Aliases
+mod Joining

@@ -2,27 +2,23 @@
 use Rattle.std.proofs.Common.{◌≡◌, ℕ, List, ◌∷◌, ◌==◌, Contains, Option, Some, None, IsSome, slice_get, subst, refl, sym, ap, ◌∙◌}
 use Rattle.std.specs.Option.{option_and_then, option_map}
 use Rattle.std.proofs.lemmas.Bool.{eqb-true}
-use Rattle.std.proofs.lemmas.Option.{none-some, same_Some, slice_get_within, get_or_from_slice_get}
+use Rattle.std.proofs.lemmas.Option.{none-some, slice_get_within, get_or_from_slice_get}
 use Rattle.region_tree.specs.declared.decls.PartDecl.{PartDecl}
 use Rattle.region_tree.specs.declared.decls.SubDecl.{SubDecl}
 use Rattle.region_tree.specs.declared.path.Step.{Step}
 use Rattle.region_tree.specs.Regions.{Regions, step_of, space_of, part_of, sub_of, whole_of, parent_of}
 use Rattle.region_tree.specs.Tied.{IsTied}
 use Rattle.region_tree.specs.Paths.{Leads, step_with, step_to}
-use Rattle.region_tree.proofs.Firsts.{find_some, all_at}
-use Rattle.region_tree.proofs.Climbs.{sub_from_parent}
+use Rattle.region_tree.proofs.lemmas.Firsts.{map_cases, find_some, all_at}
+use Rattle.region_tree.proofs.lemmas.Climbs.{sub_from_parent}
 
 contains_at : {X : Type 0} (xs : List X) (i : ℕ) (x : X) → slice_get xs i ≡ Some x → Contains xs x
 contains_at xs i x at = (i, slice_get_within xs i x at, get_or_from_slice_get xs i x x at)
 
 -- what a partition cuts is declared
-whole_cases : (o : Option PartDecl) (w : ℕ) → option_map (λ (p : PartDecl). p.space) o ≡ Some w → (p : PartDecl) × (o ≡ Some p) × (p.space ≡ w)
-whole_cases (Some p) w e = (p, refl, same_Some p.space w e)
-whole_cases None w e = absurd (none-some w e)
-
 pub whole_declared : (d : Regions) (part w : ℕ) → IsTied d → whole_of d part ≡ Some w → IsSome (space_of d w)
 whole_declared d part w tied e =
-    let h = whole_cases (part_of d part) w e in
+    let h = map_cases (λ (p : PartDecl). p.space) (part_of d part) w e in
     let at = find_some (λ (p : PartDecl). part == p.id) d.parts h.0 h.1 in
     subst (λ v. IsSome (space_of d v)) h.2 (all_at (λ (p : PartDecl). IsSome (space_of d p.space)) d.parts at.0 h.0 tied.wholes_declared at.1)
 
@@ -30,14 +26,10 @@ pub parent_declared : (d : Regions) (space up : ℕ) → IsTied d → parent_of 
 parent_declared d space up tied e = let h = sub_from_parent d space up e in whole_declared d h.0.part up tied h.5
 
 -- a step to a space, and the space above it
-pair_cases : (f : ℕ → Step × ℕ) (o : Option ℕ) (p : Step × ℕ) → option_map f o ≡ Some p → (v : ℕ) × (o ≡ Some v) × (f v ≡ p)
-pair_cases f (Some v) p e = (v, refl, same_Some (f v) p e)
-pair_cases f None p e = absurd (none-some p e)
-
 step_cases : (d : Regions) (o : Option SubDecl) (step : Step) (w : ℕ) → option_and_then (step_with d) o ≡ Some (step, w) → (s : SubDecl) × (o ≡ Some s) × (step_of s ≡ step) × (whole_of d s.part ≡ Some w)
 step_cases d (Some s) step w e =
     let f : ℕ → Step × ℕ = λ whole. (step_of s, whole) in
-    let h = pair_cases f (whole_of d s.part) (step, w) e in
+    let h = map_cases f (whole_of d s.part) (step, w) e in
     let at : h.0 ≡ w = ap (λ (p : Step × ℕ). p.1) h.2 in
     (s, refl, ap (λ (p : Step × ℕ). p.0) h.2, h.1 ∙ ap (λ v. Some v) at)
 step_cases d None step w e = absurd (none-some (step, w) e)

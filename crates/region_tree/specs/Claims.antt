@@ -2,12 +2,12 @@
 use Rattle.std.specs.Prelude.{◌≡◌, ◌≢◌, ℕ, ◌+◌, ◌<◌, ◌≤◌, ◌⊎◌, List, slice_get, AllPairs, Contains, Option, Some, IsTrue, MatchOption}
 use Rattle.region_tree.specs.declared.claims.Claim.{Claim}
 use Rattle.region_tree.specs.declared.decls.SubDecl.{SubDecl}
-use Rattle.region_tree.specs.Regions.{Regions, points_of}
+use Rattle.region_tree.specs.Regions.{Regions, space_points}
 use Rattle.region_tree.specs.Faults.{is_disjoint, MeetsEarlier}
 
 -- Subspace `i` has the point, and is one of this disjoint partition.
 abbrev pub Claims : Regions → ℕ → ℕ → ℕ → Type 0
-Claims d i part p = (s : SubDecl) × (slice_get d.subs i ≡ Some s) × (s.part ≡ part) × IsTrue (is_disjoint d part) × Contains (points_of d s.space) p
+Claims d i part p = (s : SubDecl) × (slice_get d.subs i ≡ Some s) × (s.part ≡ part) × IsTrue (is_disjoint d part) × Contains (space_points d s.space) p
 
 -- Subspace `i` claims nothing.
 abbrev pub ClaimsNothing : Regions → ℕ → Type 0
@@ -15,9 +15,9 @@ ClaimsNothing d i = (part p : ℕ) → ¬ Claims d i part p
 
 -- Subspace `i` claims just these points, for this partition.
 abbrev pub ClaimsAll : Regions → ℕ → ℕ → List ℕ → Type 0
-ClaimsAll d i part points = (s : SubDecl) × (slice_get d.subs i ≡ Some s) × (s.part ≡ part) × IsTrue (is_disjoint d part) × (points_of d s.space ≡ points)
+ClaimsAll d i part points = (s : SubDecl) × (slice_get d.subs i ≡ Some s) × (s.part ≡ part) × IsTrue (is_disjoint d part) × (space_points d s.space ≡ points)
 
--- The numbers from the first to the last are points, and the one behind the last is not.
+-- The numbers from the first to the last are points, and the one after the last is not.
 pub record IsRunEnd (points : List ℕ) (first last : ℕ) : Type 0 where
   pub order : first ≤ last
   pub filled : (p : ℕ) → first ≤ p → p ≤ last → Contains points p
@@ -34,7 +34,7 @@ IsIn c p = (c.first ≤ p) × (p ≤ c.last)
 
 -- A longest run of the points that the subspace claims for its partition.
 abbrev pub IsClaim : Regions → Claim → Type 0
-IsClaim d c = (s : SubDecl) × (slice_get d.subs c.sub ≡ Some s) × (s.part ≡ c.part) × IsTrue (is_disjoint d c.part) × IsRun (points_of d s.space) c.first c.last
+IsClaim d c = (s : SubDecl) × (slice_get d.subs c.sub ≡ Some s) × (s.part ≡ c.part) × IsTrue (is_disjoint d c.part) × IsRun (space_points d s.space) c.first c.last
 
 -- The claims of the subspaces before `n`.
 pub record AreClaims (d : Regions) (n : ℕ) (claims : List Claim) : Type 0 where
@@ -75,6 +75,10 @@ AreApart claims limit = (a b : Claim) → Contains claims a → Contains claims 
 -- Some claims of subspaces before `limit` overlap.
 abbrev pub SomeOverlap : List Claim → ℕ → Type 0
 SomeOverlap claims limit = (a : Claim) × (b : Claim) × Contains claims a × Contains claims b × (a.sub < limit) × (b.sub < limit) × Overlap a b
+
+-- The first subspace with a claim that overlaps one of an earlier subspace, of those before `count`.
+abbrev pub IsFirstOverlap : List Claim → ℕ → Option ℕ → Type 0
+IsFirstOverlap claims count o = MatchOption o (AreApart claims count) (λ i. AreApart claims i × SomeOverlap claims (i + 1))
 
 -- Subspace `i` meets an earlier one.
 abbrev pub MeetsSome : Regions → ℕ → Type 0

@@ -1,13 +1,15 @@
 -- What is wrong with a subspace.
-use Rattle.std.specs.Prelude.{◌≡◌, ℕ, ◌<◌, Bool, false, ◌⊎◌, List, [], slice_get, Contains, Some, None, IsTrue}
+use Rattle.std.specs.Prelude.{◌≡◌, ℕ, ◌<◌, Bool, false, ◌⊎◌, List, [], slice_get, Contains, Option, MatchOption, Some, None, IsTrue, ⊤}
 use Rattle.std.specs.Option.{option_map_or}
 use Rattle.point_set.specs.Least.{IsLeast}
 use Rattle.region_tree.specs.declared.decls.SubDecl.{SubDecl}
-use Rattle.region_tree.specs.Regions.{Regions, part_of, whole_of, points_of}
+use Rattle.region_tree.specs.declared.place_fault.PlaceFault.{PlaceFault}
+use Rattle.region_tree.specs.declared.place_fault.PlaceFault.TheVariants.{NotWithin, NotDisjoint, Memory}
+use Rattle.region_tree.specs.Regions.{Regions, part_of, whole_of, space_points}
 
 -- The points of the space that a partition cuts.
 abbrev pub points_cut : Regions → ℕ → List ℕ
-points_cut d part = option_map_or (points_of d) (whole_of d part) []
+points_cut d part = option_map_or (space_points d) (whole_of d part) []
 
 -- Whether the partition is declared disjoint.
 abbrev pub is_disjoint : Regions → ℕ → Bool
@@ -15,11 +17,11 @@ is_disjoint d part = option_map_or (λ p. p.disjoint) (part_of d part) false
 
 -- Subspace `i` has the point, and the space that its partition cuts has not.
 abbrev pub IsOutside : Regions → ℕ → ℕ → Type 0
-IsOutside d i point = (s : SubDecl) × (slice_get d.subs i ≡ Some s) × Contains (points_of d s.space) point × ¬ Contains (points_cut d s.part) point
+IsOutside d i point = (s : SubDecl) × (slice_get d.subs i ≡ Some s) × Contains (space_points d s.space) point × ¬ Contains (points_cut d s.part) point
 
 -- Both are subspaces of one disjoint partition, and have the point.
 abbrev pub Clashes : Regions → SubDecl → SubDecl → ℕ → Type 0
-Clashes d s t point = (s.part ≡ t.part) × IsTrue (is_disjoint d s.part) × Contains (points_of d s.space) point × Contains (points_of d t.space) point
+Clashes d s t point = (s.part ≡ t.part) × IsTrue (is_disjoint d s.part) × Contains (space_points d s.space) point × Contains (space_points d t.space) point
 
 -- Subspace `i` clashes with the earlier one `j` at the point.
 abbrev pub Meets : Regions → ℕ → ℕ → ℕ → Type 0
@@ -29,6 +31,10 @@ Meets d i j point = (s : SubDecl) × (t : SubDecl) × (j < i) × (slice_get d.su
 abbrev pub MeetsEarlier : Regions → ℕ → ℕ → Type 0
 MeetsEarlier d i j = (point : ℕ) × Meets d i j point
 
+-- The least earlier subspace that subspace `i` meets, with the least point that they share.
+abbrev pub IsFirstMet : Regions → ℕ → Option (ℕ × ℕ) → Type 0
+IsFirstMet d i o = MatchOption o ((j : ℕ) → ¬ MeetsEarlier d i j) (λ met. IsLeast (MeetsEarlier d i) (Some met.0) × IsLeast (Meets d i met.0) (Some met.1))
+
 -- Subspace `i` is not within the space that its partition cuts, or meets an earlier subspace of its disjoint partition.
 abbrev pub IsFaulty : Regions → ℕ → Type 0
 IsFaulty d i = ((point : ℕ) × IsOutside d i point) ⊎ ((j : ℕ) × MeetsEarlier d i j)
@@ -37,6 +43,12 @@ IsFaulty d i = ((point : ℕ) × IsOutside d i point) ⊎ ((j : ℕ) × MeetsEar
 abbrev pub IsFirstFault : Regions → ℕ → Type 0
 IsFirstFault d i = IsFaulty d i × ((k : ℕ) → k < i → ¬ IsFaulty d k)
 
+-- What the refusal of a subspace shows: which way it is faulty, and the least point.
+abbrev pub Shows : Regions → ℕ → PlaceFault → Type 0
+Shows d i (NotWithin sub point) = (sub ≡ i) × IsLeast (IsOutside d i) (Some point)
+Shows d i (NotDisjoint sub other point) = (sub ≡ i) × IsLeast (IsOutside d i) None × IsLeast (MeetsEarlier d i) (Some other) × IsLeast (Meets d i other) (Some point)
+Shows d i Memory = ⊤
+
 -- The first fault is of the first way, and this is the least point outside.
 abbrev pub FirstNotWithin : Regions → ℕ → ℕ → Type 0
 FirstNotWithin d sub point = IsFirstFault d sub × IsLeast (IsOutside d sub) (Some point)
@@ -44,3 +56,9 @@ FirstNotWithin d sub point = IsFirstFault d sub × IsLeast (IsOutside d sub) (So
 -- The first fault is of the second way alone; `other` is the least earlier subspace that is met, and this the least point that the two share.
 abbrev pub FirstNotDisjoint : Regions → ℕ → ℕ → ℕ → Type 0
 FirstNotDisjoint d sub other point = IsFirstFault d sub × IsLeast (IsOutside d sub) None × IsLeast (MeetsEarlier d sub) (Some other) × IsLeast (Meets d sub other) (Some point)
+
+-- What the refusal of declarations shows.
+abbrev pub ShowsFirst : Regions → PlaceFault → Type 0
+ShowsFirst d (NotWithin sub point) = FirstNotWithin d sub point
+ShowsFirst d (NotDisjoint sub other point) = FirstNotDisjoint d sub other point
+ShowsFirst d Memory = ⊤

@@ -5,5 +5,6 @@ pub mod Ancestors
 pub mod Faults
 pub mod Claims
 pub mod Paths
+pub mod Sharing
 pub mod RunsFrom
 pub mod Growing

@@ -1,5 +1,6 @@
 -- What is declared of regions: spaces, partitions of spaces, and the subspaces of partitions.
-use Rattle.std.specs.Prelude.{ℕ, ◌==◌, List, [], Option, find, ◌&&◌}
+use Rattle.std.specs.Prelude.{◌≡◌, ℕ, ◌==◌, ◌&&◌, Bool, List, [], map, find, Option, MatchOption}
+use Rattle.std.specs.Borrow.{Bor}
 use Rattle.std.specs.Option.{option_map, option_map_or, option_and_then}
 use Rattle.region_tree.specs.declared.decls.PartDecl.{PartDecl}
 use Rattle.region_tree.specs.declared.decls.SpaceDecl.{SpaceDecl}
@@ -21,9 +22,17 @@ pub record Regions : Type 0 where
   pub parts : List PartDecl
   pub subs : List SubDecl
 
+-- Declarations as they are seen, where `points` tells the points of a set.
+abbrev pub declared : {P : Type 0} → (P → List ℕ) → List (SpaceDecl P) → List PartDecl → List SubDecl → Regions
+declared points spaces parts subs = record { spaces = map (seen points) spaces; parts = parts; subs = subs }
+
 -- The step that a subspace is under its partition.
 abbrev pub step_of : SubDecl → Step
 step_of s = record { part = s.part; colour = s.colour }
+
+-- Whether the subspace has the partition and the colour of this step.
+abbrev pub is_at : Step → SubDecl → Bool
+is_at step s = (step.part == s.part) && (step.colour == s.colour)
 
 -- The space with this id.
 abbrev pub space_of : Regions → ℕ → Option Space
@@ -39,11 +48,15 @@ sub_of d space = find (λ s. space == s.space) d.subs
 
 -- The subspace that a partition has under a colour.
 abbrev pub child_of : Regions → Step → Option SubDecl
-child_of d step = find (λ s. (step.part == s.part) && (step.colour == s.colour)) d.subs
+child_of d step = find (is_at step) d.subs
 
 -- The points of a space: none where it is not declared.
-abbrev pub points_of : Regions → ℕ → List ℕ
-points_of d id = option_map_or (λ s. s.points) (space_of d id) []
+abbrev pub space_points : Regions → ℕ → List ℕ
+space_points d id = option_map_or (λ s. s.points) (space_of d id) []
+
+-- The set has just these points, and there is none only where there are no points.
+abbrev pub IsSetOf : {P : Type 0} → (P → List ℕ) → Option (Bor P) → List ℕ → Type 0
+IsSetOf points o ps = MatchOption o (ps ≡ []) (λ s. ps ≡ points s.now)
 
 -- The space that a partition cuts.
 abbrev pub whole_of : Regions → ℕ → Option ℕ

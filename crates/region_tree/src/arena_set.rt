@@ -1,8 +1,8 @@
 //! Sets of points that lie in an arena.
 
-ghost use Rattle.std.specs.Prelude.{◌≡◌, ◌+◌, ◌<◌, ◌↔◌, ℕ, [], ◌∷◌, ◌++◌, length, OnOk, IfOk, IfNone, IfSome, IsTrue};
+ghost use Rattle.std.specs.Prelude.{◌≡◌, ◌+◌, ◌<◌, ◌↔◌, [], ◌∷◌, ◌++◌, length, OnOk, IfOk, IfNone, IfSome, IsTrue};
 ghost use Rattle.point_set.specs.Runs.{AreRuns, points_of, run_points};
-ghost use Rattle.region_tree.specs.RunsFrom.{AreRunsFrom};
+ghost use Rattle.region_tree.specs.RunsFrom.{AreRunsFrom, BeginAs};
 
 use crate::memory::Memory;
 use bumpalo::Bump;
@@ -13,7 +13,7 @@ use point_set::{PointList, PointSet, RunSet, points_of_runs_ascend};
 pub trait ArenaSet<'a>: PointSet + Copy {
     /// The set of just the points of `runs`, each run a pair of its first and its last point.
     ///
-    /// Each run has a point, and ends before the next begins. The only error is want of memory.
+    /// Each run has a point, and ends before the next begins. The only error is that memory ran out.
     fn place(bump: &'a Bump, runs: &[(u64, u64)]) -> Result<Self, Memory>
         requires { AreRuns runs.now }
         ensures { IfOk result (λ set. Self.points set ≡ points_of runs.now) };
@@ -50,12 +50,12 @@ fn touches(last: u64, next: u64) -> bool
     last.checked_add(1) == Some(next)
 }
 
-/// The first run, with those behind it that touch one another joined to it, and the runs behind these.
+/// The first run, with those after it that touch one another joined to it, and the runs after these.
 fn cut_joined(runs: &[(u64, u64)]) -> Option<((u64, u64), &[(u64, u64)])>
     requires { AreRunsFrom 0 runs.now }
     ensures none { IfNone result (runs.now ≡ []) }
     ensures points { IfSome result (λ cut. points_of runs.now ≡ run_points cut.0 ++ points_of cut.1.now) }
-    ensures order { IfSome result (λ cut. (low : ℕ) → AreRunsFrom low runs.now → AreRunsFrom low (cut.0 ∷ cut.1.now)) }
+    ensures order { IfSome result (λ cut. BeginAs runs.now (cut.0 ∷ cut.1.now)) }
     ensures shorter { IfSome result (λ cut. length cut.1.now < length runs.now) }
 {
     let (first, mut rest) = runs.split_first()?;

@@ -4,7 +4,8 @@ ghost use Rattle.std.specs.Prelude.{◌≡◌, ◌+◌, false, ◌↔◌, length
 ghost use Rattle.std.specs.Bool.{OnTrue, OnFalse};
 ghost use Rattle.std.specs.List.Sorted.{IsPermutation};
 ghost use Rattle.point_set.specs.Least.{IsLeastFrom};
-ghost use Rattle.region_tree.specs.Claims.{IsRunEnd, AddsRuns, ClaimsNothing, ClaimsAll, AreClaims, AreInOrder, AreOwn, Clash, AreApart, SomeOverlap, IsFirstMeeting};
+ghost use Rattle.region_tree.specs.Claims.{IsRunEnd, AddsRuns, ClaimsNothing, ClaimsAll, AreClaims, AreInOrder, AreOwn};
+ghost use Rattle.region_tree.specs.Claims.{Clash, AreApart, SomeOverlap, IsFirstOverlap, IsFirstMeeting};
 
 use crate::finder::Finder;
 use point_set::PointSet;
@@ -19,7 +20,7 @@ pub(crate) struct Claim {
     pub sub: usize,
 }
 
-/// The least point behind this one.
+/// The least point after this one.
 fn next_after<P: PointSet>(set: &P, point: u64) -> Option<u64>
     ensures { IsLeastFrom (P.points set.now) (point + 1) result }
 {
@@ -144,7 +145,7 @@ fn are_apart(claims: &[Claim], limit: usize) -> bool
 fn first_overlap(claims: &[Claim], count: usize) -> Option<usize>
     requires order { AreInOrder claims.now }
     requires own { AreOwn claims.now }
-    ensures { MatchOption result (AreApart claims.now count) (λ i. AreApart claims.now i × SomeOverlap claims.now (i + 1)) }
+    ensures { IsFirstOverlap claims.now count result }
 {
     if are_apart(claims, count) {
         return None;

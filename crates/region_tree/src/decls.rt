@@ -52,12 +52,11 @@ pub struct Decls<P: PointSet> {
 }
 
 impl<P: PointSet> Model for Decls<P> {
-    ghost use Rattle.std.specs.Prelude.{map};
-    ghost use Rattle.region_tree.specs.Regions.{Regions, seen};
+    ghost use Rattle.region_tree.specs.Regions.{Regions, declared};
 
     ghost Value = { Regions };
 
-    ghost view = { λ d. record { spaces = map (seen P.points) d.spaces.items; parts = d.parts.items; subs = d.subs.items } };
+    ghost view = { λ d. declared P.points d.spaces.items d.parts.items d.subs.items };
 }
 
 impl<P: PointSet> Decls<P> {

@@ -1,9 +1,9 @@
 //! Subspaces that are not within the space that is cut, or not disjoint.
 
-ghost use Rattle.std.specs.Prelude.{◌≡◌, ℕ, ◌<◌, ◌↔◌, MatchOption, Some, None, Err, OnOk, IsTrue};
+ghost use Rattle.std.specs.Prelude.{ℕ, ◌<◌, ◌↔◌, OnOk, IfErr, IsTrue};
 ghost use Rattle.point_set.specs.Least.{IsLeast};
 ghost use Rattle.region_tree.specs.Claims.{MeetsSome};
-ghost use Rattle.region_tree.specs.Faults.{IsOutside, Meets, MeetsEarlier, IsFaulty, FirstNotWithin, FirstNotDisjoint};
+ghost use Rattle.region_tree.specs.Faults.{IsOutside, Meets, IsFirstMet, IsFaulty, Shows, ShowsFirst};
 
 use crate::claims::first_meeting;
 use crate::finder::Finder;
@@ -38,7 +38,7 @@ fn shared<P: PointSet>(finder: &Finder<P>, i: usize, j: usize) -> Option<u64>
 
 /// The least earlier subspace that subspace `i` meets, with the least point that they share.
 fn first_met<P: PointSet>(finder: &Finder<P>, i: usize) -> Option<(usize, u64)>
-    ensures { MatchOption result ((j : ℕ) → ¬ MeetsEarlier finder.now i j) (λ met. IsLeast (MeetsEarlier finder.now i) (Some met.0) × IsLeast (Meets finder.now i met.0) (Some met.1)) }
+    ensures { IsFirstMet finder.now i result }
 {
     for j in 0..i {
         match shared(finder, i, j) {
@@ -53,8 +53,7 @@ fn first_met<P: PointSet>(finder: &Finder<P>, i: usize) -> Option<(usize, u64)>
 fn judge_sub<P: PointSet>(finder: &Finder<P>, i: usize, meets: bool) -> Result<(), PlaceFault>
     requires { IsTrue meets ↔ MeetsSome finder.now i }
     ensures ok { OnOk result (¬ IsFaulty finder.now i) }
-    ensures not_within { (sub point : ℕ) → result ≡ Err (PlaceFault.NotWithin sub point) → (sub ≡ i) × IsLeast (IsOutside finder.now i) (Some point) }
-    ensures not_disjoint { (sub other point : ℕ) → result ≡ Err (PlaceFault.NotDisjoint sub other point) → (sub ≡ i) × IsLeast (IsOutside finder.now i) None × IsLeast (MeetsEarlier finder.now i) (Some other) × IsLeast (Meets finder.now i other) (Some point) }
+    ensures shown { IfErr result (Shows finder.now i) }
 {
     if let Some(point) = outside(finder, i) {
         return Err(PlaceFault::NotWithin { sub: i, point });
@@ -75,8 +74,7 @@ fn judge_sub<P: PointSet>(finder: &Finder<P>, i: usize, meets: bool) -> Result<(
 /// Refuses the least faulty subspace, if there is one.
 pub(crate) fn judge<P: PointSet>(alloc: Global, finder: &Finder<P>) -> Result<(), PlaceFault>
     ensures ok { OnOk result ((i : ℕ) → ¬ IsFaulty finder.now i) }
-    ensures not_within { (sub point : ℕ) → result ≡ Err (PlaceFault.NotWithin sub point) → FirstNotWithin finder.now sub point }
-    ensures not_disjoint { (sub other point : ℕ) → result ≡ Err (PlaceFault.NotDisjoint sub other point) → FirstNotDisjoint finder.now sub other point }
+    ensures shown { IfErr result (ShowsFirst finder.now) }
 {
     let meeting = first_meeting(alloc, finder)?;
     for i in 0..finder.subs().len() {

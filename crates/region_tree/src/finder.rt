@@ -1,27 +1,20 @@
-//! Declarations by id, by space, and by partition and colour.
+//! Declarations as they are looked up: by id, by space, by partition and colour, or by place.
 
-ghost use Rattle.std.specs.Prelude.{◌≡◌, ◌&&◌, ◌==◌, nat_eq, map, IfOk};
-ghost use Rattle.std.specs.HashMap.{get};
+ghost use Rattle.std.specs.Prelude.{◌≡◌, ◌↔◌, ◌==◌, map, slice_get, IfOk, IsSome, IsTrue, option_and_then};
+ghost use Rattle.std.specs.Option.{option_copied, option_map};
 ghost use Rattle.std.specs.List.{position_from};
-ghost use Rattle.region_tree.specs.Index.{IsIndexOf};
-ghost use Rattle.region_tree.specs.Regions.{seen, step_of};
+ghost use Rattle.region_tree.specs.Regions.{seen, declared, is_at, space_of, part_of, sub_of, child_of};
+ghost use Rattle.region_tree.specs.Regions.{space_points, IsSetOf, whole_of, parent_of};
+ghost use Rattle.region_tree.specs.Faults.{is_disjoint, points_cut};
+ghost use Rattle.region_tree.specs.Paths.{step_to};
+ghost use Rattle.point_set.specs.Least.{IsLeastCommon};
 
 use crate::decls::{PartDecl, SpaceDecl, SubDecl};
+use crate::index::{Index, index_of};
 use crate::path::Step;
-use crate::places::first_places;
 use point_set::PointSet;
 use std::alloc::{AllocError, Global};
-use std::collections::HashMap;
 use std::marker::Model;
-
-/// The first place of each declaration.
-#[derive(Drop)]
-struct Index {
-    spaces: HashMap<u32, usize>,
-    parts: HashMap<u32, usize>,
-    subs: HashMap<u32, usize>,
-    children: HashMap<Step, usize>,
-}
 
 /// Declared spaces, partitions and subspaces, to be looked up: by an index if there is one, and else one by one.
 #[derive(Drop)]
@@ -33,45 +26,15 @@ pub(crate) struct Finder<'t, P: PointSet> {
 }
 
 impl<'t, P: PointSet> Model for Finder<'t, P> {
-    ghost use Rattle.std.specs.Prelude.{map, nat_eq, ◌&&◌};
     ghost use Rattle.std.specs.Option.{ForSome};
-    ghost use Rattle.std.specs.HashMap.{get};
     ghost use Rattle.region_tree.specs.Index.{IsIndexOf};
-    ghost use Rattle.region_tree.specs.Regions.{Regions, seen};
+    ghost use Rattle.region_tree.specs.Regions.{Regions, declared};
 
     ghost Value = { Regions };
 
-    ghost view = { λ f. record { spaces = map (seen P.points) f.spaces.now; parts = f.parts.now; subs = f.subs.now } };
+    ghost view = { λ f. declared P.points f.spaces.now f.parts.now f.subs.now };
 
-    ghost invariant = { λ f. ForSome f.index (λ x. IsIndexOf (record { spaces = map (seen P.points) f.spaces.now; parts = f.parts.now; subs = f.subs.now }) (get nat_eq x.spaces) (get nat_eq x.parts) (get nat_eq x.subs) (get (λ a b. nat_eq a.part b.part && nat_eq a.colour b.colour) x.children)) };
-}
-
-/// The id of each space.
-fn space_ids<P>(alloc: Global, spaces: &[SpaceDecl<P>]) -> Result<Vec<u32>, AllocError>
-    ensures { IfOk result (λ v. v.items ≡ map (λ s. s.id) spaces.now) }
-{
-    spaces.iter().map(|s| s.id).collect(alloc)
-}
-
-/// The id of each partition.
-fn part_ids(alloc: Global, parts: &[PartDecl]) -> Result<Vec<u32>, AllocError>
-    ensures { IfOk result (λ v. v.items ≡ map (λ p. p.id) parts.now) }
-{
-    parts.iter().map(|p| p.id).collect(alloc)
-}
-
-/// The space of each subspace.
-fn sub_spaces(alloc: Global, subs: &[SubDecl]) -> Result<Vec<u32>, AllocError>
-    ensures { IfOk result (λ v. v.items ≡ map (λ s. s.space) subs.now) }
-{
-    subs.iter().map(|s| s.space).collect(alloc)
-}
-
-/// The step to each subspace.
-fn steps(alloc: Global, subs: &[SubDecl]) -> Result<Vec<Step>, AllocError>
-    ensures { IfOk result (λ v. v.items ≡ map step_of subs.now) }
-{
-    subs.iter().map(|s| s.step()).collect(alloc)
+    ghost invariant = { λ f. ForSome f.index (IsIndexOf (declared P.points f.spaces.now f.parts.now f.subs.now)) };
 }
 
 /// The first place of a space with this id, looked for one by one.
@@ -81,25 +44,11 @@ fn position_of_space<P>(spaces: &[SpaceDecl<P>], id: u32) -> Option<usize>
     spaces.iter().position(|s| id == s.id)
 }
 
-/// The index of declarations.
-fn index_of<P: PointSet>(
-    alloc: Global,
-    spaces: &[SpaceDecl<P>],
-    parts: &[PartDecl],
-    subs: &[SubDecl],
-) -> Result<Index, AllocError>
-    ensures { IfOk result (λ x. IsIndexOf (record { spaces = map (seen P.points) spaces.now; parts = parts.now; subs = subs.now }) (get nat_eq x.spaces) (get nat_eq x.parts) (get nat_eq x.subs) (get (λ a b. nat_eq a.part b.part && nat_eq a.colour b.colour) x.children)) }
+/// The item at a place.
+fn item_at<T>(items: &[T], place: Option<usize>) -> Option<&T>
+    ensures { option_copied result ≡ option_and_then (slice_get items.now) place }
 {
-    let space_ids = space_ids(alloc, spaces)?;
-    let part_ids = part_ids(alloc, parts)?;
-    let sub_spaces = sub_spaces(alloc, subs)?;
-    let steps = steps(alloc, subs)?;
-    Ok(Index {
-        spaces: first_places(alloc, space_ids.as_slice())?,
-        parts: first_places(alloc, part_ids.as_slice())?,
-        subs: first_places(alloc, sub_spaces.as_slice())?,
-        children: first_places(alloc, steps.as_slice())?,
-    })
+    items.get(place?)
 }
 
 impl<'t, P: PointSet> Finder<'t, P> {
@@ -110,7 +59,7 @@ impl<'t, P: PointSet> Finder<'t, P> {
         parts: &'t [PartDecl],
         subs: &'t [SubDecl],
     ) -> Result<Finder<'t, P>, AllocError>
-        ensures { IfOk result (λ f. f ≡ record { spaces = map (seen P.points) spaces.now; parts = parts.now; subs = subs.now }) }
+        ensures { IfOk result (λ f. f ≡ declared P.points spaces.now parts.now subs.now) }
     {
         let index = Some(index_of(alloc, spaces, parts, subs)?);
         Ok(Finder {
@@ -121,13 +70,13 @@ impl<'t, P: PointSet> Finder<'t, P> {
         })
     }
 
-    /// Declarations without an index, for want of memory.
+    /// Declarations without an index, where there is no memory for one.
     pub fn plain(
         spaces: &'t [SpaceDecl<P>],
         parts: &'t [PartDecl],
         subs: &'t [SubDecl],
     ) -> Finder<'t, P>
-        ensures { result ≡ record { spaces = map (seen P.points) spaces.now; parts = parts.now; subs = subs.now } }
+        ensures { result ≡ declared P.points spaces.now parts.now subs.now }
     {
         Finder {
             spaces,
@@ -190,7 +139,7 @@ impl<'t, P: PointSet> Finder<'t, P> {
 
     /// The first place of a subspace of this partition and colour.
     pub fn child_place(&self, step: Step) -> Option<usize>
-        ensures { result ≡ position_from (λ s. (step.part == s.part) && (step.colour == s.colour)) 0 self.now.subs }
+        ensures { result ≡ position_from (is_at step) 0 self.now.subs }
     {
         match &self.index {
             Some(index) => index.children.get(&step).copied(),
@@ -199,5 +148,113 @@ impl<'t, P: PointSet> Finder<'t, P> {
                 .iter()
                 .position(|s| step.part == s.part && step.colour == s.colour),
         }
+    }
+
+    /// Subspace `i` of the declarations.
+    pub fn sub_at(&self, i: usize) -> Option<SubDecl>
+        ensures { result ≡ slice_get self.now.subs i }
+    {
+        item_at(self.subs(), Some(i)).copied()
+    }
+
+    /// The space with this id.
+    fn space(&self, id: u32) -> Option<&'t SpaceDecl<P>>
+        ensures { option_map (λ s. seen P.points s.now) result ≡ space_of self.now id }
+    {
+        item_at(self.spaces(), self.space_place(id))
+    }
+
+    /// The set of a space.
+    pub fn set(&self, id: u32) -> Option<&'t P>
+        ensures value { option_map (λ s. P.points s.now) result
+            ≡ option_map (λ s. s.points) (space_of self.now id) }
+        ensures points { IsSetOf P.points result (space_points self.now id) }
+    {
+        match self.space(id) {
+            Some(space) => Some(&space.set),
+            None => None,
+        }
+    }
+
+    /// Whether there is a space with this id.
+    pub fn has_space(&self, id: u32) -> bool
+        ensures { IsTrue result ↔ IsSome (space_of self.now id) }
+    {
+        self.space(id).is_some()
+    }
+
+    /// The partition with this id.
+    pub fn part(&self, id: u32) -> Option<PartDecl>
+        ensures { result ≡ part_of self.now id }
+    {
+        item_at(self.parts(), self.part_place(id)).copied()
+    }
+
+    /// What declares the space as a subspace.
+    pub fn sub(&self, space: u32) -> Option<SubDecl>
+        ensures { result ≡ sub_of self.now space }
+    {
+        item_at(self.subs(), self.sub_place(space)).copied()
+    }
+
+    /// The subspace of this partition and colour.
+    pub fn child(&self, step: Step) -> Option<SubDecl>
+        ensures { result ≡ child_of self.now step }
+    {
+        item_at(self.subs(), self.child_place(step)).copied()
+    }
+
+    /// The space that a partition cuts.
+    pub fn whole(&self, part: u32) -> Option<u32>
+        ensures { result ≡ whole_of self.now part }
+    {
+        Some(self.part(part)?.space)
+    }
+
+    /// The set of the space that a partition cuts.
+    pub fn whole_set(&self, part: u32) -> Option<&'t P>
+        ensures { IsSetOf P.points result (points_cut self.now part) }
+    {
+        match self.whole(part) {
+            Some(space) => self.set(space),
+            None => None,
+        }
+    }
+
+    /// Whether the partition is declared disjoint.
+    pub fn is_disjoint(&self, part: u32) -> bool
+        ensures { result ≡ is_disjoint self.now part }
+    {
+        match self.part(part) {
+            Some(part) => part.disjoint,
+            None => false,
+        }
+    }
+
+    /// The least point that two spaces share.
+    pub fn first_common(&self, a: u32, b: u32) -> Option<u64>
+        ensures { IsLeastCommon (space_points self.now a) (space_points self.now b) result }
+    {
+        match (self.set(a), self.set(b)) {
+            (Some(ours), Some(theirs)) => ours.first_common(theirs),
+            _ => None,
+        }
+    }
+
+    /// The last step to a subspace, with the space from which it leads.
+    pub fn step_to(&self, space: u32) -> Option<(Step, u32)>
+        ensures { result ≡ step_to self.now space }
+    {
+        let sub = self.sub(space)?;
+        let whole = self.whole(sub.part)?;
+        Some((sub.step(), whole))
+    }
+
+    /// The space of which this one is a subspace.
+    pub fn parent(&self, space: u32) -> Option<u32>
+        ensures { result ≡ parent_of self.now space }
+    {
+        let sub = self.sub(space)?;
+        self.whole(sub.part)
     }
 }

@@ -2,7 +2,7 @@
 
 ghost use Rattle.std.specs.Prelude.{◌≡◌, ◌↔◌, ℕ, Err, IfOk, OnOk, IsSome, IfSome, IsTrue};
 ghost use Rattle.std.specs.Option.{option_map};
-ghost use Rattle.region_tree.specs.Regions.{space_of, points_of};
+ghost use Rattle.region_tree.specs.Regions.{space_of, space_points};
 ghost use Rattle.point_set.specs.Least.{IsLeastCommon};
 ghost use Rattle.region_tree.specs.Ancestors.{IsUnder};
 ghost use Rattle.region_tree.specs.Paths.{IsPath};
@@ -60,6 +60,20 @@ fn place_spaces<'a, P: PointSet + Copy>(
     Ok(into_bump_slice(placed))
 }
 
+/// The declarations with an index, in the arena.
+fn place_decls<'a, P: PointSet + Copy>(
+    alloc: Global,
+    bump: &'a Bump,
+    decls: &Decls<P>,
+) -> Result<Finder<'a, P>, AllocError>
+    ensures { IfOk result (λ finder. finder ≡ decls.now) }
+{
+    let spaces = place_spaces(bump, decls.spaces())?;
+    let parts = bump.try_alloc_slice_copy(decls.parts())?;
+    let subs = bump.try_alloc_slice_copy(decls.subs())?;
+    Finder::indexed(alloc, spaces, parts, subs)
+}
+
 impl<'a, P: ArenaSet<'a>> Forest<'a, P> {
     /// The forest that is declared, in the arena.
     ///
@@ -74,13 +88,12 @@ impl<'a, P: ArenaSet<'a>> Forest<'a, P> {
         ensures faultless { OnOk result ((i : ℕ) → ¬ IsFaulty decls.now i) }
 
         // Each refusal shows the least faulty subspace. The first way of being faulty comes before the second.
-        ensures not_within { (sub point : ℕ) → result ≡ Err (PlaceFault.NotWithin sub point) → FirstNotWithin decls.now sub point }
-        ensures not_disjoint { (sub other point : ℕ) → result ≡ Err (PlaceFault.NotDisjoint sub other point) → FirstNotDisjoint decls.now sub other point }
+        ensures not_within { (sub point : ℕ) → result ≡ Err (PlaceFault.NotWithin sub point)
+            → FirstNotWithin decls.now sub point }
+        ensures not_disjoint { (sub other point : ℕ) → result ≡ Err (PlaceFault.NotDisjoint sub other point)
+            → FirstNotDisjoint decls.now sub other point }
     {
-        let spaces = place_spaces(bump, decls.spaces())?;
-        let parts = bump.try_alloc_slice_copy(decls.parts())?;
-        let subs = bump.try_alloc_slice_copy(decls.subs())?;
-        let finder = Finder::indexed(alloc, spaces, parts, subs)?;
+        let finder = place_decls(alloc, bump, decls)?;
         judge(alloc, &finder)?;
         Ok(Forest { finder })
     }
@@ -89,7 +102,8 @@ impl<'a, P: ArenaSet<'a>> Forest<'a, P> {
 impl<'a, P: PointSet> Forest<'a, P> {
     /// The set of a space, or `None` if the space is not declared.
     pub fn set_of(&self, space: u32) -> Option<&P>
-        ensures { option_map (λ set. P.points set.now) result ≡ option_map (λ s. s.points) (space_of self.now space) }
+        ensures { option_map (λ set. P.points set.now) result
+            ≡ option_map (λ s. s.points) (space_of self.now space) }
     {
         self.finder.set(space)
     }
@@ -101,7 +115,7 @@ impl<'a, P: PointSet> Forest<'a, P> {
         is_under(&self.finder, space, root)
     }
 
-    /// The path of a space, or `None` if the space is not declared. The only error is want of memory.
+    /// The path of a space, or `None` if the space is not declared. The only error is that memory ran out.
     pub fn path_of(&self, alloc: Global, space: u32) -> Result<Option<Path>, Memory>
         ensures declared { IfOk result (λ path. IsSome path ↔ IsSome (space_of self.now space)) }
         ensures path { IfOk result (λ path. IfSome path (λ way. IsPath self.now way space)) }
@@ -119,7 +133,8 @@ impl<'a, P: PointSet> Forest<'a, P> {
     pub fn alias(&self, a: &Path, b: &Path) -> Option<u64>
         requires a { (s : ℕ) × IsPath self.now a.now s }
         requires b { (t : ℕ) × IsPath self.now b.now t }
-        ensures { (s t : ℕ) → IsPath self.now a.now s → IsPath self.now b.now t → IsLeastCommon (points_of self.now s) (points_of self.now t) result }
+        ensures { (s t : ℕ) → IsPath self.now a.now s → IsPath self.now b.now t
+            → IsLeastCommon (space_points self.now s) (space_points self.now t) result }
     {
         alias_of(&self.finder, a, b)
     }

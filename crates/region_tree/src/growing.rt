@@ -11,7 +11,9 @@ ghost use Rattle.region_tree.specs.Growing.{IsGrown, MaySub, with_space, with_pa
 /// So declarations that are tested one by one, from none on, need not be tested by `tied` again.
 pub fn declarations_grow()
     ensures none { IsGrown (record { spaces = []; parts = []; subs = [] }) }
-    ensures space { (d : Regions) (s : Space) → IsGrown d → All (λ t. t.id ≢ s.id) d.spaces → IsGrown (with_space d s) }
-    ensures part { (d : Regions) (p : PartDecl) → IsGrown d → All (λ q. q.id ≢ p.id) d.parts → IsSome (space_of d p.space) → IsGrown (with_part d p) }
+    ensures space { (d : Regions) (s : Space) → IsGrown d → All (λ t. t.id ≢ s.id) d.spaces
+        → IsGrown (with_space d s) }
+    ensures part { (d : Regions) (p : PartDecl) → IsGrown d → All (λ q. q.id ≢ p.id) d.parts
+        → IsSome (space_of d p.space) → IsGrown (with_part d p) }
     ensures sub { (d : Regions) (s : SubDecl) → IsGrown d → MaySub d s → IsGrown (with_sub d s) }
 {}

@@ -9,11 +9,10 @@ mod faults;
 mod finder;
 mod forest;
 mod growing;
-mod lookups;
+mod index;
 mod memory;
 mod path;
 mod place_fault;
-mod places;
 mod sharing;
 #[cfg(test)]
 mod tests;

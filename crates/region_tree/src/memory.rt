@@ -1,6 +1,6 @@
 use std::alloc::{AllocError, AllocFailed};
 
-/// Want of memory.
+/// Memory ran out.
 #[derive(Clone, Copy, Debug, PartialEq, Eq)]
 pub struct Memory;
 

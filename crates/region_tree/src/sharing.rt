@@ -1,11 +1,9 @@
 //! Points that two spaces share.
 
 ghost use Rattle.std.specs.Prelude.{◌≡◌, ◌≢◌, ℕ, Contains, Some, IfSome, IsTrue};
-ghost use Rattle.point_set.specs.Least.{IsLeastCommon};
-ghost use Rattle.region_tree.specs.declared.path.Step.{Step};
-ghost use Rattle.region_tree.specs.Regions.{points_of};
-ghost use Rattle.region_tree.specs.Faults.{is_disjoint, IsFaulty};
+ghost use Rattle.region_tree.specs.Faults.{IsFaulty};
 ghost use Rattle.region_tree.specs.Paths.{IsPath};
+ghost use Rattle.region_tree.specs.Sharing.{PartDisjoint, IsLeastShared};
 ghost use Rattle.region_tree.specs.Tied.{IsTied};
 
 use crate::finder::Finder;
@@ -26,7 +24,7 @@ fn parting(a: &[Step], b: &[Step]) -> Option<(Step, Step)>
 
 /// Whether the paths part under two colours of one disjoint partition.
 fn are_apart<P: PointSet>(finder: &Finder<P>, a: &Path, b: &Path) -> bool
-    ensures { IsTrue result → (x : Step) × (y : Step) × Contains a.now.steps x × Contains b.now.steps y × (x ≢ y) × (x.part ≡ y.part) × IsTrue (is_disjoint finder.now x.part) }
+    ensures { IsTrue result → PartDisjoint finder.now a.now.steps b.now.steps }
 {
     if a.top() != b.top() {
         return false;
@@ -52,7 +50,7 @@ fn end_of<P: PointSet>(finder: &Finder<P>, path: &Path) -> Option<u32>
 pub(crate) fn alias_of<P: PointSet>(finder: &Finder<P>, a: &Path, b: &Path) -> Option<u64>
     requires tied { IsTied finder.now }
     requires faultless { (i : ℕ) → ¬ IsFaulty finder.now i }
-    ensures { (s t : ℕ) → IsPath finder.now a.now s → IsPath finder.now b.now t → IsLeastCommon (points_of finder.now s) (points_of finder.now t) result }
+    ensures { IsLeastShared finder.now a.now b.now result }
 {
     if are_apart(finder, a, b) {
         return None;

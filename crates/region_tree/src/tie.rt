@@ -1,108 +1,57 @@
 //! Whether declarations make a forest.
 
-ghost use Rattle.std.specs.Prelude.{◌≡◌, ◌≢◌, ◌==◌, ◌&&◌, ℕ, ◌≤◌, ◌↔◌, All, AllPairs, Some, IsSome, IsTrue};
+ghost use Rattle.std.specs.Prelude.{◌≢◌, ◌↔◌, All, AllPairs, MatchBool, Some, IsSome, IsTrue};
 ghost use Rattle.region_tree.specs.Regions.{space_of, part_of, step_of};
-ghost use Rattle.region_tree.specs.Ancestors.{ancestor_of};
-ghost use Rattle.region_tree.specs.Index.{IsFirstAt};
+ghost use Rattle.region_tree.specs.Ancestors.{IsShallow};
+ghost use Rattle.region_tree.specs.Index.{AllFirst, SomeLater};
 ghost use Rattle.region_tree.specs.Tied.{IsTied};
 
 use crate::decls::Decls;
 use crate::finder::Finder;
-use crate::path::Step;
 use point_set::PointSet;
 
 /// How many steps a path has at most.
 pub(crate) const DEPTH_LIMIT: usize = 64;
 
-/// Whether space `i` is the first space with its id.
-fn is_first_space<P: PointSet>(finder: &Finder<P>, i: usize) -> bool
-    ensures { IsTrue result ↔ IsFirstAt (λ s t. s.id == t.id) finder.now.spaces i }
+/// Whether each item stands at the place that `first_place` finds for it.
+fn stand_first<T, F: Fn(&T) -> Option<usize>>(items: &[T], first_place: F) -> bool
+    requires { F.IsAlwaysCallable first_place }
+    ensures { MatchBool result (AllFirst F.Fn first_place items.now) (SomeLater F.Fn first_place items.now) }
 {
-    match finder.space_at(i) {
-        Some(space) => finder.space_place(space.id) == Some(i),
-        None => true,
+    for i in 0..items.len() {
+        if first_place(&items[i]) != Some(i) {
+            return false;
+        }
     }
+    true
 }
 
 /// Whether no two spaces have one id.
 fn are_space_ids_distinct<P: PointSet>(finder: &Finder<P>) -> bool
     ensures { IsTrue result ↔ AllPairs (λ s t. s.id ≢ t.id) finder.now.spaces }
 {
-    for i in 0..finder.spaces().len() {
-        if !is_first_space(finder, i) {
-            return false;
-        }
-    }
-    true
-}
-
-/// Whether partition `i` is the first partition with its id.
-fn is_first_part<P: PointSet>(finder: &Finder<P>, i: usize) -> bool
-    ensures { IsTrue result ↔ IsFirstAt (λ s t. s.id == t.id) finder.now.parts i }
-{
-    match finder.part_at(i) {
-        Some(part) => finder.part_place(part.id) == Some(i),
-        None => true,
-    }
+    stand_first(finder.spaces(), |s| finder.space_place(s.id))
 }
 
 /// Whether no two partitions have one id.
 fn are_part_ids_distinct<P: PointSet>(finder: &Finder<P>) -> bool
     ensures { IsTrue result ↔ AllPairs (λ s t. s.id ≢ t.id) finder.now.parts }
 {
-    for i in 0..finder.parts().len() {
-        if !is_first_part(finder, i) {
-            return false;
-        }
-    }
-    true
-}
-
-/// Whether subspace `i` is the first subspace of its partition and colour.
-fn is_first_step<P: PointSet>(finder: &Finder<P>, i: usize) -> bool
-    ensures { IsTrue result ↔ IsFirstAt (λ s t. (s.part == t.part) && (s.colour == t.colour)) finder.now.subs i }
-{
-    match finder.sub_at(i) {
-        Some(sub) => finder.child_place(Step {
-            part: sub.part,
-            colour: sub.colour,
-        }) == Some(i),
-        None => true,
-    }
+    stand_first(finder.parts(), |p| finder.part_place(p.id))
 }
 
 /// Whether no two subspaces have one partition and colour.
 fn are_steps_distinct<P: PointSet>(finder: &Finder<P>) -> bool
     ensures { IsTrue result ↔ AllPairs (λ s t. step_of s ≢ step_of t) finder.now.subs }
 {
-    for i in 0..finder.subs().len() {
-        if !is_first_step(finder, i) {
-            return false;
-        }
-    }
-    true
-}
-
-/// Whether subspace `i` is the first declaration of its space as a subspace.
-fn is_first_sub_space<P: PointSet>(finder: &Finder<P>, i: usize) -> bool
-    ensures { IsTrue result ↔ IsFirstAt (λ s t. s.space == t.space) finder.now.subs i }
-{
-    match finder.sub_at(i) {
-        Some(sub) => finder.sub_place(sub.space) == Some(i),
-        None => true,
-    }
+    stand_first(finder.subs(), |s| finder.child_place(s.step()))
 }
 
 /// Whether no space is declared as a subspace twice.
 fn are_sub_spaces_distinct<P: PointSet>(finder: &Finder<P>) -> bool
     ensures { IsTrue result ↔ AllPairs (λ s t. s.space ≢ t.space) finder.now.subs }
 {
-    for i in 0..finder.subs().len() {
-        if !is_first_sub_space(finder, i) {
-            return false;
-        }
-    }
-    true
+    stand_first(finder.subs(), |s| finder.sub_place(s.space))
 }
 
 /// Whether the space that each partition cuts is declared.
@@ -128,7 +77,7 @@ fn are_spaces_declared<P: PointSet>(finder: &Finder<P>) -> bool
 
 /// Whether no space lies more than `DEPTH_LIMIT` steps above this one.
 fn is_shallow<P: PointSet>(finder: &Finder<P>, space: u32) -> bool
-    ensures { IsTrue result ↔ ((root n : ℕ) → ancestor_of finder.now n space ≡ Some root → n ≤ DEPTH_LIMIT) }
+    ensures { IsTrue result ↔ IsShallow finder.now space }
 {
     let mut at = space;
     for _up in 0..DEPTH_LIMIT + 1 {
@@ -142,7 +91,7 @@ fn is_shallow<P: PointSet>(finder: &Finder<P>, space: u32) -> bool
 
 /// Whether no space lies more than `DEPTH_LIMIT` steps above a subspace.
 fn are_subs_shallow<P: PointSet>(finder: &Finder<P>) -> bool
-    ensures { IsTrue result ↔ All (λ s. (root n : ℕ) → ancestor_of finder.now n s.space ≡ Some root → n ≤ DEPTH_LIMIT) finder.now.subs }
+    ensures { IsTrue result ↔ All (λ s. IsShallow finder.now s.space) finder.now.subs }
 {
     finder.subs().iter().all(|s| is_shallow(finder, s.space))
 }

@@ -1,8 +1,8 @@
 -- The accesses that a log asks for are few, and so are its requirements' points and fields, and those of its operations.
-use Rattle.std.proofs.Common.{◌≡◌, ℕ, ◌+◌, ◌≤◌, inl, inr, Bool, true, false, List, [], ◌∷◌, ◌++◌, map, filter, fold, drop, get_or, length, ◌<◌, refl, sym, ap, ◌∙◌, subst, arith, None, append_assoc}
+use Rattle.std.proofs.Common.{◌≡◌, ℕ, ◌+◌, ◌≤◌, inl, inr, Bool, true, false, List, [], ◌∷◌, ◌++◌, filter, fold, drop, get_or, length, ◌<◌, refl, sym, ap, ◌∙◌, subst, arith, None, append_assoc, sum_by}
 use Rattle.std.proofs.lemmas.Bool.{cases_Bool, true≢false, ltb-false}
 use Rattle.std.proofs.lemmas.List.{drop_more}
-use Rattle.std.proofs.lemmas.List.Sums.{fold-append}
+use Rattle.std.proofs.lemmas.List.Sums.{fold-append, sum_by-cons, sum_by_push}
 use Rattle.std.proofs.lemmas.List.Elements.{recursion_from_All, Contains-get_or}
 use Rattle.spy_grammar.specs.declared.code.Code.{Code}
 use Rattle.privilege.specs.Allowed.{may_read}
@@ -15,18 +15,18 @@ use Rattle.semantics.specs.declared.tables.Op.{Op}
 use Rattle.semantics.specs.declared.tables.Op.TheVariants as operations
 use Rattle.semantics.specs.Records.{records_of}
 use Rattle.semantics.specs.Tables.{Tables, with_record, no_tables, tables_of}
-use Rattle.semantics.specs.Rules.{total, size_of, accesses}
+use Rattle.semantics.specs.Rules.{size_of, accesses}
 use Rattle.semantics.specs.Faults.{tried, is_end, header_fault, ended_fault, records_fault}
 use Rattle.semantics.specs.Outcome.{read_count}
 use Rattle.log_decl.specs.Faultless.{AreDeclared}
-use Rattle.log_laws.proofs.Members.{both_none, member_of, none_found, unmapped_none}
-use Rattle.log_laws.proofs.Admitted.{Unbroken, no_broken_rule}
+use Rattle.log_laws.proofs.lemmas.Members.{both_none, member_of, none_found, unmapped_none}
+use Rattle.log_laws.proofs.lemmas.Admitted.{Unbroken, no_broken_rule}
 use Rattle.replay.specs.Counts.{reads_in, reads_of}
 
 -- ---- what the tables ask for
 
 abbrev pub sizes : Tables → List Req → ℕ
-sizes t rs = total (map (λ (r : Req). size_of t r.space r.fields) rs)
+sizes t rs = sum_by (λ (r : Req). size_of t r.space r.fields) rs
 
 -- The points and fields of an operation that is no run.
 abbrev pub op_size : Tables → Op → ℕ
@@ -38,20 +38,16 @@ op_size t (operations.Fold src dst space fields) = size_of t space fields
 op_size t operations.Merge = 0
 
 abbrev pub op_sizes : Tables → List LogNode → ℕ
-op_sizes t ns = total (map (λ (n : LogNode). op_size t n.op) ns)
-
-total_more : {X : Type 0} (f : X → ℕ) (xs : List X) (x : X) → total (map f (xs ++ x ∷ [])) ≡ total (map f xs) + f x
-total_more f [] x = omega arith
-total_more f (y ∷ xs) x = omega (arith, total_more f xs x)
+op_sizes t ns = sum_by (λ (n : LogNode). op_size t n.op) ns
 
 abbrev cost : Tables → Tables → ℕ
 cost all t = sizes all t.reqs + op_sizes all t.nodes
 
 one_req : (all : Tables) (rs : List Req) (r : Req) (n : ℕ) → sizes all (rs ++ r ∷ []) + n ≤ sizes all rs + n + size_of all r.space r.fields
-one_req all rs r n = let e = total_more (λ (r : Req). size_of all r.space r.fields) rs r in omega (arith, e)
+one_req all rs r n = let e = sum_by_push (λ (r : Req). size_of all r.space r.fields) rs r in omega (arith, e)
 
 one_node : (all : Tables) (ns : List LogNode) (x : LogNode) (n : ℕ) → n + op_sizes all (ns ++ x ∷ []) ≤ n + op_sizes all ns + op_size all x.op
-one_node all ns x n = let e = total_more (λ (n : LogNode). op_size all n.op) ns x in omega (arith, e)
+one_node all ns x n = let e = sum_by_push (λ (n : LogNode). op_size all n.op) ns x in omega (arith, e)
 
 one_record : (all t : Tables) (line : ℕ) (r : Record) → cost all (with_record t line r) ≤ cost all t + accesses all r
 one_record all t line (records.Req task tree space fields access atomic) = one_req all t.reqs _ (op_sizes all t.nodes)
@@ -63,12 +59,13 @@ one_record all t line (records.Fold src dst space fields done waits) = one_node 
 one_record all t line (records.Merge done waits) = one_node all t.nodes _ (sizes all t.reqs)
 one_record all t line _ = omega arith
 
-all_records : (all t : Tables) (log : List Lined) → cost all (fold (λ t (l : Lined). with_record t l.line l.rec) t log) ≤ cost all t + total (map (accesses all) (records_of log))
+all_records : (all t : Tables) (log : List Lined) → cost all (fold (λ t (l : Lined). with_record t l.line l.rec) t log) ≤ cost all t + sum_by (accesses all) (records_of log)
 all_records all t [] = omega arith
 all_records all t (l ∷ log) =
     let rest = all_records all (with_record t l.line l.rec) log in
     let one = one_record all t l.line l.rec in
-    omega (arith, rest, one)
+    let more = sum_by-cons (accesses all) l.rec (records_of log) in
+    omega (arith, rest, one, more)
 
 -- ---- the limit, at the end of the log
 
@@ -77,22 +74,22 @@ ends_with t line (records.End n) e = (refl, refl)
 ends_with t line _ e = absurd (true≢false (sym e))
 
 abbrev asked : List Lined → ℕ
-asked log = total (map (accesses (tables_of log)) (records_of log))
+asked log = sum_by (accesses (tables_of log)) (records_of log)
 
 at_end : (log : List Record) (earlier : List Lined) (l : Lined) → Unbroken log earlier l.rec → is_end l.rec ≡ true → asked (earlier ++ l ∷ []) ≤ 4194304
 at_end log earlier l u is =
     let t = tables_of earlier in
     let last = ends_with t l.line l.rec is in
     let same : tables_of (earlier ++ l ∷ []) ≡ t = fold-append (λ t (l : Lined). with_record t l.line l.rec) no_tables earlier (l ∷ []) ∙ last.0 in
-    let within : total (map (accesses t) (records_of earlier)) + accesses t l.rec ≤ 4194304 = ltb-false 4194304 (total (map (accesses t) (records_of earlier)) + accesses t l.rec) u.1.1.1.1.1.1.1.1.1.1.1.1.1.1.1.1.1.1.1.1.1.1.1.0 in
-    subst (λ (u : Tables). total (map (accesses u) (records_of (earlier ++ l ∷ []))) ≤ 4194304) (sym same) (rest t earlier l within)
+    let within : sum_by (accesses t) (records_of earlier) + accesses t l.rec ≤ 4194304 = ltb-false 4194304 (sum_by (accesses t) (records_of earlier) + accesses t l.rec) u.1.1.1.1.1.1.1.1.1.1.1.1.1.1.1.1.1.1.1.1.1.1.1.0 in
+    subst (λ (u : Tables). sum_by (accesses u) (records_of (earlier ++ l ∷ [])) ≤ 4194304) (sym same) (rest t earlier l within)
   where
-    rest : (t : Tables) (earlier : List Lined) (l : Lined) → total (map (accesses t) (records_of earlier)) + accesses t l.rec ≤ 4194304 → total (map (accesses t) (records_of (earlier ++ l ∷ []))) ≤ 4194304
-    rest t earlier l within = let e = total_more (λ (l : Lined). accesses t l.rec) earlier l in omega (arith, within, e, both t (earlier ++ l ∷ []), both t earlier)
+    rest : (t : Tables) (earlier : List Lined) (l : Lined) → sum_by (accesses t) (records_of earlier) + accesses t l.rec ≤ 4194304 → sum_by (accesses t) (records_of (earlier ++ l ∷ [])) ≤ 4194304
+    rest t earlier l within = let e = sum_by_push (λ (l : Lined). accesses t l.rec) earlier l in omega (arith, within, e, both t (earlier ++ l ∷ []), both t earlier)
       where
-        both : (t : Tables) (ls : List Lined) → total (map (accesses t) (records_of ls)) ≡ total (map (λ (l : Lined). accesses t l.rec) ls)
+        both : (t : Tables) (ls : List Lined) → sum_by (accesses t) (records_of ls) ≡ sum_by (λ (l : Lined). accesses t l.rec) ls
         both t [] = refl
-        both t (l ∷ ls) = ap (λ n. accesses t l.rec + n) (both t ls)
+        both t (l ∷ ls) = sum_by-cons (accesses t) l.rec (records_of ls) ∙ ap (λ n. accesses t l.rec + n) (both t ls) ∙ sym (sum_by-cons (λ (l : Lined). accesses t l.rec) l ls)
 
 -- Where no record breaks a rule, the first does not, nor do the later.
 first : (log : List Record) (earlier : List Lined) (l : Lined) (rest : List Lined) → records_fault log earlier (l ∷ rest) ≡ None → Unbroken log earlier l.rec
@@ -127,9 +124,12 @@ few_accesses t d = subst (λ (u : Tables). cost u u ≤ 4194304) (sym d.tables)
 
 -- ---- reads
 
-fewer : (f : Req → ℕ) (p : Req → Bool) (rs : List Req) → total (map f (filter p rs)) ≤ total (map f rs)
+fewer : (f : Req → ℕ) (p : Req → Bool) (rs : List Req) → sum_by f (filter p rs) ≤ sum_by f rs
 fewer f p [] = omega arith
-fewer f p (r ∷ rs) = let rest = fewer f p rs in elim (cases_Bool (p r)) [ inl here ↦ rw here (omega (arith, rest)) | inr other ↦ rw other (omega (arith, rest)) ]
+fewer f p (r ∷ rs) =
+    let rest = fewer f p rs in
+    let all = sum_by-cons f r rs in
+    elim (cases_Bool (p r)) [ inl here ↦ rw here (let some = sum_by-cons f r (filter p rs) in omega (arith, rest, all, some)) | inr other ↦ rw other (omega (arith, rest, all)) ]
 
 pub few_reads : (t : Tables) → AreDeclared t → read_count t ≤ 4194304
 few_reads t d =
@@ -137,10 +137,11 @@ few_reads t d =
     let all = few_accesses t d in
     omega (arith, some, all)
 
-pub reads_counted : (t : Tables) (rs : List Req) → total (map (λ (r : Req). size_of t r.space r.fields) (filter (λ (r : Req). may_read r.access) rs)) ≡ reads_in t rs
+pub reads_counted : (t : Tables) (rs : List Req) → sum_by (λ (r : Req). size_of t r.space r.fields) (filter (λ (r : Req). may_read r.access) rs) ≡ reads_in t rs
 reads_counted t [] = refl
 reads_counted t (r ∷ rs) = elim (cases_Bool (may_read r.access)) [
-  | inl reads ↦ rw reads (ap (λ n. size_of t r.space r.fields + n) (reads_counted t rs))
+  | inl reads ↦
+      rw reads (sum_by-cons (λ (r : Req). size_of t r.space r.fields) r (filter (λ (r : Req). may_read r.access) rs) ∙ ap (λ n. size_of t r.space r.fields + n) (reads_counted t rs))
   | inr other ↦ rw other (let rest = reads_counted t rs in omega (arith, rest))
 ]
 

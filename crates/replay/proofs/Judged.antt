@@ -1,10 +1,10 @@
--- What versions want is what a read should see, and a read is told to differ where it does.
+-- What versions want is what a read should see, and a read is reported to differ where it does.
 use Rattle.std.proofs.Common.{◌≡◌, ◌≢◌, ℕ, ◌<◌, length, List, All, Contains, MatchOption, Option, Some, None, cond, get_or, sym, ap, ◌∙◌, subst}
 use Rattle.std.specs.Option.{option_map_or}
 use Rattle.std.proofs.lemmas.Bool.{false_from_ne_true}
 use Rattle.std.proofs.lemmas.List.{get_or_default}
 use Rattle.value_terms.specs.Values.{Value, same_value}
-use Rattle.value_terms.proofs.Equality.{value_decides}
+use Rattle.value_terms.proofs.lemmas.Equality.{value_decides}
 use Rattle.semantics.specs.declared.tables.Req.{Req}
 use Rattle.semantics.specs.Tables.{Tables, place_of}
 use Rattle.semantics.specs.Sequential.{wanted}

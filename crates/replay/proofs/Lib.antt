@@ -1,6 +1,6 @@
-pub mod Accesses
-pub mod StepCounts
-pub mod Fitted
-pub mod Stood
-pub mod Pointed
-pub mod Judged
+mod Accesses
+mod StepCounts
+mod Fitted
+mod Stood
+mod Pointed
+mod Judged

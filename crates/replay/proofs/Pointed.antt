@@ -10,7 +10,7 @@ use Rattle.semantics.specs.Points.{is_in}
 use Rattle.semantics.specs.Steps.{Step, steps_by}
 use Rattle.semantics.specs.Execution.{State, effect}
 use Rattle.semantics.specs.Reads.{Seen, difference, first_difference, shown_difference, want_of}
-use Rattle.log_laws.proofs.Members.{none_or_some}
+use Rattle.log_laws.proofs.lemmas.Members.{none_or_some}
 use Rattle.point_laws.specs.Alike.{is_at, target}
 use Rattle.point_laws.specs.Cut.{cut}
 use Rattle.replay.specs.declared.ends.ReplayEnd.{ReplayEnd}

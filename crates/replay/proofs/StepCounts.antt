@@ -1,9 +1,10 @@
 -- The steps of a replay are few.
-use Rattle.std.proofs.Common.{◌≡◌, ◌≢◌, ℕ, suc, ◌+◌, ◌*◌, ◌≤◌, ◌<◌, ◌^◌, ◌==◌, inl, inr, true, false, List, [], ◌∷◌, ◌++◌, map, filter, flat_map, length, slice_get, refl, sym, ap, ◌∙◌, subst, arith, AllPairs, Contains, append-nil, append_assoc}
+use Rattle.std.proofs.Common.{◌≡◌, ◌≢◌, ℕ, suc, ◌+◌, ◌*◌, ◌≤◌, ◌<◌, ◌^◌, ◌==◌, inl, inr, true, false, List, [], ◌∷◌, ◌++◌, map, filter, flat_map, length, slice_get, refl, sym, ap, ◌∙◌, subst, arith, AllPairs, Contains, append-nil, append_assoc, sum_by}
+use Rattle.std.specs.List.{range_with_len}
 use Rattle.std.specs.Option.{option_map_or}
 use Rattle.std.proofs.lemmas.Bool.{eqb-true, eq-eqb, true≢false}
 use Rattle.std.proofs.lemmas.List.{length-append, length-map}
-use Rattle.std.proofs.lemmas.List.Sums.{length-filter, count_by-le-length}
+use Rattle.std.proofs.lemmas.List.Sums.{sum_by-cons, length-filter, count_by-le-length}
 use Rattle.std.proofs.lemmas.List.Elements.{recursion_from_All}
 use Rattle.privilege.specs.declared.kinds.Priv.{Priv}
 use Rattle.privilege.specs.declared.kinds.Priv.TheVariants as privileges
@@ -17,19 +18,19 @@ use Rattle.semantics.specs.declared.tables.Op.{Op}
 use Rattle.semantics.specs.declared.tables.Op.TheVariants as operations
 use Rattle.semantics.specs.declared.command.Command.TheVariants.{Deps}
 use Rattle.semantics.specs.Records.{records_of}
-use Rattle.semantics.specs.Tables.{Tables, place_of, numbers_from, with_record, tables_of}
+use Rattle.semantics.specs.Tables.{Tables, place_of, with_record, tables_of}
 use Rattle.semantics.specs.Points.{points_in}
 use Rattle.semantics.specs.Kinds.{reqs_of, grid, req_grid}
 use Rattle.semantics.specs.Steps.{Step, mapped_cell, at_cells, reads_by, changes_by, run_moves, moves_of, id_of, steps_by}
-use Rattle.semantics.specs.Rules.{total, size_of, runs_item, is_run_again}
+use Rattle.semantics.specs.Rules.{size_of, runs_item, is_run_again}
 use Rattle.point_laws.specs.Alike.{is_at}
 use Rattle.point_laws.specs.Cut.{cut}
 use Rattle.log_decl.specs.Faultless.{AreDeclared}
-use Rattle.log_laws.proofs.Members.{Member, contains_of, member_left, member_right, member_append, member_flat, member_filter, none_at, only}
-use Rattle.log_laws.proofs.Apart.{Apart, pairs_from, pairs_append, apart_flat, apart_filter, number_in}
-use Rattle.log_laws.proofs.Lists.{split_at}
-use Rattle.log_laws.proofs.Sane.{reqs_apart}
-use Rattle.log_laws.proofs.Admitted.{by_records, no_broken_rule, sane}
+use Rattle.log_laws.proofs.lemmas.Members.{Member, contains_of, member_left, member_right, member_append, member_flat, member_filter, none_at, only}
+use Rattle.log_laws.proofs.lemmas.Apart.{Apart, pairs_from, pairs_append, apart_flat, apart_filter, number_in}
+use Rattle.log_laws.proofs.lemmas.Lists.{split_at}
+use Rattle.log_laws.proofs.lemmas.Sane.{reqs_apart}
+use Rattle.log_laws.proofs.lemmas.Admitted.{by_records, no_broken_rule, sane}
 use Rattle.inst_steps.specs.Stepping.{moves_at}
 use Rattle.replay.proofs.Accesses.{sizes, op_size, op_sizes, few_accesses}
 
@@ -149,29 +150,32 @@ op_few t operations.Merge = omega arith
 abbrev node_moves : Tables → LogNode → ℕ
 node_moves t n = length (moves_of t n.op)
 
-nodes_few : (t : Tables) (ns : List LogNode) → total (map (node_moves t) ns) ≤ 2 * owned t (run_items ns) + op_sizes t ns
+nodes_few : (t : Tables) (ns : List LogNode) → sum_by (node_moves t) ns ≤ 2 * owned t (run_items ns) + op_sizes t ns
 nodes_few t [] = omega arith
 nodes_few t (n ∷ ns) =
     let here = op_few t n.op in
     let rest = nodes_few t ns in
     let a = owned_more t (runs_of n.op) (run_items ns) in
-    omega (arith, here, rest, a)
+    let moves = sum_by-cons (node_moves t) n ns in
+    let ops = sum_by-cons (λ (n : LogNode). op_size t n.op) n ns in
+    omega (arith, here, rest, a, moves, ops)
 
 abbrev steps_at : Tables → ℕ → List Step
 steps_at t k = map (λ m. record { node = k; move = m }) (moves_at t k)
 
 by_places : (t : Tables) (first : ℕ) (ns : List LogNode) → ((k : ℕ) → slice_get t.nodes (first + k) ≡ slice_get ns k)
-    → length (flat_map (steps_at t) (numbers_from first (length ns))) ≡ total (map (node_moves t) ns)
+    → length (flat_map (steps_at t) (range_with_len first (length ns))) ≡ sum_by (node_moves t) ns
 by_places t first [] at = refl
 by_places t first (n ∷ ns) at =
     let one : first + 0 ≡ first = omega arith in
     let here : moves_at t first ≡ moves_of t n.op = ap (λ o. option_map_or (λ (n : LogNode). moves_of t n.op) o []) (ap (slice_get t.nodes) (sym one) ∙ at 0) in
     let rest = by_places t (first + 1) ns (λ k. let far : first + 1 + k ≡ first + suc k = omega arith in ap (slice_get t.nodes) far ∙ at (suc k)) in
-    let a = length-append (steps_at t first) (flat_map (steps_at t) (numbers_from (first + 1) (length ns))) in
+    let a = length-append (steps_at t first) (flat_map (steps_at t) (range_with_len (first + 1) (length ns))) in
     let step : Move → Step = λ m. record { node = first; move = m } in
     let b = length-map (moves_at t first) step in
     let c = ap length here in
-    omega (arith, rest, a, b, c)
+    let all = sum_by-cons (node_moves t) n ns in
+    omega (arith, rest, a, b, c, all)
 
 -- ---- each item is run once
 
@@ -229,13 +233,13 @@ own_few t reqs items h =
         let a = length-append (req_grid t r) (flat_map (req_grid t) rs) in
         let b = grid_size (points_in t r.space) r.fields in
         let rest = grids t rs in
-        omega (arith, a, b, rest)
+        omega (arith, a, b, rest, sum_by-cons (λ (r : Req). size_of t r.space r.fields) r rs)
 
 sane_reqs : (t : Tables) → AreDeclared t → Apart t.reqs
 sane_reqs t d = subst (λ (u : Tables). Apart u.reqs) (sym d.tables)
     (reqs_apart (tables_of d.log) (sane Deps d.log (record { records = no_broken_rule d.lines d.log d.faultless; maps = refl })))
 
-steps_few : (t : Tables) → AreDeclared t → length (flat_map (steps_at t) (numbers_from 0 (length t.nodes))) ≤ 8388608
+steps_few : (t : Tables) → AreDeclared t → length (flat_map (steps_at t) (range_with_len 0 (length t.nodes))) ≤ 8388608
 steps_few t d =
     let all = few_accesses t d in
     let own = own_few t (sane_reqs t d) (run_items t.nodes) (run_once t d) in
@@ -246,7 +250,7 @@ steps_few t d =
 pub replay_few : (t : Tables) → AreDeclared t → (points ks : List ℕ) → steps_by (cut points t) ks ≡ filter (is_at points) (steps_by t ks)
     → AllPairs (λ a b. a ≢ b) ks → ((k : ℕ) → Contains ks k → k < length t.nodes) → length (steps_by (cut points t) ks) < 2 ^ 31
 replay_few t d points ks kept once within =
-    let some = flat_few (steps_at t) ks (numbers_from 0 (length t.nodes)) (pairs_from (λ a b. a ≢ b) ks once) (λ k m. number_in (length t.nodes) k (within k (contains_of ks k m))) in
+    let some = flat_few (steps_at t) ks (range_with_len 0 (length t.nodes)) (pairs_from (λ a b. a ≢ b) ks once) (λ k m. number_in (length t.nodes) k (within k (contains_of ks k m))) in
     let all = steps_few t d in
     let same = ap length kept in
     let fewer = length-filter (is_at points) (steps_by t ks) in

@@ -15,11 +15,11 @@ use Rattle.semantics.specs.Steps.{Step, inst_at}
 use Rattle.semantics.specs.Execution.{start, is_home, is_home_cell, same_cell, effect}
 use Rattle.semantics.specs.Rules.{reduces_in}
 use Rattle.semantics.specs.Reads.{difference, first_difference, replay_steps}
-use Rattle.log_laws.proofs.Members.{none_or_some}
+use Rattle.log_laws.proofs.lemmas.Members.{none_or_some}
 use Rattle.inst_steps.specs.Stores.{Contents, IsLight, IsStart, has_cell, after_move, value_in}
 use Rattle.inst_steps.specs.Celled.{HasCellsOf}
 use Rattle.inst_steps.specs.Weighing.{weight_at, weight_after}
-use Rattle.inst_steps.proofs.StoreMaps.{get_put}
+use Rattle.inst_steps.proofs.lemmas.StoreMaps.{get_put}
 use Rattle.replay.specs.declared.ends.ReplayEnd.{ReplayEnd}
 use Rattle.replay.specs.declared.ends.ReplayEnd.TheVariants.{Differ, Memory}
 use Rattle.replay.specs.Ends.{Tells, IsEndOf}

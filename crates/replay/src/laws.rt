@@ -66,10 +66,12 @@ pub(crate) fn first_points_tell()
     read_points_are_in_order();
 }
 
-/// A store that stands before a step has its cells and room for it, and stands behind it once it is taken; the read that differs there is the one that is shown. Behind all steps none is.
+/// A store that stands before a step has its cells and room for it, and stands after it once it is taken; the read that differs there is the one that is shown. After all steps none is.
 pub(crate) fn stands_go_on()
-    ensures cells { (t : Tables) (x : Step) (left : List Step) (m : Contents) → Stands t (x ∷ left) m → HasCells m x.move }
-    ensures light { (t : Tables) (x : Step) (left : List Step) (m : Contents) → Stands t (x ∷ left) m → IsLight m x.move }
+    ensures cells { (t : Tables) (x : Step) (left : List Step) (m : Contents) → Stands t (x ∷ left) m
+        → HasCells m x.move }
+    ensures light { (t : Tables) (x : Step) (left : List Step) (m : Contents) → Stands t (x ∷ left) m
+        → IsLight m x.move }
     ensures next { (t : Tables) (x : Step) (left : List Step) (m : Contents) → Stands t (x ∷ left) m
         → difference t x.move (value_in m) ≡ None → Stands t left (after_move x.move m) }
     ensures end { (t : Tables) (x : Step) (left : List Step) (m : Contents) → Stands t (x ∷ left) m

@@ -12,14 +12,13 @@ ghost use Rattle.serial_exec.specs.Kept.{AreVersionsOf};
 use super::*;
 use atoms::Atoms;
 use bumpalo::Bump;
-use event_graph::{EventList, Graph, NodeIn, Order, are_linked};
-use log_decl::{Log, are_log_records, declare};
+use event_graph::{Graph, Order, are_linked, nodes_in};
+use log_decl::{Log, declare};
+use log_reading::input_in;
 use point_set::RunSet;
 use region_tree::ArenaSet;
-use semantics::LogNode;
 use serial_exec::Versions;
-use spy_grammar::{Lined, read_line};
-use std::alloc::{AllocError, Global};
+use std::alloc::Global;
 use std::test::Fail;
 use value_terms::{Base, Contribution, Memory, Value};
 
@@ -98,51 +97,19 @@ const CASES: [(&[u8], Found); 11] = [
     ),
 ];
 
-/// The records of a text, on their lines, and how many lines there are.
-fn records_of(alloc: Global, text: &[u8]) -> Result<(Vec<Lined>, u32), Fail> {
-    let mut records = Vec::new(alloc);
-    let mut lines = 0u32;
-    for part in text.split(|b| *b == b'\n') {
-        lines = lines.saturating_add(1);
-        match read_line(alloc, part) {
-            Ok(Some(rec)) => records.push(Lined { line: lines, rec })?,
-            Ok(None) => {}
-            Err(_) => return Err("a line that spells no record".into()),
-        }
-    }
-    // Nothing stands behind the last line feed.
-    Ok((records, lines.saturating_sub(1)))
-}
-
 /// The log of a text.
 fn log_of<'a, P: ArenaSet<'a> + 'a>(
     alloc: Global,
     bump: &'a Bump,
     text: &[u8],
 ) -> Result<Log<'a, P>, Fail> {
-    let (records, lines) = records_of(alloc, text)?;
-    if !are_log_records(alloc, &records, lines)? {
-        return Err("records that make no log".into());
-    }
-    match declare::<P>(alloc, bump, &records, lines) {
+    let Ok(input) = input_in(alloc, text.to_vec(alloc)?) else {
+        return Err("a text that spells no records".into());
+    };
+    match declare::<P>(alloc, bump, &input.records, input.lines) {
         Ok(log) => Ok(log),
         Err(_) => Err("a log with a fault".into()),
     }
-}
-
-/// Nodes, as far as order goes.
-fn nodes_of(alloc: Global, nodes: &[LogNode]) -> Result<Vec<NodeIn>, AllocError>
-    ensures { IfOk result (λ v. v.items ≡ graph_of nodes.now) }
-{
-    let mut found = Vec::new(alloc);
-    for node in nodes {
-        let waits = EventList::from_vec(Vec::from_slice(alloc, node.waits.as_slice())?);
-        found.push(NodeIn {
-            done: node.done,
-            waits,
-        })?;
-    }
-    Ok(found)
 }
 
 /// The value of a base to which this is added.
@@ -199,7 +166,7 @@ fn replay_of<'a, P: ArenaSet<'a>>(
     if log.mapped().is_err() {
         return Err("a requirement that is not mapped".into());
     }
-    let nodes = nodes_of(alloc, log.nodes())?;
+    let nodes = nodes_in(alloc, log.nodes())?;
     if nodes.len() >= 1 << 32 || !are_linked(alloc, nodes.as_slice())? {
         return Err("no graph".into());
     }

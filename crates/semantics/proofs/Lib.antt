@@ -1,2 +1,3 @@
-pub mod Nodes
-pub mod WorkedRaces
+mod Nodes
+mod WorkedPairs
+mod WorkedRaces

@@ -9,7 +9,7 @@ use Rattle.semantics.specs.Races.{Race}
 use Rattle.semantics.specs.WorkedLogs.{unordered, two_operators, copy_unordered, first_cell}
 use Rattle.semantics.specs.Computed.{logs_computed}
 
-abbrev AreIdle : List Node → Type 0
+abbrev pub AreIdle : List Node → Type 0
 AreIdle nodes = AllByRecursion (λ (n : Node). n.waits ≡ []) nodes
 
 idle_at : (nodes : List Node) (k : ℕ) (n : Node) → AreIdle nodes → slice_get nodes k ≡ Some n → n.waits ≡ []
@@ -22,7 +22,7 @@ no_wait nodes a b idle w =
     let listed : Contains [] w.on.done = subst (λ (ws : List ℕ). Contains ws w.on.done) (idle_at nodes b w.by idle w.by_is) w.listed in
     omega (arith, listed.1)
 
-not_before : (nodes : List Node) (a b : ℕ) → AreIdle nodes → Before nodes a b → ⊥
+pub not_before : (nodes : List Node) (a b : ℕ) → AreIdle nodes → Before nodes a b → ⊥
 not_before nodes a b idle ([], chain) = no_wait nodes a b idle chain
 not_before nodes a b idle (next ∷ between, chain) = no_wait nodes a next idle chain.0
 

@@ -44,7 +44,7 @@ abbrev pub is_end : Record → Bool
 is_end (End n) = true
 is_end _ = false
 
--- ended: there is no `end`; or a record stands behind the first.
+-- ended: there is no `end`; or a record stands after the first.
 abbrev pub ended_fault : ℕ → List Lined → Option Fault
 ended_fault lines [] = Some (at_line codes.Ended (lines + 1))
 ended_fault lines (l ∷ log) = if is_end l.rec then first_with codes.Ended (λ r. true) log else ended_fault lines log

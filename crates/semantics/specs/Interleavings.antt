@@ -15,7 +15,7 @@ is_read _ = false
 abbrev pub MustPrecede : List Node → Step → Step → Type 0
 MustPrecede nodes x y = Before nodes x.node y.node ⊎ ((x.node ≡ y.node) × (is_read x.move ≡ true) × (is_read y.move ≡ false))
 
--- An interleaving: each step of the log once, and none behind a step that it has to precede.
+-- An interleaving: each step of the log once, and none after a step that it has to precede.
 pub record IsInterleaving (t : Tables) (xs : List Step) : Type 0 where
   pub once : AllPairs (λ x y. x ≢ y) xs
   pub in_log : (x : Step) → Contains xs x → Contains (steps t) x

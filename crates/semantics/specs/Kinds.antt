@@ -1,5 +1,6 @@
 -- What items do where, and how two items interfere. Items are named by position.
 use Rattle.std.specs.Prelude.{ℕ, ◌+◌, ◌-◌, ◌==◌, nat_lt, Bool, true, false, not, ◌&&◌, ◌||◌, List, [], ◌∷◌, map, filter, flat_map, length, Option, Some, None, slice_get, if◌then◌else◌}
+use Rattle.std.specs.List.{range_with_len}
 use Rattle.std.specs.Option.{option_map_or}
 use Rattle.privilege.specs.declared.kinds.Priv.TheVariants.{Wd}
 use Rattle.privilege.specs.declared.kinds.Coherence.TheVariants.{Exclusive}
@@ -10,7 +11,7 @@ use Rattle.semantics.specs.declared.places.Place.{Place}
 use Rattle.semantics.specs.declared.tables.Item.{Item}
 use Rattle.semantics.specs.declared.tables.ItemBody.TheVariants.{Task, Fill}
 use Rattle.semantics.specs.declared.tables.Req.{Req}
-use Rattle.semantics.specs.Tables.{Tables, numbers_from}
+use Rattle.semantics.specs.Tables.{Tables}
 use Rattle.semantics.specs.Points.{is_in, points_in}
 
 -- The requirements of an item, in the order of their lines, which is that of their numbers.
@@ -66,7 +67,7 @@ is_before _ = false
 
 -- Two items interfere where their kind is not `Free`. These are the pairs that do, each in program order: by the first item, and then by the second.
 abbrev pub pairs : Tables → List (ℕ × ℕ)
-pairs t = flat_map (λ a. map (λ b. (a, b)) (filter (λ b. not (is_free (item_kind t a b))) (numbers_from (a + 1) (length t.items - (a + 1))))) (numbers_from 0 (length t.items))
+pairs t = flat_map (λ a. map (λ b. (a, b)) (filter (λ b. not (is_free (item_kind t a b))) (range_with_len (a + 1) (length t.items - (a + 1))))) (range_with_len 0 (length t.items))
 
 -- Places, and cells, go by tree or instance, then by point, and then by field.
 abbrev pub comes_first : ℕ × ℕ × ℕ → ℕ × ℕ × ℕ → Bool

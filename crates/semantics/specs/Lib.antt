@@ -18,3 +18,4 @@ pub mod Shown
 pub mod Outcome
 pub mod Computed
 pub mod WorkedLogs
+pub mod WorkedRules

@@ -1,5 +1,5 @@
 -- What each command finds in an input: the first that holds of a fault, a cycle, a race or an unordered pair, and a differing read; and else its counts.
-use Rattle.std.specs.Prelude.{◌≡◌, ℕ, ◌+◌, Bool, true, false, List, map, filter, filter_map, length, Some, None, option_map, unwrap_or, ◌⊎◌}
+use Rattle.std.specs.Prelude.{◌≡◌, ℕ, ◌+◌, Bool, true, false, List, map, filter, filter_map, length, Some, None, option_map, unwrap_or, ◌⊎◌, sum_by}
 use Rattle.privilege.specs.Allowed.{may_read}
 use Rattle.value_terms.specs.Values.{Value}
 use Rattle.findings.specs.declared.finding.Dep.{Dep}
@@ -26,7 +26,7 @@ use Rattle.semantics.specs.declared.command.Command.{Command}
 use Rattle.semantics.specs.declared.command.Command.TheVariants as commands
 use Rattle.semantics.specs.declared.faults.Fault.{Fault}
 use Rattle.semantics.specs.TextFaults.{text_fault}
-use Rattle.semantics.specs.Rules.{is_task, size_of, total}
+use Rattle.semantics.specs.Rules.{is_task, size_of}
 use Rattle.semantics.specs.Faults.{log_fault}
 use Rattle.semantics.specs.Shown.{task_pairs, AreKept, IsShownPair, IsShownRace}
 
@@ -45,7 +45,7 @@ operation_count t = length (filter (λ (n : LogNode). is_operation n.op) t.nodes
 
 -- The reads of all tasks: a point and a field of a requirement each.
 abbrev pub read_count : Tables → ℕ
-read_count t = total (map (λ (r : Req). size_of t r.space r.fields) (filter (λ (r : Req). may_read r.access) t.reqs))
+read_count t = sum_by (λ (r : Req). size_of t r.space r.fields) (filter (λ (r : Req). may_read r.access) t.reqs)
 
 -- ---- Dependences.
 
@@ -59,7 +59,7 @@ dependences t = filter_map (λ (p : ℕ × ℕ). option_map (dependence_at t p) 
 abbrev pub before_count : List Dep → ℕ
 before_count ds = length (filter (λ (d : Dep). d.before) ds)
 
--- ---- What is found in an admitted log. Tasks and items are told by their ids, nodes by their events.
+-- ---- What is found in an admitted log. Tasks and items are named by their ids, nodes by their events.
 
 abbrev pub event_of : Tables → ℕ → ℕ
 event_of t k = unwrap_or (done_at (graph_of t.nodes) k) 0

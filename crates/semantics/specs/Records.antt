@@ -1,6 +1,7 @@
 -- Lines and records.
-use Rattle.std.specs.Prelude.{◌≡◌, ℕ, ◌+◌, ◌-◌, ◌==◌, true, List, [], ◌∷◌, ◌++◌, map, length, take, drop, ◌⊎◌}
+use Rattle.std.specs.Prelude.{◌≡◌, ℕ, ◌+◌, ◌-◌, ◌≤◌, ◌^◌, ◌==◌, true, All, List, [], ◌∷◌, ◌++◌, map, length, take, drop, ◌⊎◌}
 use Rattle.std.specs.List.{slice_split}
+use Rattle.std.specs.List.Sorted.{IsStrictlyIncreasing}
 use Rattle.spy_grammar.specs.declared.record.Record.{Record}
 use Rattle.spy_grammar.specs.declared.record.Lined.{Lined}
 use Rattle.spy_grammar.specs.Spelling.{spelling, Good}
@@ -24,7 +25,7 @@ lined_from line (r ∷ rs) = record { line = line; rec = r } ∷ lined_from (lin
 abbrev pub lined : List Record → List Lined
 lined rs = lined_from 1 rs
 
--- The parts of an input at each line feed: its lines, and at last what stands behind the last line feed.
+-- The parts of an input at each line feed: its lines, and at last what stands after the last line feed.
 abbrev pub parts_of : List ℕ → List (List ℕ)
 parts_of bytes = slice_split (λ b. b == 10) bytes
 
@@ -43,3 +44,9 @@ Hold number (line ∷ lines) log =
 pub record Reads (bytes : List ℕ) (log : List Lined) : Type 0 where
   pub ended : drop (line_count bytes) (parts_of bytes) ≡ [] ∷ []
   pub hold : Hold 1 (take (line_count bytes) (parts_of bytes)) log
+
+-- The records stand on lines that ascend, each on one of these many lines, which are at most 2^26.
+pub record AreLines (lines : ℕ) (log : List Lined) : Type 0 where
+  pub ascend : IsStrictlyIncreasing (map (λ (l : Lined). l.line) log)
+  pub within : All (λ (l : Lined). l.line ≤ lines) log
+  pub few : lines ≤ 2 ^ 26

@@ -1,13 +1,12 @@
 -- The one order of nodes in which a log is replayed, and the nodes that never come into it. Nodes are named by position.
 use Rattle.std.specs.Prelude.{ℕ, zero, suc, ◌+◌, ◌==◌, min, Bool, false, not, ◌&&◌, List, [], ◌∷◌, ◌++◌, filter, find, length, drop, take, position, Option, Some, None, option_map, unwrap_or, slice_get, if◌then◌else◌}
-use Rattle.std.specs.List.{list_any, list_all}
-use Rattle.semantics.specs.Tables.{numbers_from}
+use Rattle.std.specs.List.{list_any, list_all, range_with_len}
 use Rattle.semantics.specs.Points.{is_in}
 use Rattle.semantics.specs.Events.{Node}
 
 -- All positions, in node order.
 abbrev pub positions : List Node → List ℕ
-positions nodes = numbers_from 0 (length nodes)
+positions nodes = range_with_len 0 (length nodes)
 
 -- The events that the node at a position waits on.
 abbrev pub waits_at : List Node → ℕ → List ℕ
@@ -25,7 +24,7 @@ has_event nodes event k = unwrap_or (option_map (λ e. e == event) (done_at node
 abbrev pub is_ready : List Node → List ℕ → ℕ → Bool
 is_ready nodes taken k = not (is_in taken k) && list_all (λ event. list_any (has_event nodes event) taken) (waits_at nodes k)
 
--- The nodes taken, and the next one behind them.
+-- The nodes taken, and the next one after them.
 abbrev pub with_next : List ℕ → Option ℕ → List ℕ
 with_next taken None = taken
 with_next taken (Some k) = taken ++ k ∷ []

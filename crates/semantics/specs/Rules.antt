@@ -1,5 +1,5 @@
 -- The rules that each record has to keep, given what the earlier records declare. Each is a test that passes where the rule is broken. It looks at some kinds of record, and no other record breaks it.
-use Rattle.std.specs.Prelude.{ℕ, ◌+◌, ◌*◌, ◌==◌, nat_lt, Bool, true, false, not, ◌&&◌, ◌||◌, List, [], ◌∷◌, ◌++◌, map, filter, length, Option, Some, None, option_map, is_some}
+use Rattle.std.specs.Prelude.{ℕ, ◌+◌, ◌*◌, ◌==◌, nat_lt, Bool, true, false, not, ◌&&◌, ◌||◌, List, [], ◌∷◌, ◌++◌, map, filter, length, Option, Some, None, option_map, is_some, sum_by}
 use Rattle.std.specs.List.{list_any, list_all}
 use Rattle.std.specs.Option.{option_map_or}
 use Rattle.spy_words.specs.declared.access.PrivWord.{PrivWord}
@@ -117,13 +117,9 @@ names_unknown t r = not (list_all (is_declared t) (names r)) || lacks_req t r
 
 -- ---- Spaces, partitions and trees.
 
-abbrev pub total : List ℕ → ℕ
-total [] = 0
-total (n ∷ ns) = n + total ns
-
 -- too-many-points: the spaces up to this one have more than 1,048,576 points together.
 abbrev pub has_many_points : Tables → Record → Bool
-has_many_points t (Ispace id set) = nat_lt 1048576 (total (map (λ (s : tables.Space). length s.points) t.spaces) + length (points_of set))
+has_many_points t (Ispace id set) = nat_lt 1048576 (sum_by (λ (s : tables.Space). length s.points) t.spaces + length (points_of set))
 has_many_points t _ = false
 
 abbrev pub is_sub : Tables → ℕ → Bool
@@ -311,7 +307,7 @@ size_of t space fields = length (points_in t space) * length fields
 
 -- too-many-cells: the instances up to this one have more than 1,048,576 cells.
 abbrev pub has_many_cells : Tables → Record → Bool
-has_many_cells t (Inst id tree space fields kind) = nat_lt 1048576 (total (map (λ (i : insts.Inst). size_of t i.space i.fields) t.insts) + size_of t space fields)
+has_many_cells t (Inst id tree space fields kind) = nat_lt 1048576 (sum_by (λ (i : insts.Inst). size_of t i.space i.fields) t.insts + size_of t space fields)
 has_many_cells t _ = false
 
 -- The accesses that a record asks for: its points and fields.
@@ -326,7 +322,7 @@ accesses t _ = 0
 
 -- too-many-accesses: those of the records up to this one are more than 4,194,304.
 abbrev pub has_many_accesses : List Record → Tables → Record → Bool
-has_many_accesses earlier t r = nat_lt 4194304 (total (map (accesses t) earlier) + accesses t r)
+has_many_accesses earlier t r = nat_lt 4194304 (sum_by (accesses t) earlier + accesses t r)
 
 abbrev pub reduces : Priv → Bool
 reduces (privileges.Red op) = true
@@ -334,9 +330,9 @@ reduces _ = false
 
 -- The load of an instance: for each of its cells, the number of requirements that reduce at the place of the cell.
 abbrev pub load_of : Tables → insts.Inst → ℕ
-load_of t i = total (map (λ (p : ℕ × ℕ). length (filter (λ (r : reqs.Req). reduces r.access && covers t (record { tree = i.tree; point = p.0; field = p.1 }) r) t.reqs)) (grid (points_in t i.space) i.fields))
+load_of t i = sum_by (λ (p : ℕ × ℕ). length (filter (λ (r : reqs.Req). reduces r.access && covers t (record { tree = i.tree; point = p.0; field = p.1 }) r) t.reqs)) (grid (points_in t i.space) i.fields)
 
 -- too-much-load: the load of all instances is more than 67,108,864.
 abbrev pub has_much_load : Tables → Record → Bool
-has_much_load t (End n) = nat_lt 67108864 (total (map (load_of t) t.insts))
+has_much_load t (End n) = nat_lt 67108864 (sum_by (load_of t) t.insts)
 has_much_load t _ = false

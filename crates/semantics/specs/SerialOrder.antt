@@ -1,6 +1,7 @@
 -- The order in which the program's result is asked for. Items are named by position.
 use Rattle.std.specs.Prelude.{ℕ, ◌==◌, nat_lt, ◌&&◌, List, map, flat_map, length, position, unwrap_or, Option, find, if◌then◌else◌}
-use Rattle.semantics.specs.Tables.{Tables, Serial, place_of, numbers_from}
+use Rattle.std.specs.List.{range_with_len}
+use Rattle.semantics.specs.Tables.{Tables, Serial, place_of}
 use Rattle.semantics.specs.Kinds.{pairs, item_kind, is_before}
 
 -- The ids that the log lists in serial order, one line after the other.
@@ -9,7 +10,7 @@ listed t = flat_map (λ (s : Serial). s.ids) t.serials
 
 -- The items in serial order: as they are listed, or in program order where no line lists any.
 abbrev pub serial : Tables → List ℕ
-serial t = if length t.serials == 0 then numbers_from 0 (length t.items) else map (place_of t.items) (listed t)
+serial t = if length t.serials == 0 then range_with_len 0 (length t.items) else map (place_of t.items) (listed t)
 
 -- How many items come before an item.
 abbrev pub serial_place : Tables → ℕ → ℕ

@@ -29,7 +29,7 @@ run_of t item = unwrap_or (position (λ (n : LogNode). runs_item item n.op) t.no
 abbrev pub IsKept : Tables → ℕ × ℕ → Type 0
 IsKept t p = Before (graph_of t.nodes) (run_of t (by_serial t p).0) (run_of t (by_serial t p).1)
 
--- Each two tasks that interfere are run in serial order.
+-- Every two tasks that interfere are run in serial order.
 abbrev pub AreKept : Tables → Type 0
 AreKept t = AllByRecursion (IsKept t) (task_pairs t)
 

@@ -1,5 +1,6 @@
 -- The steps of the recorded run: which node does what to which cell.
 use Rattle.std.specs.Prelude.{ℕ, ◌==◌, ◌&&◌, List, [], ◌∷◌, ◌++◌, map, flat_map, find, length, Option, option_map, unwrap_or, slice_get, if◌then◌else◌}
+use Rattle.std.specs.List.{range_with_len}
 use Rattle.std.specs.Option.{option_map_or}
 use Rattle.spy_words.specs.declared.access.InstKind.{InstKind}
 use Rattle.spy_words.specs.declared.access.InstKind.TheVariants as layouts
@@ -15,7 +16,7 @@ use Rattle.semantics.specs.declared.tables.Inst.{Inst}
 use Rattle.semantics.specs.declared.tables.LogNode.{LogNode}
 use Rattle.semantics.specs.declared.tables.Op.{Op}
 use Rattle.semantics.specs.declared.tables.Op.TheVariants as operations
-use Rattle.semantics.specs.Tables.{Tables, Map, numbers_from}
+use Rattle.semantics.specs.Tables.{Tables, Map}
 use Rattle.semantics.specs.Points.{is_in, points_in}
 use Rattle.semantics.specs.Kinds.{reqs_of, grid, req_grid}
 
@@ -83,4 +84,4 @@ steps_by t ks = flat_map (λ k. map (λ m. record { node = k; move = m }) (optio
 
 -- All steps of the log.
 abbrev pub steps : Tables → List Step
-steps t = steps_by t (numbers_from 0 (length t.nodes))
+steps t = steps_by t (range_with_len 0 (length t.nodes))

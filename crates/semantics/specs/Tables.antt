@@ -1,5 +1,6 @@
 -- What a log declares, as plain lists in the order of the lines.
-use Rattle.std.specs.Prelude.{ℕ, zero, suc, Bool, true, false, ◌+◌, ◌-◌, ◌==◌, List, [], ◌∷◌, ◌++◌, fold, count_by, position, length, unwrap_or}
+use Rattle.std.specs.Prelude.{ℕ, Bool, true, false, ◌+◌, ◌-◌, ◌==◌, List, [], ◌∷◌, ◌++◌, fold, count_by, position, length, unwrap_or}
+use Rattle.std.specs.List.{range_with_len}
 use Rattle.privilege.specs.declared.kinds.Priv.{Priv}
 use Rattle.privilege.specs.declared.kinds.Priv.TheVariants as privileges
 use Rattle.privilege.specs.declared.kinds.Coherence.{Coherence}
@@ -44,15 +45,10 @@ pub record Tables : Type 0 where
   pub maps : List Map
   pub nodes : List LogNode
 
--- So many numbers, from a first one upward.
-abbrev pub numbers_from : ℕ → ℕ → List ℕ
-numbers_from first zero = []
-numbers_from first (suc n) = first ∷ numbers_from (first + 1) n
-
 -- The points of a set, whose parts are each a first and a last point.
 abbrev pub points_of : List (ℕ × ℕ) → List ℕ
 points_of [] = []
-points_of (p ∷ ps) = numbers_from p.0 (p.1 + 1 - p.0) ++ points_of ps
+points_of (p ∷ ps) = range_with_len p.0 (p.1 + 1 - p.0) ++ points_of ps
 
 -- The privilege that a word spells.
 abbrev pub privilege_of : PrivWord → Priv

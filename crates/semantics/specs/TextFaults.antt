@@ -15,11 +15,11 @@ use Rattle.semantics.specs.Records.{parts_of, line_count}
 abbrev pub is_too_long : List ℕ → Bool
 is_too_long bytes = nat_lt 67108864 (length bytes)
 
--- newline: some bytes stand behind the last line feed.
+-- newline: some bytes stand after the last line feed.
 abbrev pub ends_within_line : List ℕ → Bool
 ends_within_line bytes = not (list_all (λ w. length w == 0) (drop (line_count bytes) (parts_of bytes)))
 
--- word, form, number, order: what is wrong with a line. (Reading by the definitions never gives want of memory, which is no fault of a line.)
+-- word, form, number, order: what is wrong with a line. (Reading by the definitions never runs out of memory, which is no fault of a line.)
 abbrev pub code_of : LineFault → Code
 code_of faults.Form = codes.Form
 code_of faults.Number = codes.Number

@@ -4,9 +4,10 @@ use Rattle.spy_words.specs.declared.access.PrivWord.{PrivWord}
 use Rattle.spy_words.specs.declared.access.PrivWord.TheVariants.{Ro, Rw, Wd, Red}
 use Rattle.spy_words.specs.declared.access.InstKind.TheVariants as layouts
 use Rattle.spy_grammar.specs.declared.record.Record.{Record}
-use Rattle.spy_grammar.specs.declared.record.Record.TheVariants.{Header, Ispace, Part, Sub, Fields, Tree, Redop, Task, Req, Serial, Inst, Map, Run, Copy, Reset, Fold, Merge, End}
+use Rattle.spy_grammar.specs.declared.record.Record.TheVariants.{Header, Ispace, Part, Sub, Fields, Tree, Redop, Task, Req, Fill, Serial, Inst, Map, Run, Copy, Reset, Fold, Merge, End}
 use Rattle.value_terms.specs.declared.terms.Base.TheVariants.{Init}
 use Rattle.value_terms.specs.Values.{Value}
+use Rattle.findings.specs.declared.finding.Dep.{Dep}
 use Rattle.semantics.specs.declared.places.Place.{Place}
 use Rattle.semantics.specs.declared.places.Cell.{Cell}
 use Rattle.semantics.specs.Reads.{Seen}
@@ -85,6 +86,18 @@ turned atomic serial count = region 3 ++ Task 1 ∷ Req 1 1 1 one Rw atomic ∷ 
 
 abbrev pub turned_by_log : List Record
 turned_by_log = turned true (Serial (2 ∷ 1 ∷ []) ∷ []) 13
+
+-- Two tasks that take turns run the second first; a third reads two of the points, waits for none, and is followed by a fill.
+abbrev pub three_tasks : List Record
+three_tasks = region 3 ++ Ispace 2 ((2, 3) ∷ []) ∷ Part 1 1 false ∷ Sub 1 0 2 ∷ Task 1 ∷ Req 1 1 1 one Rw true ∷ Task 2 ∷ Req 2 1 1 one Rw true ∷ Task 3 ∷ Req 3 1 2 one Ro false ∷ Fill 4 1 1 one 0 ∷ Serial (2 ∷ 1 ∷ 3 ∷ 4 ∷ []) ∷ Run 2 1 [] ∷ Run 1 2 one ∷ Run 3 3 [] ∷ End 17 ∷ []
+
+-- A dependence, of fixed order or not, of these items from this point on.
+abbrev pub dependence : Bool → ℕ → ℕ → ℕ → Dep
+dependence before a b point = record { before = before; a = a; b = b; tree = 1; point = point; field = 1 }
+
+-- All dependences of those tasks and the fill.
+abbrev pub three_tasks_dependences : List Dep
+three_tasks_dependences = dependence false 2 1 0 ∷ dependence true 1 3 2 ∷ dependence true 1 4 0 ∷ dependence true 2 3 2 ∷ dependence true 2 4 0 ∷ dependence true 3 4 2 ∷ []
 
 -- Two subspaces of a partition that share the point 5.
 abbrev pub overlapping : Bool → List Record

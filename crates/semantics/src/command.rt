@@ -5,7 +5,7 @@
 pub enum Command {
     /// Whether the run computed what the sequential program computes. This alone asks that each field of a requirement is mapped.
     Check,
-    /// Whether each two tasks that interfere are run in serial order.
+    /// Whether every two tasks that interfere are run in serial order.
     Ordered,
     /// The pairs of items that interfere.
     Deps,

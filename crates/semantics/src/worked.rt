@@ -32,7 +32,6 @@ pub fn worked_logs()
     ensures mapping_is_of_check { log_fault Ordered 11 (lined unmapped) ≡ None }
     ensures not_disjoint { log_fault Check 8 (lined (overlapping true)) ≡ Some (at_line codes.NotDisjoint 7) }
     ensures aliased { log_fault Check 8 (lined (overlapping false)) ≡ None }
-    ensures serial_order { log_fault Check 15 (lined (turned false (records.Serial (2 ∷ 1 ∷ []) ∷ []) 13)) ≡ Some (at_line codes.SerialOrder 9) }
 
     // Interference and serial order.
     ensures pairs { pairs (tables_of (lined accepted)) ≡ (0, 1) ∷ [] }
@@ -49,7 +48,8 @@ pub fn worked_logs()
     ensures replay_turned { replay_order (graph_of (tables_of (lined turned_by_log)).nodes) ≡ 1 ∷ 0 ∷ [] }
     ensures no_cycle { shown_cycle (graph_of (tables_of (lined stale_copy)).nodes) ≡ None }
     ensures cycle { shown_cycle (graph_of (tables_of (lined in_a_circle)).nodes) ≡ Some (0 ∷ 1 ∷ []) }
-    ensures cycle_of_merges { shown_cycle (graph_of (tables_of (lined merges_in_a_circle)).nodes) ≡ Some (2 ∷ 3 ∷ 4 ∷ []) }
+    ensures cycle_of_merges { shown_cycle (graph_of (tables_of (lined merges_in_a_circle)).nodes)
+        ≡ Some (2 ∷ 3 ∷ 4 ∷ []) }
 
     // Counts, and what tasks read in the replay and should have read.
     ensures tasks { task_count (tables_of (lined accepted)) ≡ 2 }
@@ -57,15 +57,18 @@ pub fn worked_logs()
     ensures reads { read_count (tables_of (lined accepted)) ≡ 4 }
     ensures right { shown_difference (tables_of (lined accepted)) ≡ None }
     ensures stale { shown_difference (tables_of (lined stale_copy)) ≡ Some (saw 3 (plain (bases.Out 1))) }
-    ensures stale_want { want_of (tables_of (lined stale_copy)) (saw 3 (plain (bases.Out 1))) ≡ plain (bases.Out 2) }
+    ensures stale_want { want_of (tables_of (lined stale_copy)) (saw 3 (plain (bases.Out 1)))
+        ≡ plain (bases.Out 2) }
     ensures fresh { shown_difference (tables_of (lined fresh_copy)) ≡ None }
     ensures folded { shown_difference (tables_of (lined folded_once)) ≡ None }
     ensures folded_again { shown_difference (tables_of (lined folded_twice)) ≡ Some (saw 3 (both_added 2)) }
     ensures folded_want { want_of (tables_of (lined folded_twice)) (saw 3 (both_added 2)) ≡ both_added 1 }
     ensures not_emptied { shown_difference (tables_of (lined not_reset)) ≡ Some (saw 3 (plain bases.Raw)) }
     ensures turned { shown_difference (tables_of (lined turned_by_log)) ≡ None }
-    ensures not_turned { shown_difference (tables_of (lined (turned true [] 12))) ≡ Some (saw 2 (plain bases.Init)) }
-    ensures not_turned_want { want_of (tables_of (lined (turned true [] 12))) (saw 2 (plain bases.Init)) ≡ plain (bases.Out 1) }
+    ensures not_turned { shown_difference (tables_of (lined (turned true [] 12)))
+        ≡ Some (saw 2 (plain bases.Init)) }
+    ensures not_turned_want { want_of (tables_of (lined (turned true [] 12))) (saw 2 (plain bases.Init))
+        ≡ plain (bases.Out 1) }
 
     // Races.
     ensures runs_race { Race (tables_of (lined unordered)) 0 1 first_cell }

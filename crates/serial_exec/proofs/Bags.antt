@@ -4,10 +4,10 @@ use Rattle.std.specs.List.{AllByRecursion}
 use Rattle.value_terms.specs.declared.terms.Base.TheVariants.{Init}
 use Rattle.value_terms.specs.declared.terms.Contribution.{Contribution}
 use Rattle.value_terms.specs.Values.{Bag, plain, comes_before, count_in, joined, total, add, extended, CountsEach, IsWellFormedBag}
-use Rattle.value_terms.proofs.Order.{compared, same_decides, before_differ}
-use Rattle.value_terms.proofs.Counting.{all_after, count_joined, rest_of}
-use Rattle.value_terms.proofs.Grouping.{total_joined}
-use Rattle.value_terms.proofs.WellFormed.{joined_anew, plain_well_formed, add_well_formed}
+use Rattle.value_terms.proofs.lemmas.Order.{compared, same_decides, before_differ}
+use Rattle.value_terms.proofs.lemmas.Counting.{all_after, count_joined, rest_of}
+use Rattle.value_terms.proofs.lemmas.Grouping.{total_joined}
+use Rattle.value_terms.proofs.lemmas.WellFormed.{joined_anew, plain_well_formed, add_well_formed}
 use Rattle.serial_exec.specs.declared.change.Action.{Action}
 use Rattle.serial_exec.specs.declared.change.Action.TheVariants.{Put, Add}
 use Rattle.serial_exec.specs.declared.change.Change.{Change}

@@ -124,7 +124,7 @@ before-items t moment (suc n) (item ∷ items) p =
 
 -- ---- in order
 
--- Each change is of a moment that is no later than that of all behind it.
+-- Each change is of a moment that is no later than that of all after it.
 abbrev pub Rises : List Change → Type 0
 Rises [] = Unit {0}
 Rises (c ∷ cs) = All (λ d. c.moment ≤ d.moment) cs × Rises cs

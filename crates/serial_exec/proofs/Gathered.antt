@@ -18,12 +18,11 @@ use Rattle.semantics.specs.Tables.{Tables, Space}
 use Rattle.semantics.specs.Points.{is_in, points_in}
 use Rattle.semantics.specs.Kinds.{reqs_of, uses_of_item}
 use Rattle.semantics.specs.SerialOrder.{serial}
-use Rattle.point_laws.specs.Cut.{cut, cut_space}
+use Rattle.point_laws.specs.Cut.{cut, cut_space, kept, cut_to}
 use Rattle.serial_exec.specs.declared.change.Action.{Action}
 use Rattle.serial_exec.specs.declared.change.Action.TheVariants.{Put}
 use Rattle.serial_exec.specs.declared.change.Change.{Change}
 use Rattle.serial_exec.specs.Changes.{action_of, by_task, covered, use_changes, uses_changes, item_changes, items_changes}
-use Rattle.serial_exec.specs.Cutting.{on_points, cut_to}
 use Rattle.serial_exec.specs.OwnReqs.{reqs_at}
 use Rattle.serial_exec.proofs.Noting.{append-none}
 
@@ -34,7 +33,7 @@ found_cut : (ps : List ℕ) (id : ℕ) (spaces : List Space)
 found_cut ps id [] = refl
 found_cut ps id (s ∷ spaces) = elim (cases_Bool (s.id == id)) [ inl here ↦ rw here refl | inr other ↦ rw other (found_cut ps id spaces) ]
 
-pub points_cut : (on : Option (List ℕ)) (t : Tables) (id : ℕ) → points_in (cut_to on t) id ≡ on_points on (points_in t id)
+pub points_cut : (on : Option (List ℕ)) (t : Tables) (id : ℕ) → points_in (cut_to on t) id ≡ kept on (points_in t id)
 points_cut None t id = refl
 points_cut (Some listed) t id = found_cut listed id t.spaces
 
@@ -51,9 +50,9 @@ pub nothing-covered : (on : Option (List ℕ)) (t : Tables) (space tree : ℕ) (
     → old ≡ old ++ cond (covered tree (points_in (cut_to on t) space) fields p) (c ∷ []) []
 nothing-covered on t space tree fields c old p none =
     append-none old
-    ∙ ap (λ b. old ++ cond b (c ∷ []) []) (sym (ap (λ points. covered tree points fields p) (points_cut on t space ∙ ap (on_points on) none ∙ still on) ∙ shut (tree == p.tree)))
+    ∙ ap (λ b. old ++ cond b (c ∷ []) []) (sym (ap (λ points. covered tree points fields p) (points_cut on t space ∙ ap (kept on) none ∙ still on) ∙ shut (tree == p.tree)))
   where
-    still : (on : Option (List ℕ)) → on_points on [] ≡ []
+    still : (on : Option (List ℕ)) → kept on [] ≡ []
     still None = refl
     still (Some listed) = refl
 

@@ -10,7 +10,7 @@ use Rattle.value_terms.specs.declared.bag.Group.{Group}
 use Rattle.value_terms.specs.Values.{Bag, Value, plain, is_raw, add, add_one, joined, group_of, extended, IsWellFormed}
 use Rattle.value_terms.specs.declared.terms.Base.{Base}
 use Rattle.value_terms.specs.declared.terms.Base.TheVariants.{Raw, Init, Ident, Const, Out}
-use Rattle.value_terms.proofs.Changes.{add_raw}
+use Rattle.value_terms.proofs.lemmas.Changes.{add_raw}
 use Rattle.serial_exec.specs.declared.change.Action.{Action}
 use Rattle.serial_exec.specs.declared.change.Action.TheVariants.{Put, Add}
 use Rattle.serial_exec.specs.declared.change.Change.{Change}

@@ -192,7 +192,7 @@ all-count : (p : Mark → Bool) (xs : List Mark) → AllByRecursion (λ m. p m �
 all-count p [] all = refl
 all-count p (x ∷ xs) all = omega (arith, sum_by-cons (λ y. cond (p y) 1 0) x xs, ap (λ b. cond b 1 0 + count_by p xs) all.0, all-count p xs all.1)
 
--- Behind what comes before a position in a contribution.
+-- After what comes before a position in a contribution.
 pub marks-left : (c : Contribution) (k n : ℕ) (marks : List Mark) → AreSorted marks → n ≤ length marks → AllByRecursion (λ m. is_before c k m ≡ true) (take n marks) → IsLeft c marks (drop n marks)
 marks-left c k n marks sorted within front = record {
   gone = n;
@@ -219,7 +219,7 @@ pub cut-first : (bag : Bag) (d : Contribution × ℕ) → 1 ≤ length bag → b
 cut-first [] d some = absurd (omega (arith, some))
 cut-first (e ∷ bag) d some = ap (λ rest. e ∷ rest) (sym (rest-taken (e ∷ bag) 1))
 
--- What entries count goes on behind one.
+-- What entries count goes on after one.
 pub counts-more : (marks ahead rest : List Mark) (from end : ℕ) (e : Contribution × ℕ) (bag left more : Bag) → left ≡ e ∷ more → IsCounted ahead from end e → IsLeft e.0 ahead rest
     → (AllByRecursion (IsCounted marks from end) bag ↔ AllByRecursion (IsCounted ahead from end) left) × Ascends left × AreSorted ahead
     → (AllByRecursion (IsCounted marks from end) bag ↔ AllByRecursion (IsCounted rest from end) more) × Ascends more × AreSorted rest

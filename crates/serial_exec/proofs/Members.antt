@@ -3,7 +3,7 @@ use Rattle.std.proofs.Common.{◌≡◌, ℕ, ◌==◌, Bool, true, false, ◌||
 use Rattle.std.proofs.lemmas.Bool.{cases_Bool, eqb-true, true≢false}
 use Rattle.std.proofs.lemmas.List.Folds.{Any-from_list_any, list_any-from_Any}
 use Rattle.semantics.specs.Points.{is_in}
-use Rattle.serial_exec.specs.Cutting.{common_points}
+use Rattle.serial_exec.specs.Listed.{common_points}
 
 -- a test for a member
 pub has_in : (xs : List ℕ) (x : ℕ) → is_in xs x ≡ true → Contains xs x

@@ -13,7 +13,8 @@ use Rattle.semantics.specs.Points.{is_in}
 use Rattle.serial_exec.specs.declared.change.Change.{Change}
 use Rattle.serial_exec.specs.declared.change.PlaceKey.{PlaceKey}
 use Rattle.serial_exec.specs.Changes.{covered}
-use Rattle.serial_exec.specs.Cutting.{on_points, is_behind, IsPoint}
+use Rattle.point_laws.specs.Cut.{kept}
+use Rattle.serial_exec.specs.Listed.{is_behind, IsPoint}
 use Rattle.serial_exec.specs.Histories.{same_key, key_of}
 use Rattle.serial_exec.proofs.Members.{has_in, in_has, both_from}
 
@@ -99,7 +100,7 @@ field-noted c old mid new tree point field fields i p up lt is before after =
 
 -- ---- point by point
 
--- Where a point stands to the one that was noted: before it, at it, or behind it.
+-- Where a point stands to the one that was noted: before it, at it, or after it.
 data Stands (behind_old same has behind_new : Bool) : Type 0 where
   earlier : behind_old ≡ true → same ≡ false → behind_new ≡ true → Stands behind_old same has behind_new
   here : behind_old ≡ false → same ≡ true → has ≡ true → behind_new ≡ true → Stands behind_old same has behind_new
@@ -183,6 +184,6 @@ points-more c pts (Some y) next x tree fields old mid new is before after least 
         ∙ ap (λ xs. old p ++ xs) (one_point c (tree == p.tree) (is_in fields p.field) (nat_lt p.point x) (x == p.point) (is_in pts p.point) (is_behind next p.point)
         (stands pts x p.point next (subst (Contains pts) same before.0) least))
 
-pub on_points-has : (on : Option (List ℕ)) (points : List ℕ) (q : ℕ) → Contains (on_points on points) q → Contains points q
-on_points-has None points q h = h
-on_points-has (Some listed) points q h = (both_from listed points q h).0
+pub kept-has : (on : Option (List ℕ)) (points : List ℕ) (q : ℕ) → Contains (kept on points) q → Contains points q
+kept-has None points q h = h
+kept-has (Some listed) points q h = (both_from listed points q h).0

@@ -1,8 +1,8 @@
 -- The requirements of each item, one more at a time.
-use Rattle.std.proofs.Common.{◌≡◌, ℕ, zero, suc, ◌+◌, ◌<◌, ◌==◌, true, false, cond, List, [], ◌∷◌, ◌++◌, map, take, filter, length, get_or, set, slice_get, All, Some, refl, sym, ap, ◌∙◌, inl, inr, arith}
+use Rattle.std.proofs.Common.{◌≡◌, ℕ, suc, ◌+◌, ◌<◌, ◌==◌, true, false, cond, List, [], ◌∷◌, ◌++◌, take, filter, length, get_or, set, replicate, slice_get, Some, refl, sym, ap, ◌∙◌, inl, inr, arith}
 use Rattle.std.proofs.lemmas.Bool.{cases_Bool, cases_eq}
 use Rattle.std.proofs.lemmas.Bool.Decides.{nat_tests}
-use Rattle.std.proofs.lemmas.List.{length-set, get_or-set_same, get_or-set_other, length-map, get_or-map}
+use Rattle.std.proofs.lemmas.List.{length-set, length-replicate, get_or-set_same, get_or-set_other, get_or-replicate}
 use Rattle.std.proofs.lemmas.List.Elements.{filter-append, filter_map-append}
 use Rattle.std.proofs.lemmas.Option.{slice_get-get_or}
 use Rattle.std.proofs.Math.Seq.{take-suc}
@@ -10,30 +10,23 @@ use Rattle.semantics.specs.declared.tables.Req.{Req}
 use Rattle.serial_exec.specs.OwnReqs.{AreOwn, IsNoted, reqs_at}
 use Rattle.serial_exec.proofs.Noting.{append-none}
 
-map-set : {X Y : Type 0} (f : X → Y) (xs : List X) (i : ℕ) (x : X) → map f (set xs i x) ≡ set (map f xs) i (f x)
-map-set f [] i x = refl
-map-set f (y ∷ xs) zero x = refl
-map-set f (y ∷ xs) (suc i) x = ap (λ ys. f y ∷ ys) (map-set f xs i x)
-
 -- A list at a place that is longer by a number.
-pub pushed-is_noted : {V : Type 0} (f : V → List ℕ) (xs : List V) (p k : ℕ) (old new : V) → p < length xs → old ≡ get_or xs p old → f new ≡ f old ++ k ∷ [] → IsNoted p k (map f xs) (map f (set xs p new))
-pushed-is_noted f xs p k old new lt at more = record {
-  each = rw (map-set f xs p new) (length-set (map f xs) p (f new));
-  lists = λ i below. rw (map-set f xs p new) (elim (cases_eq p i) [
+pub pushed-is_noted : (lists : List (List ℕ)) (p k : ℕ) → IsNoted p k lists (set lists p (get_or lists p [] ++ k ∷ []))
+pushed-is_noted lists p k = record {
+  each = length-set lists p (get_or lists p [] ++ k ∷ []);
+  lists = λ i below. elim (cases_eq p i) [
     | inl same ↦
         let yes_same : (p == i) ≡ true = grind (arith, nat_tests, same) in
-        let here : p < length (map f xs) = omega (arith, lt, length-map xs f) in
-        ap (λ j. get_or (set (map f xs) p (f new)) j []) (sym same)
-        ∙ get_or-set_same (map f xs) p (f new) [] here
-        ∙ more
-        ∙ ap (λ ys. ys ++ k ∷ []) (ap f at ∙ sym (get_or-map f xs p old [] lt) ∙ ap (λ j. get_or (map f xs) j []) same)
-        ∙ sym (ap (λ b. get_or (map f xs) i [] ++ cond b (k ∷ []) []) yes_same)
+        ap (λ j. get_or (set lists p (get_or lists p [] ++ k ∷ [])) j []) (sym same)
+        ∙ get_or-set_same lists p (get_or lists p [] ++ k ∷ []) [] (omega (arith, below, same))
+        ∙ ap (λ j. get_or lists j [] ++ k ∷ []) same
+        ∙ sym (ap (λ b. get_or lists i [] ++ cond b (k ∷ []) []) yes_same)
     | inr other ↦
         let not_same : (p == i) ≡ false = grind (arith, nat_tests, other) in
-        get_or-set_other (map f xs) p i (f new) [] (λ e. other (sym e))
-        ∙ append-none (get_or (map f xs) i [])
-        ∙ sym (ap (λ b. get_or (map f xs) i [] ++ cond b (k ∷ []) []) not_same)
-  ]);
+        get_or-set_other lists p i (get_or lists p [] ++ k ∷ []) [] (λ e. other (sym e))
+        ∙ append-none (get_or lists i [])
+        ∙ sym (ap (λ b. get_or lists i [] ++ cond b (k ∷ []) []) not_same)
+  ];
 }
 
 -- No number is noted where there is no list.
@@ -46,10 +39,10 @@ nowhere-is_noted lists p k beyond = record {
 }
 
 -- At first there are none.
-pub none-are_own : (all : List Req) (count : ℕ) (lists : List (List ℕ)) → length lists ≡ count → All (λ w. w ≡ []) lists → AreOwn all [] count lists
-none-are_own all count lists each empty = record {
-  each = each;
-  own = λ item lt. ap (reqs_at all) (empty item [] (omega (arith, each)));
+pub none-are_own : (all : List Req) (count : ℕ) → AreOwn all [] count (replicate count [])
+none-are_own all count = record {
+  each = length-replicate count [];
+  own = λ item lt. ap (reqs_at all) (get_or-replicate count item [] [] lt);
 }
 
 -- One requirement more.

@@ -1,5 +1,5 @@
 pub mod Changes
-pub mod Cutting
+pub mod Listed
 pub mod Histories
 pub mod Kept
 pub mod Marks

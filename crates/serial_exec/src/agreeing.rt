@@ -1,4 +1,4 @@
-//! Whether a value is what changes make, told without memory.
+//! Whether a value is what changes make, found without memory.
 
 ghost use Rattle.std.specs.Prelude.{◌≡◌, ◌↔◌, ◌+◌, ◌^◌, ◌<◌, ◌≤◌, ◌∷◌, true, take, drop, length, IsTrue, MatchOption, []};
 ghost use Rattle.std.specs.List.{AllByRecursion};
@@ -78,7 +78,7 @@ fn is_total(bag: &[(Contribution, u64)], count: u64) -> bool
     missing == 0
 }
 
-/// What is left of marks behind those that an entry counts between two positions, or `None` where it does not count just these.
+/// What is left of marks after those that an entry counts between two positions, or `None` where it does not count just these.
 fn behind_entry<'m>(
     entry: &(Contribution, u64),
     marks: &'m [Mark],
@@ -99,7 +99,7 @@ fn behind_entry<'m>(
     }
 }
 
-/// Whether each entry of a bag counts what marks tell between two positions. Each is looked for behind the one before.
+/// Whether each entry of a bag counts what marks tell between two positions. Each is looked for after the one before.
 fn are_counts(bag: &[(Contribution, u64)], marks: &[Mark], from: usize, end: usize) -> bool
     requires bag { Ascends bag.now }
     requires sorted { AreSorted marks.now }
@@ -133,7 +133,7 @@ fn is_bag_of(bag: &[(Contribution, u64)], run: &[Change], marks: &[Mark], from: 
     is_total(bag, run.len() as u64) && are_counts(bag, marks, from, from + run.len())
 }
 
-/// What is left of changes behind a group that they begin with, or `None` where they do not begin with it.
+/// What is left of changes after a group that they begin with, or `None` where they do not begin with it.
 fn behind<'c>(
     group: &Group,
     changes: &'c [Change],

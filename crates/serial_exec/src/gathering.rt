@@ -1,13 +1,13 @@
 //! The changes of the items of a log, gathered in serial order.
 
 ghost use Rattle.std.specs.Prelude.{◌≡◌, [], ◌∷◌, ◌++◌, map, length, IfOk, OnOk};
-ghost use Rattle.std.specs.Option.{option_map};
 ghost use Rattle.std.specs.List.Sorted.{IsStrictlyIncreasing};
 ghost use Rattle.semantics.specs.declared.places.Place.{Place};
 ghost use Rattle.semantics.specs.Points.{points_in};
 ghost use Rattle.semantics.specs.SerialOrder.{serial};
 ghost use Rattle.serial_exec.specs.Changes.{Adds, covered, by_task, use_changes, uses_changes, item_changes, items_changes};
-ghost use Rattle.serial_exec.specs.Cutting.{cut_to};
+ghost use Rattle.point_laws.specs.Cut.{cut_to};
+ghost use Rattle.serial_exec.specs.Listed.{listed_by};
 ghost use Rattle.serial_exec.specs.Histories.{changes_at};
 ghost use Rattle.serial_exec.specs.OwnReqs.{AreOwn, reqs_at};
 
@@ -15,6 +15,7 @@ use crate::change::{Action, Change, task_action};
 use crate::histories::Histories;
 use crate::own_reqs::own_reqs;
 use log_decl::Log;
+use number_lists::NumberLists;
 use point_set::PointSet;
 use semantics::{ItemBody, Req};
 use std::alloc::{AllocError, Global};
@@ -33,7 +34,7 @@ fn note_in_space<'a, P: PointSet + Copy, Q: PointSet>(
 ) -> Result<(), AllocError>
     requires { IsStrictlyIncreasing fields.now }
     ensures { OnOk result (Adds change
-        (covered tree (points_in (cut_to (option_map (λ q. Q.points q.now) listed.entry) log.now) space) fields.now)
+        (covered tree (points_in (cut_to (listed_by Q.points listed.entry) log.now) space) fields.now)
         (changes_at histories.old) (changes_at histories.new)) }
 {
     match log.set(space) {
@@ -54,7 +55,7 @@ fn note_req<'a, P: PointSet + Copy, Q: PointSet>(
 ) -> Result<(), AllocError>
     requires { IsStrictlyIncreasing req.now.fields }
     ensures { OnOk result ((p : Place) → changes_at histories.new p ≡ changes_at histories.old p ++
-        use_changes (cut_to (option_map (λ q. Q.points q.now) listed.entry) log.now) moment (by_task task) req.now p) }
+        use_changes (cut_to (listed_by Q.points listed.entry) log.now) moment (by_task task) req.now p) }
 {
     match task_action(task, req.number, req.access) {
         Some(action) => {
@@ -79,7 +80,7 @@ fn note_req_at<'a, P: PointSet + Copy, Q: PointSet>(
     k: usize,
 ) -> Result<(), AllocError>
     ensures { OnOk result ((p : Place) → changes_at histories.new p ≡ changes_at histories.old p ++
-        uses_changes (cut_to (option_map (λ q. Q.points q.now) listed.entry) log.now) moment (by_task task)
+        uses_changes (cut_to (listed_by Q.points listed.entry) log.now) moment (by_task task)
         (reqs_at log.now.reqs (k ∷ [])) p) }
 {
     match log.reqs().get(k) {
@@ -99,7 +100,7 @@ fn note_reqs<'a, P: PointSet + Copy, Q: PointSet>(
     own: &[usize],
 ) -> Result<(), AllocError>
     ensures { OnOk result ((p : Place) → changes_at histories.new p ≡ changes_at histories.old p ++
-        uses_changes (cut_to (option_map (λ q. Q.points q.now) listed.entry) log.now) moment (by_task task)
+        uses_changes (cut_to (listed_by Q.points listed.entry) log.now) moment (by_task task)
         (reqs_at log.now.reqs own.now) p) }
 {
     for k in own {
@@ -114,20 +115,28 @@ fn note_item<'a, P: PointSet + Copy, Q: PointSet>(
     histories: &mut Histories,
     log: &Log<'a, P>,
     listed: Option<&Q>,
-    own: &[Vec<usize>],
+    own: &NumberLists,
     moment: usize,
     item: usize,
 ) -> Result<(), AllocError>
-    requires { AreOwn log.now.reqs log.now.reqs (length log.now.items) (map (λ w. w.items) own.now) }
+    requires { AreOwn log.now.reqs log.now.reqs (length log.now.items) own.now }
     ensures { OnOk result ((p : Place) → changes_at histories.new p ≡ changes_at histories.old p ++
-        item_changes (cut_to (option_map (λ q. Q.points q.now) listed.entry) log.now) moment item p) }
+        item_changes (cut_to (listed_by Q.points listed.entry) log.now) moment item p) }
 {
     log.fill_fields_ascend();
     let Some(found) = log.items().get(item) else {
         return Ok(());
     };
     match &found.body {
-        ItemBody::Task => note_reqs(alloc, histories, log, listed, moment, found.id, &own[item]),
+        ItemBody::Task => note_reqs(
+            alloc,
+            histories,
+            log,
+            listed,
+            moment,
+            found.id,
+            own.list(item),
+        ),
         ItemBody::Fill {
             tree,
             space,
@@ -151,7 +160,7 @@ pub(crate) fn histories_of<'a, P: PointSet + Copy, Q: PointSet>(
     listed: Option<&Q>,
 ) -> Result<Histories, AllocError>
     ensures { IfOk result (λ h. (p : Place) → changes_at h p
-        ≡ items_changes (cut_to (option_map (λ q. Q.points q.now) listed.entry) log.now) 0 (serial log.now) p) }
+        ≡ items_changes (cut_to (listed_by Q.points listed.entry) log.now) 0 (serial log.now) p) }
 {
     let own = own_reqs(alloc, log.items().len(), log.reqs())?;
     let mut histories = Histories::new(alloc);

@@ -1,11 +1,11 @@
 //! For each place the changes of its value, in serial order.
 
 ghost use Rattle.std.specs.Prelude.{◌≡◌, ◌++◌, ◌∷◌, [], OnOk, if◌then◌else◌};
-ghost use Rattle.std.specs.Option.{option_map};
 ghost use Rattle.std.specs.List.Sorted.{IsStrictlyIncreasing};
 ghost use Rattle.semantics.specs.declared.places.Place.{Place};
 ghost use Rattle.serial_exec.specs.Changes.{Adds, covered};
-ghost use Rattle.serial_exec.specs.Cutting.{on_points};
+ghost use Rattle.point_laws.specs.Cut.{kept};
+ghost use Rattle.serial_exec.specs.Listed.{listed_by};
 ghost use Rattle.serial_exec.specs.Histories.{same_key, changes_at, key_of};
 
 use crate::change::{Change, PlaceKey};
@@ -81,7 +81,7 @@ impl Histories {
     ) -> Result<(), AllocError>
         requires { IsStrictlyIncreasing fields.now }
         ensures { OnOk result (Adds change
-            (covered tree (on_points (option_map (λ q. Q.points q.now) listed.entry) (P.points set.now)) fields.now)
+            (covered tree (kept (listed_by Q.points listed.entry) (P.points set.now)) fields.now)
             (changes_at self.old) (changes_at self.new)) }
     {
         let mut next = next_point(set, listed, 0);

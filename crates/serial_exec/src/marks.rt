@@ -104,7 +104,8 @@ pub(crate) struct Marks {
 impl Marks {
     /// Notes the marks of the changes at a place, if there are any.
     fn note(&mut self, alloc: Global, key: PlaceKey, changes: &[Change]) -> Result<(), AllocError>
-        ensures { OnOk result ((p : Place) → AreNoted key changes.now p (marks_at self.old p) (marks_at self.new p)) }
+        ensures { OnOk result ((p : Place)
+            → AreNoted key changes.now p (marks_at self.old p) (marks_at self.new p)) }
     {
         let marks = marks_of(alloc, changes)?;
         if !marks.is_empty() {

@@ -1,9 +1,9 @@
 //! The points of a set, or those of them that are listed.
 
 ghost use Rattle.std.specs.Prelude.{◌+◌};
-ghost use Rattle.std.specs.Option.{option_map};
 ghost use Rattle.point_set.specs.Least.{IsLeastFrom};
-ghost use Rattle.serial_exec.specs.Cutting.{on_points, common_points};
+ghost use Rattle.point_laws.specs.Cut.{kept};
+ghost use Rattle.serial_exec.specs.Listed.{listed_by, common_points};
 
 use point_set::PointSet;
 
@@ -32,7 +32,7 @@ pub(crate) fn next_point<P: PointSet, Q: PointSet>(
     listed: Option<&Q>,
     low: u64,
 ) -> Option<u64>
-    ensures { IsLeastFrom (on_points (option_map (λ q. Q.points q.now) listed.entry) (P.points set.now)) low result }
+    ensures { IsLeastFrom (kept (listed_by Q.points listed.entry) (P.points set.now)) low result }
 {
     match listed {
         Some(other) => common_from(set, other, low),
@@ -46,7 +46,7 @@ pub(crate) fn point_above<P: PointSet, Q: PointSet>(
     listed: Option<&Q>,
     point: u64,
 ) -> Option<u64>
-    ensures { IsLeastFrom (on_points (option_map (λ q. Q.points q.now) listed.entry) (P.points set.now))
+    ensures { IsLeastFrom (kept (listed_by Q.points listed.entry) (P.points set.now))
         (point + 1) result }
 {
     next_point(set, listed, point.checked_add(1)?)

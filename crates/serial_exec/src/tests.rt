@@ -2,14 +2,14 @@
 
 ghost use Rattle.std.specs.Prelude.{All};
 ghost use Rattle.spy_grammar.specs.Spelling.{Good};
-ghost use Rattle.log_faults.specs.Lines.{AreLines};
+ghost use Rattle.semantics.specs.Records.{AreLines};
 
 use super::*;
 use bumpalo::Bump;
-use log_decl::{are_log_records, declare};
+use log_decl::declare;
+use log_reading::{Input, input_in};
 use point_set::RunSet;
 use semantics::Place;
-use spy_grammar::{Lined, read_line};
 use std::alloc::Global;
 use std::process::Abort;
 use std::test::Fail;
@@ -184,34 +184,17 @@ const SHUFFLED_ROWS: [Row; 4] = [
     ),
 ];
 
-/// The records of a text, on their lines, and how many lines there are.
-fn records_of(alloc: Global, text: &[u8]) -> Result<(Vec<Lined>, u32), Fail> {
-    let mut records = Vec::new(alloc);
-    let mut lines = 0u32;
-    for part in text.split(|b| *b == b'\n') {
-        lines = lines.saturating_add(1);
-        match read_line(alloc, part) {
-            Ok(Some(rec)) => records.push(Lined { line: lines, rec })?,
-            Ok(None) => {}
-            Err(_) => return Err("a line that spells no record".into()),
-        }
-    }
-    // Nothing stands behind the last line feed.
-    Ok((records, lines.saturating_sub(1)))
-}
-
 /// The versions of the log of these records, at all points or at those that are listed. The log is let go.
 fn versions_in<'a>(
     alloc: Global,
     bump: &'a Bump,
-    records: &Vec<Lined>,
-    lines: u32,
+    input: &Input,
     listed: bool,
 ) -> Result<Versions, Fail>
-    requires good { All (λ l. Good l.rec) records.now.items }
-    requires lines { AreLines lines records.now.items }
+    requires good { All (λ l. Good l.rec) input.now.records.items }
+    requires lines { AreLines input.now.lines input.now.records.items }
 {
-    match declare::<RunSet<'a>>(alloc, bump, records, lines) {
+    match declare::<RunSet<'a>>(alloc, bump, &input.records, input.lines) {
         Ok(log) => {
             let versions = if listed {
                 Versions::build_on(alloc, &log, &[0, 5])
@@ -227,12 +210,11 @@ fn versions_in<'a>(
 
 /// The versions of the log that a text spells.
 fn versions_of(alloc: Global, text: &[u8], listed: bool) -> Result<Versions, Fail> {
-    let (records, lines) = records_of(alloc, text)?;
-    if !are_log_records(alloc, &records, lines)? {
-        return Err("records that make no log".into());
-    }
+    let Ok(input) = input_in(alloc, text.to_vec(alloc)?) else {
+        return Err("a text that spells no records".into());
+    };
     let bump = Bump::new(alloc);
-    versions_in(alloc, &bump, &records, lines, listed)
+    versions_in(alloc, &bump, &input, listed)
 }
 
 /// The value of a base to which this is added.

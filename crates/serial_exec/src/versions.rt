@@ -1,14 +1,13 @@
 //! The values of sequential execution.
 
 ghost use Rattle.std.specs.Prelude.{◌≡◌, ◌↔◌, ℕ, ◌<◌, true, length, IfOk, IsTrue};
-ghost use Rattle.std.specs.Option.{option_map};
 ghost use Rattle.std.specs.List.Sorted.{IsNonDecreasingBy, IsStrictlyIncreasing};
 ghost use Rattle.serial_exec.specs.Changes.{AreFirst, before};
 ghost use Rattle.semantics.specs.declared.places.Place.{Place};
 ghost use Rattle.semantics.specs.Points.{is_in};
 ghost use Rattle.semantics.specs.Sequential.{wanted};
-ghost use Rattle.point_laws.specs.Cut.{cut};
-ghost use Rattle.serial_exec.specs.Cutting.{cut_to};
+ghost use Rattle.point_laws.specs.Cut.{cut, cut_to};
+ghost use Rattle.serial_exec.specs.Listed.{listed_by};
 ghost use Rattle.serial_exec.specs.Histories as says;
 ghost use Rattle.serial_exec.specs.Kept.{AreVersionsOf, changes_before, changes_in, value_at};
 ghost use Rattle.serial_exec.specs.Marks.{AreMarksOf};
@@ -56,7 +55,7 @@ impl Versions {
         listed: Option<&Q>,
     ) -> Result<Versions, Memory>
         ensures { IfOk result (λ v. AreVersionsOf
-            (cut_to (option_map (λ q. Q.points q.now) listed.entry) log.now) v) }
+            (cut_to (listed_by Q.points listed.entry) log.now) v) }
     {
         let moments = Vec::from_slice(alloc, log.serial_places())?;
         let histories = histories_of(alloc, log, listed)?;

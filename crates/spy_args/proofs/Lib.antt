@@ -1,1 +1,1 @@
-pub mod Taken
+mod Taken

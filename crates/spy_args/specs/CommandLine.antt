@@ -42,8 +42,8 @@ values_in words = if is_taken words then values_of (rows_in words) else None
 abbrev pub texts_of : List (Bor Text) → List Text
 texts_of words = map (λ (w : Bor Text). w.now) words
 
-abbrev pub text_of : Option (Bor Text) → Option Text
-text_of word = option_map (λ (w : Bor Text). w.now) word
+abbrev pub word_text : Option (Bor Text) → Option Text
+word_text word = option_map (λ (w : Bor Text). w.now) word
 
 abbrev pub given_texts : Option (Bor Text × Option (Bor Text)) → Option (Text × Option Text)
-given_texts given = option_map (λ g. (g.0.now, text_of g.1)) given
+given_texts given = option_map (λ g. (g.0.now, word_text g.1)) given

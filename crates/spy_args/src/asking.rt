@@ -2,7 +2,7 @@
 
 ghost use Rattle.std.specs.Prelude.{◌≡◌, ◌∷◌, IfOk, IfSome, codes, map, string_bytes};
 ghost use Rattle.spy_args.specs.declared.request.Request.TheVariants.{Demo};
-ghost use Rattle.spy_args.specs.CommandLine.{text_of, texts_of};
+ghost use Rattle.spy_args.specs.CommandLine.{word_text, texts_of};
 ghost use Rattle.spy_args.specs.Asked.{IsSized, asked, plain_request, request_of, size_at};
 
 use crate::command_line::given;
@@ -49,7 +49,7 @@ fn plain(command: &str) -> Option<Request>
 
 /// What a command asks for, with a size or without.
 fn request(command: &str, size: Option<&str>) -> Option<Request>
-    ensures request { result ≡ request_of command.now (text_of size.entry) }
+    ensures request { result ≡ request_of command.now (word_text size.entry) }
     ensures sized { IfSome result IsSized }
 {
     match size {

@@ -34,7 +34,8 @@ pub fn given<'a>(
 fn matches_in<'a>(alloc: Global, words: &'a [&'a str]) -> Result<ArgMatches<'a>, Error>
     ensures taken { IfOk result (λ _. is_taken (texts_of words.now) ≡ true) }
     ensures rows { IfOk result (λ m. rows_of (found_of m) ≡ rows_in (texts_of words.now)) }
-    ensures refused { IfErr result (λ e. kind_of e ≢ ErrorKind.OutOfMemory → is_taken (texts_of words.now) ≡ false) }
+    ensures refused { IfErr result (λ e. kind_of e ≢ ErrorKind.OutOfMemory
+        → is_taken (texts_of words.now) ≡ false) }
 {
     let command = Arg::new(alloc, "command")
         .required(true)

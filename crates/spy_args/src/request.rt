@@ -5,7 +5,7 @@
 pub enum Request {
     /// Whether a log of an execution is right in every interleaving.
     Check,
-    /// Whether each two tasks that interfere are run in serial order.
+    /// Whether every two tasks that interfere are run in serial order.
     Ordered,
     /// The pairs of items that interfere.
     Deps,

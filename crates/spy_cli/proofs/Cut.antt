@@ -19,12 +19,12 @@ use Rattle.semantics.specs.TextFaults.{ends_within_line, is_too_long, line_fault
 use Rattle.semantics.specs.Faults.{at_line, declaration_fault, ended_fault, first_with, header_fault, is_end, is_header, log_fault, opens}
 use Rattle.spy_cli.specs.Answers.{IsAdmitted}
 use Rattle.spy_cli.specs.Cut.{IsCodeOfCut, IsCut, ShowsCut}
-use Rattle.spy_cli.proofs.Lines.{count_is, end_is, lines_are, lines_decide, parts_before}
-use Rattle.spy_cli.proofs.Numbered.{within}
+use Rattle.log_reading.proofs.lemmas.Lines.{count_is, end_is, lines_are, lines_decide, parts_before}
+use Rattle.log_reading.proofs.lemmas.Numbered.{within}
 
 -- ---- bytes, cut at each line feed
 
--- The lines of some bytes, and what stands behind the last line feed.
+-- The lines of some bytes, and what stands after the last line feed.
 record Cutting (bytes : List ℕ) : Type 0 where
   lines : List (List ℕ)
   rest : List ℕ
@@ -51,7 +51,7 @@ cutting : (bytes : List ℕ) → Cutting bytes
 cutting [] = record { lines = []; rest = []; single = tt; last = λ k d lt. absurd (omega (arith, lt)); joined = refl }
 cutting (b ∷ bytes) = cut_on b bytes (cutting bytes)
 
--- Where something stands behind the last line feed, that is told.
+-- Where something stands after the last line feed, that is reported.
 unended_shown : (lines : List (List ℕ)) (b : ℕ) (rest : List ℕ) → AllByRecursion IsLine lines → IsLine (b ∷ rest)
     → ends_within_line (with_ends lines ++ b ∷ rest) ≡ true
 unended_shown lines b rest single last =

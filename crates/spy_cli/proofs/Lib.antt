@@ -1,6 +1,4 @@
 mod Cut
-mod Lines
-mod Numbered
+mod Printed
 mod Reports
-mod Spelled
 mod Stencils

@@ -24,7 +24,7 @@ use Rattle.spy_args.specs.declared.request.Request.TheVariants as requests
 use Rattle.spy_cli.specs.declared.status.Status.{Status}
 use Rattle.spy_cli.specs.declared.status.Status.TheVariants as statuses
 use Rattle.spy_cli.specs.Answers.{status_of, Tells, IsJudged, IsDemo, IsAnswer, IsDecided, IsInput, IsAdmitted, Keeps, Ends}
-use Rattle.spy_cli.proofs.Lines.{long}
+use Rattle.log_reading.proofs.lemmas.Lines.{long}
 use Rattle.spy_cli.proofs.Stencils.{records_are}
 
 abbrev OneLog : Type 0
@@ -34,7 +34,7 @@ abbrev OneOutcome : Type 0
 OneOutcome = (command : Command) (bytes : List ℕ) (f g : Finding) → IsOutcome command bytes f → IsOutcome command bytes g → f ≡ g
 
 told_alike : (f g : Finding) (s t : Status) (x y : List ℕ) → f ≡ g → Tells f s x → Tells g t y → (s ≡ t) × (x ≡ y)
-told_alike f g s t x y same p q = (p.status_is ∙ ap status_of same ∙ sym q.status_is, p.text_is ∙ ap reports.text_of same ∙ sym q.text_is)
+told_alike f g s t x y same p q = (p.status_is ∙ ap status_of same ∙ sym q.status_is, p.text_is ∙ ap reports.report_text same ∙ sym q.text_is)
 
 judged_alike : OneOutcome → (command : Command) (bytes : List ℕ) (s t : Status) (x y : List ℕ) → IsJudged command bytes s x → IsJudged command bytes t y → (s ≡ t) × (x ≡ y)
 judged_alike one command bytes s t x y p q = told_alike p.finding q.finding s t x y (one command bytes p.finding q.finding p.outcome q.outcome) p.tells q.tells
@@ -140,7 +140,7 @@ deps_ends : (t : Tables) (f : Finding) → DepsFinds t f → status_of f ≡ sta
 deps_ends t (Deps list items before turn) h = refl
 deps_ends t _ h = absurd h
 
--- What is found in a log by `check` is told with a status that the log decides.
+-- What is found in a log by `check` is reported with a status that the log decides.
 check_decides : (lines : ℕ) (log : List Lined) (f : Finding) → IsFound commands.Check lines log f → IsDecided (status_of f)
 check_decides lines log (Faulty line code) found = tt
 check_decides lines log (Accepted tasks operations reads) found = tt
@@ -183,7 +183,7 @@ memory_ends (requests.Demo size) = inr refl
 told_long : (bytes : List ℕ) → 2 ^ 26 < length bytes → HasTextFault bytes (Faulty 0 TooLong)
 told_long bytes h = record { fault = record { line = 0; code = TooLong }; shown = long bytes h; finding_is = refl }
 
--- Its fault is told, whatever is asked. (`demo` has no input.)
+-- Its fault is reported, whatever is asked. (`demo` has no input.)
 pub too_long_told : (request : Request) (left : Option (List ℕ)) (bytes : List ℕ) (s : Status) (x : List ℕ) → IsInput request left bytes → 2 ^ 26 < length bytes
     → Tells (Faulty 0 TooLong) s x → IsAnswer request bytes s x
 too_long_told requests.Check left bytes s x input long tells = record { finding = Faulty 0 TooLong; outcome = inl (told_long bytes long); tells = tells }

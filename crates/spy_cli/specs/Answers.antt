@@ -1,7 +1,7 @@
 -- What a call answers: the status and the text that the words and the input decide.
 use Rattle.std.specs.Prelude.{◌≡◌, ℕ, ◌+◌, ◌-◌, ◌^◌, ◌<◌, ◌≤◌, Bool, true, false, List, [], length, Option, Some, None, ◌⊎◌}
 use Rattle.std.specs.Io.KnownBytes.{Appends, Consumes, IsAtEnd}
-use Rattle.spy_io.specs.Causes.{TakesExactly}
+use Rattle.spy_io.specs.Causes.{Rose, Takes, TakesExactly}
 use Rattle.spy_grammar.specs.declared.record.Lined.{Lined}
 use Rattle.findings.specs.declared.finding.Finding.{Finding}
 use Rattle.findings.specs.declared.finding.Finding.TheVariants as findings
@@ -32,6 +32,10 @@ abbrev pub IsInput : Request → Option (List ℕ) → List ℕ → Type 0
 IsInput (requests.Demo size) left bytes = bytes ≡ []
 IsInput _ left bytes = left ≡ Some bytes
 
+-- This is true of what a command reads, if that is known.
+abbrev pub OfInput : Request → Option (List ℕ) → (List ℕ → Type 0) → Type 0
+OfInput request left Holds = (bytes : List ℕ) → IsInput request left bytes → Holds bytes
+
 -- All that a source had left was taken, to its end: no more bytes than an input may have.
 pub record TakesAll (before after : Option (List ℕ)) : Type 0 where
   pub bytes : List ℕ
@@ -42,6 +46,10 @@ pub record TakesAll (before after : Option (List ℕ)) : Type 0 where
 -- A source was read: all that it had left was taken, or one byte more than an input may have.
 abbrev pub IsRead : Option (List ℕ) → Option (List ℕ) → Type 0
 IsRead before after = TakesAll before after ⊎ TakesExactly before after (2 ^ 26 + 1)
+
+-- A call of the source failed: its count rose, and no more bytes than an input may have were taken before.
+abbrev pub FailsToRead : Request → ℕ → ℕ → Option (List ℕ) → Option (List ℕ) → Type 0
+FailsToRead request before now left after = (takes_input (Some request) ≡ true) × Rose before now × Takes left after (2 ^ 26)
 
 -- ---- answers
 
@@ -58,7 +66,7 @@ status_of _ = statuses.Refused
 -- A finding is answered with its status and its text.
 pub record Tells (f : Finding) (status : Status) (text : List ℕ) : Type 0 where
   pub status_is : status ≡ status_of f
-  pub text_is : text ≡ reports.text_of f
+  pub text_is : text ≡ reports.report_text f
 
 -- What a command finds in the input is answered.
 pub record IsJudged (command : Command) (bytes : List ℕ) (status : Status) (text : List ℕ) : Type 0 where
@@ -86,7 +94,11 @@ IsAnswer requests.Deps bytes status text = IsJudged commands.Deps bytes status t
 IsAnswer requests.Print bytes status text = IsFaulty bytes status text ⊎ ((status ≡ statuses.Yes) × IsPrinted bytes text)
 IsAnswer (requests.Demo size) bytes status text = IsDemo size status text
 
--- What is answered to an input under `check`, told by long values.
+-- What is answered to an input that is printed.
+abbrev pub IsPrintAnswer : List ℕ → Status → List ℕ → Type 0
+IsPrintAnswer = IsAnswer requests.Print
+
+-- What is answered to an input under `check`, by long values.
 pub record IsAnswerLong (bytes : List ℕ) (status : Status) (text : List ℕ) : Type 0 where
   pub finding : Finding
   pub outcome : IsOutcomeLong bytes finding
@@ -105,7 +117,7 @@ pub record Answers (request : Request) (bytes : List ℕ) (status : Status) (bef
   pub answer : IsAnswer request bytes status text
   pub written : Appends before after text
 
--- The same, told by long values.
+-- The same, by long values.
 pub record AnswersLong (bytes : List ℕ) (status : Status) (before after : Option (List ℕ)) : Type 0 where
   pub text : List ℕ
   pub answer : IsAnswerLong bytes status text

@@ -1,4 +1,3 @@
 pub mod Statuses
 pub mod Answers
-pub mod Spelled
 pub mod Cut

@@ -1,37 +1,37 @@
 //! From what is asked, and a source, to a report.
 
-ghost use Rattle.std.specs.Prelude.{◌≡◌, ◌≢◌, ◌+◌, ◌<◌, ◌≤◌, ◌^◌, ℕ, List, Err, true, false, Some, length, IfOk, IsErrOf};
-ghost use Rattle.spy_io.specs.Causes.{Rose, Takes};
+ghost use Rattle.std.specs.Prelude.{◌≡◌, ◌≢◌, ◌+◌, ◌<◌, ◌≤◌, ◌^◌, Err, true, false, Some, length, IfOk, IsErrOf};
+ghost use Rattle.spy_io.specs.Causes.{Takes};
 ghost use Rattle.spy_args.specs.Asked.{IsSized};
-ghost use Rattle.spy_cli.specs.Answers.{IsAnswer, IsDecided, IsInput, IsRead, takes_input};
+ghost use Rattle.spy_cli.specs.Answers.{FailsToRead, IsAnswer, IsDecided, IsRead, OfInput, takes_input};
 
 use crate::demo::demo_report;
 use crate::judging::judged_report;
 use crate::memory::Memory;
 use crate::printing::printed_report;
 use crate::report::{Report, fault_report};
+use log_reading::MOST_BYTES;
 use semantics::Command;
 use spy_args::Request;
 use spy_grammar::Code;
 use spy_io::{ReadEnd, Source, read_all};
 use std::alloc::Global;
 
-/// How many bytes an input has at most.
-const MOST_BYTES: u64 = 67_108_864;
-
 /// The input of a request: all that the source has left, of which at most one byte more than an input may have is taken. `demo` has none, and does not call the source.
 fn input_of<S: Source>(alloc: Global, request: Request, source: &mut S) -> Result<Vec<u8>, ReadEnd>
-    ensures input { IfOk result (λ read. (bytes : List ℕ) → IsInput request (S.left source.old) bytes → bytes ≡ read.items) }
-    ensures few { IfOk result (λ read. length read.items ≤ 2 ^ 26) }
-    ensures too_long { IsErrOf result ReadEnd.TooLong → (bytes : List ℕ) → IsInput request (S.left source.old) bytes → 2 ^ 26 < length bytes }
-    ensures read { takes_input (Some request) ≡ true → result ≢ Err ReadEnd.ReadFault → result ≢ Err ReadEnd.Memory
+    ensures input { IfOk result (λ read. OfInput request (S.left source.old) (λ bytes. bytes ≡ read.items)) }
+    ensures too_long { IsErrOf result ReadEnd.TooLong
+        → OfInput request (S.left source.old) (λ bytes. 2 ^ 26 < length bytes) }
+    ensures read { takes_input (Some request) ≡ true → result ≢ Err ReadEnd.ReadFault
+        → result ≢ Err ReadEnd.Memory
         → IsRead (S.left source.old) (S.left source.new) }
     ensures not_called { takes_input (Some request) ≡ false → source.new ≡ source.old }
     ensures once { S.ended source.old ≡ 0 → S.ended source.new ≤ 1 }
     ensures calm { result ≢ Err ReadEnd.ReadFault → S.faults source.new ≡ S.faults source.old }
-    ensures fault { IsErrOf result ReadEnd.ReadFault → (takes_input (Some request) ≡ true)
-        × Rose (S.faults source.old) (S.faults source.new) × Takes (S.left source.old) (S.left source.new) (2 ^ 26) }
-    ensures memory { IsErrOf result ReadEnd.Memory → Takes (S.left source.old) (S.left source.new) (2 ^ 26 + 1) }
+    ensures fault { IsErrOf result ReadEnd.ReadFault
+        → FailsToRead request (S.faults source.old) (S.faults source.new) (S.left source.old) (S.left source.new) }
+    ensures memory { IsErrOf result ReadEnd.Memory
+        → Takes (S.left source.old) (S.left source.new) (2 ^ 26 + 1) }
 {
     match request {
         Request::Demo { .. } => Ok(Vec::new(alloc)),
@@ -41,8 +41,7 @@ fn input_of<S: Source>(alloc: Global, request: Request, source: &mut S) -> Resul
 
 /// The report on an input.
 fn report_on_bytes(alloc: Global, request: Request, bytes: Vec<u8>) -> Result<Report, Memory>
-    requires few { length bytes.items ≤ 2 ^ 26 }
-    requires sized { IsSized request }
+    requires { IsSized request }
     ensures { IfOk result (λ r. IsAnswer request bytes.items r.status r.text.items) }
 {
     match request {
@@ -79,15 +78,18 @@ pub(crate) fn report_on<S: Source>(
     source: &mut S,
 ) -> Result<Report, ReportEnd>
     requires sized { IsSized request }
-    ensures outcome { IfOk result (λ r. (bytes : List ℕ) → IsInput request (S.left source.old) bytes → IsAnswer request bytes r.status r.text.items) }
+    ensures outcome { IfOk result (λ r. OfInput request (S.left source.old)
+        (λ bytes. IsAnswer request bytes r.status r.text.items)) }
     ensures decided { IfOk result (λ r. IsDecided r.status) }
-    ensures read { takes_input (Some request) ≡ true → IfOk result (λ _. IsRead (S.left source.old) (S.left source.new)) }
+    ensures read { takes_input (Some request) ≡ true
+        → IfOk result (λ _. IsRead (S.left source.old) (S.left source.new)) }
     ensures not_called { takes_input (Some request) ≡ false → source.new ≡ source.old }
     ensures once { S.ended source.old ≡ 0 → S.ended source.new ≤ 1 }
     ensures calm { result ≢ Err ReportEnd.ReadFault → S.faults source.new ≡ S.faults source.old }
-    ensures fault { IsErrOf result ReportEnd.ReadFault → (takes_input (Some request) ≡ true)
-        × Rose (S.faults source.old) (S.faults source.new) × Takes (S.left source.old) (S.left source.new) (2 ^ 26) }
-    ensures memory { IsErrOf result ReportEnd.Memory → Takes (S.left source.old) (S.left source.new) (2 ^ 26 + 1) }
+    ensures fault { IsErrOf result ReportEnd.ReadFault
+        → FailsToRead request (S.faults source.old) (S.faults source.new) (S.left source.old) (S.left source.new) }
+    ensures memory { IsErrOf result ReportEnd.Memory
+        → Takes (S.left source.old) (S.left source.new) (2 ^ 26 + 1) }
 {
     let report = match input_of(alloc, request, source) {
         Ok(bytes) => report_on_bytes(alloc, request, bytes)?,

@@ -3,8 +3,7 @@
 ghost use Rattle.std.specs.Prelude.{◌≡◌, ◌≤◌, ◌^◌, All, length, IfOk, OnOk};
 ghost use Rattle.std.specs.List.{AllByRecursion};
 ghost use Rattle.spy_grammar.specs.Spelling.{Good};
-ghost use Rattle.semantics.specs.Records.{lined};
-ghost use Rattle.log_faults.specs.Lines.{AreLines};
+ghost use Rattle.semantics.specs.Records.{lined, AreLines};
 ghost use Rattle.spy_cli.specs.Answers.{IsDemo};
 
 use crate::judging::finding_in;

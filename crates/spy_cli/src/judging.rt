@@ -4,14 +4,13 @@ ghost use Rattle.std.specs.Prelude.{◌≤◌, ◌^◌, All, length, IfOk};
 ghost use Rattle.findings.specs.Texts as texts;
 ghost use Rattle.spy_grammar.specs.Spelling.{Good};
 ghost use Rattle.semantics.specs.Outcome.{IsFound, IsOutcome};
-ghost use Rattle.log_faults.specs.Lines.{AreLines};
+ghost use Rattle.semantics.specs.Records.{AreLines};
 ghost use Rattle.spy_cli.specs.Answers.{IsJudged};
 
-use crate::input::input_in;
 use crate::memory::Memory;
-use crate::reading::SpellEnd;
 use crate::report::{Report, report_of};
 use findings::Finding;
+use log_reading::{SpellEnd, input_in};
 use semantics::Command;
 use spy_grammar::Lined;
 use std::alloc::Global;
@@ -39,7 +38,6 @@ pub(crate) fn finding_in(
 
 /// What a command finds in an input: the fault of its bytes and lines, or what it finds in its records.
 fn finding_on(alloc: Global, command: Command, bytes: Vec<u8>) -> Result<Finding, Memory>
-    requires { length bytes.items ≤ 2 ^ 26 }
     ensures outcome { IfOk result (IsOutcome command bytes.items) }
     ensures text { IfOk result texts.Good }
 {
@@ -56,7 +54,6 @@ pub(crate) fn judged_report(
     command: Command,
     bytes: Vec<u8>,
 ) -> Result<Report, Memory>
-    requires { length bytes.items ≤ 2 ^ 26 }
     ensures { IfOk result (λ r. IsJudged command bytes.items r.status r.text.items) }
 {
     let finding = finding_on(alloc, command, bytes)?;

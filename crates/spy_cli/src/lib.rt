@@ -3,17 +3,15 @@
 
 mod answering;
 mod demo;
-mod input;
 mod judging;
 mod memory;
 mod printing;
-mod reading;
 mod report;
 mod report_laws;
 mod status;
 mod top;
 
-pub use reading::{SpellEnd, read_records};
+pub use log_reading::{SpellEnd, read_records};
 pub use report_laws::{answers_in_long, cut_logs_show_it, one_report, printed_again};
 pub use status::Status;
 pub use top::run;

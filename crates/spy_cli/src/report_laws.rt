@@ -20,7 +20,8 @@ use outcome_laws::{one_finding, one_outcome};
 /// One thing is answered to an input.
 pub fn one_report()
     ensures { (request : Request) (bytes : List ℕ) (status other : Status) (text words : List ℕ)
-        → IsSized request → IsAnswer request bytes status text → IsAnswer request bytes other words → (status ≡ other) × (text ≡ words) }
+        → IsSized request → IsAnswer request bytes status text → IsAnswer request bytes other words
+        → (status ≡ other) × (text ≡ words) }
 {
     one_outcome();
     one_finding();
@@ -28,9 +29,10 @@ pub fn one_report()
     stencil_logs_are_good();
 }
 
-/// What is answered to an input under `check` is told by long values as it is by values.
+/// What is answered to an input under `check` is the same by long values as by values.
 pub fn answers_in_long()
-    ensures { (bytes : List ℕ) (status : Status) (text : List ℕ) → IsAnswer Request.Check bytes status text ↔ IsAnswerLong bytes status text }
+    ensures { (bytes : List ℕ) (status : Status) (text : List ℕ)
+        → IsAnswer Request.Check bytes status text ↔ IsAnswerLong bytes status text }
 {
     check_finds_the_same_in_long();
 }
@@ -38,8 +40,9 @@ pub fn answers_in_long()
 /// What `print` writes, it writes again unchanged; and each command finds in it what it finds in the records of the input, counted from line 1.
 pub fn printed_again()
     ensures print { (bytes text : List ℕ) → IsPrinted bytes text → IsPrinted text text }
-    ensures found { (bytes text : List ℕ) → IsPrinted bytes text → (log : List Lined) → Reads bytes log → (command : Command)
-        → (f : Finding) → IsOutcome command text f ↔ IsFound command (line_count text) (lined (records_of log)) f }
+    ensures found { (bytes text : List ℕ) → IsPrinted bytes text → (log : List Lined) → Reads bytes log
+        → (command : Command) (f : Finding) → IsOutcome command text f
+        ↔ IsFound command (line_count text) (lined (records_of log)) f }
 {
     one_log();
     printed_logs_are_read();
@@ -47,5 +50,6 @@ pub fn printed_again()
 
 /// The front of a log that keeps its rules, cut off before the line of `end` does, shows that: its fault is `newline`, `header` or `ended`.
 pub fn cut_logs_show_it()
-    ensures { (command : Command) (bytes front : List ℕ) (keeps : IsAdmitted command bytes) → IsCut bytes keeps.log front → ShowsCut command front }
+    ensures { (command : Command) (bytes front : List ℕ) (keeps : IsAdmitted command bytes)
+        → IsCut bytes keeps.log front → ShowsCut command front }
 {}

@@ -23,7 +23,8 @@ fn written<K: Sink>(sink: &mut K, text: &[u8], status: Status) -> Status
     requires { status ≢ Status.WriteFault }
     ensures done { result ≢ Status.WriteFault → (result ≡ status)
         × Appends (K.held sink.old) (K.held sink.new) text.now × (K.faults sink.new ≡ K.faults sink.old) }
-    ensures fault { result ≡ Status.WriteFault → Rose (K.faults sink.old) (K.faults sink.new) × Grows (K.held sink.old) (K.held sink.new) text.now }
+    ensures fault { result ≡ Status.WriteFault → Rose (K.faults sink.old) (K.faults sink.new)
+        × Grows (K.held sink.old) (K.held sink.new) text.now }
 {
     match write_all(sink, text) {
         Ok(()) => status,
@@ -33,7 +34,7 @@ fn written<K: Sink>(sink: &mut K, text: &[u8], status: Status) -> Status
 
 /// Runs the command that the words ask for over the bytes of the source, and writes its report to the sink.
 /// The words do not hold the program's name. The commands are `check`, `ordered`, `deps` and `print`, and `demo --size N`, which reads nothing: it checks the stencil log of N pieces.
-#[tactic(auto, unfolding(findings::specs::Texts::text_of))]
+#[tactic(auto, unfolding(findings::specs::Texts::report_text))]
 pub fn run<S: Source, K: Sink>(
     alloc: Global,
     words: &Vec<String>,
@@ -42,57 +43,68 @@ pub fn run<S: Source, K: Sink>(
 ) -> Status
     // Words that ask for no command.
     ensures usage { result ≡ Status.Usage → (asked (map string_bytes words.now.items) ≡ None)
-        × Appends (K.held sink.old) (K.held sink.new) (reports.text_of findings.Usage) }
+        × Appends (K.held sink.old) (K.held sink.new) (reports.report_text findings.Usage) }
     ensures not_taken { asked (map string_bytes words.now.items) ≡ None
         → (result ≡ Status.Usage) ⊎ (result ≡ Status.WriteFault) ⊎ (result ≡ Status.Memory) }
 
     // What the input decides: it is the answer, and no other.
-    ensures answer { (request : Request) → asked (map string_bytes words.now.items) ≡ Some request → IsDecided result
-        → (bytes : List ℕ) → IsInput request (S.left source.old) bytes
+    ensures answer { (request : Request) → asked (map string_bytes words.now.items) ≡ Some request
+        → IsDecided result → (bytes : List ℕ) → IsInput request (S.left source.old) bytes
         → Answers request bytes result (K.held sink.old) (K.held sink.new) }
     ensures exact { (request : Request) → asked (map string_bytes words.now.items) ≡ Some request
-        → (bytes : List ℕ) (status : Status) (text : List ℕ) → IsInput request (S.left source.old) bytes → IsAnswer request bytes status text
+        → (bytes : List ℕ) (status : Status) (text : List ℕ)
+        → IsInput request (S.left source.old) bytes → IsAnswer request bytes status text
         → IsDecided result → (result ≡ status) × Appends (K.held sink.old) (K.held sink.new) text }
 
     // Under `check` the same is true of long values, which carry what was read.
     ensures answer_long { asked (map string_bytes words.now.items) ≡ Some Request.Check → IsDecided result
-        → (bytes : List ℕ) → S.left source.old ≡ Some bytes → AnswersLong bytes result (K.held sink.old) (K.held sink.new) }
+        → (bytes : List ℕ) → S.left source.old ≡ Some bytes
+        → AnswersLong bytes result (K.held sink.old) (K.held sink.new) }
     ensures exact_long { asked (map string_bytes words.now.items) ≡ Some Request.Check
-        → (bytes : List ℕ) (status : Status) (text : List ℕ) → S.left source.old ≡ Some bytes → IsAnswerLong bytes status text
+        → (bytes : List ℕ) (status : Status) (text : List ℕ)
+        → S.left source.old ≡ Some bytes → IsAnswerLong bytes status text
         → IsDecided result → (result ≡ status) × Appends (K.held sink.old) (K.held sink.new) text }
 
     // An input that keeps each rule is answered, if no device fails and memory suffices.
     ensures complete { (request : Request) → asked (map string_bytes words.now.items) ≡ Some request
         → (bytes : List ℕ) → IsInput request (S.left source.old) bytes → Keeps request bytes
-        → IsInputCalm request (S.faults source.old) (S.faults source.new) → IsCalm (K.faults sink.old) (K.faults sink.new)
-        → Ends request result }
+        → IsInputCalm request (S.faults source.old) (S.faults source.new)
+        → IsCalm (K.faults sink.old) (K.faults sink.new) → Ends request result }
 
     // What is taken of the source: where nothing is read it is not called; else all, or one byte more than an input may
     // have, unless a call fails or memory runs out before. No call follows one that gave the end or failed.
-    ensures not_called { takes_input (asked (map string_bytes words.now.items)) ≡ false → source.new ≡ source.old }
+    ensures not_called { takes_input (asked (map string_bytes words.now.items)) ≡ false
+        → source.new ≡ source.old }
     ensures read { takes_input (asked (map string_bytes words.now.items)) ≡ true → IsDecided result
         → IsRead (S.left source.old) (S.left source.new) }
-    ensures read_unwritten { takes_input (asked (map string_bytes words.now.items)) ≡ true → result ≡ Status.WriteFault
+    ensures read_unwritten { takes_input (asked (map string_bytes words.now.items)) ≡ true
+        → result ≡ Status.WriteFault
         → IsRead (S.left source.old) (S.left source.new)
-        ⊎ (Rose (S.faults source.old) (S.faults source.new) × Takes (S.left source.old) (S.left source.new) (2 ^ 26)) }
+        ⊎ (Rose (S.faults source.old) (S.faults source.new)
+        × Takes (S.left source.old) (S.left source.new) (2 ^ 26)) }
     ensures once { S.ended source.old ≡ 0 → S.ended source.new ≤ 1 }
     ensures taken { result ≡ Status.Memory → Takes (S.left source.old) (S.left source.new) (2 ^ 26 + 1) }
 
     // A device that failed says so by its count, and no other answer comes from a failure.
-    ensures calm { IsDecided result ⊎ (result ≡ Status.Usage) → (S.faults source.new ≡ S.faults source.old) × (K.faults sink.new ≡ K.faults sink.old) }
-    ensures read_fault { result ≡ Status.ReadFault → (takes_input (asked (map string_bytes words.now.items)) ≡ true)
-        × Rose (S.faults source.old) (S.faults source.new) × Takes (S.left source.old) (S.left source.new) (2 ^ 26) }
-    ensures told { result ≡ Status.ReadFault → (K.faults sink.new ≡ K.faults sink.old)
-        × Appends (K.held sink.old) (K.held sink.new) (reports.text_of findings.CannotRead) }
+    ensures calm { IsDecided result ⊎ (result ≡ Status.Usage)
+        → (S.faults source.new ≡ S.faults source.old) × (K.faults sink.new ≡ K.faults sink.old) }
+    ensures read_fault { result ≡ Status.ReadFault
+        → (takes_input (asked (map string_bytes words.now.items)) ≡ true)
+        × Rose (S.faults source.old) (S.faults source.new)
+        × Takes (S.left source.old) (S.left source.new) (2 ^ 26) }
+    ensures said { result ≡ Status.ReadFault → (K.faults sink.new ≡ K.faults sink.old)
+        × Appends (K.held sink.old) (K.held sink.new) (reports.report_text findings.CannotRead) }
     ensures write_fault { result ≡ Status.WriteFault → Rose (K.faults sink.old) (K.faults sink.new) }
 
     // After a failed write the sink has got a part of the report, and nothing else.
     ensures part_of_usage { result ≡ Status.WriteFault → asked (map string_bytes words.now.items) ≡ None
-        → Grows (K.held sink.old) (K.held sink.new) (reports.text_of findings.Usage) }
+        → Grows (K.held sink.old) (K.held sink.new) (reports.report_text findings.Usage) }
     ensures part { (request : Request) → asked (map string_bytes words.now.items) ≡ Some request
-        → (bytes : List ℕ) (status : Status) (text : List ℕ) → IsInput request (S.left source.old) bytes → IsAnswer request bytes status text
+        → (bytes : List ℕ) (status : Status) (text : List ℕ)
+        → IsInput request (S.left source.old) bytes → IsAnswer request bytes status text
         → result ≡ Status.WriteFault → Grows (K.held sink.old) (K.held sink.new) text
-        ⊎ (Rose (S.faults source.old) (S.faults source.new) × Grows (K.held sink.old) (K.held sink.new) (reports.text_of findings.CannotRead)) }
+        ⊎ (Rose (S.faults source.old) (S.faults source.new)
+        × Grows (K.held sink.old) (K.held sink.new) (reports.report_text findings.CannotRead)) }
 
     // Without memory nothing is written, and no device failed.
     ensures memory { result ≡ Status.Memory → sink.new ≡ sink.old }

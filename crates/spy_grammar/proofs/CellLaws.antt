@@ -3,9 +3,9 @@ use Rattle.std.proofs.Common.{◌≡◌, ℕ, List, [], ◌∷◌, ◌++◌, ◌
 use Rattle.std.specs.Prelude.{decimal}
 use Rattle.std.proofs.lemmas.List.{take_all}
 use Rattle.spy_words.specs.Classes.{follow}
-use Rattle.spy_words.proofs.Joins.{join_follow}
-use Rattle.spy_grammar.specs.declared.cells.Cell.{Cell}
-use Rattle.spy_grammar.specs.declared.cells.Cell.TheVariants as cells
+use Rattle.spy_words.proofs.lemmas.Joins.{join_follow}
+use Rattle.spy_grammar.specs.declared.cells.WordCell.{WordCell}
+use Rattle.spy_grammar.specs.declared.cells.WordCell.TheVariants as cells
 use Rattle.spy_grammar.specs.declared.kinds.RecordKind.{RecordKind}
 use Rattle.spy_grammar.specs.declared.record.Record.{Record}
 use Rattle.spy_grammar.specs.Rows.{Row, RowMeaning, Makes, entry, applied, parts_of}
@@ -30,12 +30,12 @@ follow-append : (c : ℕ) (ws vs : List (List ℕ)) → follow c (ws ++ vs) ≡ 
 follow-append c [] vs = refl
 follow-append c (w ∷ ws) vs = ap (λ (x : List ℕ). c ∷ w ++ x) (follow-append c ws vs) ∙ ap (λ (x : List ℕ). c ∷ x) (sym (append_assoc w (follow c ws) (follow c vs)))
 
-words-cell : (cell : Cell) (is : List Item) → words_in (with_cell cell is) ≡ words_in (with_cell cell []) ++ words_in is
+words-cell : (cell : WordCell) (is : List Item) → words_in (with_cell cell is) ≡ words_in (with_cell cell []) ++ words_in is
 words-cell (cells.Ids ns) is = ap (λ ws. ws ++ words_in is) (sym (append-nil (map decimal ns.now)))
 words-cell cell is = refl
 
 -- the words of one cell more were written
-pub cell_written : (before out all : List ℕ) (cs : List Cell) (d : Cell) → 1 ≤ length cs → before ++ follow 32 (words_in (items_in cs)) ≡ all → out ≡ before ++ follow 32 (words_in (with_cell (get_or cs 0 d) [])) → out ++ follow 32 (words_in (items_in (take (length cs - 1) (drop 1 cs)))) ≡ all
+pub cell_written : (before out all : List ℕ) (cs : List WordCell) (d : WordCell) → 1 ≤ length cs → before ++ follow 32 (words_in (items_in cs)) ≡ all → out ≡ before ++ follow 32 (words_in (with_cell (get_or cs 0 d) [])) → out ++ follow 32 (words_in (items_in (take (length cs - 1) (drop 1 cs)))) ≡ all
 cell_written before out all [] d some whole is = absurd (omega arith)
 cell_written before out all (c ∷ cs) d some whole is =
     let rest : take (length (c ∷ cs) - 1) cs ≡ cs = take_all _ cs (omega arith) in

@@ -1,2 +1,2 @@
-pub mod CellLaws
-pub mod RowLaws
+mod CellLaws
+mod RowLaws

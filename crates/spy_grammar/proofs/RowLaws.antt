@@ -8,8 +8,8 @@ use Rattle.spy_words.specs.declared.fault.LineFault.TheVariants.{Word, Form}
 use Rattle.spy_words.specs.Classes.{Class, points, Meaning, about, IsNumberFrom}
 use Rattle.spy_words.specs.Faults.{tested, kept}
 use Rattle.spy_words.specs.Reading.{number_from, parts, each, has_some, list_at, span_from, operator_at, meaning_at, ids_at}
-use Rattle.spy_words.proofs.Joins.{Above, all_lower, above_all, above_join, parts_join, join_parts}
-use Rattle.spy_words.proofs.ClassLaws.{tested_ok, kept_ok, unmet, some_tested, number_agrees, each_takes, each_again, text_takes, class_takes, class_again}
+use Rattle.spy_words.proofs.lemmas.Joins.{Above, all_lower, above_all, above_join, parts_join, join_parts}
+use Rattle.spy_words.proofs.lemmas.ClassLaws.{tested_ok, kept_ok, unmet, some_tested, number_agrees, each_takes, each_again, text_takes, class_takes, class_again}
 use Rattle.spy_grammar.specs.declared.kinds.TheConstants.{KINDS}
 use Rattle.spy_grammar.specs.declared.kinds.RecordKind.{RecordKind}
 use Rattle.spy_grammar.specs.declared.kinds.RecordKind.TheVariants as kinds

@@ -1,13 +1,13 @@
 -- A record as its kind and six cells, the words after the first from the left: so that one table serves all that goes through records.
 use Rattle.std.specs.Prelude.{List, [], ◌∷◌}
 use Rattle.spy_words.specs.Classes.{any_number, id, points, fields, waits, split, access, coherence, layout}
-use Rattle.spy_grammar.specs.declared.cells.Cell.{Cell}
-use Rattle.spy_grammar.specs.declared.cells.Cell.TheVariants as cells
+use Rattle.spy_grammar.specs.declared.cells.WordCell.{WordCell}
+use Rattle.spy_grammar.specs.declared.cells.WordCell.TheVariants as cells
 use Rattle.spy_grammar.specs.Rows.{Parts, entry}
 use Rattle.spy_grammar.specs.Spelling.{Item, word, ids, row_items}
 
 -- What a cell holds, before further items.
-abbrev pub with_cell : Cell → List Item → List Item
+abbrev pub with_cell : WordCell → List Item → List Item
 with_cell cells.No is = is
 with_cell (cells.Number n) is = word any_number n ∷ is
 with_cell (cells.Id n) is = word id n ∷ is
@@ -21,7 +21,7 @@ with_cell (cells.Layout k) is = word layout k ∷ is
 with_cell (cells.Ids ns) is = ids ns.now ∷ is
 
 -- What cells hold.
-abbrev pub items_in : List Cell → List Item
+abbrev pub items_in : List WordCell → List Item
 items_in [] = []
 items_in (c ∷ cs) = with_cell c (items_in cs)
 

@@ -40,7 +40,7 @@ read_row (c & r) s = (((read_word c s).0, (read_row r (read_word c s).1).0), (re
 unfoldable pub read_record : Entry → Left → Record × Left
 read_record e s = (applied e.row e.record_of (read_row e.row s).0, (read_row e.row s).1)
 
--- The fault that is told at the end: words that are left are one of form.
+-- The fault that is reported at the end: words that are left are one of form.
 abbrev pub met_at_end : List (List ℕ) → Option LineFault → Option LineFault
 met_at_end [] met = met
 met_at_end (w ∷ ws) met = met_with met Form

@@ -26,7 +26,7 @@ words_in [] = []
 words_in (word c m ∷ is) = word_of c m ∷ words_in is
 words_in (ids ns ∷ is) = map decimal ns ++ words_in is
 
--- A record's line, without its line feed: its words, with one space between each two.
+-- A record's line, without its line feed: its words, with one space between every two.
 unfoldable pub spelling : Record → List ℕ
 spelling r = join_with_byte 32 ((entry (parts_of r).0).name ∷ words_in (items_of r))
 

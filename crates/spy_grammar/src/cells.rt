@@ -4,14 +4,14 @@ ghost use Rattle.std.specs.Prelude.{◌≡◌};
 ghost use Rattle.spy_grammar.specs.Cells.{items_in, parts_items};
 ghost use Rattle.spy_grammar.specs.Rows.{parts_of};
 
-use crate::cells::Cell::*;
+use crate::cells::WordCell::*;
 use crate::kinds::RecordKind;
 use crate::record::Record;
 use spy_words::{InstKind, Nums, PrivWord, Set};
 
 /// A word of a record by its class, no word, or all the ids of a record.
 #[derive(Clone, Copy, Debug)]
-pub enum Cell<'a> {
+pub enum WordCell<'a> {
     No,
     Number(u32),
     /// An id or an event.
@@ -29,7 +29,7 @@ pub enum Cell<'a> {
 /// The kind of a record, and the words after the first, from the left.
 #[tactic(auto, using(crate::proofs::CellLaws::parts_told))]
 #[rattlefmt::skip]
-pub fn cells_of(rec: &Record) -> (RecordKind, [Cell<'_>; 6])
+pub fn cells_of(rec: &Record) -> (RecordKind, [WordCell<'_>; 6])
     ensures kind { result.0 ≡ (parts_of rec.now).0 }
     ensures items { items_in result.1 ≡ parts_items (parts_of rec.now) }
 {

@@ -72,14 +72,15 @@ fn any_line(alloc: Global, line: &[u8]) -> Read<Option<Record>>
 /// What a line, without its line feed, says: nothing if it is blank or a comment.
 #[tactic(auto, using(crate::proofs::RowLaws::line_blank, crate::proofs::RowLaws::line_spelled, crate::proofs::RowLaws::line_good, crate::proofs::RowLaws::line_again))]
 pub fn read_line(alloc: Global, line: &[u8]) -> Result<Option<Record>, LineFault>
-    // Of several faults the one that is told is the one that the definitions tell.
+    // Of several faults the one that is reported is the one that the definitions report.
     ensures exact { Gives (λ o. o) result (line_at line.now) }
     // A line is passed over where it is empty or begins with `#`, and nowhere else.
     ensures blank { is_passed_over line.now ≡ true → result ≡ Ok None }
     ensures no_more { result ≡ Ok None → is_passed_over line.now ≡ true }
     // A record that is read has this spelling, and its spelling is read as that record, unless memory runs out.
     ensures found { (r : Record) → result ≡ Ok (Some r) → (line.now ≡ spelling r) × Good r }
-    ensures only { (r : Record) → Good r → line.now ≡ spelling r → (result ≡ Ok (Some r)) ⊎ (result ≡ Err Memory) }
+    ensures only { (r : Record) → Good r → line.now ≡ spelling r → (result ≡ Ok (Some r))
+        ⊎ (result ≡ Err Memory) }
 {
     any_line(alloc, line)?
 }

@@ -7,7 +7,8 @@ ghost use Rattle.spy_grammar.specs.Reading.{Left, read_word, read_ids, ended, ne
 
 use spy_words::{
     InstKind, LineFault, Nums, Pieces, PrivWord, Set, access_of, ascending, at_least_one,
-    coherence_text, each_of, either, keep, layout_of, list_of, meet, number_of, split_text, told,
+    coherence_text, each_of, either, keep, layout_of, list_of, meet, number_of, outcome_of,
+    split_text,
 };
 use std::alloc::{AllocError, Global};
 use std::marker::Model;
@@ -137,6 +138,6 @@ impl<'a> RowReader<'a> {
         if self.words.next().is_some() {
             meet(&mut self.met, LineFault::Form);
         }
-        told(self.met, value)
+        outcome_of(self.met, value)
     }
 }

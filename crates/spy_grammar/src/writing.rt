@@ -6,12 +6,12 @@ ghost use Rattle.spy_words.specs.Classes.{follow};
 ghost use Rattle.spy_grammar.specs.Cells.{items_in, with_cell};
 ghost use Rattle.spy_grammar.specs.Spelling.{Good, IsGoodItem, spelling, words_in};
 
-use crate::cells::Cell::*;
-use crate::cells::{Cell, cells_of};
+use crate::cells::WordCell::*;
+use crate::cells::{WordCell, cells_of};
 use crate::kinds::name_text;
 use crate::record::Record;
 use spy_words::{
-    InstKind, Part, PrivWord, are_fit, ascend, coherence_text, push_access, push_after,
+    InstKind, ListPart, PrivWord, are_fit, ascend, coherence_text, push_access, push_after,
     push_layout, push_list, push_u64, split_text,
 };
 use std::alloc::{AllocError, Global};
@@ -28,7 +28,7 @@ impl From<AllocError> for Memory {
     }
 }
 
-fn is_good(cell: &Cell<'_>) -> bool
+fn is_good(cell: &WordCell<'_>) -> bool
     ensures { IsTrue result ↔ AllByRecursion IsGoodItem (with_cell cell.now []) }
 {
     match *cell {
@@ -55,7 +55,7 @@ pub fn good(rec: &Record) -> bool
     all_good(&cells)
 }
 
-fn all_good(cells: &[Cell<'_>]) -> bool
+fn all_good(cells: &[WordCell<'_>]) -> bool
     ensures { IsTrue result ↔ AllByRecursion IsGoodItem (items_in cells.now) }
 {
     let mut rest = cells;
@@ -68,7 +68,7 @@ fn all_good(cells: &[Cell<'_>]) -> bool
     true
 }
 
-fn push_word(out: &mut Vec<u8>, cell: &Cell<'_>) -> Result<(), AllocError>
+fn push_word(out: &mut Vec<u8>, cell: &WordCell<'_>) -> Result<(), AllocError>
     ensures { OnOk result (out.new.items ≡ out.old.items ++ follow 32 (words_in (with_cell cell.now []))) }
 {
     match *cell {
@@ -88,7 +88,7 @@ fn push_word(out: &mut Vec<u8>, cell: &Cell<'_>) -> Result<(), AllocError>
     }
 }
 
-fn push_words(out: &mut Vec<u8>, cells: &[Cell<'_>]) -> Result<(), AllocError>
+fn push_words(out: &mut Vec<u8>, cells: &[WordCell<'_>]) -> Result<(), AllocError>
     ensures { OnOk result (out.new.items ≡ out.old.items ++ follow 32 (words_in (items_in cells.now))) }
 {
     let mut rest = cells;
@@ -99,17 +99,25 @@ fn push_words(out: &mut Vec<u8>, cells: &[Cell<'_>]) -> Result<(), AllocError>
     Ok(())
 }
 
-/// The record's line, with its line feed.
-#[tactic(auto, using(crate::proofs::CellLaws::spelled))]
-pub fn write_record(alloc: Global, rec: &Record) -> Result<Vec<u8>, Memory>
+/// Adds the record's line, with its line feed.
+#[tactic(auto, using(crate::proofs::CellLaws::spelled, std::proofs::Common::append_assoc))]
+pub fn push_record(out: &mut Vec<u8>, rec: &Record) -> Result<(), AllocError>
     // Another record's line would not be read again.
+    requires { Good rec.now }
+    ensures { OnOk result (out.new.items ≡ out.old.items ++ spelling rec.now ++ 10 ∷ []) }
+{
+    let (kind, cells) = cells_of(rec);
+    out.extend_from_slice(name_text(kind))?;
+    push_words(out, &cells)?;
+    out.extend_from_slice(b"\n")
+}
+
+/// The record's line, with its line feed.
+pub fn write_record(alloc: Global, rec: &Record) -> Result<Vec<u8>, Memory>
     requires { Good rec.now }
     ensures { IfOk result (λ v. v.items ≡ spelling rec.now ++ 10 ∷ []) }
 {
     let mut out = Vec::new(alloc);
-    let (kind, cells) = cells_of(rec);
-    out.extend_from_slice(name_text(kind))?;
-    push_words(&mut out, &cells)?;
-    out.extend_from_slice(b"\n")?;
+    push_record(&mut out, rec)?;
     Ok(out)
 }

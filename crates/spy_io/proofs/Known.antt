@@ -24,7 +24,7 @@ grows_more old mid new bytes rest after n (w, is) more left = (
   refl,
 )
 
--- the first n bytes after `at` stand in front of what is kept, and the rest comes behind them
+-- the first n bytes after `at` stand in front of what is kept, and the rest comes after them
 pub first_given : (at n : ℕ) (bytes given kept : List ℕ) → given ≡ take n (drop at bytes) → length given ≡ n
     → drop at bytes ≡ take n (given ++ kept) ++ drop (at + n) bytes
 first_given at n bytes given kept is many =

@@ -37,9 +37,12 @@ pub fn read_all<S: Source>(alloc: Global, source: &mut S, limit: u64) -> Result<
     ensures once { S.ended source.old ≡ 0 → S.ended source.new ≤ 1 }
 
     // How many bytes an error took.
-    ensures too_long { IsErrOf result ReadEnd.TooLong → TakesExactly (S.left source.old) (S.left source.new) (limit + 1) }
-    ensures fault_takes { IsErrOf result ReadEnd.ReadFault → Takes (S.left source.old) (S.left source.new) limit }
-    ensures memory_takes { IsErrOf result ReadEnd.Memory → Takes (S.left source.old) (S.left source.new) (limit + 1) }
+    ensures too_long { IsErrOf result ReadEnd.TooLong
+        → TakesExactly (S.left source.old) (S.left source.new) (limit + 1) }
+    ensures fault_takes { IsErrOf result ReadEnd.ReadFault
+        → Takes (S.left source.old) (S.left source.new) limit }
+    ensures memory_takes { IsErrOf result ReadEnd.Memory
+        → Takes (S.left source.old) (S.left source.new) (limit + 1) }
 
     // The source failed where the answer says so, and nowhere else.
     ensures later { S.faults source.old ≤ S.faults source.new }

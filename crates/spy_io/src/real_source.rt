@@ -36,7 +36,7 @@ impl<R: Read> Source for RealSource<R> {
     ghost ended = { λ s. s.ended };
 
     fn take(&mut self, into: &mut [u8]) -> Result<usize, Failed> {
-        // std does not say that a read leaves the bytes behind its count, so it goes to a buffer of its own first.
+        // std does not say that a read leaves the bytes after its count, so it goes to a buffer of its own first.
         let mut piece = [0u8; 4096];
         let room = into.len().min(4096);
         match self.inner.read(&mut piece[..room]) {

@@ -1,2 +1,2 @@
-pub mod Cuts
-pub mod OneList
+mod Cuts
+mod OneList

@@ -31,7 +31,7 @@ pub(crate) fn count_feeds(bytes: &[u8]) -> usize
 }
 
 impl LineList {
-    /// The lines of a text, which ends by a line feed: bytes behind the last one are of no line.
+    /// The lines of a text, which ends by a line feed: bytes after the last one are of no line.
     pub(crate) fn from_bytes(bytes: Vec<u8>) -> LineList
         requires { length bytes.items ≤ 2 ^ 26 }
         ensures { result ≡ lines_of bytes.items }

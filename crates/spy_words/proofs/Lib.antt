@@ -1,3 +1,2 @@
-pub mod Joins
-pub mod Numbers
-pub mod ClassLaws
+pub mod lemmas
+mod Numbers

@@ -14,7 +14,7 @@ use Rattle.std.proofs.lemmas.Str.{digit_value_digit}
 use Rattle.std.proofs.lemmas.Str.Parse.{IsNumeralModel, numerals_by_value}
 use Rattle.spy_words.specs.Classes.{IsNumberFrom}
 use Rattle.spy_words.specs.Reading.{is_digits, has_leading_zero, number_from}
-use Rattle.spy_words.proofs.Joins.{Above}
+use Rattle.spy_words.proofs.lemmas.Joins.{Above}
 
 -- ---- digits
 

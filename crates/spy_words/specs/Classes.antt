@@ -36,7 +36,7 @@ follow c (w ∷ ws) = c ∷ w ++ follow c ws
 abbrev pub span_word : ℕ × ℕ → List ℕ
 span_word p = if p.0 == p.1 then decimal p.0 else decimal p.0 ++ 45 ∷ decimal p.1
 
--- A list: its parts, with one comma between each two, or a dash for none.
+-- A list: its parts, with one comma between every two, or a dash for none.
 abbrev pub list_word : {A : Type 0} → (A → List ℕ) → List A → List ℕ
 list_word spell [] = 45 ∷ []
 list_word spell (x ∷ xs) = join_with_byte 44 (map spell (x ∷ xs))

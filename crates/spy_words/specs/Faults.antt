@@ -1,9 +1,9 @@
--- Which fault is told of several, and what it is to give what reading gives.
+-- Which fault is reported of several, and what it is to give what reading gives.
 use Rattle.std.specs.Prelude.{◌≡◌, ℕ, Bool, List, [], ◌∷◌, ◌++◌, Option, Some, None, Result, Ok, Err, nat_lt, if◌then◌else◌}
 use Rattle.spy_words.specs.declared.fault.LineFault.{LineFault}
 use Rattle.spy_words.specs.declared.fault.LineFault.TheVariants.{Word, Form, Number, Order, Memory}
 
--- How early a fault is told.
+-- How early a fault is reported.
 abbrev pub rank : LineFault → ℕ
 rank Word = 0
 rank Form = 1
@@ -11,11 +11,11 @@ rank Number = 2
 rank Order = 3
 rank Memory = 4
 
--- The fault that is told of two.
+-- The fault that is reported of two.
 abbrev pub worse : LineFault → LineFault → LineFault
 worse f g = if nat_lt (rank g) (rank f) then g else f
 
--- The fault that is told of those met so far and one more.
+-- The fault that is reported of those met so far and one more.
 abbrev pub met_with : Option LineFault → LineFault → Option LineFault
 met_with None f = Some f
 met_with (Some e) f = Some (worse e f)
@@ -30,7 +30,7 @@ abbrev pub kept : {A : Type 0} → Option LineFault → Result A LineFault → A
 kept met (Ok x) other = (x, met)
 kept met (Err f) other = (other, met_with met f)
 
--- The same of a part of a list: its value behind the others, or none.
+-- The same of a part of a list: its value after the others, or none.
 abbrev pub with_part : {A : Type 0} → List A × Option LineFault → Result A LineFault → List A × Option LineFault
 with_part p (Ok x) = (p.0 ++ x ∷ [], p.1)
 with_part p (Err f) = (p.0, met_with p.1 f)
@@ -40,7 +40,7 @@ abbrev pub each_after : {A : Type 0} → List A × Option LineFault → (List �
 each_after p read [] = unless_met p.1 p.0
 each_after p read (w ∷ ws) = each_after (with_part p (read w)) read ws
 
--- Both values, or the fault that is told.
+-- Both values, or the fault that is reported.
 abbrev pub both : {A B : Type 0} → Result A LineFault → Result B LineFault → Result (A × B) LineFault
 both (Ok a) (Ok b) = Ok (a, b)
 both (Ok a) (Err g) = Err g

@@ -44,7 +44,7 @@ span_among least vs = Err Form
 unfoldable pub span_from : ℕ → List ℕ → Result (ℕ × ℕ) LineFault
 span_from least w = span_among least (parts 45 w)
 
--- What each word says, or the fault that is told of theirs.
+-- What each word says, or the fault that is reported of theirs.
 abbrev pub each : {A : Type 0} → (List ℕ → Result A LineFault) → List (List ℕ) → Result (List A) LineFault
 each read ws = each_after ([], None) read ws
 

@@ -1,4 +1,4 @@
-//! What may be wrong with one line, and which fault is told of several.
+//! What may be wrong with one line, and which fault is reported of several.
 
 ghost use Rattle.std.specs.Prelude.{◌≡◌};
 ghost use Rattle.spy_words.specs.declared.fault.LineFault.TheVariants.{Memory};
@@ -6,7 +6,7 @@ ghost use Rattle.spy_words.specs.Faults.{worse, met_with, kept, unless_met};
 
 use std::alloc::AllocError;
 
-/// Why a line could not be read. Of several faults the first in this order is told.
+/// Why a line could not be read. Of several faults the first in this order is reported.
 #[derive(Clone, Copy, Debug, PartialEq, Eq)]
 pub enum LineFault {
     /// The first word names no record.
@@ -29,7 +29,7 @@ impl From<AllocError> for LineFault {
     }
 }
 
-/// The fault that is told of two.
+/// The fault that is reported of two.
 pub fn worse_of(a: LineFault, b: LineFault) -> LineFault
     ensures { result ≡ worse a b }
 {
@@ -57,7 +57,7 @@ pub fn keep<T: Drop>(met: &mut Option<LineFault>, read: Result<T, LineFault>, ot
 }
 
 /// The value, unless a fault was met.
-pub fn told<T: Drop>(met: Option<LineFault>, value: T) -> Result<T, LineFault>
+pub fn outcome_of<T: Drop>(met: Option<LineFault>, value: T) -> Result<T, LineFault>
     ensures { result ≡ unless_met met value }
 {
     match met {

@@ -9,7 +9,7 @@ ghost use Rattle.spy_words.specs.Faults.{map_ok, tested};
 ghost use Rattle.spy_words.specs.Reading.{each, has_some, list_at, number_from, span_among, span_from};
 
 use crate::cut::Pieces;
-use crate::fault::{LineFault, meet, told, worse_of};
+use crate::fault::{LineFault, meet, outcome_of, worse_of};
 use crate::words::{number_of, push_u64};
 use std::alloc::{AllocError, Global};
 
@@ -17,7 +17,7 @@ use std::alloc::{AllocError, Global};
 pub type Read<T> = Result<Result<T, LineFault>, AllocError>;
 
 /// A part of a list: a number, or a run of points.
-pub trait Part: Copy + Drop {
+pub trait ListPart: Copy + Drop {
     /// The part that a word says, its numbers from a least one on.
     ghost reading: { ℕ → List ℕ → Result Self LineFault };
 
@@ -47,7 +47,7 @@ pub trait Part: Copy + Drop {
         ensures { result ≡ before self next };
 }
 
-impl Part for u32 {
+impl ListPart for u32 {
     ghost reading = { number_from };
 
     ghost text = { decimal };
@@ -73,7 +73,7 @@ impl Part for u32 {
     }
 }
 
-impl Part for (u64, u64) {
+impl ListPart for (u64, u64) {
     ghost reading = { span_from };
 
     ghost text = { span_word };
@@ -126,8 +126,8 @@ fn span_of(least: u32, mut words: Pieces<'_>) -> Result<(u64, u64), LineFault>
     }
 }
 
-/// What each word says, or the fault that is told of theirs. No word is left then.
-pub fn each_of<T: Part>(alloc: Global, least: u32, words: &mut Pieces<'_>) -> Read<Vec<T>>
+/// What each word says, or the fault that is reported of theirs. No word is left then.
+pub fn each_of<T: ListPart>(alloc: Global, least: u32, words: &mut Pieces<'_>) -> Read<Vec<T>>
     ensures read { IfOk result (λ read. map_ok (λ v. v.items) read ≡ each (T.reading least) words.old) }
     ensures rest { OnOk result (words.new ≡ []) }
 {
@@ -140,12 +140,12 @@ pub fn each_of<T: Part>(alloc: Global, least: u32, words: &mut Pieces<'_>) -> Re
             Err(fault) => meet(&mut met, fault),
         }
     }
-    Ok(told(met, items))
+    Ok(outcome_of(met, items))
 }
 
 /// The parts between commas, or none for a dash.
 #[tactic(auto, unfolding(crate::specs::Reading::list_at))]
-pub fn list_of<T: Part>(alloc: Global, least: u32, word: &[u8]) -> Read<Vec<T>>
+pub fn list_of<T: ListPart>(alloc: Global, least: u32, word: &[u8]) -> Read<Vec<T>>
     ensures { IfOk result (λ read. map_ok (λ v. v.items) read ≡ list_at (T.reading least) word.now) }
 {
     if word == b"-".as_slice() {
@@ -155,7 +155,7 @@ pub fn list_of<T: Part>(alloc: Global, least: u32, word: &[u8]) -> Read<Vec<T>>
 }
 
 /// The parts that were read, if there are some.
-pub fn at_least_one<T: Part>(read: Result<Vec<T>, LineFault>) -> Result<Vec<T>, LineFault>
+pub fn at_least_one<T: ListPart>(read: Result<Vec<T>, LineFault>) -> Result<Vec<T>, LineFault>
     ensures { map_ok (λ v. v.items) result ≡ tested Form has_some (map_ok (λ v. v.items) read) }
 {
     match read {
@@ -165,7 +165,7 @@ pub fn at_least_one<T: Part>(read: Result<Vec<T>, LineFault>) -> Result<Vec<T>, 
 }
 
 /// The parts that were read, if they ascend.
-pub fn ascending<T: Part>(read: Result<Vec<T>, LineFault>) -> Result<Vec<T>, LineFault>
+pub fn ascending<T: ListPart>(read: Result<Vec<T>, LineFault>) -> Result<Vec<T>, LineFault>
     ensures { map_ok (λ v. v.items) result ≡ tested Order (ascends T.before) (map_ok (λ v. v.items) read) }
 {
     match read {
@@ -175,7 +175,7 @@ pub fn ascending<T: Part>(read: Result<Vec<T>, LineFault>) -> Result<Vec<T>, Lin
 }
 
 /// Whether each part stands before the next.
-pub fn ascend<T: Part>(parts: &[T]) -> bool
+pub fn ascend<T: ListPart>(parts: &[T]) -> bool
     ensures { result ≡ ascends T.before parts.now }
 {
     let [first, rest @ ..] = parts else {
@@ -194,7 +194,7 @@ pub fn ascend<T: Part>(parts: &[T]) -> bool
 }
 
 /// Whether each part has a spelling, its numbers from the least up.
-pub fn are_fit<T: Part>(least: u32, parts: &[T]) -> bool
+pub fn are_fit<T: ListPart>(least: u32, parts: &[T]) -> bool
     ensures { IsTrue result ↔ AllByRecursion (T.IsFit least) parts.now }
 {
     let mut rest = parts;
@@ -209,7 +209,7 @@ pub fn are_fit<T: Part>(least: u32, parts: &[T]) -> bool
 
 /// Writes each part, with a byte before it.
 #[tactic(auto, using(std::proofs::Common::append_assoc))]
-pub fn push_after<T: Part>(out: &mut Vec<u8>, byte: u8, parts: &[T]) -> Result<(), AllocError>
+pub fn push_after<T: ListPart>(out: &mut Vec<u8>, byte: u8, parts: &[T]) -> Result<(), AllocError>
     ensures { OnOk result (out.new.items ≡ out.old.items ++ follow byte (map T.text parts.now)) }
 {
     let mut rest = parts;
@@ -222,8 +222,8 @@ pub fn push_after<T: Part>(out: &mut Vec<u8>, byte: u8, parts: &[T]) -> Result<(
 }
 
 /// Writes a list, or a dash for none.
-#[tactic(auto, using(crate::proofs::Joins::join_follow, std::proofs::Common::append_assoc))]
-pub fn push_list<T: Part>(out: &mut Vec<u8>, parts: &[T]) -> Result<(), AllocError>
+#[tactic(auto, using(crate::proofs::lemmas::Joins::join_follow, std::proofs::Common::append_assoc))]
+pub fn push_list<T: ListPart>(out: &mut Vec<u8>, parts: &[T]) -> Result<(), AllocError>
     ensures { OnOk result (out.new.items ≡ out.old.items ++ list_word T.text parts.now) }
 {
     let Some((first, rest)) = parts.split_first() else {

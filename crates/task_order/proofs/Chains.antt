@@ -16,7 +16,7 @@ chain_end : (nodes : List Node) (a : ℕ) (between : List ℕ) (b : ℕ) → IsC
 chain_end nodes a [] b on = slice_get_within nodes b on.by on.by_is
 chain_end nodes a (next ∷ between) b chain = chain_end nodes next between b chain.1
 
--- Nothing is before, or behind, a node that is not there.
+-- Nothing is before, or after, a node that is not there.
 pub before_none : (marks : Marks) (a b : ℕ) → (length marks.places ≤ a) ⊎ (length marks.places ≤ b) → (nodes : List Node) → AreMarksOf nodes marks → Before nodes a b → ⊥
 before_none marks a b (inl none) nodes are (between, chain) = omega (arith, none, are.places.each, chain_start nodes a between b chain)
 before_none marks a b (inr none) nodes are (between, chain) = omega (arith, none, are.places.each, chain_end nodes a between b chain)

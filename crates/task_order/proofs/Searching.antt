@@ -1,15 +1,16 @@
 -- The search for the first pair that is not kept, one pair after another.
 use Rattle.std.proofs.Common.{◌≡◌, ℕ, zero, suc, ◌+◌, ◌-◌, ◌<◌, ◌≤◌, ◌^◌, inl, inr, Bool, true, false, List, [], ◌∷◌, ◌++◌, map, length, filter, refl, sym, ap, ◌∙◌, subst, arith, Contains, slice_index, get_or, add-one}
 use Rattle.std.specs.Prelude.{position, unwrap_or}
-use Rattle.std.specs.List.{AllByRecursion, position_or_len}
+use Rattle.std.specs.List.{AllByRecursion, position_or_len, range_with_len}
 use Rattle.std.proofs.lemmas.Bool.{cases_Bool, cases_eq, lt-ltb, le-ltb, cases_lt}
 use Rattle.std.proofs.lemmas.List.{length-map, length-append}
 use Rattle.semantics.specs.declared.tables.Item.{Item}
 use Rattle.semantics.specs.declared.tables.LogNode.{LogNode}
 use Rattle.semantics.specs.Rules.{runs_item}
-use Rattle.semantics.specs.Tables.{Tables, numbers_from}
+use Rattle.semantics.specs.Tables.{Tables}
 use Rattle.semantics.specs.Shown.{run_of, task_pairs, IsKept, AreKept, IsShownPair}
-use Rattle.log_laws.proofs.Members.{Member, contains_of, map_member, member_left}
+use Rattle.log_laws.proofs.lemmas.Members.{Member, contains_of, map_member, member_left}
+use Rattle.log_laws.proofs.lemmas.Apart.{number_from}
 use Rattle.interference.specs.declared.pair.Pair.{Pair}
 use Rattle.interference.specs.declared.stretch.Stretch.{Stretch}
 use Rattle.interference.specs.Stretched.{StartsWith, pair_in, pairs_from}
@@ -104,10 +105,10 @@ room t left count p rest h same e = omega (arith, h.few, h.counted, ap length (a
 -- ---- stretches of pairs
 
 pub stretch_head : (s : Stretch) (b : ℕ) (rest : List Pair) → b < s.to → pairs_from s b ++ rest ≡ pair_in s b ∷ (pairs_from s (b + 1) ++ rest)
-stretch_head s b rest lt = let e : s.to - b ≡ suc (s.to - (b + 1)) = omega (arith, lt) in ap (λ n. map (pair_in s) (numbers_from b n) ++ rest) e
+stretch_head s b rest lt = let e : s.to - b ≡ suc (s.to - (b + 1)) = omega (arith, lt) in ap (λ n. map (pair_in s) (range_with_len b n) ++ rest) e
 
 stretch_end : (s : Stretch) (b : ℕ) (rest : List Pair) → s.to ≤ b → pairs_from s b ++ rest ≡ rest
-stretch_end s b rest le = let e : s.to - b ≡ 0 = omega (arith, le) in ap (λ n. map (pair_in s) (numbers_from b n) ++ rest) e
+stretch_end s b rest le = let e : s.to - b ≡ 0 = omega (arith, le) in ap (λ n. map (pair_in s) (range_with_len b n) ++ rest) e
 
 -- What is known of the search where the pairs of a stretch are left from one of its items on.
 abbrev pub StretchGoesOn : Tables → Stretch → ℕ → ℕ → Type 0
@@ -143,22 +144,15 @@ stretch_over t s b n le h rest count begins = subst (λ ps. IsSearched t ps (cou
 pub last_listed : (t : Tables) (s : Stretch) (rest : List Pair) (count : ℕ) → s.from < s.to → IsSearched t (pairs_from s s.from ++ rest) count → (b : ℕ) × (b + 1 ≡ s.to) × Contains (all_pairs t) (pair_in s b)
 last_listed t s rest count lt h =
     let b = s.to - 1 in
-    let ns = numbers_from s.from (s.to - s.from) in
-    let here : Member ns b = number_at s.from (s.to - s.from) b (omega (arith, lt)) (omega (arith, lt)) in
+    let ns = range_with_len s.from (s.to - s.from) in
+    let here : Member ns b = number_from s.from (s.to - s.from) b (omega (arith, lt)) (omega (arith, lt)) in
     (b, omega (arith, lt), h.listed (pair_in s b) (contains_of (pairs_from s s.from ++ rest) (pair_in s b) (member_left (pairs_from s s.from) rest (pair_in s b) (map_member (pair_in s) ns b here))))
-  where
-    number_at : (first n k : ℕ) → first ≤ k → k < first + n → Member (numbers_from first n) k
-    number_at first zero k low high = absurd (omega (arith, low, high))
-    number_at first (suc n) k low high = elim (cases_eq k first) [
-      | inl same ↦ inl same
-      | inr other ↦ inr (number_at (first + 1) n k (omega (arith, low, other)) (omega (arith, high)))
-    ]
 
 -- So is the first.
 pub first_listed : (t : Tables) (s : Stretch) (rest : List Pair) (count : ℕ) → s.from < s.to → IsSearched t (pairs_from s s.from ++ rest) count → Contains (all_pairs t) (pair_in s s.from)
 first_listed t s rest count lt h = listed t (pairs_from s s.from ++ rest) count (pair_in s s.from) (pairs_from s (s.from + 1) ++ rest) h (stretch_head s s.from rest lt)
 
--- Behind a stretch fewer pairs are left.
+-- After a stretch fewer pairs are left.
 pub fewer_left : (s : Stretch) (pairs rest : List Pair) → StartsWith pairs rest s → suc (length rest) ≤ length pairs
 fewer_left s pairs rest h =
     let e : length pairs ≡ suc (length (pairs_from s (s.from + 1) ++ rest)) = ap length (h.parts ∙ stretch_head s s.from rest h.some) in

@@ -17,7 +17,7 @@ use region_tree::ArenaSet;
 use semantics::Place;
 use std::alloc::Global;
 
-/// Whether each two tasks that interfere are run in serial order.
+/// Whether every two tasks that interfere are run in serial order.
 #[derive(Clone, Copy, Debug, PartialEq, Eq)]
 pub enum TaskOrder {
     /// They are, and so many pairs interfere.
@@ -79,7 +79,7 @@ fn order_by_runs<'a, P: ArenaSet<'a>>(log: &Log<'a, P>, reach: &Reach, runs: &[u
     TaskOrder::Kept { pairs: count }
 }
 
-/// Whether each two tasks of a log that interfere are run in serial order, by marks of the log's nodes.
+/// Whether every two tasks of a log that interfere are run in serial order, by marks of the log's nodes.
 pub fn task_order<'a, P: ArenaSet<'a>>(
     alloc: Global,
     log: &Log<'a, P>,

@@ -7,10 +7,10 @@ use Rattle.value_terms.specs.declared.terms.Base.{Base}
 use Rattle.value_terms.specs.declared.terms.Base.TheVariants.{Raw, Ident}
 use Rattle.value_terms.specs.declared.terms.Contribution.{Contribution}
 use Rattle.value_terms.specs.Values.{Bag, Value, counted, joined, total, weight_of, weight_in, extended, add, plain, value_of, fold_in, is_raw, CountsEach, IsWellFormedBag, IsSmallBase, IsSmallEntry, IsSmallGroup, IsHeld}
-use Rattle.value_terms.proofs.Order.{compared}
-use Rattle.value_terms.proofs.Counting.{counted_none, counted_same, counted_here, counted_later}
-use Rattle.value_terms.proofs.WellFormed.{plain_well_formed, add_well_formed, extended_all}
-use Rattle.value_terms.proofs.Grouping.{weight_extended}
+use Rattle.value_terms.proofs.lemmas.Order.{compared}
+use Rattle.value_terms.proofs.lemmas.Counting.{counted_none, counted_same, counted_here, counted_later}
+use Rattle.value_terms.proofs.lemmas.WellFormed.{plain_well_formed, add_well_formed, extended_all}
+use Rattle.value_terms.proofs.lemmas.Grouping.{weight_extended}
 
 counted_small : (c : Contribution) (n : ℕ) (bag : Bag) → IsSmallEntry (c, n) → AllByRecursion IsSmallEntry bag → AllByRecursion IsSmallEntry (counted c n bag)
 counted_small c n [] new h = rw counted_none (new, tt)

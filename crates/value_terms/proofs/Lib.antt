@@ -1,9 +1,3 @@
-pub mod Order
-pub mod Counting
-pub mod Placing
-pub mod Changes
-pub mod WellFormed
-pub mod Equality
-pub mod Grouping
-pub mod Held
-pub mod Sums
+pub mod lemmas
+mod Placing
+mod Held

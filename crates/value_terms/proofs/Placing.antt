@@ -4,8 +4,8 @@ use Rattle.std.specs.List.{AllByRecursion, insert}
 use Rattle.std.proofs.lemmas.List.{get_or_read, take_all, take-append-drop, take_rest}
 use Rattle.value_terms.specs.declared.terms.Contribution.{Contribution}
 use Rattle.value_terms.specs.Values.{Bag, same_contribution, comes_before, counted, joined, total, Ascends}
-use Rattle.value_terms.proofs.Order.{below, compared, before_trans, same_decides}
-use Rattle.value_terms.proofs.Counting.{counted_none, counted_same, counted_here, counted_later}
+use Rattle.value_terms.proofs.lemmas.Order.{below, compared, before_trans, same_decides}
+use Rattle.value_terms.proofs.lemmas.Counting.{counted_none, counted_same, counted_here, counted_later}
 
 -- Each comes before a contribution, or none does.
 abbrev pub AllBefore : Contribution → Bag → Type 0
@@ -187,9 +187,9 @@ merged_end whole out (x ∷ a) [] most h end = append-nil (out ++ x ∷ a) ∙ h
 merged_end whole out (x ∷ a) (y ∷ b) most h (inl lt) = absurd (omega arith)
 merged_end whole out (x ∷ a) (y ∷ b) most h (inr lt) = absurd (omega arith)
 
--- ---- counting one bag behind another
+-- ---- counting one bag after another
 
--- The tail of a bag, and another, merged behind what comes before both.
+-- The tail of a bag, and another, merged after what comes before both.
 pub joined_tail : (bag : Bag) (place : ℕ) (other : Bag) (d : Contribution × ℕ) → 1 ≤ length other → Ascends other → AllBefore (get_or other 0 d).0 (take place bag) → take place bag ++ joined (drop place bag) other ≡ joined bag other
 joined_tail bag place [] d some ascends h = absurd (omega arith)
 joined_tail bag place (f ∷ other) d some ascends h =
@@ -231,7 +231,7 @@ pub tail_from : (items now seen : Bag) (place : ℕ) → items ≡ now → seen 
 tail_from items now seen place is same h =
     rw (take_rest seen place, same, is) (record { ascends = ascends_from now place h; fits = total_from now place })
 
--- A bag, what was seen of it, and another bag that is counted behind what comes before its first entry.
+-- A bag, what was seen of it, and another bag that is counted after what comes before its first entry.
 pub joined_told : (items now seen_first seen heads others other : Bag) (place : ℕ) (d : Contribution × ℕ) → items ≡ now → seen_first ≡ items → seen ≡ items → heads ≡ other → others ≡ other → 1 ≤ length heads → Ascends other → AllBefore (get_or heads 0 d).0 (take place seen_first) → take place items ++ joined (take (length seen - place) (drop place seen)) others ≡ joined now other
 joined_told items now seen_first seen heads others other place d is same_first same headed told some ascends before =
     let bag_ascends : Ascends heads = subst Ascends (sym headed) ascends in

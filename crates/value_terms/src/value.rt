@@ -12,7 +12,7 @@ use crate::terms::{Base, Contribution};
 use std::alloc::{AllocError, Global};
 use std::marker::Model;
 
-/// Want of memory. What was to change stays as it was.
+/// Memory ran out. What was to change stays as it was.
 #[derive(Clone, Copy, Debug, PartialEq, Eq)]
 pub struct Memory;
 
@@ -41,7 +41,8 @@ impl Model for Value {
 
     ghost view = { λ v. says.value_of v.base v.groups.items };
 
-    ghost invariant = { λ v. says.IsHeld (says.value_of v.base v.groups.items) × (v.weight ≡ says.weight_in v.groups.items) };
+    ghost invariant = { λ v. says.IsHeld (says.value_of v.base v.groups.items)
+        × (v.weight ≡ says.weight_in v.groups.items) };
 }
 
 /// Whether a base is raw.

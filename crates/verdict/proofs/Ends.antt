@@ -14,17 +14,16 @@ use Rattle.findings.specs.declared.finding.Finding.{Finding}
 use Rattle.findings.specs.declared.finding.Finding.TheVariants.{Accepted, Ordered, Deps, Cycle, Race, Unordered, Differ, Fault, Usage, CannotRead}
 use Rattle.semantics.specs.declared.command.Command.{Command}
 use Rattle.semantics.specs.declared.command.Command.TheVariants as commands
-use Rattle.semantics.specs.Records.{records_of}
+use Rattle.semantics.specs.Records.{records_of, AreLines}
 use Rattle.semantics.specs.Tables.{Tables, with_record, tables_of, no_tables}
 use Rattle.semantics.specs.Events.{AreLinked, graph_of}
 use Rattle.semantics.specs.Faults.{at_line, declaration_fault, serial_fault, log_fault}
 use Rattle.semantics.specs.Outcome.{IsFound, CheckFinds}
 use Rattle.semantics.specs.Rules.{is_late}
-use Rattle.log_laws.proofs.Admitted.{by_records, no_broken_rule}
-use Rattle.log_laws.proofs.Members.{both_none}
+use Rattle.log_laws.proofs.lemmas.Admitted.{by_records, no_broken_rule}
+use Rattle.log_laws.proofs.lemmas.Members.{both_none}
 use Rattle.log_decl.specs.Faultless.{AreDeclared}
-use Rattle.log_faults.specs.Lines.{AreLines}
-use Rattle.log_faults.proofs.Ascending.{few_records}
+use Rattle.log_faults.proofs.lemmas.Ascending.{few_records}
 use Rattle.verdict.specs.Findings.{table_fault, IsFoundOf}
 
 -- ---- a log has no more items and nodes than records

@@ -12,7 +12,7 @@ use Rattle.semantics.specs.Outcome.{dependence_at, dependences}
 use Rattle.findings.specs.declared.finding.Dep.{Dep}
 use Rattle.interference.specs.declared.pair.Pair.{Pair}
 use Rattle.interference.specs.Pairing.{pair_of, all_pairs}
-use Rattle.log_laws.proofs.Members.{Member, map_member, contains_of}
+use Rattle.log_laws.proofs.lemmas.Members.{Member, map_member, contains_of}
 use Rattle.verdict.specs.Listing.{dependence_of}
 
 module _ (t : Tables) (place : (p : Pair) → Contains (all_pairs t) p → least_place t p.a p.b ≡ Some p.place) where

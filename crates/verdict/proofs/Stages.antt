@@ -40,6 +40,6 @@ stop_of_race t s h = stop_by (FindsRace t) (CheckFinds t) s (of_race t) h
 pub stop_of_difference : (t : Tables) (s : Stop) → IsStop (FindsDifference t) s → IsStop (CheckFinds t) s
 stop_of_difference t s h = stop_by (FindsDifference t) (CheckFinds t) s (of_difference t) h
 
--- What is found in tables is told by long values as it is by values.
+-- What is found in tables is the same by long values as by values.
 abbrev pub FindsAlike : Tables → Type 0
 FindsAlike t = (f : Finding) → CheckFinds t f ↔ CheckFindsLong t f

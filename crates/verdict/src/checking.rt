@@ -6,7 +6,7 @@ ghost use Rattle.spy_grammar.specs.Spelling.{Good};
 ghost use Rattle.semantics.specs.declared.command.Command.TheVariants.{Check};
 ghost use Rattle.semantics.specs.Outcome.{CheckFinds, IsFound};
 ghost use Rattle.long_values.specs.LongOutcome.{IsFoundLong};
-ghost use Rattle.log_faults.specs.Lines.{AreLines};
+ghost use Rattle.semantics.specs.Records.{AreLines};
 ghost use Rattle.verdict.specs.Findings.{IsFoundOf};
 ghost use Rattle.verdict.specs.Stages.{IsStop};
 
@@ -89,7 +89,7 @@ fn check_records(alloc: Global, records: &Vec<Lined>, lines: u32) -> Result<Find
     }
 }
 
-/// What `check` finds in the records of a log, which has so many lines: the fault that is shown, a cycle, a race, a read that differs in every interleaving, or how much was judged and found right in every interleaving. Told by long values, which carry what was read, it is the same.
+/// What `check` finds in the records of a log, which has so many lines: the fault that is shown, a cycle, a race, a read that differs in every interleaving, or how much was judged and found right in every interleaving. By long values, which carry what was read, it is the same.
 pub fn check(alloc: Global, records: &Vec<Lined>, lines: u32) -> Result<Finding, Memory>
     requires good { All (λ l. Good l.rec) records.now.items }
     requires lines { AreLines lines records.now.items }

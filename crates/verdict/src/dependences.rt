@@ -5,7 +5,7 @@ ghost use Rattle.findings.specs.Texts as texts;
 ghost use Rattle.spy_grammar.specs.Spelling.{Good};
 ghost use Rattle.semantics.specs.declared.command.Command.TheVariants.{Deps};
 ghost use Rattle.semantics.specs.Outcome.{DepsFinds, IsFound, dependences};
-ghost use Rattle.log_faults.specs.Lines.{AreLines};
+ghost use Rattle.semantics.specs.Records.{AreLines};
 ghost use Rattle.verdict.specs.Findings.{IsFoundOf};
 ghost use Rattle.verdict.specs.Listing.{dependence_of};
 

@@ -5,7 +5,6 @@ mod checking;
 mod clean;
 mod declared;
 mod dependences;
-mod graphs;
 mod items;
 mod judged;
 mod memory;

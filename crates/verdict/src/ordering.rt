@@ -7,7 +7,7 @@ ghost use Rattle.semantics.specs.declared.command.Command.TheVariants.{Ordered};
 ghost use Rattle.semantics.specs.Events.{graph_of};
 ghost use Rattle.semantics.specs.Faults as faults;
 ghost use Rattle.semantics.specs.Outcome.{HasNoCycle, IsFound, OrderedFinds};
-ghost use Rattle.log_faults.specs.Lines.{AreLines};
+ghost use Rattle.semantics.specs.Records.{AreLines};
 ghost use Rattle.reach_marks.specs.Reached.{AreMarksOf};
 ghost use Rattle.verdict.specs.Findings.{IsFoundOf};
 ghost use Rattle.verdict.specs.Sorted.{AreSorted, IsUnsorted};

@@ -47,7 +47,8 @@ impl<'a, P: PointSet + Copy> Model for Sorted<'a, P> {
 
     ghost view = { λ s. s.log };
 
-    ghost invariant = { λ s. (table_fault Check s.log ≡ None) × AreSorted (graph_of s.log.nodes) s.sorting × AreFirsts s.log (first_points s.atoms) };
+    ghost invariant = { λ s. (table_fault Check s.log ≡ None) × AreSorted (graph_of s.log.nodes) s.sorting
+        × AreFirsts s.log (first_points s.atoms) };
 }
 
 /// The nodes of a log sorted, or the cycle that is shown.

@@ -6,9 +6,8 @@ ghost use Rattle.event_graph.specs.Orders.{IsOrderOf};
 ghost use Rattle.reach_marks.specs.Reached.{AreMarksOf};
 ghost use Rattle.verdict.specs.Sorted.{AreSorted, IsUnsorted};
 
-use crate::graphs::nodes_in;
 use crate::memory::Memory;
-use event_graph::{EventList, Graph, Order, Stuck};
+use event_graph::{EventList, Graph, Order, Stuck, nodes_in};
 use reach_marks::Reach;
 use semantics::LogNode;
 use std::alloc::Global;

@@ -41,7 +41,7 @@ pub fn with_line(alloc: Global, log: &[u8], number: usize, text: &[u8]) -> Resul
     Ok(changed)
 }
 
-/// The number with which an edit begins, and the text behind it.
+/// The number with which an edit begins, and the text after it.
 fn edit_parts(edit: &[u8]) -> (usize, &[u8]) {
     let mut number = 0usize;
     let mut rest = edit;
@@ -84,7 +84,7 @@ pub fn edited(alloc: Global, log: &[u8], edits: &[u8]) -> Result<Vec<u8>, Fail> 
             changed.extend_from_slice(b"\n")?;
         }
     }
-    // What stands behind the last line feed is no line.
+    // What stands after the last line feed is no line.
     let _line_feed = changed.pop();
     Ok(changed)
 }

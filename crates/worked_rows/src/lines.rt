@@ -1,4 +1,4 @@
-//! Lines, read and written: each class of words at its edges, and the fault that is told of each line.
+//! Lines, read and written: each class of words at its edges, and the fault that is reported of each line.
 
 use spy_grammar::{InstKind, LineFault, Record, good, read_line, write_record};
 use std::alloc::{AllocError, Global};

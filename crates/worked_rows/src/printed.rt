@@ -59,7 +59,7 @@ fn the_least_faulty_line_is_shown(rt: HostRuntime) -> Result<(), Fail> {
         (9, b"inst 4294967296 1 1 1 plain", b"fault 9 number\n"),
         (3, b"# note\n\nfields 1 1,1", b"fault 5 order\n"),
         (1, b"task 0\njspace 1", b"fault 1 number\n"),
-        // Behind the last line feed nothing may stand, whatever the lines are.
+        // After the last line feed nothing may stand, whatever the lines are.
         (15, b"end 12", b"fault 15 newline\n"),
     ];
     for command in ["print", "ordered"] {
@@ -77,7 +77,7 @@ fn the_least_faulty_line_is_shown(rt: HostRuntime) -> Result<(), Fail> {
     Ok(())
 }
 
-/// That many bytes `#`, and a line feed behind them if asked for.
+/// That many bytes `#`, and a line feed after them if asked for.
 fn long_comment(alloc: Global, count: usize, ended: bool) -> Result<Vec<u8>, Fail> {
     let mut bytes = Vec::new(alloc);
     for _ in 0..count {

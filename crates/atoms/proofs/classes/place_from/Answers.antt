@@ -1,8 +1,8 @@
 use Rattle.std.proofs.Common.{ℕ, nat_lt, rules}
 use Rattle.std.proofs.lemmas.Fn.{always_returns_same}
 use Rattle.std.proofs.lemmas.List.Sorted.{IsPartitionedBy-ltb}
-use Rattle.point_set.proofs.Ahead.{parted}
-use Rattle.point_set.proofs.InRuns.{ends_rise}
+use Rattle.point_set.proofs.lemmas.Ahead.{parted}
+use Rattle.point_set.proofs.lemmas.InRuns.{ends_rise}
 use Rattle.atoms.proofs.classes.place_from.Goals as goal
 
 pub returns : goal.returns

@@ -1,5 +1,5 @@
 use Rattle.std.proofs.Common.{ℕ, ◌<◌, ◌≤◌, sym, subst, arith}
-use Rattle.point_set.proofs.InRuns.{some_run, no_run, none_behind}
+use Rattle.point_set.proofs.lemmas.InRuns.{some_run, no_run, none_behind}
 use Rattle.atoms.specs.Atoms.{IsAtomAt}
 use Rattle.atoms.proofs.Places.{found_at, none_at}
 use Rattle.atoms.proofs.classes.place_of.Goals as goal

@@ -3,7 +3,7 @@ use Rattle.std.specs.HashMap.{get}
 use Rattle.std.specs.List.{list_any}
 use Rattle.semantics.specs.ReplayOrder.{waits_at}
 use Rattle.event_graph.specs.EventPlaces.{is_place}
-use Rattle.event_graph.proofs.Placed.{placed_within}
+use Rattle.event_graph.proofs.lemmas.Placed.{placed_within}
 use Rattle.event_graph.proofs.Walks.{stuck_wait_some, stuck_wait_none}
 use Rattle.event_graph.proofs.cycle_walk.next_stuck.Goals as goal
 

@@ -2,7 +2,7 @@ use Rattle.std.proofs.Common.{◌≡◌, ◌∙◌, ap, get_or, Some, slice_get,
 use Rattle.std.proofs.lemmas.Option.{slice_get-get_or}
 use Rattle.semantics.specs.Events.{Node}
 use Rattle.event_graph.specs.Orders.{event_at}
-use Rattle.event_graph.proofs.Placed.{map_more}
+use Rattle.event_graph.proofs.lemmas.Placed.{map_more}
 use Rattle.event_graph.proofs.graph.events_at.Goals as goal
 
 pub loop-k-preserved : goal.loop-k-preserved

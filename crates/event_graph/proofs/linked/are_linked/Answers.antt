@@ -1,7 +1,7 @@
 use Rattle.std.proofs.Common.{◌≡◌, ◌∙◌, ◌<◌, nat_eq, ap, Some, subst, sym, length, get_or, List, ℕ}
 use Rattle.std.specs.HashMap.{get}
 use Rattle.std.specs.List.{position_from}
-use Rattle.event_graph.proofs.Placed.{linked_if, stands_first, waits_stand}
+use Rattle.event_graph.proofs.lemmas.Placed.{linked_if, stands_first, waits_stand}
 use Rattle.event_graph.proofs.linked.are_linked.Goals as goal
 
 pub returns : goal.returns

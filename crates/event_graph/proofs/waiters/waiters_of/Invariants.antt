@@ -1,4 +1,4 @@
-use Rattle.std.proofs.Common.{◌≡◌, ℕ, get_or, map, [], if◌then◌else◌, nat_lt, length, slice_get, Some}
+use Rattle.std.proofs.Common.{◌≡◌, ℕ, get_or, [], if◌then◌else◌, nat_lt, length, slice_get, Some}
 use Rattle.semantics.specs.Events.{Node}
 use Rattle.semantics.specs.ReplayOrder.{waits_at}
 use Rattle.event_graph.specs.WaitCounts.{times}
@@ -6,6 +6,6 @@ use Rattle.event_graph.proofs.waiters.waiters_of.Given as goal
 
 abbrev pub invariant-loop-k : goal.invariant-loop-k
 invariant-loop-k l = record {
-  each : length (map (λ w. w.items) l.waiters.items) ≡ length l.nodes;
-  listed : (p : ℕ) (n : Node) → slice_get l.nodes p ≡ Some n → (s : ℕ) → times s (get_or (map (λ w. w.items) l.waiters.items) p []) ≡ (if nat_lt s l.k then times n.done (waits_at l.nodes s) else 0);
+  each : length l.waiters ≡ length l.nodes;
+  listed : (p : ℕ) (n : Node) → slice_get l.nodes p ≡ Some n → (s : ℕ) → times s (get_or l.waiters p []) ≡ (if nat_lt s l.k then times n.done (waits_at l.nodes s) else 0);
 }

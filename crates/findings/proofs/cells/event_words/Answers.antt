@@ -1,5 +1,5 @@
 use Rattle.std.proofs.Common.{arith}
-use Rattle.findings.proofs.CellLaws.{small_fit}
+use Rattle.findings.proofs.lemmas.CellLaws.{small_fit}
 use Rattle.findings.proofs.cells.event_words.Goals as goal
 
 pub returns-clause-fits : goal.returns-clause-fits

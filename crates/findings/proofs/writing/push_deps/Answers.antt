@@ -1,4 +1,4 @@
-use Rattle.findings.proofs.CellLaws.{line_written}
+use Rattle.findings.proofs.lemmas.CellLaws.{line_written}
 use Rattle.findings.proofs.writing.push_deps.Goals as goal
 
 pub loop-rest-preserved : goal.loop-rest-preserved

@@ -1,4 +1,4 @@
-use Rattle.findings.proofs.CellLaws.{cell_written}
+use Rattle.findings.proofs.lemmas.CellLaws.{cell_written}
 use Rattle.findings.proofs.writing.push_row.Goals as goal
 
 pub loop-rest-preserved : goal.loop-rest-preserved

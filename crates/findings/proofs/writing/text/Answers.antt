@@ -1,5 +1,5 @@
 use Rattle.std.proofs.Common.{arith}
-use Rattle.findings.proofs.CellLaws.{text_told}
+use Rattle.findings.proofs.lemmas.CellLaws.{text_told}
 use Rattle.findings.proofs.writing.text.Goals as goal
 
 pub returns : goal.returns

@@ -1,7 +1,8 @@
 use Rattle.std.proofs.Common.{◌≡◌, ◌^◌, ◌<◌, ◌+◌, subst, arith}
 use Rattle.std.proofs.lemmas.List.Elements.{All-contains}
 use Rattle.point_set.specs.Least.{IsLeastFrom}
-use Rattle.inst_steps.specs.Grids.{kept, listed_of}
+use Rattle.point_laws.specs.Cut.{kept}
+use Rattle.inst_steps.specs.Grids.{listed_of}
 use Rattle.inst_steps.proofs.Keeping.{kept_within}
 use Rattle.inst_steps.proofs.listed.next_behind.Goals as goal
 

@@ -2,7 +2,7 @@ use Rattle.std.proofs.Common.{◌≡◌, slice_get, sym, subst, arith}
 use Rattle.std.proofs.lemmas.Grind.{common_steps}
 use Rattle.std.proofs.lemmas.Option.{gets}
 use Rattle.point_set.specs.Least.{IsLeastFrom}
-use Rattle.point_set.proofs.Ahead.{least_from}
+use Rattle.point_set.proofs.lemmas.Ahead.{least_from}
 use Rattle.inst_steps.proofs.listed.next_in_list.Goals as goal
 
 pub returns : goal.returns

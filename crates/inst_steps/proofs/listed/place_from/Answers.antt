@@ -2,7 +2,7 @@ use Rattle.std.proofs.Common.{nat_lt, rules}
 use Rattle.std.proofs.lemmas.Fn.{always_returns_same}
 use Rattle.std.proofs.lemmas.List.Sorted.{IsPartitionedBy-ltb}
 use Rattle.std.proofs.lemmas.Map.Keys.{non_decreasing_from_sorted, sorted_from_strictly_increasing}
-use Rattle.point_set.proofs.Ahead.{parted}
+use Rattle.point_set.proofs.lemmas.Ahead.{parted}
 use Rattle.inst_steps.proofs.listed.place_from.Goals as goal
 
 pub returns : goal.returns

@@ -1,5 +1,6 @@
 use Rattle.std.proofs.Common.{sym, ◌∙◌}
-use Rattle.inst_steps.specs.Grids.{kept, listed_of}
+use Rattle.point_laws.specs.Cut.{kept}
+use Rattle.inst_steps.specs.Grids.{listed_of}
 use Rattle.inst_steps.proofs.Behind.{grid_all, grid_none, grid_empty}
 use Rattle.inst_steps.proofs.Keeping.{kept_up}
 use Rattle.inst_steps.proofs.spot.first_spot.Goals as goal

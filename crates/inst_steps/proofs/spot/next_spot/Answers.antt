@@ -1,5 +1,6 @@
 use Rattle.std.proofs.Common.{◌∷◌, ap, ◌∙◌, arith}
-use Rattle.inst_steps.specs.Grids.{kept, listed_of}
+use Rattle.point_laws.specs.Cut.{kept}
+use Rattle.inst_steps.specs.Grids.{listed_of}
 use Rattle.inst_steps.specs.Stepping.{spot_here}
 use Rattle.inst_steps.proofs.Behind.{grid_last, grid_next, grid_over}
 use Rattle.inst_steps.proofs.Keeping.{kept_up}

@@ -1,7 +1,8 @@
 use Rattle.std.proofs.Common.{◌+◌, ◌<◌, ◌^◌, Contains, refl, arith, ◌≡◌, inl, inr}
 use Rattle.std.proofs.lemmas.Bool.{cases_lt}
 use Rattle.std.proofs.lemmas.List.Elements.{All-contains}
-use Rattle.inst_steps.specs.Grids.{kept, listed_of}
+use Rattle.point_laws.specs.Cut.{kept}
+use Rattle.inst_steps.specs.Grids.{listed_of}
 use Rattle.inst_steps.proofs.Keeping.{kept_within}
 use Rattle.inst_steps.proofs.Starting.{all_points, more_point}
 use Rattle.inst_steps.proofs.start.hold_points.Goals as goal

@@ -1,7 +1,7 @@
 use Rattle.std.proofs.Common.{sym, ◌∙◌, ap}
 use Rattle.item_uses.specs.Usages.{usages_at}
 use Rattle.item_uses.specs.Sharing.{kind_between}
-use Rattle.item_uses.proofs.Positions.{at_is}
+use Rattle.item_uses.proofs.lemmas.Positions.{at_is}
 use Rattle.interference.specs.Pairing.{asked_of}
 use Rattle.interference.proofs.Rows.{free_not_met}
 use Rattle.interference.proofs.Answering.{none_met, some_met}

@@ -1,7 +1,7 @@
 use Rattle.std.proofs.Common.{ap, sym, ◌∙◌}
 use Rattle.item_uses.specs.Usages.{usages_at}
 use Rattle.item_uses.specs.Sharing.{kind_between}
-use Rattle.item_uses.proofs.Positions.{at_is}
+use Rattle.item_uses.proofs.lemmas.Positions.{at_is}
 use Rattle.interference.specs.Pairing.{asked_of}
 use Rattle.interference.proofs.Rows.{row_to}
 use Rattle.interference.proofs.partners.partner_in_block.Goals as goal

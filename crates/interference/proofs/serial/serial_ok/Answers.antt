@@ -1,6 +1,6 @@
 use Rattle.std.proofs.Common.{◌∙◌, sym, ap, length, arith, inl, inr}
 use Rattle.std.proofs.lemmas.Bool.{cases_lt}
-use Rattle.item_uses.proofs.Growing.{usages_length}
+use Rattle.item_uses.proofs.lemmas.Growing.{usages_length}
 use Rattle.interference.proofs.Turning.{first_is, none_turned, turned_found, none_found}
 use Rattle.interference.proofs.serial.serial_ok.Goals as goal
 

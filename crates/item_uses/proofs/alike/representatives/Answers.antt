@@ -2,7 +2,7 @@ use Rattle.std.proofs.Common.{ℕ, ◌∷◌, [], arith, ap, length, subst, sym}
 use Rattle.std.proofs.lemmas.List.{length-append}
 use Rattle.item_uses.specs.Usages.{usages_at}
 use Rattle.item_uses.specs.Representatives.{AreAlike}
-use Rattle.item_uses.proofs.Positions.{pushed}
+use Rattle.item_uses.proofs.lemmas.Positions.{pushed}
 use Rattle.item_uses.proofs.Standing.{alike_same}
 use Rattle.item_uses.proofs.alike.representatives.Goals as goal
 

@@ -1,7 +1,7 @@
 use Rattle.std.proofs.Common.{inl, inr, arith, subst, sym, ◌∙◌, ap, Contains}
 use Rattle.std.proofs.lemmas.Bool.{cases_eq}
 use Rattle.item_uses.specs.Usages.{usages_at}
-use Rattle.item_uses.proofs.Positions.{at_is}
+use Rattle.item_uses.proofs.lemmas.Positions.{at_is}
 use Rattle.item_uses.proofs.blocks.span_of.Goals as goal
 
 pub loop-i-preserved : goal.loop-i-preserved

@@ -3,7 +3,7 @@ use Rattle.std.proofs.lemmas.List.{length-append}
 use Rattle.item_uses.specs.declared.span.Span.{Span}
 use Rattle.item_uses.specs.Spans.{Bounds}
 use Rattle.item_uses.specs.Usages.{usages_at}
-use Rattle.item_uses.proofs.Positions.{pushed}
+use Rattle.item_uses.proofs.lemmas.Positions.{pushed}
 use Rattle.item_uses.proofs.blocks.spans_of_blocks.Goals as goal
 
 pub loop-k-preserved : goal.loop-k-preserved

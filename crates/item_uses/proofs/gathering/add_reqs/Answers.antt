@@ -1,5 +1,5 @@
 use Rattle.std.proofs.Common.{sym, ◌∙◌, ap, length, take}
-use Rattle.item_uses.proofs.Growing.{with_reqs, usages_length, usages_without_reqs, usages_step}
+use Rattle.item_uses.proofs.lemmas.Growing.{with_reqs, usages_length, usages_without_reqs, usages_step}
 use Rattle.item_uses.proofs.gathering.add_reqs.Goals as goal
 
 pub loop-req-init : goal.loop-req-init

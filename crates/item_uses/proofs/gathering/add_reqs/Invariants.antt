@@ -1,6 +1,6 @@
 use Rattle.std.proofs.Common.{◌≡◌, take}
 use Rattle.item_uses.specs.Usages.{usages}
-use Rattle.item_uses.proofs.Growing.{with_reqs}
+use Rattle.item_uses.proofs.lemmas.Growing.{with_reqs}
 use Rattle.item_uses.proofs.gathering.add_reqs.Given as goal
 
 -- what the items ask for by the requirements so far

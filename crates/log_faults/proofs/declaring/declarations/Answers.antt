@@ -1,7 +1,7 @@
 use Rattle.std.proofs.Common.{◌≡◌, [], None, refl, subst}
 use Rattle.semantics.specs.Records.{records_of}
 use Rattle.semantics.specs.Faults.{header_fault, ended_fault, count_fault, records_fault}
-use Rattle.log_faults.proofs.Ascending.{good_ascends, few_records}
+use Rattle.log_faults.proofs.lemmas.Ascending.{good_ascends, few_records}
 use Rattle.log_faults.proofs.Ending.{after_frame}
 use Rattle.log_faults.proofs.declaring.declarations.Goals as goal
 

@@ -1,5 +1,5 @@
 use Rattle.std.proofs.Common.{[]}
-use Rattle.log_laws.proofs.Rounds.{replay, once, listed_decides, before_met}
+use Rattle.log_laws.proofs.lemmas.Rounds.{replay, once, listed_decides, before_met}
 use Rattle.log_laws.proofs.order_laws.replay_order_lists.Goals as goal
 
 pub returns : goal.returns

@@ -1,4 +1,4 @@
-use Rattle.log_laws.proofs.Members.{member_of}
+use Rattle.log_laws.proofs.lemmas.Members.{member_of}
 use Rattle.log_laws.proofs.Cycles.{cycle_is_stuck, stuck_in, stuck_cycle, shown_is_cycle, none_shown}
 use Rattle.log_laws.proofs.order_laws.stuck_nodes_have_cycles.Goals as goal
 

@@ -2,8 +2,8 @@ use Rattle.std.proofs.Common.{◌≢◌}
 use Rattle.semantics.specs.declared.tables.Item.{Item}
 use Rattle.semantics.specs.Records.{records_of}
 use Rattle.semantics.specs.Tables.{tables_of}
-use Rattle.log_laws.proofs.Apart.{all_pairs}
-use Rattle.log_laws.proofs.Admitted.{no_broken_rule}
+use Rattle.log_laws.proofs.lemmas.Apart.{all_pairs}
+use Rattle.log_laws.proofs.lemmas.Admitted.{no_broken_rule}
 use Rattle.log_laws.proofs.Listed.{are_listed}
 use Rattle.log_laws.proofs.SerialOrder.{place_of_item}
 use Rattle.log_laws.proofs.serial_laws.item_ids_are_apart.Goals as goal

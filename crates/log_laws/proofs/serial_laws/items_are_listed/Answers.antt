@@ -2,9 +2,9 @@ use Rattle.std.proofs.Common.{◌≢◌}
 use Rattle.semantics.specs.Records.{records_of}
 use Rattle.semantics.specs.Tables.{tables_of}
 use Rattle.semantics.specs.SerialOrder.{listed}
-use Rattle.log_laws.proofs.Members.{member_of, contains_of}
-use Rattle.log_laws.proofs.Apart.{all_pairs}
-use Rattle.log_laws.proofs.Admitted.{no_broken_rule}
+use Rattle.log_laws.proofs.lemmas.Members.{member_of, contains_of}
+use Rattle.log_laws.proofs.lemmas.Apart.{all_pairs}
+use Rattle.log_laws.proofs.lemmas.Admitted.{no_broken_rule}
 use Rattle.log_laws.proofs.Listed.{are_listed, each_listed, line_found}
 use Rattle.log_laws.proofs.SerialOrder.{place_within}
 use Rattle.log_laws.proofs.serial_laws.items_are_listed.Goals as goal

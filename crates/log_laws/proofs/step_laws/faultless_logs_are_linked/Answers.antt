@@ -1,4 +1,4 @@
-use Rattle.log_laws.proofs.Admitted.{faultless}
+use Rattle.log_laws.proofs.lemmas.Admitted.{faultless}
 use Rattle.log_laws.proofs.Strict.{strict}
 use Rattle.log_laws.proofs.Linked.{linked}
 use Rattle.log_laws.proofs.step_laws.faultless_logs_are_linked.Goals as goal

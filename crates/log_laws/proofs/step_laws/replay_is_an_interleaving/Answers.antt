@@ -1,10 +1,10 @@
 use Rattle.semantics.specs.Tables.{tables_of}
 use Rattle.semantics.specs.declared.command.Command.TheVariants.{Check}
-use Rattle.log_laws.proofs.Apart.{Apart}
-use Rattle.log_laws.proofs.Admitted.{faultless, sane, all_mapped}
+use Rattle.log_laws.proofs.lemmas.Apart.{Apart}
+use Rattle.log_laws.proofs.lemmas.Admitted.{faultless, sane, all_mapped}
 use Rattle.log_laws.proofs.Strict.{strict}
 use Rattle.log_laws.proofs.Linked.{linked}
-use Rattle.log_laws.proofs.Tidy.{moves_once}
+use Rattle.log_laws.proofs.lemmas.Tidy.{moves_once}
 use Rattle.log_laws.proofs.Replay.{at_position, interleaves}
 use Rattle.log_laws.proofs.step_laws.replay_is_an_interleaving.Goals as goal
 

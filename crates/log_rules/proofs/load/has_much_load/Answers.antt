@@ -1,6 +1,6 @@
-use Rattle.std.proofs.Common.{nat_lt, List, map, zero-add, lit<, ap, sym, ◌∙◌}
+use Rattle.std.proofs.Common.{nat_lt, List, map, zero-add, lit<, ap, sym, ◌∙◌, sum_by}
 use Rattle.semantics.specs.declared.tables.Inst.{Inst}
-use Rattle.semantics.specs.Rules.{total, load_of, has_much_load}
+use Rattle.semantics.specs.Rules.{load_of, has_much_load}
 use Rattle.log_rules.specs.Counts.{cut}
 use Rattle.log_rules.specs.Loads.{load_in, inst_load}
 use Rattle.log_rules.proofs.Loading.{loads-told}
@@ -10,6 +10,6 @@ pub returns-in_ok-loads-in-End : goal.returns-in_ok-loads-in-End
 returns-in_ok-loads-in-End g c =
     let t = c.args.draft.now in
     let count = load_in c.in_ok-loads-in-End.loads in
-    let load = total (map (load_of t) t.insts) in
-    let is = c.of_insts-load.ensures ∙ ap (λ (insts : List Inst). cut (total (map (inst_load count t) insts))) c.insts.ensures ∙ loads-told t count t.insts c.in_ok-loads-in-End.ensures in
+    let load = sum_by (load_of t) t.insts in
+    let is = c.of_insts-load.ensures ∙ ap (λ (insts : List Inst). cut (sum_by (inst_load count t) insts)) c.insts.ensures ∙ loads-told t count t.insts c.in_ok-loads-in-End.ensures in
     c.exceeds.ensures load is (lit< tt) ∙ ap (nat_lt 67108864) (zero-add load) ∙ ap (has_much_load t) (sym c.in-End.is)

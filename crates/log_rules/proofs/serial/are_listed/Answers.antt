@@ -1,16 +1,15 @@
-use Rattle.std.proofs.Common.{Bool, ◌||◌, ◌∙◌, ap, sym, nat_eq}
+use Rattle.std.proofs.Common.{Bool, ◌∙◌, ap, sym, nat_eq}
 use Rattle.std.specs.HashSet.{contains}
-use Rattle.std.specs.List.{list_all}
 use Rattle.std.proofs.lemmas.List.Folds.{list_all-map, list_all_at}
 use Rattle.spy_grammar.specs.declared.record.Record.{Record}
 use Rattle.spy_grammar.specs.declared.record.Lined.{Lined}
-use Rattle.semantics.specs.Rules.{items_declared}
+use Rattle.log_rules.specs.Listing.{is_listed}
 use Rattle.log_rules.proofs.serial.are_listed.Goals as goal
 
 pub returns-then-not-is_listed : goal.returns-then-not-is_listed
 returns-then-not-is_listed c =
     let log = c.args.log.now in
-    let p : Record → Bool = λ r. list_all (λ id. contains nat_eq c.args.listed.now id || contains nat_eq c.args.here.now id) (items_declared r) in
+    let p : Record → Bool = is_listed (contains nat_eq c.args.listed.now) (contains nat_eq c.args.here.now) in
     sym
     (list_all-map p (λ (l : Lined). l.rec) log
     ∙ list_all_at (λ (l : Lined). p l.rec) log c.loop-l.l-index c.l-item.result c.loop-l-test.true (ap (λ (l : Lined). p l.rec) (sym c.l-item.is) ∙ sym c.if-not-is_listed.ensures)

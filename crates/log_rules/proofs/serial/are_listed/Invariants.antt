@@ -1,9 +1,9 @@
-use Rattle.std.proofs.Common.{◌≡◌, true, ◌||◌, take, nat_eq}
+use Rattle.std.proofs.Common.{◌≡◌, true, take, nat_eq}
 use Rattle.std.specs.HashSet.{contains}
 use Rattle.std.specs.List.{list_all}
 use Rattle.semantics.specs.Records.{records_of}
-use Rattle.semantics.specs.Rules.{items_declared}
+use Rattle.log_rules.specs.Listing.{is_listed}
 use Rattle.log_rules.proofs.serial.are_listed.Given as goal
 
 abbrev pub invariant-loop-l : goal.invariant-loop-l
-invariant-loop-l l = list_all (λ r. list_all (λ id. contains nat_eq l.listed id || contains nat_eq l.here id) (items_declared r)) (records_of (take l.l-index l.log)) ≡ true
+invariant-loop-l l = list_all (is_listed (contains nat_eq l.listed) (contains nat_eq l.here)) (records_of (take l.l-index l.log)) ≡ true

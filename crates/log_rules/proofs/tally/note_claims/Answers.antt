@@ -2,7 +2,7 @@ use Rattle.std.proofs.Common.{◌≡◌, ℕ, ◌||◌, ap, sym, ◌∙◌}
 use Rattle.semantics.specs.Points.{points_in}
 use Rattle.semantics.specs.Tables.{place_of, reqs_before}
 use Rattle.log_rules.specs.Own.{claimed, claims_at, clashes_in}
-use Rattle.log_rules.proofs.Growing.{or_false}
+use Rattle.log_rules.proofs.Booleans.{or_false}
 use Rattle.log_rules.proofs.Claiming.{first_claims_nothing, later_claims_all}
 use Rattle.log_rules.proofs.tally.note_claims.Goals as goal
 

@@ -5,8 +5,8 @@ use Rattle.semantics.specs.Sequential.{wanted}
 use Rattle.semantics.specs.Execution.{ReadsIn}
 use Rattle.semantics.specs.Reads.{read_step, IsRight}
 use Rattle.semantics.specs.declared.command.Command.TheVariants.{Check}
-use Rattle.log_laws.proofs.Admitted.{faultless, sane}
-use Rattle.log_laws.proofs.Members.{member_of, contains_of}
+use Rattle.log_laws.proofs.lemmas.Admitted.{faultless, sane}
+use Rattle.log_laws.proofs.lemmas.Members.{member_of, contains_of}
 use Rattle.long_values.specs.LongValues.{short}
 use Rattle.long_values.specs.LongExecution.{start_long, IsRightLong}
 use Rattle.long_values.proofs.ShortSequential.{short_wanted}

@@ -1,7 +1,7 @@
 use Rattle.semantics.specs.Tables.{tables_of}
 use Rattle.semantics.specs.declared.command.Command.TheVariants.{Check}
-use Rattle.log_laws.proofs.Admitted.{faultless, sane}
-use Rattle.log_laws.proofs.Members.{member_of, contains_of}
+use Rattle.log_laws.proofs.lemmas.Admitted.{faultless, sane}
+use Rattle.log_laws.proofs.lemmas.Members.{member_of, contains_of}
 use Rattle.long_values.proofs.LiftExecution.{read_there}
 use Rattle.long_values.proofs.Named.{named, no_declaration_fault, run_once}
 use Rattle.long_values.proofs.laws.tasks_read_where_they_should.Goals as goal

@@ -1,6 +1,6 @@
 use Rattle.std.proofs.Common.{sym, ◌∙◌, arith, below_more}
 use Rattle.std.proofs.lemmas.Option.{same_Some}
-use Rattle.region_tree.proofs.Climbs.{ancestor_more, at_most, never_met}
+use Rattle.region_tree.proofs.lemmas.Climbs.{ancestor_more, at_most, never_met}
 use Rattle.region_tree.proofs.Ways.{parent_declared}
 use Rattle.region_tree.proofs.climb.is_under.Goals as goal
 

@@ -1,5 +1,5 @@
 use Rattle.std.proofs.Common.{sym, ◌∙◌, arith}
-use Rattle.region_tree.proofs.Climbs.{ancestor_more}
+use Rattle.region_tree.proofs.lemmas.Climbs.{ancestor_more}
 use Rattle.region_tree.proofs.Ways.{whole_declared, step_up, leads_from}
 use Rattle.region_tree.proofs.climb.path_to.Goals as goal
 

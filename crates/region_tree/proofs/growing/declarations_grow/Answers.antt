@@ -1,4 +1,4 @@
-use Rattle.region_tree.proofs.Growth.{grown_space, grown_part, grown_sub}
+use Rattle.region_tree.proofs.lemmas.Growth.{grown_space, grown_part, grown_sub}
 use Rattle.region_tree.proofs.growing.declarations_grow.Goals as goal
 
 pub returns-clause-space : goal.returns-clause-space

@@ -1,14 +1,8 @@
-use Rattle.std.proofs.Common.{◌≢◌, ◌≤◌, ◌==◌, length, refl, sym, ap, eq-eqb, arith}
+use Rattle.std.proofs.Common.{rules, nat_eq, ◌∙◌}
+use Rattle.std.proofs.lemmas.List.{map-id}
 use Rattle.region_tree.specs.declared.decls.SubDecl.{SubDecl}
-use Rattle.std.proofs.lemmas.Bool.{eqb-false, eqb-true}
-use Rattle.region_tree.proofs.Distinct.{apart_answer, alike_answer}
+use Rattle.region_tree.proofs.Distinct.{distinct_told, ids_told}
 use Rattle.region_tree.proofs.tie.are_sub_spaces_distinct.Goals as goal
 
 pub returns : goal.returns
-returns g c =
-    let all : length c.args.finder.now.subs ≤ c.loop-i.i = omega (arith, ap length c.subs-i-end.ensures) in
-    apart_answer (λ (s t : SubDecl). s.space == t.space) (λ (s t : SubDecl). s.space ≢ t.space) c.args.finder.now.subs c.loop-i.i (λ x y e same. eqb-false y.space x.space e (sym same)) all c.loop-i.invariant
-
-pub returns-then-not-is_first_sub_space : goal.returns-then-not-is_first_sub_space
-returns-then-not-is_first_sub_space g c =
-    alike_answer (λ (s t : SubDecl). s.space == t.space) (λ (s t : SubDecl). s.space ≢ t.space) c.args.finder.now.subs c.loop-i.i c.is_first_sub_space.result (λ x y e ne. ne (sym (eqb-true y.space x.space e))) (λ x. eq-eqb x.space x.space refl) c.if-not-is_first_sub_space.true c.is_first_sub_space.ensures
+returns g c = distinct_told _ _ (λ (s : SubDecl). s) (λ (s : SubDecl). s.space) nat_eq ids_told _ _ c.stand_first.result (map-id c.subs.result.now ∙ c.subs.ensures) (λ p o found. search rules) c.stand_first.ensures

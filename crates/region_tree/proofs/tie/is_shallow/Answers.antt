@@ -1,5 +1,5 @@
 use Rattle.std.proofs.Common.{sym, ◌∙◌, refl, arith}
-use Rattle.region_tree.proofs.Climbs.{ancestor_more, at_most}
+use Rattle.region_tree.proofs.lemmas.Climbs.{ancestor_more, at_most}
 use Rattle.region_tree.proofs.tie.is_shallow.Goals as goal
 
 pub loop-up-preserved : goal.loop-up-preserved

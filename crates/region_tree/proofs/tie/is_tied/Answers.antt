@@ -1,4 +1,4 @@
-use Rattle.region_tree.proofs.Climbs.{every_shallow, acyclic_from}
+use Rattle.region_tree.proofs.lemmas.Climbs.{every_shallow, acyclic_from}
 use Rattle.region_tree.proofs.tie.is_tied.Goals as goal
 
 pub returns : goal.returns

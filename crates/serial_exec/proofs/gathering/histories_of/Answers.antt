@@ -1,7 +1,7 @@
 use Rattle.std.proofs.Common.{◌<◌, ap, subst, length, get_or}
 use Rattle.std.specs.Option.{option_map}
 use Rattle.semantics.specs.SerialOrder.{serial}
-use Rattle.serial_exec.specs.Cutting.{cut_to}
+use Rattle.point_laws.specs.Cut.{cut_to}
 use Rattle.serial_exec.specs.Histories.{changes_at}
 use Rattle.serial_exec.proofs.Gathered.{items-more}
 use Rattle.serial_exec.proofs.gathering.histories_of.Goals as goal

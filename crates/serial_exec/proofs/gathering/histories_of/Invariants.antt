@@ -3,7 +3,7 @@ use Rattle.std.specs.Option.{option_map}
 use Rattle.semantics.specs.declared.places.Place.{Place}
 use Rattle.semantics.specs.SerialOrder.{serial}
 use Rattle.serial_exec.specs.Changes.{items_changes}
-use Rattle.serial_exec.specs.Cutting.{cut_to}
+use Rattle.point_laws.specs.Cut.{cut_to}
 use Rattle.serial_exec.specs.Histories.{changes_at}
 use Rattle.serial_exec.proofs.gathering.histories_of.Given as goal
 

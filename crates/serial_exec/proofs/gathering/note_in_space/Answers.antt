@@ -1,7 +1,7 @@
 use Rattle.std.proofs.Common.{ℕ, List, sym, ap, subst, ◌∙◌, OnOk}
 use Rattle.std.specs.Option.{option_map}
 use Rattle.serial_exec.specs.Changes.{Adds, covered}
-use Rattle.serial_exec.specs.Cutting.{on_points}
+use Rattle.point_laws.specs.Cut.{kept}
 use Rattle.serial_exec.specs.Histories.{changes_at}
 use Rattle.serial_exec.proofs.Gathered.{points_cut, nothing-covered}
 use Rattle.serial_exec.proofs.gathering.note_in_space.Goals as goal
@@ -10,7 +10,7 @@ pub returns-in-Some : goal.returns-in-Some
 returns-in-Some g c =
     let on = option_map (λ q. g.Q.PointSet.points q.now) c.args.listed in
     subst (λ (points : List ℕ). OnOk c.note_all.result (Adds c.args.change (covered c.args.tree points c.args.fields.now) (changes_at c.args.histories.now) (changes_at c.note_all.new.self)))
-    (ap (on_points on) (sym c.in-Some.ensures) ∙ sym (points_cut on c.args.log.now c.args.space))
+    (ap (kept on) (sym c.in-Some.ensures) ∙ sym (points_cut on c.args.log.now c.args.space))
     c.note_all.ensures
 
 pub returns-in-None : goal.returns-in-None

@@ -1,13 +1,12 @@
-use Rattle.std.proofs.Common.{◌≡◌, ◌++◌, ◌∙◌, [], ◌∷◌, sym, ap, subst, arith, length, get_or, map, cond, All, ◌<◌}
+use Rattle.std.proofs.Common.{◌≡◌, ◌++◌, ◌∙◌, [], ◌∷◌, sym, ap, subst, length, get_or, cond, All, ◌<◌}
 use Rattle.std.specs.List.Sorted.{IsStrictlyIncreasing}
 use Rattle.log_tables.specs.Ascending.{body_fields}
 use Rattle.value_terms.specs.declared.terms.Base.TheVariants.{Const}
 use Rattle.serial_exec.specs.declared.change.Action.TheVariants.{Put}
 use Rattle.std.specs.Option.{option_map}
-use Rattle.std.proofs.lemmas.List.{get_or-map, length-map}
 use Rattle.semantics.specs.Points.{points_in}
 use Rattle.serial_exec.specs.Changes.{covered}
-use Rattle.serial_exec.specs.Cutting.{cut_to}
+use Rattle.point_laws.specs.Cut.{cut_to}
 use Rattle.serial_exec.specs.Histories.{changes_at}
 use Rattle.serial_exec.specs.OwnReqs.{reqs_at}
 use Rattle.serial_exec.proofs.Gathered.{no-item, task-item, fill-item, fill-fields, item-here, item-past, on_ok}
@@ -30,13 +29,10 @@ returns-in-Task g c =
     let t = c.args.log.now in
     let lt = c.in-Some.ensures.lookup.3.0 in
     let inside : c.args.item < length t.items = subst (λ xs. c.args.item < length xs) c.items.ensures lt in
-    let each : length (map (λ w. w.items) c.args.own.now) ≡ length t.items = c.requires.each in
-    let there : c.args.item < length c.args.own.now = omega (arith, inside, each, length-map c.args.own.now (λ w. w.items)) in
-    let mine : c.deref.result.now ≡ get_or (map (λ w. w.items) c.args.own.now) c.args.item [] =
-    c.deref.ensures.value ∙ ap (λ w. w.items) c.index-own-item.is ∙ sym (get_or-map (λ w. w.items) c.args.own.now c.args.item c.index-own-item.result [] there) in
+    let mine : c.list.result.now ≡ get_or c.args.own.now c.args.item [] = c.list.ensures in
     on_ok c.note_reqs.result (λ h p. h p
     ∙ ap (λ xs. changes_at c.args.histories.now p ++ xs)
-    (task-item on t c.args.moment c.args.item p c.in-Some.found.now (reqs_at t.reqs c.deref.result.now)
+    (task-item on t c.args.moment c.args.item p c.in-Some.found.now (reqs_at t.reqs c.list.result.now)
     (item-here c.items.result.now t.items c.args.item c.in-Some.found.now c.items.ensures lt c.in-Some.ensures.lookup.1)
     c.in-Task.is
     (ap (reqs_at t.reqs) mine ∙ c.requires.own c.args.item inside))) c.note_reqs.ensures

@@ -1,7 +1,7 @@
 use Rattle.std.proofs.Common.{refl, get_or}
 use Rattle.std.specs.Option.{option_map}
 use Rattle.serial_exec.specs.Changes.{by_task}
-use Rattle.serial_exec.specs.Cutting.{cut_to}
+use Rattle.point_laws.specs.Cut.{cut_to}
 use Rattle.serial_exec.specs.Histories.{changes_at}
 use Rattle.serial_exec.proofs.Gathered.{uses-more}
 use Rattle.serial_exec.proofs.gathering.note_reqs.Goals as goal

@@ -2,7 +2,7 @@ use Rattle.std.proofs.Common.{◌≡◌, ◌++◌, take}
 use Rattle.std.specs.Option.{option_map}
 use Rattle.semantics.specs.declared.places.Place.{Place}
 use Rattle.serial_exec.specs.Changes.{by_task, uses_changes}
-use Rattle.serial_exec.specs.Cutting.{cut_to}
+use Rattle.point_laws.specs.Cut.{cut_to}
 use Rattle.serial_exec.specs.Histories.{changes_at}
 use Rattle.serial_exec.specs.OwnReqs.{reqs_at}
 use Rattle.serial_exec.proofs.gathering.note_reqs.Given as goal

@@ -1,10 +1,10 @@
-use Rattle.std.proofs.Common.{◌∙◌}
-use Rattle.std.proofs.lemmas.List.{length-map}
+use Rattle.std.proofs.Common.{[], sym, subst}
+use Rattle.serial_exec.specs.OwnReqs.{AreOwn}
 use Rattle.serial_exec.proofs.Owned.{none-are_own, more-are_own}
 use Rattle.serial_exec.proofs.own_reqs.own_reqs.Goals as goal
 
 pub loop-k-init : goal.loop-k-init
-loop-k-init c = none-are_own c.args.reqs.now c.args.count _ (length-map c.in_ok-lists.lists.items (λ w. w.items) ∙ c.in_ok-lists.ensures.each) c.in_ok-lists.ensures.empty
+loop-k-init c = subst (AreOwn c.args.reqs.now [] c.args.count) (sym c.in_ok-lists.ensures) (none-are_own c.args.reqs.now c.args.count)
 
 pub loop-k-preserved : goal.loop-k-preserved
 loop-k-preserved c =

@@ -5,11 +5,10 @@ use Rattle.std.proofs.lemmas.Result.{IfOk-weaker}
 use Rattle.spy_grammar.specs.Spelling.{Good, spelling}
 use Rattle.semantics.specs.declared.command.Command.TheVariants.{Check}
 use Rattle.semantics.specs.Outcome.{IsFound}
-use Rattle.semantics.specs.Records.{lined, records_of}
-use Rattle.log_faults.specs.Lines.{AreLines}
+use Rattle.semantics.specs.Records.{lined, records_of, AreLines}
 use Rattle.log_gen.specs.Stencil.{stencil}
 use Rattle.spy_cli.specs.declared.report.Report.{Report}
-use Rattle.spy_cli.proofs.Numbered.{are_lines, each_good}
+use Rattle.log_reading.proofs.lemmas.Numbered.{are_lines, each_good}
 use Rattle.spy_cli.proofs.Stencils.{records_are, spellings_hold}
 use Rattle.spy_cli.proofs.demo.demo_report.Goals as goal
 

@@ -1,8 +1,8 @@
-use Rattle.std.proofs.Common.{ap, sym, subst}
+use Rattle.std.proofs.Common.{sym, subst}
 use Rattle.std.specs.List.{AllByRecursion}
 use Rattle.spy_grammar.specs.Spelling.{Good}
 use Rattle.semantics.specs.Records.{records_of}
-use Rattle.spy_cli.proofs.Numbered.{good_records}
+use Rattle.log_reading.proofs.lemmas.Numbered.{good_records}
 use Rattle.spy_cli.proofs.printing.printed_report.Goals as goal
 
 pub printed_text-requires : goal.printed_text-requires

@@ -1,6 +1,6 @@
 use Rattle.std.proofs.Common.{[], ◌∷◌, ◌++◌, List, sym, ap, ◌∙◌, arith}
 use Rattle.value_terms.specs.declared.bag.Group.{Group}
-use Rattle.value_terms.proofs.Grouping.{extended_last, appended, joined_one, last_there, read_bag_within, told}
+use Rattle.value_terms.proofs.lemmas.Grouping.{extended_last, appended, joined_one, last_there, read_bag_within, told}
 use Rattle.value_terms.proofs.groups.add_to.Goals as goal
 
 pub add-requires-clause-fits : goal.add-requires-clause-fits

@@ -1,4 +1,4 @@
-use Rattle.value_terms.proofs.Grouping.{last_read}
+use Rattle.value_terms.proofs.lemmas.Grouping.{last_read}
 use Rattle.value_terms.proofs.groups.last_has.Goals as goal
 
 pub returns-in-len1-up : goal.returns-in-len1-up

@@ -1,7 +1,7 @@
 use Rattle.std.proofs.Common.{nat_eq, subst}
 use Rattle.std.specs.HashMap.{get}
 use Rattle.event_graph.specs.EventPlaces.{ArePlaces}
-use Rattle.event_graph.proofs.Placed.{waits_known}
+use Rattle.event_graph.proofs.lemmas.Placed.{waits_known}
 use Rattle.event_graph.proofs.graph.Graph.build.Goals as goal
 
 pub invariant_of-result : goal.invariant_of-result

@@ -1,4 +1,4 @@
-use Rattle.inst_steps.proofs.StoreMaps.{put_at}
+use Rattle.inst_steps.proofs.lemmas.StoreMaps.{put_at}
 use Rattle.inst_steps.proofs.store.Store.hold.Goals as goal
 
 pub returns-in-Ok-clause-ok : goal.returns-in-Ok-clause-ok

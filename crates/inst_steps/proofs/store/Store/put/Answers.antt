@@ -1,5 +1,5 @@
 use Rattle.std.proofs.Common.{sym}
-use Rattle.inst_steps.proofs.StoreMaps.{put_at, is_there, not_missing}
+use Rattle.inst_steps.proofs.lemmas.StoreMaps.{put_at, is_there, not_missing}
 use Rattle.inst_steps.proofs.store.Store.put.Goals.{in-Some, in_default}
 use Rattle.inst_steps.proofs.store.Store.put.Goals as goal
 

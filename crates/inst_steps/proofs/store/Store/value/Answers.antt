@@ -1,5 +1,5 @@
 use Rattle.std.proofs.Common.{◌∙◌}
-use Rattle.inst_steps.proofs.StoreMaps.{got}
+use Rattle.inst_steps.proofs.lemmas.StoreMaps.{got}
 use Rattle.inst_steps.proofs.store.Store.value.Goals as goal
 
 pub returns : goal.returns

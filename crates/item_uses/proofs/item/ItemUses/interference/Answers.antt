@@ -1,6 +1,6 @@
 use Rattle.std.proofs.Common.{sym, ◌∙◌, ap}
 use Rattle.item_uses.specs.Sharing.{kind_between, place_between}
-use Rattle.item_uses.proofs.Bounded.{free_apart, none_apart, free_both}
+use Rattle.item_uses.proofs.lemmas.Bounded.{free_apart, none_apart, free_both}
 use Rattle.item_uses.proofs.item.ItemUses.interference.Goals as goal
 
 pub returns-else-may_interfere-clause-kind : goal.returns-else-may_interfere-clause-kind

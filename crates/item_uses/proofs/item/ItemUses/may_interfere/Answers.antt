@@ -1,6 +1,6 @@
 use Rattle.std.proofs.Common.{sym, ◌∙◌, ap}
 use Rattle.item_uses.specs.Sharing.{kind_between}
-use Rattle.item_uses.proofs.Bounded.{free_apart}
+use Rattle.item_uses.proofs.lemmas.Bounded.{free_apart}
 use Rattle.item_uses.proofs.item.ItemUses.may_interfere.Goals as goal
 
 pub returns : goal.returns

@@ -1,6 +1,6 @@
 use Rattle.std.proofs.Common.{sym, ◌∙◌, subst}
 use Rattle.item_uses.specs.Spans.{IsWithin}
-use Rattle.item_uses.proofs.Bounded.{nothing_shared}
+use Rattle.item_uses.proofs.lemmas.Bounded.{nothing_shared}
 use Rattle.item_uses.proofs.usage.Use.shared.Goals as goal
 
 pub returns-then-not-overlaps : goal.returns-then-not-overlaps

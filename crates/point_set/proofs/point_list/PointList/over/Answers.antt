@@ -1,6 +1,6 @@
 use Rattle.std.proofs.Common.{◌<◌, ◌^◌, arith}
 use Rattle.std.proofs.lemmas.List.Elements.{All-from_get_or}
-use Rattle.point_set.proofs.Maximal.{are_runs, points_of-maximal_runs}
+use Rattle.point_set.proofs.lemmas.Maximal.{are_runs, points_of-maximal_runs}
 use Rattle.point_set.proofs.point_list.PointList.over.Goals as goal
 
 pub invariant_of-result-clause-bounded : goal.invariant_of-result-clause-bounded

@@ -3,7 +3,7 @@ use Rattle.std.specs.Option.{option_map}
 use Rattle.semantics.specs.SerialOrder.{serial}
 use Rattle.log_decl.specs.Listing.{ArePlacesIn}
 use Rattle.serial_exec.specs.Changes.{items_changes}
-use Rattle.serial_exec.specs.Cutting.{cut_to}
+use Rattle.point_laws.specs.Cut.{cut_to}
 use Rattle.serial_exec.proofs.Gathered.{serial_cut}
 use Rattle.serial_exec.proofs.Keeping.{kept-in_order, versions-of}
 use Rattle.serial_exec.proofs.versions.Versions.of.Goals as goal

@@ -1,7 +1,7 @@
 use Rattle.std.proofs.Common.{ap, sym, ◌∙◌, drop, slice_get, []}
 use Rattle.std.specs.Option.{option_map_or}
 use Rattle.spy_words.specs.Reading.{parts}
-use Rattle.spy_words.proofs.Joins.{first_piece, only_piece}
+use Rattle.spy_words.proofs.lemmas.Joins.{first_piece, only_piece}
 use Rattle.spy_words.proofs.cut.Pieces.next.Goals as goal
 
 pub returns-in_default : goal.returns-in_default

@@ -1,0 +1,49 @@
+-- The lines of a report, written cell by cell.
+use Rattle.std.proofs.Common.{◌≡◌, ℕ, suc, ◌-◌, ◌<◌, ◌≤◌, ◌^◌, List, [], ◌∷◌, ◌++◌, map, length, take, drop, get_or, arith, refl, sym, ap, ◌∙◌, append_assoc, append-nil}
+use Rattle.std.specs.List.{AllByRecursion}
+use Rattle.std.proofs.lemmas.List.{take_all}
+use Rattle.findings.specs.declared.cells.ReportCell.{ReportCell}
+use Rattle.findings.specs.declared.cells.ReportCell.TheVariants as cells
+use Rattle.findings.specs.declared.finding.Dep.{Dep}
+use Rattle.findings.specs.declared.finding.Finding.{Finding}
+use Rattle.findings.specs.Cells.{with_cell, words_in}
+use Rattle.findings.specs.Texts.{Word, Line, small, last_line, deps_of, dep_line, word_text, row_text, line_text, lines_text, report_text, IsInRange}
+
+pub small_fit : (ns : List ℕ) → ((k : ℕ) → get_or ns k 0 < 2 ^ 32) → AllByRecursion IsInRange (map small ns)
+small_fit [] h = tt
+small_fit (n ∷ ns) h = (h 0, small_fit ns (λ k. h (suc k)))
+
+row_text-append : (vs ws : List Word) → row_text (vs ++ ws) ≡ row_text vs ++ row_text ws
+row_text-append [] ws = refl
+row_text-append (v ∷ vs) ws = ap (λ (x : List ℕ). 32 ∷ word_text v ++ x) (row_text-append vs ws) ∙ ap (λ (x : List ℕ). 32 ∷ x) (sym (append_assoc (word_text v) (row_text vs) (row_text ws)))
+
+words-cell : (cell : ReportCell) (ws : List Word) → with_cell cell ws ≡ with_cell cell [] ++ ws
+words-cell (cells.Events ns) ws = ap (λ vs. vs ++ ws) (sym (append-nil (map small ns.now)))
+words-cell cell ws = refl
+
+-- the words of one cell more were written
+pub cell_written : (before out all : List ℕ) (cs : List ReportCell) (x : ReportCell) → 1 ≤ length cs → x ≡ get_or cs 0 x → before ++ row_text (words_in cs) ≡ all → out ≡ before ++ row_text (with_cell x []) → out ++ row_text (words_in (take (length cs - 1) (drop 1 cs))) ≡ all
+cell_written before out all [] x some read whole is = absurd (omega arith)
+cell_written before out all (c ∷ cs) x some read whole is =
+    let rest : take (length (c ∷ cs) - 1) cs ≡ cs = take_all _ cs (omega arith) in
+    let split = ap row_text (words-cell c (words_in cs)) ∙ row_text-append (with_cell c []) (words_in cs) in
+    rw (rest, is, read, append_assoc) (ap (λ (w : List ℕ). before ++ w) (sym split) ∙ whole)
+
+-- one line more was written
+pub line_written : (before out all : List ℕ) (ds : List Dep) (d : Dep) → 1 ≤ length ds → before ++ lines_text (map dep_line ds) ≡ all → out ≡ before ++ line_text (dep_line (get_or ds 0 d)) ++ 10 ∷ [] → out ++ lines_text (map dep_line (take (length ds - 1) (drop 1 ds))) ≡ all
+line_written before out all [] d some whole is = absurd (omega arith)
+line_written before out all (e ∷ ds) d some whole is =
+    let rest : take (length (e ∷ ds) - 1) ds ≡ ds = take_all _ ds (omega arith) in
+    rw (rest, is) (ends before (line_text (dep_line e)) (lines_text (map dep_line ds)) ∙ whole)
+  where
+    ends : (xs ys zs : List ℕ) → (xs ++ ys ++ 10 ∷ []) ++ zs ≡ xs ++ (ys ++ 10 ∷ zs)
+    ends xs ys zs = simp append_assoc
+
+lines_text-append : (ks ls : List Line) → lines_text (ks ++ ls) ≡ lines_text ks ++ lines_text ls
+lines_text-append [] ls = refl
+lines_text-append (k ∷ ks) ls = ap (λ (x : List ℕ). line_text k ++ 10 ∷ x) (lines_text-append ks ls) ∙ sym (append_assoc (line_text k) (10 ∷ lines_text ks) (lines_text ls))
+
+-- the text of a report: the pairs that it lists, and then its own line
+pub text_told : (f : Finding) → report_text f ≡ lines_text (map dep_line (deps_of f)) ++ line_text (last_line f) ++ 10 ∷ []
+unfolding report_text
+text_told f = lines_text-append (map dep_line (deps_of f)) (last_line f ∷ []) ∙ sym (append_assoc (lines_text (map dep_line (deps_of f))) (line_text (last_line f)) (10 ∷ []))

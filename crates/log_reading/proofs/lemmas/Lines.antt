@@ -1,0 +1,114 @@
+-- An input, cut into lines.
+use Rattle.std.proofs.Common.{◌≡◌, ℕ, suc, ◌+◌, ◌-◌, ◌≤◌, ◌<◌, ◌==◌, List, [], ◌∷◌, ◌++◌, length, take, drop, Some, None, refl, sym, ap, ap₂, subst, ◌∙◌, arith, ◌^◌, Bool, false, not, append_assoc, append-nil, length-append, inl, inr, count_by, All}
+use Rattle.std.specs.Prelude.{slice_get, Result, Err}
+use Rattle.std.specs.List.{AllByRecursion, onto_first, list_all}
+use Rattle.std.proofs.lemmas.Bool.{lt-ltb, le-ltb, ne_eqb, eqb-true, cases_Bool}
+use Rattle.std.proofs.lemmas.List.Elements.{recursion_from_All}
+use Rattle.std.proofs.lemmas.List.Splits.{length-slice_split, slice_split_at, slice_split-cons_yes, slice_split-cons_no}
+use Rattle.std.proofs.Math.Seq.{take-append_seam, drop-append_seam}
+use Rattle.spy_lines.specs.LinesOf.{with_ends, IsLine, IsUnended}
+use Rattle.spy_grammar.specs.declared.code.Code.{Code}
+use Rattle.spy_grammar.specs.declared.code.Code.TheVariants.{TooLong, Newline}
+use Rattle.spy_grammar.specs.declared.record.Lined.{Lined}
+use Rattle.semantics.specs.Records.{parts_of, line_count, Hold}
+use Rattle.semantics.specs.TextFaults.{ends_within_line, lines_fault, text_fault}
+use Rattle.log_reading.specs.Spelled.{HasFault, HasFaultOfLines, Spells}
+use Rattle.log_reading.specs.declared.reading.SpellEnd.{SpellEnd}
+use Rattle.log_reading.specs.declared.reading.SpellEnd.TheVariants.{Fault}
+
+pub long : (bytes : List ℕ) → 2 ^ 26 < length bytes → HasFault bytes 0 TooLong
+unfolding text_fault
+long bytes h = rw (lt-ltb 67108864 (length bytes) (omega (arith, h))) refl
+
+-- The lines of an input, as it is cut at each line feed: whole lines, and then those of what stands after them.
+pub parts_before : (lines : List (List ℕ)) (behind : List ℕ) → AllByRecursion IsLine lines → parts_of (with_ends lines ++ behind) ≡ lines ++ parts_of behind
+parts_before [] behind h = refl
+parts_before (l ∷ lines) behind h =
+    ap parts_of (append_assoc l (10 ∷ with_ends lines) behind)
+    ∙ slice_split_at (λ b. b == 10) l 10 (with_ends lines ++ behind) (λ k d lt. ne_eqb _ 10 (h.0 k d lt)) refl
+    ∙ ap (λ ps. l ∷ ps) (parts_before lines behind h.1)
+
+parts_are : (lines : List (List ℕ)) → AllByRecursion IsLine lines → parts_of (with_ends lines) ≡ lines ++ [] ∷ []
+parts_are lines h = ap parts_of (sym (append-nil (with_ends lines))) ∙ parts_before lines [] h
+
+pub count_is : (lines : List (List ℕ)) → AllByRecursion IsLine lines → line_count (with_ends lines) ≡ length lines
+count_is lines h = let many : length (parts_of (with_ends lines)) ≡ length lines + 1 = ap length (parts_are lines h) ∙ length-append lines ([] ∷ []) in omega (arith, many)
+
+pub lines_are : (lines : List (List ℕ)) → AllByRecursion IsLine lines → take (line_count (with_ends lines)) (parts_of (with_ends lines)) ≡ lines
+lines_are lines h = ap₂ take (count_is lines h) (parts_are lines h) ∙ take-append_seam lines ([] ∷ [])
+
+pub end_is : (lines : List (List ℕ)) → AllByRecursion IsLine lines → drop (line_count (with_ends lines)) (parts_of (with_ends lines)) ≡ [] ∷ []
+end_is lines h = ap₂ drop (count_is lines h) (parts_are lines h) ∙ drop-append_seam lines ([] ∷ [])
+
+-- The fault of an input of whole lines is that of its lines.
+pub lines_decide : (lines : List (List ℕ)) → AllByRecursion IsLine lines → length (with_ends lines) ≤ 67108864 → text_fault (with_ends lines) ≡ lines_fault 1 lines
+unfolding text_fault
+lines_decide lines h short =
+    let ended : ends_within_line (with_ends lines) ≡ false = ap (λ ps. not (list_all (λ w. length w == 0) ps)) (end_is lines h) in
+    rw (le-ltb 67108864 (length (with_ends lines)) short, ended) (ap (lines_fault 1) (lines_are lines h))
+
+pub lines_fault_is : (lines : List (List ℕ)) (line : ℕ) (code : Code) → All IsLine lines → length (with_ends lines) ≤ 2 ^ 26
+    → HasFaultOfLines lines line code → HasFault (with_ends lines) line code
+lines_fault_is lines line code single short shown = lines_decide lines (recursion_from_All _ lines single) (omega (arith, short)) ∙ shown
+
+-- What lines hold, their bytes spell.
+pub lines_spell : (lines : List (List ℕ)) (log : List Lined) → All IsLine lines → length (with_ends lines) ≤ 2 ^ 26
+    → lines_fault 1 lines ≡ None → Hold 1 lines log → Spells (with_ends lines) (length lines) log
+lines_spell lines log single short clean held =
+    let each = recursion_from_All _ lines single in
+    record {
+      clean = lines_decide lines each (omega (arith, short)) ∙ clean;
+      reads = record { ended = end_is lines each; hold = subst (λ ls. Hold 1 ls log) (sym (lines_are lines each)) held };
+      count = sym (count_is lines each);
+    }
+
+-- Whether nothing stands after the last cut.
+abbrev none_left : List (List ℕ) → Bool
+none_left parts = list_all (λ w. length w == 0) (drop (length parts - 1) parts)
+
+left_behind : (part next : List ℕ) (parts : List (List ℕ)) → none_left (part ∷ next ∷ parts) ≡ none_left (next ∷ parts)
+left_behind part next parts =
+    let all : length (part ∷ next ∷ parts) - 1 ≡ suc (length parts) = omega (arith) in
+    let some : length (next ∷ parts) - 1 ≡ length parts = omega (arith) in
+    ap (λ n. list_all (λ w. length w == 0) (drop n (part ∷ next ∷ parts))) all ∙ sym (ap (λ n. list_all (λ w. length w == 0) (drop n (next ∷ parts))) some)
+
+left_more : (b : ℕ) (parts : List (List ℕ)) → none_left parts ≡ false → none_left (onto_first b parts) ≡ false
+left_more b [] h = absurd cc
+left_more b (p ∷ []) h = rw (ne_eqb (length (b ∷ p)) 0 (λ e. omega (arith, e))) refl
+left_more b (p ∷ q ∷ parts) h = left_behind (b ∷ p) q parts ∙ sym (left_behind p q parts) ∙ h
+
+left_next : (parts : List (List ℕ)) → 1 ≤ length parts → none_left parts ≡ false → none_left ([] ∷ parts) ≡ false
+left_next [] some h = absurd (omega (arith, some))
+left_next (p ∷ parts) some h = left_behind [] p parts ∙ h
+
+unended_left : (bytes : List ℕ) → IsUnended bytes → none_left (parts_of bytes) ≡ false
+unended_left [] un = absurd (un.0 refl)
+unended_left (b ∷ []) un = elim (cases_Bool (b == 10)) [
+  | inl same ↦ absurd (un.1 (ap Some (eqb-true b 10 same)))
+  | inr other ↦ subst (λ ps. none_left ps ≡ false) (sym (slice_split-cons_no (λ c. c == 10) b [] other)) (rw (ne_eqb (length (b ∷ [])) 0 (λ e. omega (arith, e))) refl)
+]
+unended_left (b ∷ c ∷ bs) un =
+    let last : length (b ∷ c ∷ bs) - 1 ≡ suc (length (c ∷ bs) - 1) = omega (arith) in
+    let behind : none_left (parts_of (c ∷ bs)) ≡ false = unended_left (c ∷ bs) (λ e. absurd cc, λ e. un.1 (ap (slice_get (b ∷ c ∷ bs)) last ∙ e)) in
+    let many : 1 ≤ length (parts_of (c ∷ bs)) = omega (arith, length-slice_split (λ x. x == 10) (c ∷ bs)) in
+    elim (cases_Bool (b == 10)) [
+      | inl same ↦ subst (λ ps. none_left ps ≡ false) (sym (slice_split-cons_yes (λ x. x == 10) b (c ∷ bs) same)) (left_next (parts_of (c ∷ bs)) many behind)
+      | inr other ↦ subst (λ ps. none_left ps ≡ false) (sym (slice_split-cons_no (λ x. x == 10) b (c ∷ bs) other)) (left_more b (parts_of (c ∷ bs)) behind)
+    ]
+
+unended_fault : (bytes : List ℕ) → length bytes ≤ 67108864 → IsUnended bytes → text_fault bytes ≡ Some (record { line = line_count bytes + 1; code = Newline })
+unfolding text_fault
+unended_fault bytes short un = rw (le-ltb 67108864 (length bytes) short, unended_left bytes un) refl
+
+pub unended : (bytes : List ℕ) (line : ℕ) → length bytes ≤ 2 ^ 26 → IsUnended bytes
+    → line ≡ count_by (λ b. b == 10) bytes + 1 → HasFault bytes line Newline
+unended bytes line short un at =
+    let count : line_count bytes + 1 ≡ line = omega (arith, at, length-slice_split (λ b. b == 10) bytes) in
+    unended_fault bytes (omega (arith, short)) un ∙ ap (λ n. Some (record { line = n; code = Newline })) count
+
+-- What holds of the fault in an answer holds of the one that it is said to be.
+pub same_end : {T : Type 0} (P : ℕ → Code → Type 0) (l m : ℕ) (k n : Code) → ◌≡◌ {A = Result T SpellEnd} (Err (Fault l k)) (Err (Fault m n)) → P l k → P m n
+same_end P l m k n is h =
+    let a : l ≡ m = cc in
+    let b : k ≡ n = cc in
+    subst (P m) b (subst (λ x. P x k) a h)

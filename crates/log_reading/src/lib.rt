@@ -1,0 +1,8 @@
+//! From bytes to the records of a log: an input is cut into lines, and each line read.
+#![tactic(auto)]
+
+mod input;
+mod reading;
+
+pub use input::{MOST_BYTES, input_in};
+pub use reading::{Input, SpellEnd, read_records};

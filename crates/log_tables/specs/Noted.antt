@@ -1,0 +1,13 @@
+-- What is noted of keys, as a function from a key to what is looked up.
+use Rattle.std.specs.Prelude.{◌≡◌, ℕ, Bool, List, Option, Some, None, if◌then◌else◌}
+use Rattle.std.specs.List.{position_from}
+use Rattle.std.specs.Option.{option_or}
+
+module _ {K : Type 0} where
+  -- The keys that pass a test get a value, where they had none.
+  abbrev pub NotesFirst : {V : Type 0} → (K → Option V) → (K → Option V) → (K → Bool) → V → Type 0
+  NotesFirst old new test value = (q : K) → new q ≡ option_or (old q) (if test q then Some value else None)
+
+  -- The place of each key is that of the first row that has it.
+  abbrev pub HoldsPlaces : {T : Type 0} → (K → K → Bool) → (T → K) → (K → Option ℕ) → List T → Type 0
+  HoldsPlaces eq key_of places rows = (q : K) → places q ≡ position_from (λ x. eq (key_of x) q) 0 rows

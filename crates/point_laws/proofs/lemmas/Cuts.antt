@@ -1,0 +1,186 @@
+-- What is done, read and raced for at some points is what the tables that are cut to these points say.
+use Rattle.std.proofs.Common.{◌≡◌, ℕ, inl, inr, ◌↔◌, Bool, true, false, cond, ◌||◌, ◌&&◌, ◌==◌, List, [], ◌∷◌, ◌++◌, map, filter, flat_map, refl, sym, ap, ap₂, ◌∙◌, subst, Option, Some, None, find, slice_get, take, Contains, length, if◌then◌else◌}
+use Rattle.std.specs.List.{range_with_len}
+use Rattle.std.specs.Option.{option_or, option_map_or}
+use Rattle.std.proofs.Math.Path.{fun_ext}
+use Rattle.std.proofs.lemmas.Bool.{cases_Bool, true≢false, false_from_ne_true, eqb-true}
+use Rattle.std.proofs.lemmas.List.Concat.{flat_map_single}
+use Rattle.std.proofs.lemmas.List.Elements.{filter-append}
+use Rattle.value_terms.specs.declared.terms.Base.TheVariants.{Init}
+use Rattle.value_terms.specs.Values.{Value, plain, same_value}
+use Rattle.semantics.specs.declared.places.Cell.{Cell}
+use Rattle.semantics.specs.declared.places.Place.{Place}
+use Rattle.semantics.specs.declared.moves.Move.{Move}
+use Rattle.semantics.specs.declared.moves.Move.TheVariants as moves
+use Rattle.semantics.specs.declared.tables.Item.{Item}
+use Rattle.semantics.specs.declared.tables.Req.{Req}
+use Rattle.semantics.specs.declared.tables.Op.{Op}
+use Rattle.semantics.specs.declared.tables.Op.TheVariants as operations
+use Rattle.semantics.specs.Tables.{Tables, Space, place_of}
+use Rattle.semantics.specs.Points.{is_in, points_in}
+use Rattle.semantics.specs.Kinds.{covers, uses_of, reqs_of, grid, req_grid}
+use Rattle.semantics.specs.SerialOrder.{serial, serial_place}
+use Rattle.semantics.specs.Sequential.{after_items, after_uses, wanted, changed}
+use Rattle.semantics.specs.Steps.{Step, id_of, inst_at, cell_in, mapped_cell, operator_of, reads_by, changes_by, at_cells, moves_of, steps_by, steps}
+use Rattle.semantics.specs.Execution.{State, start, effect}
+use Rattle.semantics.specs.Reads.{req_at, difference, first_difference}
+use Rattle.semantics.specs.Races.{access, Race}
+use Rattle.log_laws.proofs.lemmas.Members.{Member, Each, member_of, contains_of, member_filter, none_or_some}
+use Rattle.log_laws.proofs.lemmas.StepLists.{steps_at}
+use Rattle.point_laws.specs.Alike.{target, is_at}
+use Rattle.point_laws.specs.Cut.{cut, cut_space}
+use Rattle.point_laws.proofs.Rows.{filter_map_of, filter_flat, kept_grid}
+use Rattle.point_laws.proofs.Moves.{Does, at_points, reads_kept, changes_kept, steps_stay}
+use Rattle.point_laws.proofs.Effects.{Agree, Stay, kept_agree}
+use Rattle.point_laws.proofs.Firsts.{difference_agrees}
+use Rattle.point_laws.proofs.Raced.{is_step, touched_point, both_touched}
+
+-- ---- the points of cut tables
+
+found_cut : (ps : List ℕ) (id : ℕ) (spaces : List Space)
+    → option_map_or (λ (s : Space). s.points) (find (λ (s : Space). s.id == id) (map (cut_space ps) spaces)) [] ≡ filter (is_in ps) (option_map_or (λ (s : Space). s.points) (find (λ (s : Space). s.id == id) spaces) [])
+found_cut ps id [] = refl
+found_cut ps id (s ∷ spaces) = elim (cases_Bool (s.id == id)) [ inl here ↦ rw here refl | inr other ↦ rw other (found_cut ps id spaces) ]
+
+pub points_cut : (ps : List ℕ) (t : Tables) (id : ℕ) → points_in (cut ps t) id ≡ filter (is_in ps) (points_in t id)
+points_cut ps t id = found_cut ps id t.spaces
+
+in_filter : (keep : ℕ → Bool) (p : ℕ) → keep p ≡ true → (ns : List ℕ) → is_in (filter keep ns) p ≡ is_in ns p
+in_filter keep p at [] = refl
+in_filter keep p at (n ∷ ns) = elim (cases_Bool (keep n)) [
+  | inl kept ↦ rw kept (ap (λ b. (n == p) || b) (in_filter keep p at ns))
+  | inr left ↦
+      let differ : (n == p) ≡ false = false_from_ne_true (n == p) (λ e. true≢false (sym at ∙ ap keep (sym (eqb-true n p e)) ∙ left)) in
+      rw (left, differ) (in_filter keep p at ns)
+]
+
+in_cut : (ps : List ℕ) (t : Tables) (p : ℕ) → is_in ps p ≡ true → (id : ℕ) → is_in (points_in (cut ps t) id) p ≡ is_in (points_in t id) p
+in_cut ps t p at id = ap (λ ns. is_in ns p) (points_cut ps t id) ∙ in_filter (is_in ps) p at (points_in t id)
+
+-- ---- the steps of cut tables
+
+module _ (ps : List ℕ) (t : Tables) where
+  cells_cut : (does : Does) → ((r : Req) (c : Cell) → filter (at_points ps) (does r c) ≡ cond (is_in ps c.point) (does r c) []) → (rs : List Req) → at_cells (cut ps t) does rs ≡ filter (at_points ps) (at_cells t does rs)
+  cells_cut does kept rs =
+      let part : Req → List Move = λ r. flat_map (λ x. does r (mapped_cell t r x)) (req_grid t r) in
+      let one : (r : Req) → flat_map (λ x. does r (mapped_cell t r x)) (req_grid (cut ps t) r) ≡ filter (at_points ps) (part r) = λ r.
+      ap (λ points. flat_map (λ x. does r (mapped_cell t r x)) (grid points r.fields)) (points_cut ps t r.space)
+      ∙ sym (kept_grid (at_points ps) (is_in ps) (λ x. does r (mapped_cell t r x)) (λ x f. kept r (mapped_cell t r (x, f))) (points_in t r.space) r.fields) in
+      ap (λ g. flat_map g rs) (fun_ext one) ∙ sym (filter_flat (at_points ps) part rs)
+
+  each_cut : (space : ℕ) (fields : List ℕ) (does : ℕ × ℕ → Move) → ((x f : ℕ) → (target (does (x, f))).point ≡ x) → map does (grid (points_in (cut ps t) space) fields) ≡ filter (at_points ps) (map does (grid (points_in t space) fields))
+  each_cut space fields does at =
+      ap (λ points. map does (grid points fields)) (points_cut ps t space)
+      ∙ sym (flat_map_single does (grid (filter (is_in ps) (points_in t space)) fields))
+      ∙ sym (kept_grid (at_points ps) (is_in ps) (λ x. does x ∷ []) (λ x f. ap (λ y. cond (is_in ps y) (does (x, f) ∷ []) []) (at x f)) (points_in t space) fields)
+      ∙ ap (filter (at_points ps)) (flat_map_single does (grid (points_in t space) fields))
+
+  moves_cut : (op : Op) → moves_of (cut ps t) op ≡ filter (at_points ps) (moves_of t op)
+  moves_cut (operations.Run item) =
+      ap₂ ◌++◌ (cells_cut (λ r c. reads_by (id_of t item) r.number r.access c) (λ r c. reads_kept ps (id_of t item) r.number r.access c) (reqs_of t item))
+      (cells_cut (λ r c. changes_by (id_of t item) r.number r.access c) (λ r c. changes_kept ps (id_of t item) r.number r.access c) (reqs_of t item))
+      ∙ sym (filter-append (at_points ps) _ _)
+  moves_cut (operations.Copy src dst space fields) = each_cut space fields (λ x. moves.Copy (cell_in src x) (cell_in dst x)) (λ x f. refl)
+  moves_cut (operations.Put inst space fields n) = each_cut space fields (λ x. moves.Put (cell_in inst x) n) (λ x f. refl)
+  moves_cut (operations.Reset inst space fields) = each_cut space fields (λ x. moves.Reset (cell_in inst x)) (λ x f. refl)
+  moves_cut (operations.Fold src dst space fields) = each_cut space fields (λ x. moves.Fold (operator_of t src) (cell_in src x) (cell_in dst x)) (λ x f. refl)
+  moves_cut operations.Merge = refl
+
+  steps_at_cut : (k : ℕ) → steps_at (cut ps t) k ≡ filter (is_at ps) (steps_at t k)
+  steps_at_cut k = elim (none_or_some (slice_get t.nodes k)) [
+    | inl none ↦ rw none refl
+    | inr some ↦ rw some.1 (ap (map (λ m. record { node = k; move = m })) (moves_cut some.0.op) ∙ sym (filter_map_of (is_at ps) (λ m. record { node = k; move = m }) (moves_of t some.0.op)))
+  ]
+
+  pub steps_cut : (nodes : List ℕ) → steps_by (cut ps t) nodes ≡ filter (is_at ps) (steps_by t nodes)
+  steps_cut nodes = ap (λ g. flat_map g nodes) (fun_ext steps_at_cut) ∙ sym (filter_flat (is_at ps) (steps_at t) nodes)
+
+  -- ---- the values of cut tables
+
+  pub start_cut : (c : Cell) → is_in ps c.point ≡ true → start (cut ps t) c ≡ start t c
+  start_cut c at = elim (none_or_some (inst_at t c.inst)) [
+    | inl none ↦ rw none refl
+    | inr some ↦ rw (some.1, in_cut ps t c.point at some.0.space) refl
+  ]
+
+  uses_cut : (i : Item) (rs : List Req) (p : Place) (v : Value) → is_in ps p.point ≡ true → after_uses (cut ps t) i rs p v ≡ after_uses t i rs p v
+  uses_cut i [] p v at = refl
+  uses_cut i (r ∷ rs) p v at =
+      ap (λ b. after_uses (cut ps t) i rs p (if (r.tree == p.tree) && (b && is_in r.fields p.field) then changed i r v else v)) (in_cut ps t p.point at r.space)
+      ∙ uses_cut i rs p (if covers t p r then changed i r v else v) at
+
+  one_cut : (o : Option Item) (rs : List Req) (p : Place) (v : Value) → is_in ps p.point ≡ true → option_map_or (λ i. after_uses (cut ps t) i rs p v) o v ≡ option_map_or (λ i. after_uses t i rs p v) o v
+  one_cut None rs p v at = refl
+  one_cut (Some i) rs p v at = uses_cut i rs p v at
+
+  pub items_cut : (items : List ℕ) (p : Place) (v : Value) → is_in ps p.point ≡ true → after_items (cut ps t) items p v ≡ after_items t items p v
+  items_cut [] p v at = refl
+  items_cut (item ∷ items) p v at = ap (after_items (cut ps t) items p) (one_cut (slice_get t.items item) (uses_of t item) p v at) ∙ items_cut items p _ at
+
+  pub wanted_cut : (item : ℕ) (p : Place) → is_in ps p.point ≡ true → wanted (cut ps t) item p ≡ wanted t item p
+  wanted_cut item p at = items_cut (take (serial_place t item) (serial t)) p (plain Init) at
+
+  -- ---- the first difference
+
+  difference_cut : (m : Move) (s : State) → is_in ps (target m).point ≡ true → difference (cut ps t) m s ≡ difference t m s
+  difference_cut (moves.Read task number c) s at =
+      let tree = option_map_or (λ (r : Req). r.tree) (req_at t (place_of t.items task) number) 0 in
+      ap (λ w. if same_value (s c) w then None else Some (record { task = task; number = number; point = c.point; field = c.field; got = s c }))
+      (wanted_cut (place_of t.items task) (record { tree = tree; point = c.point; field = c.field }) at)
+  difference_cut _ s at = refl
+
+  differences_cut : (xs : List Step) → Stay xs → Each (λ x. is_at ps x ≡ true) xs → (r s : State) → Agree ps r s → first_difference (cut ps t) xs r ≡ first_difference t xs s
+  differences_cut [] stay at r s agree = refl
+  differences_cut (x ∷ xs) stay at r s agree =
+      let here = at x (inl refl) in
+      ap₂ option_or (difference_cut x.move r here ∙ difference_agrees t ps x.move r s here agree)
+      (differences_cut xs (λ y m. stay y (inr m)) (λ y m. at y (inr m)) (effect x.move r) (effect x.move s) (kept_agree ps x.move (stay x (inl refl)) here r s agree))
+
+  pub shown_cut : (nodes : List ℕ) → first_difference (cut ps t) (steps_by (cut ps t) nodes) (start (cut ps t)) ≡ first_difference t (filter (is_at ps) (steps_by t nodes)) (start t)
+  shown_cut nodes =
+      let xs = filter (is_at ps) (steps_by t nodes) in
+      ap (λ xs. first_difference (cut ps t) xs (start (cut ps t))) (steps_cut nodes)
+      ∙ differences_cut xs (λ x m. steps_stay t nodes x (member_filter (is_at ps) (steps_by t nodes) x m).0) (λ x m. (member_filter (is_at ps) (steps_by t nodes) x m).1) (start (cut ps t)) (start t) start_cut
+
+-- ---- races
+
+filter_member : {X : Type 0} (p : X → Bool) (xs : List X) (x : X) → Member xs x → p x ≡ true → Member (filter p xs) x
+filter_member p [] x m e = absurd m
+filter_member p (y ∷ ys) x (inl is) e = rw (ap p (sym is) ∙ e) (inl is)
+filter_member p (y ∷ ys) x (inr m) e = elim (cases_Bool (p y)) [ inl kept ↦ rw kept (inr (filter_member p ys x m e)) | inr left ↦ rw left (filter_member p ys x m e) ]
+
+module _ (ps : List ℕ) (t : Tables) (a b : ℕ) (cell : Cell) where
+  step_in_cut : (x : Step) → Contains (steps (cut ps t)) x → Member (steps t) x × (is_at ps x ≡ true)
+  step_in_cut x c = member_filter (is_at ps) (steps t) x (subst (λ xs. Member xs x) (steps_cut ps t (range_with_len 0 (length t.nodes))) (member_of (steps (cut ps t)) x c))
+
+  cut_has_step : (x : Step) → Contains (steps t) x → is_at ps x ≡ true → Contains (steps (cut ps t)) x
+  cut_has_step x c at = contains_of (steps (cut ps t)) x (subst (λ xs. Member xs x) (sym (steps_cut ps t (range_with_len 0 (length t.nodes)))) (filter_member (is_at ps) (steps t) x (member_of (steps t) x c) at))
+
+  of_cut : Race (cut ps t) a b cell → (is_in ps cell.point ≡ true) × Race t a b cell
+  of_cut r =
+      let one = step_in_cut (record { node = a; move = r.one }) r.one_in in
+      let other = step_in_cut (record { node = b; move = r.other }) r.other_in in
+      let stays = (is_step t (range_with_len 0 (length t.nodes)) _ one.0).stays in (
+        ap (is_in ps) (touched_point r.one cell stays (both_touched (access r.one cell) (access r.other cell) r.conflict).0) ∙ one.1,
+        record { differ = r.differ; one = r.one; other = r.other; one_in = contains_of (steps t) _ one.0; other_in = contains_of (steps t) _ other.0; conflict = r.conflict; not_before = r.not_before; not_after = r.not_after },
+      )
+
+  in_cut_too : (is_in ps cell.point ≡ true) × Race t a b cell → Race (cut ps t) a b cell
+  in_cut_too (at, r) =
+      let ks = range_with_len 0 (length t.nodes) in
+      let touched = both_touched (access r.one cell) (access r.other cell) r.conflict in
+      let first = touched_point r.one cell (is_step t ks (record { node = a; move = r.one }) (member_of (steps t) _ r.one_in)).stays touched.0 in
+      let second = touched_point r.other cell (is_step t ks (record { node = b; move = r.other }) (member_of (steps t) _ r.other_in)).stays touched.1 in
+      record {
+        differ = r.differ;
+        one = r.one;
+        other = r.other;
+        one_in = cut_has_step _ r.one_in (ap (is_in ps) (sym first) ∙ at);
+        other_in = cut_has_step _ r.other_in (ap (is_in ps) (sym second) ∙ at);
+        conflict = r.conflict;
+        not_before = r.not_before;
+        not_after = r.not_after;
+      }
+
+  pub race_cut : Race (cut ps t) a b cell ↔ ((is_in ps cell.point ≡ true) × Race t a b cell)
+  race_cut = (of_cut, in_cut_too)

@@ -1,0 +1,4 @@
+-- Lemmas for the proofs of other crates.
+pub mod Firsts
+pub mod Climbs
+pub mod Growth

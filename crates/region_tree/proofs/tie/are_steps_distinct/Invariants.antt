@@ -1,6 +1,0 @@
-use Rattle.std.proofs.Common.{ℕ, ◌<◌, ◌==◌, ◌&&◌}
-use Rattle.region_tree.specs.Index.{IsFirstAt}
-use Rattle.region_tree.proofs.tie.are_steps_distinct.Given as goal
-
-abbrev pub invariant-loop-i : goal.invariant-loop-i
-invariant-loop-i g l = (k : ℕ) → k < l.i → IsFirstAt (λ s t. (s.part == t.part) && (s.colour == t.colour)) l.finder.subs k

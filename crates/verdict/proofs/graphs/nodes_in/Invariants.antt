@@ -1,6 +1,0 @@
-use Rattle.std.proofs.Common.{◌≡◌, take}
-use Rattle.semantics.specs.Events.{graph_of}
-use Rattle.verdict.proofs.graphs.nodes_in.Given as goal
-
-abbrev pub invariant-loop-node : goal.invariant-loop-node
-invariant-loop-node l = l.list.items ≡ graph_of (take l.node-index l.nodes)
