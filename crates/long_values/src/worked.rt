@@ -4,7 +4,7 @@ ghost use Rattle.std.specs.Prelude.{◌≡◌, ◌≢◌, Some, slice_get};
 ghost use Rattle.semantics.specs.Records.{lined};
 ghost use Rattle.semantics.specs.Tables.{tables_of};
 ghost use Rattle.semantics.specs.Reads.{replay_steps};
-ghost use Rattle.semantics.specs.WorkedLogs.{first_place, folded_once, fresh_copy, stale_copy};
+ghost use Rattle.worked_logs.specs.WorkedLogs.{first_place, folded_once, fresh_copy, stale_copy};
 ghost use Rattle.long_values.specs.LongSequential.{wanted_long};
 ghost use Rattle.long_values.specs.LongExecution.{executed_long, start_long};
 ghost use Rattle.long_values.specs.LongValues.{short};

@@ -1,3 +1,1 @@
 mod Nodes
-mod WorkedPairs
-mod WorkedRaces

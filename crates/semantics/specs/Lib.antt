@@ -17,5 +17,3 @@ pub mod Faults
 pub mod Shown
 pub mod Outcome
 pub mod Computed
-pub mod WorkedLogs
-pub mod WorkedRules

@@ -7,7 +7,7 @@ use Rattle.spy_words.specs.declared.access.InstKind.{InstKind}
 use Rattle.spy_words.specs.declared.access.InstKind.TheVariants as layouts
 use Rattle.spy_grammar.specs.declared.record.Record.{Record}
 use Rattle.spy_grammar.specs.declared.record.Record.TheVariants.{Header, Ispace, Part, Sub, Fields, Tree, Redop, Task, Req, Fill, Serial, Inst, Map, Run, Copy, Put, Reset, End}
-use Rattle.semantics.specs.WorkedLogs.{one, region}
+use Rattle.worked_logs.specs.WorkedLogs.{one, region}
 
 -- A log of this version, with nothing in it.
 abbrev pub of_version : ℕ → List Record

@@ -10,11 +10,11 @@ ghost use Rattle.semantics.specs.Tables.{tables_of};
 ghost use Rattle.semantics.specs.declared.command.Command.TheVariants.{Check, Ordered};
 ghost use Rattle.semantics.specs.Faults.{at_line, log_fault};
 ghost use Rattle.semantics.specs.Rules.{has_many_accesses, has_many_cells, has_many_points, is_late, load_of};
-ghost use Rattle.semantics.specs.WorkedLogs.{folded_once, one, turned, turned_by_log};
-ghost use Rattle.semantics.specs.WorkedRules.{both, copied_to, copied_to_tree, counted_as, deep, disjoint_up_to, ended_before, fill_with_id, filled, filled_field, in_order, many_spaces, mapped_also, mapped_fields, mapped_number, of_version, operator_with_id, put_up_to, reaching, reads_and, reduced_in, reset_kind, run_then, split, split_before, square_fill, square_inst, task_then, tree_of, two_subs};
+ghost use Rattle.worked_logs.specs.WorkedLogs.{folded_once, one, turned, turned_by_log};
+ghost use Rattle.worked_logs.specs.WorkedRules.{both, copied_to, copied_to_tree, counted_as, deep, disjoint_up_to, ended_before, fill_with_id, filled, filled_field, in_order, many_spaces, mapped_also, mapped_fields, mapped_number, of_version, operator_with_id, put_up_to, reaching, reads_and, reduced_in, reset_kind, run_then, split, split_before, square_fill, square_inst, task_then, tree_of, two_subs};
 
 /// The rules on the frame, and on names.
-#[tactic(auto, unfolding(crate::specs::Computed::logs_computed))]
+#[tactic(auto, unfolding(semantics::specs::Computed::logs_computed))]
 pub fn worked_frames()
     // The frame.
     ensures version_1 { log_fault Check 2 (lined (of_version 1)) ≡ None }
@@ -39,7 +39,7 @@ pub fn worked_frames()
 {}
 
 /// The rules on regions.
-#[tactic(auto, unfolding(crate::specs::Computed::logs_computed))]
+#[tactic(auto, unfolding(semantics::specs::Computed::logs_computed))]
 pub fn worked_regions()
     ensures two_subs { log_fault Check 8 (lined (two_subs 1 3)) ≡ None }
     ensures repeated_colour { log_fault Check 8 (lined (two_subs 0 3)) ≡ Some (at_line codes.RepeatedId 7) }
@@ -58,7 +58,7 @@ pub fn worked_regions()
 {}
 
 /// The rules on what tasks and fills ask for, and on instances.
-#[tactic(auto, unfolding(crate::specs::Computed::logs_computed))]
+#[tactic(auto, unfolding(semantics::specs::Computed::logs_computed))]
 pub fn worked_uses()
     // What tasks and fills ask for.
     ensures in_tree { log_fault Check 10 (lined (filled 2)) ≡ None }
@@ -91,7 +91,7 @@ pub fn worked_uses()
 {}
 
 /// The rules on runs, events and the serial order.
-#[tactic(auto, unfolding(crate::specs::Computed::logs_computed))]
+#[tactic(auto, unfolding(semantics::specs::Computed::logs_computed))]
 pub fn worked_runs()
     ensures run { log_fault Check 4 (lined (task_then (Run 1 1 []))) ≡ None }
     ensures no_run { log_fault Check 4 (lined (task_then (Merge 1 []))) ≡ Some (at_line codes.NoRun 2) }
@@ -112,7 +112,7 @@ pub fn worked_runs()
 {}
 
 /// The limits on numbers. Each is tried on one record, given what earlier ones declare: a whole log that reaches it is too large to try.
-#[tactic(auto, unfolding(crate::specs::Computed::logs_computed))]
+#[tactic(auto, unfolding(semantics::specs::Computed::logs_computed))]
 pub fn worked_limits()
     ensures no_late_record { is_late 131072 (Merge 1 []) ≡ false }
     ensures late_record { is_late 131073 (Merge 1 []) ≡ true }

@@ -5,9 +5,9 @@ use Rattle.semantics.specs.Records.{lined}
 use Rattle.semantics.specs.Events.{Node, WaitsOn, Before, IsCycle}
 use Rattle.semantics.specs.declared.command.Command.TheVariants.{Ordered}
 use Rattle.semantics.specs.Outcome.{IsFound}
-use Rattle.semantics.specs.WorkedLogs.{unordered, three_tasks}
+use Rattle.worked_logs.specs.WorkedLogs.{unordered, three_tasks}
 use Rattle.semantics.specs.Computed.{logs_computed}
-use Rattle.semantics.proofs.WorkedRaces.{AreIdle, not_before}
+use Rattle.worked_logs.proofs.WorkedRaces.{AreIdle, not_before}
 
 -- Where nothing waits there is no cycle.
 no_cycle : (nodes : List Node) → AreIdle nodes → (ks : List ℕ) → IsCycle nodes ks → ⊥

@@ -18,11 +18,11 @@ ghost use Rattle.semantics.specs.Reads.{shown_difference, want_of};
 ghost use Rattle.semantics.specs.declared.command.Command.TheVariants.{Check, Ordered};
 ghost use Rattle.semantics.specs.Faults.{at_line, log_fault};
 ghost use Rattle.semantics.specs.Outcome.{operation_count, read_count, task_count};
-ghost use Rattle.semantics.specs.WorkedLogs.{accepted, both_added, copy_unordered, first_cell, first_place, folded_once, folded_twice, fresh_copy, in_a_circle, merges_in_a_circle, not_reset, one, one_instance, overlapping, saw, stale_copy, turned, turned_by_log, two_operators, unmapped, unordered};
+ghost use Rattle.worked_logs.specs.WorkedLogs.{accepted, both_added, copy_unordered, first_cell, first_place, folded_once, folded_twice, fresh_copy, in_a_circle, merges_in_a_circle, not_reset, one, one_instance, overlapping, saw, stale_copy, turned, turned_by_log, two_operators, unmapped, unordered};
 
 /// What the definitions say of worked logs.
-#[tactic(auto, using(crate::proofs::WorkedRaces::race_of_runs, crate::proofs::WorkedRaces::race_of_operators, crate::proofs::WorkedRaces::race_with_copy), unfolding(crate::specs::Computed::logs_computed))]
-pub fn worked_logs()
+#[tactic(auto, using(crate::proofs::WorkedRaces::race_of_runs, crate::proofs::WorkedRaces::race_of_operators, crate::proofs::WorkedRaces::race_with_copy), unfolding(semantics::specs::Computed::logs_computed))]
+pub fn worked_meanings()
     // Faults.
     ensures none { log_fault Check 14 (lined accepted) ≡ None }
     ensures no_record { log_fault Check 0 [] ≡ Some (at_line codes.Header 1) }

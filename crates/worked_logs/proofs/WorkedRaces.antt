@@ -6,7 +6,7 @@ use Rattle.semantics.specs.Records.{lined}
 use Rattle.semantics.specs.Tables.{tables_of}
 use Rattle.semantics.specs.Events.{Node, WaitsOn, Before}
 use Rattle.semantics.specs.Races.{Race}
-use Rattle.semantics.specs.WorkedLogs.{unordered, two_operators, copy_unordered, first_cell}
+use Rattle.worked_logs.specs.WorkedLogs.{unordered, two_operators, copy_unordered, first_cell}
 use Rattle.semantics.specs.Computed.{logs_computed}
 
 abbrev pub AreIdle : List Node → Type 0

@@ -7,10 +7,10 @@ ghost use Rattle.semantics.specs.Tables.{tables_of};
 ghost use Rattle.semantics.specs.Shown.{task_pairs};
 ghost use Rattle.semantics.specs.declared.command.Command.TheVariants.{Deps, Ordered};
 ghost use Rattle.semantics.specs.Outcome.{IsFound, operation_count, read_count, task_count};
-ghost use Rattle.semantics.specs.WorkedLogs.{merges_in_a_circle, three_tasks, three_tasks_dependences, unordered};
+ghost use Rattle.worked_logs.specs.WorkedLogs.{merges_in_a_circle, three_tasks, three_tasks_dependences, unordered};
 
 /// Dependences, unordered pairs and counts.
-#[tactic(auto, using(crate::proofs::WorkedPairs::pair_of_runs, crate::proofs::WorkedPairs::pair_of_three), unfolding(crate::specs::Computed::logs_computed))]
+#[tactic(auto, using(crate::proofs::WorkedPairs::pair_of_runs, crate::proofs::WorkedPairs::pair_of_three), unfolding(semantics::specs::Computed::logs_computed))]
 pub fn worked_findings()
     // Four items, of whose pairs five have a fixed order, and one takes turns.
     ensures dependences { IsFound Deps 19 (lined three_tasks) (findings.Deps three_tasks_dependences 4 5 1) }

@@ -1,0 +1,2 @@
+mod WorkedPairs
+mod WorkedRaces

@@ -1,0 +1,2 @@
+pub mod WorkedLogs
+pub mod WorkedRules
