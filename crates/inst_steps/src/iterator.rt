@@ -125,7 +125,8 @@ fn after<'l, P: PointSet + Copy>(
     requires at { IsAt P.points (listed_of listed) (Some at.now) }
     ensures at { IsAt P.points (listed_of listed.entry) result }
     ensures actions { at_left P.points log.now op.now (listed_of listed.entry) (Some at.now)
-        ≡ action_at log.now at.now.spot.act (spot_here at.now.spot) ∷ at_left P.points log.now op.now (listed_of listed.entry) result }
+        ≡ action_at log.now at.now.spot.act (spot_here at.now.spot)
+        ∷ at_left P.points log.now op.now (listed_of listed.entry) result }
 {
     match next_spot(&at.spot, listed) {
         Some(spot) => Some(At {

@@ -135,7 +135,8 @@ fn viewed_cell<P: PointSet + Copy>(log: &Log<'_, P>, req: usize, point: u64, fie
 impl<'s, 'a, P: PointSet + Copy, V: Reads> View<'s, 'a, P, V> {
     /// What the cell of a point and a field holds.
     pub fn get(&self, point: u64, field: u32) -> &Value
-        requires { map.contains_key self.now.store.now (viewed_cell self.now.log.now self.now.req point field) ≡ true }
+        requires { map.contains_key self.now.store.now
+            (viewed_cell self.now.log.now self.now.req point field) ≡ true }
         ensures { map.get self.now.store.now (viewed_cell self.now.log.now self.now.req point field)
             ≡ Some result.now }
     {
@@ -150,7 +151,8 @@ impl<'s, 'a, P: PointSet + Copy, V: Reads> View<'s, 'a, P, V> {
 impl<'s, 'a, P: PointSet + Copy, V: Writes> View<'s, 'a, P, V> {
     /// Puts a value into the cell of a point and a field, and into no other.
     pub fn set(&mut self, point: u64, field: u32, v: Value)
-        requires { map.contains_key self.old.store.now (viewed_cell self.old.log.now self.old.req point field) ≡ true }
+        requires { map.contains_key self.old.store.now
+            (viewed_cell self.old.log.now self.old.req point field) ≡ true }
         ensures store { self.new.store.now
             ≡ map.insert self.old.store.now (viewed_cell self.old.log.now self.old.req point field) v }
         ensures same_reference { self.new.store.ghost_name ≡ self.old.store.ghost_name }
@@ -165,10 +167,13 @@ impl<'s, 'a, P: PointSet + Copy, V: Writes> View<'s, 'a, P, V> {
 impl<'s, 'a, P: PointSet + Copy, V: Folds> View<'s, 'a, P, V> {
     /// Adds a contribution once to the cell of a point and a field, and to no other, with the operator of the privilege. Where memory runs out the store is as it was.
     pub fn fold_in(&mut self, point: u64, field: u32, c: Contribution) -> Result<(), Memory>
-        requires there { map.contains_key self.old.store.now (viewed_cell self.old.log.now self.old.req point field) ≡ true }
-        requires fits { weight_of (value_in self.old.store.now (viewed_cell self.old.log.now self.old.req point field)) < 2 ^ 64 - 1 }
+        requires there { map.contains_key self.old.store.now
+            (viewed_cell self.old.log.now self.old.req point field) ≡ true }
+        requires fits { weight_of (value_in self.old.store.now
+            (viewed_cell self.old.log.now self.old.req point field)) < 2 ^ 64 - 1 }
         ensures ok { OnOk result (self.new.store.now
-            ≡ with_added self.old.store.now (viewed_cell self.old.log.now self.old.req point field) (V.op self.old.privilege) c) }
+            ≡ with_added self.old.store.now (viewed_cell self.old.log.now self.old.req point field)
+            (V.op self.old.privilege) c) }
         ensures err { OnErr result (self.new.store.now ≡ self.old.store.now) }
         ensures same_reference { self.new.store.ghost_name ≡ self.old.store.ghost_name }
         ensures log { self.new.log.now ≡ self.old.log.now }

@@ -11,6 +11,6 @@ abbrev pub AreAlike : List Usage → List Usage → Type 0
 AreAlike qs rs = map without_points qs ≡ map without_points rs
 
 -- For each item there is one that asks for the same.
-pub record AreRepresentatives (standing : List ℕ) (us : List (List Usage)) : Type 0 where
-  pub each : length standing ≡ length us
-  pub same : (i : ℕ) → i < length us → usages_at us (slice_index standing i) ≡ usages_at us i
+pub record AreRepresentatives (representatives : List ℕ) (us : List (List Usage)) : Type 0 where
+  pub each : length representatives ≡ length us
+  pub same : (i : ℕ) → i < length us → usages_at us (slice_index representatives i) ≡ usages_at us i

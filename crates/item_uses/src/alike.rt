@@ -52,18 +52,18 @@ pub fn representatives<'a, P: PointSet + Copy>(
     alloc: Global,
     items: &[ItemUses<'a, P>],
 ) -> Result<Vec<usize>, AllocError>
-    ensures { IfOk result (λ standing. (t : Tables) → usages t ≡ items.now
-        → AreRepresentatives standing.items items.now) }
+    ensures { IfOk result (λ chosen. (t : Tables) → usages t ≡ items.now
+        → AreRepresentatives chosen.items items.now) }
 {
     let mut firsts = HashMap::new(alloc);
-    let mut standing = Vec::new(alloc);
+    let mut chosen = Vec::new(alloc);
     for i in 0..items.len() {
         let print = items[i].fingerprint();
         let first = firsts.get(&print).copied();
         if first.is_none() {
             firsts.insert(print, i)?;
         }
-        standing.push(representative(items, first, i))?;
+        chosen.push(representative(items, first, i))?;
     }
-    Ok(standing)
+    Ok(chosen)
 }

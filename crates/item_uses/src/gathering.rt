@@ -28,7 +28,8 @@ fn placed_use<'a, P: PointSet + Copy>(
     coherence: Coherence,
 ) -> Result<Use<'a, P>, AllocError>
     requires { IsStrictlyIncreasing fields.now }
-    ensures { IfOk result (λ one. one ≡ usage tree space (points_in draft.now space) fields.now access coherence) }
+    ensures { IfOk result (λ one.
+        one ≡ usage tree space (points_in draft.now space) fields.now access coherence) }
 {
     let fields = bump.try_alloc_slice_copy(fields)?;
     Ok(Use::new(

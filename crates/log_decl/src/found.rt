@@ -36,7 +36,7 @@ pub(crate) struct Found<'a, P: PointSet + Copy> {
     /// Bounds on each 64 items.
     pub(crate) blocks: Vec<Span>,
     /// For each item one that asks for the same.
-    pub(crate) standing: Vec<usize>,
+    pub(crate) representatives: Vec<usize>,
 }
 
 /// The ids of spaces.
@@ -56,8 +56,9 @@ pub(crate) fn found_in<'a, P: PointSet + Copy>(
     requires { forest.now ≡ decls_of draft.now }
     ensures uses { IfOk result (λ f. f.uses.items ≡ usages draft.now) }
     ensures blocks { IfOk result (λ f. AreBlocks f.blocks.items f.uses.items) }
-    ensures standing { IfOk result (λ f. AreRepresentatives f.standing.items f.uses.items) }
-    ensures found { IfOk result (λ f. AreFound draft.now f.space_ids.items (get nat_eq f.paths) f.order.items f.places.items (get nat_eq f.lines)) }
+    ensures representatives { IfOk result (λ f. AreRepresentatives f.representatives.items f.uses.items) }
+    ensures found { IfOk result (λ f. AreFound draft.now f.space_ids.items (get nat_eq f.paths)
+        f.order.items f.places.items (get nat_eq f.lines)) }
 {
     let space_ids = ids_of(alloc, draft.spaces())?;
     let paths = paths_of(alloc, forest, space_ids.as_slice())?;
@@ -66,7 +67,7 @@ pub(crate) fn found_in<'a, P: PointSet + Copy>(
     let lines = serial_lines(alloc, draft.serials())?;
     let uses = uses_of_items(alloc, bump, draft)?;
     let blocks = spans_of_blocks(alloc, &uses)?;
-    let standing = representatives(alloc, &uses)?;
+    let representatives = representatives(alloc, &uses)?;
     Ok(Found {
         space_ids,
         paths,
@@ -75,6 +76,6 @@ pub(crate) fn found_in<'a, P: PointSet + Copy>(
         lines,
         uses,
         blocks,
-        standing,
+        representatives,
     })
 }

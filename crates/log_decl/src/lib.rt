@@ -8,6 +8,8 @@ mod mapping;
 mod paths;
 mod serial_order;
 #[cfg(test)]
+mod test_logs;
+#[cfg(test)]
 mod tests;
 
 pub use declaring::{are_log_records, declare};

@@ -1,7 +1,10 @@
 //! Lists of numbers, each of which grows at its end.
 #![tactic(auto)]
 
-ghost use Rattle.std.specs.Prelude.{◌≡◌, ◌<◌, ◌++◌, ◌∷◌, [], length, map, slice_index_or, IfOk, OnOk, replicate, set};
+#[cfg(test)]
+mod tests;
+
+ghost use Rattle.std.specs.Prelude.{◌≡◌, ◌<◌, ◌++◌, ◌∷◌, [], length, map, slice_index_or, IfOk, OnErr, OnOk, replicate, set};
 
 use std::alloc::{AllocError, Global};
 use std::marker::Model;
@@ -56,10 +59,11 @@ impl NumberLists {
         self.lists[k].as_slice()
     }
 
-    /// Adds a number at the end of a list.
+    /// Adds a number at the end of a list, or leaves the lists as they are where memory runs out.
     pub fn push(&mut self, k: usize, number: usize) -> Result<(), AllocError>
         requires { k < length self.old }
-        ensures { OnOk result (self.new ≡ set self.old k (slice_index_or self.old k [] ++ number ∷ [])) }
+        ensures added { OnOk result (self.new ≡ set self.old k (slice_index_or self.old k [] ++ number ∷ [])) }
+        ensures kept { OnErr result (self.new ≡ self.old) }
     {
         self.lists[k].push(number)?;
         Ok(())

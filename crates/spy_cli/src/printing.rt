@@ -10,7 +10,7 @@ use crate::memory::Memory;
 use crate::report::{Report, fault_report};
 use crate::status::Status;
 use log_reading::{SpellEnd, input_in};
-use spy_grammar::{Lined, push_record};
+use spy_grammar::{Lined, with_line};
 use std::alloc::Global;
 
 /// The records, each on a line of its own.
@@ -18,11 +18,11 @@ fn printed_text(alloc: Global, records: &[Lined]) -> Result<Vec<u8>, Memory>
     requires { AllByRecursion Good (records_of records.now) }
     ensures { IfOk result (λ text. text.items ≡ text_of (records_of records.now)) }
 {
-    let mut out = Vec::new(alloc);
+    let mut text = Vec::new(alloc);
     for lined in records {
-        push_record(&mut out, &lined.rec)?;
+        text = with_line(text, &lined.rec)?;
     }
-    Ok(out)
+    Ok(text)
 }
 
 /// The report of `print` on an input.

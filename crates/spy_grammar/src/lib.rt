@@ -15,4 +15,4 @@ pub use law::{one_spelling, reading_is_of_spellings, spelling_is_one_line, spell
 pub use reading::read_line;
 pub use record::{Lined, Record};
 pub use spy_words::{InstKind, LineFault, Nums, PrivWord, Set};
-pub use writing::{Memory, good, push_record, write_record};
+pub use writing::{Memory, good, with_line, write_record};

@@ -99,25 +99,25 @@ fn push_words(out: &mut Vec<u8>, cells: &[WordCell<'_>]) -> Result<(), AllocErro
     Ok(())
 }
 
-/// Adds the record's line, with its line feed.
+/// The text, and after it the record's line with its line feed.
 #[tactic(auto, using(crate::proofs::CellLaws::spelled, std::proofs::Common::append_assoc))]
-pub fn push_record(out: &mut Vec<u8>, rec: &Record) -> Result<(), AllocError>
+pub fn with_line(text: Vec<u8>, rec: &Record) -> Result<Vec<u8>, Memory>
     // Another record's line would not be read again.
     requires { Good rec.now }
-    ensures { OnOk result (out.new.items ≡ out.old.items ++ spelling rec.now ++ 10 ∷ []) }
+    ensures { IfOk result (λ longer. longer.items ≡ text.items ++ spelling rec.now ++ 10 ∷ []) }
 {
+    let mut out = text;
     let (kind, cells) = cells_of(rec);
     out.extend_from_slice(name_text(kind))?;
-    push_words(out, &cells)?;
-    out.extend_from_slice(b"\n")
+    push_words(&mut out, &cells)?;
+    out.extend_from_slice(b"\n")?;
+    Ok(out)
 }
 
 /// The record's line, with its line feed.
 pub fn write_record(alloc: Global, rec: &Record) -> Result<Vec<u8>, Memory>
     requires { Good rec.now }
-    ensures { IfOk result (λ v. v.items ≡ spelling rec.now ++ 10 ∷ []) }
+    ensures { IfOk result (λ line. line.items ≡ spelling rec.now ++ 10 ∷ []) }
 {
-    let mut out = Vec::new(alloc);
-    push_record(&mut out, rec)?;
-    Ok(out)
+    with_line(Vec::new(alloc), rec)
 }

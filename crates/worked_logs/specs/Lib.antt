@@ -1,2 +1,3 @@
 pub mod WorkedLogs
+pub mod WorkedLongValues
 pub mod WorkedRules

@@ -5,6 +5,6 @@ use Rattle.item_uses.proofs.alike.representatives.Given as goal
 
 abbrev pub invariant-loop-i : goal.invariant-loop-i
 invariant-loop-i g l = record {
-  each : length l.standing.items ≡ l.i;
-  alike : (k d : ℕ) → k < length l.standing.items → AreAlike (usages_at l.items (get_or l.standing.items k d)) (usages_at l.items k);
+  each : length l.chosen.items ≡ l.i;
+  alike : (k d : ℕ) → k < length l.chosen.items → AreAlike (usages_at l.items (get_or l.chosen.items k d)) (usages_at l.items k);
 }

@@ -1,14 +1,14 @@
-//! The definitions, tried on worked logs.
+//! Values that carry what was read, tried on worked logs.
 
 ghost use Rattle.std.specs.Prelude.{◌≡◌, ◌≢◌, Some, slice_get};
 ghost use Rattle.semantics.specs.Records.{lined};
 ghost use Rattle.semantics.specs.Tables.{tables_of};
 ghost use Rattle.semantics.specs.Reads.{replay_steps};
-ghost use Rattle.worked_logs.specs.WorkedLogs.{first_place, folded_once, fresh_copy, stale_copy};
 ghost use Rattle.long_values.specs.LongSequential.{wanted_long};
 ghost use Rattle.long_values.specs.LongExecution.{executed_long, start_long};
 ghost use Rattle.long_values.specs.LongValues.{short};
-ghost use Rattle.long_values.specs.WorkedLongValues.{both_added_long, contributed, first_writes, read_first, second_writes, unread};
+ghost use Rattle.worked_logs.specs.WorkedLogs.{first_place, folded_once, fresh_copy, stale_copy};
+ghost use Rattle.worked_logs.specs.WorkedLongValues.{both_added_long, contributed, first_writes, read_first, second_writes, unread};
 
 /// What the definitions say of worked logs: what the third task should read at the first place, and what it reads in the replay. Last, contributions that are the same when short, and are not when what was read is carried.
 #[tactic(auto, unfolding(crate::specs::WorkedLongValues::long_values_computed))]
