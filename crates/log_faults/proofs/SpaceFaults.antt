@@ -53,7 +53,7 @@ next_of log earlier rest line part colour space grown e =
     in
     record {
       extends = extends_tables earlier (l ∷ rest);
-      tied = grown.tied;
+      forest = grown.forest;
       has_part = named.0;
       has_space = (and_parts _ _ named.1).0;
       at = ap (λ (xs : List subs.Sub). slice_get xs (length t.subs)) all ∙ at_end t.subs later.more_subs s;

@@ -11,7 +11,7 @@ use Rattle.region_tree.specs.declared.decls.SubDecl.{SubDecl}
 use Rattle.region_tree.specs.Regions as regions
 use Rattle.region_tree.specs.Regions.{space_of, part_of, space_points}
 use Rattle.region_tree.specs.Faults.{IsOutside, MeetsEarlier, points_cut, is_disjoint}
-use Rattle.region_tree.specs.Tied.{IsTied}
+use Rattle.region_tree.specs.Shape.{IsForest}
 use Rattle.region_tree.proofs.lemmas.Firsts.{find_some, all_at}
 use Rattle.semantics.specs.declared.tables.Part as parts
 use Rattle.semantics.specs.declared.tables.Sub as subs
@@ -75,7 +75,7 @@ disjoint_seen (Some p) = refl
 -- A subspace is declared after what `t` declares, and `u` declares all.
 pub record IsNext (t u : Tables) (s : subs.Sub) : Type 0 where
   pub extends : Extends t u
-  pub tied : IsTied (decls_of t)
+  pub forest : IsForest (decls_of t)
   pub has_part : list_any (λ (p : parts.Part). p.id == s.part) t.parts ≡ true
   pub has_space : list_any (λ (x : Space). x.id == s.space) t.spaces ≡ true
   pub at : slice_get u.subs (length t.subs) ≡ Some s
@@ -88,7 +88,7 @@ whole_then : (t u : Tables) (s : subs.Sub) (next : IsNext t u s) → points_cut 
 whole_then t u s next =
     let found = found_any (λ (p : parts.Part). p.id == s.part) t.parts next.has_part in
     let here = find_some (λ (p : parts.Part). p.id == s.part) t.parts found.0 found.1 in
-    let declared = declared_is t (found.0).space (all_at (λ (p : PartDecl). IsSome (space_of (decls_of t) p.space)) (decls_of t).parts here.0 (part_decl found.0) next.tied.wholes_declared (at_map part_decl t.parts here.0 found.0 here.1)) in
+    let declared = declared_is t (found.0).space (all_at (λ (p : PartDecl). IsSome (space_of (decls_of t) p.space)) (decls_of t).parts here.0 (part_decl found.0) next.forest.wholes_declared (at_map part_decl t.parts here.0 found.0 here.1)) in
     ap (λ (o : Option ℕ). option_map_or (space_points (decls_of u)) o []) (whole_is u s.part ∙ ap (option_map (λ (p : parts.Part). p.space)) (part_kept t u next.extends s.part next.has_part ∙ found.1))
     ∙ points_then t u s next (found.0).space declared
     ∙ sym (ap (λ (o : Option parts.Part). option_map_or (λ (p : parts.Part). points_in t p.space) o []) found.1)
@@ -129,7 +129,7 @@ Decides-is_not_disjoint t u s next =
     let here = at_map sub_decl u.subs n s next.at in
     let is_P : space_points (decls_of u) s.space ≡ P = points_then t u s next s.space next.has_space in
     let points_at : (j : ℕ) (x : subs.Sub) → slice_get t.subs j ≡ Some x → space_points (decls_of u) x.space ≡ points_in t x.space =
-    λ j x at. points_then t u s next x.space (declared_is t x.space (all_at (λ (y : SubDecl). IsSome (space_of (decls_of t) y.space)) (decls_of t).subs j (sub_decl x) next.tied.spaces_declared (at_map sub_decl t.subs j x at)))
+    λ j x at. points_then t u s next x.space (declared_is t x.space (all_at (λ (y : SubDecl). IsSome (space_of (decls_of t) y.space)) (decls_of t).subs j (sub_decl x) next.forest.spaces_declared (at_map sub_decl t.subs j x at)))
     in
     let among : (j : ℕ) → j < n → slice_get u.subs j ≡ slice_get t.subs j = λ j lt. ap (λ (xs : List subs.Sub). slice_get xs j) next.extends.subs ∙ at_left t.subs next.extends.more_subs j lt in (
       λ e.

@@ -1,29 +1,18 @@
 -- Points along paths.
-use Rattle.std.proofs.Common.{◌≡◌, ℕ, zero, suc, ◌+◌, ◌-◌, Bool, ◌==◌, List, [], ◌∷◌, length, get_or, Contains, Some, None, IsTrue, slice_get, subst, refl, sym, ap, ◌∙◌, inl, inr, ◌⊎◌, arith}
-use Rattle.std.specs.List.{list_any}
+use Rattle.std.proofs.Common.{◌≡◌, ℕ, zero, suc, ◌+◌, ◌-◌, List, [], ◌∷◌, length, get_or, Contains, Some, None, IsTrue, slice_get, subst, sym, ap, ◌∙◌, inl, inr, arith}
 use Rattle.std.specs.Option.{option_map_or}
-use Rattle.std.proofs.lemmas.Bool.{cases_Bool, cases_order}
-use Rattle.std.proofs.lemmas.Bool.Decides.{Decides-eqb, Decides-by_or, not_from_Decides}
-use Rattle.std.proofs.lemmas.List.Elements.{Decides-contains}
-use Rattle.std.proofs.lemmas.Option.{none-some, same_Some, slice_get-get_or, slice_get_within, get_or_from_slice_get}
+use Rattle.std.proofs.lemmas.Bool.{cases_order}
+use Rattle.std.proofs.lemmas.Option.{none-some, same_Some, slice_get_within, get_or_from_slice_get}
 use Rattle.point_set.specs.Least.{IsLeastCommon}
+use Rattle.point_set.proofs.lemmas.Ahead.{in_or_not}
 use Rattle.region_tree.specs.declared.decls.SubDecl.{SubDecl}
 use Rattle.region_tree.specs.declared.path.Step.{Step}
 use Rattle.region_tree.specs.Regions.{Regions, step_of, is_at, child_of, whole_of, space_points}
-use Rattle.region_tree.specs.Tied.{IsTied}
+use Rattle.region_tree.specs.Shape.{IsForest}
 use Rattle.region_tree.specs.Faults.{points_cut, is_disjoint, IsFaulty}
 use Rattle.region_tree.specs.Paths.{Way, Leads, IsPath}
 use Rattle.region_tree.proofs.Distinct.{found_by, steps_told}
-use Rattle.region_tree.proofs.lemmas.Firsts.{find_place}
-
-at_contains : {X : Type 0} (xs : List X) (x : X) (h : Contains xs x) → slice_get xs h.0 ≡ Some x
-at_contains xs x h = slice_get-get_or xs h.0 x h.1 ∙ ap (λ y. Some y) h.2
-
-pub in_or_not : (xs : List ℕ) (p : ℕ) → Contains xs p ⊎ (Contains xs p → ⊥)
-in_or_not xs p =
-    let test : ℕ → Bool = λ x. x == p in
-    let d = Decides-contains xs p (list_any test xs) (Decides-by_or test (λ x. x ≡ p) (list_any test) (λ x. Decides-eqb x p) refl (λ _ _. refl) xs) in
-    elim (cases_Bool (list_any test xs)) [ inl found ↦ inl (d.0 found) | inr missed ↦ inr (not_from_Decides (list_any test xs) d missed) ]
+use Rattle.region_tree.proofs.lemmas.Firsts.{find_place, at_contains}
 
 -- a subspace has only points of the space that is cut
 step_within : (d : Regions) → ((i : ℕ) → ¬ IsFaulty d i) → (s : SubDecl) (from p : ℕ) → Contains d.subs s → whole_of d s.part ≡ Some from → Contains (space_points d s.space) p → Contains (space_points d from) p
@@ -68,29 +57,29 @@ none_shared d faultless a b s t x y path_a path_b has_x has_y apart same disjoin
     clash d faultless u.0 v.0 p u.1 v.1 (λ e. apart (sym u.2 ∙ e ∙ v.2)) (part_u ∙ same ∙ sym part_v) (subst (λ k. IsTrue (is_disjoint d k)) (sym part_u) disjoint) (u.3 p h.0) (v.3 p h.1)
 
 -- no two subspaces have one step
-one_sub : (d : Regions) → IsTied d → (i j : ℕ) (s t : SubDecl) → slice_get d.subs i ≡ Some s → slice_get d.subs j ≡ Some t → step_of s ≡ step_of t → s ≡ t
-one_sub d tied i j s t at_s at_t same =
+one_sub : (d : Regions) → IsForest d → (i j : ℕ) (s t : SubDecl) → slice_get d.subs i ≡ Some s → slice_get d.subs j ≡ Some t → step_of s ≡ step_of t → s ≡ t
+one_sub d forest i j s t at_s at_t same =
     elim (cases_order i j) [
       | inl e ↦ same_Some s t (sym at_s ∙ ap (slice_get d.subs) e ∙ at_t)
       | inr other ↦ elim other [
         | inl before ↦
             let one : get_or d.subs i s ≡ s = get_or_from_slice_get d.subs i s s at_s in
             let two : get_or d.subs j s ≡ t = get_or_from_slice_get d.subs j t s at_t in
-            absurd (tied.steps i j s before (slice_get_within d.subs j t at_t) (ap step_of one ∙ same ∙ ap step_of (sym two)))
+            absurd (forest.steps i j s before (slice_get_within d.subs j t at_t) (ap step_of one ∙ same ∙ ap step_of (sym two)))
         | inr behind ↦
             let one : get_or d.subs i s ≡ s = get_or_from_slice_get d.subs i s s at_s in
             let two : get_or d.subs j s ≡ t = get_or_from_slice_get d.subs j t s at_t in
-            absurd (tied.steps j i s behind (slice_get_within d.subs i s at_s) (ap step_of two ∙ sym same ∙ ap step_of (sym one)))
+            absurd (forest.steps j i s behind (slice_get_within d.subs i s at_s) (ap step_of two ∙ sym same ∙ ap step_of (sym one)))
       ]
     ]
 
-child_found : (d : Regions) → IsTied d → (s : SubDecl) (step : Step) → Contains d.subs s → step_of s ≡ step → child_of d step ≡ Some s
-child_found d tied s step has is =
+child_found : (d : Regions) → IsForest d → (s : SubDecl) (step : Step) → Contains d.subs s → step_of s ≡ step → child_of d step ≡ Some s
+child_found d forest s step has is =
     let at = at_contains d.subs s has in
     let h = found_by (is_at step) 0 has.0 s d.subs at ((steps_told step (step_of s)).1 (sym is)) in
     let z : 0 + h.0 ≡ h.0 = omega arith in
     let same : step_of h.1 ≡ step_of s = sym ((steps_told step (step_of h.1)).0 h.5) ∙ sym is in
-    find_place (is_at step) h.0 d.subs (h.3 ∙ ap (λ n. Some n) z) ∙ h.4 ∙ ap (λ t. Some t) (one_sub d tied h.0 has.0 h.1 s h.4 at same)
+    find_place (is_at step) h.0 d.subs (h.3 ∙ ap (λ n. Some n) z) ∙ h.4 ∙ ap (λ t. Some t) (one_sub d forest h.0 has.0 h.1 s h.4 at same)
 
 -- the last step leads to the space
 last_leads : (d : Regions) (from : ℕ) (steps : List Step) (to : ℕ) (x : Step) → slice_get steps (length steps - 1) ≡ Some x → Leads d from steps to → (s : SubDecl) × Contains d.subs s × (step_of s ≡ x) × (s.space ≡ to)
@@ -100,7 +89,7 @@ last_leads d from (step ∷ next ∷ rest) to x at leads =
     let z : length (step ∷ next ∷ rest) - 1 ≡ suc (length (next ∷ rest) - 1) = omega arith in
     last_leads d leads.0.space (next ∷ rest) to x (sym (ap (slice_get (step ∷ next ∷ rest)) z) ∙ at) leads.4
 
-pub end_found : (d : Regions) → IsTied d → (way : Way) (space : ℕ) (x : Step) → Some x ≡ slice_get way.steps (length way.steps - 1) → IsPath d way space → (s : SubDecl) × (child_of d x ≡ Some s) × (s.space ≡ space)
-end_found d tied way space x at path =
+pub end_found : (d : Regions) → IsForest d → (way : Way) (space : ℕ) (x : Step) → Some x ≡ slice_get way.steps (length way.steps - 1) → IsPath d way space → (s : SubDecl) × (child_of d x ≡ Some s) × (s.space ≡ space)
+end_found d forest way space x at path =
     let h = last_leads d way.top way.steps space x (sym at) path.2 in
-    (h.0, child_found d tied h.0 x h.1 h.2, h.3)
+    (h.0, child_found d forest h.0 x h.1 h.2, h.3)

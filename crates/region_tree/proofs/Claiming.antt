@@ -11,7 +11,7 @@ use Rattle.std.proofs.lemmas.List.Elements.{All-contains, Contains-get_or, Conta
 use Rattle.std.proofs.lemmas.List.Sorted.{Contains-permutation, IsPermutation-sym}
 use Rattle.std.proofs.lemmas.Option.{same_Some, none-some, slice_get_within}
 use Rattle.point_set.specs.Least.{IsLeastOf, IsLeastFrom, IsLeastGap}
-use Rattle.region_tree.proofs.Aliases.{in_or_not}
+use Rattle.point_set.proofs.lemmas.Ahead.{in_or_not}
 use Rattle.region_tree.specs.declared.claims.Claim.{Claim}
 use Rattle.region_tree.specs.declared.decls.SubDecl.{SubDecl}
 use Rattle.region_tree.specs.Regions.{Regions, space_points}

@@ -1,15 +1,12 @@
 -- Runs that touch, joined.
 use Rattle.std.proofs.Common.{◌≡◌, ℕ, zero, suc, ◌+◌, ◌<◌, ◌≤◌, List, [], ◌∷◌, ◌++◌, All, length, get_or, sym, ap, ◌∙◌, arith, add-one, append_assoc}
-use Rattle.std.proofs.lemmas.List.Elements.{All-nil, All-cons, All-tail}
+use Rattle.std.proofs.lemmas.List.Elements.{All-nil, All-cons}
 use Rattle.point_set.specs.Runs.{run_points, points_of, AreRuns}
+use Rattle.point_set.proofs.lemmas.InRuns.{later_runs}
 use Rattle.point_set.proofs.lemmas.Maximal.{joined_run}
 use Rattle.region_tree.specs.RunsFrom.{AreRunsFrom}
 
 -- both ways to say that runs are in order
-later_runs : (run next : ℕ × ℕ) (runs : List (ℕ × ℕ)) → AreRuns (run ∷ next ∷ runs) → AreRuns (next ∷ runs)
-later_runs run next runs h =
-    (All-tail (λ (r : ℕ × ℕ). r.0 ≤ r.1) run (next ∷ runs) h.0, λ k d lt. rw (add-one k) (rw (add-one (suc k)) at (h.1 (suc k) d (omega (arith, lt)))))
-
 from_first : (low : ℕ) (run : ℕ × ℕ) (runs : List (ℕ × ℕ)) → low ≤ run.0 → AreRuns (run ∷ runs) → AreRunsFrom low (run ∷ runs)
 from_first low run [] le h = (le, h.0 0 run (omega arith), tt)
 from_first low run (next ∷ runs) le h =

@@ -1,29 +1,26 @@
 -- Paths, step by step.
-use Rattle.std.proofs.Common.{◌≡◌, ℕ, List, ◌∷◌, ◌==◌, Contains, Option, Some, None, IsSome, slice_get, subst, refl, sym, ap, ◌∙◌}
+use Rattle.std.proofs.Common.{◌≡◌, ℕ, List, ◌∷◌, ◌==◌, Contains, Option, Some, None, IsSome, subst, refl, sym, ap, ◌∙◌}
 use Rattle.std.specs.Option.{option_and_then, option_map}
 use Rattle.std.proofs.lemmas.Bool.{eqb-true}
-use Rattle.std.proofs.lemmas.Option.{none-some, slice_get_within, get_or_from_slice_get}
+use Rattle.std.proofs.lemmas.Option.{none-some}
 use Rattle.region_tree.specs.declared.decls.PartDecl.{PartDecl}
 use Rattle.region_tree.specs.declared.decls.SubDecl.{SubDecl}
 use Rattle.region_tree.specs.declared.path.Step.{Step}
 use Rattle.region_tree.specs.Regions.{Regions, step_of, space_of, part_of, sub_of, whole_of, parent_of}
-use Rattle.region_tree.specs.Tied.{IsTied}
+use Rattle.region_tree.specs.Shape.{IsForest}
 use Rattle.region_tree.specs.Paths.{Leads, step_with, step_to}
-use Rattle.region_tree.proofs.lemmas.Firsts.{map_cases, find_some, all_at}
+use Rattle.region_tree.proofs.lemmas.Firsts.{map_cases, find_some, all_at, contains_at}
 use Rattle.region_tree.proofs.lemmas.Climbs.{sub_from_parent}
 
-contains_at : {X : Type 0} (xs : List X) (i : ℕ) (x : X) → slice_get xs i ≡ Some x → Contains xs x
-contains_at xs i x at = (i, slice_get_within xs i x at, get_or_from_slice_get xs i x x at)
-
 -- what a partition cuts is declared
-pub whole_declared : (d : Regions) (part w : ℕ) → IsTied d → whole_of d part ≡ Some w → IsSome (space_of d w)
-whole_declared d part w tied e =
+pub whole_declared : (d : Regions) (part w : ℕ) → IsForest d → whole_of d part ≡ Some w → IsSome (space_of d w)
+whole_declared d part w forest e =
     let h = map_cases (λ (p : PartDecl). p.space) (part_of d part) w e in
     let at = find_some (λ (p : PartDecl). part == p.id) d.parts h.0 h.1 in
-    subst (λ v. IsSome (space_of d v)) h.2 (all_at (λ (p : PartDecl). IsSome (space_of d p.space)) d.parts at.0 h.0 tied.wholes_declared at.1)
+    subst (λ v. IsSome (space_of d v)) h.2 (all_at (λ (p : PartDecl). IsSome (space_of d p.space)) d.parts at.0 h.0 forest.wholes_declared at.1)
 
-pub parent_declared : (d : Regions) (space up : ℕ) → IsTied d → parent_of d space ≡ Some up → IsSome (space_of d up)
-parent_declared d space up tied e = let h = sub_from_parent d space up e in whole_declared d h.0.part up tied h.5
+pub parent_declared : (d : Regions) (space up : ℕ) → IsForest d → parent_of d space ≡ Some up → IsSome (space_of d up)
+parent_declared d space up forest e = let h = sub_from_parent d space up e in whole_declared d h.0.part up forest h.5
 
 -- a step to a space, and the space above it
 step_cases : (d : Regions) (o : Option SubDecl) (step : Step) (w : ℕ) → option_and_then (step_with d) o ≡ Some (step, w) → (s : SubDecl) × (o ≡ Some s) × (step_of s ≡ step) × (whole_of d s.part ≡ Some w)

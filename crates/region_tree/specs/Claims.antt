@@ -1,5 +1,6 @@
 -- Runs of points that subspaces of disjoint partitions claim.
 use Rattle.std.specs.Prelude.{◌≡◌, ◌≢◌, ℕ, ◌+◌, ◌<◌, ◌≤◌, ◌⊎◌, List, slice_get, AllPairs, Contains, Option, Some, IsTrue, MatchOption}
+use Rattle.std.specs.Borrow.{Bor}
 use Rattle.region_tree.specs.declared.claims.Claim.{Claim}
 use Rattle.region_tree.specs.declared.decls.SubDecl.{SubDecl}
 use Rattle.region_tree.specs.Regions.{Regions, space_points}
@@ -16,6 +17,10 @@ ClaimsNothing d i = (part p : ℕ) → ¬ Claims d i part p
 -- Subspace `i` claims just these points, for this partition.
 abbrev pub ClaimsAll : Regions → ℕ → ℕ → List ℕ → Type 0
 ClaimsAll d i part points = (s : SubDecl) × (slice_get d.subs i ≡ Some s) × (s.part ≡ part) × IsTrue (is_disjoint d part) × (space_points d s.space ≡ points)
+
+-- What subspace `i` claims, if anything: a partition, with a set of just the points.
+abbrev pub IsClaimOf : {P : Type 0} → (P → List ℕ) → Regions → ℕ → Option (ℕ × Bor P) → Type 0
+IsClaimOf points d i o = MatchOption o (ClaimsNothing d i) (λ c. ClaimsAll d i c.0 (points c.1.now))
 
 -- The numbers from the first to the last are points, and the one after the last is not.
 pub record IsRunEnd (points : List ℕ) (first last : ℕ) : Type 0 where

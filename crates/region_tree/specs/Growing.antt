@@ -4,11 +4,11 @@ use Rattle.region_tree.specs.declared.decls.PartDecl.{PartDecl}
 use Rattle.region_tree.specs.declared.decls.SubDecl.{SubDecl}
 use Rattle.region_tree.specs.Regions.{Regions, Space, space_of, part_of, whole_of, step_of}
 use Rattle.region_tree.specs.Ancestors.{ancestor_of}
-use Rattle.region_tree.specs.Tied.{IsTied}
+use Rattle.region_tree.specs.Shape.{IsForest}
 
 -- Declarations that make a forest, in which no space lies more steps below another than there are subspaces.
 pub record IsGrown (d : Regions) : Type 0 where
-  pub tied : IsTied d
+  pub forest : IsForest d
   pub counted : (space root n : ℕ) → ancestor_of d n space ≡ Some root → n ≤ length d.subs
 
 -- One declaration more.

@@ -4,6 +4,7 @@ use Rattle.std.specs.Borrow.{Bor}
 use Rattle.std.specs.Fn.{Shared, FnReturnsAt}
 use Rattle.std.specs.HashMap.{get}
 use Rattle.std.specs.List.{position_from}
+use Rattle.std.specs.Option.{ForSome}
 use Rattle.region_tree.specs.declared.index.Index.{Index}
 use Rattle.region_tree.specs.declared.path.Step.{Step}
 use Rattle.region_tree.specs.Regions.{Regions, is_at}
@@ -26,3 +27,7 @@ pub record IsIndexOf (d : Regions) (x : Index) : Type 0 where
   pub parts_at : (id : ℕ) → get nat_eq x.parts id ≡ position_from (λ p. id == p.id) 0 d.parts
   pub subs_at : (space : ℕ) → get nat_eq x.subs space ≡ position_from (λ s. space == s.space) 0 d.subs
   pub children_at : (step : Step) → get same_step x.children step ≡ position_from (is_at step) 0 d.subs
+
+-- The index, if there is one, is of these declarations.
+abbrev pub Indexes : Option Index → Regions → Type 0
+Indexes o d = ForSome o (IsIndexOf d)

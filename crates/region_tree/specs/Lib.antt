@@ -1,6 +1,6 @@
 pub mod Regions
 pub mod Index
-pub mod Tied
+pub mod Shape
 pub mod Ancestors
 pub mod Faults
 pub mod Claims

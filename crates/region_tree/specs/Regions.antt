@@ -50,6 +50,10 @@ sub_of d space = find (λ s. space == s.space) d.subs
 abbrev pub child_of : Regions → Step → Option SubDecl
 child_of d step = find (is_at step) d.subs
 
+-- The points of a space, if it is declared.
+abbrev pub declared_points : Regions → ℕ → Option (List ℕ)
+declared_points d id = option_map (λ s. s.points) (space_of d id)
+
 -- The points of a space: none where it is not declared.
 abbrev pub space_points : Regions → ℕ → List ℕ
 space_points d id = option_map_or (λ s. s.points) (space_of d id) []

@@ -4,7 +4,7 @@ ghost use Rattle.std.specs.Prelude.{◌≡◌, ◌+◌, false, ◌↔◌, length
 ghost use Rattle.std.specs.Bool.{OnTrue, OnFalse};
 ghost use Rattle.std.specs.List.Sorted.{IsPermutation};
 ghost use Rattle.point_set.specs.Least.{IsLeastFrom};
-ghost use Rattle.region_tree.specs.Claims.{IsRunEnd, AddsRuns, ClaimsNothing, ClaimsAll, AreClaims, AreInOrder, AreOwn};
+ghost use Rattle.region_tree.specs.Claims.{IsRunEnd, AddsRuns, IsClaimOf, AreClaims, AreInOrder, AreOwn};
 ghost use Rattle.region_tree.specs.Claims.{Clash, AreApart, SomeOverlap, IsFirstOverlap, IsFirstMeeting};
 
 use crate::finder::Finder;
@@ -66,7 +66,7 @@ fn push_runs<P: PointSet>(
 
 /// What subspace `i` claims: the points of its set, for its partition, where that is disjoint.
 fn claims_of<'t, P: PointSet>(finder: &Finder<'t, P>, i: usize) -> Option<(u32, &'t P)>
-    ensures { MatchOption result (ClaimsNothing finder.now i) (λ c. ClaimsAll finder.now i c.0 (P.points c.1.now)) }
+    ensures { IsClaimOf P.points finder.now i result }
 {
     let sub = finder.sub_at(i)?;
     if !finder.is_disjoint(sub.part) {

@@ -4,19 +4,19 @@ ghost use Rattle.std.specs.Prelude.{◌≡◌, ◌↔◌, IfOk, IsSome, IsTrue};
 ghost use Rattle.region_tree.specs.Regions.{space_of};
 ghost use Rattle.region_tree.specs.Ancestors.{IsUnder};
 ghost use Rattle.region_tree.specs.Paths.{IsPath};
-ghost use Rattle.region_tree.specs.Tied.{IsTied};
+ghost use Rattle.region_tree.specs.Shape.{IsForest};
 
 use crate::finder::Finder;
 use crate::memory::Memory;
 use crate::path::Path;
-use crate::tie::DEPTH_LIMIT;
+use crate::shape::DEPTH_LIMIT;
 use point_set::PointSet;
 use smallvec::SmallVec;
 use std::alloc::Global;
 
 /// Whether both are declared, and the space is the root or lies below it.
 pub(crate) fn is_under<P: PointSet>(finder: &Finder<P>, space: u32, root: u32) -> bool
-    requires { IsTied finder.now }
+    requires { IsForest finder.now }
     ensures { IsTrue result ↔ IsUnder finder.now space root }
 {
     if !finder.has_space(space) {
@@ -41,7 +41,7 @@ pub(crate) fn path_to<P: PointSet>(
     finder: &Finder<P>,
     space: u32,
 ) -> Result<Path, Memory>
-    requires tied { IsTied finder.now }
+    requires forest { IsForest finder.now }
     requires declared { IsSome (space_of finder.now space) }
     ensures { IfOk result (λ way. IsPath finder.now way space) }
 {

@@ -4,7 +4,7 @@ ghost use Rattle.std.specs.Prelude.{◌≡◌, ◌↔◌, ◌==◌, map, slice_g
 ghost use Rattle.std.specs.Option.{option_copied, option_map};
 ghost use Rattle.std.specs.List.{position_from};
 ghost use Rattle.region_tree.specs.Regions.{seen, declared, is_at, space_of, part_of, sub_of, child_of};
-ghost use Rattle.region_tree.specs.Regions.{space_points, IsSetOf, whole_of, parent_of};
+ghost use Rattle.region_tree.specs.Regions.{declared_points, space_points, IsSetOf, whole_of, parent_of};
 ghost use Rattle.region_tree.specs.Faults.{is_disjoint, points_cut};
 ghost use Rattle.region_tree.specs.Paths.{step_to};
 ghost use Rattle.point_set.specs.Least.{IsLeastCommon};
@@ -26,15 +26,14 @@ pub(crate) struct Finder<'t, P: PointSet> {
 }
 
 impl<'t, P: PointSet> Model for Finder<'t, P> {
-    ghost use Rattle.std.specs.Option.{ForSome};
-    ghost use Rattle.region_tree.specs.Index.{IsIndexOf};
+    ghost use Rattle.region_tree.specs.Index.{Indexes};
     ghost use Rattle.region_tree.specs.Regions.{Regions, declared};
 
     ghost Value = { Regions };
 
     ghost view = { λ f. declared P.points f.spaces.now f.parts.now f.subs.now };
 
-    ghost invariant = { λ f. ForSome f.index (IsIndexOf (declared P.points f.spaces.now f.parts.now f.subs.now)) };
+    ghost invariant = { λ f. Indexes f.index (declared P.points f.spaces.now f.parts.now f.subs.now) };
 }
 
 /// The first place of a space with this id, looked for one by one.
@@ -166,8 +165,7 @@ impl<'t, P: PointSet> Finder<'t, P> {
 
     /// The set of a space.
     pub fn set(&self, id: u32) -> Option<&'t P>
-        ensures value { option_map (λ s. P.points s.now) result
-            ≡ option_map (λ s. s.points) (space_of self.now id) }
+        ensures value { option_map (λ s. P.points s.now) result ≡ declared_points self.now id }
         ensures points { IsSetOf P.points result (space_points self.now id) }
     {
         match self.space(id) {

@@ -2,11 +2,11 @@
 
 ghost use Rattle.std.specs.Prelude.{◌≡◌, ◌↔◌, ℕ, Err, IfOk, OnOk, IsSome, IfSome, IsTrue};
 ghost use Rattle.std.specs.Option.{option_map};
-ghost use Rattle.region_tree.specs.Regions.{space_of, space_points};
+ghost use Rattle.region_tree.specs.Regions.{space_of, declared_points, space_points};
 ghost use Rattle.point_set.specs.Least.{IsLeastCommon};
 ghost use Rattle.region_tree.specs.Ancestors.{IsUnder};
 ghost use Rattle.region_tree.specs.Paths.{IsPath};
-ghost use Rattle.region_tree.specs.Tied.{IsTied};
+ghost use Rattle.region_tree.specs.Shape.{IsForest};
 ghost use Rattle.region_tree.specs.Faults.{IsFaulty, FirstNotWithin, FirstNotDisjoint};
 
 use crate::arena_set::ArenaSet;
@@ -33,14 +33,14 @@ pub struct Forest<'a, P: PointSet> {
 impl<'a, P: PointSet> Model for Forest<'a, P> {
     ghost use Rattle.std.specs.Prelude.{ℕ};
     ghost use Rattle.region_tree.specs.Regions.{Regions};
-    ghost use Rattle.region_tree.specs.Tied.{IsTied};
+    ghost use Rattle.region_tree.specs.Shape.{IsForest};
     ghost use Rattle.region_tree.specs.Faults.{IsFaulty};
 
     ghost Value = { Regions };
 
     ghost view = { λ f. f.finder };
 
-    ghost invariant = { λ f. IsTied f.finder × ((i : ℕ) → ¬ IsFaulty f.finder i) };
+    ghost invariant = { λ f. IsForest f.finder × ((i : ℕ) → ¬ IsFaulty f.finder i) };
 }
 
 /// The spaces, in the arena.
@@ -83,7 +83,7 @@ impl<'a, P: ArenaSet<'a>> Forest<'a, P> {
         bump: &'a Bump,
         decls: &Decls<P>,
     ) -> Result<Forest<'a, P>, PlaceFault>
-        requires { IsTied decls.now }
+        requires { IsForest decls.now }
         ensures forest { IfOk result (λ forest. forest ≡ decls.now) }
         ensures faultless { OnOk result ((i : ℕ) → ¬ IsFaulty decls.now i) }
 
@@ -102,8 +102,7 @@ impl<'a, P: ArenaSet<'a>> Forest<'a, P> {
 impl<'a, P: PointSet> Forest<'a, P> {
     /// The set of a space, or `None` if the space is not declared.
     pub fn set_of(&self, space: u32) -> Option<&P>
-        ensures { option_map (λ set. P.points set.now) result
-            ≡ option_map (λ s. s.points) (space_of self.now space) }
+        ensures { option_map (λ set. P.points set.now) result ≡ declared_points self.now space }
     {
         self.finder.set(space)
     }

@@ -8,7 +8,7 @@ ghost use Rattle.region_tree.specs.Growing.{IsGrown, MaySub, with_space, with_pa
 
 /// What keeps declarations a forest: a space with a new id, a partition with a new id of a declared space, and a subspace that may be declared.
 ///
-/// So declarations that are tested one by one, from none on, need not be tested by `tied` again.
+/// So declarations that are tested one by one, from none on, need not be tested by `is_forest` again.
 pub fn declarations_grow()
     ensures none { IsGrown (record { spaces = []; parts = []; subs = [] }) }
     ensures space { (d : Regions) (s : Space) → IsGrown d → All (λ t. t.id ≢ s.id) d.spaces

@@ -13,10 +13,10 @@ mod index;
 mod memory;
 mod path;
 mod place_fault;
+mod shape;
 mod sharing;
 #[cfg(test)]
 mod tests;
-mod tie;
 
 pub use arena_set::ArenaSet;
 pub use decls::{Decls, PartDecl, SpaceDecl, SubDecl};
@@ -25,4 +25,4 @@ pub use growing::declarations_grow;
 pub use memory::Memory;
 pub use path::{Path, Step};
 pub use place_fault::PlaceFault;
-pub use tie::tied;
+pub use shape::is_forest;

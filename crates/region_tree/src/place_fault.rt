@@ -1,3 +1,5 @@
+//! Why declarations are refused.
+
 ghost use Rattle.std.specs.Prelude.{◌≡◌};
 ghost use Rattle.region_tree.specs.declared.place_fault.PlaceFault.TheVariants.{Memory};
 

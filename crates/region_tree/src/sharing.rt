@@ -4,7 +4,7 @@ ghost use Rattle.std.specs.Prelude.{◌≡◌, ◌≢◌, ℕ, Contains, Some, I
 ghost use Rattle.region_tree.specs.Faults.{IsFaulty};
 ghost use Rattle.region_tree.specs.Paths.{IsPath};
 ghost use Rattle.region_tree.specs.Sharing.{PartDisjoint, IsLeastShared};
-ghost use Rattle.region_tree.specs.Tied.{IsTied};
+ghost use Rattle.region_tree.specs.Shape.{IsForest};
 
 use crate::finder::Finder;
 use crate::path::{Path, Step};
@@ -37,7 +37,7 @@ fn are_apart<P: PointSet>(finder: &Finder<P>, a: &Path, b: &Path) -> bool
 
 /// The space that a path leads to.
 fn end_of<P: PointSet>(finder: &Finder<P>, path: &Path) -> Option<u32>
-    requires { IsTied finder.now }
+    requires { IsForest finder.now }
     ensures { (space : ℕ) → IsPath finder.now path.now space → result ≡ Some space }
 {
     match path.steps().last() {
@@ -48,7 +48,7 @@ fn end_of<P: PointSet>(finder: &Finder<P>, path: &Path) -> Option<u32>
 
 /// The least point that the spaces of two paths share.
 pub(crate) fn alias_of<P: PointSet>(finder: &Finder<P>, a: &Path, b: &Path) -> Option<u64>
-    requires tied { IsTied finder.now }
+    requires forest { IsForest finder.now }
     requires faultless { (i : ℕ) → ¬ IsFaulty finder.now i }
     ensures { IsLeastShared finder.now a.now b.now result }
 {

@@ -207,11 +207,11 @@ fn ask_faults<'a, P: ArenaSet<'a> + 'a>(
     bump: &'a Bump,
 ) -> Result<(), Fail> {
     let decls = two_partitions::<P>(alloc, bump, &[(7, 7), (10, 10)])?;
-    assert!(rt; tied(&decls));
+    assert!(rt; is_forest(&decls));
     let refused = Forest::place(alloc, bump, &decls).err();
     assert!(rt; refused == Some(PlaceFault::NotWithin { sub: 2, point: 10 }));
     let decls = shared_point::<P>(alloc, bump)?;
-    assert!(rt; tied(&decls));
+    assert!(rt; is_forest(&decls));
     let refused = Forest::place(alloc, bump, &decls).err();
     assert!(rt;
         refused
@@ -228,13 +228,13 @@ fn ask_faults<'a, P: ArenaSet<'a> + 'a>(
 fn forest_answers(rt: HostRuntime) -> Result<(), Fail> {
     let arena = Bump::new(rt.alloc());
     let decls = two_partitions::<PointList>(rt.alloc(), &arena, &[(7, 7)])?;
-    assert!(rt; tied(&decls));
+    assert!(rt; is_forest(&decls));
     let of_lists = Forest::place(rt.alloc(), &arena, &decls)
         .ok()
         .ok_or("refused")?;
     ask_forest(&rt, rt.alloc(), &of_lists)?;
     let decls = two_partitions::<RunSet>(rt.alloc(), &arena, &[(7, 7)])?;
-    assert!(rt; tied(&decls));
+    assert!(rt; is_forest(&decls));
     let of_runs = Forest::place(rt.alloc(), &arena, &decls)
         .ok()
         .ok_or("refused")?;
@@ -252,13 +252,13 @@ fn least_faults(rt: HostRuntime) -> Result<(), Fail> {
 fn depth_limit(rt: HostRuntime) -> Result<(), Fail> {
     let bump = Bump::new(rt.alloc());
     let deep = chain::<RunSet>(rt.alloc(), &bump, 64)?;
-    assert!(rt; tied(&deep));
+    assert!(rt; is_forest(&deep));
     let forest = Forest::place(rt.alloc(), &bump, &deep)
         .ok()
         .ok_or("refused")?;
     let path = forest.path_of(rt.alloc(), 64)?.ok_or("no such space")?;
     assert_eq!(rt; path.steps().len(), 64);
-    assert!(rt; !tied(&chain::<RunSet>(rt.alloc(), &bump, 65)?));
+    assert!(rt; !is_forest(&chain::<RunSet>(rt.alloc(), &bump, 65)?));
     Ok(())
 }
 

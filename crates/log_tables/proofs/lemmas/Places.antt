@@ -1,7 +1,7 @@
 -- Places of rows, and the rows at them.
-use Rattle.std.proofs.Common.{◌≡◌, ℕ, suc, ◌+◌, ◌-◌, ◌≤◌, Bool, ◌||◌, List, [], ◌∷◌, ◌++◌, map, Option, Some, None, is_some, length, cond, refl, sym, ap, inl, inr, arith, find, slice_get, All, subst, Bor, IfSome}
+use Rattle.std.proofs.Common.{◌≡◌, ℕ, suc, ◌+◌, Bool, ◌||◌, List, [], ◌∷◌, ◌++◌, map, Option, Some, None, is_some, length, cond, refl, sym, ap, inl, inr, arith, find, All, subst, Bor, IfSome}
 use Rattle.std.specs.List.{list_any, position_from}
-use Rattle.std.specs.Option.{option_and_then, option_or, option_map, option_copied}
+use Rattle.std.specs.Option.{option_or, option_map, option_copied}
 use Rattle.std.proofs.lemmas.Bool.{cases_Bool}
 use Rattle.std.proofs.lemmas.Option.{none-some, same_Some}
 use Rattle.std.proofs.lemmas.List.Elements.{All-head, All-tail}
@@ -19,24 +19,6 @@ pub is_some-position : {X : Type 0} (p : X → Bool) (k : ℕ) (xs : List X) →
 is_some-position p k [] = refl
 is_some-position p k (x ∷ xs) =
     elim (cases_Bool (p x)) [ inl hit ↦ rw hit refl | inr miss ↦ rw miss (is_some-position p (k + 1) xs) ]
-
-find_from : {X : Type 0} (p : X → Bool) (k i : ℕ) (xs : List X) → position_from p k xs ≡ Some i → (k ≤ i) × (find p xs ≡ slice_get xs (i - k))
-find_from p k i [] e = absurd (none-some i e)
-find_from p k i (x ∷ xs) e =
-    elim (cases_Bool (p x)) [
-      | inl hit ↦ let here : k ≡ i = same_Some k i (rw hit at e) in let z : i - k ≡ 0 = omega arith in (omega arith, rw (hit, z) refl)
-      | inr miss ↦ let h = find_from p (k + 1) i xs (rw miss at e) in let z : i - k ≡ suc (i - (k + 1)) = omega (arith, h.0) in (omega (arith, h.0), rw (miss, z) h.1)
-    ]
-
-find_none_from : {X : Type 0} (p : X → Bool) (k : ℕ) (xs : List X) → position_from p k xs ≡ None → find p xs ≡ None
-find_none_from p k [] e = refl
-find_none_from p k (x ∷ xs) e =
-    elim (cases_Bool (p x)) [ inl hit ↦ absurd (none-some k (sym (rw hit at e))) | inr miss ↦ rw miss (find_none_from p (k + 1) xs (rw miss at e)) ]
-
--- the row at the first place is the first row
-pub find_by_place : {X : Type 0} (p : X → Bool) (xs : List X) (o : Option ℕ) → o ≡ position_from p 0 xs → option_and_then (slice_get xs) o ≡ find p xs
-find_by_place p xs (Some i) e = let z : i - 0 ≡ i = omega arith in sym (rw z at (find_from p 0 i xs (sym e)).1)
-find_by_place p xs None e = sym (find_none_from p 0 xs (sym e))
 
 -- look-ups through a view
 pub find_map : {X Y : Type 0} (p : Y → Bool) (f : X → Y) (xs : List X) → find p (map f xs) ≡ option_map f (find (λ x. p (f x)) xs)

@@ -1,9 +1,9 @@
 -- First places in lists, and options.
-use Rattle.std.proofs.Common.{◌≡◌, ℕ, suc, ◌+◌, ◌-◌, ◌≤◌, Bool, true, List, [], ◌∷◌, map, Option, Some, None, All, subst, cond, Bor, refl, sym, ap, ◌∙◌, inl, inr, ◌⊎◌, arith, find, slice_get}
+use Rattle.std.proofs.Common.{◌≡◌, ℕ, suc, ◌+◌, ◌-◌, ◌≤◌, Bool, true, List, [], ◌∷◌, map, Option, Some, None, All, subst, cond, Bor, refl, sym, ap, ◌∙◌, inl, inr, ◌⊎◌, arith, find, slice_get, Contains}
 use Rattle.std.specs.List.{position_from}
-use Rattle.std.specs.Option.{option_and_then, option_map, option_copied}
+use Rattle.std.specs.Option.{option_and_then, option_map, option_copied, option_or}
 use Rattle.std.proofs.lemmas.Bool.{cases_Bool}
-use Rattle.std.proofs.lemmas.Option.{slice_get-map, slice_get_within, get_or_from_slice_get, none-some, same_Some}
+use Rattle.std.proofs.lemmas.Option.{slice_get-map, slice_get_within, get_or_from_slice_get, none-some, same_Some, slice_get-get_or}
 
 -- what an option is, and what it was before a function
 pub cases_option : {X : Type 0} (o : Option X) → (o ≡ None) ⊎ ((x : X) × (o ≡ Some x))
@@ -13,6 +13,10 @@ cases_option (Some x) = inr (x, refl)
 pub map_cases : {X Y : Type 0} (f : X → Y) (o : Option X) (y : Y) → option_map f o ≡ Some y → (x : X) × (o ≡ Some x) × (f x ≡ y)
 map_cases f (Some x) y e = (x, refl, same_Some (f x) y e)
 map_cases f None y e = absurd (none-some y e)
+
+pub or_none : {X : Type 0} (o : Option X) → option_or o None ≡ o
+or_none None = refl
+or_none (Some x) = refl
 
 pub position_from-map : {X K : Type 0} (f : X → K) (p : K → Bool) (k : ℕ) (xs : List X) → position_from p k (map f xs) ≡ position_from (λ x. p (f x)) k xs
 position_from-map f p k [] = refl
@@ -66,3 +70,10 @@ find_some p (y ∷ ys) x e =
 -- what holds of each element holds of the one at a place
 pub all_at : {X : Type 0} (P : X → Type 0) (xs : List X) (i : ℕ) (x : X) → All P xs → slice_get xs i ≡ Some x → P x
 all_at P xs i x all at = subst P (get_or_from_slice_get xs i x x at) (all i x (slice_get_within xs i x at))
+
+-- an element stands at a place
+pub contains_at : {X : Type 0} (xs : List X) (i : ℕ) (x : X) → slice_get xs i ≡ Some x → Contains xs x
+contains_at xs i x at = (i, slice_get_within xs i x at, get_or_from_slice_get xs i x x at)
+
+pub at_contains : {X : Type 0} (xs : List X) (x : X) (h : Contains xs x) → slice_get xs h.0 ≡ Some x
+at_contains xs x h = slice_get-get_or xs h.0 x h.1 ∙ ap (λ y. Some y) h.2

@@ -1,8 +1,7 @@
 -- A forest, one declaration later.
-use Rattle.std.proofs.Common.{◌≡◌, ◌≢◌, ℕ, zero, suc, ◌+◌, ◌≤◌, ◌==◌, false, [], ◌∷◌, length, Option, Some, None, IsSome, cond, All, subst, refl, sym, ap, ◌∙◌, inl, inr, arith, eq-eqb, length-append}
+use Rattle.std.proofs.Common.{◌≡◌, ◌≢◌, ℕ, zero, suc, ◌+◌, ◌≤◌, ◌==◌, [], ◌∷◌, length, Option, Some, None, IsSome, cond, All, subst, refl, sym, ap, ◌∙◌, inl, inr, arith, eq-eqb, length-append}
 use Rattle.std.specs.Option.{option_and_then, option_or, option_map}
-use Rattle.std.proofs.lemmas.Bool.{cases_eq, eqb-true}
-use Rattle.std.proofs.lemmas.Bool.Decides.{nat_tests}
+use Rattle.std.proofs.lemmas.Bool.{cases_eq, eqb-true, ne_eqb}
 use Rattle.std.proofs.lemmas.Option.{none-some, same_Some, option_and_then_some}
 use Rattle.std.proofs.lemmas.List.Folds.{find-append}
 use Rattle.std.proofs.lemmas.List.Elements.{All-push}
@@ -11,24 +10,17 @@ use Rattle.region_tree.specs.declared.decls.PartDecl.{PartDecl}
 use Rattle.region_tree.specs.declared.decls.SubDecl.{SubDecl}
 use Rattle.region_tree.specs.Regions.{Regions, Space, space_of, part_of, sub_of, whole_of, parent_of, step_of}
 use Rattle.region_tree.specs.Ancestors.{ancestor_of}
-use Rattle.region_tree.proofs.lemmas.Firsts.{cases_option, find_some, all_at}
+use Rattle.region_tree.proofs.lemmas.Firsts.{cases_option, or_none, find_some, all_at}
 use Rattle.region_tree.proofs.lemmas.Climbs.{acyclic_from, ancestor-sum}
 use Rattle.region_tree.specs.Growing.{IsGrown, MaySub, with_space, with_part, with_sub}
-
-apart : (a b : ℕ) → (a ≡ b → ⊥) → (a == b) ≡ false
-apart a b ne = grind (arith, nat_tests)
 
 -- The subspace that a space is, after one more is declared.
 sub_after : (d : Regions) (s : SubDecl) (x : ℕ) → sub_of (with_sub d s) x ≡ option_or (sub_of d x) (cond (x == s.space) (Some s) None)
 sub_after d s x = find-append (λ (u : SubDecl). x == u.space) d.subs (s ∷ [])
 
-or_none : {X : Type 0} (o : Option X) → option_or o None ≡ o
-or_none None = refl
-or_none (Some x) = refl
-
 parent_other : (d : Regions) (s : SubDecl) (x : ℕ) → (x ≡ s.space → ⊥) → parent_of (with_sub d s) x ≡ parent_of d x
 parent_other d s x ne =
-    ap (option_and_then (λ (u : SubDecl). whole_of d u.part)) (sub_after d s x ∙ ap (λ b. option_or (sub_of d x) (cond b (Some s) None)) (apart x s.space ne) ∙ or_none (sub_of d x))
+    ap (option_and_then (λ (u : SubDecl). whole_of d u.part)) (sub_after d s x ∙ ap (λ b. option_or (sub_of d x) (cond b (Some s) None)) (ne_eqb x s.space ne) ∙ or_none (sub_of d x))
 
 no_sub : (d : Regions) (s : SubDecl) → All (λ (u : SubDecl). u.space ≢ s.space) d.subs → sub_of d s.space ≡ None
 no_sub d s all = elim (cases_option (sub_of d s.space)) [
@@ -106,7 +98,7 @@ shallow_sub d s grown may space root (suc n) e = elim (cases_eq space s.space) [
       let h = ancestors_new d s may root n (ap (λ x. ancestor_of (with_sub d s) (suc n) x) (sym is) ∙ e) in
       let k : n ≤ 63 = may.depth h.0 root n h.1 h.2 in
       omega arith
-  | inr ne ↦ grown.tied.shallow space root (suc n) (sym (ancestors_other d s space may.whole ne (suc n)) ∙ e)
+  | inr ne ↦ grown.forest.shallow space root (suc n) (sym (ancestors_other d s space may.whole ne (suc n)) ∙ e)
 ]
 
 pub counted_sub : (d : Regions) (s : SubDecl) → IsGrown d → MaySub d s → (space root n : ℕ) → ancestor_of (with_sub d s) n space ≡ Some root → n ≤ length (with_sub d s).subs
@@ -123,16 +115,16 @@ counted_sub d s grown may space root (suc n) e = elim (cases_eq space s.space) [
 
 pub grown_sub : (d : Regions) (s : SubDecl) → IsGrown d → MaySub d s → IsGrown (with_sub d s)
 grown_sub d s grown may =
-    let tied = grown.tied in
+    let forest = grown.forest in
     record {
-      tied = record {
-        space_ids = tied.space_ids;
-        part_ids = tied.part_ids;
-        steps = all_pairs_push (λ (u t : SubDecl). step_of u ≢ step_of t) d.subs s tied.steps may.step;
-        sub_spaces = all_pairs_push (λ (u t : SubDecl). u.space ≢ t.space) d.subs s tied.sub_spaces may.sub;
-        wholes_declared = tied.wholes_declared;
-        parts_declared = All-push (λ (u : SubDecl). IsSome (part_of d u.part)) d.subs s tied.parts_declared may.part;
-        spaces_declared = All-push (λ (u : SubDecl). IsSome (space_of d u.space)) d.subs s tied.spaces_declared may.space;
+      forest = record {
+        space_ids = forest.space_ids;
+        part_ids = forest.part_ids;
+        steps = all_pairs_push (λ (u t : SubDecl). step_of u ≢ step_of t) d.subs s forest.steps may.step;
+        sub_spaces = all_pairs_push (λ (u t : SubDecl). u.space ≢ t.space) d.subs s forest.sub_spaces may.sub;
+        wholes_declared = forest.wholes_declared;
+        parts_declared = All-push (λ (u : SubDecl). IsSome (part_of d u.part)) d.subs s forest.parts_declared may.part;
+        spaces_declared = All-push (λ (u : SubDecl). IsSome (space_of d u.space)) d.subs s forest.spaces_declared may.space;
         acyclic = acyclic_from (with_sub d s) (λ space. shallow_sub d s grown may space);
         shallow = shallow_sub d s grown may;
       };
@@ -158,18 +150,18 @@ stays {X} o p q e h = subst (λ (r : Option X). IsSome r) (sym (e ∙ kept o p h
 
 pub grown_space : (d : Regions) (s : Space) → IsGrown d → All (λ (t : Space). t.id ≢ s.id) d.spaces → IsGrown (with_space d s)
 grown_space d s grown new =
-    let tied = grown.tied in
+    let forest = grown.forest in
     let declared : (x : ℕ) → IsSome (space_of d x) → IsSome (space_of (with_space d s) x) = λ x h. stays (space_of d x) _ _ (find-append (λ (t : Space). x == t.id) d.spaces (s ∷ [])) h in
-    let shallow : (space root n : ℕ) → ancestor_of (with_space d s) n space ≡ Some root → n ≤ 64 = λ space root n e. tied.shallow space root n (sym (ancestors_same (with_space d s) d (λ x. refl) n space) ∙ e) in
+    let shallow : (space root n : ℕ) → ancestor_of (with_space d s) n space ≡ Some root → n ≤ 64 = λ space root n e. forest.shallow space root n (sym (ancestors_same (with_space d s) d (λ x. refl) n space) ∙ e) in
     record {
-      tied = record {
-        space_ids = all_pairs_push (λ (t u : Space). t.id ≢ u.id) d.spaces s tied.space_ids new;
-        part_ids = tied.part_ids;
-        steps = tied.steps;
-        sub_spaces = tied.sub_spaces;
-        wholes_declared = λ k p lt. declared _ (tied.wholes_declared k p lt);
-        parts_declared = tied.parts_declared;
-        spaces_declared = λ k u lt. declared _ (tied.spaces_declared k u lt);
+      forest = record {
+        space_ids = all_pairs_push (λ (t u : Space). t.id ≢ u.id) d.spaces s forest.space_ids new;
+        part_ids = forest.part_ids;
+        steps = forest.steps;
+        sub_spaces = forest.sub_spaces;
+        wholes_declared = λ k p lt. declared _ (forest.wholes_declared k p lt);
+        parts_declared = forest.parts_declared;
+        spaces_declared = λ k u lt. declared _ (forest.spaces_declared k u lt);
         acyclic = acyclic_from (with_space d s) shallow;
         shallow = shallow;
       };
@@ -192,18 +184,18 @@ parent_kept d p all x = elim (cases_option (sub_of d x)) [
 
 pub grown_part : (d : Regions) (p : PartDecl) → IsGrown d → All (λ (q : PartDecl). q.id ≢ p.id) d.parts → IsSome (space_of d p.space) → IsGrown (with_part d p)
 grown_part d p grown new has =
-    let tied = grown.tied in
-    let same = ancestors_same (with_part d p) d (parent_kept d p tied.parts_declared) in
-    let shallow : (space root n : ℕ) → ancestor_of (with_part d p) n space ≡ Some root → n ≤ 64 = λ space root n e. tied.shallow space root n (sym (same n space) ∙ e) in
+    let forest = grown.forest in
+    let same = ancestors_same (with_part d p) d (parent_kept d p forest.parts_declared) in
+    let shallow : (space root n : ℕ) → ancestor_of (with_part d p) n space ≡ Some root → n ≤ 64 = λ space root n e. forest.shallow space root n (sym (same n space) ∙ e) in
     record {
-      tied = record {
-        space_ids = tied.space_ids;
-        part_ids = all_pairs_push (λ (q r : PartDecl). q.id ≢ r.id) d.parts p tied.part_ids new;
-        steps = tied.steps;
-        sub_spaces = tied.sub_spaces;
-        wholes_declared = All-push (λ (q : PartDecl). IsSome (space_of d q.space)) d.parts p tied.wholes_declared has;
-        parts_declared = λ k u lt. let h = tied.parts_declared k u lt in subst (λ (o : Option PartDecl). IsSome o) (sym (part_kept d p _ h)) h;
-        spaces_declared = tied.spaces_declared;
+      forest = record {
+        space_ids = forest.space_ids;
+        part_ids = all_pairs_push (λ (q r : PartDecl). q.id ≢ r.id) d.parts p forest.part_ids new;
+        steps = forest.steps;
+        sub_spaces = forest.sub_spaces;
+        wholes_declared = All-push (λ (q : PartDecl). IsSome (space_of d q.space)) d.parts p forest.wholes_declared has;
+        parts_declared = λ k u lt. let h = forest.parts_declared k u lt in subst (λ (o : Option PartDecl). IsSome o) (sym (part_kept d p _ h)) h;
+        spaces_declared = forest.spaces_declared;
         acyclic = acyclic_from (with_part d p) shallow;
         shallow = shallow;
       };

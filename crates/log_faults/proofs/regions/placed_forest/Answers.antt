@@ -2,7 +2,7 @@ use Rattle.std.proofs.Common.{Err, subst, refl, sym, ap, ◌∙◌}
 use Rattle.spy_grammar.specs.declared.code.Code.TheVariants as codes
 use Rattle.region_tree.specs.Faults.{IsFaulty, FirstNotWithin, FirstNotDisjoint}
 use Rattle.region_tree.specs.Regions.{Regions}
-use Rattle.region_tree.specs.Tied.{IsTied}
+use Rattle.region_tree.specs.Shape.{IsForest}
 use Rattle.log_faults.specs.Decls.{decls_of}
 use Rattle.log_faults.proofs.Ending.{same_fault}
 use Rattle.log_faults.proofs.Placing.{grown_log, faultless, not_within, not_disjoint, listed, told_at}
@@ -12,7 +12,7 @@ pub place-requires : goal.place-requires
 place-requires g c κs =
     let is = c.in_ok-decls.ensures ∙ ap decls_of c.requires.tables in
     let keep = c.requires.keep in
-    ((refl, tt), subst IsTied (sym is) (grown_log keep.0 c.args.records.now c.declarations_grow.ensures.none keep.1).tied)
+    ((refl, tt), subst IsForest (sym is) (grown_log keep.0 c.args.records.now c.declarations_grow.ensures.none keep.1).forest)
 
 pub returns-in-Ok-clause-faultless : goal.returns-in-Ok-clause-faultless
 returns-in-Ok-clause-faultless g c =

@@ -1,6 +1,6 @@
 use Rattle.std.proofs.Common.{map, ap, ◌∙◌}
 use Rattle.std.proofs.lemmas.Result.{IfOk-weaker}
-use Rattle.region_tree.specs.Regions.{Regions, seen}
+use Rattle.region_tree.specs.Regions.{seen}
 use Rattle.region_tree.proofs.forest.place_decls.Goals as goal
 
 pub returns : goal.returns

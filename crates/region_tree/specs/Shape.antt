@@ -7,7 +7,7 @@ use Rattle.region_tree.specs.Ancestors.{ancestor_of, IsBelow}
 -- Each space and each partition that is named is declared.
 -- No two subspaces have one partition and colour, and none is declared twice.
 -- No space lies below itself, and none more than 64 steps below another.
-pub record IsTied (d : Regions) : Type 0 where
+pub record IsForest (d : Regions) : Type 0 where
   pub space_ids : AllPairs (λ s t. s.id ≢ t.id) d.spaces
   pub part_ids : AllPairs (λ p q. p.id ≢ q.id) d.parts
   pub steps : AllPairs (λ s t. step_of s ≢ step_of t) d.subs

@@ -1,5 +1,5 @@
 use Rattle.region_tree.proofs.lemmas.Climbs.{every_shallow, acyclic_from}
-use Rattle.region_tree.proofs.tie.is_tied.Goals as goal
+use Rattle.region_tree.proofs.shape.declares_forest.Goals as goal
 
 pub returns : goal.returns
 returns g c = (
@@ -16,5 +16,5 @@ returns g c = (
         acyclic = acyclic_from c.args.finder.now shallow;
         shallow = shallow;
       },
-  λ tied. c.are_subs_shallow.ensures.1 (λ k d lt root n e. tied.shallow _ root n e),
+  λ forest. c.are_subs_shallow.ensures.1 (λ k d lt root n e. forest.shallow _ root n e),
 )

@@ -1,6 +1,6 @@
 use Rattle.std.proofs.Common.{sym, ◌∙◌, refl, arith}
 use Rattle.region_tree.proofs.lemmas.Climbs.{ancestor_more, at_most}
-use Rattle.region_tree.proofs.tie.is_shallow.Goals as goal
+use Rattle.region_tree.proofs.shape.is_shallow.Goals as goal
 
 pub loop-up-preserved : goal.loop-up-preserved
 loop-up-preserved g c = ancestor_more c.args.finder.now c.loop-up._up c.args.space c.loop-up.at c.loop-up.invariant ∙ sym c.parent.ensures ∙ c.in-Some.is

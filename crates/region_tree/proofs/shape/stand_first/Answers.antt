@@ -1,9 +1,9 @@
-use Rattle.std.proofs.Common.{Some, true, refl, sym, ap, subst, ◌∙◌, arith, below_more}
+use Rattle.std.proofs.Common.{Some, refl, sym, ap, subst, ◌∙◌, arith, below_more}
 use Rattle.std.specs.Fn.{FnReturnsAt}
 use Rattle.std.proofs.lemmas.Fn.{says_at}
 use Rattle.std.proofs.lemmas.Option.{slice_get-get_or, slice_get_within, same_Some}
 use Rattle.region_tree.proofs.Distinct.{same_told, other_told}
-use Rattle.region_tree.proofs.tie.stand_first.Goals as goal
+use Rattle.region_tree.proofs.shape.stand_first.Goals as goal
 
 pub returns-then-ne : goal.returns-then-ne
 returns-then-ne g c =

@@ -4,7 +4,7 @@ ghost use Rattle.std.specs.Prelude.{◌≢◌, ◌↔◌, All, AllPairs, MatchBo
 ghost use Rattle.region_tree.specs.Regions.{space_of, part_of, step_of};
 ghost use Rattle.region_tree.specs.Ancestors.{IsShallow};
 ghost use Rattle.region_tree.specs.Index.{AllFirst, SomeLater};
-ghost use Rattle.region_tree.specs.Tied.{IsTied};
+ghost use Rattle.region_tree.specs.Shape.{IsForest};
 
 use crate::decls::Decls;
 use crate::finder::Finder;
@@ -97,8 +97,8 @@ fn are_subs_shallow<P: PointSet>(finder: &Finder<P>) -> bool
 }
 
 /// Whether the declarations of a finder make a forest.
-fn is_tied<P: PointSet>(finder: &Finder<P>) -> bool
-    ensures { IsTrue result ↔ IsTied finder.now }
+fn declares_forest<P: PointSet>(finder: &Finder<P>) -> bool
+    ensures { IsTrue result ↔ IsForest finder.now }
 {
     if !are_space_ids_distinct(finder) {
         return false;
@@ -127,8 +127,8 @@ fn is_tied<P: PointSet>(finder: &Finder<P>) -> bool
 /// Whether the declarations make a forest: ids are distinct, names are declared, no two subspaces have one place or one space, and no space lies below itself or more than 64 steps deep.
 ///
 /// It needs no memory, but is quick only where there is some: without an index it takes a pass over the declarations for each of them.
-pub fn tied<P: PointSet>(decls: &Decls<P>) -> bool
-    ensures { IsTrue result ↔ IsTied decls.now }
+pub fn is_forest<P: PointSet>(decls: &Decls<P>) -> bool
+    ensures { IsTrue result ↔ IsForest decls.now }
 {
     match Finder::indexed(
         decls.allocator(),
@@ -136,7 +136,7 @@ pub fn tied<P: PointSet>(decls: &Decls<P>) -> bool
         decls.parts(),
         decls.subs(),
     ) {
-        Ok(finder) => is_tied(&finder),
-        Err(_) => is_tied(&Finder::plain(decls.spaces(), decls.parts(), decls.subs())),
+        Ok(finder) => declares_forest(&finder),
+        Err(_) => declares_forest(&Finder::plain(decls.spaces(), decls.parts(), decls.subs())),
     }
 }
