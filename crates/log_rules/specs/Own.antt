@@ -13,6 +13,7 @@ use Rattle.semantics.specs.Points.{is_in, meets, points_in}
 use Rattle.semantics.specs.Reads.{req_at}
 use Rattle.log_rules.specs.declared.claims.OwnPlace.{OwnPlace}
 use Rattle.log_rules.specs.declared.claims.Claims.{Claims}
+use Rattle.log_rules.specs.declared.own.Asked.{Asked}
 
 -- Whether a requirement of this item, tree, points, fields and privilege is at a place and does not agree with a privilege there.
 abbrev pub claims_at : ℕ → ℕ → List ℕ → List ℕ → Priv → OwnPlace → Priv → Bool
@@ -25,6 +26,10 @@ clashes_with t item tree points fields access r = (r.item == item) && ((r.tree =
 -- Whether some requirement clashes so with one of this item, tree, space, fields and privilege.
 abbrev pub clashes_own : Tables → ℕ → ℕ → ℕ → List ℕ → Priv → Bool
 clashes_own t item tree space fields access = list_any (clashes_with t item tree (points_in t space) fields access) t.reqs
+
+-- The same of what is asked for.
+abbrev pub clashes_asked : Tables → Asked → Bool
+clashes_asked t asked = clashes_own t asked.item asked.tree asked.space asked.fields.now asked.access
 
 -- Whether the first requirement of the item does.
 abbrev pub first_clashes : Tables → ℕ → ℕ → ℕ → List ℕ → Priv → Bool

@@ -8,7 +8,7 @@ ghost use Rattle.spy_grammar.specs.declared.record.Record.{Record};
 ghost use Rattle.semantics.specs.Points.{points_in, meets};
 ghost use Rattle.semantics.specs.Rules.{interferes_with_own};
 ghost use Rattle.log_tables.specs.Views.{Ascends};
-ghost use Rattle.log_rules.specs.Own.{AreClaims, clashes_with, clashes_own, first_clashes, clashes_row};
+ghost use Rattle.log_rules.specs.Own.{AreClaims, clashes_with, clashes_asked, first_clashes, clashes_row};
 ghost use Rattle.log_rules.specs.Tallied.{IfTally};
 
 use crate::claims::{Claims, agree};
@@ -19,6 +19,16 @@ use point_set::PointSet;
 use privilege::Priv;
 use semantics::Req;
 use spy_grammar::Record;
+
+/// What a requirement asks for: these fields of a space in a tree, for an item, with a privilege.
+#[derive(Clone, Copy)]
+struct Asked<'a> {
+    item: usize,
+    tree: u32,
+    space: u32,
+    fields: &'a [u32],
+    access: Priv,
+}
 
 /// Whether two sets have a point in common.
 fn sets_meet<P: PointSet>(ours: &P, theirs: &P) -> bool
@@ -40,42 +50,28 @@ fn spaces_meet<P: PointSet>(draft: &Draft<P>, ours: u32, theirs: u32) -> bool
     }
 }
 
-/// Whether a requirement is of an item, and shares a place with these fields of a space in a tree, where its privilege and the other do not agree.
-fn clashes_with<P: PointSet>(
-    draft: &Draft<P>,
-    req: &Req,
-    item: usize,
-    tree: u32,
-    space: u32,
-    fields: &[u32],
-    access: Priv,
-) -> bool
+/// Whether a requirement is of the item, and shares a place with what is asked for, where the two privileges do not agree.
+fn clashes_with<P: PointSet>(draft: &Draft<P>, req: &Req, asked: &Asked<'_>) -> bool
     requires req { IsStrictlyIncreasing req.now.fields }
-    requires fields { IsStrictlyIncreasing fields.now }
+    requires fields { IsStrictlyIncreasing asked.now.fields.now }
     ensures { result
-        ≡ clashes_with draft.now item tree (points_in draft.now space) fields.now access req.now }
+        ≡ clashes_with draft.now asked.now.item asked.now.tree (points_in draft.now asked.now.space)
+        asked.now.fields.now asked.now.access req.now }
 {
-    req.item == item
-        && req.tree == tree
-        && !agree(req.access, access)
-        && meets(req.fields.as_slice(), fields)
-        && spaces_meet(draft, req.space, space)
+    req.item == asked.item
+        && req.tree == asked.tree
+        && !agree(req.access, asked.access)
+        && meets(req.fields.as_slice(), asked.fields)
+        && spaces_meet(draft, req.space, asked.space)
 }
 
 /// Whether some requirement of the item clashes so, requirement by requirement.
-fn clashes_by_req<P: PointSet>(
-    draft: &Draft<P>,
-    item: usize,
-    tree: u32,
-    space: u32,
-    fields: &[u32],
-    access: Priv,
-) -> bool
-    requires { IsStrictlyIncreasing fields.now }
-    ensures { result ≡ clashes_own draft.now item tree space fields.now access }
+fn clashes_by_req<P: PointSet>(draft: &Draft<P>, asked: &Asked<'_>) -> bool
+    requires { IsStrictlyIncreasing asked.now.fields.now }
+    ensures { result ≡ clashes_asked draft.now asked.now }
 {
     for req in draft.reqs() {
-        if clashes_with(draft, req, item, tree, space, fields, access) {
+        if clashes_with(draft, req, asked) {
             return true;
         }
     }
@@ -83,58 +79,36 @@ fn clashes_by_req<P: PointSet>(
 }
 
 /// Whether the first requirement of the item clashes so.
-fn first_clashes<P: PointSet>(
-    draft: &Draft<P>,
-    item: usize,
-    tree: u32,
-    space: u32,
-    fields: &[u32],
-    access: Priv,
-) -> bool
-    requires { IsStrictlyIncreasing fields.now }
-    ensures { result ≡ first_clashes draft.now item tree space fields.now access }
+fn first_clashes<P: PointSet>(draft: &Draft<P>, asked: &Asked<'_>) -> bool
+    requires { IsStrictlyIncreasing asked.now.fields.now }
+    ensures { result ≡ first_clashes draft.now asked.now.item asked.now.tree asked.now.space
+        asked.now.fields.now asked.now.access }
 {
-    match draft.req(item, 1) {
-        Some(first) => clashes_with(draft, first, item, tree, space, fields, access),
+    match draft.req(asked.item, 1) {
+        Some(first) => clashes_with(draft, first, asked),
         None => false,
     }
 }
 
 /// Whether a privilege clashes with what is claimed at these fields of a space.
-fn clashes_with_claims<P: PointSet>(
-    draft: &Draft<P>,
-    claims: &Claims,
-    item: usize,
-    tree: u32,
-    space: u32,
-    fields: &[u32],
-    access: Priv,
-) -> bool
+fn clashes_with_claims<P: PointSet>(draft: &Draft<P>, claims: &Claims, asked: &Asked<'_>) -> bool
     ensures { result
-        ≡ list_any (clashes_row claims.now item tree fields.now access) (points_in draft.now space) }
+        ≡ list_any (clashes_row claims.now asked.now.item asked.now.tree asked.now.fields.now asked.now.access)
+        (points_in draft.now asked.now.space) }
 {
-    match draft.set(space) {
-        Some(set) => claims.clashes_any(item, tree, set, fields, access),
+    match draft.set(asked.space) {
+        Some(set) => claims.clashes_any(asked.item, asked.tree, set, asked.fields, asked.access),
         None => false,
     }
 }
 
 /// Whether some requirement of the item clashes so: the first, or a later one, whose places are claimed.
-fn clashes_by_place<P: PointSet>(
-    draft: &Draft<P>,
-    claims: &Claims,
-    item: usize,
-    tree: u32,
-    space: u32,
-    fields: &[u32],
-    access: Priv,
-) -> bool
-    requires { IsStrictlyIncreasing fields.now }
+fn clashes_by_place<P: PointSet>(draft: &Draft<P>, claims: &Claims, asked: &Asked<'_>) -> bool
+    requires { IsStrictlyIncreasing asked.now.fields.now }
     ensures { AreClaims draft.now claims.now
-        → result ≡ clashes_own draft.now item tree space fields.now access }
+        → result ≡ clashes_asked draft.now asked.now }
 {
-    first_clashes(draft, item, tree, space, fields, access)
-        || clashes_with_claims(draft, claims, item, tree, space, fields, access)
+    first_clashes(draft, asked) || clashes_with_claims(draft, claims, asked)
 }
 
 /// Whether some requirement of the item clashes so. The places are not gone through where nothing can clash, or where they may be too many.
@@ -142,22 +116,18 @@ fn clashes_own<P: PointSet>(
     draft: &Draft<P>,
     claims: &Claims,
     has_many: bool,
-    item: usize,
-    tree: u32,
-    space: u32,
-    fields: &[u32],
-    access: Priv,
+    asked: &Asked<'_>,
 ) -> bool
-    requires { IsStrictlyIncreasing fields.now }
+    requires { IsStrictlyIncreasing asked.now.fields.now }
     ensures { AreClaims draft.now claims.now
-        → result ≡ clashes_own draft.now item tree space fields.now access }
+        → result ≡ clashes_asked draft.now asked.now }
 {
-    if draft.req_count(item) == 0 {
+    if draft.req_count(asked.item) == 0 {
         false
     } else if has_many {
-        clashes_by_req(draft, item, tree, space, fields, access)
+        clashes_by_req(draft, asked)
     } else {
-        clashes_by_place(draft, claims, item, tree, space, fields, access)
+        clashes_by_place(draft, claims, asked)
     }
 }
 
@@ -180,11 +150,13 @@ pub fn interferes_with_own<P: PointSet>(draft: &Draft<P>, tally: &Tally, rec: &R
             draft,
             &tally.claims,
             has_many_accesses(draft, tally, rec),
-            draft.place(*task),
-            *tree,
-            *space,
-            fields.as_slice(),
-            priv_of(*access),
+            &Asked {
+                item: draft.place(*task),
+                tree: *tree,
+                space: *space,
+                fields: fields.as_slice(),
+                access: priv_of(*access),
+            },
         ),
         _ => false,
     }

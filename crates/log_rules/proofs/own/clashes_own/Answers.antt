@@ -4,4 +4,4 @@ use Rattle.log_rules.proofs.own.clashes_own.Goals as goal
 
 pub returns-then-req_count-eq0 : goal.returns-then-req_count-eq0
 returns-then-req_count-eq0 g c = λ are.
-    sym (own_alone c.args.draft.now c.args.item c.args.tree c.args.space c.args.fields.now c.args.access (sym c.req_count.ensures.count ∙ c.if-req_count-eq0.true))
+    sym (own_alone c.args.draft.now c.args.asked.now.item c.args.asked.now.tree c.args.asked.now.space c.args.asked.now.fields.now c.args.asked.now.access (sym c.req_count.ensures.count ∙ c.if-req_count-eq0.true))
