@@ -1,2 +1,6 @@
 mod WorkedPairs
 mod WorkedRaces
+mod Within
+mod Frames
+mod FewPlaces
+mod ManyRecords

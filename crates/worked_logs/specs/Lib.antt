@@ -1,3 +1,4 @@
 pub mod WorkedLogs
 pub mod WorkedLongValues
 pub mod WorkedRules
+pub mod WorkedLimits

@@ -1,6 +1,5 @@
 -- Worked logs for the rules: with one argument a log just keeps its rule, and with another it breaks it.
 use Rattle.std.specs.Prelude.{ℕ, ◌+◌, zero, suc, true, false, List, [], ◌∷◌, ◌++◌}
-use Rattle.std.specs.List.{range_with_len}
 use Rattle.spy_words.specs.declared.access.PrivWord.{PrivWord}
 use Rattle.spy_words.specs.declared.access.PrivWord.TheVariants.{Ro, Red}
 use Rattle.spy_words.specs.declared.access.InstKind.{InstKind}
@@ -133,20 +132,3 @@ run_then r = Header 1 ∷ Task 1 ∷ Run 1 1 [] ∷ r ∷ End 3 ∷ []
 -- Two tasks, and a serial order of these.
 abbrev pub in_order : List ℕ → List Record
 in_order ids = Header 1 ∷ Task 1 ∷ Task 2 ∷ Serial ids ∷ Run 1 1 [] ∷ Run 2 2 [] ∷ End 5 ∷ []
-
--- So many spaces, each with 4,096 points.
-abbrev pub many_spaces : ℕ → List Record
-many_spaces zero = []
-many_spaces (suc n) = Ispace (suc n) ((1, 4096) ∷ []) ∷ many_spaces n
-
--- A tree with so many points and fields, an empty space 2, and a space 3 with one point.
-abbrev pub square : ℕ → List Record
-square n = Header 1 ∷ Ispace 1 ((1, n) ∷ []) ∷ Ispace 2 [] ∷ Ispace 3 ((1, 1) ∷ []) ∷ Fields 1 (range_with_len 1 n) ∷ Tree 1 1 1 ∷ []
-
--- An instance with all its cells.
-abbrev pub square_inst : ℕ → List Record
-square_inst n = square n ++ Inst 1 1 1 (range_with_len 1 n) layouts.Plain ∷ []
-
--- A fill of all its places.
-abbrev pub square_fill : ℕ → List Record
-square_fill n = square n ++ Fill 1 1 1 (range_with_len 1 n) 0 ∷ []

@@ -1,17 +1,15 @@
 //! The rules, tried on worked logs: one that just keeps a rule, and one that breaks it.
 
-ghost use Rattle.std.specs.Prelude.{◌≡◌, true, false, None, Some, [], ◌∷◌, ◌++◌, sum_by};
+ghost use Rattle.std.specs.Prelude.{◌≡◌, true, false, None, Some, [], ◌∷◌, ◌++◌};
 ghost use Rattle.spy_words.specs.declared.access.PrivWord.TheVariants.{Ro, Rw};
 ghost use Rattle.spy_words.specs.declared.access.InstKind.TheVariants as layouts;
 ghost use Rattle.spy_grammar.specs.declared.code.Code.TheVariants as codes;
-ghost use Rattle.spy_grammar.specs.declared.record.Record.TheVariants.{End, Fill, Header, Inst, Ispace, Merge, Run, Serial};
+ghost use Rattle.spy_grammar.specs.declared.record.Record.TheVariants.{End, Header, Merge, Run, Serial};
 ghost use Rattle.semantics.specs.Records.{lined};
-ghost use Rattle.semantics.specs.Tables.{tables_of};
 ghost use Rattle.semantics.specs.declared.command.Command.TheVariants.{Check, Ordered};
 ghost use Rattle.semantics.specs.Faults.{at_line, log_fault};
-ghost use Rattle.semantics.specs.Rules.{has_many_accesses, has_many_cells, has_many_points, is_late, load_of};
-ghost use Rattle.worked_logs.specs.WorkedLogs.{folded_once, one, turned, turned_by_log};
-ghost use Rattle.worked_logs.specs.WorkedRules.{both, copied_to, copied_to_tree, counted_as, deep, disjoint_up_to, ended_before, fill_with_id, filled, filled_field, in_order, many_spaces, mapped_also, mapped_fields, mapped_number, of_version, operator_with_id, put_up_to, reaching, reads_and, reduced_in, reset_kind, run_then, split, split_before, square_fill, square_inst, task_then, tree_of, two_subs};
+ghost use Rattle.worked_logs.specs.WorkedLogs.{one, turned, turned_by_log};
+ghost use Rattle.worked_logs.specs.WorkedRules.{both, copied_to, copied_to_tree, counted_as, deep, disjoint_up_to, ended_before, fill_with_id, filled, filled_field, in_order, mapped_also, mapped_fields, mapped_number, of_version, operator_with_id, put_up_to, reaching, reads_and, reduced_in, reset_kind, run_then, split, split_before, task_then, tree_of, two_subs};
 
 /// The rules on the frame, and on names.
 #[tactic(auto, unfolding(semantics::specs::Computed::logs_computed))]
@@ -109,22 +107,4 @@ pub fn worked_runs()
     ensures against_program_order { log_fault Check 15 (lined (turned false (Serial (2 ∷ 1 ∷ []) ∷ []) 13))
         ≡ Some (at_line codes.SerialOrder 9) }
     ensures turns_against_program_order { log_fault Check 15 (lined turned_by_log) ≡ None }
-{}
-
-/// The limits on numbers. Each is tried on one record, given what earlier ones declare: a whole log that reaches it is too large to try.
-#[tactic(auto, unfolding(semantics::specs::Computed::logs_computed))]
-pub fn worked_limits()
-    ensures no_late_record { is_late 131072 (Merge 1 []) ≡ false }
-    ensures late_record { is_late 131073 (Merge 1 []) ≡ true }
-    ensures late_end { is_late 131073 (End 131072) ≡ false }
-    ensures points { has_many_points (tables_of (lined (many_spaces 256))) (Ispace 257 []) ≡ false }
-    ensures too_many_points { has_many_points (tables_of (lined (many_spaces 256))) (Ispace 257 ((0, 0) ∷ [])) ≡ true }
-    ensures cells { has_many_cells (tables_of (lined (square_inst 1024))) (Inst 2 1 2 one layouts.Plain)
-        ≡ false }
-    ensures too_many_cells { has_many_cells (tables_of (lined (square_inst 1024))) (Inst 2 1 3 one layouts.Plain) ≡ true }
-    ensures accesses { has_many_accesses (square_fill 2048) (tables_of (lined (square_fill 2048))) (Fill 2 1 2 one 0) ≡ false }
-    ensures too_many_accesses { has_many_accesses (square_fill 2048) (tables_of (lined (square_fill 2048))) (Fill 2 1 3 one 0) ≡ true }
-
-    // The limit on the load is beyond trying. Here two instances have a cell each, at a place where two tasks reduce.
-    ensures load { sum_by (load_of (tables_of (lined folded_once))) (tables_of (lined folded_once)).insts ≡ 4 }
 {}

@@ -1,0 +1,28 @@
+use Rattle.std.proofs.Common.{arith}
+use Rattle.worked_logs.proofs.FewPlaces.{points_kept, points_broken, cells_kept, cells_broken, accesses_kept, accesses_broken}
+use Rattle.worked_logs.proofs.ManyRecords.{records_kept, records_broken}
+use Rattle.worked_logs.proofs.limits.worked_limits.Goals as goal
+
+pub returns-clause-records : goal.returns-clause-records
+returns-clause-records c = records_kept 131072 (omega arith)
+
+pub returns-clause-too_many_records : goal.returns-clause-too_many_records
+returns-clause-too_many_records c = records_broken 131073 (omega arith)
+
+pub returns-clause-points : goal.returns-clause-points
+returns-clause-points c = points_kept 1048576 (omega arith)
+
+pub returns-clause-too_many_points : goal.returns-clause-too_many_points
+returns-clause-too_many_points c = points_broken 1048577 (omega arith)
+
+pub returns-clause-cells : goal.returns-clause-cells
+returns-clause-cells c = cells_kept 65536 16 (omega arith) (omega arith)
+
+pub returns-clause-too_many_cells : goal.returns-clause-too_many_cells
+returns-clause-too_many_cells c = cells_broken 61681 17 (omega arith) (omega arith)
+
+pub returns-clause-accesses : goal.returns-clause-accesses
+returns-clause-accesses c = accesses_kept 1048576 4 (omega arith) (omega arith)
+
+pub returns-clause-too_many_accesses : goal.returns-clause-too_many_accesses
+returns-clause-too_many_accesses c = accesses_broken 838861 5 (omega arith) (omega arith)

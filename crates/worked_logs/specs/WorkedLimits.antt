@@ -1,0 +1,30 @@
+-- Worked logs for the limits on numbers: at one size a log just keeps its limit, and at another it breaks it.
+use Rattle.std.specs.Prelude.{ℕ, List, [], ◌∷◌, ◌++◌, map}
+use Rattle.std.specs.List.{range_with_len}
+use Rattle.spy_words.specs.declared.access.InstKind.TheVariants as layouts
+use Rattle.spy_grammar.specs.declared.record.Record.{Record}
+use Rattle.spy_grammar.specs.declared.record.Record.TheVariants.{Header, Ispace, Fields, Tree, Redop, Fill, Inst, End}
+
+-- These records between a header and an end, which says that there are so many.
+abbrev pub framed : List Record → ℕ → List Record
+framed rs n = Header 1 ∷ rs ++ End n ∷ []
+
+-- So many records, each of which declares an operator. (They are too many to be written out, so this is not opened by itself.)
+unfoldable pub of_records : ℕ → List Record
+of_records n = framed (map (λ id. Redop id) (range_with_len 1 n)) n
+
+-- A space of so many points.
+abbrev pub of_points : ℕ → List Record
+of_points points = framed (Ispace 1 ((1, points) ∷ []) ∷ []) 1
+
+-- A region of so many points and fields.
+abbrev pub area : ℕ → ℕ → List Record
+area points fields = Ispace 1 ((1, points) ∷ []) ∷ Fields 1 (range_with_len 1 fields) ∷ Tree 1 1 1 ∷ []
+
+-- An instance with a cell at each place of a region.
+abbrev pub of_cells : ℕ → ℕ → List Record
+of_cells points fields = framed (area points fields ++ Inst 1 1 1 (range_with_len 1 fields) layouts.Plain ∷ []) 4
+
+-- A fill of each place of a region.
+abbrev pub of_accesses : ℕ → ℕ → List Record
+of_accesses points fields = framed (area points fields ++ Fill 1 1 1 (range_with_len 1 fields) 0 ∷ []) 4
