@@ -4,3 +4,4 @@ mod Within
 mod Frames
 mod FewPlaces
 mod ManyRecords
+mod MuchLoad

@@ -1,9 +1,10 @@
 -- Worked logs for the limits on numbers: at one size a log just keeps its limit, and at another it breaks it.
-use Rattle.std.specs.Prelude.{ℕ, List, [], ◌∷◌, ◌++◌, map}
+use Rattle.std.specs.Prelude.{ℕ, ◌+◌, false, List, [], ◌∷◌, ◌++◌, map, replicate}
 use Rattle.std.specs.List.{range_with_len}
+use Rattle.spy_words.specs.declared.access.PrivWord.TheVariants.{Red}
 use Rattle.spy_words.specs.declared.access.InstKind.TheVariants as layouts
 use Rattle.spy_grammar.specs.declared.record.Record.{Record}
-use Rattle.spy_grammar.specs.declared.record.Record.TheVariants.{Header, Ispace, Fields, Tree, Redop, Fill, Inst, End}
+use Rattle.spy_grammar.specs.declared.record.Record.TheVariants.{Header, Ispace, Fields, Tree, Redop, Task, Req, Fill, Inst, Run, End}
 
 -- These records between a header and an end, which says that there are so many.
 abbrev pub framed : List Record → ℕ → List Record
@@ -28,3 +29,15 @@ of_cells points fields = framed (area points fields ++ Inst 1 1 1 (range_with_le
 -- A fill of each place of a region.
 abbrev pub of_accesses : ℕ → ℕ → List Record
 of_accesses points fields = framed (area points fields ++ Fill 1 1 1 (range_with_len 1 fields) 0 ∷ []) 4
+
+-- A task with so many requirements, each of which reduces at each place of a region.
+abbrev pub reductions : ℕ → ℕ → List Record
+reductions fields reqs = Redop 1 ∷ Task 1 ∷ replicate reqs (Req 1 1 1 (range_with_len 1 fields) (Red 1) false)
+
+-- So many instances, each with a cell at each place.
+abbrev pub instances : ℕ → ℕ → List Record
+instances fields insts = map (λ id. Inst id 1 1 (range_with_len 1 fields) layouts.Plain) (range_with_len 1 insts)
+
+-- These two, and the run of the task.
+abbrev pub of_load : ℕ → ℕ → ℕ → ℕ → List Record
+of_load points fields reqs insts = framed (area points fields ++ reductions fields reqs ++ (instances fields insts ++ Run 1 1 [] ∷ [])) (reqs + insts + 6)

@@ -4,11 +4,11 @@ ghost use Rattle.std.specs.Prelude.{◌≡◌, None, Some, sum_by};
 ghost use Rattle.spy_grammar.specs.declared.code.Code.TheVariants as codes;
 ghost use Rattle.semantics.specs.Records.{lined};
 ghost use Rattle.semantics.specs.Tables.{tables_of};
-ghost use Rattle.semantics.specs.declared.command.Command.TheVariants.{Check};
+ghost use Rattle.semantics.specs.declared.command.Command.TheVariants.{Check, Ordered};
 ghost use Rattle.semantics.specs.Faults.{at_line, log_fault};
 ghost use Rattle.semantics.specs.Rules.{load_of};
 ghost use Rattle.worked_logs.specs.WorkedLogs.{folded_once};
-ghost use Rattle.worked_logs.specs.WorkedLimits.{of_accesses, of_cells, of_points, of_records};
+ghost use Rattle.worked_logs.specs.WorkedLimits.{of_accesses, of_cells, of_load, of_points, of_records};
 
 /// The limits on numbers.
 pub fn worked_limits()
@@ -24,6 +24,10 @@ pub fn worked_limits()
     ensures accesses { log_fault Check 6 (lined (of_accesses 1048576 4)) ≡ None }
     ensures too_many_accesses { log_fault Check 6 (lined (of_accesses 838861 5))
         ≡ Some (at_line codes.TooManyAccesses 5) }
+    // The load, of points, fields, requirements and instances: a product of these.
+    ensures large_load { log_fault Ordered 104 (lined (of_load 4096 8 64 32)) ≡ None }
+    ensures too_much_load { log_fault Ordered 218 (lined (of_load 1613 5 157 53))
+        ≡ Some (at_line codes.TooMuchLoad 218) }
 
     // Two instances have a cell each, at a place where two tasks reduce.
     ensures load { sum_by (load_of (tables_of (lined folded_once))) (tables_of (lined folded_once)).insts ≡ 4 }

@@ -1,5 +1,6 @@
 use Rattle.std.proofs.Common.{arith}
 use Rattle.worked_logs.proofs.FewPlaces.{points_kept, points_broken, cells_kept, cells_broken, accesses_kept, accesses_broken}
+use Rattle.worked_logs.proofs.MuchLoad.{load_kept, load_broken}
 use Rattle.worked_logs.proofs.ManyRecords.{records_kept, records_broken}
 use Rattle.worked_logs.proofs.limits.worked_limits.Goals as goal
 
@@ -26,3 +27,9 @@ returns-clause-accesses c = accesses_kept 1048576 4 (omega arith) (omega arith)
 
 pub returns-clause-too_many_accesses : goal.returns-clause-too_many_accesses
 returns-clause-too_many_accesses c = accesses_broken 838861 5 (omega arith) (omega arith)
+
+pub returns-clause-large_load : goal.returns-clause-large_load
+returns-clause-large_load c = load_kept 4096 8 64 32 (record { points_fit = omega arith; records_fit = omega arith; accesses_fit = omega arith; cells_fit = omega arith }) (omega arith)
+
+pub returns-clause-too_much_load : goal.returns-clause-too_much_load
+returns-clause-too_much_load c = load_broken 1613 5 157 53 (record { points_fit = omega arith; records_fit = omega arith; accesses_fit = omega arith; cells_fit = omega arith }) (omega arith)
