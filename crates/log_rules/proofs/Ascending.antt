@@ -29,8 +29,8 @@ filter-later p x xs lt = ap (λ b. cond b (x ∷ filter (nat_le p) xs) (filter (
 above_first : (x : ℕ) (xs : List ℕ) → AllPairs (λ a b. a < b) (x ∷ xs) → All (λ y. x < y) xs
 above_first x xs up k d lt = up 0 (suc k) d (omega arith) (omega arith)
 
-rest_up : (x : ℕ) (xs : List ℕ) → AllPairs (λ a b. a < b) (x ∷ xs) → AllPairs (λ a b. a < b) xs
-rest_up x xs up i j d lt below = up (suc i) (suc j) d (omega arith) (omega arith)
+pub rest_ascends : (x : ℕ) (xs : List ℕ) → AllPairs (λ a b. a < b) (x ∷ xs) → AllPairs (λ a b. a < b) xs
+rest_ascends x xs up i j d lt below = up (suc i) (suc j) d (omega arith) (omega arith)
 
 later : (x q : ℕ) (xs : List ℕ) → Contains xs q → Contains (x ∷ xs) q
 later x q xs has = (suc has.0, omega (arith, has.1), has.2)
@@ -73,7 +73,7 @@ steps (x ∷ xs) p o up has least =
           elim (cases_lt x p) [
             | inl less ↦
                 filter-later p x xs less
-                ∙ steps xs p o (rest_up x xs up) (not_first x p xs has less) (least_rest x (p + 1) xs o (omega arith) least)
+                ∙ steps xs p o (rest_ascends x xs up) (not_first x p xs has less) (least_rest x (p + 1) xs o (omega arith) least)
                 ∙ ap (λ ys. p ∷ ys) (sym (from_rest x (p + 1) xs o (omega arith) least))
             | inr more ↦ absurd (no_such x p xs up has (omega arith))
           ]

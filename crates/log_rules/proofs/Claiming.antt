@@ -2,7 +2,7 @@
 use Rattle.std.proofs.Common.{◌≡◌, ℕ, ◌+◌, ◌<◌, ◌==◌, Bool, true, false, not, ◌&&◌, ◌||◌, cond, List, [], ◌∷◌, take, length, get_or, Option, Some, None, is_some, refl, sym, ap, ◌∙◌, inl, inr}
 use Rattle.std.specs.List.{list_any}
 use Rattle.std.specs.Option.{option_map, option_map_or}
-use Rattle.std.proofs.lemmas.Bool.{and_parts, cases_Bool, eqb-true}
+use Rattle.std.proofs.lemmas.Bool.{and_parts, cases_Bool, eqb-true, ne_eqb}
 use Rattle.std.proofs.lemmas.List.Folds.{list_any_more}
 use Rattle.std.proofs.lemmas.List.Sums.{length-filter}
 use Rattle.privilege.specs.declared.kinds.Priv.{Priv}
@@ -17,7 +17,7 @@ use Rattle.log_rules.specs.declared.claims.OwnPlace.{OwnPlace}
 use Rattle.log_rules.specs.declared.claims.Claims.{Claims}
 use Rattle.log_rules.specs.Own.{AreClaims, clashes, claims_at, clashes_with, clashes_own, first_clashes, req_clashes_at, clashes_at, first_clashes_at, clashes_in, clashes_row, same_place, claimed}
 use Rattle.log_rules.proofs.Booleans.{or_false, or_assoc}
-use Rattle.log_rules.proofs.Members.{apart, meets_turned}
+use Rattle.log_rules.proofs.Members.{meets_turned}
 use Rattle.log_rules.proofs.ListTests.{list_any-alike, list_any-false, list_any-and, list_any-or, list_any-list_any, is_some-find, find-none}
 
 -- Places that are one.
@@ -146,4 +146,4 @@ first_claims_nothing t task tree space fields access atomic none k a =
 
 pub later_claims_all : (t : Tables) (task tree space : ℕ) (fields : List ℕ) (access : PrivWord) (atomic : Bool) → (reqs_before t.reqs (place_of t.items task) ≡ 0 → ⊥) → (k : OwnPlace) (a : Priv) → claimed t (records.Req task tree space fields access atomic) k a ≡ claims_at (place_of t.items task) tree (points_in t space) fields (privilege_of access) k a
 later_claims_all t task tree space fields access atomic some k a =
-    ap (λ b. not b && claims_at (place_of t.items task) tree (points_in t space) fields (privilege_of access) k a) (apart (reqs_before t.reqs (place_of t.items task)) 0 some)
+    ap (λ b. not b && claims_at (place_of t.items task) tree (points_in t space) fields (privilege_of access) k a) (ne_eqb (reqs_before t.reqs (place_of t.items task)) 0 some)

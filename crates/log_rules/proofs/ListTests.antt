@@ -1,9 +1,10 @@
 -- Tests of the members of lists.
-use Rattle.std.proofs.Common.{◌≡◌, ℕ, suc, Bool, true, false, ◌&&◌, ◌||◌, cond, List, [], ◌∷◌, ◌++◌, filter, length, find, Option, Some, None, is_some, refl, sym, ap, ◌∙◌, inl, inr, arith}
+use Rattle.std.proofs.Common.{◌≡◌, ℕ, suc, Bool, true, false, ◌&&◌, ◌||◌, cond, List, [], ◌∷◌, ◌++◌, filter, length, find, Some, None, is_some, refl, sym, ap, ◌∙◌, inl, inr, arith}
 use Rattle.std.specs.List.{list_any, list_all}
 use Rattle.std.specs.Option.{option_map, option_or}
 use Rattle.std.proofs.lemmas.Bool.{cases_Bool}
-use Rattle.std.proofs.lemmas.List.Folds.{find-append}
+use Rattle.std.proofs.lemmas.List.Folds.{find-append, list_any_none}
+use Rattle.region_tree.proofs.lemmas.Firsts.{or_none}
 
 pub list_any-alike : {X : Type 0} (p q : X → Bool) (xs : List X) → ((x : X) → p x ≡ q x) → list_any p xs ≡ list_any q xs
 list_any-alike p q [] e = refl
@@ -14,8 +15,7 @@ list_all-alike p q [] e = refl
 list_all-alike p q (x ∷ xs) e = rw (e x, list_all-alike p q xs e) refl
 
 pub list_any-false : {X : Type 0} (xs : List X) → list_any (λ x. false) xs ≡ false
-list_any-false [] = refl
-list_any-false (x ∷ xs) = list_any-false xs
+list_any-false xs = list_any_none (λ x. false) xs (λ _ _ _. refl)
 
 pub list_any-and : {X : Type 0} (b : Bool) (p : X → Bool) (xs : List X) → list_any (λ x. b && p x) xs ≡ (b && list_any p xs)
 list_any-and true p xs = refl
@@ -60,10 +60,6 @@ find-none p q (x ∷ xs) none =
     no n e = omega (arith, e)
 
 -- What a list with one element more is searched for.
-or_none : {X : Type 0} (o : Option X) → option_or o None ≡ o
-or_none None = refl
-or_none (Some x) = refl
-
 pub find-kept : {X : Type 0} (p : X → Bool) (xs : List X) (x : X) → p x ≡ false → find p (xs ++ x ∷ []) ≡ find p xs
 find-kept p xs x miss = find-append p xs (x ∷ []) ∙ ap (λ b. option_or (find p xs) (cond b (Some x) None)) miss ∙ or_none (find p xs)
 

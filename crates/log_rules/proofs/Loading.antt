@@ -1,9 +1,9 @@
 -- How counts of places tell the load of a log.
-use Rattle.std.proofs.Common.{◌≡◌, ℕ, suc, ◌+◌, ◌<◌, ◌==◌, Bool, true, false, ◌&&◌, ◌||◌, cond, List, [], ◌∷◌, ◌++◌, map, take, length, get_or, Option, Some, unwrap_or, refl, sym, ap, ◌∙◌, zero-add, inl, inr, arith, sum_by}
+use Rattle.std.proofs.Common.{◌≡◌, ℕ, suc, ◌+◌, ◌<◌, ◌==◌, Bool, true, false, ◌&&◌, ◌||◌, cond, List, [], ◌∷◌, map, take, length, get_or, Option, Some, unwrap_or, refl, sym, ap, ◌∙◌, zero-add, inl, inr, arith, sum_by}
 use Rattle.std.specs.List.{AllPairs}
 use Rattle.std.specs.List.Sorted.{IsStrictlyIncreasing}
 use Rattle.std.proofs.lemmas.Bool.{and_parts, cases_Bool, eqb-true, false_from_ne_true, true≢false}
-use Rattle.std.proofs.lemmas.List.{take_more, get_or-take, length-take}
+use Rattle.std.proofs.lemmas.List.{get_or-take, length-take}
 use Rattle.std.proofs.lemmas.List.Sums.{sum_by-append, sum_by-cons}
 use Rattle.std.proofs.lemmas.List.Filters.{length-filter_more}
 use Rattle.std.proofs.lemmas.List.Folds.{list_any_more}
@@ -17,7 +17,7 @@ use Rattle.semantics.specs.Rules.{load_of, reduces}
 use Rattle.log_rules.specs.declared.load.LoadPlace.{LoadPlace}
 use Rattle.log_rules.specs.Counts.{cut}
 use Rattle.log_rules.specs.Loads.{one, same_load_place, is_held, covers_place, load_at, row_load, inst_load}
-use Rattle.log_rules.proofs.Members.{Decides-is_in, get_or_any}
+use Rattle.log_tables.proofs.lemmas.Members.{Decides-is_in, get_or_any}
 
 -- ---- Places that are one.
 
@@ -96,9 +96,6 @@ pub load-point : (mid new goal tree p : ℕ) (rest fields : List ℕ) (k : LoadP
 load-point mid new goal tree p rest fields k up before after =
     let split = split_point (tree == k.tree) (p == k.point) (is_in rest k.point) (is_in fields k.field) (fresh_point p rest k.point up) in
     omega (arith, before, after, split)
-
-pub rest_ascends : (p : ℕ) (rest : List ℕ) → AllPairs (λ a b. a < b) (p ∷ rest) → AllPairs (λ a b. a < b) rest
-rest_ascends p rest up i j d lt below = up (suc i) (suc j) d (omega arith) (omega arith)
 
 none_held : (b : Bool) → one (b && false) ≡ 0
 none_held true = refl

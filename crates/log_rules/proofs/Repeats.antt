@@ -7,7 +7,7 @@ use Rattle.semantics.specs.Points.{is_in}
 use Rattle.semantics.specs.Rules.{has_repeat}
 use Rattle.log_rules.specs.Listing.{IsSetOf}
 use Rattle.log_rules.proofs.Booleans.{or_false}
-use Rattle.log_rules.proofs.Members.{eq_turned}
+use Rattle.log_tables.proofs.lemmas.Members.{eq_turned}
 
 mixed : (a e r s : Bool) → ((a || (e || false)) || (r || s)) ≡ ((a || r) || (e || s))
 mixed true e r s = refl

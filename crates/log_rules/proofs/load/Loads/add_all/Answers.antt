@@ -3,7 +3,8 @@ use Rattle.std.specs.List.{AllPairs}
 use Rattle.std.proofs.lemmas.List.Kept.{AllPairs-from_increasing}
 use Rattle.log_rules.specs.Counts.{cut}
 use Rattle.log_rules.specs.Loads.{load_in, one, is_held}
-use Rattle.log_rules.proofs.Loading.{load-point, rest_ascends}
+use Rattle.log_rules.proofs.Ascending.{rest_ascends}
+use Rattle.log_rules.proofs.Loading.{load-point}
 use Rattle.log_rules.proofs.load.Loads.add_all.Goals as goal
 
 pub loop-point-init : goal.loop-point-init
