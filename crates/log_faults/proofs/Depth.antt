@@ -1,5 +1,5 @@
 -- How deep spaces lie, in tables and in their declarations.
-use Rattle.std.proofs.Common.{◌≡◌, ℕ, zero, suc, ◌+◌, ◌≤◌, ◌==◌, Bool, false, nat_lt, List, [], ◌∷◌, map, length, Option, Some, None, find, refl, sym, ap, ◌∙◌, inl, inr, ◌⊎◌, arith}
+use Rattle.std.proofs.Common.{◌≡◌, ℕ, zero, suc, ◌+◌, ◌≤◌, ◌==◌, Bool, false, nat_lt, List, [], ◌∷◌, map, length, Option, Some, None, find, refl, sym, ap, ◌∙◌, inl, inr, arith}
 use Rattle.std.specs.Option.{option_and_then, option_map, option_map_or}
 use Rattle.std.proofs.lemmas.List.{length-map}
 use Rattle.std.proofs.lemmas.Bool.{cases_Bool, cases_lt}
@@ -10,7 +10,9 @@ use Rattle.region_tree.specs.declared.decls.PartDecl.{PartDecl}
 use Rattle.region_tree.specs.declared.decls.SubDecl.{SubDecl}
 use Rattle.region_tree.specs.Regions.{whole_of, parent_of}
 use Rattle.region_tree.specs.Ancestors.{ancestor_of}
+use Rattle.region_tree.proofs.lemmas.Firsts.{cases_option}
 use Rattle.region_tree.proofs.lemmas.Climbs.{ancestor-sum, ends}
+use Rattle.log_tables.proofs.lemmas.Members.{eq_turned}
 use Rattle.semantics.specs.Tables.{Tables}
 use Rattle.semantics.specs.declared.tables.Part as parts
 use Rattle.semantics.specs.declared.tables.Sub as subs
@@ -18,9 +20,6 @@ use Rattle.semantics.specs.Points.{part_at, space_above, upward, spaces_above}
 use Rattle.semantics.specs.Rules.{is_too_deep}
 use Rattle.log_faults.specs.Decls.{decls_of, part_decl, sub_decl}
 use Rattle.region_tree.specs.Growing.{IsGrown}
-
-pub eq_turned : (a b : ℕ) → (a == b) ≡ (b == a)
-eq_turned a b = grind (arith, nat_tests)
 
 pub find_seen : {X Y : Type 0} (p : Y → Bool) (q : X → Bool) (f : X → Y) (xs : List X) → ((x : X) → p (f x) ≡ q x) → find p (map f xs) ≡ option_map f (find q xs)
 find_seen p q f [] e = refl
@@ -45,10 +44,6 @@ pub parent_is : (t : Tables) (space : ℕ) → parent_of (decls_of t) space ≡ 
 parent_is t space =
     ap (option_and_then (λ (s : SubDecl). whole_of (decls_of t) s.part)) (find_seen (λ (s : SubDecl). space == s.space) (λ (s : subs.Sub). s.space == space) sub_decl t.subs (λ s. eq_turned space s.space))
     ∙ through t (find (λ (s : subs.Sub). s.space == space) t.subs)
-
-cases_option : (o : Option ℕ) → (o ≡ None) ⊎ ((x : ℕ) × (o ≡ Some x))
-cases_option None = inl refl
-cases_option (Some x) = inr (x, refl)
 
 -- A space that lies so many steps above another is counted by the climb.
 pub counted : (t : Tables) (k m w root : ℕ) → ancestor_of (decls_of t) m w ≡ Some root → m ≤ k → m ≤ length (upward t k (space_above t w))

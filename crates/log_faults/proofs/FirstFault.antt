@@ -1,17 +1,17 @@
 -- The first fault, as the walk and the forest find it.
 use Rattle.std.proofs.Common.{◌≡◌, ℕ, zero, suc, ◌+◌, ◌≤◌, arith, nat_lt, slice_get, append_assoc, Bool, true, false, cond, List, [], ◌∷◌, ◌++◌, Option, Some, None, find, option_map, refl, sym, ap, ◌∙◌, inl, inr}
 use Rattle.std.specs.Option.{option_or}
-use Rattle.std.specs.List.{list_any}
 use Rattle.std.proofs.lemmas.List.{append-nil}
 use Rattle.std.proofs.lemmas.Option.{none-some, same_Some}
 use Rattle.std.proofs.lemmas.Bool.{cases_Bool}
 use Rattle.std.proofs.lemmas.Bool.Decides.{nat_tests}
-use Rattle.std.proofs.lemmas.List.Folds.{find-append}
+use Rattle.std.proofs.lemmas.List.Folds.{find-append, list_any_none}
 use Rattle.spy_grammar.specs.declared.code.Code.{Code}
 use Rattle.spy_grammar.specs.declared.code.Code.TheVariants as codes
 use Rattle.spy_grammar.specs.declared.record.Record.{Record}
 use Rattle.spy_grammar.specs.declared.record.Record.TheVariants.{Sub}
 use Rattle.spy_grammar.specs.declared.record.Lined.{Lined}
+use Rattle.region_tree.proofs.lemmas.Firsts.{or_none}
 use Rattle.semantics.specs.Records.{records_of}
 use Rattle.semantics.specs.Tables.{Tables, tables_of}
 use Rattle.semantics.specs.declared.faults.Fault.{Fault}
@@ -28,10 +28,6 @@ or_or : {X : Type 0} (o p q : Option X) → option_or (option_or o p) q ≡ opti
 or_or None p q = refl
 or_or (Some x) p q = refl
 
-or_none : {X : Type 0} (o : Option X) → option_or o None ≡ o
-or_none None = refl
-or_none (Some x) = refl
-
 -- The first broken rule of two lists.
 pub broken-append : (xs ys : List (Code × Bool)) → first_broken (xs ++ ys) ≡ option_or (first_broken xs) (first_broken ys)
 broken-append xs ys =
@@ -45,12 +41,8 @@ two_rules false true ys = refl
 two_rules false false ys = refl
 
 -- At a subspace no rule after those of the forest is broken, unless the records before it ask for too many accesses; and no other record breaks those of the forest.
-any_none : {X : Type 0} (xs : List X) → list_any (λ x. false) xs ≡ false
-any_none [] = refl
-any_none (x ∷ xs) = any_none xs
-
 after_none : (log earlier : List Record) (t : Tables) (part colour space : ℕ) → rules.has_many_accesses earlier t (Sub part colour space) ≡ false → first_broken (tried_after log earlier t (Sub part colour space)) ≡ None
-after_none log earlier t part colour space few = rw (any_none t.nodes, few) refl
+after_none log earlier t part colour space few = rw (list_any_none (λ x. false) t.nodes (λ _ _ _. refl), few) refl
 
 turned : {X : Type 0} (a b c : Option X) → (c ≡ None) → option_or a (option_or b c) ≡ option_or (option_or a c) b
 turned a b c e = ap (λ o. option_or a (option_or b o)) e ∙ ap (option_or a) (or_none b) ∙ sym (ap (λ o. option_or (option_or a o) b) e ∙ ap (λ o. option_or o b) (or_none a))

@@ -2,7 +2,7 @@
 use Rattle.std.proofs.Common.{◌≡◌, ℕ, suc, ◌+◌, ◌-◌, ◌<◌, ◌≤◌, false, cond, List, [], ◌∷◌, ◌++◌, length, slice_get, Option, Some, None, subst, refl, sym, ap, ◌∙◌, inl, inr, ◌⊎◌, append_assoc, length-append, arith}
 use Rattle.std.specs.List.{cons_option}
 use Rattle.std.specs.Option.{option_map, option_or}
-use Rattle.std.proofs.lemmas.Bool.{and_parts, cases_Bool, cases_eq, or_parts}
+use Rattle.std.proofs.lemmas.Bool.{and_parts, cases_Bool, cases_eq, not-false, or_parts}
 use Rattle.std.proofs.lemmas.Option.{none-some, slice_get_within}
 use Rattle.std.proofs.lemmas.List.{length-map, append-nil}
 use Rattle.spy_grammar.specs.declared.code.Code.{Code}
@@ -20,7 +20,7 @@ use Rattle.region_tree.specs.Growing.{IsGrown}
 use Rattle.log_faults.specs.SubLines.{sub_line, sub_lines}
 use Rattle.log_faults.specs.Walk.{other_broken, space_broken, spaces_fault, Keep}
 use Rattle.log_faults.proofs.Growing.{extends_tables, tables_by}
-use Rattle.log_faults.proofs.Steady.{keeps_of, grown_with, not_false}
+use Rattle.log_faults.proofs.Steady.{keeps_of, grown_with}
 use Rattle.log_faults.proofs.SubFaults.{IsNext, Decides-is_outside, Decides-is_not_disjoint}
 
 -- One record later.
@@ -45,7 +45,7 @@ next_of log earlier rest line part colour space grown e =
     let l : Lined = record { line = line; rec = Sub part colour space } in
     let s : subs.Sub = record { part = part; colour = colour; space = space } in
     let keeps = keeps_of log earlier (Sub part colour space) e in
-    let named = and_parts _ _ (not_false _ (or_parts _ _ keeps.known).0) in
+    let named = and_parts _ _ (not-false _ (or_parts _ _ keeps.known).0) in
     let later = extends_tables (earlier ++ l ∷ []) rest in
     let here : (tables_of (earlier ++ l ∷ [])).subs ≡ t.subs ++ s ∷ [] = ap (λ (u : Tables). u.subs) (tables_by earlier (l ∷ [])) in
     let all : (tables_of (earlier ++ l ∷ rest)).subs ≡ t.subs ++ s ∷ later.more_subs =

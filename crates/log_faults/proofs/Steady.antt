@@ -1,9 +1,9 @@
 -- A forest, record by record, as long as the rules but for the two of the forest are kept.
-use Rattle.std.proofs.Common.{◌≡◌, ◌≢◌, ℕ, suc, ◌==◌, Bool, true, false, not, ◌&&◌, List, [], ◌∷◌, map, All, IsSome, None, subst, refl, sym, ap, ◌∙◌, eq-eqb, arith}
+use Rattle.std.proofs.Common.{◌≡◌, ◌≢◌, ℕ, suc, ◌==◌, Bool, true, false, ◌&&◌, List, [], ◌∷◌, map, All, IsSome, None, subst, refl, sym, ap, ◌∙◌, eq-eqb, arith}
 use Rattle.std.specs.List.{list_any}
 use Rattle.std.proofs.lemmas.List.{map-append}
 use Rattle.std.specs.Option.{option_map}
-use Rattle.std.proofs.lemmas.Bool.{and_from, and_parts, false≢true, or_parts}
+use Rattle.std.proofs.lemmas.Bool.{and_from, and_parts, false≢true, not-false, or_parts}
 use Rattle.std.proofs.lemmas.List.Elements.{All-nil, All-cons}
 use Rattle.spy_grammar.specs.declared.code.Code.TheVariants as codes
 use Rattle.spy_grammar.specs.declared.record.Record.{Record}
@@ -29,10 +29,6 @@ use Rattle.region_tree.proofs.lemmas.Growth.{grown_space, grown_part, grown_sub}
 use Rattle.log_faults.proofs.SubFaults.{found_any, space_is, part_is}
 
 -- Facts from tests.
-pub not_false : (b : Bool) → not b ≡ false → b ≡ true
-not_false true e = refl
-not_false false e = absurd (false≢true (sym e))
-
 none_like : {X : Type 0} (P : X → Type 0) (p : X → Bool) (xs : List X) → ((x : X) → P x → p x ≡ true) → list_any p xs ≡ false → All (λ x. ¬ P x) xs
 none_like P p [] tells e = All-nil (λ x. ¬ P x)
 none_like P p (x ∷ xs) tells e = let both = or_parts (p x) (list_any p xs) e in All-cons (λ x. ¬ P x) x xs (λ h. false≢true (sym both.0 ∙ tells x h)) (none_like P p xs tells both.1)
@@ -87,7 +83,7 @@ part_step t line id space disjoint grown keeps =
     let d = decls_of t in
     let p : parts.Part = record { id = id; space = space; disjoint = disjoint } in
     let e : decls_of (with_record t line (Part id space disjoint)) ≡ with_part d (part_decl p) = ap (λ (xs : List PartDecl). record d { parts = xs }) (map-append part_decl t.parts (p ∷ [])) in
-    let named = not_false _ (or_parts _ _ keeps.known).0 in
+    let named = not-false _ (or_parts _ _ keeps.known).0 in
     subst IsGrown (sym e) (grown_part d (part_decl p) grown (all_map (λ (x : PartDecl). x.id ≢ id) part_decl t.parts (none_like (λ (x : parts.Part). x.id ≡ id) (λ (x : parts.Part). x.id == id) t.parts (λ x same. eq-eqb x.id id same) (or_parts _ _ keeps.new).0)) (known_space t space (and_parts _ _ named).0))
 
 sub_step : (t : Tables) (line part colour space : ℕ) → IsGrown (decls_of t) → Keeps t (Sub part colour space) → IsGrown (decls_of (with_record t line (Sub part colour space)))
@@ -95,7 +91,7 @@ sub_step t line part colour space grown keeps =
     let d = decls_of t in
     let s : subs.Sub = record { part = part; colour = colour; space = space } in
     let e : decls_of (with_record t line (Sub part colour space)) ≡ with_sub d (sub_decl s) = ap (λ (xs : List SubDecl). record d { subs = xs }) (map-append sub_decl t.subs (s ∷ [])) in
-    let named = and_parts _ _ (not_false _ (or_parts _ _ keeps.known).0) in
+    let named = and_parts _ _ (not-false _ (or_parts _ _ keeps.known).0) in
     let late = or_parts _ _ keeps.early in
     let may : MaySub d (sub_decl s) = record {
       part = known_part t part named.0;

@@ -12,14 +12,15 @@ use Rattle.region_tree.specs.Regions as regions
 use Rattle.region_tree.specs.Regions.{space_of, part_of, space_points}
 use Rattle.region_tree.specs.Faults.{IsOutside, MeetsEarlier, points_cut, is_disjoint}
 use Rattle.region_tree.specs.Shape.{IsForest}
-use Rattle.region_tree.proofs.lemmas.Firsts.{find_some, all_at}
+use Rattle.region_tree.proofs.lemmas.Firsts.{find_some, all_at, seen_back}
 use Rattle.semantics.specs.declared.tables.Part as parts
 use Rattle.semantics.specs.declared.tables.Sub as subs
 use Rattle.semantics.specs.Tables.{Tables, Space}
 use Rattle.semantics.specs.Points.{points_in, part_at, meets}
 use Rattle.semantics.specs.Rules.{is_outside, is_not_disjoint}
 use Rattle.log_faults.specs.Decls.{decls_of, space_decl, part_decl, sub_decl}
-use Rattle.log_faults.proofs.Depth.{find_seen, eq_turned, whole_is}
+use Rattle.log_tables.proofs.lemmas.Members.{eq_turned}
+use Rattle.log_faults.proofs.Depth.{find_seen, whole_is}
 use Rattle.log_faults.proofs.Growing.{Extends, points_kept, part_kept}
 use Rattle.log_faults.proofs.Members.{Decides-outside, Decides-meets, passing, passes}
 
@@ -28,11 +29,6 @@ at_map : {X Y : Type 0} (f : X → Y) (xs : List X) (i : ℕ) (x : X) → slice_
 at_map f [] i x e = absurd (none-some x e)
 at_map f (y ∷ ys) zero x e = ap (λ z. Some (f z)) (same_Some y x e)
 at_map f (y ∷ ys) (suc i) x e = at_map f ys i x e
-
-from_map : {X Y : Type 0} (f : X → Y) (xs : List X) (i : ℕ) (y : Y) → slice_get (map f xs) i ≡ Some y → (x : X) × (slice_get xs i ≡ Some x) × (f x ≡ y)
-from_map f [] i y e = absurd (none-some y e)
-from_map f (x ∷ xs) zero y e = (x, refl, same_Some (f x) y e)
-from_map f (x ∷ xs) (suc i) y e = from_map f xs i y e
 
 at_left : {X : Type 0} (xs ys : List X) (i : ℕ) → i < length xs → slice_get (xs ++ ys) i ≡ slice_get xs i
 at_left [] ys i lt = absurd (omega arith)
@@ -162,7 +158,7 @@ Decides-is_not_disjoint t u s next =
           let c = m.5 in
           let point = h.1.0 in
           let same : m.0 ≡ sub_decl s = same_Some m.0 (sub_decl s) (sym m.3 ∙ here) in
-          let other = from_map sub_decl t.subs h.0 m.1 (seen_among h.0 m.1 m.2 m.4) in
+          let other = seen_back sub_decl t.subs h.0 m.1 (seen_among h.0 m.1 m.2 m.4) in
           let x = other.0 in
           let is_x : sub_decl x ≡ m.1 = other.2 in
           let one_part : x.part ≡ s.part = ap (λ (y : SubDecl). y.part) is_x ∙ sym c.0 ∙ ap (λ (y : SubDecl). y.part) same in
@@ -174,5 +170,5 @@ Decides-is_not_disjoint t u s next =
   where
     seen_among : (j : ℕ) (y : SubDecl) → j < length t.subs → slice_get (decls_of u).subs j ≡ Some y → slice_get (decls_of t).subs j ≡ Some y
     seen_among j y lt at =
-        let h = from_map sub_decl u.subs j y at in
+        let h = seen_back sub_decl u.subs j y at in
         at_map sub_decl t.subs j h.0 (sym (ap (λ (xs : List subs.Sub). slice_get xs j) next.extends.subs ∙ at_left t.subs next.extends.more_subs j lt) ∙ h.1) ∙ ap (λ z. Some z) h.2
