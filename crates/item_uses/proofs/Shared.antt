@@ -1,14 +1,8 @@
 -- The least number of two lists.
-use Rattle.std.proofs.Common.{◌≡◌, ◌==◌, ℕ, ◌<◌, ◌≤◌, inl, inr, Bool, true, false, List, [], ◌∷◌, length, get_or, Contains, refl, ap, arith, Option, Some, None, Result, Ok, Err, subst, nat_lt, filter, find, slice_get, sym, ◌∙◌}
-use Rattle.std.specs.List.Sorted.{IsStrictlyIncreasing, IsBinarySearchResult}
-use Rattle.std.specs.Ordering.{nat_cmp}
-use Rattle.std.specs.Result.{is_ok}
-use Rattle.std.proofs.lemmas.Bool.{cases_Bool, cases_eq, cases_lt, ltb-true, ltb-false, le-ltb, eq-eqb}
-use Rattle.std.proofs.lemmas.Bool.Decides.{nat_tests}
-use Rattle.std.proofs.lemmas.List.Sorted.{searched}
-use Rattle.std.proofs.lemmas.List.Kept.{AllPairs-from_increasing, IsStrictlyIncreasing-filter}
-use Rattle.std.proofs.lemmas.List.Folds.{list_any_at, list_any_none}
-use Rattle.std.proofs.lemmas.Option.{slice_get-get_or, get_or_from_slice_get}
+use Rattle.std.proofs.Common.{◌≡◌, ℕ, ◌≤◌, inl, inr, Bool, true, false, List, [], ◌∷◌, Contains, refl, ap, arith, Option, Some, None, subst, nat_lt, filter, find, slice_get, sym, ◌∙◌}
+use Rattle.std.specs.List.Sorted.{IsStrictlyIncreasing}
+use Rattle.std.proofs.lemmas.Bool.{cases_Bool, ltb-true, ltb-false, le-ltb}
+use Rattle.std.proofs.lemmas.List.Kept.{IsStrictlyIncreasing-filter}
 use Rattle.semantics.specs.Points.{is_in}
 use Rattle.point_set.specs.Least.{IsLeast, IsLeastCommon}
 use Rattle.log_laws.proofs.lemmas.Members.{Member, member_of, contains_of, member_filter, is_in_of, member_in}
@@ -63,28 +57,6 @@ shared_in ns ms k e =
     (r.0, member_in ms k r.1)
 
 -- ---- ascending lists
-
--- What a binary search tells.
-rises : (xs : List ℕ) → IsStrictlyIncreasing xs → (i j : ℕ) → i ≤ j → j < length xs → get_or xs i 0 ≤ get_or xs j 0
-rises xs up i j le lt =
-    elim (cases_eq i j) [
-      | inl e ↦ let h : get_or xs i 0 ≡ get_or xs j 0 = ap (λ k. get_or xs k 0) e in omega arith
-      | inr ne ↦ let less : i < j = omega arith in let h : get_or xs i 0 < get_or xs j 0 = AllPairs-from_increasing xs up i j 0 less lt in omega arith
-    ]
-
-apart : (a b : ℕ) → (a ≡ b → ⊥) → (a == b) ≡ false
-apart a b ne = grind (arith, nat_tests)
-
-get_or_any : (xs : List ℕ) (k d : ℕ) → k < length xs → get_or xs k d ≡ get_or xs k 0
-get_or_any xs k d lt = sym (get_or_from_slice_get xs k (get_or xs k d) 0 (slice_get-get_or xs k d lt))
-
-pub is_in-search : (xs : List ℕ) (n : ℕ) (r : Result ℕ ℕ) → IsStrictlyIncreasing xs → IsBinarySearchResult (λ y. nat_cmp y n) xs r → is_ok r ≡ is_in xs n
-is_in-search xs n (Ok i) up found =
-    let h = searched xs n (Ok i) found (rises xs up) in
-    sym (list_any_at (λ m. m == n) xs i 0 h.0 (eq-eqb (get_or xs i 0) n h.1))
-is_in-search xs n (Err i) up found =
-    let h = searched xs n (Err i) found (rises xs up) in
-    sym (list_any_none (λ m. m == n) xs (λ k d lt. let e : get_or xs k d ≡ get_or xs k 0 = get_or_any xs k d lt in ap (λ m. m == n) e ∙ elim (cases_lt k i) [ inl low ↦ let g : get_or xs k 0 < n = h.1 k low in apart (get_or xs k 0) n (omega arith) | inr high ↦ let g : n < get_or xs k 0 = h.2 k high lt in apart (get_or xs k 0) n (omega arith) ]))
 
 -- The least number of an ascending list is its first.
 least_first : (ns : List ℕ) → IsStrictlyIncreasing ns → least_number ns ≡ slice_get ns 0

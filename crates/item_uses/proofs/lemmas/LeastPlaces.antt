@@ -1,7 +1,7 @@
 -- The least place of two items comes from their requirements, two at a time.
 use Rattle.std.proofs.Common.{◌≡◌, ℕ, inl, inr, Bool, true, false, not, List, [], ◌∷◌, refl, sym, ap, ◌∙◌, Some, subst, filter, flat_map}
 use Rattle.std.specs.List.{filter_map}
-use Rattle.std.proofs.lemmas.Bool.{cases_Bool, true≢false}
+use Rattle.std.proofs.lemmas.Bool.{cases_Bool, not-true, true≢false}
 use Rattle.privilege.specs.declared.kinds.Kind.{Kind}
 use Rattle.privilege.specs.declared.kinds.Kind.TheVariants.{Free, Turn, Before}
 use Rattle.semantics.specs.declared.places.Place.{Place}
@@ -37,10 +37,6 @@ strongest_not_free ks k m e = elim (cases_Bool (is_free (strongest ks))) [
 abbrev interferes : Tables → ℕ → ℕ → Place → Bool
 interferes t a b p = not (is_free (kind_at t a b p))
 
-not_false : (b : Bool) → not b ≡ true → b ≡ false
-not_false false e = refl
-not_false true e = absurd cc
-
 kind_place_of : (q r : Usage) (p : Place) → is_free (usage_kind q r) ≡ false → shared_place q r ≡ Some p → kind_place q r ≡ Some p
 kind_place_of q r p e f = rw e f
 
@@ -69,7 +65,7 @@ within t a b p m =
 below : (t : Tables) (a b : ℕ) (p : Place) → Member (filter (interferes t a b) (item_places t a)) p → (q : Place) × Member (places_of_two t a b) q × (first p q ≡ false)
 below t a b p m =
     let at = member_filter (interferes t a b) (item_places t a) p m in
-    let k = some_not_free (kinds_at t a b p) (not_false (is_free (kind_at t a b p)) at.1) in
+    let k = some_not_free (kinds_at t a b p) (not-true (is_free (kind_at t a b p)) at.1) in
     let h = meets_here t a b p k.0 k.1 in
     let s = shares t p h.q h.r h.q_covers h.r_covers in
     let place : Place = record { tree = p.tree; point = s.0; field = s.1 } in

@@ -1,5 +1,5 @@
 use Rattle.std.proofs.Common.{◌∙◌}
-use Rattle.item_uses.proofs.Shared.{is_in-search}
+use Rattle.log_tables.proofs.lemmas.Members.{is_in-search}
 use Rattle.item_uses.proofs.fields.is_in.Goals as goal
 
 pub returns : goal.returns
