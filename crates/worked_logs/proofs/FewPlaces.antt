@@ -11,7 +11,7 @@ use Rattle.semantics.specs.declared.command.Command.TheVariants.{Check}
 use Rattle.semantics.specs.Faults.{at_line, log_fault}
 use Rattle.semantics.specs.Computed.{logs_computed}
 use Rattle.worked_logs.specs.WorkedLimits.{of_points, of_cells, of_accesses}
-use Rattle.worked_logs.proofs.Within.{within_itself}
+use Rattle.worked_logs.proofs.Lists.{within_itself}
 
 -- The points of a space of so many, and how many points and fields there are together.
 abbrev pub points_up_to : ℕ → List ℕ

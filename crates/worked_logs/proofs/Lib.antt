@@ -1,7 +1,8 @@
 mod WorkedPairs
 mod WorkedRaces
-mod Within
+mod Lists
 mod Frames
 mod FewPlaces
 mod ManyRecords
+mod LoadRules
 mod MuchLoad

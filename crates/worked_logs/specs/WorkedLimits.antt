@@ -1,22 +1,22 @@
 -- Worked logs for the limits on numbers: at one size a log just keeps its limit, and at another it breaks it.
-use Rattle.std.specs.Prelude.{ℕ, ◌+◌, false, List, [], ◌∷◌, ◌++◌, map, replicate}
+use Rattle.std.specs.Prelude.{ℕ, false, List, [], ◌∷◌, ◌++◌, map, replicate, length}
 use Rattle.std.specs.List.{range_with_len}
 use Rattle.spy_words.specs.declared.access.PrivWord.TheVariants.{Red}
 use Rattle.spy_words.specs.declared.access.InstKind.TheVariants as layouts
 use Rattle.spy_grammar.specs.declared.record.Record.{Record}
 use Rattle.spy_grammar.specs.declared.record.Record.TheVariants.{Header, Ispace, Fields, Tree, Redop, Task, Req, Fill, Inst, Run, End}
 
--- These records between a header and an end, which says that there are so many.
-abbrev pub framed : List Record → ℕ → List Record
-framed rs n = Header 1 ∷ rs ++ End n ∷ []
+-- These records between a header and an end, which counts them.
+abbrev pub framed : List Record → List Record
+framed rs = Header 1 ∷ rs ++ End (length rs) ∷ []
 
--- So many records, each of which declares an operator. (They are too many to be written out, so this is not opened by itself.)
+-- So many records, each of which declares an operator. (They are too many to be written out: only proofs open this.)
 unfoldable pub of_records : ℕ → List Record
-of_records n = framed (map (λ id. Redop id) (range_with_len 1 n)) n
+of_records n = framed (map (λ id. Redop id) (range_with_len 1 n))
 
 -- A space of so many points.
 abbrev pub of_points : ℕ → List Record
-of_points points = framed (Ispace 1 ((1, points) ∷ []) ∷ []) 1
+of_points points = framed (Ispace 1 ((1, points) ∷ []) ∷ [])
 
 -- A region of so many points and fields.
 abbrev pub area : ℕ → ℕ → List Record
@@ -24,11 +24,11 @@ area points fields = Ispace 1 ((1, points) ∷ []) ∷ Fields 1 (range_with_len 
 
 -- An instance with a cell at each place of a region.
 abbrev pub of_cells : ℕ → ℕ → List Record
-of_cells points fields = framed (area points fields ++ Inst 1 1 1 (range_with_len 1 fields) layouts.Plain ∷ []) 4
+of_cells points fields = framed (area points fields ++ Inst 1 1 1 (range_with_len 1 fields) layouts.Plain ∷ [])
 
 -- A fill of each place of a region.
 abbrev pub of_accesses : ℕ → ℕ → List Record
-of_accesses points fields = framed (area points fields ++ Fill 1 1 1 (range_with_len 1 fields) 0 ∷ []) 4
+of_accesses points fields = framed (area points fields ++ Fill 1 1 1 (range_with_len 1 fields) 0 ∷ [])
 
 -- A task with so many requirements, each of which reduces at each place of a region.
 abbrev pub reductions : ℕ → ℕ → List Record
@@ -38,6 +38,7 @@ reductions fields reqs = Redop 1 ∷ Task 1 ∷ replicate reqs (Req 1 1 1 (range
 abbrev pub instances : ℕ → ℕ → List Record
 instances fields insts = map (λ id. Inst id 1 1 (range_with_len 1 fields) layouts.Plain) (range_with_len 1 insts)
 
--- These two, and the run of the task.
+-- These two, and the run of the task: for each point, field, requirement and instance, one more of load.
 abbrev pub of_load : ℕ → ℕ → ℕ → ℕ → List Record
-of_load points fields reqs insts = framed (area points fields ++ reductions fields reqs ++ (instances fields insts ++ Run 1 1 [] ∷ [])) (reqs + insts + 6)
+of_load points fields reqs insts =
+    framed (area points fields ++ reductions fields reqs ++ (instances fields insts ++ Run 1 1 [] ∷ []))

@@ -24,11 +24,12 @@ pub fn worked_limits()
     ensures accesses { log_fault Check 6 (lined (of_accesses 1048576 4)) ≡ None }
     ensures too_many_accesses { log_fault Check 6 (lined (of_accesses 838861 5))
         ≡ Some (at_line codes.TooManyAccesses 5) }
-    // The load, of points, fields, requirements and instances: a product of these.
-    ensures large_load { log_fault Ordered 104 (lined (of_load 4096 8 64 32)) ≡ None }
+
+    // The load is a product: of points, fields, requirements and instances.
+    ensures load { log_fault Ordered 104 (lined (of_load 4096 8 64 32)) ≡ None }
     ensures too_much_load { log_fault Ordered 218 (lined (of_load 1613 5 157 53))
         ≡ Some (at_line codes.TooMuchLoad 218) }
 
     // Two instances have a cell each, at a place where two tasks reduce.
-    ensures load { sum_by (load_of (tables_of (lined folded_once))) (tables_of (lined folded_once)).insts ≡ 4 }
+    ensures small_load { sum_by (load_of (tables_of (lined folded_once))) (tables_of (lined folded_once)).insts ≡ 4 }
 {}

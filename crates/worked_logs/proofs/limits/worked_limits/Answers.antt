@@ -5,10 +5,10 @@ use Rattle.worked_logs.proofs.ManyRecords.{records_kept, records_broken}
 use Rattle.worked_logs.proofs.limits.worked_limits.Goals as goal
 
 pub returns-clause-records : goal.returns-clause-records
-returns-clause-records c = records_kept 131072 (omega arith)
+returns-clause-records c = records_kept 131074 131072 (omega arith)
 
 pub returns-clause-too_many_records : goal.returns-clause-too_many_records
-returns-clause-too_many_records c = records_broken 131073 (omega arith)
+returns-clause-too_many_records c = records_broken 131075 131073 (omega arith)
 
 pub returns-clause-points : goal.returns-clause-points
 returns-clause-points c = points_kept 1048576 (omega arith)
@@ -28,8 +28,10 @@ returns-clause-accesses c = accesses_kept 1048576 4 (omega arith) (omega arith)
 pub returns-clause-too_many_accesses : goal.returns-clause-too_many_accesses
 returns-clause-too_many_accesses c = accesses_broken 838861 5 (omega arith) (omega arith)
 
-pub returns-clause-large_load : goal.returns-clause-large_load
-returns-clause-large_load c = load_kept 4096 8 64 32 (record { points_fit = omega arith; records_fit = omega arith; accesses_fit = omega arith; cells_fit = omega arith }) (omega arith)
+pub returns-clause-load : goal.returns-clause-load
+returns-clause-load c =
+    load_kept 104 4096 8 64 32 (record { points_fit = omega arith; records_fit = omega arith; accesses_fit = omega arith; cells_fit = omega arith }) (omega arith)
 
 pub returns-clause-too_much_load : goal.returns-clause-too_much_load
-returns-clause-too_much_load c = load_broken 1613 5 157 53 (record { points_fit = omega arith; records_fit = omega arith; accesses_fit = omega arith; cells_fit = omega arith }) (omega arith)
+returns-clause-too_much_load c =
+    load_broken 218 1613 5 157 53 (record { points_fit = omega arith; records_fit = omega arith; accesses_fit = omega arith; cells_fit = omega arith }) (omega arith)
