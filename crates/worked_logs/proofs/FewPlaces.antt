@@ -29,7 +29,9 @@ size_is : (points fields : ℕ) → size points fields ≡ points * fields
 size_is points fields = ap₂ (λ a b. a * b) (point_count points) (length-range_with_len 1 fields)
 
 pub few_points : (points : ℕ) → points ≤ 1048576 → nat_lt 1048576 (0 + length (points_up_to points)) ≡ false
-few_points points few = let n = point_count points in le-ltb 1048576 (0 + length (points_up_to points)) (omega (arith, few, n))
+few_points points few =
+    let n = point_count points in
+    le-ltb 1048576 (0 + length (points_up_to points)) (omega (arith, few, n))
 
 -- ---- Points.
 

@@ -15,7 +15,8 @@ within_itself ns =
     list_all-from_AllPass (is_in ns) ns (λ k d lt. list_any_at (λ m. m == get_or ns k d) ns k d lt (eq-eqb _ _ refl))
 
 -- A sum of equal numbers is a product.
-pub sum_of_same : {A : Type 0} (f : A → ℕ) (c : ℕ) (xs : List A) → All (λ x. f x ≡ c) xs → sum_by f xs ≡ length xs * c
+pub sum_of_same : {A : Type 0} (f : A → ℕ) (c : ℕ) (xs : List A) → All (λ x. f x ≡ c) xs
+    → sum_by f xs ≡ length xs * c
 sum_of_same f c [] same = omega arith
 sum_of_same f c (x ∷ xs) same =
     let first = All-head (λ x. f x ≡ c) x xs same in
@@ -24,17 +25,21 @@ sum_of_same f c (x ∷ xs) same =
     sum_by-cons f x xs ∙ omega (arith, first, rest, product)
 
 -- A test that each element passes keeps them all.
-pub length-all_kept : {A : Type 0} (test : A → Bool) (xs : List A) → All (λ x. test x ≡ true) xs → length (filter test xs) ≡ length xs
+pub length-all_kept : {A : Type 0} (test : A → Bool) (xs : List A) → All (λ x. test x ≡ true) xs
+    → length (filter test xs) ≡ length xs
 length-all_kept test [] passed = refl
 length-all_kept test (x ∷ xs) passed =
-    rw (All-head (λ x. test x ≡ true) x xs passed) (ap suc (length-all_kept test xs (All-tail (λ x. test x ≡ true) x xs passed)))
+    let rest = length-all_kept test xs (All-tail (λ x. test x ≡ true) x xs passed) in
+    rw (All-head (λ x. test x ≡ true) x xs passed) (ap suc rest)
 
 module _ (points fields : List ℕ) where
   -- How many pairs there are of some points and fields.
   pub length-grid : length (grid points fields) ≡ length points * length fields
   length-grid =
-      length-flat_map (λ x. map (λ f. (x, f)) fields) points
-      ∙ sum_of_same (λ x. length (map (λ f. (x, f)) fields)) (length fields) points (λ k d lt. length-map fields (λ f. (get_or points k d, f)))
+      let row : ℕ → List (ℕ × ℕ) = λ x. map (λ f. (x, f)) fields in
+      let same : All (λ x. length (row x) ≡ length fields) points =
+      λ k d lt. length-map fields (λ f. (get_or points k d, f)) in
+      length-flat_map row points ∙ sum_of_same (λ x. length (row x)) (length fields) points same
 
   -- Each is of one of the points and one of the fields.
   abbrev pub IsOfBoth : ℕ × ℕ → Type 0
@@ -45,9 +50,9 @@ module _ (points fields : List ℕ) where
   from (x ∷ xs) known =
       let of_points = All-head (λ x. is_in points x ≡ true) x xs known in
       let of_fields = AllPass-from_list_all (is_in fields) fields (within_itself fields) in
-      All-append IsOfBoth (map (λ f. (x, f)) fields) (grid xs fields)
-      (All-map IsOfBoth (λ f. (x, f)) fields (λ k d lt. (of_points, of_fields k d lt)))
-      (from xs (All-tail (λ x. is_in points x ≡ true) x xs known))
+      let row = All-map IsOfBoth (λ f. (x, f)) fields (λ k d lt. (of_points, of_fields k d lt)) in
+      let rest = from xs (All-tail (λ x. is_in points x ≡ true) x xs known) in
+      All-append IsOfBoth (map (λ f. (x, f)) fields) (grid xs fields) row rest
 
   pub all_of_both : All IsOfBoth (grid points fields)
   all_of_both = from points (AllPass-from_list_all (is_in points) points (within_itself points))

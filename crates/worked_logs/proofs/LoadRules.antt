@@ -1,5 +1,5 @@
--- Requirements that reduce at all places of a region, and instances with a cell at each: what the rules find at the next such record, and the load of them all.
-use Rattle.std.proofs.Common.{◌≡◌, ℕ, suc, ◌+◌, ◌*◌, ◌≤◌, ◌<◌, ◌==◌, nat_lt, Bool, true, false, not, ◌&&◌, List, [], ◌∷◌, ◌++◌, All, length, sum_by, filter, option_map, cond, Some, refl, sym, ap, ap₂, ◌∙◌, arith, None, add-one, mul-le-mul_right, length-append}
+-- Requirements that reduce at each place of a region, instances with a cell at each: their load, and the rules.
+use Rattle.std.proofs.Common.{◌≡◌, ℕ, suc, ◌+◌, ◌*◌, ◌≤◌, ◌<◌, ◌==◌, nat_lt, Bool, true, false, not, ◌&&◌, List, [], ◌∷◌, ◌++◌, All, length, sum_by, filter, option_map, cond, Option, Some, refl, sym, ap, ap₂, ◌∙◌, arith, None, add-one, mul-le-mul_right, length-append}
 use Rattle.std.specs.List.{list_any}
 use Rattle.std.proofs.Math.Bool.{and-false}
 use Rattle.std.proofs.Math.Nat.{suc-mul}
@@ -23,9 +23,12 @@ use Rattle.semantics.specs.Tables.{Tables, with_record, no_tables, tables_of}
 use Rattle.semantics.specs.Points.{meets, points_in}
 use Rattle.semantics.specs.Kinds.{covers, grid}
 use Rattle.semantics.specs.Rules.{accesses, size_of, reduces, load_of}
-use Rattle.semantics.specs.Faults.{tried, first_broken}
 use Rattle.worked_logs.proofs.Lists.{within_itself, sum_of_same, length-all_kept, length-grid, IsOfBoth, all_of_both}
-use Rattle.worked_logs.proofs.Frames.{one_more, declares_more, asks_more, in_time}
+use Rattle.worked_logs.proofs.Frames.{broken_by, one_more, declares_more, asks_more, in_time}
+
+-- What the rules find at the end: too much load, or nothing.
+abbrev pub broken_if : Bool → Option Code
+broken_if big = cond big (Some codes.TooMuchLoad) None
 
 -- The points and the fields of the region.
 module _ (points fs : List ℕ) where
@@ -68,35 +71,59 @@ module _ (points fs : List ℕ) where
     one_reduces p r of is = rw (is.3, is.0, is.1, is.2, at, of.0, of.1) refl
 
     all_reduce : (p : ℕ × ℕ) → IsOfBoth points fs p → length (filter (reduces_at p) t.reqs) ≡ length t.reqs
-    all_reduce p of = length-all_kept (reduces_at p) t.reqs (All-weaker IsReduction (λ r. reduces_at p r ≡ true) (λ r is. one_reduces p r of is) t.reqs reduce)
+    all_reduce p of =
+        let passed =
+        All-weaker IsReduction (λ r. reduces_at p r ≡ true) (λ r is. one_reduces p r of is) t.reqs reduce in
+        length-all_kept (reduces_at p) t.reqs passed
 
     load_of_one : (last : ℕ) (i : Inst) → IsWhole last i → load_of t i ≡ size * length t.reqs
     load_of_one last i is =
+        let n = length t.reqs in
+        let places = grid points fs in
         let reducing : ℕ × ℕ → ℕ = λ p. length (filter (reduces_at p) t.reqs) in
-        let same = All-weaker (IsOfBoth points fs) (λ p. reducing p ≡ length t.reqs) (λ p of. all_reduce p of) (grid points fs) (all_of_both points fs) in
-        rw (is.0, is.1, is.2, at) (sum_of_same reducing (length t.reqs) (grid points fs) same ∙ ap (λ n. n * length t.reqs) (length-grid points fs))
+        let same = All-weaker (IsOfBoth points fs) (λ p. reducing p ≡ n) all_reduce places (all_of_both points fs) in
+        rw (is.0, is.1, is.2, at) (sum_of_same reducing n places same ∙ ap (λ m. m * n) (length-grid points fs))
 
-    pub load_of_all : (last : ℕ) (is : List Inst) → All (IsWhole last) is → sum_by (load_of t) is ≡ length is * (size * length t.reqs)
-    load_of_all last is whole = sum_of_same (load_of t) (size * length t.reqs) is (All-weaker (IsWhole last) (λ i. load_of t i ≡ size * length t.reqs) (load_of_one last) is whole)
+    pub load_of_all : (last : ℕ) (is : List Inst) → All (IsWhole last) is
+        → sum_by (load_of t) is ≡ length is * (size * length t.reqs)
+    load_of_all last is whole =
+        let load = size * length t.reqs in
+        let same = All-weaker (IsWhole last) (λ i. load_of t i ≡ load) (load_of_one last) is whole in
+        sum_of_same (load_of t) load is same
 
-  cells_of_all : (t : Tables) → points_in t 1 ≡ points → (last : ℕ) (is : List Inst) → All (IsWhole last) is → sum_by (λ (i : Inst). size_of t i.space i.fields) is ≡ length is * size
+  -- ---- The cells.
+
+  abbrev cells_of : Tables → Inst → ℕ
+  cells_of t i = size_of t i.space i.fields
+
+  cells_of_all : (t : Tables) → points_in t 1 ≡ points → (last : ℕ) (is : List Inst) → All (IsWhole last) is
+      → sum_by (cells_of t) is ≡ length is * size
   cells_of_all t at last is whole =
-      sum_of_same (λ (i : Inst). size_of t i.space i.fields) size is
-      (All-weaker (IsWhole last) (λ i. size_of t i.space i.fields ≡ size) (λ i w. rw (w.1, w.2, at) refl) is whole)
+      let same = All-weaker (IsWhole last) (λ i. cells_of t i ≡ size) (λ i w. rw (w.1, w.2, at) refl) is whole in
+      sum_of_same (cells_of t) size is same
 
   -- ---- The rules that look at earlier requirements and instances.
 
   -- Two reductions with one operator agree.
   abbrev disagrees : Tables → Req → Bool
-  disagrees t r = (r.item == 0) && ((r.tree == 1) && (meets (points_in t r.space) points && (meets r.fields fs && not (agree r.access (privileges.Red 1)))))
+  disagrees t r =
+      (r.item == 0)
+      && ((r.tree == 1)
+      && (meets (points_in t r.space) points && (meets r.fields fs && not (agree r.access (privileges.Red 1)))))
 
   own_agree : (t : Tables) (rs : List Req) → All IsReduction rs → list_any (disagrees t) rs ≡ false
   own_agree t rs reduce =
-      list_any_none (disagrees t) rs
-      (All-weaker IsReduction (λ r. disagrees t r ≡ false) (λ r is. rw (is.3, and-false, and-false, and-false, and-false) refl) rs reduce)
+      let agreed : (r : Req) → IsReduction r → disagrees t r ≡ false =
+      λ r is. rw (is.3, and-false, and-false, and-false, and-false) refl in
+      list_any_none (disagrees t) rs (All-weaker IsReduction (λ r. disagrees t r ≡ false) agreed rs reduce)
 
-  new : (last : ℕ) (is : List Inst) → All (IsWhole last) is → list_any (λ (i : Inst). i.id == last + 1) is ≡ false
-  new last is whole = list_any_none (λ (i : Inst). i.id == last + 1) is (All-weaker (IsWhole last) (λ i. (i.id == last + 1) ≡ false) (λ i w. let up = w.3 in ne_eqb i.id (last + 1) (λ e. omega (arith, up, e))) is whole)
+  new : (last : ℕ) (is : List Inst) → All (IsWhole last) is
+      → list_any (λ (i : Inst). i.id == last + 1) is ≡ false
+  new last is whole =
+      let other : (i : Inst) → IsWhole last i → (i.id == last + 1) ≡ false =
+      λ i w. let up = w.3 in ne_eqb i.id (last + 1) (λ e. omega (arith, up, e)) in
+      let others = All-weaker (IsWhole last) (λ i. (i.id == last + 1) ≡ false) other is whole in
+      list_any_none (λ (i : Inst). i.id == last + 1) is others
 
   -- ---- What is known before a record, and after it.
 
@@ -119,18 +146,24 @@ module _ (points fs : List ℕ) where
     abbrev t : Tables
     t = declared before.reqs before.insts
 
-    -- What is the same whatever the next record is.
+    -- The next record stands on this line; it may ask for more.
     counts : (r : Record) → length (records_of (earlier ++ at_next r ∷ [])) + 1 ≡ line + 1
-    counts r = let count = before.count in let longer = one_more earlier (at_next r) in omega (arith, count, longer)
+    counts r =
+        let count = before.count in
+        let longer = one_more earlier (at_next r) in
+        omega (arith, count, longer)
 
     asks : (r : Record) (n' : ℕ) → ((t : Tables) → points_in t 1 ≡ points → n * size + accesses t r ≡ n' * size)
-        → (t : Tables) → points_in t 1 ≡ points → sum_by (accesses t) (records_of (earlier ++ at_next r ∷ [])) ≡ n' * size
-    asks r n' adds t at = asks_more earlier (at_next r) t ∙ ap (λ m. m + accesses t r) (before.asked t at) ∙ adds t at
+        → (t : Tables) → points_in t 1 ≡ points
+        → sum_by (accesses t) (records_of (earlier ++ at_next r ∷ [])) ≡ n' * size
+    asks r n' adds t at =
+        asks_more earlier (at_next r) t ∙ ap (λ m. m + accesses t r) (before.asked t at) ∙ adds t at
 
     -- After one requirement more, and after one instance more.
     pub after_req : Declare (line + 1) (n + 1) k (earlier ++ at_next reduction ∷ [])
     after_req =
         let reqs_are = before.reqs_are in
+        let product : n * size + size ≡ (n + 1) * size = sym (suc-mul n size) ∙ ap (λ n. n * size) (sym (add-one n)) in
         record {
           reqs = (with_record t line reduction).reqs;
           insts = before.insts;
@@ -140,8 +173,14 @@ module _ (points fs : List ℕ) where
           whole = before.whole;
           reqs_are = length-append before.reqs _ ∙ omega (arith, reqs_are);
           insts_are = before.insts_are;
-          asked = asks reduction (n + 1) (λ t at. rw at (sym (suc-mul n size) ∙ ap (λ n. n * size) (sym (add-one n))));
+          asked = asks reduction (n + 1) (λ t at. rw at product);
         }
+
+    still_whole : All (IsWhole (k + 1)) before.insts
+    still_whole =
+        let higher : (i : Inst) → IsWhole k i → IsWhole (k + 1) i =
+        λ i w. (w.0, w.1, w.2, let up = w.3 in omega (arith, up)) in
+        All-weaker (IsWhole k) (IsWhole (k + 1)) higher before.insts before.whole
 
     pub after_inst : Declare (line + 1) n (k + 1) (earlier ++ at_next (instance (k + 1)) ∷ [])
     after_inst =
@@ -152,9 +191,7 @@ module _ (points fs : List ℕ) where
           count = counts (instance (k + 1));
           tables = declares_more earlier (at_next (instance (k + 1))) t before.tables;
           reduce = before.reduce;
-          whole = All-push (IsWhole (k + 1)) before.insts _
-              (All-weaker (IsWhole k) (IsWhole (k + 1)) (λ i w. (w.0, w.1, w.2, let up = w.3 in omega (arith, up))) before.insts before.whole)
-              (refl, refl, refl, omega arith);
+          whole = All-push (IsWhole (k + 1)) before.insts _ still_whole (refl, refl, refl, omega arith);
           reqs_are = before.reqs_are;
           insts_are = length-append before.insts _ ∙ omega (arith, insts_are);
           asked = asks (instance (k + 1)) n (λ t at. omega arith);
@@ -168,7 +205,7 @@ module _ (points fs : List ℕ) where
       up_to m total more = mul-le-mul_right size more
 
       pub req_kept : (total : ℕ) → n < total → total * size ≤ 4194304
-          → first_broken (tried log (records_of earlier) (tables_of earlier) reduction) ≡ None
+          → broken_by log earlier reduction ≡ None
       req_kept total more fits =
           let asked = before.asked t refl in
           let product = suc-mul n size in
@@ -182,7 +219,7 @@ module _ (points fs : List ℕ) where
           ) refl
 
       pub inst_kept : (total : ℕ) → k < total → total * size ≤ 1048576 → n * size ≤ 4194304
-          → first_broken (tried log (records_of earlier) (tables_of earlier) (instance (k + 1))) ≡ None
+          → broken_by log earlier (instance (k + 1)) ≡ None
       inst_kept total more fits asks_few =
           let asked = before.asked t refl in
           let cells = cells_of_all t refl k before.insts before.whole in
@@ -195,12 +232,12 @@ module _ (points fs : List ℕ) where
             new k before.insts before.whole,
             within_itself fs,
             within_itself points,
-            le-ltb 1048576 (sum_by (λ (i : Inst). size_of t i.space i.fields) before.insts + size) (omega (arith, cells, counted, product, within, fits)),
+            le-ltb 1048576 (sum_by (cells_of t) before.insts + size) (omega (arith, cells, counted, product, within, fits)),
             le-ltb 4194304 (sum_by (accesses t) (records_of earlier) + 0) (omega (arith, asked, asks_few)),
           ) refl
 
       pub run_kept : n * size ≤ 4194304
-          → first_broken (tried log (records_of earlier) (tables_of earlier) (records.Run 1 1 [])) ≡ None
+          → broken_by log earlier (records.Run 1 1 []) ≡ None
       run_kept asks_few =
           let asked = before.asked t refl in
           rw (
@@ -223,13 +260,14 @@ module _ (points fs : List ℕ) where
         ∙ ap₂ (λ a b. a * (size * b)) before.insts_are before.reqs_are
 
     -- The rule on the load is tried last of all.
-    last_rule : (big : Bool) → option_map (λ (p : Code × Bool). p.0) (cond big (Some (codes.TooMuchLoad, big)) None) ≡ cond big (Some codes.TooMuchLoad) None
+    last_rule : (big : Bool)
+        → option_map (λ (p : Code × Bool). p.0) (cond big (Some (codes.TooMuchLoad, big)) None) ≡ broken_if big
     last_rule true = refl
     last_rule false = refl
 
-    -- They find too much load, or nothing.
-    pub at_end : (log : List Record) (count : ℕ) (big : Bool) → n * size ≤ 4194304 → nat_lt 67108864 (k * (size * n)) ≡ big
-        → first_broken (tried log (records_of (earlier ++ run ∷ [])) (tables_of (earlier ++ run ∷ [])) (records.End count)) ≡ cond big (Some codes.TooMuchLoad) None
+    pub at_end : (log : List Record) (count : ℕ) (big : Bool) → n * size ≤ 4194304
+        → nat_lt 67108864 (k * (size * n)) ≡ big
+        → broken_by log (earlier ++ run ∷ []) (records.End count) ≡ broken_if big
     at_end log count big asks_few is =
         let asked = asks (records.Run 1 1 []) n (λ t at. omega arith) at_last refl in
         rw (

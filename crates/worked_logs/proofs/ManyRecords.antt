@@ -14,10 +14,10 @@ use Rattle.semantics.specs.Tables.{Tables, with_record, no_tables, tables_of}
 use Rattle.semantics.specs.Points.{is_in}
 use Rattle.semantics.specs.Rules.{accesses}
 use Rattle.semantics.specs.declared.command.Command.TheVariants.{Check}
-use Rattle.semantics.specs.Faults.{at_line, tried, first_broken, records_fault, declaration_fault, log_fault}
+use Rattle.semantics.specs.Faults.{at_line, records_fault, declaration_fault, log_fault}
 use Rattle.semantics.specs.Computed.{logs_computed}
 use Rattle.worked_logs.specs.WorkedLimits.{framed, of_records}
-use Rattle.worked_logs.proofs.Frames.{IsInner, passes, stops, one_more, declares_more, asks_more, in_time, by_records}
+use Rattle.worked_logs.proofs.Frames.{IsInner, broken_by, passes, stops, one_more, declares_more, asks_more, in_time, by_records}
 
 -- The records that declare these operators, and what they declare.
 abbrev redops : List ℕ → List Record
@@ -53,52 +53,68 @@ module _ (line next : ℕ) (ids : List ℕ) (earlier : List Lined) (before : Dec
       }
 
   new : is_in ids next ≡ false
-  new = list_any_none (λ id. id == next) ids (λ k d lt. let low = before.below k d lt in ne_eqb (get_or ids k d) next (λ e. omega (arith, low, e)))
+  new =
+      let other : All (λ id. (id == next) ≡ false) ids =
+      λ k d lt. let low = before.below k d lt in ne_eqb (get_or ids k d) next (λ e. omega (arith, low, e)) in
+      list_any_none (λ id. id == next) ids other
 
   module _ (log : List Record) where
-    kept : line ≤ 131073 → first_broken (tried log (records_of earlier) (tables_of earlier) (Redop next)) ≡ None
+    kept : line ≤ 131073 → broken_by log earlier (Redop next) ≡ None
     kept few = rw (before.tables, in_time earlier line before.count few, new, before.idle (operators ids)) refl
 
-    late : line ≡ 131074 → first_broken (tried log (records_of earlier) (tables_of earlier) (Redop next)) ≡ Some codes.TooManyRecords
-    late here = let count = before.count in rw (lt-ltb 131072 (length (records_of earlier)) (omega (arith, count, here))) refl
+    late : line ≡ 131074 → broken_by log earlier (Redop next) ≡ Some codes.TooManyRecords
+    late here =
+        let count = before.count in
+        rw (lt-ltb 131072 (length (records_of earlier)) (omega (arith, count, here))) refl
 
-    at_end : (n : ℕ) → first_broken (tried log (records_of earlier) (tables_of earlier) (End n)) ≡ None
+    at_end : (n : ℕ) → broken_by log earlier (End n) ≡ None
     at_end n = rw (before.tables, before.idle (operators ids)) refl
 
 -- ---- One record after the other.
 
-module _ (log : List Record) (n : ℕ) where
-  -- From a line on so many operators, and an end.
-  abbrev rest : ℕ → ℕ → ℕ → List Lined
-  rest line next more = lined_from line (redops (range_with_len next more) ++ End n ∷ [])
+-- From a line on so many operators, and an end.
+abbrev rest : ℕ → ℕ → ℕ → ℕ → List Lined
+rest n line next more = lined_from line (redops (range_with_len next more) ++ End n ∷ [])
 
-  all_kept : (line next more : ℕ) (ids : List ℕ) (earlier : List Lined) → DeclareOperators line next ids earlier → line + more ≤ 131074
-      → records_fault log earlier (rest line next more) ≡ None
+module _ (log : List Record) (n : ℕ) where
+  all_kept : (line next more : ℕ) (ids : List ℕ) (earlier : List Lined) → DeclareOperators line next ids earlier
+      → line + more ≤ 131074 → records_fault log earlier (rest n line next more) ≡ None
   all_kept line next zero ids earlier before few =
       passes log earlier (record { line = line; rec = End n }) [] (at_end line next ids earlier before log n)
   all_kept line next (suc more) ids earlier before few =
-      passes log earlier (at line next) (rest (line + 1) (next + 1) more) (kept line next ids earlier before log (omega (arith, few)))
-      ∙ all_kept (line + 1) (next + 1) more (ids ++ next ∷ []) (earlier ++ at line next ∷ []) (after line next ids earlier before) (omega (arith, few))
+      let l = at line next in
+      let then = after line next ids earlier before in
+      let unbroken = kept line next ids earlier before log (omega (arith, few)) in
+      passes log earlier l (rest n (line + 1) (next + 1) more) unbroken
+      ∙ all_kept (line + 1) (next + 1) more (ids ++ next ∷ []) (earlier ++ l ∷ []) then (omega (arith, few))
 
-  one_late : (line next more : ℕ) (ids : List ℕ) (earlier : List Lined) → DeclareOperators line next ids earlier → line ≤ 131074 → 131074 < line + more
-      → records_fault log earlier (rest line next more) ≡ Some (at_line codes.TooManyRecords 131074)
+  one_late : (line next more : ℕ) (ids : List ℕ) (earlier : List Lined) → DeclareOperators line next ids earlier
+      → line ≤ 131074 → 131074 < line + more
+      → records_fault log earlier (rest n line next more) ≡ Some (at_line codes.TooManyRecords 131074)
   one_late line next zero ids earlier before from many = absurd (omega (arith, from, many))
-  one_late line next (suc more) ids earlier before from many = elim (eq-or-lt_of_le {n = line} {m = 131074} from) [
-    | inl here ↦
-        stops log earlier (at line next) (rest (line + 1) (next + 1) more) codes.TooManyRecords (late line next ids earlier before log here)
-        ∙ ap (λ line. Some (at_line codes.TooManyRecords line)) here
-    | inr later ↦
-        passes log earlier (at line next) (rest (line + 1) (next + 1) more) (kept line next ids earlier before log (omega (arith, later)))
-        ∙ one_late (line + 1) (next + 1) more (ids ++ next ∷ []) (earlier ++ at line next ∷ []) (after line next ids earlier before) (omega (arith, later)) (omega (arith, many))
-  ]
+  one_late line next (suc more) ids earlier before from many =
+      let l = at line next in
+      let later = rest n (line + 1) (next + 1) more in
+      elim (eq-or-lt_of_le {n = line} {m = 131074} from) [
+        | inl here ↦
+            stops log earlier l later codes.TooManyRecords (late line next ids earlier before log here)
+            ∙ ap (λ line. Some (at_line codes.TooManyRecords line)) here
+        | inr lt ↦
+            let then = after line next ids earlier before in
+            let tail = one_late (line + 1) (next + 1) more (ids ++ next ∷ []) (earlier ++ l ∷ []) then in
+            passes log earlier l later (kept line next ids earlier before log (omega (arith, lt)))
+            ∙ tail (omega (arith, lt)) (omega (arith, many))
+      ]
 
 -- ---- The whole log.
 
 -- What the whole log declares.
 all_tables : (line n : ℕ) (ids more : List ℕ)
-    → fold (λ t (l : Lined). with_record t l.line l.rec) (operators ids) (lined_from line (redops more ++ End n ∷ [])) ≡ operators (ids ++ more)
+    → fold (λ t (l : Lined). with_record t l.line l.rec) (operators ids) (lined_from line (redops more ++ End n ∷ []))
+    ≡ operators (ids ++ more)
 all_tables line n ids [] = ap operators (sym (append-nil ids))
-all_tables line n ids (id ∷ more) = all_tables (line + 1) n (ids ++ id ∷ []) more ∙ ap operators (append_assoc ids (id ∷ []) more)
+all_tables line n ids (id ∷ more) =
+    all_tables (line + 1) n (ids ++ id ∷ []) more ∙ ap operators (append_assoc ids (id ∷ []) more)
 
 abbrev header : Lined
 header = record { line = 1; rec = Header 1 }
@@ -107,24 +123,29 @@ after_header : DeclareOperators 2 1 [] (header ∷ [])
 after_header = record { count = refl; tables = refl; below = All-nil (λ id. id < 1); idle = λ t. refl }
 
 module _ (lines n : ℕ) where
+  abbrev ids : List ℕ
+  ids = range_with_len 1 n
+
   abbrev all : List Record
-  all = redops (range_with_len 1 n)
+  all = redops ids
 
   -- The frame keeps its rules, and so does the header: the records after it tell the fault.
-  told : declaration_fault lines (lined (framed all)) ≡ records_fault (framed all) (header ∷ []) (rest (framed all) (length all) 2 1 n)
+  told : declaration_fault lines (lined (framed all))
+      ≡ records_fault (framed all) (header ∷ []) (rest (length all) 2 1 n)
   told =
-      by_records lines all (All-map IsInner (λ id. Redop id) (range_with_len 1 n) (λ k d lt. (refl, refl)))
-      ∙ passes (framed all) [] header (rest (framed all) (length all) 2 1 n) refl
+      by_records lines all (All-map IsInner (λ id. Redop id) ids (λ k d lt. (refl, refl)))
+      ∙ passes (framed all) [] header (rest (length all) 2 1 n) refl
 
   pub records_kept : n ≤ 131072 → log_fault Check lines (lined (of_records n)) ≡ None
   unfolding logs_computed of_records
   records_kept few =
-      let kept = told ∙ all_kept (framed all) (length all) 2 1 n [] (header ∷ []) after_header (omega (arith, few)) in
-      let tables : tables_of (lined (framed all)) ≡ operators (range_with_len 1 n) = all_tables 2 (length all) [] (range_with_len 1 n) in
-      rw (kept, tables) refl
+      let all_pass = all_kept (framed all) (length all) 2 1 n [] (header ∷ []) after_header (omega (arith, few)) in
+      let tables : tables_of (lined (framed all)) ≡ operators ids = all_tables 2 (length all) [] ids in
+      rw (told ∙ all_pass, tables) refl
 
-  pub records_broken : 131072 < n → log_fault Check lines (lined (of_records n)) ≡ Some (at_line codes.TooManyRecords 131074)
+  pub records_broken : 131072 < n
+      → log_fault Check lines (lined (of_records n)) ≡ Some (at_line codes.TooManyRecords 131074)
   unfolding logs_computed of_records
   records_broken many =
-      let broken = told ∙ one_late (framed all) (length all) 2 1 n [] (header ∷ []) after_header (omega arith) (omega (arith, many)) in
-      rw broken refl
+      let late = one_late (framed all) (length all) 2 1 n [] (header ∷ []) after_header in
+      rw (told ∙ late (omega arith) (omega (arith, many))) refl

@@ -10,7 +10,7 @@ use Rattle.spy_grammar.specs.declared.record.Record.TheVariants.{Header, Ispace,
 abbrev pub framed : List Record → List Record
 framed rs = Header 1 ∷ rs ++ End (length rs) ∷ []
 
--- So many records, each of which declares an operator. (They are too many to be written out: only proofs open this.)
+-- So many records, each of which declares an operator. (They are too many to write out: only proofs open this.)
 unfoldable pub of_records : ℕ → List Record
 of_records n = framed (map (λ id. Redop id) (range_with_len 1 n))
 

@@ -31,5 +31,6 @@ pub fn worked_limits()
         ≡ Some (at_line codes.TooMuchLoad 218) }
 
     // Two instances have a cell each, at a place where two tasks reduce.
-    ensures small_load { sum_by (load_of (tables_of (lined folded_once))) (tables_of (lined folded_once)).insts ≡ 4 }
+    ensures small_load { sum_by (load_of (tables_of (lined folded_once))) (tables_of (lined folded_once)).insts
+        ≡ 4 }
 {}

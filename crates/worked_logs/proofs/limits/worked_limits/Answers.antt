@@ -1,6 +1,6 @@
 use Rattle.std.proofs.Common.{arith}
 use Rattle.worked_logs.proofs.FewPlaces.{points_kept, points_broken, cells_kept, cells_broken, accesses_kept, accesses_broken}
-use Rattle.worked_logs.proofs.MuchLoad.{load_kept, load_broken}
+use Rattle.worked_logs.proofs.MuchLoad.{Fit, load_kept, load_broken}
 use Rattle.worked_logs.proofs.ManyRecords.{records_kept, records_broken}
 use Rattle.worked_logs.proofs.limits.worked_limits.Goals as goal
 
@@ -30,8 +30,20 @@ returns-clause-too_many_accesses c = accesses_broken 838861 5 (omega arith) (ome
 
 pub returns-clause-load : goal.returns-clause-load
 returns-clause-load c =
-    load_kept 104 4096 8 64 32 (record { points_fit = omega arith; records_fit = omega arith; accesses_fit = omega arith; cells_fit = omega arith }) (omega arith)
+    let fit : Fit 4096 8 64 32 = record {
+      points_fit = omega arith;
+      records_fit = omega arith;
+      accesses_fit = omega arith;
+      cells_fit = omega arith;
+    } in
+    load_kept 104 4096 8 64 32 fit (omega arith)
 
 pub returns-clause-too_much_load : goal.returns-clause-too_much_load
 returns-clause-too_much_load c =
-    load_broken 218 1613 5 157 53 (record { points_fit = omega arith; records_fit = omega arith; accesses_fit = omega arith; cells_fit = omega arith }) (omega arith)
+    let fit : Fit 1613 5 157 53 = record {
+      points_fit = omega arith;
+      records_fit = omega arith;
+      accesses_fit = omega arith;
+      cells_fit = omega arith;
+    } in
+    load_broken 218 1613 5 157 53 fit (omega arith)
