@@ -158,9 +158,11 @@ none_found t e = by (turned_pair t) refl
     by (Some q) f = absurd (let bad = rw f at e in cc)
 
 -- What the search against the places of the serial order finds.
-pub first_is : (t : Tables) (us : List (List Usage)) (places : List ℕ) (o : Option Pair) → usages t ≡ us → ArePlacesIn (serial t) (length t.items) places
-    → o ≡ find (λ (p : Pair). is_before p.kind) (left (Some places) us 0 1) → option_map (pair_of t) (turned_pair t) ≡ o
-first_is t us places o e is found = sym (turned_is t places is) ∙ ap (turned places) (sym (all_are t us e)) ∙ sym (first_against places us) ∙ sym found
+pub first_is : (t : Tables) (us : List (List Usage)) (asked : Option (List ℕ)) (places : List ℕ) (o : Option Pair) → usages t ≡ us → ArePlacesIn (serial t) (length t.items) places → asked ≡ Some places
+    → o ≡ find (λ (p : Pair). is_before p.kind) (left asked us 0 1) → option_map (pair_of t) (turned_pair t) ≡ o
+first_is t us asked places o e are is found =
+    sym (turned_is t places are) ∙ ap (turned places) (sym (all_are t us e)) ∙ sym (first_against places us)
+    ∙ sym (found ∙ ap (λ asked. find (λ (p : Pair). is_before p.kind) (left asked us 0 1)) is)
 
 -- ---- what a pair of the list is
 

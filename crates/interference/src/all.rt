@@ -4,6 +4,7 @@ ghost use Rattle.std.specs.Prelude.{◌≡◌};
 ghost use Rattle.interference.specs.Pairing.{all_pairs};
 
 use crate::iterator::Pairs;
+use crate::search::Search;
 use log_decl::Log;
 use region_tree::ArenaSet;
 
@@ -11,5 +12,6 @@ use region_tree::ArenaSet;
 pub fn pairs<'l, 'a, P: ArenaSet<'a>>(log: &'l Log<'a, P>) -> Pairs<'l, 'a, P>
     ensures { result ≡ all_pairs log.now }
 {
-    Pairs::of(log.uses(), log.blocks(), log.representatives())
+    let search = Search::of(log, None);
+    Pairs::of(&search)
 }

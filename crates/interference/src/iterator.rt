@@ -1,74 +1,63 @@
 //! The pairs of items that interfere, one after the other.
 
-ghost use Rattle.std.specs.Prelude.{◌≡◌, ◌≤◌, [], length, Some, None, IfNone, IfSome};
+ghost use Rattle.std.specs.Prelude.{◌≡◌, ◌≤◌, [], IfNone, IfSome};
 ghost use Rattle.std.specs.Iterator.{YieldsFirst, item_count};
-ghost use Rattle.semantics.specs.Tables.{Tables};
-ghost use Rattle.item_uses.specs.Usages.{usages};
-ghost use Rattle.item_uses.specs.Blocks.{AreBlocks};
-ghost use Rattle.item_uses.specs.Representatives.{AreRepresentatives};
-ghost use Rattle.interference.specs.Pairing.{asked_of, IsFor, all_pairs, left, StartsLeft};
+ghost use Rattle.interference.specs.Pairing.{asked_of, left, StartsLeft};
 ghost use Rattle.interference.specs.Remembering.{AreRight};
+ghost use Rattle.interference.specs.Searching.{IsSearch};
 ghost use Rattle.interference.specs.Stretched.{StartsWith};
 
 use crate::memory::Memory;
 use crate::pair::Pair;
 use crate::partners::{alike_end, next_partner, remembered_pair};
+use crate::search::Search;
 use crate::stretch::Stretch;
-use item_uses::{ItemUses, Span};
 use point_set::PointSet;
 use std::marker::Model;
 
 /// The pairs that are left, in order: by the first item, and then by the second. No call takes memory.
 #[derive(Drop)]
 pub struct Pairs<'l, 'a, P: PointSet + Copy> {
-    asked: Option<&'l [usize]>,
-    items: &'l [ItemUses<'a, P>],
-    blocks: &'l [Span],
-    standing: &'l [usize],
+    search: Search<'l, 'a, P>,
     memory: Memory,
     a: usize,
     from: usize,
 }
 
 impl<'l, 'a, P: PointSet + Copy> Model for Pairs<'l, 'a, P> {
-    ghost use Rattle.std.specs.Prelude.{List, ◌≤◌};
-    ghost use Rattle.item_uses.specs.Blocks.{AreBlocks};
-    ghost use Rattle.item_uses.specs.Representatives.{AreRepresentatives};
+    ghost use Rattle.std.specs.Prelude.{List, ◌≤◌, ◌<◌, ◌^◌, length};
     ghost use Rattle.interference.specs.Remembering.{AreRight};
     ghost use Rattle.interference.specs.declared.pair.Pair.{Pair};
-    ghost use Rattle.interference.specs.Pairing.{left, asked_of, IsFor};
+    ghost use Rattle.interference.specs.Pairing.{left, asked_of};
+    ghost use Rattle.interference.specs.Searching.{IsSearch};
 
     ghost Value = { List Pair };
 
-    ghost view = { λ s. left (asked_of s.asked) s.items.now s.a s.from };
+    ghost view = { λ s. left (asked_of s.search.asked) s.search.items.now s.a s.from };
 
-    ghost invariant = { λ s. (s.a ≤ s.from) × AreBlocks s.blocks.now s.items.now × IsFor s.asked s.items.now
-        × AreRepresentatives s.standing.now s.items.now × AreRight s.items.now s.memory.answers };
+    // The items are few enough to be counted.
+    ghost invariant = { λ s. (s.a ≤ s.from) × (length s.search.items.now < 2 ^ 64) × IsSearch s.search
+        × AreRight s.search.items.now s.memory.answers };
 }
 
 /// The first pair that is left. It stays a call, so that what calls it stays small.
 #[inline(never)]
 fn first_left<'a, P: PointSet + Copy>(
-    asked: Option<&[usize]>,
-    items: &[ItemUses<'a, P>],
-    blocks: &[Span],
-    standing: &[usize],
+    search: &Search<'_, 'a, P>,
     memory: &mut Memory,
     start: usize,
     start_from: usize,
 ) -> Option<Pair>
-    requires asked { IsFor asked items.now }
-    requires standing { AreRepresentatives standing.now items.now }
-    requires memory { AreRight items.now memory.old.answers }
-    requires blocks { AreBlocks blocks.now items.now }
+    requires search { IsSearch search.now }
+    requires memory { AreRight search.now.items.now memory.old.answers }
     requires order { start ≤ start_from }
-    ensures none { IfNone result (left (asked_of asked.entry) items.now start start_from ≡ []) }
-    ensures some { IfSome result (StartsLeft (asked_of asked.entry) items.now start start_from) }
-    ensures memory { AreRight items.now memory.new.answers }
+    ensures none { IfNone result (left (asked_of search.now.asked) search.now.items.now start start_from ≡ []) }
+    ensures some { IfSome result (StartsLeft (asked_of search.now.asked) search.now.items.now start start_from) }
+    ensures memory { AreRight search.now.items.now memory.new.answers }
 {
     let mut from = start_from;
-    for a in start..items.len() {
-        if let Some(pair) = next_partner(asked, items, blocks, standing, memory, a, from) {
+    for a in start..search.items.len() {
+        if let Some(pair) = next_partner(search, memory, a, from) {
             return Some(pair);
         }
         from = a.saturating_add(2);
@@ -79,26 +68,21 @@ fn first_left<'a, P: PointSet + Copy>(
 /// The same, where most often the next item is of a kind that was met before.
 #[inline]
 fn next_left<'a, P: PointSet + Copy>(
-    asked: Option<&[usize]>,
-    items: &[ItemUses<'a, P>],
-    blocks: &[Span],
-    standing: &[usize],
+    search: &Search<'_, 'a, P>,
     memory: &mut Memory,
     a: usize,
     from: usize,
 ) -> Option<Pair>
-    requires asked { IsFor asked items.now }
-    requires standing { AreRepresentatives standing.now items.now }
-    requires memory { AreRight items.now memory.old.answers }
-    requires blocks { AreBlocks blocks.now items.now }
+    requires search { IsSearch search.now }
+    requires memory { AreRight search.now.items.now memory.old.answers }
     requires order { a ≤ from }
-    ensures none { IfNone result (left (asked_of asked.entry) items.now a from ≡ []) }
-    ensures some { IfSome result (StartsLeft (asked_of asked.entry) items.now a from) }
-    ensures memory { AreRight items.now memory.new.answers }
+    ensures none { IfNone result (left (asked_of search.now.asked) search.now.items.now a from ≡ []) }
+    ensures some { IfSome result (StartsLeft (asked_of search.now.asked) search.now.items.now a from) }
+    ensures memory { AreRight search.now.items.now memory.new.answers }
 {
-    match remembered_pair(asked, items, standing, memory, a, from) {
+    match remembered_pair(search, memory, a, from) {
         Some(pair) => Some(pair),
-        None => first_left(asked, items, blocks, standing, memory, a, from),
+        None => first_left(search, memory, a, from),
     }
 }
 
@@ -111,15 +95,7 @@ impl<'l, 'a, P: PointSet + Copy> Iterator for Pairs<'l, 'a, P> {
 
     #[inline]
     fn next(&mut self) -> Option<Pair> {
-        match next_left(
-            self.asked,
-            self.items,
-            self.blocks,
-            self.standing,
-            &mut self.memory,
-            self.a,
-            self.from,
-        ) {
+        match next_left(&self.search, &mut self.memory, self.a, self.from) {
             Some(pair) => {
                 self.a = pair.a;
                 self.from = pair.b + 1;
@@ -137,16 +113,13 @@ impl<'l, 'a, P: PointSet + Copy> Pairs<'l, 'a, P> {
         ensures end { IfNone result (self.new ≡ []) }
         ensures some { IfSome result (StartsWith self.old self.new) }
     {
-        let pair = next_left(
-            self.asked,
-            self.items,
-            self.blocks,
-            self.standing,
-            &mut self.memory,
-            self.a,
-            self.from,
-        )?;
-        let to = alike_end(self.asked, self.standing, pair.a, pair.b);
+        let pair = next_left(&self.search, &mut self.memory, self.a, self.from)?;
+        let to = alike_end(
+            self.search.asked,
+            self.search.representatives,
+            pair.a,
+            pair.b,
+        );
         self.a = pair.a;
         self.from = to;
         Some(Stretch {
@@ -158,46 +131,14 @@ impl<'l, 'a, P: PointSet + Copy> Pairs<'l, 'a, P> {
         })
     }
 
-    /// All pairs of items that interfere.
-    pub(crate) fn of(
-        items: &'l [ItemUses<'a, P>],
-        blocks: &'l [Span],
-        standing: &'l [usize],
-    ) -> Pairs<'l, 'a, P>
-        requires blocks { AreBlocks blocks.now items.now }
-        requires standing { AreRepresentatives standing.now items.now }
-        ensures left { result ≡ left None items.now 0 1 }
-        ensures pairs { (t : Tables) → usages t ≡ items.now → result ≡ all_pairs t }
+    /// The pairs of a search.
+    pub(crate) fn of(search: &Search<'l, 'a, P>) -> Pairs<'l, 'a, P>
+        requires { IsSearch search.now }
+        ensures { result ≡ left (asked_of search.now.asked) search.now.items.now 0 1 }
     {
         Pairs {
-            asked: None,
-            items,
-            blocks,
-            standing,
-            memory: Memory::new(items.len()),
-            a: 0,
-            from: 1,
-        }
-    }
-
-    /// Those of them of which the second item comes before the first by these places.
-    pub(crate) fn against(
-        places: &'l [usize],
-        items: &'l [ItemUses<'a, P>],
-        blocks: &'l [Span],
-        standing: &'l [usize],
-    ) -> Pairs<'l, 'a, P>
-        requires blocks { AreBlocks blocks.now items.now }
-        requires standing { AreRepresentatives standing.now items.now }
-        requires each { length places.now ≡ length items.now }
-        ensures { result ≡ left (Some places.now) items.now 0 1 }
-    {
-        Pairs {
-            asked: Some(places),
-            items,
-            blocks,
-            standing,
-            memory: Memory::new(items.len()),
+            search: *search,
+            memory: Memory::new(search.items.len()),
             a: 0,
             from: 1,
         }

@@ -7,6 +7,7 @@ mod laws;
 mod memory;
 mod pair;
 mod partners;
+mod search;
 mod serial;
 mod stretch;
 mod tasks;

@@ -1,17 +1,17 @@
 //! The next item that interferes with one, block by block.
 
 ghost use Rattle.std.specs.Prelude.{◌≡◌, ℕ, ◌<◌, ◌≤◌, false, true, [], length, IfNone, IfSome};
-ghost use Rattle.item_uses.specs.Representatives.{AreRepresentatives};
 ghost use Rattle.item_uses.specs.Usages.{usages_at};
 ghost use Rattle.item_uses.specs.Spans.{Bounds};
-ghost use Rattle.item_uses.specs.Blocks.{AreBlocks};
-ghost use Rattle.interference.specs.Pairing.{asked_of, IsFor, is_asked, met_at, IsMeeting, row, StartsRow};
+ghost use Rattle.interference.specs.Pairing.{asked_of, is_asked, met_at, IsMeeting, row, StartsRow};
 ghost use Rattle.interference.specs.Remembering.{IsHow, AreRight, pair_found};
+ghost use Rattle.interference.specs.Searching.{IsSearch};
 ghost use Rattle.interference.specs.Stretched.{AreAlikeTo};
 
 use crate::memory::Memory;
 use crate::pair::Pair;
-use item_uses::{Interference, ItemUses, Span};
+use crate::search::Search;
+use item_uses::{Interference, Span};
 use point_set::PointSet;
 
 /// Whether a pair is asked for: any is, or one of which the second item comes before the first by these places.
@@ -43,122 +43,117 @@ fn pair_with(a: usize, b: usize, found: Interference) -> Option<Pair>
 
 /// How two items interfere: what is remembered of those that stand for them, or else what is found, and then remembered.
 fn interference<'a, P: PointSet + Copy>(
-    items: &[ItemUses<'a, P>],
-    standing: &[usize],
+    search: &Search<'_, 'a, P>,
     memory: &mut Memory,
     a: usize,
     b: usize,
 ) -> Interference
-    requires a { a < length items.now }
-    requires b { b < length items.now }
-    requires standing { AreRepresentatives standing.now items.now }
-    requires memory { AreRight items.now memory.old.answers }
-    ensures found { IsHow items.now a b result }
-    ensures memory { AreRight items.now memory.new.answers }
+    requires search { IsSearch search.now }
+    requires a { a < length search.now.items.now }
+    requires b { b < length search.now.items.now }
+    requires memory { AreRight search.now.items.now memory.old.answers }
+    ensures found { IsHow search.now.items.now a b result }
+    ensures memory { AreRight search.now.items.now memory.new.answers }
 {
-    let ours = standing[a];
-    let theirs = standing[b];
+    let ours = search.representatives[a];
+    let theirs = search.representatives[b];
     if let Some(found) = memory.recall(ours, theirs) {
         return found;
     }
-    let found = items[a].interference(&items[b]);
+    let found = search.items[a].interference(&search.items[b]);
     memory.note(ours, theirs, found);
     found
 }
 
 /// The pair of two items, if it is asked for and they interfere.
 fn pair_of<'a, P: PointSet + Copy>(
-    asked: Option<&[usize]>,
-    items: &[ItemUses<'a, P>],
-    standing: &[usize],
+    search: &Search<'_, 'a, P>,
     memory: &mut Memory,
     a: usize,
     b: usize,
 ) -> Option<Pair>
-    requires asked { IsFor asked items.now }
-    requires a { a < length items.now }
-    requires b { b < length items.now }
-    requires standing { AreRepresentatives standing.now items.now }
-    requires memory { AreRight items.now memory.old.answers }
-    ensures none { IfNone result (met_at (asked_of asked.entry) items.now a b ≡ false) }
-    ensures some { IfSome result (IsMeeting (asked_of asked.entry) items.now a b) }
-    ensures memory { AreRight items.now memory.new.answers }
+    requires search { IsSearch search.now }
+    requires a { a < length search.now.items.now }
+    requires b { b < length search.now.items.now }
+    requires memory { AreRight search.now.items.now memory.old.answers }
+    ensures none { IfNone result (met_at (asked_of search.now.asked) search.now.items.now a b ≡ false) }
+    ensures some { IfSome result (IsMeeting (asked_of search.now.asked) search.now.items.now a b) }
+    ensures memory { AreRight search.now.items.now memory.new.answers }
 {
-    if !is_asked(asked, a, b) {
+    if !is_asked(search.asked, a, b) {
         return None;
     }
-    if !items[a].may_interfere(&items[b].span()) {
+    if !search.items[a].may_interfere(&search.items[b].span()) {
         return None;
     }
-    let found = interference(items, standing, memory, a, b);
+    let found = interference(search, memory, a, b);
     pair_with(a, b, found)
 }
 
 /// The pair of two items, if it is asked for, and is remembered to be of items that interfere.
 #[inline]
 pub(crate) fn remembered_pair<'a, P: PointSet + Copy>(
-    asked: Option<&[usize]>,
-    items: &[ItemUses<'a, P>],
-    standing: &[usize],
+    search: &Search<'_, 'a, P>,
     memory: &Memory,
     a: usize,
     b: usize,
 ) -> Option<Pair>
-    requires asked { IsFor asked items.now }
+    requires search { IsSearch search.now }
     requires order { a ≤ b }
-    requires standing { AreRepresentatives standing.now items.now }
-    requires memory { AreRight items.now memory.now.answers }
-    ensures { IfSome result (StartsRow (asked_of asked.entry) items.now a b) }
+    requires memory { AreRight search.now.items.now memory.now.answers }
+    ensures { IfSome result (StartsRow (asked_of search.now.asked) search.now.items.now a b) }
 {
-    if b >= items.len() {
+    if b >= search.items.len() {
         return None;
     }
-    if !is_asked(asked, a, b) {
+    if !is_asked(search.asked, a, b) {
         return None;
     }
-    let found = memory.recall(standing[a], standing[b])?;
+    let found = memory.recall(search.representatives[a], search.representatives[b])?;
     pair_with(a, b, found)
 }
 
 /// Where the items in a row end that come after one, ask for the same, and are asked for with a first.
-pub(crate) fn alike_end(asked: Option<&[usize]>, standing: &[usize], a: usize, b: usize) -> usize
-    requires asked { IfSome asked (λ places. length places.now ≡ length standing.now) }
-    requires a { a < length standing.now }
-    requires b { b < length standing.now }
-    ensures { AreAlikeTo (asked_of asked.entry) standing.now a b result }
+pub(crate) fn alike_end(
+    asked: Option<&[usize]>,
+    representatives: &[usize],
+    a: usize,
+    b: usize,
+) -> usize
+    requires asked { IfSome asked (λ places. length places.now ≡ length representatives.now) }
+    requires a { a < length representatives.now }
+    requires b { b < length representatives.now }
+    ensures { AreAlikeTo (asked_of asked.entry) representatives.now a b result }
 {
-    let same = standing[b];
-    for i in b + 1..standing.len() {
-        if standing[i] != same || !is_asked(asked, a, i) {
+    let same = representatives[b];
+    for i in b + 1..representatives.len() {
+        if representatives[i] != same || !is_asked(asked, a, i) {
             return i;
         }
     }
-    standing.len()
+    representatives.len()
 }
 
 /// The first pair of an item with those from one to before another.
 fn partner<'a, P: PointSet + Copy>(
-    asked: Option<&[usize]>,
-    items: &[ItemUses<'a, P>],
-    standing: &[usize],
+    search: &Search<'_, 'a, P>,
     memory: &mut Memory,
     a: usize,
     from: usize,
     to: usize,
 ) -> Option<Pair>
-    requires asked { IsFor asked items.now }
-    requires standing { AreRepresentatives standing.now items.now }
-    requires memory { AreRight items.now memory.old.answers }
-    requires place { a < length items.now }
+    requires search { IsSearch search.now }
+    requires memory { AreRight search.now.items.now memory.old.answers }
+    requires place { a < length search.now.items.now }
     requires order { a ≤ from }
-    requires end { (from ≤ to) × (to ≤ length items.now) }
-    ensures none { IfNone result (row (asked_of asked.entry) items.now a from
-        ≡ row (asked_of asked.entry) items.now a to) }
-    ensures some { IfSome result (StartsRow (asked_of asked.entry) items.now a from) }
-    ensures memory { AreRight items.now memory.new.answers }
+    requires end { (from ≤ to) × (to ≤ length search.now.items.now) }
+    ensures none { IfNone result (row (asked_of search.now.asked) search.now.items.now a from
+        ≡ row (asked_of search.now.asked) search.now.items.now a to) }
+    ensures some { IfSome result (StartsRow (asked_of search.now.asked) search.now.items.now a from) }
+    ensures memory { AreRight search.now.items.now memory.new.answers }
 {
     for b in from..to {
-        if let Some(pair) = pair_of(asked, items, standing, memory, a, b) {
+        if let Some(pair) = pair_of(search, memory, a, b) {
             return Some(pair);
         }
     }
@@ -167,29 +162,26 @@ fn partner<'a, P: PointSet + Copy>(
 
 /// The same within a block, whose items are looked at only where its bounds leave room.
 fn partner_in_block<'a, P: PointSet + Copy>(
-    asked: Option<&[usize]>,
-    items: &[ItemUses<'a, P>],
-    standing: &[usize],
+    search: &Search<'_, 'a, P>,
     memory: &mut Memory,
     block: &Span,
     a: usize,
     from: usize,
     to: usize,
 ) -> Option<Pair>
-    requires asked { IsFor asked items.now }
-    requires standing { AreRepresentatives standing.now items.now }
-    requires memory { AreRight items.now memory.old.answers }
-    requires place { a < length items.now }
+    requires search { IsSearch search.now }
+    requires memory { AreRight search.now.items.now memory.old.answers }
+    requires place { a < length search.now.items.now }
     requires order { a ≤ from }
-    requires end { (from ≤ to) × (to ≤ length items.now) }
-    requires block { (i : ℕ) → from ≤ i → i < to → Bounds block.now (usages_at items.now i) }
-    ensures none { IfNone result (row (asked_of asked.entry) items.now a from
-        ≡ row (asked_of asked.entry) items.now a to) }
-    ensures some { IfSome result (StartsRow (asked_of asked.entry) items.now a from) }
-    ensures memory { AreRight items.now memory.new.answers }
+    requires end { (from ≤ to) × (to ≤ length search.now.items.now) }
+    requires block { (i : ℕ) → from ≤ i → i < to → Bounds block.now (usages_at search.now.items.now i) }
+    ensures none { IfNone result (row (asked_of search.now.asked) search.now.items.now a from
+        ≡ row (asked_of search.now.asked) search.now.items.now a to) }
+    ensures some { IfSome result (StartsRow (asked_of search.now.asked) search.now.items.now a from) }
+    ensures memory { AreRight search.now.items.now memory.new.answers }
 {
-    if items[a].may_interfere(block) {
-        partner(asked, items, standing, memory, a, from, to)
+    if search.items[a].may_interfere(block) {
+        partner(search, memory, a, from, to)
     } else {
         None
     }
@@ -197,33 +189,26 @@ fn partner_in_block<'a, P: PointSet + Copy>(
 
 /// The first pair of an item with those from one on.
 pub(crate) fn next_partner<'a, P: PointSet + Copy>(
-    asked: Option<&[usize]>,
-    items: &[ItemUses<'a, P>],
-    blocks: &[Span],
-    standing: &[usize],
+    search: &Search<'_, 'a, P>,
     memory: &mut Memory,
     a: usize,
     from: usize,
 ) -> Option<Pair>
-    requires asked { IsFor asked items.now }
-    requires standing { AreRepresentatives standing.now items.now }
-    requires memory { AreRight items.now memory.old.answers }
-    requires blocks { AreBlocks blocks.now items.now }
-    requires place { a < length items.now }
+    requires search { IsSearch search.now }
+    requires memory { AreRight search.now.items.now memory.old.answers }
+    requires place { a < length search.now.items.now }
     requires order { a ≤ from }
-    ensures none { IfNone result (row (asked_of asked.entry) items.now a from ≡ []) }
-    ensures some { IfSome result (StartsRow (asked_of asked.entry) items.now a from) }
-    ensures memory { AreRight items.now memory.new.answers }
+    ensures none { IfNone result (row (asked_of search.now.asked) search.now.items.now a from ≡ []) }
+    ensures some { IfSome result (StartsRow (asked_of search.now.asked) search.now.items.now a from) }
+    ensures memory { AreRight search.now.items.now memory.new.answers }
 {
     let mut start = from;
-    for k in (from / 64)..blocks.len() {
-        if start >= items.len() {
+    for k in (from / 64)..search.blocks.len() {
+        if start >= search.items.len() {
             return None;
         }
-        let end = (64 * k).saturating_add(64).min(items.len());
-        if let Some(pair) = partner_in_block(
-            asked, items, standing, memory, &blocks[k], a, start, end,
-        ) {
+        let end = (64 * k).saturating_add(64).min(search.items.len());
+        if let Some(pair) = partner_in_block(search, memory, &search.blocks[k], a, start, end) {
             return Some(pair);
         }
         start = end;

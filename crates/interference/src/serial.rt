@@ -1,15 +1,14 @@
 //! Whether the serial order keeps the pairs of items that interfere.
 
-ghost use Rattle.std.specs.Prelude.{◌≡◌, find, length, Some, None, OnOk, IfErr};
+ghost use Rattle.std.specs.Prelude.{◌≡◌, find, Some, None, OnOk, IfErr};
 ghost use Rattle.semantics.specs.Kinds.{is_before, least_place};
 ghost use Rattle.semantics.specs.SerialOrder.{turned_pair};
-ghost use Rattle.item_uses.specs.Blocks.{AreBlocks};
-ghost use Rattle.item_uses.specs.Representatives.{AreRepresentatives};
-ghost use Rattle.interference.specs.Pairing.{left};
+ghost use Rattle.interference.specs.Pairing.{asked_of, left};
+ghost use Rattle.interference.specs.Searching.{IsSearch};
 
 use crate::iterator::Pairs;
 use crate::pair::Pair;
-use item_uses::{ItemUses, Span};
+use crate::search::Search;
 use log_decl::Log;
 use point_set::PointSet;
 use privilege::Kind;
@@ -24,19 +23,12 @@ pub struct SerialBreaks {
     pub place: Place,
 }
 
-/// The first pair of kind `Before` that stands against the order of these places.
-fn first_turned<'a, P: PointSet + Copy>(
-    places: &[usize],
-    items: &[ItemUses<'a, P>],
-    blocks: &[Span],
-    standing: &[usize],
-) -> Option<Pair>
-    requires blocks { AreBlocks blocks.now items.now }
-    requires standing { AreRepresentatives standing.now items.now }
-    requires each { length places.now ≡ length items.now }
-    ensures { result ≡ find (λ p. is_before p.kind) (left (Some places.now) items.now 0 1) }
+/// The first pair of a search that is of kind `Before`.
+fn first_turned<'a, P: PointSet + Copy>(search: &Search<'_, 'a, P>) -> Option<Pair>
+    requires { IsSearch search.now }
+    ensures { result ≡ find (λ p. is_before p.kind) (left (asked_of search.now.asked) search.now.items.now 0 1) }
 {
-    for pair in Pairs::against(places, items, blocks, standing) {
+    for pair in Pairs::of(search) {
         if pair.kind == Kind::Before {
             return Some(pair);
         }
@@ -53,12 +45,8 @@ pub fn serial_ok<'a, P: ArenaSet<'a>>(log: &Log<'a, P>) -> Result<(), SerialBrea
     if !log.has_serial() {
         return Ok(());
     }
-    match first_turned(
-        log.serial_places(),
-        log.uses(),
-        log.blocks(),
-        log.representatives(),
-    ) {
+    let search = Search::of(log, Some(log.serial_places()));
+    match first_turned(&search) {
         Some(pair) => Err(SerialBreaks {
             a: pair.a,
             b: pair.b,

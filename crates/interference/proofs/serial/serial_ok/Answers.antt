@@ -1,6 +1,6 @@
 use Rattle.std.proofs.Common.{◌∙◌, sym, ap, length, arith, inl, inr}
 use Rattle.std.proofs.lemmas.Bool.{cases_lt}
-use Rattle.item_uses.proofs.lemmas.Growing.{usages_length}
+use Rattle.interference.specs.Pairing.{asked_of}
 use Rattle.interference.proofs.Turning.{first_is, none_turned, turned_found, none_found}
 use Rattle.interference.proofs.serial.serial_ok.Goals as goal
 
@@ -10,17 +10,17 @@ returns-then-not-has_serial-clause-ok g c = elim (cases_lt 0 (length c.args.log.
   | inr none ↦ none_turned c.args.log.now (omega (arith, none))
 ]
 
-pub first_turned-requires-clause-each : goal.first_turned-requires-clause-each
-first_turned-requires-clause-each g c = c.serial_places.ensures.each ∙ sym (usages_length c.args.log.now) ∙ sym (ap length c.uses.ensures)
+pub of-search-requires : goal.of-search-requires
+of-search-requires g c = c.serial_places.ensures.each
 
 pub returns-in-Some-clause-pair : goal.returns-in-Some-clause-pair
 returns-in-Some-clause-pair g c =
-    (turned_found c.args.log.now c.in-Some.pair (first_is c.args.log.now c.uses.result.now c.serial_places.result.now c.first_turned.result (sym c.uses.ensures) c.serial_places.ensures c.first_turned.ensures ∙ c.in-Some.is)).0
+    (turned_found c.args.log.now c.in-Some.pair (first_is c.args.log.now c.of-search.result.items.now (asked_of c.of-search.result.asked) c.serial_places.result.now c.first_turned.result (sym c.of-search.ensures.items) c.serial_places.ensures (ap asked_of c.of-search.ensures.asked) c.first_turned.ensures ∙ c.in-Some.is)).0
 
 pub returns-in-Some-clause-place : goal.returns-in-Some-clause-place
 returns-in-Some-clause-place g c =
-    (turned_found c.args.log.now c.in-Some.pair (first_is c.args.log.now c.uses.result.now c.serial_places.result.now c.first_turned.result (sym c.uses.ensures) c.serial_places.ensures c.first_turned.ensures ∙ c.in-Some.is)).1
+    (turned_found c.args.log.now c.in-Some.pair (first_is c.args.log.now c.of-search.result.items.now (asked_of c.of-search.result.asked) c.serial_places.result.now c.first_turned.result (sym c.of-search.ensures.items) c.serial_places.ensures (ap asked_of c.of-search.ensures.asked) c.first_turned.ensures ∙ c.in-Some.is)).1
 
 pub returns-in-None-clause-ok : goal.returns-in-None-clause-ok
 returns-in-None-clause-ok g c =
-    none_found c.args.log.now (first_is c.args.log.now c.uses.result.now c.serial_places.result.now c.first_turned.result (sym c.uses.ensures) c.serial_places.ensures c.first_turned.ensures ∙ c.in-None.is)
+    none_found c.args.log.now (first_is c.args.log.now c.of-search.result.items.now (asked_of c.of-search.result.asked) c.serial_places.result.now c.first_turned.result (sym c.of-search.ensures.items) c.serial_places.ensures (ap asked_of c.of-search.ensures.asked) c.first_turned.ensures ∙ c.in-None.is)
