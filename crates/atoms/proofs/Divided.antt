@@ -14,7 +14,7 @@ use Rattle.atoms.specs.Atoms.{HasPoint, IsDeclared, AreAtomsOf, first_points}
 use Rattle.atoms.specs.Edges.{IsEdgeOf, HasEdges, AreEdgesOf}
 use Rattle.atoms.specs.Parts.{parts_of}
 use Rattle.atoms.specs.declared.edges.Edge.{Edge}
-use Rattle.atoms.proofs.Maximal.{has_in, in_has}
+use Rattle.log_tables.proofs.lemmas.Members.{has_in, in_has}
 use Rattle.atoms.proofs.Cutting.{Reaches, IsClosed, AreCut, cut_parts}
 
 -- ---- edges

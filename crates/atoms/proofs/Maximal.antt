@@ -2,17 +2,10 @@
 use Rattle.std.proofs.Common.{◌≡◌, ℕ, ◌+◌, ◌-◌, ◌<◌, ◌≤◌, ◌^◌, ◌==◌, true, List, Some, None, All, Contains, refl, sym, subst, ◌∙◌, inl, inr, eq-eqb, arith}
 use Rattle.std.proofs.lemmas.Bool.{cases_Bool, cases_lt, eqb-true, true≢false}
 use Rattle.std.proofs.lemmas.List.Elements.{All-contains}
-use Rattle.std.proofs.lemmas.List.Folds.{Any-from_list_any, list_any-from_Any}
 use Rattle.semantics.specs.Points.{is_in}
 use Rattle.point_set.specs.Least.{IsLeastFrom, IsLeastGap}
+use Rattle.log_tables.proofs.lemmas.Members.{has_in, in_has}
 use Rattle.atoms.specs.Edges.{IsFirstRun}
-
--- a test for a member
-pub has_in : (xs : List ℕ) (x : ℕ) → is_in xs x ≡ true → Contains xs x
-has_in xs x h = let r = Any-from_list_any (λ m. m == x) xs h in subst (Contains xs) (eqb-true r.1 x r.4) (r.0, r.2, r.3)
-
-pub in_has : (xs : List ℕ) (x : ℕ) → Contains xs x → is_in xs x ≡ true
-in_has xs x h = list_any-from_Any (λ m. m == x) xs (h.0, x, h.1, h.2, eq-eqb x x refl)
 
 -- what is not missing is there
 not_missing : (xs : List ℕ) (x : ℕ) → ((Contains xs x → ⊥) → ⊥) → Contains xs x

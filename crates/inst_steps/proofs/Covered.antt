@@ -3,7 +3,7 @@ use Rattle.std.proofs.Common.{◌≡◌, ℕ, ◌==◌, ◌&&◌, ◌||◌, cond
 use Rattle.std.specs.Prelude.{IfSome}
 use Rattle.std.specs.List.{list_all}
 use Rattle.std.specs.Option.{option_map_or}
-use Rattle.std.proofs.lemmas.Bool.{not-false, false≢true, true≢false, or_parts, eqb-true}
+use Rattle.std.proofs.lemmas.Bool.{not-false, false≢true, true≢false, or_parts, eqb-true, and_left, and_right}
 use Rattle.std.proofs.lemmas.List.Elements.{recursion_from_All}
 use Rattle.privilege.specs.declared.kinds.Priv.{Priv}
 use Rattle.privilege.specs.declared.kinds.Priv.TheVariants as privileges
@@ -118,14 +118,6 @@ more_op ss us is js more operations.Merge w = tt
 
 spaced : (t : Tables) (id : ℕ) → is_declared t (space_id id) ≡ true → Spaced t id
 spaced t id e = find_any (λ (s : Space). s.id == id) t.spaces e
-
-and_left : (x y : Bool) → (x && y) ≡ true → x ≡ true
-and_left true y e = refl
-and_left false y e = absurd (false≢true e)
-
-and_right : (x y : Bool) → (x && y) ≡ true → y ≡ true
-and_right true y e = e
-and_right false y e = absurd (false≢true e)
 
 within : (t : Tables) → Covers t → (space : ℕ) (fields : List ℕ) (id : ℕ) → Spaced t space → lacks t (points_in t space) fields id ≡ false → Within t.spaces t.insts space fields id
 within t h space fields id known none = elim (none_or_some (inst_at t id)) [

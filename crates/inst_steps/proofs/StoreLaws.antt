@@ -2,7 +2,7 @@
 use Rattle.std.proofs.Common.{◌≡◌, ℕ, ◌+◌, ◌≤◌, ◌==◌, ◌&&◌, nat_eq, Bool, true, false, cond, is_some, List, filter, Some, None, refl, sym, ap, ap₂, ◌∙◌, inl, inr, arith}
 use Rattle.std.specs.Prelude.{unwrap_or}
 use Rattle.std.specs.FinMap.{get, insert, contains_key}
-use Rattle.std.proofs.lemmas.Bool.{cases_Bool, true≢false, false≢true, false_from_ne_true, eqb-true}
+use Rattle.std.proofs.lemmas.Bool.{cases_Bool, true≢false, false≢true, false_from_ne_true, eqb-true, and_left, and_right}
 use Rattle.value_terms.specs.declared.terms.Base.TheVariants.{Raw}
 use Rattle.value_terms.specs.Values.{Value, plain, add_one, fold_in, weight_of}
 use Rattle.value_terms.proofs.lemmas.Sums.{weight_added, weight_folded}
@@ -38,14 +38,6 @@ one_cell a b e =
     let n = eqb-true a.inst b.inst (and_left (a.inst == b.inst) (a.point == b.point) i) in
     let p = eqb-true a.point b.point (and_right (a.inst == b.inst) (a.point == b.point) i) in
     λ k. record { inst = n k; point = p k; field = eqb-true a.field b.field f k }
-  where
-    and_left : (x y : Bool) → (x && y) ≡ true → x ≡ true
-    and_left true y e = refl
-    and_left false y e = absurd (false≢true e)
-
-    and_right : (x y : Bool) → (x && y) ≡ true → y ≡ true
-    and_right true y e = e
-    and_right false y e = absurd (false≢true e)
 
 kept_cells : (m : Contents) (cell : Cell) (v : Value) (c : Cell) → contains_key m cell ≡ true → contains_key (insert m cell v) c ≡ contains_key m c
 kept_cells m cell v c there = ap is_some (get_at m cell v c) ∙ elim (cases_Bool (same_cell c cell)) [

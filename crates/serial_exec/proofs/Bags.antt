@@ -1,6 +1,7 @@
 -- When a bag has just what changes add.
 use Rattle.std.proofs.Common.{◌≡◌, ℕ, zero, suc, ◌+◌, ◌<◌, ◌≤◌, inl, inr, true, List, [], ◌∷◌, ◌++◌, take, length, get_or, refl, sym, ap, subst, ◌∙◌, arith}
 use Rattle.std.specs.List.{AllByRecursion}
+use Rattle.std.proofs.lemmas.List.{append_assoc, take_more}
 use Rattle.value_terms.specs.declared.terms.Base.TheVariants.{Init}
 use Rattle.value_terms.specs.declared.terms.Contribution.{Contribution}
 use Rattle.value_terms.specs.Values.{Bag, plain, comes_before, count_in, joined, total, add, extended, CountsEach, IsWellFormedBag}
@@ -16,16 +17,7 @@ use Rattle.serial_exec.specs.Summed.{added_by, all_added}
 
 -- ---- one more of a list
 
-take-more : {X : Type 0} (xs : List X) (i : ℕ) (d : X) → i < length xs → take (i + 1) xs ≡ take i xs ++ get_or xs i d ∷ []
-take-more [] i d lt = absurd (omega (arith, lt))
-take-more (x ∷ xs) zero d lt = refl
-take-more (x ∷ xs) (suc i) d lt = ap (λ n. take n (x ∷ xs)) (let e : suc i + 1 ≡ suc (i + 1) = omega arith in e) ∙ ap (λ ys. x ∷ ys) (take-more xs i d (omega (arith, lt)))
-
 -- ---- what is added
-
-append-append : {X : Type 0} (xs ys zs : List X) → (xs ++ ys) ++ zs ≡ xs ++ (ys ++ zs)
-append-append [] ys zs = refl
-append-append (x ∷ xs) ys zs = ap (λ us. x ∷ us) (append-append xs ys zs)
 
 pub append-none : {X : Type 0} (xs : List X) → xs ++ [] ≡ xs
 append-none [] = refl
@@ -33,15 +25,15 @@ append-none (x ∷ xs) = ap (λ ys. x ∷ ys) (append-none xs)
 
 added-last : (cs : List Change) (c : Change) → all_added (cs ++ c ∷ []) ≡ all_added cs ++ added_by c.action
 added-last [] c = append-none (added_by c.action)
-added-last (d ∷ cs) c = ap (λ b. added_by d.action ++ b) (added-last cs c) ∙ sym (append-append (added_by d.action) (all_added cs) (added_by c.action))
+added-last (d ∷ cs) c = ap (λ b. added_by d.action ++ b) (added-last cs c) ∙ sym (append_assoc (added_by d.action) (all_added cs) (added_by c.action))
 
 pub added-more : (cs : List Change) (i : ℕ) (d : Change) → i < length cs → all_added (take (i + 1) cs) ≡ all_added (take i cs) ++ added_by (get_or cs i d).action
-added-more cs i d lt = ap all_added (take-more cs i d lt) ∙ added-last (take i cs) (get_or cs i d)
+added-more cs i d lt = ap all_added (take_more cs i d lt) ∙ added-last (take i cs) (get_or cs i d)
 
 pub in-order-more : (bag : Bag) (run : List Change) (k : ℕ) (e : Contribution × ℕ) (c : Change) (d : Contribution × ℕ) (x : Change) → k < length bag → k < length run → e ≡ get_or bag k d → c ≡ get_or run k x → e ∷ [] ≡ added_by c.action
     → take k bag ≡ all_added (take k run) → take (k + 1) bag ≡ all_added (take (k + 1) run)
 in-order-more bag run k e c d x lt below at here is so_far =
-    take-more bag k d lt
+    take_more bag k d lt
     ∙ ap (λ z. take k bag ++ z ∷ []) (sym at)
     ∙ ap (λ b. b ++ e ∷ []) so_far
     ∙ ap (λ b. all_added (take k run) ++ b) (is ∙ ap (λ (z : Change). added_by z.action) here)
@@ -54,7 +46,7 @@ count-append c (e ∷ a) b = grind (arith, count-append c a b)
 
 pub added-append : (xs ys : List Change) → all_added (xs ++ ys) ≡ all_added xs ++ all_added ys
 added-append [] ys = refl
-added-append (x ∷ xs) ys = ap (λ b. added_by x.action ++ b) (added-append xs ys) ∙ sym (append-append (added_by x.action) (all_added xs) (all_added ys))
+added-append (x ∷ xs) ys = ap (λ b. added_by x.action ++ b) (added-append xs ys) ∙ sym (append_assoc (added_by x.action) (all_added xs) (all_added ys))
 
 pub count-none : (c : Contribution) → 0 ≡ count_in c []
 unfolding count_in

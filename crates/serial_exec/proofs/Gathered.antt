@@ -5,7 +5,6 @@ use Rattle.std.specs.Option.{option_map_or}
 use Rattle.std.proofs.lemmas.Bool.{cases_Bool}
 use Rattle.std.proofs.lemmas.List.Elements.{filter_map-append}
 use Rattle.std.proofs.lemmas.Option.{slice_get-get_or, slice_get_past}
-use Rattle.std.proofs.Math.Seq.{take-suc}
 use Rattle.semantics.specs.declared.places.Place.{Place}
 use Rattle.semantics.specs.declared.tables.Item.{Item}
 use Rattle.semantics.specs.declared.tables.ItemBody.TheVariants.{Task, Fill}
@@ -13,6 +12,7 @@ use Rattle.semantics.specs.declared.tables.ItemBody.{ItemBody}
 use Rattle.value_terms.specs.declared.terms.Base.TheVariants.{Const}
 use Rattle.log_tables.specs.Ascending.{body_fields}
 use Rattle.std.specs.List.Sorted.{IsStrictlyIncreasing}
+use Rattle.std.proofs.lemmas.List.{append_assoc, take_more}
 use Rattle.semantics.specs.declared.tables.Req.{Req}
 use Rattle.semantics.specs.Tables.{Tables, Space}
 use Rattle.semantics.specs.Points.{is_in, points_in}
@@ -62,20 +62,13 @@ nothing-covered on t space tree fields c old p none =
 
 -- ---- requirement by requirement
 
-append-append : {X : Type 0} (xs ys zs : List X) → (xs ++ ys) ++ zs ≡ xs ++ (ys ++ zs)
-append-append [] ys zs = refl
-append-append (x ∷ xs) ys zs = ap (λ us. x ∷ us) (append-append xs ys zs)
-
 uses-append : (t : Tables) (moment : ℕ) (act : Req → Option Action) (rs qs : List Req) (p : Place) → uses_changes t moment act (rs ++ qs) p ≡ uses_changes t moment act rs p ++ uses_changes t moment act qs p
 uses-append t moment act [] qs p = refl
-uses-append t moment act (r ∷ rs) qs p = ap (λ xs. use_changes t moment act r p ++ xs) (uses-append t moment act rs qs p) ∙ sym (append-append (use_changes t moment act r p) _ _)
-
-take-more : {X : Type 0} (xs : List X) (i : ℕ) (d : X) → i < length xs → take (i + 1) xs ≡ take i xs ++ get_or xs i d ∷ []
-take-more xs i d lt = ap (λ n. take n xs) (let e : i + 1 ≡ suc i = omega arith in e) ∙ take-suc xs i d lt
+uses-append t moment act (r ∷ rs) qs p = ap (λ xs. use_changes t moment act r p ++ xs) (uses-append t moment act rs qs p) ∙ sym (append_assoc (use_changes t moment act r p) _ _)
 
 next-reqs : (all : List Req) (own : List ℕ) (i k : ℕ) → i < length own → k ≡ get_or own i 0 → reqs_at all (take (i + 1) own) ≡ reqs_at all (take i own) ++ reqs_at all (k ∷ [])
 next-reqs all own i k lt is =
-    ap (reqs_at all) (take-more own i 0 lt ∙ ap (λ j. take i own ++ j ∷ []) (sym is))
+    ap (reqs_at all) (take_more own i 0 lt ∙ ap (λ j. take i own ++ j ∷ []) (sym is))
     ∙ filter_map-append (λ j. slice_get all j) (take i own) (k ∷ [])
 
 pub uses-one : (t : Tables) (moment : ℕ) (act : Req → Option Action) (all : List Req) (k : ℕ) (r : Req) (p : Place) → slice_get all k ≡ Some r → use_changes t moment act r p ≡ uses_changes t moment act (reqs_at all (k ∷ [])) p
@@ -91,7 +84,7 @@ pub uses-more : (t : Tables) (moment : ℕ) (act : Req → Option Action) (all :
 uses-more t moment act all own i k p old mid new lt is before after =
     after
     ∙ ap (λ xs. xs ++ uses_changes t moment act (reqs_at all (k ∷ [])) p) before
-    ∙ append-append old _ _
+    ∙ append_assoc old _ _
     ∙ ap (λ xs. old ++ xs) (sym (uses-append t moment act (reqs_at all (take i own)) (reqs_at all (k ∷ [])) p))
     ∙ ap (λ rs. old ++ uses_changes t moment act rs p) (sym (next-reqs all own i k lt is))
 
@@ -115,7 +108,7 @@ items-append t moment [] item p = sym (append-none _) ∙ ap (λ m. item_changes
 items-append t moment (x ∷ xs) item p =
     ap (λ cs. item_changes t moment x p ++ cs) (items-append t (moment + 1) xs item p)
     ∙ ap (λ m. item_changes t moment x p ++ (items_changes t (moment + 1) xs p ++ item_changes t m item p)) (let e : (moment + 1) + length xs ≡ moment + suc (length xs) = omega arith in e)
-    ∙ sym (append-append (item_changes t moment x p) _ _)
+    ∙ sym (append_assoc (item_changes t moment x p) _ _)
 
 pub items-more : (t : Tables) (order : List ℕ) (k item : ℕ) (p : Place) (mid new : List Change) → k < length order → item ≡ get_or order k 0
     → mid ≡ items_changes t 0 (take k order) p → new ≡ mid ++ item_changes t k item p → new ≡ items_changes t 0 (take (k + 1) order) p
@@ -124,7 +117,7 @@ items-more t order k item p mid new lt is before after =
     ∙ ap (λ xs. xs ++ item_changes t k item p) before
     ∙ ap (λ m. items_changes t 0 (take k order) p ++ item_changes t m item p) (let e : k ≡ 0 + length (take k order) = at_end order k lt in e)
     ∙ sym (items-append t 0 (take k order) item p)
-    ∙ ap (λ xs. items_changes t 0 xs p) (ap (λ x. take k order ++ x ∷ []) is ∙ sym (take-more order k 0 lt))
+    ∙ ap (λ xs. items_changes t 0 xs p) (ap (λ x. take k order ++ x ∷ []) is ∙ sym (take_more order k 0 lt))
   where
     at_end : (xs : List ℕ) (k : ℕ) → k < length xs → k ≡ 0 + length (take k xs)
     at_end [] k lt = absurd (omega (arith, lt))

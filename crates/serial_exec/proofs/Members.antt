@@ -1,24 +1,10 @@
 -- Numbers in lists, and in two lists.
 use Rattle.std.proofs.Common.{◌≡◌, ℕ, ◌==◌, Bool, true, false, ◌||◌, ◌&&◌, List, [], ◌∷◌, Contains, refl, sym, ap, subst, ◌∙◌, inl, inr, eq-eqb}
 use Rattle.std.proofs.lemmas.Bool.{cases_Bool, eqb-true, true≢false}
-use Rattle.std.proofs.lemmas.List.Folds.{Any-from_list_any, list_any-from_Any}
+use Rattle.std.proofs.Math.Bool.{and-false}
 use Rattle.semantics.specs.Points.{is_in}
+use Rattle.log_tables.proofs.lemmas.Members.{has_in, in_has}
 use Rattle.serial_exec.specs.Listed.{common_points}
-
--- a test for a member
-pub has_in : (xs : List ℕ) (x : ℕ) → is_in xs x ≡ true → Contains xs x
-has_in xs x h = let r = Any-from_list_any (λ m. m == x) xs h in subst (Contains xs) (eqb-true r.1 x r.4) (r.0, r.2, r.3)
-
-pub in_has : (xs : List ℕ) (x : ℕ) → Contains xs x → is_in xs x ≡ true
-in_has xs x h = list_any-from_Any (λ m. m == x) xs (h.0, x, h.1, h.2, eq-eqb x x refl)
-
-and_false : (b : Bool) → (b && false) ≡ false
-and_false true = refl
-and_false false = refl
-
-or_true : (b : Bool) → (b || true) ≡ true
-or_true true = refl
-or_true false = refl
 
 -- What is in both lists is in that of what they have in common.
 pub is_in-common : (ys xs : List ℕ) (q : ℕ) → is_in (common_points ys xs) q ≡ (is_in xs q && is_in ys q)
@@ -31,7 +17,7 @@ is_in-common ys (x ∷ xs) q = elim (cases_Bool (is_in ys x)) [
   | inr missed ↦ rw missed (elim (cases_Bool (x == q)) [
     | inl same ↦
         let no : is_in ys q ≡ false = sym (ap (is_in ys) (eqb-true x q same)) ∙ missed in
-        is_in-common ys xs q ∙ ap (λ b. is_in xs q && b) no ∙ and_false (is_in xs q) ∙ sym (rw same no)
+        is_in-common ys xs q ∙ ap (λ b. is_in xs q && b) no ∙ and-false (is_in xs q) ∙ sym (rw same no)
     | inr other ↦ rw other (is_in-common ys xs q)
   ])
 ]

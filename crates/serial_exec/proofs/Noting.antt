@@ -2,29 +2,23 @@
 use Rattle.std.proofs.Common.{◌≡◌, ℕ, ◌+◌, ◌<◌, ◌≤◌, ◌==◌, nat_lt, Bool, true, false, ◌&&◌, ◌||◌, cond, List, [], ◌∷◌, ◌++◌, take, length, get_or, Contains, Option, Some, None, refl, sym, ap, subst, ◌∙◌, inl, inr, arith}
 use Rattle.std.specs.Option.{option_map_or}
 use Rattle.std.specs.List.Sorted.{IsStrictlyIncreasing}
-use Rattle.std.proofs.lemmas.Bool.{cases_Bool, cases_eq, cases_lt, eqb-true, true≢false}
+use Rattle.std.proofs.lemmas.Bool.{cases_Bool, cases_eq, cases_lt, eqb-true, true≢false, and_left, and_right}
 use Rattle.std.proofs.lemmas.Bool.Decides.{nat_tests}
 use Rattle.std.proofs.lemmas.Grind.{common_steps}
 use Rattle.std.proofs.lemmas.List.Folds.{list_any_more}
 use Rattle.std.proofs.lemmas.List.Kept.{AllPairs-from_increasing}
+use Rattle.std.proofs.lemmas.List.{append_assoc}
 use Rattle.point_set.specs.Least.{IsLeastFrom}
 use Rattle.semantics.specs.declared.places.Place.{Place}
 use Rattle.semantics.specs.Points.{is_in}
+use Rattle.log_tables.proofs.lemmas.Members.{has_in, in_has}
 use Rattle.serial_exec.specs.declared.change.Change.{Change}
 use Rattle.serial_exec.specs.declared.change.PlaceKey.{PlaceKey}
 use Rattle.serial_exec.specs.Changes.{covered}
 use Rattle.point_laws.specs.Cut.{kept}
 use Rattle.serial_exec.specs.Listed.{is_behind, IsPoint}
 use Rattle.serial_exec.specs.Histories.{same_key, key_of}
-use Rattle.serial_exec.proofs.Members.{has_in, in_has, both_from}
-
-pub and_left : (a b : Bool) → (a && b) ≡ true → a ≡ true
-and_left true b h = refl
-and_left false b h = h
-
-pub and_right : (a b : Bool) → (a && b) ≡ true → b ≡ true
-and_right true b h = h
-and_right false b h = absurd (true≢false (sym h))
+use Rattle.serial_exec.proofs.Members.{both_from}
 
 key_of_parts : (s t p q f g : ℕ) → s ≡ t → p ≡ q → f ≡ g → (let x : PlaceKey = record { tree = s; point = p; field = f } in x) ≡ record { tree = t; point = q; field = g }
 key_of_parts s t p q f g a b c = cc
@@ -60,10 +54,6 @@ list-put items old new key k list c is longer =
           ∙ sym (ap (λ b. option_map_or items (old k) [] ++ cond b (c ∷ []) []) other)
     ]
 
-append-append : {X : Type 0} (xs ys zs : List X) → (xs ++ ys) ++ zs ≡ xs ++ (ys ++ zs)
-append-append [] ys zs = refl
-append-append (x ∷ xs) ys zs = ap (λ us. x ∷ us) (append-append xs ys zs)
-
 -- ---- field by field
 
 one_more : {X : Type 0} (c : X) (t p a f : Bool) → (a ≡ true → f ≡ false) → cond (t && ((p || false) && a)) (c ∷ []) [] ++ cond (t && (p && f)) (c ∷ []) [] ≡ cond (t && ((p || false) && (a || f))) (c ∷ []) []
@@ -93,7 +83,7 @@ pub field-noted : (c : Change) (old mid new : List Change) (tree point field : �
 field-noted c old mid new tree point field fields i p up lt is before after =
     after
     ∙ ap (λ xs. xs ++ cond ((tree == p.tree) && ((point == p.point) && (field == p.field))) (c ∷ []) []) before
-    ∙ append-append old _ _
+    ∙ append_assoc old _ _
     ∙ ap (λ f. old ++ (cond (covered tree (point ∷ []) (take i fields) p) (c ∷ []) [] ++ cond ((tree == p.tree) && ((point == p.point) && (f == p.field))) (c ∷ []) [])) is
     ∙ ap (λ xs. old ++ xs) (one_more c (tree == p.tree) (point == p.point) (is_in (take i fields) p.field) (get_or fields i 0 == p.field) (not_again fields i p.field up lt))
     ∙ ap (λ b. old ++ cond ((tree == p.tree) && (((point == p.point) || false) && b)) (c ∷ []) []) (sym (list_any_more (λ m. m == p.field) fields i 0 lt))
@@ -179,7 +169,7 @@ points-more c pts (Some y) next x tree fields old mid new is before after least 
     each p =
         after p
         ∙ ap (λ xs. xs ++ cond (covered tree (x ∷ []) fields p) (c ∷ []) []) (before.1 p)
-        ∙ append-append (old p) _ _
+        ∙ append_assoc (old p) _ _
         ∙ ap (λ z. old p ++ (cond (nat_lt p.point z && covered tree pts fields p) (c ∷ []) [] ++ cond (covered tree (x ∷ []) fields p) (c ∷ []) [])) same
         ∙ ap (λ xs. old p ++ xs) (one_point c (tree == p.tree) (is_in fields p.field) (nat_lt p.point x) (x == p.point) (is_in pts p.point) (is_behind next p.point)
         (stands pts x p.point next (subst (Contains pts) same before.0) least))
