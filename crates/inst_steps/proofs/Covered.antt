@@ -25,7 +25,7 @@ use Rattle.semantics.specs.Kinds.{reqs_of, grid}
 use Rattle.semantics.specs.Reads.{req_at}
 use Rattle.semantics.specs.Steps.{inst_at, cell_in, id_of, operator_of}
 use Rattle.semantics.specs.Rules as rules
-use Rattle.semantics.specs.Rules.{is_declared, names, space_id, lacks, is_not_covered, named_req, lacks_req}
+use Rattle.semantics.specs.Rules.{is_declared, names, space_id, lacks, is_not_covered, lacks_req}
 use Rattle.semantics.specs.declared.command.Command.TheVariants.{Check}
 use Rattle.semantics.specs.Faults.{unmapped_fault}
 use Rattle.log_decl.specs.Faultless.{AreDeclared}

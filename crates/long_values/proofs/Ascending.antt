@@ -1,11 +1,10 @@
 -- In an admitted log the places that a task reads ascend, by requirement, point and field.
-use Rattle.std.proofs.Common.{◌≡◌, ℕ, ◌<◌, ◌≤◌, ◌+◌, ◌-◌, inl, inr, Bool, true, List, [], ◌∷◌, ◌++◌, AllPairs, refl, sym, ap, ◌∙◌, subst, arith, map, flat_map, filter, find, nat_lt, zero, suc, ◌==◌}
+use Rattle.std.proofs.Common.{◌≡◌, ℕ, ◌<◌, inl, inr, Bool, true, List, [], AllPairs, refl, sym, ap, ◌∙◌, arith, map, filter, find, ◌==◌}
 use Rattle.std.specs.List.{AllByRecursion}
-use Rattle.std.proofs.lemmas.Bool.{and_parts, ltb-true, eqb-true}
+use Rattle.std.proofs.lemmas.Bool.{eqb-true}
 use Rattle.std.proofs.lemmas.Bool.Decides.{nat_tests}
 use Rattle.std.proofs.lemmas.List.Kept.{AllPairs-filter}
 use Rattle.spy_words.specs.Classes as classes
-use Rattle.spy_words.specs.Classes.{IsGood}
 use Rattle.spy_grammar.specs.declared.record.Record.{Record}
 use Rattle.spy_grammar.specs.declared.record.Record.TheVariants as records
 use Rattle.spy_grammar.specs.declared.record.Lined.{Lined}
@@ -14,12 +13,12 @@ use Rattle.privilege.specs.Allowed.{may_read}
 use Rattle.semantics.specs.declared.places.Place.{Place}
 use Rattle.semantics.specs.declared.tables.Req.{Req}
 use Rattle.semantics.specs.Records.{records_of}
-use Rattle.semantics.specs.Tables.{Tables, Space, with_record, tables_of, points_of}
+use Rattle.semantics.specs.Tables.{Tables, Space, with_record, tables_of}
 use Rattle.semantics.specs.Points.{points_in}
 use Rattle.semantics.specs.Kinds.{req_grid, reqs_of, comes_first}
 use Rattle.semantics.specs.declared.command.Command.{Command}
 use Rattle.log_laws.proofs.lemmas.Members.{Member, Each, each_more, member_map, member_filter, found_at, none_or_some}
-use Rattle.log_laws.proofs.lemmas.Apart.{PairsBy, Rise, all_pairs, pairs_from, pairs_map, pairs_so, pairs_flat, number_between, fields_rise, points_rise}
+use Rattle.log_laws.proofs.lemmas.Apart.{PairsBy, Rise, all_pairs, pairs_from, pairs_map, pairs_so, pairs_flat, fields_rise, points_rise}
 use Rattle.log_laws.proofs.lemmas.Sane.{AreSane}
 use Rattle.log_laws.proofs.lemmas.Admitted.{IsFaultless, by_records, sane}
 use Rattle.long_values.specs.LongSequential.{places_of, places_read}

@@ -1,4 +1,4 @@
-use Rattle.std.proofs.Common.{sym, subst}
+use Rattle.std.proofs.Common.{subst}
 use Rattle.std.proofs.lemmas.Result.{IfOk-weaker}
 use Rattle.findings.specs.declared.finding.Finding.{Finding}
 use Rattle.semantics.specs.declared.command.Command.TheVariants.{Check}
