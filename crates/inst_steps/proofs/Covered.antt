@@ -3,7 +3,7 @@ use Rattle.std.proofs.Common.{◌≡◌, ℕ, ◌==◌, ◌&&◌, ◌||◌, cond
 use Rattle.std.specs.Prelude.{IfSome}
 use Rattle.std.specs.List.{list_all}
 use Rattle.std.specs.Option.{option_map_or}
-use Rattle.std.proofs.lemmas.Bool.{not-false, false≢true, true≢false, or_parts, eqb-true, and_left, and_right}
+use Rattle.std.proofs.lemmas.Bool.{not-false, false≢true, true≢false, or_parts, eqb-true, and_parts}
 use Rattle.std.proofs.lemmas.List.Elements.{recursion_from_All}
 use Rattle.privilege.specs.declared.kinds.Priv.{Priv}
 use Rattle.privilege.specs.declared.kinds.Priv.TheVariants as privileges
@@ -127,7 +127,7 @@ within t h space fields id known none = elim (none_or_some (inst_at t id)) [
       let own = h.insts i (found_at (λ (i : Inst). i.id == id) t.insts i some.1).0 in
       let both : (is_within (points_in t space) (points_in t i.space) && is_within fields i.fields) ≡ true =
       sym (ap (λ o. option_map_or (λ (i : Inst). is_within (points_in t space) (points_in t i.space) && is_within fields i.fields) o false) some.1) ∙ not-false _ none in
-      let points = and_left (is_within (points_in t space) (points_in t i.space)) (is_within fields i.fields) both in
+      let points = (and_parts (is_within (points_in t space) (points_in t i.space)) (is_within fields i.fields) both).0 in
       record {
         s = known.0;
         in_space = known.1;
@@ -136,7 +136,7 @@ within t h space fields id known none = elim (none_or_some (inst_at t id)) [
         si = own.0;
         of_inst = own.1;
         points = sym (ap₂ (λ o p. is_within (option_map_or (λ (s : Space). s.points) o []) (option_map_or (λ (s : Space). s.points) p [])) known.1 own.1) ∙ points;
-        covered = and_right (is_within (points_in t space) (points_in t i.space)) (is_within fields i.fields) both;
+        covered = (and_parts (is_within (points_in t space) (points_in t i.space)) (is_within fields i.fields) both).1;
       }
 ]
 
@@ -247,10 +247,10 @@ module _ (log : List Lined) (f : IsFaultless Check log) (listed : Option (List �
         | inr some ↦
             let m = some.0 in
             let at = found_at test t.maps m some.1 in
-            let rest = and_right (m.item == r.item) ((m.number == r.number) && is_in m.fields q.1) at.1 in
-            let item = eqb-true m.item r.item (and_left (m.item == r.item) ((m.number == r.number) && is_in m.fields q.1) at.1) in
-            let number = eqb-true m.number r.number (and_left (m.number == r.number) (is_in m.fields q.1) rest) in
-            let in_fields = member_in m.fields q.1 (and_right (m.number == r.number) (is_in m.fields q.1) rest) in
+            let rest = (and_parts (m.item == r.item) ((m.number == r.number) && is_in m.fields q.1) at.1).1 in
+            let item = eqb-true m.item r.item (and_parts (m.item == r.item) ((m.number == r.number) && is_in m.fields q.1) at.1).0 in
+            let number = eqb-true m.number r.number (and_parts (m.number == r.number) (is_in m.fields q.1) rest).0 in
+            let in_fields = member_in m.fields q.1 (and_parts (m.number == r.number) (is_in m.fields q.1) rest).1 in
             let n = (covers log f).maps m at.0 in
             let same = one_req log f n.0 r m n.1 own item number in
             rw some.1 (held t listed n.0.space m.fields m.inst n.2 q (subst (λ (r : Req). Member (kept listed (points_in t r.space)) q.0) (sym same) point) in_fields)
@@ -259,8 +259,8 @@ module _ (log : List Lined) (f : IsFaultless Check log) (listed : Option (List �
       one_req : (log : List Lined) (f : IsFaultless Check log) (q r : Req) (m : Map) → req_at (tables_of log) m.item m.number ≡ Some q → Member (tables_of log).reqs r → m.item ≡ r.item → m.number ≡ r.number → q ≡ r
       one_req log f q r m found own item number =
           let at = found_at (λ (q : Req). (q.item == m.item) && (q.number == m.number)) (tables_of log).reqs q found in
-          let i = eqb-true q.item m.item (and_left (q.item == m.item) (q.number == m.number) at.1) in
-          let n = eqb-true q.number m.number (and_right (q.item == m.item) (q.number == m.number) at.1) in
+          let i = eqb-true q.item m.item (and_parts (q.item == m.item) (q.number == m.number) at.1).0 in
+          let n = eqb-true q.number m.number (and_parts (q.item == m.item) (q.number == m.number) at.1).1 in
           elim (two_reqs (tables_of log) (sane Check log f) q r at.0 own (i ∙ item)) [ inl is ↦ is | inr apart ↦ absurd (apart.0 (n ∙ number)) ]
 
   read_held : (task : ℕ) (r : Req) → Member (tables_of log).reqs r → (a : Priv) → r.access ≡ a → (p : Pass) → pass_for r (reading (tables_of log) task r) ≡ Some p → Held (tables_of log) listed p.act p.space p.fields

@@ -2,7 +2,7 @@
 use Rattle.std.proofs.Common.{◌≡◌, ℕ, ◌+◌, ◌≤◌, ◌==◌, ◌&&◌, nat_eq, Bool, true, false, cond, is_some, List, filter, Some, None, refl, sym, ap, ap₂, ◌∙◌, inl, inr, arith}
 use Rattle.std.specs.Prelude.{unwrap_or}
 use Rattle.std.specs.FinMap.{get, insert, contains_key}
-use Rattle.std.proofs.lemmas.Bool.{cases_Bool, true≢false, false≢true, false_from_ne_true, eqb-true, and_left, and_right}
+use Rattle.std.proofs.lemmas.Bool.{cases_Bool, true≢false, false≢true, false_from_ne_true, eqb-true, and_parts}
 use Rattle.value_terms.specs.declared.terms.Base.TheVariants.{Raw}
 use Rattle.value_terms.specs.Values.{Value, plain, add_one, fold_in, weight_of}
 use Rattle.value_terms.proofs.lemmas.Sums.{weight_added, weight_folded}
@@ -33,10 +33,10 @@ get_at m c v q = get_put m c v q ∙ ap (λ b. cond b (Some v) (get m q)) (three
 one_cell : (a b : Cell) → same_cell a b ≡ true → a ≡ b
 unfolding same_cell
 one_cell a b e =
-    let i = and_left (a.inst == b.inst && a.point == b.point) (a.field == b.field) e in
-    let f = and_right (a.inst == b.inst && a.point == b.point) (a.field == b.field) e in
-    let n = eqb-true a.inst b.inst (and_left (a.inst == b.inst) (a.point == b.point) i) in
-    let p = eqb-true a.point b.point (and_right (a.inst == b.inst) (a.point == b.point) i) in
+    let i = (and_parts (a.inst == b.inst && a.point == b.point) (a.field == b.field) e).0 in
+    let f = (and_parts (a.inst == b.inst && a.point == b.point) (a.field == b.field) e).1 in
+    let n = eqb-true a.inst b.inst (and_parts (a.inst == b.inst) (a.point == b.point) i).0 in
+    let p = eqb-true a.point b.point (and_parts (a.inst == b.inst) (a.point == b.point) i).1 in
     λ k. record { inst = n k; point = p k; field = eqb-true a.field b.field f k }
 
 kept_cells : (m : Contents) (cell : Cell) (v : Value) (c : Cell) → contains_key m cell ≡ true → contains_key (insert m cell v) c ≡ contains_key m c

@@ -2,7 +2,7 @@
 use Rattle.std.proofs.Common.{◌≡◌, ℕ, ◌+◌, ◌<◌, ◌≤◌, ◌==◌, nat_lt, Bool, true, false, ◌&&◌, ◌||◌, cond, List, [], ◌∷◌, ◌++◌, take, length, get_or, Contains, Option, Some, None, refl, sym, ap, subst, ◌∙◌, inl, inr, arith}
 use Rattle.std.specs.Option.{option_map_or}
 use Rattle.std.specs.List.Sorted.{IsStrictlyIncreasing}
-use Rattle.std.proofs.lemmas.Bool.{cases_Bool, cases_eq, cases_lt, eqb-true, true≢false, and_left, and_right}
+use Rattle.std.proofs.lemmas.Bool.{cases_Bool, cases_eq, cases_lt, eqb-true, true≢false, and_parts}
 use Rattle.std.proofs.lemmas.Bool.Decides.{nat_tests}
 use Rattle.std.proofs.lemmas.Grind.{common_steps}
 use Rattle.std.proofs.lemmas.List.Folds.{list_any_more}
@@ -26,11 +26,11 @@ key_of_parts s t p q f g a b c = cc
 pub same_key-true : (j k : PlaceKey) → same_key j k ≡ true → j ≡ k
 same_key-true j k h =
     let point = (j.point == k.point) && (j.field == k.field) in
-    let rest = and_right (j.tree == k.tree) point h in
+    let rest = (and_parts (j.tree == k.tree) point h).1 in
     key_of_parts j.tree k.tree j.point k.point j.field k.field
-    (eqb-true j.tree k.tree (and_left (j.tree == k.tree) point h))
-    (eqb-true j.point k.point (and_left (j.point == k.point) (j.field == k.field) rest))
-    (eqb-true j.field k.field (and_right (j.point == k.point) (j.field == k.field) rest))
+    (eqb-true j.tree k.tree (and_parts (j.tree == k.tree) point h).0)
+    (eqb-true j.point k.point (and_parts (j.point == k.point) (j.field == k.field) rest).0)
+    (eqb-true j.field k.field (and_parts (j.point == k.point) (j.field == k.field) rest).1)
 
 pub append-none : {X : Type 0} (xs : List X) → xs ≡ xs ++ []
 append-none [] = refl
