@@ -1,4 +1,4 @@
-use Rattle.std.proofs.Common.{Err, ap, sym, subst}
+use Rattle.std.proofs.Common.{◌≡◌, Err, ap, sym, subst}
 use Rattle.spy_cli.specs.Answers.{IsAnswer}
 use Rattle.spy_cli.specs.declared.report.Report.{Report}
 use Rattle.spy_cli.proofs.Reports.{too_long_told}

@@ -15,7 +15,7 @@ pub loop-lined-preserved : goal.loop-lined-preserved
 loop-lined-preserved c =
     let here = slice_get_read c.args.records.now _ c.loop-lined.lined-index c.lined-item.result refl c.loop-lined-test.true c.lined-item.is in
     let more = one_more c.args.records.now c.loop-lined.lined-index c.lined-item.result here in
-    c.in_ok-with_line.ensures
+    c.in_ok-text.ensures
     ∙ append_assoc c.loop-lined.text.items (spelling c.lined-item.result.rec) (10 ∷ [])
     ∙ ap (λ t. t ++ text_of (records_of (c.lined-item.result ∷ []))) c.loop-lined.invariant
     ∙ sym (text_more (take c.loop-lined.lined-index c.args.records.now) c.lined-item.result)
