@@ -1,8 +1,15 @@
 -- Parts of worked long values.
-use Rattle.std.specs.Prelude.{⊤, ℕ}
+use Rattle.std.specs.Prelude.{⊤, ℕ, List, Option, slice_get}
+use Rattle.spy_grammar.specs.declared.record.Record.{Record}
 use Rattle.value_terms.specs.WorkedValues.{from_first, from_second}
+use Rattle.semantics.specs.Records.{lined}
+use Rattle.semantics.specs.Tables.{tables_of}
+use Rattle.semantics.specs.Reads.{replay_steps}
 use Rattle.semantics.specs.Computed.{logs_computed}
+use Rattle.long_values.specs.LongSequential.{LongRead}
+use Rattle.long_values.specs.LongExecution.{executed_long, start_long}
 use Rattle.long_values.specs.LongValues.{Long, init, out, added, Readings, no_reads, reading, add_long, fold_long}
+use Rattle.worked_logs.specs.WorkedLogs.{first_place}
 
 -- What a proof unfolds to compute with long values that are written out.
 unfoldable pub long_values_computed : ⊤
@@ -34,3 +41,12 @@ unread = no_reads
 
 abbrev pub read_first : Readings
 read_first = first_seen 0 no_reads
+
+-- The read at this position in the replay of a log.
+abbrev pub replayed_read : List Record → ℕ → Option LongRead
+replayed_read log k =
+    slice_get (executed_long (tables_of (lined log)) (replay_steps (tables_of (lined log))) (start_long (tables_of (lined log)))).reads k
+
+-- The third task reads this at the first place.
+abbrev pub third_reads : Long → LongRead
+third_reads value = record { task = 3; req = 1; place = first_place; value = value }

@@ -26,8 +26,10 @@ pub fn worked_meanings()
     // Faults.
     ensures none { log_fault Check 14 (lined accepted) ≡ None }
     ensures no_record { log_fault Check 0 [] ≡ Some (at_line codes.Header 1) }
-    ensures no_end { log_fault Check 13 (lined (one_instance Wd (records.Run 1 1 [] ∷ records.Run 2 2 one ∷ []))) ≡ Some (at_line codes.Ended 14) }
-    ensures count { log_fault Check 14 (lined (one_instance Wd (records.Run 1 1 [] ∷ records.Run 2 2 one ∷ records.End 11 ∷ []))) ≡ Some (at_line codes.Count 14) }
+    ensures no_end { log_fault Check 13 (lined (one_instance Wd (records.Run 1 1 [] ∷ records.Run 2 2 one ∷ [])))
+        ≡ Some (at_line codes.Ended 14) }
+    ensures count { log_fault Check 14 (lined (one_instance Wd (records.Run 1 1 [] ∷ records.Run 2 2 one ∷ records.End 11 ∷ [])))
+        ≡ Some (at_line codes.Count 14) }
     ensures not_mapped { log_fault Check 11 (lined unmapped) ≡ Some (at_line codes.Unmapped 6) }
     ensures mapping_is_of_check { log_fault Ordered 11 (lined unmapped) ≡ None }
     ensures not_disjoint { log_fault Check 8 (lined (overlapping true)) ≡ Some (at_line codes.NotDisjoint 7) }
