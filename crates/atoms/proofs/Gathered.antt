@@ -18,14 +18,6 @@ pub record AreAdded (points : List ℕ) (old new : List Edge) (from : ℕ) : Typ
   pub sound : (e : Edge) → Contains new e → Contains old e ⊎ IsEdgeOf points e
   pub whole : (p : ℕ) → Contains points p → p < from → HasEdges points new p
 
-pub none_added : (points : List ℕ) (edges : List Edge) → AreAdded points edges edges 0
-none_added points edges = record {
-  outside = λ _. refl;
-  kept = λ e h. h;
-  sound = λ e h. inl h;
-  whole = λ p h lt. absurd (omega arith);
-}
-
 -- what is in a list stays in one with more
 pub has_still : (points : List ℕ) (old new : List Edge) → ((e : Edge) → Contains old e → Contains new e) → (p : ℕ) → HasEdges points old p → HasEdges points new p
 has_still points old new kept p h = record {
@@ -108,9 +100,6 @@ added_last points old new from run fits h is full =
 pub record AreGathered {X : Type 0} (seen : X → Space) (all passed : List X) (edges : List Edge) : Type 0 where
   pub sound : (e : Edge) → Contains edges e → Any (λ x. IsEdgeOf (seen x).points e) all
   pub whole : All (λ x. (p : ℕ) → Contains (seen x).points p → HasEdges (seen x).points edges p) passed
-
-pub none_gathered : {X : Type 0} (seen : X → Space) (all : List X) → AreGathered seen all [] []
-none_gathered seen all = record { sound = λ e h. absurd (omega (arith, h.1)); whole = λ k d lt. absurd (omega arith) }
 
 pub gathered_more : {X : Type 0} (seen : X → Space) (all : List X) (old new : List Edge) (i : ℕ) (x : X) → i < length all → x ≡ get_or all i x → AreGathered seen all (take i all) old → AddsEdges (seen x).points old new → AreGathered seen all (take (i + 1) all) new
 gathered_more {X} seen all old new i x lt at h adds =

@@ -1,6 +1,6 @@
 -- What is done at one cell, among all touches in order.
-use Rattle.std.proofs.Common.{◌≡◌, ℕ, ◌&&◌, ◌||◌, ◌<◌, ◌≤◌, ◌⊎◌, inl, inr, Bool, true, false, nat_lt, List, [], ◌∷◌, ◌++◌, Some, None, All, refl, sym, ap, ◌∙◌, subst, arith, map, length, slice_index}
-use Rattle.std.proofs.lemmas.Bool.{true≢false}
+use Rattle.std.proofs.Common.{◌≡◌, ℕ, ◌&&◌, ◌<◌, ◌≤◌, ◌⊎◌, inl, inr, Bool, true, false, nat_lt, List, [], ◌∷◌, ◌++◌, Some, None, All, refl, sym, ap, ◌∙◌, subst, arith, map, length, slice_index}
+use Rattle.std.proofs.lemmas.Bool.{or_parts, ltb-false}
 use Rattle.std.proofs.lemmas.Bool.Decides.{nat_tests}
 use Rattle.std.proofs.lemmas.List.{append-nil}
 use Rattle.semantics.specs.declared.places.Cell.{Cell}
@@ -37,18 +37,11 @@ field_is a b e f = grind (arith, nat_tests, inst_is a b, point_is a b)
 neither_first : (a b : Cell) → comes_first (key a) (key b) ≡ false → comes_first (key b) (key a) ≡ false → a ≡ b
 neither_first a b e f = rw (inst_is a b e f, point_is a b e f, field_is a b e f) refl
 
-or_false : (a b : Bool) → (a || b) ≡ false → (a ≡ false) × (b ≡ false)
-or_false true b e = absurd (true≢false e)
-or_false false b e = (refl, e)
-
-not_less : (m n : ℕ) → nat_lt m n ≡ false → n ≤ m
-not_less m n e = grind (arith, nat_tests)
-
 -- No later touch of a cell is by an earlier node.
 place_after : (x y : Touch) → x.cell ≡ y.cell → comes_before y x ≡ false → x.place ≤ y.place
 place_after x y same e =
     let at : same_cell y.cell x.cell ≡ true = rw same (same_itself y.cell) in
-    not_less y.place x.place (sym (ap (λ b. b && nat_lt y.place x.place) at) ∙ (or_false _ (same_cell y.cell x.cell && nat_lt y.place x.place) e).1)
+    ltb-false y.place x.place (sym (ap (λ b. b && nat_lt y.place x.place) at) ∙ (or_parts _ (same_cell y.cell x.cell && nat_lt y.place x.place) e).1)
 
 -- ---- the touches of one cell, those before and those after them
 
@@ -75,8 +68,8 @@ gone : (r : Touch) (back : List Touch) → ((y : Touch) → Member back y → No
 gone r [] after o begins y m at = absurd m
 gone r (e ∷ back) after o begins y (inl here) at = begins (ap (λ (x : Touch). x.cell) (sym here) ∙ at)
 gone r (e ∷ back) after o begins y (inr later) at =
-    begins (neither_first e.cell r.cell (or_false _ (same_cell e.cell r.cell && nat_lt e.place r.place) (after e (inl refl))).0
-    (subst (λ c. comes_first (key c) (key e.cell) ≡ false) at (or_false _ (same_cell y.cell e.cell && nat_lt y.place e.place) (o.0 y later)).0))
+    begins (neither_first e.cell r.cell (or_parts _ (same_cell e.cell r.cell && nat_lt e.place r.place) (after e (inl refl))).0
+    (subst (λ c. comes_first (key c) (key e.cell) ≡ false) at (or_parts _ (same_cell y.cell e.cell && nat_lt y.place e.place) (o.0 y later)).0))
 
 pub cell_of : (front : List Touch) (r : Touch) (here back : List Touch) → Ordered NotAfter (front ++ ((r ∷ here) ++ back)) → IsApart front ((r ∷ here) ++ back)
     → ((x : Touch) → Member (r ∷ here) x → x.cell ≡ r.cell) → BeginsElsewhere r.cell back → IsCellOf r.cell front (r ∷ here) back
@@ -91,7 +84,7 @@ cell_of front r here back o apart at begins =
       far = λ x y m n e. apart x y m (member_right (r ∷ here) back y n) e;
       least = λ x m. elim m [
         | inl in_here ↦ rw (at x in_here) (not_itself r.cell)
-        | inr in_back ↦ (or_false _ (same_cell x.cell r.cell && nat_lt x.place r.place) (after x in_back)).0
+        | inr in_back ↦ (or_parts _ (same_cell x.cell r.cell && nat_lt x.place r.place) (after x in_back)).0
       ];
     }
 

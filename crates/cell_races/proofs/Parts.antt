@@ -1,7 +1,7 @@
 -- The touches of one cell, as a part of all touches.
-use Rattle.std.proofs.Common.{◌≡◌, ℕ, suc, ◌+◌, ◌-◌, ◌<◌, ◌≤◌, inl, inr, List, [], ◌∷◌, ◌++◌, Some, None, All, refl, sym, ap, ◌∙◌, subst, arith, take, drop, get_or, length, append_assoc, slice_index, zero, min, Bool, true}
+use Rattle.std.proofs.Common.{◌≡◌, ℕ, suc, ◌+◌, ◌-◌, ◌<◌, ◌≤◌, inl, inr, List, [], ◌∷◌, ◌++◌, Some, None, All, refl, sym, ap, ◌∙◌, subst, arith, take, drop, get_or, length, append_assoc, slice_index, min, Bool, true}
 use Rattle.std.proofs.lemmas.Bool.{cases_lt}
-use Rattle.std.proofs.lemmas.List.{take-append-drop, drop-drop, drop_more, drop_all, take_at, length-take, length-drop, length-append, get_or-take, get_or-drop}
+use Rattle.std.proofs.lemmas.List.{take-append-drop, drop-drop, drop_more, drop_all, take_at, length-take, length-drop, length-append, get_or-take, get_or-drop, get_or_default}
 use Rattle.std.proofs.lemmas.List.Elements.{All-take}
 use Rattle.std.proofs.lemmas.List.Elements.{All-drop}
 use Rattle.cell_races.specs.declared.touches.Touch.{Touch}
@@ -45,12 +45,7 @@ module _ (touches : List Touch) (from end : ℕ) (behind : from < end) (within :
     rest = take (end - (from + 1)) (drop (from + 1) touches)
 
     same_first : (e : Touch) → get_or touches from e ≡ first
-    same_first e = same_at touches from e d (omega (arith, behind, within))
-      where
-        same_at : (xs : List Touch) (k : ℕ) (a b : Touch) → k < length xs → get_or xs k a ≡ get_or xs k b
-        same_at [] k a b lt = absurd (omega (arith, lt))
-        same_at (x ∷ xs) zero a b lt = refl
-        same_at (x ∷ xs) (suc k) a b lt = same_at xs k a b (omega (arith, lt))
+    same_first e = get_or_default touches from e d (omega (arith, behind, within))
 
     at : (x : Touch) → Member run x → x.cell ≡ first.cell
     at x m =

@@ -1,5 +1,5 @@
 -- Orders of numbers, and the places in them.
-use Rattle.std.proofs.Common.{◌≡◌, ◌≢◌, ℕ, ◌+◌, ◌<◌, ◌==◌, List, length, get_or, Some, slice_get, Contains, All, AllPairs, arith, refl, sym, ap, ◌∙◌, subst, inl, inr}
+use Rattle.std.proofs.Common.{◌≡◌, ◌≢◌, ℕ, ◌<◌, ◌==◌, List, length, get_or, Some, slice_get, Contains, All, AllPairs, arith, refl, sym, ap, ◌∙◌, subst, inl, inr, zero-add}
 use Rattle.std.proofs.lemmas.Bool.{eq-eqb, ne_eqb, eqb-true}
 use Rattle.std.specs.List.{position_from}
 use Rattle.std.proofs.lemmas.List.{get_or_default}
@@ -64,8 +64,5 @@ found_place nodes places h n = elim (none_or_some (slice_get places n)) [
       let at = h.there some.0 n some.1 in
       some.1 ∙ sym (finds (λ m. m == n) 0 nodes some.0 n at (eq-eqb n n refl) (λ q m lt is. ne_eqb m n (λ same.
       let again = h.back q n (is ∙ ap (λ k. Some k) same) in
-      let bad = same_Some q some.0 (sym again ∙ some.1) in omega (arith, lt, bad))) ∙ ap (λ k. Some k) (zero_plus some.0))
+      let bad = same_Some q some.0 (sym again ∙ some.1) in omega (arith, lt, bad))) ∙ ap (λ k. Some k) (zero-add some.0))
 ]
-  where
-    zero_plus : (k : ℕ) → 0 + k ≡ k
-    zero_plus k = omega arith

@@ -6,6 +6,7 @@ use Rattle.std.proofs.lemmas.Bool.Decides.{nat_tests}
 use Rattle.std.proofs.lemmas.List.Folds.{list_any-append}
 use Rattle.std.proofs.lemmas.List.{length-map, get_or_past}
 use Rattle.std.proofs.lemmas.Option.{gets, slice_get_cases, slice_get_within, slice_get-map, get_or_from_slice_get}
+use Rattle.std.proofs.Math.Bool.{or-false}
 use Rattle.semantics.specs.Points.{is_in}
 use Rattle.semantics.specs.Events.{Node}
 use Rattle.semantics.specs.ReplayOrder.{positions, waits_at, has_event, is_ready, after_rounds}
@@ -58,12 +59,8 @@ fresh nodes apart taken k n at out = false_from_ne_true (is_met nodes taken n.do
     one_place : (i : ℕ) → has_event nodes n.done i ≡ true → i ≡ k
     one_place i has = grind (arith, nat_tests, gets, slice_get_cases nodes i, apart i k n, apart k i n)
 
-or_nothing : (b : Bool) → (b || false) ≡ b
-or_nothing true = refl
-or_nothing false = refl
-
 met_more : (nodes : List Node) (taken : List ℕ) (k : ℕ) (n : Node) (e : ℕ) → slice_get nodes k ≡ Some n → is_met nodes (taken ++ k ∷ []) e ≡ (is_met nodes taken e || (n.done == e))
-met_more nodes taken k n e at = list_any-append (has_event nodes e) taken (k ∷ []) ∙ rw at (ap (λ b. is_met nodes taken e || b) (or_nothing (n.done == e)))
+met_more nodes taken k n e at = list_any-append (has_event nodes e) taken (k ∷ []) ∙ rw at (ap (λ b. is_met nodes taken e || b) (or-false (n.done == e)))
 
 pub unmet_more : (nodes : List Node) (taken : List ℕ) (k : ℕ) (n : Node) → slice_get nodes k ≡ Some n → is_met nodes taken n.done ≡ false → (ws : List ℕ) → unmet nodes (taken ++ k ∷ []) ws + times n.done ws ≡ unmet nodes taken ws
 unmet_more nodes taken k n at new [] = omega arith
@@ -120,7 +117,7 @@ module _ {nodes : List Node} (apart : AllPairs (λ (m : Node) (n : Node). m.done
   enough s = omega (arith, left s, h.counts s)
 
   in_more : (q : ℕ) → is_in (taken ++ k ∷ []) q ≡ (is_in taken q || (k == q))
-  in_more q = list_any-append (λ m. m == q) taken (k ∷ []) ∙ ap (λ b. is_in taken q || b) (or_nothing (k == q))
+  in_more q = list_any-append (λ m. m == q) taken (k ∷ []) ∙ ap (λ b. is_in taken q || b) (or-false (k == q))
 
   module _ (after : List ℕ) (counts : (s : ℕ) → get_or after s 0 + times s (get_or waiters k []) ≡ get_or pending s 0)
       (rest next : ℕ → Bool) (popped : (q : ℕ) → rest q ≡ (ready q && not (k == q))) (queue : (q : ℕ) → next q ≡ (rest q || (not (get_or pending q 0 == 0) && (get_or after q 0 == 0)))) where

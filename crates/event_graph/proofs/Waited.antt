@@ -1,5 +1,5 @@
 -- What a node waits on.
-use Rattle.std.proofs.Common.{◌≡◌, ℕ, ◌<◌, ◌≤◌, arith, true, List, [], length, get_or, Option, Some, None, is_some, IsSome, slice_get, Contains, All, ◌↔◌, refl, sym, ap, ◌∙◌, subst, inl, inr}
+use Rattle.std.proofs.Common.{◌≡◌, ℕ, ◌<◌, ◌≤◌, arith, true, List, [], length, get_or, Option, Some, is_some, slice_get, Contains, All, ◌↔◌, refl, sym, ap, ◌∙◌, subst, inl, inr}
 use Rattle.std.proofs.lemmas.List.{get_or_default}
 use Rattle.std.proofs.lemmas.List.Elements.{Contains-get_or}
 use Rattle.std.proofs.lemmas.Option.{same_Some, slice_get-get_or, slice_get_within, get_or_from_slice_get}
@@ -61,7 +61,3 @@ wait_found nodes place h node k on events is lt at = record {
   listed = rw (← is) (slice_get-get_or events k 0 lt);
   done = h.places.found (get_or events k 0) on at;
 }
-
-pub known_some : (o : Option ℕ) → is_some o ≡ true → IsSome o
-known_some None e = absurd cc
-known_some (Some p) e = refl

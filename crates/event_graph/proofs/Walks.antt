@@ -10,6 +10,7 @@ use Rattle.semantics.specs.ReplayOrder.{positions, waits_at, done_at, has_event,
 use Rattle.log_laws.proofs.lemmas.Members.{none_or_some, member_of}
 use Rattle.log_laws.proofs.lemmas.Rounds.{replay, taken_within}
 use Rattle.std.proofs.lemmas.List.Elements.{Contains-get_or}
+use Rattle.std.proofs.Math.Bool.{or_comm}
 use Rattle.event_graph.specs.EventPlaces.{is_place, ArePlaces}
 use Rattle.event_graph.specs.Marked.{AreMarked}
 use Rattle.event_graph.proofs.Taking.{find_least, find_nothing}
@@ -100,14 +101,8 @@ walk_back nodes n m walked k is old = rw (is, add-one m, old) refl
 pub marked_more : (marks more : List Bool) (count : ℕ) (ks : List ℕ) (k : ℕ) → AreMarked marks count ks → length more ≡ length marks → ((j : ℕ) → j < length marks → get_or more j false ≡ (get_or marks j false || (k == j))) → AreMarked more count (k ∷ ks)
 marked_more marks more count ks k h each is = record {
   each = each ∙ h.each;
-  marked = λ j lt. is j (omega (arith, lt, h.each)) ∙ (ap (λ b. b || (k == j)) (h.marked j lt) ∙ or_turned (is_in ks j) (k == j));
+  marked = λ j lt. is j (omega (arith, lt, h.each)) ∙ (ap (λ b. b || (k == j)) (h.marked j lt) ∙ or_comm (is_in ks j) (k == j));
 }
-  where
-    or_turned : (a b : Bool) → (a || b) ≡ (b || a)
-    or_turned true true = refl
-    or_turned true false = refl
-    or_turned false true = refl
-    or_turned false false = refl
 
 pub order_within : (nodes : List Node) → All (λ k. k < length nodes) (replay_order nodes)
 order_within nodes i d lt = taken_within (replay nodes).taken (get_or (replay_order nodes) i d) (member_of (replay_order nodes) (get_or (replay_order nodes) i d) (Contains-get_or (replay_order nodes) i d lt))

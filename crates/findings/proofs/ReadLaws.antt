@@ -1,5 +1,5 @@
 -- What is read of the text of a report is that report.
-use Rattle.std.proofs.Common.{◌≡◌, ℕ, ◌-◌, ◌<◌, ◌≤◌, ltb, eqb, Bool, true, false, cond, List, [], ◌∷◌, ◌++◌, map, length, take, get_or, codes, refl, sym, ap, subst, ◌∙◌, arith, append-nil, length-append, ◌≢◌}
+use Rattle.std.proofs.Common.{◌≡◌, ℕ, ◌-◌, ◌<◌, ◌≤◌, ltb, eqb, Bool, true, false, cond, List, [], ◌∷◌, ◌++◌, map, length, take, get_or, codes, refl, sym, ap, ◌∙◌, arith, append-nil, length-append}
 use Rattle.std.specs.Prelude.{decimal}
 use Rattle.std.specs.List.{AllByRecursion, list_all}
 use Rattle.std.specs.Str.{bytes_eq}
@@ -10,6 +10,7 @@ use Rattle.std.proofs.lemmas.Fmt.{digits_decimal}
 use Rattle.std.proofs.lemmas.List.{length-map, take-map}
 use Rattle.std.proofs.lemmas.List.Elements.{All-from_recursion}
 use Rattle.std.proofs.lemmas.List.Splits.{slice_split_none, slice_split_at}
+use Rattle.std.proofs.Math.Seq.{take-append_seam}
 use Rattle.spy_grammar.specs.declared.code.Code.{Code}
 use Rattle.spy_grammar.specs.declared.code.Code.TheVariants.{TooLong}
 use Rattle.spy_words.specs.Reading.{parts}
@@ -159,10 +160,6 @@ report_again sums CannotRead fits = refl
 
 -- ---- reports
 
-front : (xs ys : List (List ℕ)) → take (length xs) (xs ++ ys) ≡ xs
-front [] ys = refl
-front (x ∷ xs) ys = ap (λ (zs : List (List ℕ)). x ∷ zs) (front xs ys)
-
 behind : (xs : List (List ℕ)) (y : List ℕ) (ys : List (List ℕ)) → get_or (xs ++ y ∷ ys) (length xs) [] ≡ y
 behind [] y ys = refl
 behind (x ∷ xs) y ys = behind xs y ys
@@ -187,17 +184,11 @@ read_again sums f good =
     let last = line_text (last_line f) in
     let parted : parts 10 (lines_text (lines_of f)) ≡ lines ++ last ∷ [] ∷ [] = lines_parted (lines_of f) all.0 ∙ ends (map dep_line (deps_of f)) (last_line f) in
     let place : last_place (lines ++ last ∷ [] ∷ []) ≡ length lines = omega (arith, length-append lines (last ∷ [] ∷ [])) in
-    ap report_in parted ∙ rw (place, front lines (last ∷ [] ∷ []), behind lines last ([] ∷ []), deps_again (deps_of f) all.1, line_parted (last_line f) (last_plain f all.2)) (report_again sums f all.2)
+    ap report_in parted ∙ rw (place, take-append_seam lines (last ∷ [] ∷ []), behind lines last ([] ∷ []), deps_again (deps_of f) all.1, line_parted (last_line f) (last_plain f all.2)) (report_again sums f all.2)
 
 -- Every report is what its text says.
 abbrev pub AreReadAgain : Type 0
 AreReadAgain = (f : Finding) → Good f → finding_at (report_text f) ≡ f
-
--- where what a text says does not have that text, no report has it
-pub no_report : AreReadAgain → (bytes : List ℕ) (said : Finding) → said ≡ finding_at bytes → (Good said × (bytes ≡ report_text said) → ⊥) → (f : Finding) → Good f → bytes ≢ report_text f
-no_report again bytes said is other f good e =
-    let same : said ≡ f = is ∙ ap finding_at e ∙ again f good in
-    other (subst Good (sym same) good, e ∙ ap report_text (sym same))
 
 -- what lines say that a program holds, seen by `view`
 pub lines_told : {A : Type 0} (view : A → List ℕ) (lines : List A) (last : ℕ) (list : List Dep) (words : List (List ℕ)) → last ≡ length lines - 2 → list ≡ map (λ l. dep_at (parts 32 l)) (map view (take last lines)) → words ≡ parts 32 (word_at (map view lines) last) → report_at list words ≡ report_in (map view lines)

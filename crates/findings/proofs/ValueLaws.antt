@@ -4,7 +4,7 @@ use Rattle.std.specs.Prelude.{decimal}
 use Rattle.std.specs.Char.{digit_value}
 use Rattle.std.specs.List.{AllByRecursion, list_all}
 use Rattle.std.specs.Str.Parse.{AllDigits}
-use Rattle.std.proofs.lemmas.Bool.{eq-eqb, ne_eqb}
+use Rattle.std.proofs.lemmas.Bool.{eq-eqb, ne_eqb, not-true}
 use Rattle.std.proofs.lemmas.Bool.Decides.{nat_tests}
 use Rattle.std.proofs.lemmas.Fmt.{digits_decimal}
 use Rattle.std.proofs.lemmas.List.Elements.{All-from_recursion}
@@ -115,10 +115,7 @@ abbrev Lacks : ℕ → List ℕ → Type 0
 Lacks c w = AllBytes (λ b. eqb b c ≡ false) w
 
 lacks_by_test : (c : ℕ) (w : List ℕ) → list_all (λ b. not (eqb b c)) w ≡ true → Lacks c w
-lacks_by_test c w e = all_by_test (λ b. eqb b c ≡ false) (λ b. not (eqb b c)) (λ b h. not_true (eqb b c) h) w e where
-  not_true : (x : Bool) → not x ≡ true → x ≡ false
-  not_true true h = cc h
-  not_true false h = refl
+lacks_by_test c w e = all_by_test (λ b. eqb b c ≡ false) (λ b. not (eqb b c)) (λ b h. not-true (eqb b c) h) w e
 
 digit_differs : (c : ℕ) → (c < 48) ⊎ (57 < c) → HasDigits (λ b. eqb b c ≡ false)
 digit_differs c (inl lt) b digit = ne_eqb b c (λ e. let d = digit_is b digit in absurd (omega arith))

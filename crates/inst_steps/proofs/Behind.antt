@@ -4,13 +4,20 @@ use Rattle.std.specs.List.Sorted.{IsStrictlyIncreasing}
 use Rattle.std.proofs.lemmas.Bool.{cases_lt, cases_Bool, le-leb, lt-leb, eqb-true}
 use Rattle.std.proofs.lemmas.List.{drop_more, drop_all, get_or_default}
 use Rattle.std.proofs.lemmas.Map.Keys.{sorted_tail, sorted_from_strictly_increasing, IsStrictlyIncreasing-from_sorted}
+use Rattle.std.proofs.lemmas.List.Kept.{IsStrictlyIncreasing-filter}
 use Rattle.std.specs.Ordering.{nat_cmp}
 use Rattle.point_set.specs.Least.{IsLeastFrom, points_from}
 use Rattle.point_set.proofs.lemmas.Ahead.{spread}
+use Rattle.semantics.specs.Points.{is_in}
 use Rattle.semantics.specs.Kinds.{grid}
 use Rattle.log_laws.proofs.lemmas.Members.{Member, contains_of, member_of}
 use Rattle.log_laws.proofs.lemmas.Apart.{Rise}
+use Rattle.point_laws.specs.Cut.{kept}
 use Rattle.inst_steps.specs.Grids.{behind, grid_from}
+
+pub kept_up : (listed : Option (List ℕ)) (xs : List ℕ) → IsStrictlyIncreasing xs → IsStrictlyIncreasing (kept listed xs)
+kept_up (Some listed) xs up = IsStrictlyIncreasing-filter (is_in listed) xs up
+kept_up None xs up = up
 
 filter_same : (f g : ℕ → Bool) (xs : List ℕ) → ((q : ℕ) → Member xs q → f q ≡ g q) → filter f xs ≡ filter g xs
 filter_same f g [] h = refl

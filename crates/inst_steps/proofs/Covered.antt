@@ -29,18 +29,18 @@ use Rattle.semantics.specs.Rules.{is_declared, names, space_id, lacks, is_not_co
 use Rattle.semantics.specs.declared.command.Command.TheVariants.{Check}
 use Rattle.semantics.specs.Faults.{unmapped_fault}
 use Rattle.log_decl.specs.Faultless.{AreDeclared}
-use Rattle.log_laws.proofs.lemmas.Members.{Member, Each, each_more, member_of, member_at, member_flat, member_map, member_append, member_filter, all_at, is_in_of, member_in, found_at, find_any, find_still, none_or_some, only}
+use Rattle.log_laws.proofs.lemmas.Members.{Member, Each, each_more, member_of, member_at, member_flat, member_map, member_append, member_filter, all_at, is_in_of, member_in, found_at, find_any, find_still, none_or_some, only, filter_member}
 use Rattle.log_laws.proofs.lemmas.Apart.{member_grid}
 use Rattle.log_laws.proofs.lemmas.Sane.{two_reqs}
 use Rattle.log_laws.proofs.lemmas.Admitted.{Unbroken, by_records, no_broken_rule, IsFaultless, sane, all_mapped}
 use Rattle.inst_steps.specs.declared.act.Act.{Act}
 use Rattle.inst_steps.specs.declared.act.Act.TheVariants as acts
 use Rattle.point_laws.specs.Cut.{kept, cut_to, cut}
+use Rattle.point_laws.proofs.lemmas.Cuts.{points_cut_to}
 use Rattle.inst_steps.specs.Sweeps.{Pass, pass, move_at, moves_of_pass, reading, changing, pass_for, passes_of, cell_of}
 use Rattle.inst_steps.specs.Stores.{Contents, IsStart, HasCells, has_cell}
 use Rattle.inst_steps.specs.Celled.{AreOfInsts, HasCellsOf}
-use Rattle.inst_steps.proofs.Keeping.{filter_member}
-use Rattle.inst_steps.proofs.Starting.{inst_cut, cut_points}
+use Rattle.inst_steps.proofs.Starting.{inst_cut}
 use Rattle.inst_steps.proofs.Sweeping.{pass_cut, sweeps_are, passes_cut, nodes_cut}
 use Rattle.inst_steps.specs.Stepping.{moves_at}
 use Rattle.semantics.specs.Steps.{moves_of}
@@ -230,7 +230,7 @@ held : (t : Tables) (listed : Option (List ℕ)) (space : ℕ) (fields : List �
     → has_cell (cut_to listed t) (cell_in id q) ≡ true
 held t listed space fields id w q point field =
     let here : inst_at (cut_to listed t) id ≡ Some w.i = inst_cut listed t id ∙ w.in_inst in
-    let there : points_in (cut_to listed t) w.i.space ≡ kept listed w.si.points = cut_points listed t w.i.space ∙ ap (λ o. kept listed (option_map_or (λ (s : Space). s.points) o [])) w.of_inst in
+    let there : points_in (cut_to listed t) w.i.space ≡ kept listed w.si.points = points_cut_to listed t w.i.space ∙ ap (λ o. kept listed (option_map_or (λ (s : Space). s.points) o [])) w.of_inst in
     let at : Member (kept listed w.s.points) q.0 = subst (λ o. Member (kept listed (option_map_or (λ (s : Space). s.points) o [])) q.0) w.in_space point in
     rw (here, there, kept_in listed w.s.points w.si.points q.0 w.points at, all_at (is_in w.i.fields) fields q.1 w.covered field) refl
 

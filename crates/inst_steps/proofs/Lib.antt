@@ -1,7 +1,6 @@
 pub mod lemmas
 mod Allowed
 mod Behind
-mod Keeping
 mod Numbers
 mod Starting
 mod StoreLaws

@@ -1,12 +1,13 @@
 -- What a store holds at the start, as it is put into it.
-use Rattle.std.proofs.Common.{◌≡◌, ℕ, ◌+◌, ◌<◌, ◌≤◌, ◌==◌, ◌&&◌, ◌||◌, nat_eq, nat_lt, Bool, true, false, cond, List, [], ◌∷◌, ◌++◌, take, length, get_or, find, Option, Some, None, Contains, refl, sym, ap, ap₂, ◌∙◌, inl, inr, arith}
+use Rattle.std.proofs.Common.{◌≡◌, ℕ, ◌+◌, ◌<◌, ◌≤◌, ◌==◌, ◌&&◌, ◌||◌, nat_eq, nat_lt, Bool, true, false, cond, List, [], ◌∷◌, ◌++◌, take, length, get_or, Option, Some, None, Contains, refl, sym, ap, ap₂, ◌∙◌, inl, inr, arith}
 use Rattle.std.specs.List.{list_any}
 use Rattle.std.specs.FinMap.{get, insert, empty, get-empty}
 use Rattle.std.proofs.lemmas.Bool.{cases_Bool, cases_lt, eq-eqb, ne_eqb, eqb-true, lt-ltb, ltb-true, false_from_ne_true, true≢false}
 use Rattle.std.proofs.lemmas.List.{take_more}
 use Rattle.std.proofs.lemmas.List.Folds.{list_any-append}
+use Rattle.std.proofs.Math.Bool.{or-false, or-true}
 use Rattle.point_set.specs.Least.{IsLeastFrom}
-use Rattle.point_laws.proofs.lemmas.Cuts.{points_cut}
+use Rattle.point_laws.proofs.lemmas.Cuts.{points_cut_to}
 use Rattle.spy_words.specs.declared.access.InstKind.{InstKind}
 use Rattle.value_terms.specs.declared.terms.Base.{Base}
 use Rattle.value_terms.specs.declared.terms.Base.TheVariants.{Raw, Init}
@@ -17,9 +18,9 @@ use Rattle.semantics.specs.Tables.{Tables}
 use Rattle.semantics.specs.Points.{is_in, points_in}
 use Rattle.semantics.specs.Steps.{inst_at}
 use Rattle.semantics.specs.Execution.{is_home, start}
-use Rattle.log_laws.proofs.lemmas.Members.{contains_of, member_in, is_in_of, member_of}
+use Rattle.log_laws.proofs.lemmas.Members.{contains_of, member_in, is_in_of, member_of, find_none}
 use Rattle.point_laws.specs.Cut.{kept, cut_to}
-use Rattle.inst_steps.specs.Stores.{Contents, HoldsMore, IsStart, has_cell, base_of, is_at_point, is_at_points, is_of, is_of_some}
+use Rattle.inst_steps.specs.Stores.{Contents, HoldsMore, IsStart, base_of, is_at_point, is_at_points, is_of, is_of_some}
 use Rattle.inst_steps.proofs.lemmas.StoreMaps.{get_put}
 
 -- ---- tests
@@ -47,22 +48,10 @@ join_front true true false true x y = refl
 join_front true true true false x y = refl
 join_front true true true true x y = refl
 
-join_last : {X : Type 0} (e d h : Bool) (x y : X) → cond (e && h) x (cond (d && h) x y) ≡ cond ((d || e) && h) x y
-join_last false false h x y = refl
-join_last false true h x y = refl
-join_last true false false x y = refl
-join_last true false true x y = refl
-join_last true true false x y = refl
-join_last true true true x y = refl
-
 -- ---- one field more, one point more
 
 one_in : {X : Type 0} (p : X → Bool) (xs : List X) (x : X) → list_any p (xs ++ x ∷ []) ≡ (list_any p xs || p x)
-one_in p xs x = list_any-append p xs (x ∷ []) ∙ ap (λ b. list_any p xs || b) (or_false (p x))
-  where
-    or_false : (b : Bool) → (b || false) ≡ b
-    or_false false = refl
-    or_false true = refl
+one_in p xs x = list_any-append p xs (x ∷ []) ∙ ap (λ b. list_any p xs || b) (or-false (p x))
 
 pub more_field : (inst point : ℕ) (fields : List ℕ) (i d : ℕ) (b : Base) (m n o : Contents) → i < length fields
     → HoldsMore (is_at_point inst point (take i fields)) (λ c. plain b) m n
@@ -83,7 +72,7 @@ point_more points low point q least = elim (cases_Bool (q == point)) [
       let e = eqb-true q point same in
       let has : is_in points q ≡ true = ap (is_in points) e ∙ is_in_of points point (member_of points point least.0.0) in
       let lt : nat_lt q (point + 1) ≡ true = lt-ltb q (point + 1) (omega (arith, e)) in
-      rw (same, has, lt) (or_true (nat_lt q low))
+      rw (same, has, lt) (or-true (nat_lt q low))
   | inr differ ↦ elim (cases_Bool (is_in points q)) [
     | inl has ↦
         let c = contains_of points q (member_in points q has) in
@@ -97,10 +86,6 @@ point_more points low point q least = elim (cases_Bool (q == point)) [
   ]
 ]
   where
-    or_true : (b : Bool) → (b || true) ≡ true
-    or_true false = refl
-    or_true true = refl
-
     not_below : (q n : ℕ) → n ≤ q → nat_lt q n ≡ false
     not_below q n le = false_from_ne_true (nat_lt q n) (λ e. omega (arith, le, ltb-true q n e))
 
@@ -132,10 +117,6 @@ pub inst_cut : (listed : Option (List ℕ)) (t : Tables) (id : ℕ) → inst_at 
 inst_cut (Some ps) t id = refl
 inst_cut None t id = refl
 
-pub cut_points : (listed : Option (List ℕ)) (t : Tables) (space : ℕ) → points_in (cut_to listed t) space ≡ kept listed (points_in t space)
-cut_points (Some ps) t space = points_cut ps t space
-cut_points None t space = refl
-
 held_value : (k : InstKind) (h : Bool) (y : Option Value) → cond h (Some (plain (base_of k))) y ≡ cond h (Some (cond (is_home k && h) (plain Init) (plain Raw))) y
 held_value k h y = by (is_home k) h
   where
@@ -151,7 +132,7 @@ pub one_inst : (t : Tables) (listed : Option (List ℕ)) (id : ℕ) (i : Inst) (
 one_inst t listed id i points m n found at held c = elim (cases_Bool (c.inst == id)) [
   | inl own ↦
       let here : inst_at (cut_to listed t) c.inst ≡ Some i = inst_cut listed t c.inst ∙ ap (inst_at t) (eqb-true c.inst id own) ∙ found in
-      let there : points_in (cut_to listed t) i.space ≡ kept listed points = cut_points listed t i.space ∙ ap (kept listed) at in
+      let there : points_in (cut_to listed t) i.space ≡ kept listed points = points_cut_to listed t i.space ∙ ap (kept listed) at in
       let before : get n c ≡ cond (is_in (kept listed points) c.point && is_in i.fields c.field) (Some (plain (base_of i.kind))) (get m c) = held c ∙ ap (λ e. cond (e && (is_in (kept listed points) c.point && is_in i.fields c.field)) (Some (plain (base_of i.kind))) (get m c)) own in
       rw (own, here, there) (before ∙ held_value i.kind (is_in (kept listed points) c.point && is_in i.fields c.field) (get m c))
   | inr other ↦
@@ -172,31 +153,7 @@ no_points_held t listed id i m found none = one_inst t listed id i [] m m found 
     nothing false x y = refl
     nothing true x y = refl
 
-pub no_inst_held : (t : Tables) (listed : Option (List ℕ)) (id : ℕ) (m : Contents) → inst_at t id ≡ None → HoldsMore (is_of (cut_to listed t) id) (start (cut_to listed t)) m m
-no_inst_held t listed id m none c = elim (cases_Bool (c.inst == id)) [
-  | inl own ↦
-      let here : inst_at (cut_to listed t) c.inst ≡ None = inst_cut listed t c.inst ∙ ap (inst_at t) (eqb-true c.inst id own) ∙ none in
-      rw (own, here) refl
-  | inr other ↦ rw other refl
-]
-
-pub more_inst : (t : Tables) (insts : List Inst) (k id : ℕ) (d : Inst) (m n o : Contents) → k < length insts → id ≡ (get_or insts k d).id
-    → HoldsMore (is_of_some t (take k insts)) (start t) m n → HoldsMore (is_of t id) (start t) n o → HoldsMore (is_of_some t (take (k + 1) insts)) (start t) m o
-more_inst t insts k id d m n o lt is so_far here c =
-    let any : List Inst → Bool = λ is. list_any (λ (i : Inst). i.id == c.inst) is in
-    here c
-    ∙ ap₂ (λ e rest. cond (e && has_cell t c) (Some (start t c)) rest) (same_turned c.inst id ∙ ap (λ j. j == c.inst) is) (so_far c)
-    ∙ join_last ((get_or insts k d).id == c.inst) (any (take k insts)) (has_cell t c) (Some (start t c)) (get m c)
-    ∙ ap (λ e. cond (e && has_cell t c) (Some (start t c)) (get m c)) (sym (one_in (λ (i : Inst). i.id == c.inst) (take k insts) (get_or insts k d)) ∙ ap any (sym (take_more insts k d lt)))
-
 -- ---- all instances
-
-not_found : (p : Inst → Bool) (insts : List Inst) → list_any p insts ≡ false → find p insts ≡ None
-not_found p [] e = refl
-not_found p (i ∷ insts) e = elim (cases_Bool (p i)) [
-  | inl here ↦ absurd (true≢false (sym (ap (λ b. b || list_any p insts) here) ∙ e))
-  | inr other ↦ rw other (not_found p insts (sym (ap (λ b. b || list_any p insts) other) ∙ e))
-]
 
 pub all_started : (t : Tables) (listed : Option (List ℕ)) (m n : Contents) → m ≡ empty → HoldsMore (is_of_some (cut_to listed t) t.insts) (start (cut_to listed t)) m n → IsStart (cut_to listed t) n
 all_started t listed m n none held c =
@@ -205,7 +162,7 @@ all_started t listed m n none held c =
     ∙ elim (cases_Bool (list_any (λ (i : Inst). i.id == c.inst) t.insts)) [
       | inl some ↦ rw some refl
       | inr missing ↦
-          let here : inst_at (cut_to listed t) c.inst ≡ None = inst_cut listed t c.inst ∙ not_found (λ (i : Inst). i.id == c.inst) t.insts missing in
+          let here : inst_at (cut_to listed t) c.inst ≡ None = inst_cut listed t c.inst ∙ find_none (λ (i : Inst). i.id == c.inst) t.insts missing in
           rw (missing, here) refl
     ]
 

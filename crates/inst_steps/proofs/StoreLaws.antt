@@ -1,8 +1,9 @@
 -- Stores and states, move by move, and weights.
-use Rattle.std.proofs.Common.{◌≡◌, ℕ, ◌+◌, ◌≤◌, ◌==◌, ◌&&◌, nat_eq, Bool, true, false, cond, is_some, List, filter, Some, None, refl, sym, ap, ap₂, ◌∙◌, inl, inr, arith}
+use Rattle.std.proofs.Common.{◌≡◌, ℕ, ◌+◌, ◌≤◌, nat_eq, true, false, cond, is_some, List, filter, Some, None, refl, sym, ap, ap₂, ◌∙◌, inl, inr, arith}
 use Rattle.std.specs.Prelude.{unwrap_or}
 use Rattle.std.specs.FinMap.{get, insert, contains_key}
-use Rattle.std.proofs.lemmas.Bool.{cases_Bool, true≢false, false≢true, false_from_ne_true, eqb-true, and_parts}
+use Rattle.std.proofs.lemmas.Bool.{cases_Bool, true≢false, false≢true, false_from_ne_true}
+use Rattle.std.proofs.Math.Bool.{and_assoc}
 use Rattle.value_terms.specs.declared.terms.Base.TheVariants.{Raw}
 use Rattle.value_terms.specs.Values.{Value, plain, add_one, fold_in, weight_of}
 use Rattle.value_terms.proofs.lemmas.Sums.{weight_added, weight_folded}
@@ -16,28 +17,16 @@ use Rattle.semantics.specs.Steps.{inst_at}
 use Rattle.point_laws.specs.Cut.{cut}
 use Rattle.point_laws.proofs.lemmas.Cuts.{points_cut, start_cut}
 use Rattle.log_laws.proofs.lemmas.Members.{member_filter, member_in, none_or_some}
+use Rattle.log_laws.proofs.lemmas.Tidy.{one_cell}
 use Rattle.inst_steps.specs.Stores.{Contents, HasCells, Holds, IsStart, has_cell, after_move, value_in}
 use Rattle.inst_steps.specs.Weighing.{weight_at, weight_after}
 use Rattle.inst_steps.proofs.lemmas.StoreMaps.{get_put}
 
-three : (a b c : Bool) → (a && (b && c)) ≡ ((a && b) && c)
-three false b c = refl
-three true b c = refl
-
 get_at : (m : Contents) (c : Cell) (v : Value) (q : Cell) → get (insert m c v) q ≡ cond (same_cell q c) (Some v) (get m q)
 unfolding same_cell
-get_at m c v q = get_put m c v q ∙ ap (λ b. cond b (Some v) (get m q)) (three (nat_eq q.inst c.inst) (nat_eq q.point c.point) (nat_eq q.field c.field))
+get_at m c v q = get_put m c v q ∙ ap (λ b. cond b (Some v) (get m q)) (sym (and_assoc (nat_eq q.inst c.inst) (nat_eq q.point c.point) (nat_eq q.field c.field)))
 
 -- ---- which cells there are
-
-one_cell : (a b : Cell) → same_cell a b ≡ true → a ≡ b
-unfolding same_cell
-one_cell a b e =
-    let i = (and_parts (a.inst == b.inst && a.point == b.point) (a.field == b.field) e).0 in
-    let f = (and_parts (a.inst == b.inst && a.point == b.point) (a.field == b.field) e).1 in
-    let n = eqb-true a.inst b.inst (and_parts (a.inst == b.inst) (a.point == b.point) i).0 in
-    let p = eqb-true a.point b.point (and_parts (a.inst == b.inst) (a.point == b.point) i).1 in
-    λ k. record { inst = n k; point = p k; field = eqb-true a.field b.field f k }
 
 kept_cells : (m : Contents) (cell : Cell) (v : Value) (c : Cell) → contains_key m cell ≡ true → contains_key (insert m cell v) c ≡ contains_key m c
 kept_cells m cell v c there = ap is_some (get_at m cell v c) ∙ elim (cases_Bool (same_cell c cell)) [

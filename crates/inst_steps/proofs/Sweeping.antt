@@ -1,9 +1,9 @@
 -- Operations are their sweeps, and cut tables those of what is listed.
-use Rattle.std.proofs.Common.{◌≡◌, ℕ, zero, suc, ◌+◌, ◌<◌, ◌≤◌, List, [], ◌∷◌, ◌++◌, map, flat_map, drop, length, get_or, Option, Some, None, unwrap_or, slice_get, refl, sym, ap, ap₂, ◌∙◌, arith}
+use Rattle.std.proofs.Common.{◌≡◌, ℕ, zero, suc, ◌+◌, ◌<◌, List, [], ◌∷◌, ◌++◌, map, flat_map, drop, length, get_or, Option, Some, None, unwrap_or, slice_get, refl, sym, ap, ap₂, ◌∙◌, arith}
 use Rattle.std.specs.Option.{option_map_or}
 use Rattle.std.proofs.Math.Path.{fun_ext}
 use Rattle.std.proofs.lemmas.List.{drop_all, append-nil, map-append}
-use Rattle.std.proofs.lemmas.List.Concat.{flat_map_single}
+use Rattle.std.proofs.lemmas.List.Concat.{flat_map_single, flat_map-append}
 use Rattle.privilege.specs.declared.kinds.Priv.{Priv}
 use Rattle.privilege.specs.declared.kinds.Priv.TheVariants as privileges
 use Rattle.semantics.specs.declared.moves.Move.{Move}
@@ -15,7 +15,7 @@ use Rattle.semantics.specs.Points.{points_in}
 use Rattle.semantics.specs.Kinds.{reqs_of, grid, req_grid}
 use Rattle.semantics.specs.Steps.{id_of, operator_of, mapped_cell, reads_by, changes_by, moves_of}
 use Rattle.point_laws.specs.Cut.{cut, kept, cut_to}
-use Rattle.point_laws.proofs.lemmas.Cuts.{points_cut}
+use Rattle.point_laws.proofs.lemmas.Cuts.{points_cut, kept_nothing}
 use Rattle.inst_steps.specs.declared.act.Act.{Act}
 use Rattle.inst_steps.specs.declared.act.Act.TheVariants as acts
 use Rattle.inst_steps.specs.declared.act.Action.{Action}
@@ -49,14 +49,6 @@ flat_of_map : {X Y Z : Type 0} (g : Y → List Z) (f : X → Y) (h : X → List 
 flat_of_map g f h e [] = refl
 flat_of_map g f h e (x ∷ xs) = ap₂ (λ a b. a ++ b) (e x) (flat_of_map g f h e xs)
 
-flat_append : {X Y : Type 0} (g : X → List Y) (xs ys : List X) → flat_map g (xs ++ ys) ≡ flat_map g xs ++ flat_map g ys
-flat_append g [] ys = refl
-flat_append g (x ∷ xs) ys = ap (λ zs. g x ++ zs) (flat_append g xs ys) ∙ append_assoc_sym (g x) (flat_map g xs) (flat_map g ys)
-  where
-    append_assoc_sym : {Z : Type 0} (a b c : List Z) → a ++ (b ++ c) ≡ (a ++ b) ++ c
-    append_assoc_sym [] b c = refl
-    append_assoc_sym (z ∷ a) b c = ap (λ zs. z ∷ zs) (append_assoc_sym a b c)
-
 only_one : {X Y : Type 0} (g : X → List Y) (x : X) → flat_map g (x ∷ []) ≡ g x
 only_one g x = append-nil (g x)
 
@@ -65,7 +57,7 @@ sweeps_are t (operations.Run item) =
     let task = id_of t item in
     let reads = map (λ r. pass_for r (reading t task r)) (reqs_of t item) in
     let changes = map (λ r. pass_for r (changing t task r)) (reqs_of t item) in
-    flat_append (moves_of_pass t) reads changes
+    flat_map-append (moves_of_pass t) reads changes
     ∙ sym (ap₂ (λ a b. a ++ b) (flat_of_map (moves_of_pass t) (λ r. pass_for r (reading t task r)) _ (λ r. reads_are t task r r.access refl) (reqs_of t item))
     (flat_of_map (moves_of_pass t) (λ r. pass_for r (changing t task r)) _ (λ r. changes_are t task r r.access refl) (reqs_of t item)))
 sweeps_are t (operations.Copy src dst space fields) = only_one (moves_of_pass t) (Some (pass (acts.Copy src dst) space fields))
@@ -131,14 +123,7 @@ at_place g none (p ∷ ps) (suc k) = at_place g none ps k ∙ ap (λ n. g (unwra
 pub one_sweep : (listed : Option (List ℕ)) (t : Tables) (op : Op) (k : ℕ) → rest_actions t op listed k ≡ actions_of_pass (cut_to listed t) (pass_at (passes_of t op) k) ++ rest_actions t op listed (k + 1)
 one_sweep listed t op k = at_place (actions_of_pass (cut_to listed t)) refl (passes_of t op) k
 
-pub no_sweep : (listed : Option (List ℕ)) (t : Tables) (op : Op) (k : ℕ) → length (passes_of t op) ≤ k → rest_actions t op listed k ≡ []
-no_sweep listed t op k past = ap (flat_map (actions_of_pass (cut_to listed t))) (drop_all k (passes_of t op) past)
-
 -- ---- where a sweep stands
-
-kept_nothing : (listed : Option (List ℕ)) → kept listed [] ≡ []
-kept_nothing (Some ps) = refl
-kept_nothing None = refl
 
 pub no_points : (listed : Option (List ℕ)) (t : Tables) (p : Pass) → points_in t p.space ≡ [] → pass_actions (cut_to listed t) p ≡ []
 no_points listed t p none = actions_cut listed t p ∙ ap (λ points. map (action_at t p.act) (grid (kept listed points) p.fields)) none ∙ ap (λ points. map (action_at t p.act) (grid points p.fields)) (kept_nothing listed)

@@ -7,7 +7,7 @@ ghost use Rattle.std.specs.List.Sorted.{IsStrictlyIncreasing};
 ghost use Rattle.semantics.specs.Points.{points_in};
 ghost use Rattle.inst_steps.specs.Acting.{IsBy, steps_in};
 ghost use Rattle.point_laws.specs.Cut.{cut_to};
-ghost use Rattle.inst_steps.specs.Grids.{IsAscending, listed_of};
+ghost use Rattle.listed_points.specs.Listed.{IsAscending, listed_of};
 ghost use Rattle.inst_steps.specs.Stepping.{AreNumbered, IsSpot, IsAt, at_left, rest_actions, moves_at, spot_here, spot_actions};
 ghost use Rattle.inst_steps.specs.Sweeps.{action_at, passes_of, pass_at, actions_of_pass};
 
@@ -38,7 +38,7 @@ pub struct Actions<'l, 'a, 'p, P: PointSet + Copy> {
 impl<'l, 'a, 'p, P: PointSet + Copy> Model for Actions<'l, 'a, 'p, P> {
     ghost use Rattle.std.specs.Prelude.{List};
     ghost use Rattle.inst_steps.specs.declared.act.Action.{Action};
-    ghost use Rattle.inst_steps.specs.Grids.{IsAscending, listed_of};
+    ghost use Rattle.listed_points.specs.Listed.{IsAscending, listed_of};
     ghost use Rattle.inst_steps.specs.Stepping.{AreNumbered, IsAt, at_left};
 
     ghost Value = { List Action };

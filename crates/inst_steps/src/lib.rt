@@ -5,7 +5,6 @@ mod act;
 mod apply;
 mod iterator;
 mod laws;
-mod listed;
 mod of_nodes;
 mod spot;
 mod start;

@@ -3,12 +3,12 @@
 ghost use Rattle.std.specs.Prelude.{◌≡◌, [], ◌∷◌, ◌++◌, IfSome, IfNone};
 ghost use Rattle.semantics.specs.Kinds.{grid};
 ghost use Rattle.point_laws.specs.Cut.{kept};
-ghost use Rattle.inst_steps.specs.Grids.{IsAscending, listed_of};
+ghost use Rattle.listed_points.specs.Listed.{IsAscending, listed_of};
 ghost use Rattle.inst_steps.specs.Stepping.{IsSpot, spot_here, spot_grid, spots_left, pass_seen, IsWithin};
 ghost use Rattle.inst_steps.specs.Sweeps.{action_at, move_at, cell_of, req_in};
 
 use crate::act::{Act, Action};
-use crate::listed::{next_behind, next_listed};
+use listed_points::{listed_after, next_listed};
 use log_decl::Log;
 use point_set::PointSet;
 use semantics::{Cell, Move};
@@ -72,7 +72,7 @@ pub(crate) fn next_spot<'l, P: PointSet + Copy>(
             place: spot.place + 1,
         });
     }
-    match next_behind(spot.set, listed, spot.point) {
+    match listed_after(spot.set, listed, spot.point) {
         Some(point) => Some(Spot {
             act: spot.act,
             set: spot.set,

@@ -6,11 +6,11 @@ ghost use Rattle.value_terms.specs.Values.{plain};
 ghost use Rattle.semantics.specs.Execution as says;
 ghost use Rattle.semantics.specs.Points.{is_in};
 ghost use Rattle.point_laws.specs.Cut.{cut, cut_to, kept};
-ghost use Rattle.inst_steps.specs.Grids.{IsAscending, listed_of};
+ghost use Rattle.listed_points.specs.Listed.{IsAscending, listed_of};
 ghost use Rattle.inst_steps.specs.Stores.{HoldsMore, IsStart, base_of, is_at_point, is_at_points, is_of, is_of_some};
 
-use crate::listed::next_listed;
 use crate::store::Store;
+use listed_points::next_listed;
 use log_decl::Log;
 use point_set::PointSet;
 use semantics::Cell;

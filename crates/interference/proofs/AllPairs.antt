@@ -2,10 +2,10 @@
 use Rattle.std.proofs.Common.{◌≡◌, ℕ, ◌+◌, ◌-◌, ◌<◌, inl, inr, not, List, [], ◌∷◌, ◌++◌, length, refl, sym, ap, ◌∙◌, arith, map, filter, flat_map, unwrap_or, None}
 use Rattle.std.specs.List.{range_with_len}
 use Rattle.std.proofs.lemmas.Bool.{cases_Bool}
-use Rattle.std.proofs.lemmas.List.{map-append}
 use Rattle.semantics.specs.Tables.{Tables}
 use Rattle.semantics.specs.Kinds.{is_free, item_kind, least_place}
 use Rattle.log_laws.proofs.lemmas.Members.{Member}
+use Rattle.log_laws.proofs.lemmas.Lists.{map_flat}
 use Rattle.log_laws.proofs.lemmas.Apart.{number_between}
 use Rattle.item_uses.specs.Usages.{Usage, usages_of, usages, usages_at}
 use Rattle.item_uses.specs.Sharing.{kind_between, place_between}
@@ -37,10 +37,6 @@ row_is t a la (b ∷ ns) within =
       | inl free ↦ rw (ap is_free k ∙ free, free) rest
       | inr not_free ↦ rw (ap is_free k ∙ not_free, not_free) (ap (λ p. p ∷ map (meeting (usages t) a) (filter (λ b. not (is_free (kind_between (usages_at (usages t) a) (usages_at (usages t) b)))) ns)) (meeting_is t a b la lb) ∙ ap (λ ps. pair_of t (a, b) ∷ ps) rest)
     ]
-
-map_flat : {X Y Z : Type 0} (f : Y → Z) (g : X → List Y) (xs : List X) → map f (flat_map g xs) ≡ flat_map (λ x. map f (g x)) xs
-map_flat f g [] = refl
-map_flat f g (x ∷ xs) = map-append f (g x) (flat_map g xs) ∙ ap (λ ys. map f (g x) ++ ys) (map_flat f g xs)
 
 flat_same : {X Y : Type 0} (f g : X → List Y) (xs : List X) → ((x : X) → Member xs x → f x ≡ g x) → flat_map f xs ≡ flat_map g xs
 flat_same f g [] h = refl

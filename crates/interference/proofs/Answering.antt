@@ -1,10 +1,8 @@
 -- How two items interfere: what is found of them, and what is remembered.
-use Rattle.std.proofs.Common.{◌≡◌, ℕ, ◌<◌, ◌≤◌, true, false, not, List, [], length, refl, sym, ap, ◌∙◌, Option, Some, None, get_or}
+use Rattle.std.proofs.Common.{◌≡◌, ℕ, ◌<◌, ◌≤◌, true, false, not, List, length, refl, sym, ap, ◌∙◌, Option, Some, None, get_or}
 use Rattle.std.specs.Prelude.{IfNone, IfSome}
 use Rattle.std.proofs.lemmas.Bool.{and_from}
-use Rattle.std.proofs.lemmas.List.{get_or_past}
 use Rattle.semantics.specs.declared.places.Place.{Place}
-use Rattle.privilege.specs.declared.kinds.Kind.TheVariants.{Free}
 use Rattle.semantics.specs.Kinds.{is_free}
 use Rattle.item_uses.specs.declared.between.Interference.{Interference}
 use Rattle.item_uses.specs.Usages.{Usage, usages_at}
@@ -24,17 +22,6 @@ how_same us standing a b found stand la lb how = record {
   kind = how.kind ∙ ap (λ u. kind_between u (usages_at us (get_or standing b 0))) (stand.same a la) ∙ ap (kind_between (usages_at us a)) (stand.same b lb);
   place = how.place ∙ ap (λ u. place_between u (usages_at us (get_or standing b 0))) (stand.same a la) ∙ ap (place_between (usages_at us a)) (stand.same b lb);
 }
-
-pub how_standing : (us : List (List Usage)) (standing : List ℕ) (a b : ℕ) (found : Interference) → AreRepresentatives standing us → a < length us → b < length us
-    → IsHow us a b found → IsHow us (get_or standing a 0) (get_or standing b 0) found
-how_standing us standing a b found stand la lb how = record {
-  kind = how.kind ∙ sym (ap (λ u. kind_between u (usages_at us (get_or standing b 0))) (stand.same a la) ∙ ap (kind_between (usages_at us a)) (stand.same b lb));
-  place = how.place ∙ sym (ap (λ u. place_between u (usages_at us (get_or standing b 0))) (stand.same a la) ∙ ap (place_between (usages_at us a)) (stand.same b lb));
-}
-
--- An item past the last asks for nothing.
-pub nothing_past : (us : List (List Usage)) (past : ℕ) (found : Interference) → length us ≤ past → found.kind ≡ Free → found.place ≡ None → IsHow us past past found
-nothing_past us past found le kind place = let none = get_or_past us past [] le in record { kind = rw none kind; place = rw none place }
 
 -- ---- the pair of two items
 

@@ -1,26 +1,23 @@
 -- How many pairs of tasks there are.
-use Rattle.std.proofs.Common.{◌≡◌, ℕ, ◌+◌, ◌-◌, ◌*◌, ◌<◌, ◌≤◌, inl, inr, Bool, true, false, List, [], ◌∷◌, length, refl, sym, ap, ◌∙◌, arith, map, filter, flat_map, ◌^◌, None, subst}
+use Rattle.std.proofs.Common.{◌≡◌, ℕ, ◌+◌, ◌-◌, ◌*◌, ◌<◌, ◌≤◌, Bool, true, false, List, [], ◌∷◌, length, refl, sym, ap, ◌∙◌, arith, map, filter, flat_map, ◌^◌, None, subst}
 use Rattle.std.specs.List.{range_with_len}
-use Rattle.std.proofs.lemmas.Bool.{cases_Bool}
 use Rattle.std.proofs.lemmas.List.{length-map, length-append}
+use Rattle.std.proofs.lemmas.List.FromFn.{length-range_with_len}
 use Rattle.semantics.specs.Tables.{Tables}
 use Rattle.semantics.specs.Kinds as kinds
 use Rattle.semantics.specs.Shown.{task_pairs}
 use Rattle.item_uses.specs.Usages.{Usage, usages}
-use Rattle.item_uses.proofs.lemmas.Growing.{numbers_length, usages_length}
+use Rattle.item_uses.proofs.lemmas.Growing.{usages_length}
 use Rattle.interference.specs.declared.pair.Pair.{Pair}
 use Rattle.interference.specs.Pairing.{pair_of, row, left, all_pairs}
 use Rattle.interference.specs.Tasks.{are_tasks}
 use Rattle.interference.proofs.AllPairs.{all_are}
 use Rattle.interference.specs.Pairing.{met_at}
 use Rattle.interference.proofs.Rows.{meeting, rows_step}
-
-length_filter : {X : Type 0} (p : X → Bool) (xs : List X) → length (filter p xs) ≤ length xs
-length_filter p [] = omega arith
-length_filter p (x ∷ xs) = elim (cases_Bool (p x)) [ inl t ↦ rw t (omega (arith, length_filter p xs)) | inr f ↦ rw f (omega (arith, length_filter p xs)) ]
+use Rattle.log_laws.proofs.lemmas.Lists.{filter_short, filter_map_of}
 
 row_few : (us : List (List Usage)) (a from : ℕ) → length (row None us a from) ≤ length us
-row_few us a from = omega (arith, length-map (filter (met_at None us a) (range_with_len from (length us - from))) (meeting us a), length_filter (met_at None us a) (range_with_len from (length us - from)), numbers_length from (length us - from))
+row_few us a from = omega (arith, length-map (filter (met_at None us a) (range_with_len from (length us - from))) (meeting us a), filter_short (met_at None us a) (range_with_len from (length us - from)), length-range_with_len from (length us - from))
 
 flat_few : (f : ℕ → List Pair) (xs : List ℕ) → ((x : ℕ) → length (f x) ≤ 4294967295) → length (flat_map f xs) ≤ length xs * 4294967295
 flat_few f [] h = omega arith
@@ -29,7 +26,7 @@ flat_few f (x ∷ xs) h = omega (arith, length-append (f x) (flat_map f xs), h x
 few_left : (q : Pair → Bool) (us : List (List Usage)) → length us < 2 ^ 32 → length (filter q (left None us 0 1)) < 2 ^ 64
 few_left q us small =
     let all = flat_few (λ i. row None us i (i + 1)) (range_with_len 0 (length us - 0)) (λ a. omega (arith, row_few us a (a + 1), small)) in
-    omega (arith, length_filter q (left None us 0 1), ap length (sym (rows_step None us 0)), all, numbers_length 0 (length us - 0), small)
+    omega (arith, filter_short q (left None us 0 1), ap length (sym (rows_step None us 0)), all, length-range_with_len 0 (length us - 0), small)
 
 -- ---- steps of the count
 
@@ -39,12 +36,8 @@ count_here q it p rest e t = ap (λ ps. length (filter q ps)) e ∙ rw t (omega 
 pub count_past : (q : Pair → Bool) (it : List Pair) (p : Pair) (rest : List Pair) → it ≡ p ∷ rest → q p ≡ false → length (filter q it) ≡ length (filter q rest)
 count_past q it p rest e f = ap (λ ps. length (filter q ps)) e ∙ rw f refl
 
-kept_map : {X Y : Type 0} (f : X → Y) (p : Y → Bool) (xs : List X) → filter p (map f xs) ≡ map f (filter (λ x. p (f x)) xs)
-kept_map f p [] = refl
-kept_map f p (x ∷ xs) = elim (cases_Bool (p (f x))) [ inl t ↦ rw t (ap (λ ys. f x ∷ ys) (kept_map f p xs)) | inr e ↦ rw e (kept_map f p xs) ]
-
 pub task_pairs_are : (t : Tables) → length (filter (are_tasks t.items) (all_pairs t)) ≡ length (task_pairs t)
-task_pairs_are t = ap length (kept_map (pair_of t) (are_tasks t.items) (kinds.pairs t)) ∙ length-map (task_pairs t) (pair_of t)
+task_pairs_are t = ap length (filter_map_of (are_tasks t.items) (pair_of t) (kinds.pairs t)) ∙ length-map (task_pairs t) (pair_of t)
 
 pub few_pairs : (t : Tables) (q : Pair → Bool) → length t.items < 2 ^ 32 → length (filter q (all_pairs t)) < 2 ^ 64
 few_pairs t q small =
@@ -63,7 +56,7 @@ map_itself (x ∷ xs) = ap (λ ys. x ∷ ys) (map_itself xs)
 
 pub task_pairs_listed : (t : Tables) → map (λ (p : Pair). (p.a, p.b)) (filter (are_tasks t.items) (all_pairs t)) ≡ task_pairs t
 task_pairs_listed t =
-    ap (map (λ (p : Pair). (p.a, p.b))) (kept_map (pair_of t) (are_tasks t.items) (kinds.pairs t))
+    ap (map (λ (p : Pair). (p.a, p.b))) (filter_map_of (are_tasks t.items) (pair_of t) (kinds.pairs t))
     ∙ map_again (pair_of t) (λ (p : Pair). (p.a, p.b)) (λ x. x) (task_pairs t) (λ x. refl)
     ∙ map_itself (task_pairs t)
 

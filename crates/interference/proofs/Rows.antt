@@ -50,9 +50,6 @@ next_row asked us a from none = ap (λ (r : List Pair). r ++ rows asked us (a + 
 pub none_left : (asked : Option (List ℕ)) (us : List (List Usage)) (a from : ℕ) → length us ≤ a → a ≤ from → left asked us a from ≡ []
 none_left asked us a from le order = rw (row_end asked us a from (omega arith), rows_end asked us (a + 1) (omega arith)) refl
 
-pub some_left : (asked : Option (List ℕ)) (us : List (List Usage)) (a from : ℕ) (p : Pair) → p.a ≡ a → row asked us a from ≡ p ∷ row asked us a (p.b + 1) → left asked us a from ≡ p ∷ left asked us p.a (p.b + 1)
-some_left asked us a from p same e = ap (λ (r : List Pair). r ++ rows asked us (a + 1)) e ∙ ap (λ a. p ∷ left asked us a (p.b + 1)) (sym same)
-
 pub next_from : (asked : Option (List ℕ)) (us : List (List Usage)) (a from next : ℕ) → row asked us a from ≡ [] → next ≡ min (a + 2) (2 ^ 64 - 1) → length us < 2 ^ 64 → a < length us → (left asked us a from ≡ left asked us (a + 1) next) × (a + 1 ≤ next)
 next_from asked us a from next none is small lt =
     elim (cases_lt (a + 1) (length us)) [

@@ -1,8 +1,9 @@
 -- The first pair that stands against the serial order.
-use Rattle.std.proofs.Common.{◌≡◌, ℕ, zero, suc, ◌+◌, ◌-◌, ◌<◌, inl, inr, Bool, true, false, not, nat_lt, ◌&&◌, List, [], ◌∷◌, ◌++◌, length, refl, sym, ap, ◌∙◌, arith, map, filter, flat_map, get_or, unwrap_or, subst, Option, Some, None, option_map, find, position, ◌==◌, Contains}
+use Rattle.std.proofs.Common.{◌≡◌, ℕ, zero, suc, ◌+◌, ◌-◌, ◌<◌, inl, inr, Bool, false, not, nat_lt, ◌&&◌, List, [], ◌∷◌, ◌++◌, length, refl, sym, ap, ◌∙◌, arith, map, filter, flat_map, get_or, unwrap_or, subst, Option, Some, None, option_map, find, position, ◌==◌, Contains}
 use Rattle.std.specs.List.{position_or_len, range_with_len}
-use Rattle.std.proofs.lemmas.Bool.{cases_Bool, and_right, le-ltb, lt-ltb, eq-eqb, ne_eqb}
+use Rattle.std.proofs.lemmas.Bool.{cases_Bool, and_right, le-ltb, lt-ltb, eq-eqb, ne_eqb, not-true}
 use Rattle.std.proofs.lemmas.List.Elements.{filter-append}
+use Rattle.std.proofs.lemmas.List.FromFn.{length-range_with_len}
 use Rattle.semantics.specs.Tables.{Tables}
 use Rattle.semantics.specs.Kinds.{is_free, is_before, item_kind, least_place}
 use Rattle.semantics.specs.Kinds as kinds
@@ -15,12 +16,12 @@ use Rattle.item_uses.specs.Sharing.{kind_between}
 use Rattle.item_uses.proofs.lemmas.ItemKinds.{kind_is}
 use Rattle.item_uses.proofs.lemmas.LeastPlaces.{place_is}
 use Rattle.item_uses.proofs.lemmas.Bounded.{none_free}
-use Rattle.item_uses.proofs.lemmas.Growing.{numbers_length}
 use Rattle.interference.specs.declared.pair.Pair.{Pair}
 use Rattle.interference.specs.Pairing.{pair_of, all_pairs, no_place, row, rows, left}
 use Rattle.interference.specs.Turned.{is_turned, turned}
 use Rattle.interference.proofs.AllPairs.{all_are}
 use Rattle.interference.proofs.Rows.{meeting}
+use Rattle.log_tables.proofs.lemmas.Places.{find_map}
 
 -- ---- the pairs against some places are those of all pairs that stand so
 
@@ -63,10 +64,6 @@ first_against places us = ap (find (λ (p : Pair). is_before p.kind)) (left_agai
 
 -- ---- the first that is turned
 
-find_map : {X Y : Type 0} (f : X → Y) (p : Y → Bool) (xs : List X) → find p (map f xs) ≡ option_map f (find (λ x. p (f x)) xs)
-find_map f p [] = refl
-find_map f p (x ∷ xs) = elim (cases_Bool (p (f x))) [ inl t ↦ rw t refl | inr e ↦ rw e (find_map f p xs) ]
-
 find_same : {X : Type 0} (p q : X → Bool) (xs : List X) → ((x : X) → Member xs x → p x ≡ q x) → find p xs ≡ find q xs
 find_same p q [] h = refl
 find_same p q (x ∷ xs) h = elim (cases_Bool (q x)) [ inl t ↦ rw (h x (inl refl) ∙ t, t) refl | inr f ↦ rw (h x (inl refl) ∙ f, f) (find_same p q xs (λ y m. h y (inr m))) ]
@@ -86,11 +83,7 @@ pair_within t p m =
     let of = member_map (λ b. (at.0, b)) (filter (λ b. not (is_free (item_kind t at.0 b))) (range_with_len (at.0 + 1) (length t.items - (at.0 + 1)))) p at.2 in
     let f = member_filter (λ b. not (is_free (item_kind t at.0 b))) (range_with_len (at.0 + 1) (length t.items - (at.0 + 1))) of.0 of.1 in
     let n = number_between (at.0 + 1) (length t.items - (at.0 + 1)) of.0 f.0 in
-    subst (OfPair t) (sym of.2) (record { order = omega (arith, n.0); within = omega (arith, n.0, n.1); meets = not_so (is_free (item_kind t at.0 of.0)) f.1 })
-  where
-    not_so : (b : Bool) → not b ≡ true → b ≡ false
-    not_so false e = refl
-    not_so true e = absurd cc
+    subst (OfPair t) (sym of.2) (record { order = omega (arith, n.0); within = omega (arith, n.0, n.1); meets = not-true (is_free (item_kind t at.0 of.0)) f.1 })
 
 -- The test of the definitions.
 abbrev is_turned_pair : Tables → ℕ × ℕ → Bool
@@ -98,7 +91,7 @@ is_turned_pair t p = is_before (item_kind t p.0 p.1) && nat_lt (serial_place t p
 
 turned_is : (t : Tables) (places : List ℕ) → ArePlacesIn (serial t) (length t.items) places → turned places (all_pairs t) ≡ option_map (pair_of t) (turned_pair t)
 turned_is t places is =
-    find_map (pair_of t) (is_turned places) (kinds.pairs t)
+    find_map (is_turned places) (pair_of t) (kinds.pairs t)
     ∙ ap (option_map (pair_of t)) (find_same (λ p. is_turned places (pair_of t p)) (is_turned_pair t) (kinds.pairs t)
     (λ p m. let w = pair_within t p m in
     ap (λ n. is_before (item_kind t p.0 p.1) && nat_lt n (get_or places p.0 0)) (place_at p.1 w.within)
@@ -118,7 +111,7 @@ place_number k (suc n) (suc i) lt =
     rw (ne_eqb k (k + suc i) other, rest) (omega arith)
 
 position_number : (k n i : ℕ) → i < n → position (λ j. j == k + i) (range_with_len k n) ≡ Some i
-position_number k n i lt = rw (place_number k n i lt, numbers_length k n, lt-ltb i n lt) refl
+position_number k n i lt = rw (place_number k n i lt, length-range_with_len k n, lt-ltb i n lt) refl
 
 place_unlisted : (t : Tables) (i : ℕ) → length t.serials ≡ 0 → i < length t.items → serial_place t i ≡ i
 place_unlisted t i e lt =

@@ -1,7 +1,7 @@
 -- One more requirement, at the end of a list.
 use Rattle.std.proofs.Common.{◌≡◌, ℕ, ◌+◌, ◌<◌, List, [], ◌∷◌, ◌++◌, refl, sym, ap, ◌∙◌, Option, Some, None, map, flat_map, take, length, get_or}
 use Rattle.std.specs.List.{filter_map, cons_option}
-use Rattle.std.proofs.lemmas.List.{take_more, map-append}
+use Rattle.std.proofs.lemmas.List.{take_more, map-append, append-nil}
 use Rattle.std.proofs.lemmas.List.Concat.{flat_map-append}
 use Rattle.std.proofs.lemmas.List.Elements.{filter_map-append}
 use Rattle.privilege.specs.Interference.{stronger}
@@ -19,10 +19,6 @@ least_one : (o : Option Place) → least_of (cons_option o []) ≡ o
 least_one None = refl
 least_one (Some p) = refl
 
-pub nothing_more : {X : Type 0} (xs : List X) → xs ++ [] ≡ xs
-nothing_more [] = refl
-nothing_more (x ∷ xs) = ap (λ ys. x ∷ ys) (nothing_more xs)
-
 pub kind_of_each : (q : Usage) (rs : List Usage) (i : ℕ) (r : Usage) → i < length rs → r ≡ get_or rs i r
     → strongest (map (shared_kind q) (take (i + 1) rs)) ≡ stronger (strongest (map (shared_kind q) (take i rs))) (shared_kind q r)
 kind_of_each q rs i r lt is =
@@ -39,10 +35,10 @@ pub kind_of_all : (qs rs : List Usage) (i : ℕ) (q : Usage) → i < length qs �
     → kind_between (take (i + 1) qs) rs ≡ stronger (kind_between (take i qs) rs) (strongest (map (shared_kind q) rs))
 kind_of_all qs rs i q lt is =
     ap (λ us. kind_between us rs) (one_more qs i q lt is) ∙ ap strongest (flat_map-append (λ q. map (shared_kind q) rs) (take i qs) (q ∷ []))
-    ∙ strongest_append (flat_map (λ q. map (shared_kind q) rs) (take i qs)) (map (shared_kind q) rs ++ []) ∙ ap (λ ks. stronger (kind_between (take i qs) rs) (strongest ks)) (nothing_more (map (shared_kind q) rs))
+    ∙ strongest_append (flat_map (λ q. map (shared_kind q) rs) (take i qs)) (map (shared_kind q) rs ++ []) ∙ ap (λ ks. stronger (kind_between (take i qs) rs) (strongest ks)) (append-nil (map (shared_kind q) rs))
 
 pub place_of_all : (qs rs : List Usage) (i : ℕ) (q : Usage) → i < length qs → q ≡ get_or qs i q
     → place_between (take (i + 1) qs) rs ≡ lesser_place (place_between (take i qs) rs) (least_of (filter_map (kind_place q) rs))
 place_of_all qs rs i q lt is =
     ap (λ us. place_between us rs) (one_more qs i q lt is) ∙ ap least_of (flat_map-append (λ q. filter_map (kind_place q) rs) (take i qs) (q ∷ []))
-    ∙ least_append (flat_map (λ q. filter_map (kind_place q) rs) (take i qs)) (filter_map (kind_place q) rs ++ []) ∙ ap (λ ps. lesser_place (place_between (take i qs) rs) (least_of ps)) (nothing_more (filter_map (kind_place q) rs))
+    ∙ least_append (flat_map (λ q. filter_map (kind_place q) rs) (take i qs)) (filter_map (kind_place q) rs ++ []) ∙ ap (λ ps. lesser_place (place_between (take i qs) rs) (least_of ps)) (append-nil (filter_map (kind_place q) rs))

@@ -5,7 +5,7 @@ use Rattle.std.proofs.lemmas.Bool.{cases_Bool, ltb-true, ltb-false, le-ltb}
 use Rattle.std.proofs.lemmas.List.Kept.{IsStrictlyIncreasing-filter}
 use Rattle.semantics.specs.Points.{is_in}
 use Rattle.point_set.specs.Least.{IsLeast, IsLeastCommon}
-use Rattle.log_laws.proofs.lemmas.Members.{Member, member_of, contains_of, member_filter, is_in_of, member_in}
+use Rattle.log_laws.proofs.lemmas.Members.{Member, member_of, contains_of, member_filter, is_in_of, member_in, filter_member}
 use Rattle.item_uses.specs.Sharing.{least_number, less_or, least_shared}
 use Rattle.item_uses.proofs.Ends.{first_least}
 
@@ -26,11 +26,6 @@ least_one P Q to back None None h k = refl
 least_one P Q to back None (Some p) h k = absurd (h p (back p k.0))
 least_one P Q to back (Some o) None h k = absurd (k o (to o h.0))
 least_one P Q to back (Some o) (Some p) h k = ap (λ n. Some n) (omega (arith, h.1 p (back p k.0), k.1 o (to o h.0)))
-
-pub filter_member : {X : Type 0} (p : X → Bool) (xs : List X) (x : X) → Member xs x → p x ≡ true → Member (filter p xs) x
-filter_member p [] x m e = absurd m
-filter_member p (y ∷ ys) x (inl is) e = rw (ap p (sym is) ∙ e) (inl is)
-filter_member p (y ∷ ys) x (inr m) e = elim (cases_Bool (p y)) [ inl t ↦ rw t (inr (filter_member p ys x m e)) | inr f ↦ rw f (filter_member p ys x m e) ]
 
 shared_filter : (ns ms : List ℕ) (n : ℕ) → Member ns n → Member ms n → Member (filter (is_in ms) ns) n
 shared_filter ns ms n m k = filter_member (is_in ms) ns n m (is_in_of ms n k)

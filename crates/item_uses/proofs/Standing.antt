@@ -1,7 +1,7 @@
 -- Items that ask for the same, but for the points, ask for the same.
-use Rattle.std.proofs.Common.{◌≡◌, ℕ, ◌+◌, ◌<◌, List, [], ◌∷◌, ◌++◌, length, refl, sym, ap, ◌∙◌, inl, inr, map, take, get_or, arith}
+use Rattle.std.proofs.Common.{◌≡◌, ℕ, List, [], length, sym, ap, ◌∙◌, inl, inr, map, arith}
 use Rattle.std.proofs.lemmas.Bool.{cases_lt}
-use Rattle.std.proofs.lemmas.List.{map-append, get_or_past}
+use Rattle.std.proofs.lemmas.List.{get_or_past}
 use Rattle.std.proofs.lemmas.Simd.{map-map}
 use Rattle.semantics.specs.Tables.{Tables}
 use Rattle.semantics.specs.Points.{points_in}
@@ -9,13 +9,6 @@ use Rattle.semantics.specs.Kinds.{uses_of}
 use Rattle.item_uses.specs.Usages.{Usage, usage_of, usages_of, usages, usages_at}
 use Rattle.item_uses.specs.Representatives.{without_points, AreAlike}
 use Rattle.item_uses.proofs.lemmas.Growing.{usages_length, usages_is}
-use Rattle.item_uses.proofs.OneMore.{one_more}
-
-pub alike_more : (qs rs : List Usage) (i : ℕ) (q r : Usage) → i < length qs → i < length rs → q ≡ get_or qs i q → r ≡ get_or rs i r
-    → AreAlike (take i qs) (take i rs) → without_points q ≡ without_points r → AreAlike (take (i + 1) qs) (take (i + 1) rs)
-alike_more qs rs i q r lq lr iq ir so_far one =
-    ap (map without_points) (one_more qs i q lq iq) ∙ map-append without_points (take i qs) (q ∷ []) ∙ ap (λ us. us ++ without_points q ∷ []) so_far
-    ∙ ap (λ u. map without_points (take i rs) ++ u ∷ []) one ∙ sym (ap (map without_points) (one_more rs i r lr ir) ∙ map-append without_points (take i rs) (r ∷ []))
 
 -- The points are those of the space.
 abbrev with_points : Tables → Usage → Usage

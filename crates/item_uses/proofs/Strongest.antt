@@ -62,8 +62,5 @@ strongest_append (j ∷ js) ks = ap (stronger j) (strongest_append js ks) ∙ sy
 pub only_free : (k : Kind) → AtMost k Free → k ≡ Free
 only_free k h = sym (commutes k Free) ∙ h
 
-pub free_at_most : (k : Kind) → AtMost Free k
-free_at_most k = refl
-
 pub last_free : (k : Kind) → stronger k Free ≡ k
 last_free k = commutes k Free

@@ -1,4 +1,3 @@
-mod GoodRecords
 mod Lines
 mod Numbers
 mod Spaces

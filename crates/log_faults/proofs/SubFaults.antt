@@ -3,8 +3,9 @@ use Rattle.std.proofs.Common.{◌≡◌, ℕ, zero, suc, ◌<◌, ◌==◌, Bool
 use Rattle.std.specs.Bool.{Decides}
 use Rattle.std.specs.List.{list_any}
 use Rattle.std.specs.Option.{option_map, option_map_or}
-use Rattle.std.proofs.lemmas.Bool.{and_parts, cases_Bool, eqb-true, false≢true}
+use Rattle.std.proofs.lemmas.Bool.{and_parts, cases_Bool, eqb-true, false≢true, and_from}
 use Rattle.std.proofs.lemmas.Option.{none-some, same_Some, slice_get_within}
+use Rattle.std.proofs.lemmas.Map.Keys.{any_passes_from_place}
 use Rattle.spy_grammar.specs.declared.record.Record.TheVariants.{Sub}
 use Rattle.region_tree.specs.declared.decls.PartDecl.{PartDecl}
 use Rattle.region_tree.specs.declared.decls.SubDecl.{SubDecl}
@@ -22,7 +23,7 @@ use Rattle.log_faults.specs.Decls.{decls_of, space_decl, part_decl, sub_decl}
 use Rattle.log_tables.proofs.lemmas.Members.{eq_turned}
 use Rattle.log_faults.proofs.Depth.{find_seen, whole_is}
 use Rattle.log_faults.proofs.Growing.{Extends, points_kept, part_kept}
-use Rattle.log_faults.proofs.Members.{Decides-outside, Decides-meets, passing, passes}
+use Rattle.log_faults.proofs.Members.{Decides-outside, Decides-meets, passing}
 
 -- Elements by place.
 at_map : {X Y : Type 0} (f : X → Y) (xs : List X) (i : ℕ) (x : X) → slice_get xs i ≡ Some x → slice_get (map f xs) i ≡ Some (f x)
@@ -112,9 +113,6 @@ Decides-is_outside t u s next =
           (Decides-outside P Q).1 (h.0, subst (λ (xs : List ℕ). Contains xs h.0) is_P has, λ q. not (subst (λ (xs : List ℕ). Contains xs h.0) (sym is_Q) q)),
     )
 
-true_and : (a b : Bool) → a ≡ true → b ≡ true → (a && b) ≡ true
-true_and a b x y = ap (λ c. c && b) x ∙ y
-
 -- The subspace meets an earlier one of its disjoint partition: both ways of saying so agree.
 pub Decides-is_not_disjoint : (t u : Tables) (s : subs.Sub) → IsNext t u s → Decides (is_not_disjoint t (Sub s.part s.colour s.space)) ((j : ℕ) × MeetsEarlier (decls_of u) (length t.subs) j)
 Decides-is_not_disjoint t u s next =
@@ -165,7 +163,7 @@ Decides-is_not_disjoint t u s next =
           let is_dis : dis ≡ true = sym (disjoint_then t u s next) ∙ ap (λ (y : SubDecl). is_disjoint (decls_of u) y.part) (sym same) ∙ c.1 in
           let in_P : Contains P point = subst (λ (xs : List ℕ). Contains xs point) (ap (λ (y : SubDecl). space_points (decls_of u) y.space) same ∙ is_P) c.2 in
           let in_x : Contains (points_in t x.space) point = subst (λ (xs : List ℕ). Contains xs point) (ap (λ (y : SubDecl). space_points (decls_of u) y.space) (sym is_x) ∙ points_at h.0 x other.1) c.3 in
-          true_and dis (list_any test t.subs) is_dis (passes test t.subs h.0 x other.1 (true_and (x.part == s.part) (meets P (points_in t x.space)) (eq-eqb x.part s.part one_part) ((Decides-meets P (points_in t x.space)).1 (point, in_P, in_x)))),
+          and_from dis (list_any test t.subs) is_dis (any_passes_from_place test t.subs h.0 x other.1 (and_from (x.part == s.part) (meets P (points_in t x.space)) (eq-eqb x.part s.part one_part) ((Decides-meets P (points_in t x.space)).1 (point, in_P, in_x)))),
     )
   where
     seen_among : (j : ℕ) (y : SubDecl) → j < length t.subs → slice_get (decls_of u).subs j ≡ Some y → slice_get (decls_of t).subs j ≡ Some y

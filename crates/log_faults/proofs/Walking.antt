@@ -3,7 +3,7 @@ use Rattle.std.proofs.Common.{◌≡◌, ℕ, ◌+◌, ◌<◌, ◌≤◌, List,
 use Rattle.std.specs.Option.{option_or}
 use Rattle.std.proofs.lemmas.Bool.{false≢true}
 use Rattle.std.proofs.lemmas.Option.{slice_get-get_or}
-use Rattle.std.proofs.lemmas.List.{append-nil, take_more, map-append, length-map, length-take}
+use Rattle.std.proofs.lemmas.List.{append-nil, take_more, map-append, length-map, length-take-le}
 use Rattle.std.proofs.lemmas.List.Sums.{fold-append}
 use Rattle.spy_grammar.specs.declared.code.Code.{Code}
 use Rattle.spy_grammar.specs.declared.code.Code.TheVariants as codes
@@ -85,10 +85,7 @@ stands log k i t code l at tables keep within lt is e =
     })
 
 pub counted : (log : List Lined) (k i : ℕ) → k ≡ i → i ≤ length log → k ≡ length (records_of (take i log))
-counted log k i at le = at ∙ sym (length-map (take i log) (λ (x : Lined). x.rec) ∙ length_take i log le)
-  where
-    length_take : (i : ℕ) (xs : List Lined) → i ≤ length xs → length (take i xs) ≡ i
-    length_take i xs le = omega (arith, length-take i xs)
+counted log k i at le = at ∙ sym (length-map (take i log) (λ (x : Lined). x.rec) ∙ length-take-le i log le)
 
 pub stands_where : (log : List Lined) (k i : ℕ) (t : Tables) (o : Option Code) (l : Lined) → k ≡ i → t ≡ tables_of (take i log) → Keep (records_of log) [] (take i log) → access_total t (records_of (take i log)) ≤ 4194304
     → i < length log → l ≡ get_or log i l → is_some o ≡ true → o ≡ broken_of (records_of log) (records_of (take i log)) t l.rec → StandsAt log k t o

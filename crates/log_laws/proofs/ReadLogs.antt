@@ -9,8 +9,9 @@ use Rattle.spy_grammar.specs.declared.record.Record.{Record}
 use Rattle.spy_grammar.specs.declared.record.Lined.{Lined}
 use Rattle.spy_grammar.specs.Reading.{line_at}
 use Rattle.spy_grammar.specs.Spelling.{spelling, Good}
-use Rattle.semantics.specs.Records.{text_of, records_of, lined_from, lined, parts_of, line_count, Hold, Reads}
+use Rattle.semantics.specs.Records.{text_of, records_of, lined, parts_of, line_count, Hold, Reads}
 use Rattle.semantics.specs.TextFaults.{is_too_long, lines_fault, text_fault}
+use Rattle.log_laws.proofs.lemmas.Numbered.{spellings_hold}
 
 -- ---- the records of a log that is held are good
 
@@ -20,10 +21,6 @@ held_is_good line (l ∷ lines) log (inl h) = held_is_good (line + 1) lines log 
 held_is_good line (l ∷ lines) log (inr h) = rw h.4 (h.2, held_is_good (line + 1) lines h.1 h.5)
 
 -- ---- what a log is printed as
-
-pub lined_again : (n : ℕ) (rs : List Record) → records_of (lined_from n rs) ≡ rs
-lined_again n [] = refl
-lined_again n (r ∷ rs) = ap (λ ls. r ∷ ls) (lined_again (n + 1) rs)
 
 all_but_last : (ls : List (List ℕ)) → (take (length (ls ++ [] ∷ []) - 1) (ls ++ [] ∷ []) ≡ ls) × (drop (length (ls ++ [] ∷ []) - 1) (ls ++ [] ∷ []) ≡ [] ∷ [])
 all_but_last ls = let count : length ls ≡ length (ls ++ [] ∷ []) - 1 = omega (arith, length_push ls []) in (take_at ls ([] ∷ []) _ count, drop_at ls ([] ∷ []) _ count)
@@ -47,14 +44,10 @@ module _ (read : (r : Record) → Good r → line_at (spelling r) ≡ Ok (Some r
   parts_printed (r ∷ rs) good =
       slice_split_at (λ b. b == 10) (spelling r) 10 (text_of rs) (λ k d lt. ne_eqb _ 10 (one_line r good.0 k d lt)) refl ∙ ap (λ ps. spelling r ∷ ps) (parts_printed rs good.1)
 
-  printed_holds : (n : ℕ) (rs : List Record) → AllByRecursion Good rs → Hold n (map spelling rs) (lined_from n rs)
-  printed_holds n [] good = refl
-  printed_holds n (r ∷ rs) good = inr (r, lined_from (n + 1) rs, good.0, refl, refl, printed_holds (n + 1) rs good.1)
-
   pub printed_is_read : (rs : List Record) → AllByRecursion Good rs → Reads (text_of rs) (lined rs)
   printed_is_read rs good = record {
     ended = rw (parts_printed rs good) (all_but_last (map spelling rs)).1;
-    hold = rw (parts_printed rs good, (all_but_last (map spelling rs)).0) (printed_holds 1 rs good);
+    hold = rw (parts_printed rs good, (all_but_last (map spelling rs)).0) (spellings_hold 1 rs good);
   }
 
   printed_lines : (n : ℕ) (rs : List Record) → AllByRecursion Good rs → lines_fault n (map spelling rs) ≡ None

@@ -7,3 +7,4 @@ pub mod Sane
 pub mod Admitted
 pub mod StepLists
 pub mod Tidy
+pub mod Numbered

@@ -5,6 +5,7 @@ use Rattle.std.specs.Option.{option_map, option_map_or}
 use Rattle.std.proofs.lemmas.Bool.{and_parts, cases_Bool, eqb-true, ne_eqb}
 use Rattle.std.proofs.lemmas.List.Folds.{list_any_more}
 use Rattle.std.proofs.lemmas.List.Sums.{length-filter}
+use Rattle.std.proofs.Math.Bool.{or-false, or_assoc, and_comm}
 use Rattle.privilege.specs.declared.kinds.Priv.{Priv}
 use Rattle.privilege.specs.Interference.{agree}
 use Rattle.spy_words.specs.declared.access.PrivWord.{PrivWord}
@@ -16,7 +17,6 @@ use Rattle.semantics.specs.Reads.{req_at}
 use Rattle.log_rules.specs.declared.claims.OwnPlace.{OwnPlace}
 use Rattle.log_rules.specs.declared.claims.Claims.{Claims}
 use Rattle.log_rules.specs.Own.{AreClaims, clashes, claims_at, clashes_with, clashes_own, first_clashes, req_clashes_at, clashes_at, first_clashes_at, clashes_in, clashes_row, same_place, claimed}
-use Rattle.log_rules.proofs.Booleans.{or_false, or_assoc}
 use Rattle.log_rules.proofs.Members.{meets_turned}
 use Rattle.log_rules.proofs.ListTests.{list_any-alike, list_any-false, list_any-and, list_any-or, list_any-list_any, is_some-find, find-none}
 
@@ -47,7 +47,7 @@ clashes-put old j k claim new access a is joins =
           ∙ sym (ap (λ b. clashes (old k) a || (b && not (agree access a))) same)
       | inr other ↦
           ap (λ o. clashes o a) (is ∙ ap (λ b. cond b (Some claim) (old k)) other)
-          ∙ or_false (clashes (old k) a)
+          ∙ sym (or-false (clashes (old k) a))
           ∙ sym (ap (λ b. clashes (old k) a || (b && not (agree access a))) other)
     ]
 
@@ -76,20 +76,14 @@ claims_at-field old mid new item tree point field fields i access k a lt is befo
     )
     )
 
-turned : (a b : Bool) → (a && b) ≡ (b && a)
-turned true true = refl
-turned true false = refl
-turned false true = refl
-turned false false = refl
-
 -- One requirement, place by place.
 row_told : (a b d : Bool) (ns ms : ℕ → Bool) (P F : List ℕ) → (a && (b && (list_any ns P && (list_any ms F && d)))) ≡ list_any (λ x. list_any (λ f. a && (b && (ns x && (ms f && d)))) F) P
 row_told false b d ns ms P F = sym (list_any-alike _ (λ x. false) P (λ x. list_any-false F) ∙ list_any-false P)
 row_told true false d ns ms P F = sym (list_any-alike _ (λ x. false) P (λ x. list_any-false F) ∙ list_any-false P)
 row_told true true d ns ms P F = sym (
     list_any-alike (λ x. list_any (λ f. ns x && (ms f && d)) F) (λ x. (list_any ms F && d) && ns x) P
-    (λ x. list_any-and (ns x) (λ f. ms f && d) F ∙ ap (λ b. ns x && b) (list_any-alike (λ f. ms f && d) (λ f. d && ms f) F (λ f. turned (ms f) d) ∙ list_any-and d ms F ∙ turned d (list_any ms F)) ∙ turned (ns x) (list_any ms F && d))
-    ∙ list_any-and (list_any ms F && d) ns P ∙ turned (list_any ms F && d) (list_any ns P)
+    (λ x. list_any-and (ns x) (λ f. ms f && d) F ∙ ap (λ b. ns x && b) (list_any-alike (λ f. ms f && d) (λ f. d && ms f) F (λ f. and_comm (ms f) d) ∙ list_any-and d ms F ∙ and_comm d (list_any ms F)) ∙ and_comm (ns x) (list_any ms F && d))
+    ∙ list_any-and (list_any ms F && d) ns P ∙ and_comm (list_any ms F && d) (list_any ns P)
     )
 
 -- Whether a requirement clashes is found place by place.

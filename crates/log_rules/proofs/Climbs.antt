@@ -1,5 +1,5 @@
 -- Climbs from space to space, step by step.
-use Rattle.std.proofs.Common.{◌≡◌, ℕ, suc, zero, ◌+◌, ◌-◌, ◌<◌, ◌≤◌, ◌==◌, Bool, true, false, ◌||◌, List, [], Option, Some, None, min, nat_lt, length, refl, sym, ap, inl, inr, arith}
+use Rattle.std.proofs.Common.{◌≡◌, ℕ, suc, zero, ◌+◌, ◌-◌, ◌<◌, ◌==◌, Bool, false, ◌||◌, List, [], Option, Some, None, min, nat_lt, length, refl, ap, inl, inr, arith}
 use Rattle.std.proofs.lemmas.Bool.{cases_lt}
 use Rattle.std.proofs.lemmas.Bool.Decides.{nat_tests}
 use Rattle.semantics.specs.Tables.{Tables}
@@ -16,12 +16,6 @@ none_above : (t : Tables) (k : ℕ) → upward t k None ≡ []
 none_above t zero = refl
 none_above t (suc k) = refl
 
-pub climbed_out : (t : Tables) (n up k at : ℕ) → space_above t at ≡ None → n ≡ up + length (upward t k (space_above t at)) → up ≡ n
-climbed_out t n up k at is e = let h : n ≡ up + 0 = rw (is, none_above t k) at e in omega (arith, h)
-
-pub climbed_all : (t : Tables) (n up limit at : ℕ) → limit ≤ up → up ≤ limit → n ≡ up + length (upward t (limit - up) (space_above t at)) → limit ≡ n
-climbed_all t n up limit at le ge e = let k : limit - up ≡ 0 = omega arith in let h : n ≡ up + 0 = rw k at e in omega (arith, h)
-
 -- the same, for a root that is looked for
 pub missed_more : (t : Tables) (b : Bool) (root up limit at above : ℕ) → up < limit → space_above t at ≡ Some above → (above ≡ root → ⊥) → b ≡ is_in (upward t (limit - up) (space_above t at)) root → b ≡ is_in (upward t (limit - (up + 1)) (space_above t above)) root
 missed_more t b root up limit at above lt is ne e =
@@ -29,19 +23,6 @@ missed_more t b root up limit at above lt is ne e =
     let no : (above == root) ≡ false = grind (arith) in
     let h : b ≡ ((above == root) || is_in (upward t (limit - (up + 1)) (space_above t above)) root) = rw (k, is) at e in
     rw no at h
-
-pub met_root : (t : Tables) (b : Bool) (root up limit at above : ℕ) → up < limit → space_above t at ≡ Some above → above ≡ root → b ≡ is_in (upward t (limit - up) (space_above t at)) root → true ≡ b
-met_root t b root up limit at above lt is here e =
-    let k : limit - up ≡ suc (limit - (up + 1)) = omega arith in
-    let yes : (above == root) ≡ true = grind (arith) in
-    let h : b ≡ ((above == root) || is_in (upward t (limit - (up + 1)) (space_above t above)) root) = rw (k, is) at e in
-    sym (rw yes at h)
-
-pub missed_out : (t : Tables) (b : Bool) (root k at : ℕ) → space_above t at ≡ None → b ≡ is_in (upward t k (space_above t at)) root → false ≡ b
-missed_out t b root k at is e = sym (rw (is, none_above t k) at e)
-
-pub missed_all : (t : Tables) (b : Bool) (root up limit at : ℕ) → limit ≤ up → b ≡ is_in (upward t (limit - up) (space_above t at)) root → false ≡ b
-missed_all t b root up limit at le e = let k : limit - up ≡ 0 = omega arith in sym (rw k at e)
 
 -- a climb that is cut off
 pub cut_off : (t : Tables) (n m k : ℕ) (o : Option ℕ) → k ≡ min n m → length (upward t k o) ≡ min (length (upward t n o)) m

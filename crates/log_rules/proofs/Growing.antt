@@ -1,13 +1,14 @@
 -- What one record more adds to tables, and what it leaves as it was.
-use Rattle.std.proofs.Common.{◌≡◌, ℕ, ◌+◌, ◌*◌, ◌-◌, ◌<◌, ◌≤◌, ◌==◌, ◌^◌, nat_lt, Bool, true, false, not, ◌&&◌, ◌||◌, List, [], ◌∷◌, ◌++◌, map, find, flat_map, length, Option, Some, None, refl, sym, ap, ◌∙◌, lit<, inl, inr, arith, sum_by}
+use Rattle.std.proofs.Common.{◌≡◌, ℕ, ◌+◌, ◌*◌, ◌-◌, ◌<◌, ◌≤◌, ◌==◌, ◌^◌, nat_lt, Bool, true, false, not, ◌&&◌, ◌||◌, List, [], ◌∷◌, ◌++◌, find, length, Option, Some, None, refl, sym, ap, ◌∙◌, lit<, inl, inr, arith, sum_by}
 use Rattle.std.specs.List.{list_any, list_all}
 use Rattle.std.specs.Option.{option_map_or}
-use Rattle.std.proofs.lemmas.Bool.{and_from, and_parts, cases_Bool, eqb-true, false≢true}
+use Rattle.std.proofs.lemmas.Bool.{and_from, and_parts, cases_Bool, eqb-true, false≢true, ltb-false}
 use Rattle.std.proofs.lemmas.Bool.Decides.{nat_tests}
 use Rattle.std.proofs.lemmas.List.Folds.{list_all-append, list_any-append}
 use Rattle.std.proofs.lemmas.Grind.{flat_map-append}
 use Rattle.std.proofs.lemmas.List.{append-nil}
 use Rattle.std.proofs.lemmas.List.Sums.{sum_by-cons, sum_by_push, length-filter}
+use Rattle.std.proofs.Math.Bool.{or_comm, or-false, or_assoc}
 use Rattle.privilege.specs.declared.kinds.Priv.{Priv}
 use Rattle.privilege.specs.Interference.{agree}
 use Rattle.spy_grammar.specs.declared.record.Record.{Record}
@@ -25,7 +26,6 @@ use Rattle.log_rules.specs.Listing.{ids_listed}
 use Rattle.log_rules.specs.declared.claims.Claims.{Claims}
 use Rattle.log_rules.specs.Own.{Adds, AreClaims, claims_at, claimed, clashes_in, clashes_at, first_clashes_at, req_clashes_at}
 use Rattle.log_rules.specs.Tallied.{knows_space, AreKnown}
-use Rattle.log_rules.proofs.Booleans.{or_false, or_assoc}
 use Rattle.log_rules.proofs.Limits.{accesses-asked}
 use Rattle.log_rules.proofs.ListTests.{find-none, find-kept, find-last}
 
@@ -73,10 +73,7 @@ all-snoc : {A : Type 0} (p : A → Bool) (xs : List A) (x : A) → list_all p xs
 all-snoc p xs x all here = list_all-append p xs (x ∷ []) ∙ and_from (list_all p xs) (p x && true) all (and_from (p x) true here refl)
 
 within : (sum more limit old : ℕ) → old ≡ sum → nat_lt limit (sum + more) ≡ false → limit < 2 ^ 128 - 1 → cut (old + more) ≡ sum + more
-within sum more limit old is fits small = let low : sum + more ≤ limit = under (sum + more) limit fits in omega arith
-  where
-    under : (n m : ℕ) → nat_lt m n ≡ false → n ≤ m
-    under n m h = grind (arith, nat_tests)
+within sum more limit old is fits small = let low : sum + more ≤ limit = ltb-false limit (sum + more) fits in omega arith
 
 -- ---- The record's own names are declared.
 
@@ -147,7 +144,7 @@ listed-add t line (Serial ids) n =
     ap (λ (xs : List ℕ). is_in xs n) (flat_map-append (λ (s : serials.Serial). s.ids) t.serials (record { line = line; ids = ids } ∷ []))
     ∙ is_in-append (listed t) (ids ++ []) n
     ∙ ap (λ (xs : List ℕ). is_in (listed t) n || is_in xs n) (append-nil ids)
-listed-add t line _ n = or_false (is_in (listed t) n)
+listed-add t line _ n = sym (or-false (is_in (listed t) n))
 
 -- ---- Claims.
 
@@ -159,19 +156,13 @@ found-known p q f g (x ∷ xs) same all =
       | inr miss ↦ rw miss (found-known p q f g xs same (and_parts (p x) (list_all p xs) all).1)
     ]
 
-or_turned : (a b : Bool) → (a || b) ≡ (b || a)
-or_turned true true = refl
-or_turned true false = refl
-or_turned false true = refl
-or_turned false false = refl
-
 -- What is added to the claims, where the first requirement stays, and where the record is the first.
 added : (first first2 old new at more : Bool) → first2 ≡ first → (first || old) ≡ at → new ≡ (old || more) → (first2 || new) ≡ (at || more)
 added first first2 old new at more same is adds = ap (λ b. b || new) same ∙ ap (λ b. first || b) adds ∙ sym (or_assoc first old more) ∙ ap (λ b. b || more) is
 
 started : (first first2 old new at more : Bool) → first ≡ false → first2 ≡ more → (first || old) ≡ at → new ≡ (old || false) → (first2 || new) ≡ (at || more)
 started first first2 old new at more none one is adds =
-    ap (λ b. b || new) one ∙ ap (λ b. more || b) (adds ∙ sym (or_false old) ∙ sym (ap (λ b. b || old) none) ∙ is) ∙ or_turned more at
+    ap (λ b. b || new) one ∙ ap (λ b. more || b) (adds ∙ or-false old ∙ sym (ap (λ b. b || old) none) ∙ is) ∙ or_comm more at
 
 req_clashes_at-grow : (t u : Tables) (k : OwnPlace) (a : Priv) → Grows t u → (q : reqs.Req) → is_declared t (space_id q.space) ≡ true → req_clashes_at u k a q ≡ req_clashes_at t k a q
 req_clashes_at-grow t u k a g q here = ap (λ (xs : List ℕ). claims_at q.item q.tree xs q.fields q.access k a) (g.points q.space here)
@@ -212,7 +203,7 @@ AreClaims-add t line (Req task tree space fields access atomic) old new are know
           (are k a)
           (adds k a ∙ ap (λ b. clashes_in old k a || (not b && more)) some)
     ])
-    ∙ ap (λ b. clashes_at t k a || b) (or_false more)
+    ∙ ap (λ b. clashes_at t k a || b) (sym (or-false more))
     ∙ sym (list_any-append f t.reqs (one ∷ []))
   where
     later : (b : Bool) (n : ℕ) → (n == 0) ≡ false → (b && (n + 1 == 1)) ≡ false
@@ -223,11 +214,11 @@ AreClaims-add t line (Ispace id set) old new are known adds = λ k a.
     let g = grows t line (Ispace id set) in
     let here = λ (q : reqs.Req). is_declared t (space_id q.space) in
     ap (λ b. b || clashes_in new k a) (found-known here (λ (q : reqs.Req). (q.item == k.item) && (q.number == 1)) (req_clashes_at u k a) (req_clashes_at t k a) t.reqs (req_clashes_at-grow t u k a g) known)
-    ∙ ap (λ b. first_clashes_at t k a || b) (adds k a ∙ sym (or_false (clashes_in old k a)))
+    ∙ ap (λ b. first_clashes_at t k a || b) (adds k a ∙ or-false (clashes_in old k a))
     ∙ are k a
     ∙ sym (any-known here (req_clashes_at u k a) (req_clashes_at t k a) t.reqs (req_clashes_at-grow t u k a g) known)
 AreClaims-add t line _ old new are known adds = λ k a.
-    ap (λ b. first_clashes_at t k a || b) (adds k a ∙ sym (or_false (clashes_in old k a))) ∙ are k a
+    ap (λ b. first_clashes_at t k a || b) (adds k a ∙ or-false (clashes_in old k a)) ∙ are k a
 
 -- ---- What is known stays known.
 

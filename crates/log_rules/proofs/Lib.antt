@@ -1,5 +1,3 @@
-mod Ascending
-mod Booleans
 mod Claiming
 mod Climbs
 mod Growing

@@ -1,5 +1,5 @@
 -- Sums that are counted, and their limits.
-use Rattle.std.proofs.Common.{◌≡◌, ℕ, zero, suc, ◌+◌, ◌-◌, ◌<◌, List, [], ◌∷◌, ◌++◌, min, take, length, get_or, refl, ap, ◌∙◌, arith}
+use Rattle.std.proofs.Common.{◌≡◌, ℕ, ◌+◌, ◌-◌, ◌<◌, List, [], ◌∷◌, ◌++◌, min, take, length, get_or, refl, ap, ◌∙◌, arith}
 use Rattle.std.specs.List.{range_with_len}
 use Rattle.std.specs.Option.{option_map_or}
 use Rattle.std.proofs.lemmas.List.{length-append, take_more}
@@ -9,9 +9,6 @@ use Rattle.spy_grammar.specs.declared.record.Record.TheVariants.{Req, Fill, Copy
 use Rattle.semantics.specs.Tables.{Tables, points_of}
 use Rattle.semantics.specs.Rules.{size_of, accesses}
 use Rattle.log_rules.specs.Counts.{asked}
-
-pub cut-add : (a b m : ℕ) → min (min a m + b) m ≡ min (a + b) m
-cut-add a b m = omega arith
 
 pub cut-both : (a b m : ℕ) → min (a + min b m) m ≡ min (a + b) m
 cut-both a b m = omega arith

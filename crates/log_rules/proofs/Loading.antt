@@ -8,6 +8,7 @@ use Rattle.std.proofs.lemmas.List.Sums.{sum_by-append, sum_by-cons}
 use Rattle.std.proofs.lemmas.List.Filters.{length-filter_more}
 use Rattle.std.proofs.lemmas.List.Folds.{list_any_more}
 use Rattle.std.proofs.lemmas.List.Kept.{AllPairs-from_increasing}
+use Rattle.std.proofs.lemmas.Grind.{get_or_default_zero}
 use Rattle.semantics.specs.declared.tables.Req.{Req}
 use Rattle.semantics.specs.declared.tables.Inst.{Inst}
 use Rattle.semantics.specs.Tables.{Tables}
@@ -17,7 +18,7 @@ use Rattle.semantics.specs.Rules.{load_of, reduces}
 use Rattle.log_rules.specs.declared.load.LoadPlace.{LoadPlace}
 use Rattle.log_rules.specs.Counts.{cut}
 use Rattle.log_rules.specs.Loads.{one, same_load_place, is_held, covers_place, load_at, row_load, inst_load}
-use Rattle.log_tables.proofs.lemmas.Members.{Decides-is_in, get_or_any}
+use Rattle.log_tables.proofs.lemmas.Members.{Decides-is_in}
 
 -- ---- Places that are one.
 
@@ -58,7 +59,7 @@ fresh_field fields i n up lt here =
     let e : get_or fields c.0 n ≡ n = sym (get_or-take i fields c.0 n low) ∙ c.2 in
     let f : get_or fields i 0 ≡ n = eqb-true (get_or fields i 0) n here in
     let below : get_or fields c.0 n < get_or fields i n = AllPairs-from_increasing fields up c.0 i n low lt in
-    let same : get_or fields i n ≡ get_or fields i 0 = get_or_any fields i n lt in
+    let same : get_or fields i n ≡ get_or fields i 0 = get_or_default_zero fields i n lt in
     omega arith)
 
 split_field : (t p fs e : Bool) → (e ≡ true → fs ≡ false) → one (t && ((p || false) && fs)) + one (t && (p && e)) ≡ one (t && ((p || false) && (fs || e)))
@@ -96,13 +97,6 @@ pub load-point : (mid new goal tree p : ℕ) (rest fields : List ℕ) (k : LoadP
 load-point mid new goal tree p rest fields k up before after =
     let split = split_point (tree == k.tree) (p == k.point) (is_in rest k.point) (is_in fields k.field) (fresh_point p rest k.point up) in
     omega (arith, before, after, split)
-
-none_held : (b : Bool) → one (b && false) ≡ 0
-none_held true = refl
-none_held false = refl
-
-pub load-end : (new goal tree : ℕ) (fields : List ℕ) (k : LoadPlace) → cut (new + one (is_held tree [] fields k)) ≡ goal → cut new ≡ goal
-load-end new goal tree fields k h = let n : one (is_held tree [] fields k) ≡ 0 = none_held (tree == k.tree) in omega (arith, h, n)
 
 -- ---- Requirements, one by one.
 

@@ -3,10 +3,10 @@ use Rattle.std.proofs.Common.{◌≡◌, ℕ, ◌+◌, ◌<◌, ◌==◌, Bool, 
 use Rattle.std.proofs.lemmas.Bool.{cases_Bool, false≢true, or_right}
 use Rattle.std.proofs.lemmas.List.{take_more}
 use Rattle.std.proofs.lemmas.List.Folds.{list_any-append, list_any_more}
+use Rattle.std.proofs.Math.Bool.{or-false, not-not}
 use Rattle.semantics.specs.Points.{is_in}
 use Rattle.semantics.specs.Rules.{has_repeat}
 use Rattle.log_rules.specs.Listing.{IsSetOf}
-use Rattle.log_rules.proofs.Booleans.{or_false}
 use Rattle.log_tables.proofs.lemmas.Members.{eq_turned}
 
 mixed : (a e r s : Bool) → ((a || (e || false)) || (r || s)) ≡ ((a || r) || (e || s))
@@ -34,10 +34,6 @@ has_repeat-front (x ∷ xs) ys h =
           ap (λ b. (is_in xs x || is_in ys x) || b) (has_repeat-front xs ys rest) ∙ or_right (is_in xs x || is_in ys x) true refl
     ]
 
-not_not : (b : Bool) → not (not b) ≡ b
-not_not true = refl
-not_not false = refl
-
 -- Whether one number more repeats an earlier one.
 pub has_repeat_more : (ids : List ℕ) (i : ℕ) (seen : ℕ → Bool) (added : Bool) → i < length ids → has_repeat (take i ids) ≡ false → IsSetOf (take i ids) seen → added ≡ not (seen (get_or ids i 0)) → has_repeat (take (i + 1) ids) ≡ not added
 has_repeat_more ids i seen added lt once is new =
@@ -45,7 +41,7 @@ has_repeat_more ids i seen added lt once is new =
     ∙ has_repeat-snoc (take i ids) (get_or ids i 0)
     ∙ ap (λ b. b || is_in (take i ids) (get_or ids i 0)) once
     ∙ sym (is (get_or ids i 0))
-    ∙ sym (ap not new ∙ not_not (seen (get_or ids i 0)))
+    ∙ sym (ap not new ∙ not-not (seen (get_or ids i 0)))
 
 pub has_repeat_kept : (ids : List ℕ) (i : ℕ) → has_repeat (take i ids) ≡ true → has_repeat ids ≡ true
 has_repeat_kept ids i h = ap has_repeat (sym (take-append-drop i ids)) ∙ has_repeat-front (take i ids) (drop i ids) h
@@ -56,6 +52,6 @@ IsSetOf_more ids i old new lt is puts n =
     puts n
     ∙ elim (cases_Bool (get_or ids i 0 == n)) [
       | inl same ↦ ap (λ b. cond b true (old n)) same ∙ sym (ap (λ b. is_in (take i ids) n || b) same ∙ or_right (is_in (take i ids) n) true refl)
-      | inr other ↦ ap (λ b. cond b true (old n)) other ∙ is n ∙ sym (ap (λ b. is_in (take i ids) n || b) other ∙ sym (or_false (is_in (take i ids) n)))
+      | inr other ↦ ap (λ b. cond b true (old n)) other ∙ is n ∙ sym (ap (λ b. is_in (take i ids) n || b) other ∙ or-false (is_in (take i ids) n))
     ]
     ∙ sym (list_any_more (λ m. m == n) ids i 0 lt)

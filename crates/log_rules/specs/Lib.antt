@@ -1,7 +1,6 @@
 pub mod Counts
 pub mod Gathered
 pub mod Instances
-pub mod Left
 pub mod Listing
 pub mod Loads
 pub mod Own

@@ -1,5 +1,5 @@
 -- How many requirements reduce at places.
-use Rattle.std.specs.Prelude.{◌≡◌, ℕ, ◌+◌, ◌==◌, Bool, ◌&&◌, List, map, filter, length, unwrap_or, if◌then◌else◌, sum_by}
+use Rattle.std.specs.Prelude.{◌≡◌, ℕ, ◌+◌, ◌==◌, Bool, ◌&&◌, List, filter, length, unwrap_or, if◌then◌else◌, sum_by}
 use Rattle.std.specs.HashMap.{get}
 use Rattle.semantics.specs.declared.tables.Req.{Req}
 use Rattle.semantics.specs.declared.tables.Inst.{Inst}

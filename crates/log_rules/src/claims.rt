@@ -8,8 +8,7 @@ ghost use Rattle.log_rules.specs.declared.claims.OwnPlace.{OwnPlace};
 ghost use Rattle.privilege.specs.Interference.{agree};
 ghost use Rattle.privilege.specs.declared.kinds.Priv.{Priv};
 
-use crate::points::Points;
-use point_set::PointSet;
+use point_set::{PointSet, points_in};
 use privilege::{Coherence, Kind, Priv, kind};
 use std::alloc::{AllocError, Global};
 use std::collections::HashMap;
@@ -112,7 +111,7 @@ impl Claims {
     ) -> bool
         ensures { result ≡ list_any (clashes_row self.now item tree fields.now access) (P.points set.now) }
     {
-        for point in Points::of(set) {
+        for point in points_in(set) {
             if self.clashes_at_point(item, tree, point, fields, access) {
                 return true;
             }
@@ -165,7 +164,7 @@ impl Claims {
         ensures { OnOk result (Adds self.old self.new
             (claims_at item tree (P.points set.now) fields.now access)) }
     {
-        for point in Points::of(set) {
+        for point in points_in(set) {
             self.claim_at_point(item, tree, point, fields, access)?;
         }
         Ok(())

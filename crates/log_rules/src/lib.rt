@@ -9,7 +9,6 @@ mod instances;
 mod load;
 mod names;
 mod own;
-mod points;
 mod requirements;
 mod serial;
 mod spaces;

@@ -9,9 +9,8 @@ ghost use Rattle.log_rules.specs.Counts.{cut};
 ghost use Rattle.log_rules.specs.Loads.{AreLoads, CountsAt, load_in, same_load_place, is_held, covers_place, row_load, grid_load, inst_load};
 
 use crate::counts::{exceeds, raised};
-use crate::points::Points;
 use log_tables::Draft;
-use point_set::PointSet;
+use point_set::{PointSet, points_in};
 use privilege::Priv;
 use semantics::{Inst, Req};
 use spy_grammar::Record;
@@ -95,7 +94,7 @@ impl Loads {
         requires { IsStrictlyIncreasing fields.now }
         ensures { OnOk result (CountsAt self.old self.new (is_held tree (P.points set.now) fields.now)) }
     {
-        for point in Points::of(set) {
+        for point in points_in(set) {
             self.add_at_point(tree, point, fields)?;
         }
         Ok(())
@@ -164,7 +163,7 @@ impl Loads {
         ensures { result ≡ cut (grid_load (load_in self.now) tree fields.now (P.points set.now)) }
     {
         let mut load = 0u128;
-        for point in Points::of(set) {
+        for point in points_in(set) {
             load = raised(load, self.at_point(tree, point, fields));
         }
         load

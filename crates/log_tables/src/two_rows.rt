@@ -56,13 +56,6 @@ impl<K: Copy + Eq + Hash, L: Copy + Eq + Hash, T: Keyed<K> + AlsoKeyed<L>> TwoRo
         &self.rows
     }
 
-    /// The rows, handed back.
-    pub fn into_rows(self) -> Rows<K, T>
-        ensures { result ≡ self }
-    {
-        self.rows
-    }
-
     /// The place of the first row with this second key.
     pub fn also_place(&self, key: L) -> Option<usize>
         ensures { result ≡ position_from (λ x. L.eq (T.also_of x) key) 0 self.now }

@@ -1,14 +1,14 @@
 -- A value becomes a long one when each task is given the list that it carries. The changes of values become those of long values.
 use Rattle.std.proofs.Common.{◌≡◌, ◌≢◌, ℕ, zero, suc, ◌+◌, ◌≤◌, inl, inr, true, false, ◌&&◌, ◌==◌, List, [], ◌∷◌, refl, sym, ap, ap₂, ◌∙◌, arith, subst}
 use Rattle.std.specs.List.{AllByRecursion}
-use Rattle.std.proofs.lemmas.Bool.{cond_both, and_parts, eqb-true, eq-eqb, true≢false, false_from_ne_true}
+use Rattle.std.proofs.lemmas.Bool.{cond_both, and_parts, eqb-true, eq-eqb, false_from_ne_true}
 use Rattle.std.proofs.lemmas.Bool.Decides.{eqb_tells, nat_tests}
 use Rattle.value_terms.specs.declared.terms.Base.{Base}
 use Rattle.value_terms.specs.declared.terms.Base.TheVariants as bases
 use Rattle.value_terms.specs.declared.terms.Contribution.{Contribution}
 use Rattle.value_terms.specs.declared.bag.Group.{Group}
 use Rattle.value_terms.specs.Values.{Bag, Value, comes_before, counted, joined, extended, add, add_one, fold_parts, fold_in, CountsEach, IsWellFormedBag, NeighboursDiffer, IsWellFormed}
-use Rattle.value_terms.proofs.lemmas.Order.{Below, compared, before_trans, before_differ}
+use Rattle.value_terms.proofs.lemmas.Order.{Below, compared, before_trans, below}
 use Rattle.value_terms.proofs.lemmas.Counting.{counts}
 use Rattle.long_values.specs.LongValues.{Long, raw, init, ident, const, out, added, Readings, add_long, fold_long}
 
@@ -42,13 +42,6 @@ either_first op c d reads others one v = elim (compared c d) [
   | inr (inr lower) ↦ sym (sunk op d c others reads lower v)
 ]
 
-below_of : (c d : Contribution) → comes_before c d ≡ true → Below c d
-below_of c d h = elim (compared c d) [
-  | inl same ↦ absurd (true≢false (sym same.same ∙ (before_differ c d h).0))
-  | inr (inl lower) ↦ lower
-  | inr (inr higher) ↦ absurd (true≢false (sym h ∙ higher.not_after))
-]
-
 -- ---- folding in a long value with one contribution more
 
 fold_added : (w : Long) (op : ℕ) (c : Contribution) (reads : Readings) (v : Long) → fold_long w op (added op c reads v) ≡ add_long op c reads (fold_long w op v)
@@ -60,7 +53,7 @@ unfolding fold_long add_long
 fold_same w op c reads raw = refl
 fold_same w op c reads (added o d others v) = cond_both ((o == op) && comes_before c d) (added o d others (add_long op c reads v)) (added op c reads (added o d others v)) (λ u. fold_long w op u ≡ add_long op c reads (fold_long w op (added o d others v)))
     (λ e. let both = and_parts (o == op) (comes_before c d) e in
-    rw both.0 (ap (add_long op d others) (fold_same w op c reads v) ∙ sym (sunk op c d reads others (below_of c d both.1) (fold_long w op v))))
+    rw both.0 (ap (add_long op d others) (fold_same w op c reads v) ∙ sym (sunk op c d reads others (below c d both.1) (fold_long w op v))))
     (λ e. fold_added w op c reads (added o d others v))
 fold_same w op c reads _ = rw (eq-eqb op op refl) refl
 

@@ -1,11 +1,11 @@
 -- In the tables of an admitted log each id names one item, each item stands once in serial order, and each task is run once.
-use Rattle.std.proofs.Common.{◌≡◌, ◌≢◌, ℕ, zero, suc, ◌<◌, inl, inr, Bool, true, false, ◌&&◌, ◌==◌, nat_lt, List, [], ◌∷◌, ◌++◌, Some, None, length, get_or, position, unwrap_or, slice_get, refl, sym, ap, ◌∙◌, arith, AllPairs}
-use Rattle.std.specs.List.{list_any, list_all, position_or_len}
+use Rattle.std.proofs.Common.{◌≡◌, ◌≢◌, ℕ, zero, suc, ◌<◌, inl, inr, true, false, ◌&&◌, ◌==◌, nat_lt, List, [], ◌∷◌, ◌++◌, Some, None, length, get_or, position, unwrap_or, slice_get, sym, ap, ◌∙◌, arith, AllPairs}
+use Rattle.std.specs.List.{list_any, list_all}
 use Rattle.std.specs.Option.{option_map_or}
-use Rattle.std.proofs.lemmas.Bool.{and_parts, ltb-true, eqb-true, eq-eqb, true≢false, false_from_ne_true, cases_eq, cases_Bool, cond_both}
+use Rattle.std.proofs.lemmas.Bool.{and_parts, ltb-true, eqb-true, eq-eqb, true≢false, false_from_ne_true, cases_eq, cases_Bool}
 use Rattle.std.proofs.lemmas.Bool.Decides.{nat_tests}
 use Rattle.std.proofs.lemmas.Option.{slice_get_within, get_or_from_slice_get}
-use Rattle.std.proofs.lemmas.List.Sums.{prefix_len-le-length, position_or_len_is}
+use Rattle.std.proofs.lemmas.List.Sums.{position_or_len_is}
 use Rattle.std.proofs.lemmas.List.Folds.{find_at}
 use Rattle.std.proofs.lemmas.List.Elements.{recursion_from_All}
 use Rattle.spy_grammar.specs.declared.record.Record.{Record}
@@ -25,14 +25,11 @@ use Rattle.semantics.specs.Faults.{declaration_fault, log_fault}
 use Rattle.log_laws.proofs.lemmas.Members.{Member, Each, both_none, each_more, none_at, any_at, any_found, find_any, member_at, found_at}
 use Rattle.log_laws.proofs.lemmas.Apart.{PairsBy, all_pairs, pairs_more}
 use Rattle.log_laws.proofs.lemmas.Admitted.{Unbroken, IsFaultless, by_records, keeps_of}
+use Rattle.log_laws.proofs.lemmas.Lists.{place_len}
 use Rattle.long_values.proofs.LiftSequential.{AreNamed}
 use Rattle.long_values.proofs.LiftExecution.{AreRunOnce}
 
 -- ---- places in lists
-
-place_len : {X : Type 0} (p : X → Bool) (xs : List X) → unwrap_or (position p xs) (length xs) ≡ position_or_len p xs
-place_len p xs = cond_both (nat_lt (position_or_len p xs) (length xs)) (Some (position_or_len p xs)) None (λ o. unwrap_or o (length xs) ≡ position_or_len p xs)
-    (λ _. refl) (λ e. grind (arith, nat_tests, prefix_len-le-length (λ x. Rattle.std.specs.Prelude.not (p x)) xs))
 
 -- Where no two elements have one key, an element is the first with its key.
 place_found : {X : Type 0} (key : X → ℕ) (xs : List X) (k : ℕ) (x : X) → AllPairs (λ y z. key y ≢ key z) xs → slice_get xs k ≡ Some x → unwrap_or (position (λ y. key y == key x) xs) (length xs) ≡ k

@@ -8,8 +8,9 @@ use Rattle.value_terms.specs.declared.terms.Contribution.{Contribution}
 use Rattle.value_terms.specs.declared.bag.Group.{Group}
 use Rattle.value_terms.specs.Values.{Bag, Value, counted, joined, comes_before, extended, add, add_one, plain, fold_parts, fold_in}
 use Rattle.value_terms.proofs.lemmas.Order.{compared}
-use Rattle.value_terms.proofs.lemmas.Counting.{counts, joined_joined}
-use Rattle.value_terms.proofs.lemmas.Changes.{add_add, add_raw}
+use Rattle.value_terms.proofs.lemmas.Counting.{counts, pair_path, joined_counted}
+use Rattle.value_terms.proofs.lemmas.Changes.{add_add, add_raw, extended_later}
+use Rattle.value_terms.proofs.lemmas.Grouping.{joined_one}
 use Rattle.long_values.specs.LongValues.{Long, raw, ident, added, Readings, add_long, fold_long, short}
 
 pub short_add : (op : ℕ) (c : Contribution) (reads : Readings) (v : Long) → short (add_long op c reads v) ≡ add_one op c (short v)
@@ -24,36 +25,19 @@ short_add op c reads _ = refl
 
 -- ---- folding in a value with one contribution more
 
-pair_path : {c d : Contribution} {n m : ℕ} → c ≡ d → n ≡ m → ◌≡◌ {A = Contribution × ℕ} (c, n) (d, m)
-pair_path p q = λ i. (p i, q i)
-
 counted_sum : (c : Contribution) (n m : ℕ) (bag : Bag) → counted c n (counted c m bag) ≡ counted c (m + n) bag
 counted_sum c n m [] = grind (arith, counts, pair_path, compared c c)
 counted_sum c n m (e ∷ bag) = grind (arith, counts, pair_path, compared c c, compared c e.0, counted_sum c n m bag)
 
-joined_one : (a b : Bag) (c : Contribution) (n : ℕ) → joined (counted c n a) b ≡ counted c n (joined a b)
-unfolding joined
-joined_one a b c n = joined_joined a ((c, n) ∷ []) b
-
 pub joined_more : (a b : Bag) (c : Contribution) (n : ℕ) → joined a (counted c n b) ≡ counted c n (joined a b)
 unfolding joined
 joined_more a [] c n = grind (arith, counts)
-joined_more a (e ∷ b) c n = grind (arith, counts, compared c e.0, joined_one a (e ∷ b) c n, joined_one (counted e.0 e.1 a) b c n, counted_sum c n e.1 a, joined_more (counted e.0 e.1 a) b c n)
-
-joined_single : (a : Bag) (c : Contribution) (n : ℕ) → joined a ((c, n) ∷ []) ≡ counted c n a
-unfolding joined
-joined_single a c n = refl
-
--- A group that others follow stays.
-extended_later : (op : ℕ) (a b : Bag) (g h : Group) (groups : List Group) → extended op a (g ∷ extended op b (h ∷ groups)) ≡ g ∷ extended op a (extended op b (h ∷ groups))
-unfolding extended
-extended_later op a b g h [] = elim (eqb_tells h.op op) [ inl is ↦ rw is.0 | inr is ↦ rw is.0 ]
-extended_later op a b g h (k ∷ groups) = refl
+joined_more a (e ∷ b) c n = grind (arith, counts, compared c e.0, joined_counted a (e ∷ b) c n, joined_counted (counted e.0 e.1 a) b c n, counted_sum c n e.1 a, joined_more (counted e.0 e.1 a) b c n)
 
 extended_more : (op : ℕ) (c : Contribution) (bag : Bag) (groups : List Group) → extended op (counted c 1 bag) groups ≡ extended op ((c, 1) ∷ []) (extended op bag groups)
 unfolding extended
-extended_more op c bag [] = grind (arith, nat_tests, joined_single, joined_more [] bag c 1)
-extended_more op c bag (g ∷ []) = grind (arith, nat_tests, joined_single, joined_more [] bag c 1, joined_more g.bag bag c 1)
+extended_more op c bag [] = grind (arith, nat_tests, joined_one, joined_more [] bag c 1)
+extended_more op c bag (g ∷ []) = grind (arith, nat_tests, joined_one, joined_more [] bag c 1, joined_more g.bag bag c 1)
 extended_more op c bag (g ∷ h ∷ groups) = ap (λ gs. g ∷ gs) (extended_more op c bag (h ∷ groups)) ∙ sym (extended_later op ((c, 1) ∷ []) bag g h groups)
 
 add_more : (op : ℕ) (c : Contribution) (bag : Bag) (v : Value) → add op (counted c 1 bag) v ≡ add_one op c (add op bag v)
@@ -64,8 +48,8 @@ add_more op c (e ∷ bag) v = grind (arith, counts, compared c e.0, extended_mor
 -- What is added to the value that is folded in is added to what comes of it, if it is added by the operator of the fold, and else makes it raw.
 fold_more : (w : Value) (op : ℕ) (c : Contribution) (base : Base) (groups : List Group) → fold_in w op (add_one op c (record { base = base; groups = groups })) ≡ add_one op c (fold_parts w op base groups)
 unfolding add extended fold_in
-fold_more w op c Ident [] = grind (arith, nat_tests, joined_single, counts)
-fold_more w op c Ident (g ∷ []) = grind (arith, nat_tests, joined_single, add_more op c g.bag w, add_raw op ((c, 1) ∷ []))
+fold_more w op c Ident [] = grind (arith, nat_tests, joined_one, counts)
+fold_more w op c Ident (g ∷ []) = grind (arith, nat_tests, joined_one, add_more op c g.bag w, add_raw op ((c, 1) ∷ []))
 fold_more w op c Ident (g ∷ h ∷ []) = elim (eqb_tells h.op op) [ inl is ↦ rw is.0 refl | inr is ↦ rw is.0 refl ]
 fold_more w op c Ident (g ∷ h ∷ k ∷ groups) = refl
 fold_more w op c _ groups = refl

@@ -1,8 +1,8 @@
 -- An input without a fault of its bytes and lines spells a log.
-use Rattle.std.proofs.Common.{◌≡◌, ℕ, ◌+◌, ◌==◌, inl, inr, ◌⊎◌, Bool, true, false, not, List, [], ◌∷◌, take, drop, length, refl, arith, Option, Some, None, Ok, Err}
+use Rattle.std.proofs.Common.{◌≡◌, ℕ, ◌+◌, ◌==◌, inl, inr, ◌⊎◌, true, List, [], ◌∷◌, take, drop, length, refl, arith, Option, Some, None, Ok, Err}
 use Rattle.std.specs.Prelude.{Result}
 use Rattle.std.specs.List.{list_all}
-use Rattle.std.proofs.lemmas.Bool.{cases_Bool}
+use Rattle.std.proofs.lemmas.Bool.{not-false}
 use Rattle.std.proofs.lemmas.List.{length-drop}
 use Rattle.std.proofs.lemmas.List.Splits.{length-slice_split}
 use Rattle.spy_words.specs.declared.fault.LineFault.{LineFault}
@@ -11,8 +11,9 @@ use Rattle.spy_grammar.specs.declared.record.Lined.{Lined}
 use Rattle.spy_grammar.specs.Reading.{is_passed_over, line_at}
 use Rattle.spy_grammar.specs.Spelling.{spelling, Good}
 use Rattle.semantics.specs.Records.{parts_of, line_count, Hold, Reads}
-use Rattle.semantics.specs.TextFaults.{is_too_long, ends_within_line, line_fault, lines_fault, text_fault}
+use Rattle.semantics.specs.TextFaults.{line_fault, lines_fault, text_fault}
 use Rattle.log_laws.proofs.lemmas.Members.{both_none}
+use Rattle.outcome_laws.proofs.lemmas.Clean.{clean}
 
 -- A line without a fault is passed over, or spells a record.
 abbrev Said : List ℕ → Type 0
@@ -29,21 +30,6 @@ single [] e a = absurd (omega (arith, e))
 single ([] ∷ []) e a = refl
 single ((x ∷ w) ∷ []) e a = absurd (grind arith)
 single (w ∷ v ∷ xs) e a = absurd (omega (arith, e))
-
--- An input without a fault is not too long, ends with a line feed, and its lines have none.
-record IsClean (bytes : List ℕ) : Type 0 where
-  ended : ends_within_line bytes ≡ false
-  lines : lines_fault 1 (take (line_count bytes) (parts_of bytes)) ≡ None
-
-clean : (bytes : List ℕ) → text_fault bytes ≡ None → IsClean bytes
-unfolding text_fault
-clean bytes e = elim (cases_Bool (is_too_long bytes)) [
-  | inl long ↦ absurd (grind (arith, e, long))
-  | inr short ↦ elim (cases_Bool (ends_within_line bytes)) [
-    | inl within ↦ absurd (grind (arith, e, short, within))
-    | inr ended ↦ record { ended = ended; lines = grind (arith, e, short, ended) }
-  ]
-]
 
 module _ (blank : (line : List ℕ) → line_at line ≡ Ok None → is_passed_over line ≡ true) (spelled : (line : List ℕ) (r : Record) → line_at line ≡ Ok (Some r) → line ≡ spelling r)
     (good : (line : List ℕ) (r : Record) → line_at line ≡ Ok (Some r) → Good r) where
@@ -63,8 +49,4 @@ module _ (blank : (line : List ℕ) → line_at line ≡ Ok None → is_passed_o
       let parts = parts_of bytes in
       let log = held 1 (take (line_count bytes) parts) c.lines in
       let one : length (drop (line_count bytes) parts) ≡ 1 = omega (arith, length-drop (line_count bytes) parts, length-slice_split (λ b. b == 10) bytes) in
-      (log.0, record { ended = single _ one (not_false _ c.ended); hold = log.1 })
-    where
-      not_false : (b : Bool) → not b ≡ false → b ≡ true
-      not_false true n = refl
-      not_false false n = absurd cc
+      (log.0, record { ended = single _ one (not-false _ c.ended); hold = log.1 })

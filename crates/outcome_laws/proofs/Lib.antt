@@ -1,3 +1,4 @@
+pub mod lemmas
 mod Pairs
 mod Races
 mod Found

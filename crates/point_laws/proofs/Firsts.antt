@@ -22,15 +22,16 @@ use Rattle.semantics.specs.Execution.{State, start, effect, executed}
 use Rattle.semantics.specs.Interleavings.{is_read}
 use Rattle.semantics.specs.Sequential.{wanted}
 use Rattle.semantics.specs.Reads.{Seen, req_at, want_of, differing, difference, first_difference}
-use Rattle.log_laws.proofs.lemmas.Members.{Member, Each, is_in_of, member_in, member_filter, member_map, none_or_some}
+use Rattle.log_laws.proofs.lemmas.Members.{Member, Each, is_in_of, member_in, member_filter, member_map, none_or_some, both_none}
 use Rattle.log_laws.proofs.lemmas.StepLists.{steps_at}
 use Rattle.log_laws.proofs.lemmas.Tidy.{is_of, a_read, no_read}
 use Rattle.point_laws.specs.Alike.{AreAlike, HasPointsInOrder, AreFirsts, target, cell_at, is_at}
 use Rattle.point_laws.proofs.Values.{in_both, first_in, wanted_alike}
-use Rattle.point_laws.proofs.Rows.{filter_map_of, filter_flat, flat_grid, kept_parts}
+use Rattle.point_laws.proofs.Rows.{filter_flat, flat_grid, kept_parts}
 use Rattle.point_laws.proofs.Moves.{at_points, reads_kept, steps_at_same, steps_at_stay}
 use Rattle.point_laws.proofs.Effects.{Agree, Mirrors, executed_agree}
 use Rattle.log_laws.proofs.lemmas.Apart.{Rise}
+use Rattle.log_laws.proofs.lemmas.Lists.{filter_map_of}
 use Rattle.point_laws.proofs.Order.{points_in_rise, points_in_apart}
 use Rattle.point_laws.proofs.Mirrored.{same_mirrors, start_mirrors}
 
@@ -47,10 +48,6 @@ or_assoc (Some x) b c = refl
 or_none : {B : Type 0} (a : Option B) → option_or a None ≡ a
 or_none None = refl
 or_none (Some x) = refl
-
-both_none : {B : Type 0} (a b : Option B) → option_or a b ≡ None → (a ≡ None) × (b ≡ None)
-both_none None b e = (refl, e)
-both_none (Some x) b e = absurd cc
 
 first_append : {A B : Type 0} (d : A → Option B) (xs ys : List A) → first_of d (xs ++ ys) ≡ option_or (first_of d xs) (first_of d ys)
 first_append d [] ys = refl

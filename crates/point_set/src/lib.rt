@@ -12,6 +12,7 @@ mod set;
 #[cfg(test)]
 mod tests;
 
+pub use ascending::next_from;
 pub use law::{maximal_runs_are_apart, points_of_runs_ascend};
 pub use point_list::PointList;
 pub use points::{Points, points_in};

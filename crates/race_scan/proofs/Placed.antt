@@ -1,7 +1,7 @@
 -- Places in the replay order.
-use Rattle.std.proofs.Common.{◌≡◌, ℕ, ◌==◌, ◌<◌, inl, inr, Bool, true, false, List, sym, ap, ◌∙◌, arith, length, slice_index, get_or, position, unwrap_or, All, nat_lt, cond, Some, None, Contains}
+use Rattle.std.proofs.Common.{◌≡◌, ℕ, ◌==◌, ◌<◌, inl, inr, Bool, true, false, List, sym, ap, ◌∙◌, arith, length, slice_index, position, unwrap_or, nat_lt, cond, Some, None}
 use Rattle.std.specs.List.{position_or_len}
-use Rattle.std.proofs.lemmas.Bool.{true≢false, cases_Bool}
+use Rattle.std.proofs.lemmas.Bool.{true≢false, cases_Bool, eqb-true}
 use Rattle.std.proofs.lemmas.Bool.Decides.{nat_tests}
 use Rattle.std.proofs.lemmas.List.{get_or_default}
 use Rattle.std.proofs.lemmas.List.Quantifiers.{position-Some}
@@ -15,9 +15,6 @@ module _ (count : ℕ) (order : List ℕ) (marks : Marks) (h : ArePlaced count o
   -- A node, at its place.
   pub at_place : (k : ℕ) → k < count → (p : ℕ) × (p < length order) × (slice_index order p ≡ k)
   at_place k lt = let c = h.whole k lt in (c.0, c.1, get_or_default order c.0 0 k c.1 ∙ c.2)
-
-  same_node : (m n : ℕ) → (m == n) ≡ true → m ≡ n
-  same_node m n e = grind (arith, nat_tests)
 
   itself : (n : ℕ) → (n == n) ≡ true
   itself n = grind (arith, nat_tests)
@@ -41,9 +38,6 @@ module _ (count : ℕ) (order : List ℕ) (marks : Marks) (h : ArePlaced count o
     | inl none ↦ absurd (found k lt none)
     | inr some ↦
         let at = position-Some (λ n. n == k) order some.0 0 some.1 in
-        let is : slice_index order some.0 ≡ k = same_node (slice_index order some.0) k at.1 in
+        let is : slice_index order some.0 ≡ k = eqb-true (slice_index order some.0) k at.1 in
         ap (λ o. unwrap_or o other) some.1 ∙ (sym (h.placed some.0 at.0) ∙ ap (rank_in marks) is)
   ]
-
-pub all_below : (ks : List ℕ) (n : ℕ) → ((k : ℕ) → Contains ks k → k < n) → All (λ k. k < n) ks
-all_below ks n h i d lt = h (get_or ks i d) (i, lt, get_or_default ks i (get_or ks i d) d lt)

@@ -198,9 +198,6 @@ places_below nodes order places n placed is whole k d lt =
     let place : get_or places k d ≡ at.0 = get_or_default places k d 0 lt ∙ (ap (λ j. get_or places j 0) (sym (get_or_default order at.0 0 k at.1 ∙ at.2)) ∙ placed.placed at.0 at.1) in
     omega (arith, place, at.1, is)
 
-pub all_below : (ns : List ℕ) (n : ℕ) → ((w : ℕ) → Contains ns w → w < n) → All (λ w. w < n) ns
-all_below ns n h i d lt = h (get_or ns i d) (Contains-get_or ns i d lt)
-
 -- Where there is no cycle, each node is in the order.
 pub all_listed : (nodes : List Node) (order : List ℕ) → IsOrderOf nodes order → ((k : ℕ) → Contains (replay_order nodes) k ↔ ((k < length nodes) × (is_stuck nodes k ≡ false)))
     → ((k : ℕ) → k < length nodes → is_stuck nodes k ≡ true → (c : List ℕ) × IsCycle nodes c) → (k : ℕ) → k < length nodes → Contains order k

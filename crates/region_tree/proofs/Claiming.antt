@@ -7,7 +7,7 @@ use Rattle.std.specs.Option.{option_eq}
 use Rattle.std.proofs.lemmas.Bool.{cases_lt, cases_eq, eqb-true, eq-eqb, both_ways}
 use Rattle.std.proofs.lemmas.Cmp.{ranked}
 use Rattle.std.proofs.lemmas.List.{take_more, get_or_default, get_or-take, length-take}
-use Rattle.std.proofs.lemmas.List.Elements.{All-contains, Contains-get_or, Contains-append_left, Contains-append_right, Contains-append_cases}
+use Rattle.std.proofs.lemmas.List.Elements.{All-contains, Contains-get_or, Contains-append_left, Contains-append_right, Contains-push_cases}
 use Rattle.std.proofs.lemmas.List.Sorted.{Contains-permutation, IsPermutation-sym}
 use Rattle.std.proofs.lemmas.Option.{same_Some, none-some, slice_get_within}
 use Rattle.point_set.specs.Least.{IsLeastOf, IsLeastFrom, IsLeastGap}
@@ -37,11 +37,6 @@ pub least_from : (points : List ℕ) (o : Option ℕ) → IsLeastOf points o →
 least_from points (Some p) least = ((least.0, omega arith), λ q h. least.1 q h.0)
 least_from points None least = λ q h. least q h.0
 
-in_one : (c e : Claim) → Contains (c ∷ []) e → c ≡ e
-in_one c e h =
-    let z : h.0 ≡ 0 = omega (arith, h.1) in
-    subst (λ k. get_or (c ∷ []) k e ≡ e) z h.2
-
 -- one run more, from the next point on
 pub run_more : (old now new : List Claim) (part sub : ℕ) (points : List ℕ) (low : ℕ) (c : Claim) → ClaimedBelow old now part sub points low → IsLeastFrom points low (Some c.first) → IsRunEnd points c.first c.last → c.part ≡ part → c.sub ≡ sub → new ≡ now ++ c ∷ [] → ClaimedBelow old new part sub points (c.last + 1)
 run_more old now new part sub points low c below least end of_part of_sub is =
@@ -51,9 +46,9 @@ run_more old now new part sub points low c below least end of_part of_sub is =
     ] in
     rw is (record {
       kept = λ e h. Contains-append_left now (c ∷ []) e (below.kept e h);
-      sound = λ e h. elim (Contains-append_cases now (c ∷ []) e h) [
+      sound = λ e h. elim (Contains-push_cases now c e h) [
         | inl before ↦ below.sound e before
-        | inr here ↦ let same = in_one c e here in inr (ap (λ (x : Claim). x.part) (sym same) ∙ of_part, ap (λ (x : Claim). x.sub) (sym same) ∙ of_sub, subst (λ (x : Claim). IsRun points x.first x.last) same (record { end = end; begins = begins }))
+        | inr same ↦ inr (ap (λ (x : Claim). x.part) (sym same) ∙ of_part, ap (λ (x : Claim). x.sub) (sym same) ∙ of_sub, subst (λ (x : Claim). IsRun points x.first x.last) same (record { end = end; begins = begins }))
       ];
       whole = λ p has lt. elim (cases_lt p low) [
         | inl before ↦ let w = below.whole p has before in (w.0, Contains-append_left now (c ∷ []) w.0 w.1, w.2, w.3)
@@ -114,9 +109,6 @@ claims_same d i claims before none = record {
     | inr ne ↦ before.whole j of p (omega (arith, lt)) claim
   ];
 }
-
-pub no_claims : (d : Regions) → AreClaims d 0 []
-no_claims d = record { sound = λ c h. absurd (omega (arith, h.1)); whole = λ j of p lt claim. absurd (omega (arith, lt)) }
 
 pub claims_permuted : (d : Regions) (n : ℕ) (xs ys : List Claim) → IsPermutation xs ys → AreClaims d n xs → AreClaims d n ys
 claims_permuted d n xs ys perm are = record {
@@ -181,12 +173,6 @@ abbrev pub IsLastOf : List Claim → ℕ → Option Claim → Type 0
 IsLastOf claims limit None = (a : Claim) → Contains claims a → a.sub < limit → ⊥
 IsLastOf claims limit (Some b) = Contains claims b × (b.sub < limit) × ((a : Claim) → Contains claims a → a.sub < limit → IsBefore a b)
 
-pub apart_from_none : (limit : ℕ) → AreApart [] limit
-apart_from_none limit a b in_a in_b lt_a lt_b o = omega (arith, in_a.1)
-
-pub last_of_none : (limit : ℕ) → IsLastOf [] limit None
-last_of_none limit a h lt = omega (arith, h.1)
-
 overlap_back : (a b : Claim) → Overlap a b → Overlap b a
 overlap_back a b o = (sym o.0, λ e. o.1 (sym e), (o.2.0, o.2.2, o.2.1))
 
@@ -208,17 +194,14 @@ free claims seen limit (Some b) c own into before apart is none a in_a lt o =
       | inr ne ↦ apart a b in_a is.0 lt is.1 (part, ne, (b.first, at, bt))
     ]
 
-one_more : (seen : List Claim) (c e : Claim) → Contains (seen ++ c ∷ []) e → Contains seen e ⊎ (c ≡ e)
-one_more seen c e h = elim (Contains-append_cases seen (c ∷ []) e h) [ inl before ↦ inl before | inr here ↦ inr (in_one c e here) ]
-
 apart_with : (seen : List Claim) (limit : ℕ) (c : Claim) → AreApart seen limit → (c.sub < limit → (a : Claim) → Contains seen a → a.sub < limit → ¬ Overlap a c) → AreApart (seen ++ c ∷ []) limit
 apart_with seen limit c apart none a b in_a in_b lt_a lt_b o =
-    elim (one_more seen c a in_a) [
-      | inl a_before ↦ elim (one_more seen c b in_b) [
+    elim (Contains-push_cases seen c a in_a) [
+      | inl a_before ↦ elim (Contains-push_cases seen c b in_b) [
         | inl b_before ↦ apart a b a_before b_before lt_a lt_b o
         | inr b_is ↦ none (subst (λ (x : Claim). x.sub < limit) (sym b_is) lt_b) a a_before lt_a (subst (Overlap a) (sym b_is) o)
       ]
-      | inr a_is ↦ elim (one_more seen c b in_b) [
+      | inr a_is ↦ elim (Contains-push_cases seen c b in_b) [
         | inl b_before ↦ none (subst (λ (x : Claim). x.sub < limit) (sym a_is) lt_a) b b_before lt_b (overlap_back c b (subst (λ (x : Claim). Overlap x b) (sym a_is) o))
         | inr b_is ↦ o.1 (ap (λ (x : Claim). x.sub) (sym a_is ∙ b_is))
       ]
@@ -228,21 +211,21 @@ last_kept : (seen : List Claim) (limit : ℕ) (c : Claim) → ((a : Claim) → C
 last_kept seen limit c before lt = (
   Contains-append_right seen (c ∷ []) c (0, omega arith, refl),
   lt,
-  λ a h less. elim (one_more seen c a h) [
+  λ a h less. elim (Contains-push_cases seen c a h) [
     | inl earlier ↦ before a earlier
     | inr is ↦ subst (λ (x : Claim). IsBefore x c) is (omega arith, λ e. omega arith)
   ],
 )
 
 last_passed : (seen : List Claim) (limit : ℕ) (last : Option Claim) (c : Claim) → IsLastOf seen limit last → limit ≤ c.sub → IsLastOf (seen ++ c ∷ []) limit last
-last_passed seen limit None c is far = λ a h lt. elim (one_more seen c a h) [
+last_passed seen limit None c is far = λ a h lt. elim (Contains-push_cases seen c a h) [
   | inl earlier ↦ is a earlier lt
   | inr same ↦ absurd (omega (arith, far, lt, ap (λ (x : Claim). x.sub) same))
 ]
 last_passed seen limit (Some b) c is far = (
   Contains-append_left seen (c ∷ []) b is.0,
   is.1,
-  λ a h lt. elim (one_more seen c a h) [
+  λ a h lt. elim (Contains-push_cases seen c a h) [
     | inl earlier ↦ is.2 a earlier lt
     | inr same ↦ absurd (omega (arith, far, lt, ap (λ (x : Claim). x.sub) same))
   ],
@@ -286,9 +269,6 @@ overlap_found claims k limit d b order own within is kept clash =
     let here = Contains-get_or claims k d within in
     let to = seen_before claims k d order within b is.0 in
     (b, c, seen_in claims k b is.0, here, is.1, kept, (clash.0, λ e. clash.2 (sym e), (c.first, (to.1 clash.0, clash.1), (omega arith, own.some c here))))
-
-pub apart_of_none : (claims : List Claim) → AreApart claims 0
-apart_of_none claims a b in_a in_b lt_a lt_b o = omega (arith, lt_a)
 
 -- what claims say of meetings
 pub met_not : (d : Regions) (n limit : ℕ) (claims : List Claim) → AreClaims d n claims → length d.subs ≤ n → AreApart claims limit → (i : ℕ) → i < limit → ¬ MeetsSome d i

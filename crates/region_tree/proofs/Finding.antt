@@ -1,7 +1,7 @@
 -- Least points and subspaces at which something is wrong.
 use Rattle.std.proofs.Common.{◌≡◌, ℕ, ◌<◌, ◌≤◌, List, [], Option, Some, None, Contains, IsTrue, IfErr, Result, Ok, Err, refl, length, slice_get, subst, sym, ◌∙◌, inl, inr, arith}
 use Rattle.std.specs.Result.{IsErrAnd}
-use Rattle.std.proofs.lemmas.Option.{same_Some, none-some, slice_get_within}
+use Rattle.std.proofs.lemmas.Option.{same_Some, slice_get_within}
 use Rattle.std.proofs.lemmas.Bool.{cases_lt}
 use Rattle.point_set.specs.Least.{IsLeast, IsLeastOf, IsLeastCommon, IsLeastOutside}
 use Rattle.region_tree.specs.declared.decls.SubDecl.{SubDecl}
@@ -25,9 +25,6 @@ outside_from d i s o at least =
     (λ p h. (s, at, h.0, h.1))
     (λ p h. let e : h.0 ≡ s = same_Some h.0 s (sym h.1 ∙ at) in subst (λ (t : SubDecl). Contains (space_points d t.space) p × ¬ (Contains (points_cut d t.part) p)) e (h.2, h.3))
     least
-
-pub outside_nowhere : (d : Regions) (i : ℕ) → slice_get d.subs i ≡ None → IsLeast (IsOutside d i) None
-outside_nowhere d i none p h = none-some h.0 (sym none ∙ h.1)
 
 pub meets_from : (d : Regions) (i j : ℕ) (s t : SubDecl) (o : Option ℕ) → j < i → slice_get d.subs i ≡ Some s → slice_get d.subs j ≡ Some t → s.part ≡ t.part → IsTrue (is_disjoint d s.part) → IsLeastCommon (space_points d s.space) (space_points d t.space) o → IsLeast (Meets d i j) o
 meets_from d i j s t o lt at_i at_j same disjoint least =

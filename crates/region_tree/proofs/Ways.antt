@@ -1,6 +1,6 @@
 -- Paths, step by step.
 use Rattle.std.proofs.Common.{◌≡◌, ℕ, List, ◌∷◌, ◌==◌, Contains, Option, Some, None, IsSome, subst, refl, sym, ap, ◌∙◌}
-use Rattle.std.specs.Option.{option_and_then, option_map}
+use Rattle.std.specs.Option.{option_and_then}
 use Rattle.std.proofs.lemmas.Bool.{eqb-true}
 use Rattle.std.proofs.lemmas.Option.{none-some}
 use Rattle.region_tree.specs.declared.decls.PartDecl.{PartDecl}
@@ -36,17 +36,6 @@ step_up d space w step e =
     let h = step_cases d (sub_of d space) step w e in
     let at = find_some (λ (s : SubDecl). space == s.space) d.subs h.0 h.1 in
     (h.0, contains_at d.subs at.0 h.0 at.1, h.2, h.3, sym (eqb-true space h.0.space at.2), ap (option_and_then (λ (s : SubDecl). whole_of d s.part)) h.1 ∙ h.3)
-
-none_of_map : (f : ℕ → Step × ℕ) (o : Option ℕ) → option_map f o ≡ None → o ≡ None
-none_of_map f None e = refl
-none_of_map f (Some v) e = absurd (none-some (f v) (sym e))
-
-no_step_cases : (d : Regions) (o : Option SubDecl) → option_and_then (step_with d) o ≡ None → option_and_then (λ (s : SubDecl). whole_of d s.part) o ≡ None
-no_step_cases d (Some s) e = let f : ℕ → Step × ℕ = λ whole. (step_of s, whole) in none_of_map f (whole_of d s.part) e
-no_step_cases d None e = refl
-
-pub no_step_up : (d : Regions) (space : ℕ) → step_to d space ≡ None → parent_of d space ≡ None
-no_step_up d space e = no_step_cases d (sub_of d space) e
 
 -- one step more at the front
 pub leads_from : (d : Regions) (space w to : ℕ) (step : Step) (steps : List Step) → step_to d space ≡ Some (step, w) → Leads d space steps to → Leads d w (step ∷ steps) to

@@ -1,4 +1,4 @@
-//! Want of memory.
+//! Running out of memory.
 
 use std::alloc::{AllocError, AllocFailed};
 

@@ -1,7 +1,6 @@
 -- The accesses that a log asks for are few, and so are its requirements' points and fields, and those of its operations.
-use Rattle.std.proofs.Common.{◌≡◌, ℕ, ◌+◌, ◌≤◌, inl, inr, Bool, true, false, List, [], ◌∷◌, ◌++◌, filter, fold, drop, get_or, length, ◌<◌, refl, sym, ap, ◌∙◌, subst, arith, None, append_assoc, sum_by}
+use Rattle.std.proofs.Common.{◌≡◌, ℕ, ◌+◌, ◌≤◌, inl, inr, Bool, true, false, List, [], ◌∷◌, ◌++◌, filter, fold, refl, sym, ap, ◌∙◌, subst, arith, None, append_assoc, sum_by}
 use Rattle.std.proofs.lemmas.Bool.{cases_Bool, true≢false, ltb-false}
-use Rattle.std.proofs.lemmas.List.{drop_more}
 use Rattle.std.proofs.lemmas.List.Sums.{fold-append, sum_by-cons, sum_by_push}
 use Rattle.std.proofs.lemmas.List.Elements.{recursion_from_All, Contains-get_or}
 use Rattle.spy_grammar.specs.declared.code.Code.{Code}
@@ -21,7 +20,7 @@ use Rattle.semantics.specs.Outcome.{read_count}
 use Rattle.log_decl.specs.Faultless.{AreDeclared}
 use Rattle.log_laws.proofs.lemmas.Members.{both_none, member_of, none_found, unmapped_none}
 use Rattle.log_laws.proofs.lemmas.Admitted.{Unbroken, no_broken_rule}
-use Rattle.replay.specs.Counts.{reads_in, reads_of}
+use Rattle.replay.specs.Counts.{reads_in}
 
 -- ---- what the tables ask for
 
@@ -144,10 +143,3 @@ reads_counted t (r ∷ rs) = elim (cases_Bool (may_read r.access)) [
       rw reads (sum_by-cons (λ (r : Req). size_of t r.space r.fields) r (filter (λ (r : Req). may_read r.access) rs) ∙ ap (λ n. size_of t r.space r.fields + n) (reads_counted t rs))
   | inr other ↦ rw other (let rest = reads_counted t rs in omega (arith, rest))
 ]
-
-pub reads_more : (t : Tables) (rs : List Req) (k : ℕ) (r : Req) → k < length rs → get_or rs k r ≡ r → reads_in t (drop k rs) ≡ reads_of t r + reads_in t (drop (k + 1) rs)
-reads_more t rs k r lt is = ap (reads_in t) (drop_more rs k r lt) ∙ ap (λ x. reads_of t x + reads_in t (drop (k + 1) rs)) is
-
-pub no_reads_left : (t : Tables) (rs : List Req) → reads_in t (drop (length rs) rs) ≡ 0
-no_reads_left t [] = refl
-no_reads_left t (r ∷ rs) = no_reads_left t rs

@@ -1,8 +1,7 @@
 -- What versions want is what a read should see, and a read is reported to differ where it does.
-use Rattle.std.proofs.Common.{◌≡◌, ◌≢◌, ℕ, ◌<◌, length, List, All, Contains, MatchOption, Option, Some, None, cond, get_or, sym, ap, ◌∙◌, subst}
+use Rattle.std.proofs.Common.{◌≡◌, ◌≢◌, ℕ, ◌<◌, length, Some, None, cond, sym, ap, ◌∙◌}
 use Rattle.std.specs.Option.{option_map_or}
 use Rattle.std.proofs.lemmas.Bool.{false_from_ne_true}
-use Rattle.std.proofs.lemmas.List.{get_or_default}
 use Rattle.value_terms.specs.Values.{Value, same_value}
 use Rattle.value_terms.proofs.lemmas.Equality.{value_decides}
 use Rattle.semantics.specs.declared.tables.Req.{Req}
@@ -24,12 +23,3 @@ agrees t r e = ap (λ b. cond b None (Some r)) ((value_decides r.got (want_of t 
 
 pub differs : (t : Tables) (r : Seen) → (r.got ≢ want_of t r) → differing t r ≡ Some r
 differs t r ne = ap (λ b. cond b None (Some r)) (false_from_ne_true (same_value r.got (want_of t r)) (λ same. ne ((value_decides r.got (want_of t r)).0 same)))
-
-pub all_below : (ks : List ℕ) (n : ℕ) → ((k : ℕ) → Contains ks k → k < n) → All (λ k. k < n) ks
-all_below ks n h i d lt = h (get_or ks i d) (i, lt, get_or_default ks i (get_or ks i d) d lt)
-
-pub none_there : {X : Type 0} (A : Type 0) (B : X → Type 0) (o : Option X) → o ≡ None → MatchOption o A B → A
-none_there A B o is h = subst (λ o. MatchOption o A B) is h
-
-pub some_there : {X : Type 0} (A : Type 0) (B : X → Type 0) (o : Option X) (x : X) → o ≡ Some x → MatchOption o A B → B x
-some_there A B o x is h = subst (λ o. MatchOption o A B) is h

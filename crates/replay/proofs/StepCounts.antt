@@ -6,6 +6,7 @@ use Rattle.std.proofs.lemmas.Bool.{eqb-true, eq-eqb, true≢false}
 use Rattle.std.proofs.lemmas.List.{length-append, length-map}
 use Rattle.std.proofs.lemmas.List.Sums.{sum_by-cons, length-filter, count_by-le-length}
 use Rattle.std.proofs.lemmas.List.Elements.{recursion_from_All}
+use Rattle.std.proofs.lemmas.List.Concat.{flat_map-append}
 use Rattle.privilege.specs.declared.kinds.Priv.{Priv}
 use Rattle.privilege.specs.declared.kinds.Priv.TheVariants as privileges
 use Rattle.spy_grammar.specs.declared.record.Record.{Record}
@@ -31,18 +32,13 @@ use Rattle.log_laws.proofs.lemmas.Apart.{Apart, pairs_from, pairs_append, apart_
 use Rattle.log_laws.proofs.lemmas.Lists.{split_at}
 use Rattle.log_laws.proofs.lemmas.Sane.{reqs_apart}
 use Rattle.log_laws.proofs.lemmas.Admitted.{by_records, no_broken_rule, sane}
-use Rattle.inst_steps.specs.Stepping.{moves_at}
+use Rattle.log_laws.proofs.lemmas.StepLists.{moves_at, steps_at}
 use Rattle.replay.proofs.Accesses.{sizes, op_size, op_sizes, few_accesses}
 
 -- ---- lengths
 
 flat_append : {X Y : Type 0} (g : X → List Y) (xs ys : List X) → length (flat_map g (xs ++ ys)) ≡ length (flat_map g xs) + length (flat_map g ys)
-flat_append g [] ys = omega arith
-flat_append g (x ∷ xs) ys =
-    let a = length-append (g x) (flat_map g (xs ++ ys)) in
-    let b = length-append (g x) (flat_map g xs) in
-    let rest = flat_append g xs ys in
-    omega (arith, a, b, rest)
+flat_append g xs ys = ap length (flat_map-append g xs ys) ∙ length-append (flat_map g xs) (flat_map g ys)
 
 -- What different elements of a list give is no more than what the list gives.
 flat_few : {X Y : Type 0} (g : X → List Y) (ks ns : List X) → Apart ks → ((x : X) → Member ks x → Member ns x) → length (flat_map g ks) ≤ length (flat_map g ns)
@@ -159,9 +155,6 @@ nodes_few t (n ∷ ns) =
     let moves = sum_by-cons (node_moves t) n ns in
     let ops = sum_by-cons (λ (n : LogNode). op_size t n.op) n ns in
     omega (arith, here, rest, a, moves, ops)
-
-abbrev steps_at : Tables → ℕ → List Step
-steps_at t k = map (λ m. record { node = k; move = m }) (moves_at t k)
 
 by_places : (t : Tables) (first : ℕ) (ns : List LogNode) → ((k : ℕ) → slice_get t.nodes (first + k) ≡ slice_get ns k)
     → length (flat_map (steps_at t) (range_with_len first (length ns))) ≡ sum_by (node_moves t) ns

@@ -5,6 +5,7 @@ use Rattle.std.specs.Option.{option_or}
 use Rattle.std.specs.FinMap.{get, insert}
 use Rattle.std.proofs.Math.Path.{fun_ext}
 use Rattle.std.proofs.lemmas.Bool.{cases_Bool, true≢false, and_parts, eqb-true}
+use Rattle.std.proofs.Math.Bool.{and_assoc, and-false}
 use Rattle.value_terms.specs.declared.terms.Base.TheVariants.{Raw, Init}
 use Rattle.value_terms.specs.Values.{Value, plain, weight_of}
 use Rattle.semantics.specs.declared.places.Cell.{Cell}
@@ -28,14 +29,10 @@ use Rattle.replay.specs.Standing.{HasRoom, Stands}
 
 -- ---- a store as a state
 
-three : (a b c : Bool) → (a && (b && c)) ≡ ((a && b) && c)
-three false b c = refl
-three true b c = refl
-
 put_in : (m : Contents) (cell : Cell) (v : Value) (c : Cell) → value_in (insert m cell v) c ≡ cond (same_cell c cell) v (value_in m c)
 unfolding same_cell
 put_in m cell v c =
-    ap (λ o. unwrap_or o (plain Raw)) (get_put m cell v c ∙ ap (λ b. cond b (Some v) (get m c)) (three (nat_eq c.inst cell.inst) (nat_eq c.point cell.point) (nat_eq c.field cell.field)))
+    ap (λ o. unwrap_or o (plain Raw)) (get_put m cell v c ∙ ap (λ b. cond b (Some v) (get m c)) (sym (and_assoc (nat_eq c.inst cell.inst) (nat_eq c.point cell.point) (nat_eq c.field cell.field))))
     ∙ out (nat_eq c.inst cell.inst && nat_eq c.point cell.point && nat_eq c.field cell.field) v (get m c)
   where
     out : (b : Bool) (v : Value) (o : Option Value) → unwrap_or (cond b (Some v) o) (plain Raw) ≡ cond b v (unwrap_or o (plain Raw))
@@ -56,12 +53,8 @@ state_after (moves.Fold op from to) m c = put_in m to _ c
 no_home : (t : Tables) (c : Cell) → has_cell t c ≡ false → is_home_cell t c ≡ false
 no_home t c none = elim (none_or_some (inst_at t c.inst)) [
   | inl missing ↦ rw missing refl
-  | inr some ↦ rw some.1 (rw (rw some.1 at none) (not_both (is_home some.0.kind)))
+  | inr some ↦ rw some.1 (rw (rw some.1 at none) (and-false (is_home some.0.kind)))
 ]
-  where
-    not_both : (b : Bool) → (b && false) ≡ false
-    not_both true = refl
-    not_both false = refl
 
 pub started : (t : Tables) (m : Contents) → IsStart t m → (c : Cell) → value_in m c ≡ start t c
 started t m is c = elim (cases_Bool (has_cell t c)) [

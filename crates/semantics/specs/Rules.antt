@@ -20,7 +20,7 @@ use Rattle.semantics.specs.declared.tables.LogNode.{LogNode}
 use Rattle.semantics.specs.declared.tables.Op.{Op}
 use Rattle.semantics.specs.declared.tables.Op.TheVariants as operations
 use Rattle.semantics.specs.Tables as tables
-use Rattle.semantics.specs.Tables.{Tables, points_of, privilege_of, place_of, tables_of}
+use Rattle.semantics.specs.Tables.{Tables, points_of, privilege_of, place_of}
 use Rattle.semantics.specs.Points.{is_in, is_within, meets, points_in, fields_in, tree_at, part_at, spaces_above, is_in_tree}
 use Rattle.semantics.specs.Kinds.{covers, grid}
 use Rattle.semantics.specs.SerialOrder.{listed}

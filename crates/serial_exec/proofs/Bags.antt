@@ -1,12 +1,12 @@
 -- When a bag has just what changes add.
 use Rattle.std.proofs.Common.{◌≡◌, ℕ, suc, ◌+◌, ◌<◌, ◌≤◌, inl, inr, true, List, [], ◌∷◌, ◌++◌, take, length, get_or, refl, sym, ap, subst, ◌∙◌, arith}
 use Rattle.std.specs.List.{AllByRecursion}
-use Rattle.std.proofs.lemmas.List.{append_assoc, take_more}
+use Rattle.std.proofs.lemmas.List.{append_assoc, take_more, append-nil}
 use Rattle.value_terms.specs.declared.terms.Base.TheVariants.{Init}
 use Rattle.value_terms.specs.declared.terms.Contribution.{Contribution}
 use Rattle.value_terms.specs.Values.{Bag, plain, comes_before, count_in, joined, total, add, extended, CountsEach, IsWellFormedBag}
 use Rattle.value_terms.proofs.lemmas.Order.{compared, same_decides, before_differ}
-use Rattle.value_terms.proofs.lemmas.Counting.{all_after, count_joined, rest_of}
+use Rattle.value_terms.proofs.lemmas.Counting.{all_after, count_joined, rest_of, absent}
 use Rattle.value_terms.proofs.lemmas.Grouping.{total_joined}
 use Rattle.value_terms.proofs.lemmas.WellFormed.{joined_anew, plain_well_formed, add_well_formed}
 use Rattle.serial_exec.specs.declared.change.Action.{Action}
@@ -19,12 +19,8 @@ use Rattle.serial_exec.specs.Summed.{added_by, all_added}
 
 -- ---- what is added
 
-pub append-none : {X : Type 0} (xs : List X) → xs ++ [] ≡ xs
-append-none [] = refl
-append-none (x ∷ xs) = ap (λ ys. x ∷ ys) (append-none xs)
-
 added-last : (cs : List Change) (c : Change) → all_added (cs ++ c ∷ []) ≡ all_added cs ++ added_by c.action
-added-last [] c = append-none (added_by c.action)
+added-last [] c = append-nil (added_by c.action)
 added-last (d ∷ cs) c = ap (λ b. added_by d.action ++ b) (added-last cs c) ∙ sym (append_assoc (added_by d.action) (all_added cs) (added_by c.action))
 
 pub added-more : (cs : List Change) (i : ℕ) (d : Change) → i < length cs → all_added (take (i + 1) cs) ≡ all_added (take i cs) ++ added_by (get_or cs i d).action
@@ -69,11 +65,6 @@ joined-well (e ∷ bag) counts = (add_well_formed 0 (e ∷ bag) (plain Init) cou
 
 pub in-order-is : (bag : Bag) (cs : List Change) → IsWellFormedBag bag → bag ≡ all_added cs → bag ≡ joined [] (all_added cs)
 in-order-is bag cs well is = sym (joined_anew bag well) ∙ ap (joined []) is
-
-absent : (c : Contribution) (bag : Bag) → AllByRecursion (λ f. comes_before c f.0 ≡ true) bag → count_in c bag ≡ 0
-unfolding count_in
-absent c [] h = refl
-absent c (e ∷ bag) h = grind (arith, (before_differ c e.0 h.0).0, absent c bag h.1)
 
 pub both-all : {X : Type 0} (P Q R : X → Type 0) (xs : List X) → ((x : X) → P x → Q x → R x) → AllByRecursion P xs → AllByRecursion Q xs → AllByRecursion R xs
 both-all P Q R [] f p q = tt

@@ -106,10 +106,6 @@ before-none n (x ∷ xs) all =
     let le : nat_lt x.moment n ≡ false = let h : n ≤ x.moment = all.0 in grind (arith, nat_tests) in
     rw le (before-none n xs all.1)
 
-append-none : (xs : List Change) → xs ++ [] ≡ xs
-append-none [] = refl
-append-none (x ∷ xs) = ap (λ ys. x ∷ ys) (append-none xs)
-
 -- The changes before an item are those of the items before it.
 pub before-items : (t : Tables) (moment n : ℕ) (items : List ℕ) (p : Place) → before (moment + n) (items_changes t moment items p) ≡ items_changes t moment (take n items) p
 before-items t moment zero items p = before-none (moment + 0) (items_changes t moment items p) (each-items (moment + 0) t moment items p (omega arith))

@@ -1,8 +1,6 @@
 -- What items do, gathered in serial order from tables that are cut to listed points.
-use Rattle.std.proofs.Common.{◌≡◌, ℕ, zero, suc, ◌+◌, ◌<◌, ◌≤◌, ◌==◌, ◌&&◌, Bool, true, false, cond, List, [], ◌∷◌, ◌++◌, map, take, filter, length, get_or, slice_get, All, Option, Some, None, Result, Ok, Err, OnOk, refl, sym, ap, subst, ◌∙◌, inl, inr, arith}
-use Rattle.std.specs.List.{find}
+use Rattle.std.proofs.Common.{◌≡◌, ℕ, zero, suc, ◌+◌, ◌<◌, ◌≤◌, ◌==◌, cond, List, [], ◌∷◌, ◌++◌, take, length, get_or, slice_get, All, Option, Some, None, Result, Ok, Err, OnOk, refl, sym, ap, subst, ◌∙◌, arith}
 use Rattle.std.specs.Option.{option_map_or}
-use Rattle.std.proofs.lemmas.Bool.{cases_Bool}
 use Rattle.std.proofs.lemmas.List.Elements.{filter_map-append}
 use Rattle.std.proofs.lemmas.Option.{slice_get-get_or, slice_get_past}
 use Rattle.semantics.specs.declared.places.Place.{Place}
@@ -12,30 +10,22 @@ use Rattle.semantics.specs.declared.tables.ItemBody.{ItemBody}
 use Rattle.value_terms.specs.declared.terms.Base.TheVariants.{Const}
 use Rattle.log_tables.specs.Ascending.{body_fields}
 use Rattle.std.specs.List.Sorted.{IsStrictlyIncreasing}
-use Rattle.std.proofs.lemmas.List.{append_assoc, take_more}
+use Rattle.std.proofs.lemmas.List.{append_assoc, take_more, append-nil}
+use Rattle.std.proofs.Math.Bool.{and-false}
 use Rattle.semantics.specs.declared.tables.Req.{Req}
-use Rattle.semantics.specs.Tables.{Tables, Space}
-use Rattle.semantics.specs.Points.{is_in, points_in}
+use Rattle.semantics.specs.Tables.{Tables}
+use Rattle.semantics.specs.Points.{points_in}
 use Rattle.semantics.specs.Kinds.{reqs_of, uses_of_item}
 use Rattle.semantics.specs.SerialOrder.{serial}
-use Rattle.point_laws.specs.Cut.{cut, cut_space, kept, cut_to}
+use Rattle.point_laws.specs.Cut.{cut, kept, cut_to}
+use Rattle.point_laws.proofs.lemmas.Cuts.{points_cut_to, kept_nothing}
 use Rattle.serial_exec.specs.declared.change.Action.{Action}
 use Rattle.serial_exec.specs.declared.change.Action.TheVariants.{Put}
 use Rattle.serial_exec.specs.declared.change.Change.{Change}
 use Rattle.serial_exec.specs.Changes.{action_of, by_task, covered, use_changes, uses_changes, item_changes, items_changes}
 use Rattle.serial_exec.specs.OwnReqs.{reqs_at}
-use Rattle.serial_exec.proofs.Noting.{append-none}
 
 -- ---- cut tables
-
-found_cut : (ps : List ℕ) (id : ℕ) (spaces : List Space)
-    → option_map_or (λ (s : Space). s.points) (find (λ (s : Space). s.id == id) (map (cut_space ps) spaces)) [] ≡ filter (is_in ps) (option_map_or (λ (s : Space). s.points) (find (λ (s : Space). s.id == id) spaces) [])
-found_cut ps id [] = refl
-found_cut ps id (s ∷ spaces) = elim (cases_Bool (s.id == id)) [ inl here ↦ rw here refl | inr other ↦ rw other (found_cut ps id spaces) ]
-
-pub points_cut : (on : Option (List ℕ)) (t : Tables) (id : ℕ) → points_in (cut_to on t) id ≡ kept on (points_in t id)
-points_cut None t id = refl
-points_cut (Some listed) t id = found_cut listed id t.spaces
 
 pub serial_cut : (on : Option (List ℕ)) (t : Tables) → serial (cut_to on t) ≡ serial t
 serial_cut None t = refl
@@ -49,16 +39,8 @@ items_cut (Some listed) t = refl
 pub nothing-covered : (on : Option (List ℕ)) (t : Tables) (space tree : ℕ) (fields : List ℕ) (c : Change) (old : List Change) (p : Place) → points_in t space ≡ []
     → old ≡ old ++ cond (covered tree (points_in (cut_to on t) space) fields p) (c ∷ []) []
 nothing-covered on t space tree fields c old p none =
-    append-none old
-    ∙ ap (λ b. old ++ cond b (c ∷ []) []) (sym (ap (λ points. covered tree points fields p) (points_cut on t space ∙ ap (kept on) none ∙ still on) ∙ shut (tree == p.tree)))
-  where
-    still : (on : Option (List ℕ)) → kept on [] ≡ []
-    still None = refl
-    still (Some listed) = refl
-
-    shut : (b : Bool) → (b && false) ≡ false
-    shut true = refl
-    shut false = refl
+    sym (append-nil old)
+    ∙ ap (λ b. old ++ cond b (c ∷ []) []) (sym (ap (λ points. covered tree points fields p) (points_cut_to on t space ∙ ap (kept on) none ∙ kept_nothing on) ∙ and-false (tree == p.tree)))
 
 -- ---- requirement by requirement
 
@@ -71,11 +53,8 @@ next-reqs all own i k lt is =
     ap (reqs_at all) (take_more own i 0 lt ∙ ap (λ j. take i own ++ j ∷ []) (sym is))
     ∙ filter_map-append (λ j. slice_get all j) (take i own) (k ∷ [])
 
-pub uses-one : (t : Tables) (moment : ℕ) (act : Req → Option Action) (all : List Req) (k : ℕ) (r : Req) (p : Place) → slice_get all k ≡ Some r → use_changes t moment act r p ≡ uses_changes t moment act (reqs_at all (k ∷ [])) p
-uses-one t moment act all k r p at = rw at (append-none (use_changes t moment act r p))
-
 pub uses-none : (t : Tables) (moment : ℕ) (act : Req → Option Action) (all : List Req) (k : ℕ) (p : Place) (old : List Change) → slice_get all k ≡ None → old ≡ old ++ uses_changes t moment act (reqs_at all (k ∷ [])) p
-uses-none t moment act all k p old at = rw at (append-none old)
+uses-none t moment act all k p old at = rw at (sym (append-nil old))
 
 pub uses-more : (t : Tables) (moment : ℕ) (act : Req → Option Action) (all : List Req) (own : List ℕ) (i k : ℕ) (p : Place) (old mid new : List Change)
     → i < length own → k ≡ get_or own i 0
@@ -104,7 +83,7 @@ item-of (Some listed) t moment item p o at = rw at (by_option o)
     by_option (Some i) = refl
 
 items-append : (t : Tables) (moment : ℕ) (xs : List ℕ) (item : ℕ) (p : Place) → items_changes t moment (xs ++ item ∷ []) p ≡ items_changes t moment xs p ++ item_changes t (moment + length xs) item p
-items-append t moment [] item p = sym (append-none _) ∙ ap (λ m. item_changes t m item p) (let e : moment ≡ moment + 0 = omega arith in e)
+items-append t moment [] item p = append-nil _ ∙ ap (λ m. item_changes t m item p) (let e : moment ≡ moment + 0 = omega arith in e)
 items-append t moment (x ∷ xs) item p =
     ap (λ cs. item_changes t moment x p ++ cs) (items-append t (moment + 1) xs item p)
     ∙ ap (λ m. item_changes t moment x p ++ (items_changes t (moment + 1) xs p ++ item_changes t m item p)) (let e : (moment + 1) + length xs ≡ moment + suc (length xs) = omega arith in e)
@@ -125,7 +104,7 @@ items-more t order k item p mid new lt is before after =
     at_end (x ∷ xs) (suc k) lt = let e : k ≡ 0 + length (take k xs) = at_end xs k (omega (arith, lt)) in omega (arith, e)
 
 pub no-item : (on : Option (List ℕ)) (t : Tables) (moment item : ℕ) (p : Place) (old : List Change) → slice_get t.items item ≡ None → old ≡ old ++ item_changes (cut_to on t) moment item p
-no-item on t moment item p old at = append-none old ∙ ap (λ xs. old ++ xs) (sym (item-of on t moment item p None at))
+no-item on t moment item p old at = sym (append-nil old) ∙ ap (λ xs. old ++ xs) (sym (item-of on t moment item p None at))
 
 pub task-item : (on : Option (List ℕ)) (t : Tables) (moment item : ℕ) (p : Place) (i : Item) (rs : List Req) → slice_get t.items item ≡ Some i → i.body ≡ Task → rs ≡ reqs_of t item
     → uses_changes (cut_to on t) moment (by_task i.id) rs p ≡ item_changes (cut_to on t) moment item p
@@ -146,7 +125,7 @@ fill-item on t moment item p i tree space fields n at is = sym (item-of on t mom
         let same_space : space_ ≡ space = cc in
         let same_fields : fields_ ≡ fields = cc in
         let same_n : n_ ≡ n = cc in
-        sym (append-none _) ∙ rw (same_tree, same_space, same_fields, same_n) refl
+        append-nil _ ∙ rw (same_tree, same_space, same_fields, same_n) refl
 
 -- The fields of a fill ascend.
 pub fill-fields : (its : List Item) (item : ℕ) (i : Item) (tree space : ℕ) (fields : List ℕ) (n : ℕ) → All (λ (i : Item). IsStrictlyIncreasing (body_fields i.body)) its → item < length its → i ≡ get_or its item i → i.body ≡ Fill tree space fields n → IsStrictlyIncreasing fields

@@ -1,5 +1,5 @@
 -- What is kept of places is what sequential execution wants.
-use Rattle.std.proofs.Common.{◌≡◌, ℕ, zero, suc, ◌+◌, ◌-◌, ◌<◌, ◌≤◌, Bool, true, false, cond, List, [], ◌∷◌, map, take, drop, filter, length, get_or, Option, Some, None, refl, sym, ap, subst, ◌∙◌, inl, inr, arith}
+use Rattle.std.proofs.Common.{◌≡◌, ℕ, zero, suc, ◌+◌, ◌-◌, ◌<◌, ◌≤◌, Bool, true, false, cond, List, [], ◌∷◌, map, take, drop, filter, length, get_or, Option, Some, None, refl, sym, ap, subst, ◌∙◌, inl, inr, arith, zero-add}
 use Rattle.std.specs.List.{AllByRecursion, AllWithin}
 use Rattle.std.specs.List.Sorted.{IsNonDecreasingBy}
 use Rattle.std.specs.Map.{lookup}
@@ -7,7 +7,6 @@ use Rattle.std.specs.Option.{option_map_or, unwrap_or}
 use Rattle.std.proofs.lemmas.Bool.{cases_Bool}
 use Rattle.value_terms.specs.declared.terms.Base.{Base}
 use Rattle.value_terms.specs.declared.terms.Base.TheVariants.{Init}
-use Rattle.std.proofs.lemmas.List.{take_all, length-drop}
 use Rattle.serial_exec.specs.declared.change.Action.TheVariants.{Put}
 use Rattle.value_terms.specs.Values.{Value, plain}
 use Rattle.semantics.specs.declared.places.Place.{Place}
@@ -62,15 +61,12 @@ versions-of on t moments h places are = record {
       let moment : get_or moments item 0 ≡ serial_place t item = places.place item inside in
       let same : serial_place (cut_to on t) item ≡ serial_place t item = places_cut on t item in
       ap (λ cs. after_changes (before (get_or moments item 0) cs) (plain Init)) (kept-changes moments h p ∙ are p)
-      ∙ ap (λ m. after_changes (before m (items_changes (cut_to on t) 0 (serial t) p)) (plain Init)) (moment ∙ from_zero (serial_place t item))
+      ∙ ap (λ m. after_changes (before m (items_changes (cut_to on t) 0 (serial t) p)) (plain Init)) (moment ∙ sym (zero-add (serial_place t item)))
       ∙ ap (λ cs. after_changes cs (plain Init)) (before-items (cut_to on t) 0 (serial_place t item) (serial t) p)
       ∙ sym (items-changes (cut_to on t) 0 (take (serial_place t item) (serial t)) p (plain Init))
       ∙ sym (wanted_cut on t item p);
 }
   where
-    from_zero : (n : ℕ) → n ≡ 0 + n
-    from_zero n = omega arith
-
     places_cut : (on : Option (List ℕ)) (t : Tables) (item : ℕ) → serial_place (cut_to on t) item ≡ serial_place t item
     places_cut None t item = refl
     places_cut (Some listed) t item = refl
@@ -107,14 +103,6 @@ pub after-more : (cs : List Change) (k : ℕ) (d : Change) (v : Value) → k < l
 after-more [] k d v lt = absurd (omega (arith, lt))
 after-more (c ∷ cs) zero d v lt = refl
 after-more (c ∷ cs) (suc k) d v lt = ap (λ n. after_changes (take n (c ∷ cs)) v) (let e : suc k + 1 ≡ suc (k + 1) = omega arith in e) ∙ after-more cs k d (acted_by c.action v) (omega (arith, lt))
-
-pub any-default : {X : Type 0} (xs : List X) (i : ℕ) (d e : X) → i < length xs → get_or xs i d ≡ get_or xs i e
-any-default [] i d e lt = absurd (omega (arith, lt))
-any-default (x ∷ xs) zero d e lt = refl
-any-default (x ∷ xs) (suc i) d e lt = any-default xs i d e (omega (arith, lt))
-
-pub rest-taken : {X : Type 0} (cs : List X) (n : ℕ) → take (length cs - n) (drop n cs) ≡ drop n cs
-rest-taken cs n = take_all (length cs - n) (drop n cs) (let e : length (drop n cs) ≡ length cs - n = length-drop n cs in omega (arith, e))
 
 pub put-latest : (cs : List Change) (n : ℕ) (d : Change) (base : Base) (v : Value) → 0 < n → n ≤ length cs → (get_or cs (n - 1) d).action ≡ Put base → after_changes cs v ≡ after_changes (drop n cs) (plain base)
 put-latest cs n d base v some le is =

@@ -1,5 +1,4 @@
 mod Changing
-mod Members
 mod Noting
 mod Owned
 mod Gathered

@@ -7,7 +7,7 @@ use Rattle.std.specs.List.Sorted.{IsPartitionedBy, IsPartitionPoint, IsPermutati
 use Rattle.std.proofs.lemmas.Bool.{cases_lt}
 use Rattle.std.proofs.lemmas.Bool.Decides.{nat_tests}
 use Rattle.std.proofs.lemmas.Cmp.{nat_cmp_total, then_total, on_total}
-use Rattle.std.proofs.lemmas.List.{length-take-le, get_or-take}
+use Rattle.std.proofs.lemmas.List.{length-take-le, get_or-take, append-nil, take_rest}
 use Rattle.std.proofs.lemmas.List.Sorted.{sorted_far, ranks_by, sum_by-IsPermutation}
 use Rattle.std.proofs.lemmas.List.Sums.{sum_by-cons, sum_by-append, sum_by-take-drop, sum_by-le-sum_by}
 use Rattle.value_terms.specs.declared.terms.Contribution.{Contribution}
@@ -19,14 +19,13 @@ use Rattle.serial_exec.specs.declared.marks.Mark.{Mark}
 use Rattle.serial_exec.specs.Changes.{AreFirst, AreLast}
 use Rattle.serial_exec.specs.Summed.{added_by, all_added}
 use Rattle.serial_exec.specs.Marks.{marks_by, marks_from, is_before, count_before, AreSorted, Tell, AreMarksOf, AreMarksUntil, IsCounted, IsLeft}
-use Rattle.serial_exec.proofs.Keeping.{rest-taken}
-use Rattle.serial_exec.proofs.Bags.{append-none, added-append, count-append, count-none, both-all, each}
+use Rattle.serial_exec.proofs.Bags.{added-append, count-append, count-none, both-all, each}
 
 -- ---- marks in the order of changes
 
 marks-later : (k : ℕ) (cs : List Change) (i : ℕ) (d : Change) → i < length cs → marks_from k (take (i + 1) cs) ≡ marks_from k (take i cs) ++ marks_by (k + i) (get_or cs i d).action
 marks-later k [] i d lt = absurd (omega (arith, lt))
-marks-later k (c ∷ cs) zero d lt = append-none (marks_by k c.action) ∙ ap (λ n. marks_by n c.action) (let e : k ≡ k + 0 = omega arith in e)
+marks-later k (c ∷ cs) zero d lt = append-nil (marks_by k c.action) ∙ ap (λ n. marks_by n c.action) (let e : k ≡ k + 0 = omega arith in e)
 marks-later k (c ∷ cs) (suc i) d lt =
     ap (λ n. marks_from k (take n (c ∷ cs))) (let e : suc i + 1 ≡ suc (i + 1) = omega arith in e)
     ∙ ap (λ ms. marks_by k c.action ++ ms) (marks-later (k + 1) cs i d (omega (arith, lt)))
@@ -217,7 +216,7 @@ count-told marks from run tell e own = omega (arith, tell e.0, own)
 
 pub cut-first : (bag : Bag) (d : Contribution × ℕ) → 1 ≤ length bag → bag ≡ get_or bag 0 d ∷ take (length bag - 1) (drop 1 bag)
 cut-first [] d some = absurd (omega (arith, some))
-cut-first (e ∷ bag) d some = ap (λ rest. e ∷ rest) (sym (rest-taken (e ∷ bag) 1))
+cut-first (e ∷ bag) d some = ap (λ rest. e ∷ rest) (sym (take_rest (e ∷ bag) 1))
 
 -- What entries count goes on after one.
 pub counts-more : (marks ahead rest : List Mark) (from end : ℕ) (e : Contribution × ℕ) (bag left more : Bag) → left ≡ e ∷ more → IsCounted ahead from end e → IsLeft e.0 ahead rest

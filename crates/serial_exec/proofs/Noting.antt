@@ -7,7 +7,7 @@ use Rattle.std.proofs.lemmas.Bool.Decides.{nat_tests}
 use Rattle.std.proofs.lemmas.Grind.{common_steps}
 use Rattle.std.proofs.lemmas.List.Folds.{list_any_more}
 use Rattle.std.proofs.lemmas.List.Kept.{AllPairs-from_increasing}
-use Rattle.std.proofs.lemmas.List.{append_assoc}
+use Rattle.std.proofs.lemmas.List.{append_assoc, append-nil}
 use Rattle.point_set.specs.Least.{IsLeastFrom}
 use Rattle.semantics.specs.declared.places.Place.{Place}
 use Rattle.semantics.specs.Points.{is_in}
@@ -15,10 +15,8 @@ use Rattle.log_tables.proofs.lemmas.Members.{has_in, in_has}
 use Rattle.serial_exec.specs.declared.change.Change.{Change}
 use Rattle.serial_exec.specs.declared.change.PlaceKey.{PlaceKey}
 use Rattle.serial_exec.specs.Changes.{covered}
-use Rattle.point_laws.specs.Cut.{kept}
 use Rattle.serial_exec.specs.Listed.{is_behind, IsPoint}
 use Rattle.serial_exec.specs.Histories.{same_key, key_of}
-use Rattle.serial_exec.proofs.Members.{both_from}
 
 key_of_parts : (s t p q f g : ℕ) → s ≡ t → p ≡ q → f ≡ g → (let x : PlaceKey = record { tree = s; point = p; field = f } in x) ≡ record { tree = t; point = q; field = g }
 key_of_parts s t p q f g a b c = cc
@@ -31,10 +29,6 @@ same_key-true j k h =
     (eqb-true j.tree k.tree (and_parts (j.tree == k.tree) point h).0)
     (eqb-true j.point k.point (and_parts (j.point == k.point) (j.field == k.field) rest).0)
     (eqb-true j.field k.field (and_parts (j.point == k.point) (j.field == k.field) rest).1)
-
-pub append-none : {X : Type 0} (xs : List X) → xs ≡ xs ++ []
-append-none [] = refl
-append-none (x ∷ xs) = ap (λ ys. x ∷ ys) (append-none xs)
 
 -- A list more at a key of a map.
 pub list-put : {V : Type 0} (items : V → List Change) (old : PlaceKey → Option V) (new : Option V) (key k : PlaceKey) (list : V) (c : Change)
@@ -50,7 +44,7 @@ list-put items old new key k list c is longer =
           ∙ sym (ap (λ b. option_map_or items (old k) [] ++ cond b (c ∷ []) []) same)
       | inr other ↦
           ap (λ o. option_map_or items o []) (is ∙ ap (λ b. cond b (Some list) (old k)) other)
-          ∙ append-none (option_map_or items (old k) [])
+          ∙ sym (append-nil (option_map_or items (old k) []))
           ∙ sym (ap (λ b. option_map_or items (old k) [] ++ cond b (c ∷ []) []) other)
     ]
 
@@ -98,23 +92,19 @@ data Stands (behind_old same has behind_new : Bool) : Type 0 where
 
 one_point : {X : Type 0} (c : X) (t f b e h n : Bool) → Stands b e h n → cond (b && (t && (h && f))) (c ∷ []) [] ++ cond (t && ((e || false) && f)) (c ∷ []) [] ≡ cond (n && (t && (h && f))) (c ∷ []) []
 one_point c false f b e h n (earlier x y z) = rw (x, z) refl
-one_point c true f b e h n (earlier x y z) = rw (x, y, z) (sym (append-none _))
+one_point c true f b e h n (earlier x y z) = rw (x, y, z) (append-nil _)
 one_point c false f b e h n (here x y z w) = rw (x, w) refl
 one_point c true f b e h n (here x y z w) = rw (x, y, z, w) refl
 one_point c t f b e h n (later x y z) = go t f h n x y z
   where
+    nothing : (n : Bool) → [] ≡ cond (n && false) (c ∷ []) []
+    nothing true = refl
+    nothing false = refl
+
     go : (t f h n : Bool) → b ≡ false → e ≡ false → (h ≡ true → n ≡ false) → cond (b && (t && (h && f))) (c ∷ []) [] ++ cond (t && ((e || false) && f)) (c ∷ []) [] ≡ cond (n && (t && (h && f))) (c ∷ []) []
     go false f h n x y z = rw x (nothing n)
-      where
-        nothing : (n : Bool) → [] ≡ cond (n && false) (c ∷ []) []
-        nothing true = refl
-        nothing false = refl
     go true f true n x y z = rw (x, y, z refl) refl
     go true f false n x y z = rw (x, y) (nothing n)
-      where
-        nothing : (n : Bool) → [] ≡ cond (n && false) (c ∷ []) []
-        nothing true = refl
-        nothing false = refl
 
 least_is_point : (pts : List ℕ) (low : ℕ) (next : Option ℕ) → IsLeastFrom pts low next → IsPoint next pts
 least_is_point pts low None least = tt
@@ -139,7 +129,7 @@ stands pts x q next has least = elim (cases_lt q x) [
 
 pub points-first : (c : Change) (pts : List ℕ) (next : Option ℕ) (tree : ℕ) (fields : List ℕ) (old : Place → List Change) → IsLeastFrom pts 0 next
     → IsPoint next pts × ((p : Place) → old p ≡ old p ++ cond (is_behind next p.point && covered tree pts fields p) (c ∷ []) [])
-points-first c pts next tree fields old least = (least_is_point pts 0 next least, λ p. append-none (old p) ∙ ap (λ b. old p ++ cond b (c ∷ []) []) (sym (none p)))
+points-first c pts next tree fields old least = (least_is_point pts 0 next least, λ p. sym (append-nil (old p)) ∙ ap (λ b. old p ++ cond b (c ∷ []) []) (sym (none p)))
   where
     closed : (b t h f : Bool) → (h ≡ true → b ≡ false) → (b && (t && (h && f))) ≡ false
     closed false t h f shut = refl
@@ -173,7 +163,3 @@ points-more c pts (Some y) next x tree fields old mid new is before after least 
         ∙ ap (λ z. old p ++ (cond (nat_lt p.point z && covered tree pts fields p) (c ∷ []) [] ++ cond (covered tree (x ∷ []) fields p) (c ∷ []) [])) same
         ∙ ap (λ xs. old p ++ xs) (one_point c (tree == p.tree) (is_in fields p.field) (nat_lt p.point x) (x == p.point) (is_in pts p.point) (is_behind next p.point)
         (stands pts x p.point next (subst (Contains pts) same before.0) least))
-
-pub kept-has : (on : Option (List ℕ)) (points : List ℕ) (q : ℕ) → Contains (kept on points) q → Contains points q
-kept-has None points q h = h
-kept-has (Some listed) points q h = (both_from listed points q h).0

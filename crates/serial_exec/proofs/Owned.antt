@@ -2,13 +2,12 @@
 use Rattle.std.proofs.Common.{◌≡◌, ℕ, suc, ◌+◌, ◌<◌, ◌==◌, true, false, cond, List, [], ◌∷◌, ◌++◌, take, filter, length, get_or, set, replicate, slice_get, Some, refl, sym, ap, ◌∙◌, inl, inr, arith}
 use Rattle.std.proofs.lemmas.Bool.{cases_Bool, cases_eq}
 use Rattle.std.proofs.lemmas.Bool.Decides.{nat_tests}
-use Rattle.std.proofs.lemmas.List.{length-set, length-replicate, get_or-set_same, get_or-set_other, get_or-replicate}
+use Rattle.std.proofs.lemmas.List.{length-set, length-replicate, get_or-set_same, get_or-set_other, get_or-replicate, append-nil}
 use Rattle.std.proofs.lemmas.List.Elements.{filter-append, filter_map-append}
 use Rattle.std.proofs.lemmas.Option.{slice_get-get_or}
 use Rattle.std.proofs.Math.Seq.{take-suc}
 use Rattle.semantics.specs.declared.tables.Req.{Req}
 use Rattle.serial_exec.specs.OwnReqs.{AreOwn, IsNoted, reqs_at}
-use Rattle.serial_exec.proofs.Noting.{append-none}
 
 -- A list at a place that is longer by a number.
 pub pushed-is_noted : (lists : List (List ℕ)) (p k : ℕ) → IsNoted p k lists (set lists p (get_or lists p [] ++ k ∷ []))
@@ -24,18 +23,9 @@ pushed-is_noted lists p k = record {
     | inr other ↦
         let not_same : (p == i) ≡ false = grind (arith, nat_tests, other) in
         get_or-set_other lists p i (get_or lists p [] ++ k ∷ []) [] (λ e. other (sym e))
-        ∙ append-none (get_or lists i [])
+        ∙ sym (append-nil (get_or lists i []))
         ∙ sym (ap (λ b. get_or lists i [] ++ cond b (k ∷ []) []) not_same)
   ];
-}
-
--- No number is noted where there is no list.
-pub nowhere-is_noted : (lists : List (List ℕ)) (p k : ℕ) → (p < length lists → ⊥) → IsNoted p k lists lists
-nowhere-is_noted lists p k beyond = record {
-  each = refl;
-  lists = λ i below.
-      let not_same : (p == i) ≡ false = elim (cases_eq p i) [ inl same ↦ absurd (beyond (omega (arith, same))) | inr other ↦ grind (arith, nat_tests, other) ] in
-      append-none (get_or lists i []) ∙ sym (ap (λ b. get_or lists i [] ++ cond b (k ∷ []) []) not_same);
 }
 
 -- At first there are none.

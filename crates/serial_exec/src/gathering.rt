@@ -7,7 +7,7 @@ ghost use Rattle.semantics.specs.Points.{points_in};
 ghost use Rattle.semantics.specs.SerialOrder.{serial};
 ghost use Rattle.serial_exec.specs.Changes.{Adds, covered, by_task, use_changes, uses_changes, item_changes, items_changes};
 ghost use Rattle.point_laws.specs.Cut.{cut_to};
-ghost use Rattle.serial_exec.specs.Listed.{listed_by};
+ghost use Rattle.listed_points.specs.Listed.{listed_of, IsAscending};
 ghost use Rattle.serial_exec.specs.Histories.{changes_at};
 ghost use Rattle.serial_exec.specs.OwnReqs.{AreOwn, reqs_at};
 
@@ -22,19 +22,20 @@ use std::alloc::{AllocError, Global};
 use value_terms::Base;
 
 /// One change more at these fields of the points of a space, or of those that are listed.
-fn note_in_space<'a, P: PointSet + Copy, Q: PointSet>(
+fn note_in_space<'a, P: PointSet + Copy>(
     alloc: Global,
     histories: &mut Histories,
     log: &Log<'a, P>,
-    listed: Option<&Q>,
+    listed: Option<&[u64]>,
     tree: u32,
     space: u32,
     fields: &[u32],
     change: Change,
 ) -> Result<(), AllocError>
-    requires { IsStrictlyIncreasing fields.now }
+    requires fields { IsStrictlyIncreasing fields.now }
+    requires ascending { IsAscending listed }
     ensures { OnOk result (Adds change
-        (covered tree (points_in (cut_to (listed_by Q.points listed.entry) log.now) space) fields.now)
+        (covered tree (points_in (cut_to (listed_of listed.entry) log.now) space) fields.now)
         (changes_at histories.old) (changes_at histories.new)) }
 {
     match log.set(space) {
@@ -44,18 +45,19 @@ fn note_in_space<'a, P: PointSet + Copy, Q: PointSet>(
 }
 
 /// What a task does by a requirement.
-fn note_req<'a, P: PointSet + Copy, Q: PointSet>(
+fn note_req<'a, P: PointSet + Copy>(
     alloc: Global,
     histories: &mut Histories,
     log: &Log<'a, P>,
-    listed: Option<&Q>,
+    listed: Option<&[u64]>,
     moment: usize,
     task: u32,
     req: &Req,
 ) -> Result<(), AllocError>
-    requires { IsStrictlyIncreasing req.now.fields }
+    requires fields { IsStrictlyIncreasing req.now.fields }
+    requires ascending { IsAscending listed }
     ensures { OnOk result ((p : Place) → changes_at histories.new p ≡ changes_at histories.old p ++
-        use_changes (cut_to (listed_by Q.points listed.entry) log.now) moment (by_task task) req.now p) }
+        use_changes (cut_to (listed_of listed.entry) log.now) moment (by_task task) req.now p) }
 {
     match task_action(task, req.number, req.access) {
         Some(action) => {
@@ -70,17 +72,18 @@ fn note_req<'a, P: PointSet + Copy, Q: PointSet>(
 }
 
 /// What a task does by the requirement at a position.
-fn note_req_at<'a, P: PointSet + Copy, Q: PointSet>(
+fn note_req_at<'a, P: PointSet + Copy>(
     alloc: Global,
     histories: &mut Histories,
     log: &Log<'a, P>,
-    listed: Option<&Q>,
+    listed: Option<&[u64]>,
     moment: usize,
     task: u32,
     k: usize,
 ) -> Result<(), AllocError>
+    requires { IsAscending listed }
     ensures { OnOk result ((p : Place) → changes_at histories.new p ≡ changes_at histories.old p ++
-        uses_changes (cut_to (listed_by Q.points listed.entry) log.now) moment (by_task task)
+        uses_changes (cut_to (listed_of listed.entry) log.now) moment (by_task task)
         (reqs_at log.now.reqs (k ∷ [])) p) }
 {
     match log.reqs().get(k) {
@@ -90,17 +93,18 @@ fn note_req_at<'a, P: PointSet + Copy, Q: PointSet>(
 }
 
 /// What a task does by the requirements at some positions.
-fn note_reqs<'a, P: PointSet + Copy, Q: PointSet>(
+fn note_reqs<'a, P: PointSet + Copy>(
     alloc: Global,
     histories: &mut Histories,
     log: &Log<'a, P>,
-    listed: Option<&Q>,
+    listed: Option<&[u64]>,
     moment: usize,
     task: u32,
     own: &[usize],
 ) -> Result<(), AllocError>
+    requires { IsAscending listed }
     ensures { OnOk result ((p : Place) → changes_at histories.new p ≡ changes_at histories.old p ++
-        uses_changes (cut_to (listed_by Q.points listed.entry) log.now) moment (by_task task)
+        uses_changes (cut_to (listed_of listed.entry) log.now) moment (by_task task)
         (reqs_at log.now.reqs own.now) p) }
 {
     for k in own {
@@ -110,18 +114,19 @@ fn note_reqs<'a, P: PointSet + Copy, Q: PointSet>(
 }
 
 /// What an item does.
-fn note_item<'a, P: PointSet + Copy, Q: PointSet>(
+fn note_item<'a, P: PointSet + Copy>(
     alloc: Global,
     histories: &mut Histories,
     log: &Log<'a, P>,
-    listed: Option<&Q>,
+    listed: Option<&[u64]>,
     own: &NumberLists,
     moment: usize,
     item: usize,
 ) -> Result<(), AllocError>
-    requires { AreOwn log.now.reqs log.now.reqs (length log.now.items) own.now }
+    requires own { AreOwn log.now.reqs log.now.reqs (length log.now.items) own.now }
+    requires ascending { IsAscending listed }
     ensures { OnOk result ((p : Place) → changes_at histories.new p ≡ changes_at histories.old p ++
-        item_changes (cut_to (listed_by Q.points listed.entry) log.now) moment item p) }
+        item_changes (cut_to (listed_of listed.entry) log.now) moment item p) }
 {
     log.fill_fields_ascend();
     let Some(found) = log.items().get(item) else {
@@ -154,13 +159,14 @@ fn note_item<'a, P: PointSet + Copy, Q: PointSet>(
 }
 
 /// What the items of a log do, in serial order: at all points, or at those that are listed.
-pub(crate) fn histories_of<'a, P: PointSet + Copy, Q: PointSet>(
+pub(crate) fn histories_of<'a, P: PointSet + Copy>(
     alloc: Global,
     log: &Log<'a, P>,
-    listed: Option<&Q>,
+    listed: Option<&[u64]>,
 ) -> Result<Histories, AllocError>
+    requires { IsAscending listed }
     ensures { IfOk result (λ h. (p : Place) → changes_at h p
-        ≡ items_changes (cut_to (listed_by Q.points listed.entry) log.now) 0 (serial log.now) p) }
+        ≡ items_changes (cut_to (listed_of listed.entry) log.now) 0 (serial log.now) p) }
 {
     let own = own_reqs(alloc, log.items().len(), log.reqs())?;
     let mut histories = Histories::new(alloc);

@@ -5,11 +5,11 @@ ghost use Rattle.std.specs.List.Sorted.{IsStrictlyIncreasing};
 ghost use Rattle.semantics.specs.declared.places.Place.{Place};
 ghost use Rattle.serial_exec.specs.Changes.{Adds, covered};
 ghost use Rattle.point_laws.specs.Cut.{kept};
-ghost use Rattle.serial_exec.specs.Listed.{listed_by};
+ghost use Rattle.listed_points.specs.Listed.{listed_of, IsAscending};
 ghost use Rattle.serial_exec.specs.Histories.{same_key, changes_at, key_of};
 
 use crate::change::{Change, PlaceKey};
-use crate::points::{next_point, point_above};
+use listed_points::{listed_after, next_listed};
 use point_set::PointSet;
 use std::alloc::{AllocError, Global};
 use std::collections::HashMap;
@@ -70,24 +70,25 @@ impl Histories {
     }
 
     /// One change more at these fields of the points of a set, or of those that are listed.
-    pub(crate) fn note_all<P: PointSet, Q: PointSet>(
+    pub(crate) fn note_all<P: PointSet>(
         &mut self,
         alloc: Global,
         set: &P,
-        listed: Option<&Q>,
+        listed: Option<&[u64]>,
         tree: u32,
         fields: &[u32],
         change: Change,
     ) -> Result<(), AllocError>
-        requires { IsStrictlyIncreasing fields.now }
+        requires fields { IsStrictlyIncreasing fields.now }
+        requires ascending { IsAscending listed }
         ensures { OnOk result (Adds change
-            (covered tree (kept (listed_by Q.points listed.entry) (P.points set.now)) fields.now)
+            (covered tree (kept (listed_of listed.entry) (P.points set.now)) fields.now)
             (changes_at self.old) (changes_at self.new)) }
     {
-        let mut next = next_point(set, listed, 0);
+        let mut next = next_listed(set, listed, 0);
         while let Some(point) = next {
             self.note_at_point(alloc, tree, point, fields, change)?;
-            next = point_above(set, listed, point);
+            next = listed_after(set, listed, point);
         }
         Ok(())
     }

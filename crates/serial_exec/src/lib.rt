@@ -7,7 +7,6 @@ mod gathering;
 mod histories;
 mod marks;
 mod own_reqs;
-mod points;
 mod sums;
 #[cfg(test)]
 mod tests;

@@ -7,7 +7,7 @@ ghost use Rattle.semantics.specs.declared.places.Place.{Place};
 ghost use Rattle.semantics.specs.Points.{is_in};
 ghost use Rattle.semantics.specs.Sequential.{wanted};
 ghost use Rattle.point_laws.specs.Cut.{cut, cut_to};
-ghost use Rattle.serial_exec.specs.Listed.{listed_by};
+ghost use Rattle.listed_points.specs.Listed.{listed_of, IsAscending};
 ghost use Rattle.serial_exec.specs.Histories as says;
 ghost use Rattle.serial_exec.specs.Kept.{AreVersionsOf, changes_before, changes_in, value_at};
 ghost use Rattle.serial_exec.specs.Marks.{AreMarksOf};
@@ -20,7 +20,7 @@ use crate::marks::{Mark, Marks};
 use crate::sums::{latest, sum_of};
 use log_decl::Log;
 use point_laws::cut_tables_keep_points;
-use point_set::{PointList, PointSet};
+use point_set::PointSet;
 use semantics::Place;
 use std::alloc::Global;
 use std::marker::Model;
@@ -49,13 +49,14 @@ impl Model for Versions {
 
 impl Versions {
     /// The versions at all points, or at those that are listed.
-    fn of<'a, P: PointSet + Copy, Q: PointSet>(
+    fn of<'a, P: PointSet + Copy>(
         alloc: Global,
         log: &Log<'a, P>,
-        listed: Option<&Q>,
+        listed: Option<&[u64]>,
     ) -> Result<Versions, Memory>
+        requires { IsAscending listed }
         ensures { IfOk result (λ v. AreVersionsOf
-            (cut_to (listed_by Q.points listed.entry) log.now) v) }
+            (cut_to (listed_of listed.entry) log.now) v) }
     {
         let moments = Vec::from_slice(alloc, log.serial_places())?;
         let histories = histories_of(alloc, log, listed)?;
@@ -74,7 +75,7 @@ impl Versions {
     ) -> Result<Versions, Memory>
         ensures { IfOk result (λ v. AreVersionsOf log.now v) }
     {
-        Versions::of::<P, PointList>(alloc, log, None)
+        Versions::of(alloc, log, None)
     }
 
     /// The versions at the listed points: there they say what the whole log wants, and elsewhere what the tables want that are cut to these points.
@@ -89,10 +90,7 @@ impl Versions {
             → is_in points.now p.point ≡ true → value_at v item p ≡ wanted log.now item p) }
     {
         cut_tables_keep_points();
-        let Some(listed) = PointList::over(points) else {
-            unreachable!()
-        };
-        Versions::of(alloc, log, Some(&listed))
+        Versions::of(alloc, log, Some(points))
     }
 
     /// How many items the log has.

@@ -2,7 +2,7 @@
 use Rattle.std.proofs.Common.{◌≡◌, ◌≢◌, ℕ, ◌+◌, ◌-◌, ◌≤◌, ◌<◌, ◌==◌, List, [], ◌∷◌, ◌++◌, length, take, drop, get_or, Bool, true, false, Option, Some, None, refl, sym, ap, ap₂, subst, ◌∙◌, arith, inl, inr, All, Contains, append-nil, length-append}
 use Rattle.std.specs.List.{AllByRecursion}
 use Rattle.std.specs.Option.{option_or}
-use Rattle.std.proofs.lemmas.Bool.{le-ltb, ltb-false, ne_eqb, eq-eqb, eqb-true, true≢false, cases_Bool}
+use Rattle.std.proofs.lemmas.Bool.{le-ltb, ne_eqb, eq-eqb, eqb-true, true≢false, cases_Bool}
 use Rattle.std.proofs.lemmas.List.Elements.{All-cons, All-contains_itself, Contains-append_left, recursion_from_All}
 use Rattle.std.proofs.lemmas.List.Splits.{length-slice_split, slice_split_none}
 use Rattle.std.proofs.Math.Seq.{take-append-add, drop-append_seam}
@@ -15,12 +15,13 @@ use Rattle.spy_grammar.specs.Reading.{line_at}
 use Rattle.semantics.specs.declared.command.Command.{Command}
 use Rattle.semantics.specs.declared.faults.Fault.{Fault}
 use Rattle.semantics.specs.Records.{parts_of, line_count, Hold}
-use Rattle.semantics.specs.TextFaults.{ends_within_line, is_too_long, line_fault, lines_fault, text_fault}
+use Rattle.semantics.specs.TextFaults.{ends_within_line, line_fault, lines_fault, text_fault}
 use Rattle.semantics.specs.Faults.{at_line, declaration_fault, ended_fault, first_with, header_fault, is_end, is_header, log_fault, opens}
 use Rattle.spy_cli.specs.Answers.{IsAdmitted}
 use Rattle.spy_cli.specs.Cut.{IsCodeOfCut, IsCut, ShowsCut}
 use Rattle.log_reading.proofs.lemmas.Lines.{count_is, end_is, lines_are, lines_decide, parts_before}
 use Rattle.log_reading.proofs.lemmas.Numbered.{within}
+use Rattle.outcome_laws.proofs.lemmas.Clean.{clean}
 
 -- ---- bytes, cut at each line feed
 
@@ -67,20 +68,6 @@ unfolding text_fault
 newline_shown bytes short unended = rw (le-ltb 67108864 (length bytes) short, unended) refl
 
 -- ---- an input without a fault, and its front
-
-record IsClean (bytes : List ℕ) : Type 0 where
-  short : length bytes ≤ 67108864
-  lines : lines_fault 1 (take (line_count bytes) (parts_of bytes)) ≡ None
-
-clean : (bytes : List ℕ) → text_fault bytes ≡ None → IsClean bytes
-unfolding text_fault
-clean bytes h = elim (cases_Bool (is_too_long bytes)) [
-  | inl long ↦ absurd (let e : ◌≡◌ {A = Option Fault} (Some (record { line = 0; code = codes.TooLong })) None = sym (rw long refl) ∙ h in cc)
-  | inr short ↦ elim (cases_Bool (ends_within_line bytes)) [
-    | inl unended ↦ absurd (let e : ◌≡◌ {A = Option Fault} (Some (record { line = line_count bytes + 1; code = codes.Newline })) None = sym (rw (short, unended) refl) ∙ h in cc)
-    | inr ended ↦ record { short = ltb-false 67108864 (length bytes) short; lines = sym (rw (short, ended) refl) ∙ h }
-  ]
-]
 
 first_none : (first all some : Option Fault) → (all ≡ None → some ≡ None) → option_or first all ≡ None → option_or first some ≡ None
 first_none None all some later h = later h

@@ -1,4 +1,3 @@
 mod Cut
 mod Printed
 mod Reports
-mod Stencils

@@ -1,12 +1,11 @@
 -- One thing is answered to an input.
-use Rattle.std.proofs.Common.{◌≡◌, ◌≤◌, ◌<◌, ◌^◌, ℕ, arith, List, length, Option, Some, None, refl, sym, ap, subst, ◌∙◌, inl, inr, ◌⊎◌, ◌↔◌}
+use Rattle.std.proofs.Common.{◌≡◌, ◌≤◌, ◌<◌, ◌^◌, ℕ, arith, List, length, Option, Some, None, refl, sym, ap, subst, ◌∙◌, inl, inr, ◌↔◌}
 use Rattle.std.specs.List.{AllByRecursion}
 use Rattle.spy_grammar.specs.Spelling.{Good}
-use Rattle.spy_grammar.specs.declared.code.Code.{Code}
 use Rattle.spy_grammar.specs.declared.code.Code.TheVariants.{TooLong}
 use Rattle.spy_grammar.specs.declared.record.Lined.{Lined}
 use Rattle.findings.specs.declared.finding.Finding.{Finding}
-use Rattle.findings.specs.declared.finding.Finding.TheVariants.{Accepted, Ordered, Deps, Cycle, Race, Unordered, Differ, Usage, CannotRead}
+use Rattle.findings.specs.declared.finding.Finding.TheVariants.{Ordered, Deps}
 use Rattle.findings.specs.declared.finding.Finding.TheVariants.{Fault as Faulty}
 use Rattle.findings.specs.Texts as reports
 use Rattle.semantics.specs.declared.command.Command.{Command}
@@ -14,18 +13,16 @@ use Rattle.semantics.specs.declared.command.Command.TheVariants as commands
 use Rattle.semantics.specs.declared.faults.Fault.{Fault}
 use Rattle.semantics.specs.Records.{text_of, records_of, lined, line_count, Reads}
 use Rattle.semantics.specs.TextFaults.{text_fault}
-use Rattle.semantics.specs.Faults.{log_fault}
-use Rattle.semantics.specs.Tables.{Tables, tables_of}
-use Rattle.semantics.specs.Outcome.{IsFound, IsOutcome, IsPrinted, HasTextFault, Finds, CheckFinds, OrderedFinds, DepsFinds}
+use Rattle.semantics.specs.Outcome.{IsFound, IsOutcome, IsPrinted, HasTextFault}
 use Rattle.log_gen.specs.Stencil.{stencil}
 use Rattle.spy_args.specs.Asked.{IsSized}
 use Rattle.spy_args.specs.declared.request.Request.{Request}
 use Rattle.spy_args.specs.declared.request.Request.TheVariants as requests
 use Rattle.spy_cli.specs.declared.status.Status.{Status}
 use Rattle.spy_cli.specs.declared.status.Status.TheVariants as statuses
-use Rattle.spy_cli.specs.Answers.{status_of, Tells, IsJudged, IsDemo, IsAnswer, IsDecided, IsInput, IsAdmitted, Keeps, Ends}
+use Rattle.spy_cli.specs.Answers.{status_of, Tells, IsJudged, IsDemo, IsAnswer, IsInput}
 use Rattle.log_reading.proofs.lemmas.Lines.{long}
-use Rattle.spy_cli.proofs.Stencils.{records_are}
+use Rattle.log_laws.proofs.lemmas.Numbered.{records_numbered}
 
 abbrev OneLog : Type 0
 OneLog = (bytes : List ℕ) (log other : List Lined) → Reads bytes log → Reads bytes other → log ≡ other
@@ -54,7 +51,7 @@ OneFinding = (command : Command) (lines : ℕ) (log : List Lined) → AllByRecur
 -- Two answers of one `demo` are one.
 demos_alike : OneFinding → (size : ℕ) → AllByRecursion Good (stencil size) → (s t : Status) (x y : List ℕ) → IsDemo size s x → IsDemo size t y → (s ≡ t) × (x ≡ y)
 demos_alike one size good s t x y p q =
-    let good_log = subst (AllByRecursion Good) (sym (records_are 1 (stencil size))) good in
+    let good_log = subst (AllByRecursion Good) (sym (records_numbered 1 (stencil size))) good in
     let same = one commands.Check (length (stencil size)) (lined (stencil size)) good_log p.finding q.finding p.found q.found in
     told_alike p.finding q.finding s t x y same p.tells q.tells
 
@@ -95,88 +92,6 @@ module _ (one : OneLog) (fault : (bytes : List ℕ) (log : List Lined) → text_
       there : text_fault text ≡ None → Reads text (lined (records_of log)) → IsOutcome command text f → IsFound command (line_count text) (lined (records_of log)) f
       there spelled here (inl h) = clean_or_not text f h spelled
       there spelled here (inr h) = subst (λ l. IsFound command (line_count text) l f) (one text h.log (lined (records_of log)) h.reads here) h.found
-
--- ---- an input that keeps each rule
-
--- It is answered by no fault.
-no_fault : (command : Command) (bytes : List ℕ) → OneLog → IsAdmitted command bytes → (line : ℕ) (code : Code) → IsOutcome command bytes (Faulty line code) → ⊥
-no_fault command bytes one keeps line code (inl h) = clean_or_not bytes (Faulty line code) h keeps.spelled
-no_fault command bytes one keeps line code (inr h) =
-    let own = subst (λ l. log_fault command (line_count bytes) l ≡ Some (record { line = line; code = code })) (one bytes h.log keeps.log h.reads keeps.reads) h.found in
-    let wrong : ◌≡◌ {A = Option Fault} (Some (record { line = line; code = code })) None = sym own ∙ keeps.keeps in
-    cc
-
--- What is found of an input without a fault is found in its tables.
-in_tables : (command : Command) (bytes : List ℕ) → OneLog → IsAdmitted command bytes → (f : Finding) → IsOutcome command bytes f → (t : Tables) × Finds command t f
-in_tables command bytes one keeps f (inl h) = clean_or_not bytes f h keeps.spelled
-in_tables command bytes one keeps f (inr h) = (tables_of h.log, by f h.found)
-  where
-    by : (f : Finding) → IsFound command (line_count bytes) h.log f → Finds command (tables_of h.log) f
-    by (Faulty line code) found = absurd (no_fault command bytes one keeps line code (inr (record { spelled = keeps.spelled; log = h.log; reads = h.reads; found = found })))
-    by (Accepted tasks operations reads) found = found.1
-    by (Ordered tasks pairs) found = found.1
-    by (Deps list items before turn) found = found.1
-    by (Cycle events) found = found.1
-    by (Race a b inst point field) found = found.1
-    by (Unordered a b tree point field) found = found.1
-    by (Differ task number point field got want) found = found.1
-    by Usage found = found.1
-    by CannotRead found = found.1
-
-check_ends : (t : Tables) (f : Finding) → CheckFinds t f → (status_of f ≡ statuses.Yes) ⊎ (status_of f ≡ statuses.Refused)
-check_ends t (Cycle events) h = inr refl
-check_ends t (Race a b inst point field) h = inr refl
-check_ends t (Differ task number point field got want) h = inr refl
-check_ends t (Accepted tasks operations reads) h = inl refl
-check_ends t _ h = absurd h
-
-ordered_ends : (t : Tables) (f : Finding) → OrderedFinds t f → (status_of f ≡ statuses.Yes) ⊎ (status_of f ≡ statuses.Refused)
-ordered_ends t (Cycle events) h = inr refl
-ordered_ends t (Unordered a b tree point field) h = inr refl
-ordered_ends t (Ordered tasks pairs) h = inl refl
-ordered_ends t _ h = absurd h
-
-deps_ends : (t : Tables) (f : Finding) → DepsFinds t f → status_of f ≡ statuses.Yes
-deps_ends t (Deps list items before turn) h = refl
-deps_ends t _ h = absurd h
-
--- What is found in a log by `check` is reported with a status that the log decides.
-check_decides : (lines : ℕ) (log : List Lined) (f : Finding) → IsFound commands.Check lines log f → IsDecided (status_of f)
-check_decides lines log (Faulty line code) found = tt
-check_decides lines log (Accepted tasks operations reads) found = tt
-check_decides lines log (Cycle events) found = tt
-check_decides lines log (Race a b inst point field) found = tt
-check_decides lines log (Differ task number point field got want) found = tt
-check_decides lines log (Unordered a b tree point field) found = absurd found.1
-check_decides lines log (Ordered tasks pairs) found = absurd found.1
-check_decides lines log (Deps list items before turn) found = absurd found.1
-check_decides lines log Usage found = absurd found.1
-check_decides lines log CannotRead found = absurd found.1
-
-pub demo_decides : (size : ℕ) (s : Status) (x : List ℕ) → IsDemo size s x → IsDecided s
-demo_decides size s x a = subst IsDecided (sym a.tells.status_is) (check_decides (length (stencil size)) (lined (stencil size)) a.finding a.found)
-
--- So it is answered by what is found in it.
-pub answered_ends : OneLog → (request : Request) (bytes : List ℕ) (s : Status) (x : List ℕ) → Keeps request bytes → IsAnswer request bytes s x → Ends request s
-answered_ends one requests.Check bytes s x keeps a =
-    let found = in_tables commands.Check bytes one keeps a.finding a.outcome in
-    elim (check_ends found.0 a.finding found.1) [ inl holds ↦ inl (a.tells.status_is ∙ holds) | inr fails ↦ inr (inl (a.tells.status_is ∙ fails)) ]
-answered_ends one requests.Ordered bytes s x keeps a =
-    let found = in_tables commands.Ordered bytes one keeps a.finding a.outcome in
-    elim (ordered_ends found.0 a.finding found.1) [ inl holds ↦ inl (a.tells.status_is ∙ holds) | inr fails ↦ inr (inl (a.tells.status_is ∙ fails)) ]
-answered_ends one requests.Deps bytes s x keeps a =
-    let found = in_tables commands.Deps bytes one keeps a.finding a.outcome in
-    inl (a.tells.status_is ∙ deps_ends found.0 a.finding found.1)
-answered_ends one (requests.Demo size) bytes s x keeps a = inl (demo_decides size s x a)
-answered_ends one requests.Print bytes s x keeps (inl a) = clean_or_not bytes a.finding a.fault keeps
-answered_ends one requests.Print bytes s x keeps (inr a) = inl a.0
-
-pub memory_ends : (request : Request) → Ends request statuses.Memory
-memory_ends requests.Check = inr (inr refl)
-memory_ends requests.Ordered = inr (inr refl)
-memory_ends requests.Deps = inr refl
-memory_ends requests.Print = inr refl
-memory_ends (requests.Demo size) = inr refl
 
 -- ---- an input that is too long
 

@@ -1,8 +1,7 @@
 -- The search for the first pair that is not kept, one pair after another.
-use Rattle.std.proofs.Common.{◌≡◌, ℕ, suc, ◌+◌, ◌-◌, ◌<◌, ◌≤◌, ◌^◌, inl, inr, Bool, true, false, List, [], ◌∷◌, ◌++◌, map, length, filter, refl, sym, ap, ◌∙◌, subst, arith, Contains, slice_index, get_or, add-one}
+use Rattle.std.proofs.Common.{◌≡◌, ℕ, suc, ◌+◌, ◌-◌, ◌<◌, ◌≤◌, ◌^◌, Bool, true, false, List, [], ◌∷◌, ◌++◌, map, length, filter, refl, sym, ap, ◌∙◌, subst, arith, Contains, slice_index, get_or, add-one}
 use Rattle.std.specs.Prelude.{position, unwrap_or}
 use Rattle.std.specs.List.{AllByRecursion, position_or_len, range_with_len}
-use Rattle.std.proofs.lemmas.Bool.{cases_Bool, lt-ltb, le-ltb, cases_lt}
 use Rattle.std.proofs.lemmas.List.{length-map, length-append}
 use Rattle.semantics.specs.declared.tables.Item.{Item}
 use Rattle.semantics.specs.declared.tables.LogNode.{LogNode}
@@ -11,6 +10,7 @@ use Rattle.semantics.specs.Tables.{Tables}
 use Rattle.semantics.specs.Shown.{run_of, task_pairs, IsKept, AreKept, IsShownPair}
 use Rattle.log_laws.proofs.lemmas.Members.{Member, contains_of, map_member, member_left}
 use Rattle.log_laws.proofs.lemmas.Apart.{number_from}
+use Rattle.log_laws.proofs.lemmas.Lists.{place_len, filter_short}
 use Rattle.interference.specs.declared.pair.Pair.{Pair}
 use Rattle.interference.specs.declared.stretch.Stretch.{Stretch}
 use Rattle.interference.specs.Stretched.{StartsWith, pair_in, pairs_from}
@@ -21,21 +21,11 @@ use Rattle.task_order.specs.Searched.{tasks_among, IsFirstFailing, IsSearched, G
 
 -- ---- runs
 
-no_more : {X : Type 0} (p : X → Bool) (xs : List X) → position_or_len p xs ≤ length xs
-no_more p [] = omega arith
-no_more p (x ∷ xs) = elim (cases_Bool (p x)) [ inl t ↦ rw t (omega arith) | inr f ↦ rw f (omega (arith, no_more p xs)) ]
-
 -- The first place at which a test passes, and the length where none does.
-first_place : {X : Type 0} (p : X → Bool) (xs : List X) → unwrap_or (position p xs) (length xs) ≡ position_or_len p xs
-first_place p xs = elim (cases_lt (position_or_len p xs) (length xs)) [
-  | inl lt ↦ rw (lt-ltb _ _ lt) refl
-  | inr le ↦ rw (le-ltb _ _ le) (omega (arith, le, no_more p xs))
-]
-
 pub run_is : (t : Tables) (nodes : List LogNode) → nodes ≡ t.nodes → (runs : List ℕ) → AreRunsFrom nodes 0 runs → (item : ℕ) → item < length runs → slice_index runs item ≡ run_of t item
 run_is t nodes same runs are item lt =
     let first : slice_index runs item ≡ position_or_len (λ (n : LogNode). runs_item item n.op) nodes = omega (arith, are item lt) in
-    first ∙ sym (first_place (λ (n : LogNode). runs_item item n.op) nodes) ∙ ap (λ (ns : List LogNode). unwrap_or (position (λ (n : LogNode). runs_item item n.op) ns) (length ns)) same
+    first ∙ sym (place_len (λ (n : LogNode). runs_item item n.op) nodes) ∙ ap (λ (ns : List LogNode). unwrap_or (position (λ (n : LogNode). runs_item item n.op) ns) (length ns)) same
 
 -- ---- pairs
 
@@ -45,10 +35,6 @@ among_more items p rest e = rw e refl
 
 among_same : (items : List Item) (p : Pair) (rest : List Pair) → are_tasks items p ≡ false → tasks_among items (p ∷ rest) ≡ tasks_among items rest
 among_same items p rest e = rw e refl
-
-filter_short : {X : Type 0} (p : X → Bool) (xs : List X) → length (filter p xs) ≤ length xs
-filter_short p [] = omega arith
-filter_short p (x ∷ xs) = elim (cases_Bool (p x)) [ inl t ↦ rw t (omega (arith, filter_short p xs)) | inr f ↦ rw f (omega (arith, filter_short p xs)) ]
 
 pub begun : (t : Tables) → tasks_among t.items (all_pairs t) ≡ task_pairs t → length (all_pairs t) < 2 ^ 64 → (left : List Pair) → left ≡ all_pairs t → IsSearched t left 0
 begun t tasks few left same =
@@ -117,9 +103,6 @@ StretchGoesOn t s b n = (rest : List Pair) (count : ℕ) → IsSearched t (pairs
 -- Whether a pair of a stretch is of tasks, by what the code reads.
 pub tasks_in : (items read : List Item) (s : Stretch) (b : ℕ) (p : Pair) (test : Bool) → read ≡ items → p ≡ pair_in s b → test ≡ are_tasks read p → are_tasks items (pair_in s b) ≡ test
 tasks_in items read s b p test same pair is = sym (is ∙ ap (are_tasks read) pair ∙ ap (λ items. are_tasks items (pair_in s b)) same)
-
-pub stretch_begun : (t : Tables) (s : Stretch) → StretchGoesOn t s s.from 0
-stretch_begun t s rest count h = let e : count ≡ count + 0 = omega arith in subst (IsSearched t (pairs_from s s.from ++ rest)) e h
 
 pub stretch_kept : (t : Tables) (s : Stretch) (b n : ℕ) → b < s.to → are_tasks t.items (pair_in s b) ≡ true → IsKept t (s.a, b) → StretchGoesOn t s b n → StretchGoesOn t s (b + 1) (n + 1)
 stretch_kept t s b n lt tasks kept h rest count begins =

@@ -6,10 +6,10 @@ use Rattle.value_terms.specs.declared.bag.Group.{Group}
 use Rattle.value_terms.specs.declared.terms.Base.{Base}
 use Rattle.value_terms.specs.declared.terms.Base.TheVariants.{Raw, Ident}
 use Rattle.value_terms.specs.declared.terms.Contribution.{Contribution}
-use Rattle.value_terms.specs.Values.{Bag, Value, counted, joined, total, weight_of, weight_in, extended, add, plain, value_of, fold_in, is_raw, CountsEach, IsWellFormedBag, IsSmallBase, IsSmallEntry, IsSmallGroup, IsHeld}
+use Rattle.value_terms.specs.Values.{Bag, Value, counted, joined, total, weight_of, weight_in, extended, add, plain, value_of, fold_in, is_raw, CountsEach, IsWellFormedBag, IsSmallEntry, IsSmallGroup, IsHeld}
 use Rattle.value_terms.proofs.lemmas.Order.{compared}
 use Rattle.value_terms.proofs.lemmas.Counting.{counted_none, counted_same, counted_here, counted_later}
-use Rattle.value_terms.proofs.lemmas.WellFormed.{plain_well_formed, add_well_formed, extended_all}
+use Rattle.value_terms.proofs.lemmas.WellFormed.{add_well_formed, extended_all}
 use Rattle.value_terms.proofs.lemmas.Grouping.{weight_extended}
 
 counted_small : (c : Contribution) (n : ℕ) (bag : Bag) → IsSmallEntry (c, n) → AllByRecursion IsSmallEntry bag → AllByRecursion IsSmallEntry (counted c n bag)
@@ -24,9 +24,6 @@ joined_small : (a b : Bag) → AllByRecursion IsSmallEntry a → AllByRecursion 
 unfolding joined
 joined_small a [] h g = h
 joined_small a (e ∷ b) h g = joined_small (counted e.0 e.1 a) b (counted_small e.0 e.1 a g.0 h) g.1
-
-pub plain_held : (base : Base) → IsSmallBase base → IsHeld (plain base)
-plain_held base small = record { well_formed = plain_well_formed base; small_base = small; small_groups = tt; weight = omega arith }
 
 pub extended_held : (op : ℕ) (bag : Bag) (v : Value) → is_raw v.base ≡ false → bag ≢ [] → op < 2 ^ 32 → AllByRecursion IsSmallEntry bag → CountsEach bag → weight_of v + total bag < 2 ^ 64 → IsHeld v → IsHeld (record v { groups = extended op bag v.groups })
 unfolding add

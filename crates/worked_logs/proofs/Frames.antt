@@ -16,6 +16,7 @@ use Rattle.semantics.specs.Rules.{accesses}
 use Rattle.semantics.specs.declared.faults.Fault.{Fault}
 use Rattle.semantics.specs.Faults.{at_line, is_header, is_end, first_with, miscounts, header_fault, ended_fault, count_fault, tried, first_broken, records_fault, declaration_fault}
 use Rattle.worked_logs.specs.WorkedLimits.{framed}
+use Rattle.log_laws.proofs.lemmas.Numbered.{records_numbered}
 
 -- ---- Going on to the next record, and stopping at one.
 
@@ -96,10 +97,6 @@ length-lined : (line : ℕ) (rs : List Record) → length (lined_from line rs) �
 length-lined line [] = refl
 length-lined line (r ∷ rs) = ap suc (length-lined (line + 1) rs)
 
-records-lined : (line : ℕ) (rs : List Record) → records_of (lined_from line rs) ≡ rs
-records-lined line [] = refl
-records-lined line (r ∷ rs) = ap (λ rs. r ∷ rs) (records-lined (line + 1) rs)
-
 -- So the records tell the fault.
 pub by_records : (lines : ℕ) (rs : List Record) → All IsInner rs
     → declaration_fault lines (lined (framed rs)) ≡ records_fault (framed rs) [] (lined (framed rs))
@@ -112,4 +109,4 @@ by_records lines rs inner =
     let n_is : length log - 2 ≡ n = omega (arith, length-lined 1 (framed rs), length-append rs (End n ∷ [])) in
     let count : count_fault log ≡ None =
     subst (λ n. first_with codes.Count (miscounts n) log ≡ None) (sym n_is) right in
-    rw (header, end, count) (ap (λ all. records_fault all [] log) (records-lined 1 (framed rs)))
+    rw (header, end, count) (ap (λ all. records_fault all [] log) (records_numbered 1 (framed rs)))

@@ -5,7 +5,7 @@ use Rattle.std.specs.Prelude.{IsSome}
 use Rattle.std.specs.declared.cmp.Ordering.{Ordering}
 use Rattle.std.specs.declared.cmp.Ordering.TheVariants.{Less, Equal, Greater}
 use Rattle.std.proofs.lemmas.Bool.{false≢true, cases_Bool, eq-eqb, eqb-true}
-use Rattle.std.specs.Cmp.{IsTotalOrder, eq_by_cmp_equiv, nat_cmp_total, nat_cmp_is}
+use Rattle.std.specs.Cmp.{IsTotalOrder, eq_by_cmp_equiv, nat_cmp_total, nat_cmp_is, tied_then}
 use Rattle.std.proofs.lemmas.Cmp.{on_total, then_total}
 use Rattle.std.proofs.lemmas.Map.Lookups.{CmpEqualImpliesEq, exact_pairs, exact_unsigned}
 use Rattle.std.specs.FinMap.{find, get, contains_key, from_entries, insert, get-from_entries, get-insert, same_map}
@@ -42,15 +42,10 @@ numbers_tie a b = elim (cases_Bool (nat_eq a b)) [
   ]
 ]
 
-then_ties : (r s : Ordering) → is_eq (ordering_then r s) ≡ is_eq r && is_eq s
-then_ties Less s = refl
-then_ties Equal s = refl
-then_ties Greater s = refl
-
 cells_tie : (c : Cell) (k : Key) → is_at (cell_cmp c) (cell_at k) ≡ same_key (key_at c) k
 cells_tie c k =
-    then_ties (nat_cmp c.inst k.inst) (ordering_then (nat_cmp c.point k.point) (nat_cmp c.field k.field))
-    ∙ ap₂ (λ a b. a && b) (numbers_tie c.inst k.inst) (then_ties (nat_cmp c.point k.point) (nat_cmp c.field k.field) ∙ ap₂ (λ a b. a && b) (numbers_tie c.point k.point) (numbers_tie c.field k.field))
+    sym (tied_then (nat_cmp c.inst k.inst) (ordering_then (nat_cmp c.point k.point) (nat_cmp c.field k.field)))
+    ∙ ap₂ (λ a b. a && b) (numbers_tie c.inst k.inst) (sym (tied_then (nat_cmp c.point k.point) (nat_cmp c.field k.field)) ∙ ap₂ (λ a b. a && b) (numbers_tie c.point k.point) (numbers_tie c.field k.field))
 
 -- What the entries of a table have at a cell.
 abbrev pub held_at : List (Key × Value) → Cell → Option Value
@@ -79,16 +74,12 @@ get_put m c v q = get-insert cells_total m c v q ∙ ap (λ b. cond b (Some v) (
 abbrev pub map_of : List (Key × Value) → Contents
 map_of es = from_entries {R = cell_cmp} (seen es)
 
-some_is : (o : Option Value) → is_some o ≡ true → IsSome o
-some_is None e = absurd (false≢true e)
-some_is (Some v) e = refl
-
 module _ (es : List (Key × Value)) (m : Contents) (c : Cell) (k : Key) (view : map_of es ≡ m) (key : k ≡ key_at c) where
   pub got : lookup (same_key k) es ≡ get m c
   got = ap (λ k. lookup (same_key k) es) key ∙ sym (get_seen es c) ∙ ap (λ m. get m c) view
 
   pub is_there : contains_key m c ≡ true → IsSome (lookup (same_key k) es)
-  is_there there = some_is (lookup (same_key k) es) (ap is_some got ∙ there)
+  is_there there = ap is_some got ∙ there
 
   pub not_missing : {X : Type 0} → lookup (same_key k) es ≡ None → contains_key m c ≡ true → X
   not_missing none there = absurd (false≢true (ap is_some (sym none ∙ got) ∙ there))

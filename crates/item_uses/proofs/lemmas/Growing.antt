@@ -3,8 +3,9 @@ use Rattle.std.proofs.Common.{◌≡◌, ℕ, zero, suc, ◌+◌, ◌<◌, ◌==
 use Rattle.std.specs.List.{range_with_len}
 use Rattle.std.proofs.Math.ListN.{set}
 use Rattle.std.proofs.lemmas.Bool.{cases_Bool, eq-eqb, ne_eqb, eqb-true}
-use Rattle.std.proofs.lemmas.List.{map-append, length-map}
+use Rattle.std.proofs.lemmas.List.{map-append, length-map, append-nil}
 use Rattle.std.proofs.lemmas.List.Elements.{filter-append}
+use Rattle.std.proofs.lemmas.List.FromFn.{length-range_with_len}
 use Rattle.semantics.specs.declared.tables.Item.{Item}
 use Rattle.semantics.specs.declared.tables.ItemBody.{ItemBody}
 use Rattle.semantics.specs.declared.tables.ItemBody.TheVariants.{Task, Fill}
@@ -16,13 +17,9 @@ use Rattle.log_laws.proofs.lemmas.Members.{Member}
 use Rattle.log_laws.proofs.lemmas.Apart.{number_between}
 use Rattle.item_uses.specs.Usages.{Usage, usage_of, usages_of, usages, usages_at}
 use Rattle.item_uses.specs.Gathered.{own_usages, with_usage}
-use Rattle.item_uses.proofs.OneMore.{nothing_more, one_more}
+use Rattle.item_uses.proofs.OneMore.{one_more}
 
 -- ---- what items ask for, position by position
-
-pub numbers_length : (k n : ℕ) → length (range_with_len k n) ≡ n
-numbers_length k zero = refl
-numbers_length k (suc n) = omega (arith, numbers_length (k + 1) n)
 
 pub at_number : {X : Type 0} (f : ℕ → X) (k n i : ℕ) (d : X) → i < n → get_or (map f (range_with_len k n)) i d ≡ f (k + i)
 at_number f k zero i d lt = absurd (omega (arith, lt))
@@ -30,7 +27,7 @@ at_number f k (suc n) zero d lt = ap f (omega arith)
 at_number f k (suc n) (suc i) d lt = at_number f (k + 1) n i d (omega (arith, lt)) ∙ ap f (omega arith)
 
 pub usages_length : (t : Tables) → length (usages t) ≡ length t.items
-usages_length t = length-map (range_with_len 0 (length t.items)) (usages_of t) ∙ numbers_length 0 (length t.items)
+usages_length t = length-map (range_with_len 0 (length t.items)) (usages_of t) ∙ length-range_with_len 0 (length t.items)
 
 pub usages_is : (t : Tables) (a : ℕ) → a < length t.items → usages_at (usages t) a ≡ usages_of t a
 usages_is t a lt = at_number (usages_of t) 0 (length t.items) a [] lt ∙ ap (usages_of t) (omega arith)
@@ -67,7 +64,7 @@ reqs_here : (t : Tables) (r : Req) (i : ℕ) → (r.item == i) ≡ true → reqs
 reqs_here t r i e = filter-append (λ (r : Req). r.item == i) t.reqs (r ∷ []) ∙ rw e refl
 
 reqs_other : (t : Tables) (r : Req) (i : ℕ) → (r.item == i) ≡ false → reqs_of (with_req t r) i ≡ reqs_of t i
-reqs_other t r i e = filter-append (λ (r : Req). r.item == i) t.reqs (r ∷ []) ∙ rw e (nothing_more (reqs_of t i))
+reqs_other t r i e = filter-append (λ (r : Req). r.item == i) t.reqs (r ∷ []) ∙ rw e (append-nil (reqs_of t i))
 
 item_other : (t : Tables) (r : Req) (i : ℕ) (it : Item) → (r.item == i) ≡ false → (b : ItemBody) → it.body ≡ b → uses_of_item (with_req t r) i it ≡ uses_of_item t i it
 item_other t r i it e Task f = rw f (reqs_other t r i e)

@@ -7,13 +7,13 @@ use Rattle.semantics.specs.declared.places.Place.{Place}
 use Rattle.semantics.specs.declared.tables.Req.{Req}
 use Rattle.semantics.specs.Tables.{Tables}
 use Rattle.semantics.specs.Points.{is_in, points_in}
-use Rattle.semantics.specs.Kinds.{uses_of, covers, kind_at, item_kind, item_places, grid, req_grid}
-use Rattle.log_laws.proofs.lemmas.Members.{Member, member_filter, is_in_of, member_in, member_flat, flat_member, member_map, map_member}
-use Rattle.log_laws.proofs.lemmas.Apart.{member_grid}
+use Rattle.semantics.specs.Kinds.{uses_of, covers, kind_at, item_kind, item_places, req_grid}
+use Rattle.log_laws.proofs.lemmas.Members.{Member, member_filter, is_in_of, member_in, member_flat, flat_member, member_map, map_member, filter_member}
+use Rattle.log_laws.proofs.lemmas.Apart.{member_grid, grid_member}
 use Rattle.item_uses.specs.Usages.{usage_of, usages_of}
 use Rattle.item_uses.specs.Sharing.{least_shared, shared_place, shared_kind, usage_kind, kind_between}
 use Rattle.item_uses.proofs.Strongest.{AtMost, at_most_trans, below_strongest, strongest_below, strongest_same}
-use Rattle.item_uses.proofs.Shared.{filter_member, shared_at, shared_in}
+use Rattle.item_uses.proofs.Shared.{shared_at, shared_in}
 
 -- A requirement covers a place of its tree, its points and its fields.
 abbrev pub Covers : Tables → Place → Req → Type 0
@@ -29,9 +29,6 @@ pub covers_so : (t : Tables) (p : Place) (r : Req) → Covers t p r → covers t
 covers_so t p r c = and_from _ _ (eq-eqb r.tree p.tree c.0) (and_from _ _ (is_in_of (points_in t r.space) p.point c.1) (is_in_of r.fields p.field c.2))
 
 -- The places that an item covers are those that one of its requirements covers.
-pub grid_member : (points fields : List ℕ) (x f : ℕ) → Member points x → Member fields f → Member (grid points fields) (x, f)
-grid_member points fields x f m n = flat_member (λ x. map (λ f. (x, f)) fields) points x (x, f) m (map_member (λ f. (x, f)) fields f n)
-
 abbrev places_of_req : Tables → Req → List Place
 places_of_req t r = map (λ (p : ℕ × ℕ). record { tree = r.tree; point = p.0; field = p.1 }) (req_grid t r)
 

@@ -7,11 +7,10 @@ use Rattle.privilege.specs.declared.kinds.Kind.TheVariants.{Free, Turn, Before}
 use Rattle.semantics.specs.declared.places.Place.{Place}
 use Rattle.semantics.specs.Tables.{Tables}
 use Rattle.semantics.specs.Kinds.{uses_of, strongest, kind_at, item_places, is_free, least_place}
-use Rattle.log_laws.proofs.lemmas.Members.{Member, member_filter, member_flat, flat_member, member_map, map_member, member_filter_map, filter_map_member}
+use Rattle.log_laws.proofs.lemmas.Members.{Member, member_filter, member_flat, flat_member, member_map, map_member, member_filter_map, filter_map_member, filter_member}
 use Rattle.item_uses.specs.Usages.{Usage, usage_of, usages_of}
 use Rattle.item_uses.specs.Sharing.{shared_place, usage_kind, kind_place, place_between}
 use Rattle.item_uses.proofs.Strongest.{AtMost, below_strongest, only_free}
-use Rattle.item_uses.proofs.Shared.{filter_member}
 use Rattle.item_uses.proofs.Least.{first, not_behind, least_same}
 use Rattle.item_uses.proofs.lemmas.ItemKinds.{item_place, kinds_at, kind_here, meets_here, shares, both_cover, req_kind}
 

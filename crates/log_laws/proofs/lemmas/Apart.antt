@@ -9,7 +9,7 @@ use Rattle.spy_words.specs.Classes.{IsGood, IsNumberFrom, ascends, span_before, 
 use Rattle.std.specs.List.{AllByRecursion, range_with_len}
 use Rattle.semantics.specs.Tables.{points_of}
 use Rattle.semantics.specs.Kinds.{grid}
-use Rattle.log_laws.proofs.lemmas.Members.{Member, member_of, contains_of, only, member_append, member_map, member_flat}
+use Rattle.log_laws.proofs.lemmas.Members.{Member, member_of, contains_of, only, member_append, member_map, member_flat, flat_member, map_member}
 
 -- A relation of each element to each later one.
 abbrev pub PairsBy : {X : Type 0} → (X → X → Type 0) → List X → Type 0
@@ -154,3 +154,6 @@ member_grid points fields p m =
 pub grid_apart : (points fields : List ℕ) → Apart points → Apart fields → Apart (grid points fields)
 grid_apart points fields p f = apart_flat (λ x. map (λ g. (x, g)) fields) points (λ x m. apart_map (λ g. (x, g)) fields (λ a b e. ap (λ (q : ℕ × ℕ). q.1) e) f)
     (λ x y z a b m n. let s = member_map (λ g. (x, g)) fields z m in let t = member_map (λ g. (y, g)) fields z n in ap (λ (q : ℕ × ℕ). q.0) (sym s.2 ∙ t.2)) p
+
+pub grid_member : (points fields : List ℕ) (x f : ℕ) → Member points x → Member fields f → Member (grid points fields) (x, f)
+grid_member points fields x f m n = flat_member (λ x. map (λ f. (x, f)) fields) points x (x, f) m (map_member (λ f. (x, f)) fields f n)

@@ -1,11 +1,13 @@
--- Lists in which an element is left out, and how many different numbers there are below a bound.
-use Rattle.std.proofs.Common.{take, drop, ◌+◌, take-append-drop, ◌≡◌, ℕ, ◌<◌, ◌≤◌, List, [], ◌∷◌, ◌++◌, length, inl, inr, refl, sym, subst, arith, eqb, ◌↔◌, ◌⊎◌, Bool, false}
-use Rattle.std.specs.List.{list_all}
-use Rattle.std.proofs.lemmas.Bool.{and_cases, eqb-true}
-use Rattle.std.proofs.lemmas.Bool.Decides.{Decides-eqb}
-use Rattle.std.proofs.lemmas.List.{drop_more}
+-- Lists in which an element is left out, mapped and filtered lists, and how many different numbers there are below a bound.
+use Rattle.std.proofs.Common.{take, drop, ◌+◌, take-append-drop, ◌≡◌, ℕ, ◌<◌, ◌≤◌, List, [], ◌∷◌, ◌++◌, length, inl, inr, refl, sym, subst, arith, eqb, ◌↔◌, ◌⊎◌, Bool, false, map, flat_map, ap, ◌∙◌, filter, not, nat_lt, Some, None, position, unwrap_or}
+use Rattle.std.specs.List.{list_all, position_or_len}
+use Rattle.std.proofs.lemmas.Bool.{and_cases, eqb-true, cases_Bool, cond_both}
+use Rattle.std.proofs.lemmas.Bool.Decides.{Decides-eqb, nat_tests}
+use Rattle.std.proofs.lemmas.List.{drop_more, map-append}
 use Rattle.std.proofs.lemmas.Map.Made.{IsDistinct-from_AllPairs}
 use Rattle.std.proofs.lemmas.Map.Steps.{length-le_from_distinct_below}
+use Rattle.std.proofs.lemmas.List.Filters.{length-filter_both}
+use Rattle.std.proofs.lemmas.List.Sums.{prefix_len-le-length}
 use Rattle.log_laws.proofs.lemmas.Members.{Member, contains_of, member_left, member_right, member_append, any_found}
 use Rattle.log_laws.proofs.lemmas.Apart.{Apart, PairsBy, all_pairs}
 
@@ -48,3 +50,21 @@ one_fails p (y ∷ xs) e = elim (and_cases (p y) (list_all p xs) e) [
 pub few : (ns : List ℕ) (n : ℕ) → Apart ns → ((m : ℕ) → Member ns m → m < n) → length ns ≤ n
 few ns n apart within = length-le_from_distinct_below ns n (IsDistinct-from_AllPairs {eq = eqb} Decides-eqb ns (all_pairs _ ns apart))
     (λ m h. let r = any_found (eqb m) ns h in within m (subst (Member ns) (sym (eqb-true m r.0 r.2)) r.1))
+
+-- ---- mapped and filtered lists
+
+pub map_flat : {X Y Z : Type 0} (f : Y → Z) (g : X → List Y) (xs : List X) → map f (flat_map g xs) ≡ flat_map (λ x. map f (g x)) xs
+map_flat f g [] = refl
+map_flat f g (x ∷ xs) = map-append f (g x) (flat_map g xs) ∙ ap (λ ys. map f (g x) ++ ys) (map_flat f g xs)
+
+pub filter_map_of : {X Y : Type 0} (p : Y → Bool) (f : X → Y) (xs : List X) → filter p (map f xs) ≡ map f (filter (λ x. p (f x)) xs)
+filter_map_of p f [] = refl
+filter_map_of p f (x ∷ xs) = elim (cases_Bool (p (f x))) [ inl kept ↦ rw kept (ap (λ ys. f x ∷ ys) (filter_map_of p f xs)) | inr left ↦ rw left (filter_map_of p f xs) ]
+
+pub filter_short : {X : Type 0} (p : X → Bool) (xs : List X) → length (filter p xs) ≤ length xs
+filter_short p xs = omega (arith, length-filter_both p (λ x. not (p x)) (λ x. refl) xs)
+
+-- The first place that passes, or the length of the list.
+pub place_len : {X : Type 0} (p : X → Bool) (xs : List X) → unwrap_or (position p xs) (length xs) ≡ position_or_len p xs
+place_len p xs = cond_both (nat_lt (position_or_len p xs) (length xs)) (Some (position_or_len p xs)) None (λ o. unwrap_or o (length xs) ≡ position_or_len p xs)
+    (λ _. refl) (λ e. grind (arith, nat_tests, prefix_len-le-length (λ x. not (p x)) xs))

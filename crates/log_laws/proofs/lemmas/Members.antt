@@ -1,10 +1,10 @@
 -- Members of lists, and tests that find them.
-use Rattle.std.proofs.Common.{◌≡◌, ℕ, zero, suc, ◌⊎◌, inl, inr, Bool, true, false, ◌==◌, List, [], ◌∷◌, ◌++◌, map, Contains, refl, sym, ap, ◌∙◌, arith, Option, Some, None, subst, filter, flat_map, find, option_map, slice_get}
+use Rattle.std.proofs.Common.{◌≡◌, ℕ, zero, suc, ◌⊎◌, inl, inr, Bool, true, false, ◌==◌, List, [], ◌∷◌, ◌++◌, map, Contains, refl, sym, ap, ◌∙◌, arith, Option, Some, None, subst, filter, flat_map, find, option_map, slice_get, get_or, All}
 use Rattle.std.specs.Option.{option_or}
 use Rattle.std.specs.List.{list_any, list_all, filter_map, cons_option}
 use Rattle.std.proofs.lemmas.Bool.{true≢false, cases_Bool, cond_both, eq-eqb, eqb-true, false_from_ne_true}
 use Rattle.std.proofs.lemmas.List.Concat.{flat_map_single}
-use Rattle.std.proofs.lemmas.List.Elements.{Contains-append_left, Contains-append_right, Contains-append_cases, All-contains, All-filter, All-contains_itself, filter_passes}
+use Rattle.std.proofs.lemmas.List.Elements.{Contains-append_left, Contains-append_right, Contains-append_cases, All-contains, All-filter, All-contains_itself, filter_passes, Contains-get_or}
 use Rattle.std.proofs.lemmas.List.Folds.{Any-from_list_any, list_any-from_Any, find-append}
 use Rattle.std.proofs.lemmas.List.Recursion.{and_at}
 use Rattle.std.proofs.lemmas.Option.{same_Some, slice_get_within, get_or_from_slice_get}
@@ -100,6 +100,15 @@ member_filter p xs x m =
     let c = contains_of (filter p xs) x m in
     (member_of xs x (All-contains (Contains xs) (filter p xs) x (All-filter p (Contains xs) xs (All-contains_itself xs)) c), All-contains (λ x. p x ≡ true) (filter p xs) x (filter_passes p xs) c)
 
+pub filter_member : {X : Type 0} (p : X → Bool) (xs : List X) (x : X) → Member xs x → p x ≡ true → Member (filter p xs) x
+filter_member p [] x m e = absurd m
+filter_member p (y ∷ ys) x (inl is) e = rw (ap p (sym is) ∙ e) (inl is)
+filter_member p (y ∷ ys) x (inr m) e = elim (cases_Bool (p y)) [ inl kept ↦ rw kept (inr (filter_member p ys x m e)) | inr left ↦ rw left (filter_member p ys x m e) ]
+
+-- What holds of each element, place by place.
+pub all_contained : {X : Type 0} (P : X → Type 0) (xs : List X) → ((x : X) → Contains xs x → P x) → All P xs
+all_contained P xs h i d lt = h (get_or xs i d) (Contains-get_or xs i d lt)
+
 -- ---- tests
 
 pub any_at : {X : Type 0} (p : X → Bool) (xs : List X) (x : X) → Member xs x → p x ≡ true → list_any p xs ≡ true
@@ -141,3 +150,7 @@ find_still p xs ys x e = find-append p xs ys ∙ rw e refl
 -- Where nothing is found, no member passes the test.
 pub none_found : {X : Type 0} (p : X → Bool) (xs : List X) (x : X) → find p xs ≡ None → Member xs x → p x ≡ false
 none_found p xs x e m = false_from_ne_true (p x) (λ is. let bad = sym e ∙ (find_any p xs (any_at p xs x m is)).1 in absurd cc)
+
+pub find_none : {X : Type 0} (p : X → Bool) (xs : List X) → list_any p xs ≡ false → find p xs ≡ None
+find_none p [] e = refl
+find_none p (y ∷ ys) e = elim (cases_Bool (p y)) [ inl passes ↦ absurd (true≢false (sym (any_at p (y ∷ ys) y (inl refl) passes) ∙ e)) | inr fails ↦ rw fails (find_none p ys (rw fails at e)) ]

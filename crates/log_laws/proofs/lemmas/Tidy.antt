@@ -31,14 +31,14 @@ use Rattle.log_laws.proofs.lemmas.StepLists.{of_node}
 
 -- ---- cells and accesses
 
-same_is : (a b : Cell) → same_cell a b ≡ true → a ≡ b
+pub one_cell : (a b : Cell) → same_cell a b ≡ true → a ≡ b
 unfolding same_cell
-same_is a b e =
+one_cell a b e =
     let both = and_parts (a.inst == b.inst && a.point == b.point) (a.field == b.field) e in
     let first = and_parts (a.inst == b.inst) (a.point == b.point) both.0 in
     λ i. record { inst = eqb-true a.inst b.inst first.0 i; point = eqb-true a.point b.point first.1 i; field = eqb-true a.field b.field both.1 i }
 
-untouched : (a : Access) → conflicts a Untouched ≡ false
+pub untouched : (a : Access) → conflicts a Untouched ≡ false
 untouched Untouched = refl
 untouched _ = refl
 
@@ -67,11 +67,11 @@ abbrev pub Ends : (Cell → Type 0) → Move → Type 0
 Ends P m = P (ends m).0 × P (ends m).1
 
 at_cell_touches : (P : Cell → Type 0) (cell : Cell) (here : Access) (c : Cell) → at_cell cell here c ≢ Untouched → P cell → P c
-at_cell_touches P cell here c = cond_both (same_cell c cell) here Untouched (λ a. a ≢ Untouched → P cell → P c) (λ is h. subst P (sym (same_is c cell is))) (λ no h. absurd (h refl))
+at_cell_touches P cell here c = cond_both (same_cell c cell) here Untouched (λ a. a ≢ Untouched → P cell → P c) (λ is h. subst P (sym (one_cell c cell is))) (λ no h. absurd (h refl))
 
 from_to_touches : (P : Cell → Type 0) (from to : Cell) (here : Access) (c : Cell) → from_to from to here c ≢ Untouched → P from × P to → P c
 from_to_touches P from to here c = cond_both (same_cell c to) (cond (same_cell c from) Writes here) (at_cell from Reads c) (λ a. a ≢ Untouched → P from × P to → P c)
-    (λ is h both. subst P (sym (same_is c to is)) both.1)
+    (λ is h both. subst P (sym (one_cell c to is)) both.1)
     (λ no h both. at_cell_touches P from Reads c h both.0)
 
 -- What holds of both ends of a move holds of each cell that it touches.

@@ -9,7 +9,7 @@ use Rattle.std.proofs.lemmas.Bool.Decides.{nat_tests}
 use Rattle.std.proofs.lemmas.List.Sorted.{searched}
 use Rattle.std.proofs.lemmas.List.Kept.{AllPairs-from_increasing}
 use Rattle.std.proofs.lemmas.List.Folds.{list_any_at, list_any_none, Any-from_list_any, list_any-from_Any}
-use Rattle.std.proofs.lemmas.Option.{slice_get-get_or, get_or_from_slice_get}
+use Rattle.std.proofs.lemmas.Grind.{get_or_default_zero}
 use Rattle.semantics.specs.Points.{is_in}
 
 pub eq_turned : (a b : ℕ) → (a == b) ≡ (b == a)
@@ -33,13 +33,10 @@ rises xs up i j le lt =
       | inr ne ↦ let less : i < j = omega arith in let h : get_or xs i 0 < get_or xs j 0 = AllPairs-from_increasing xs up i j 0 less lt in omega arith
     ]
 
-pub get_or_any : (xs : List ℕ) (k d : ℕ) → k < length xs → get_or xs k d ≡ get_or xs k 0
-get_or_any xs k d lt = sym (get_or_from_slice_get xs k (get_or xs k d) 0 (slice_get-get_or xs k d lt))
-
 pub is_in-search : (xs : List ℕ) (n : ℕ) (r : Result ℕ ℕ) → IsStrictlyIncreasing xs → IsBinarySearchResult (λ y. nat_cmp y n) xs r → is_ok r ≡ is_in xs n
 is_in-search xs n (Ok i) up found =
     let h = searched xs n (Ok i) found (rises xs up) in
     sym (list_any_at (λ m. m == n) xs i 0 h.0 (eq-eqb (get_or xs i 0) n h.1))
 is_in-search xs n (Err i) up found =
     let h = searched xs n (Err i) found (rises xs up) in
-    sym (list_any_none (λ m. m == n) xs (λ k d lt. let e : get_or xs k d ≡ get_or xs k 0 = get_or_any xs k d lt in ap (λ m. m == n) e ∙ elim (cases_lt k i) [ inl low ↦ let g : get_or xs k 0 < n = h.1 k low in ne_eqb (get_or xs k 0) n (omega arith) | inr high ↦ let g : n < get_or xs k 0 = h.2 k high lt in ne_eqb (get_or xs k 0) n (omega arith) ]))
+    sym (list_any_none (λ m. m == n) xs (λ k d lt. let e : get_or xs k d ≡ get_or xs k 0 = get_or_default_zero xs k d lt in ap (λ m. m == n) e ∙ elim (cases_lt k i) [ inl low ↦ let g : get_or xs k 0 < n = h.1 k low in ne_eqb (get_or xs k 0) n (omega arith) | inr high ↦ let g : n < get_or xs k 0 = h.2 k high lt in ne_eqb (get_or xs k 0) n (omega arith) ]))

@@ -25,11 +25,12 @@ use Rattle.semantics.specs.Steps.{Step, id_of, inst_at, cell_in, mapped_cell, op
 use Rattle.semantics.specs.Execution.{State, start, effect}
 use Rattle.semantics.specs.Reads.{req_at, difference, first_difference}
 use Rattle.semantics.specs.Races.{access, Race}
-use Rattle.log_laws.proofs.lemmas.Members.{Member, Each, member_of, contains_of, member_filter, none_or_some}
+use Rattle.log_laws.proofs.lemmas.Members.{Member, Each, member_of, contains_of, member_filter, none_or_some, filter_member, member_in, is_in_of}
 use Rattle.log_laws.proofs.lemmas.StepLists.{steps_at}
+use Rattle.log_laws.proofs.lemmas.Lists.{filter_map_of}
 use Rattle.point_laws.specs.Alike.{target, is_at}
-use Rattle.point_laws.specs.Cut.{cut, cut_space}
-use Rattle.point_laws.proofs.Rows.{filter_map_of, filter_flat, kept_grid}
+use Rattle.point_laws.specs.Cut.{cut, cut_space, kept, cut_to}
+use Rattle.point_laws.proofs.Rows.{filter_flat, kept_grid}
 use Rattle.point_laws.proofs.Moves.{Does, at_points, reads_kept, changes_kept, steps_stay}
 use Rattle.point_laws.proofs.Effects.{Agree, Stay, kept_agree}
 use Rattle.point_laws.proofs.Firsts.{difference_agrees}
@@ -44,6 +45,24 @@ found_cut ps id (s ∷ spaces) = elim (cases_Bool (s.id == id)) [ inl here ↦ r
 
 pub points_cut : (ps : List ℕ) (t : Tables) (id : ℕ) → points_in (cut ps t) id ≡ filter (is_in ps) (points_in t id)
 points_cut ps t id = found_cut ps id t.spaces
+
+pub points_cut_to : (listed : Option (List ℕ)) (t : Tables) (id : ℕ) → points_in (cut_to listed t) id ≡ kept listed (points_in t id)
+points_cut_to (Some ps) t id = points_cut ps t id
+points_cut_to None t id = refl
+
+pub kept_nothing : (listed : Option (List ℕ)) → kept listed [] ≡ []
+kept_nothing (Some ps) = refl
+kept_nothing None = refl
+
+pub in_both : (ps xs : List ℕ) (q : ℕ) → Contains (filter (is_in ps) xs) q → Contains xs q × Contains ps q
+in_both ps xs q h = let m = member_filter (is_in ps) xs q (member_of (filter (is_in ps) xs) q h) in (contains_of xs q m.0, contains_of ps q (member_in ps q m.1))
+
+pub in_kept : (ps xs : List ℕ) (q : ℕ) → Contains xs q → Contains ps q → Contains (filter (is_in ps) xs) q
+in_kept ps xs q here there = contains_of (filter (is_in ps) xs) q (filter_member (is_in ps) xs q (member_of xs q here) (is_in_of ps q (member_of ps q there)))
+
+pub kept_within : (listed : Option (List ℕ)) (xs : List ℕ) (q : ℕ) → Contains (kept listed xs) q → Contains xs q
+kept_within (Some ps) xs q h = (in_both ps xs q h).0
+kept_within None xs q h = h
 
 in_filter : (keep : ℕ → Bool) (p : ℕ) → keep p ≡ true → (ns : List ℕ) → is_in (filter keep ns) p ≡ is_in ns p
 in_filter keep p at [] = refl
@@ -143,11 +162,6 @@ module _ (ps : List ℕ) (t : Tables) where
       ∙ differences_cut xs (λ x m. steps_stay t nodes x (member_filter (is_at ps) (steps_by t nodes) x m).0) (λ x m. (member_filter (is_at ps) (steps_by t nodes) x m).1) (start (cut ps t)) (start t) start_cut
 
 -- ---- races
-
-filter_member : {X : Type 0} (p : X → Bool) (xs : List X) (x : X) → Member xs x → p x ≡ true → Member (filter p xs) x
-filter_member p [] x m e = absurd m
-filter_member p (y ∷ ys) x (inl is) e = rw (ap p (sym is) ∙ e) (inl is)
-filter_member p (y ∷ ys) x (inr m) e = elim (cases_Bool (p y)) [ inl kept ↦ rw kept (inr (filter_member p ys x m e)) | inr left ↦ rw left (filter_member p ys x m e) ]
 
 module _ (ps : List ℕ) (t : Tables) (a b : ℕ) (cell : Cell) where
   step_in_cut : (x : Step) → Contains (steps (cut ps t)) x → Member (steps t) x × (is_at ps x ≡ true)

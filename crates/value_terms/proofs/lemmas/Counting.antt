@@ -5,7 +5,7 @@ use Rattle.value_terms.specs.declared.terms.Contribution.{Contribution}
 use Rattle.value_terms.specs.Values.{Bag, same_contribution, comes_before, count_in, counted, joined, Ascends, IsWellFormedBag}
 use Rattle.value_terms.proofs.lemmas.Order.{Below, compared, before_trans, before_differ, same_decides}
 
-pair_path : {c d : Contribution} {n m : ℕ} → c ≡ d → n ≡ m → ◌≡◌ {A = Contribution × ℕ} (c, n) (d, m)
+pub pair_path : {c d : Contribution} {n m : ℕ} → c ≡ d → n ≡ m → ◌≡◌ {A = Contribution × ℕ} (c, n) (d, m)
 pair_path p q = λ i. (p i, q i)
 
 pub counted_none : (c : Contribution) (n : ℕ) → counted c n [] ≡ (c, n) ∷ []
@@ -30,7 +30,7 @@ counted_counted : (c d : Contribution) (n m : ℕ) (bag : Bag) → counted c n (
 counted_counted c d n m [] = grind (arith, counts, pair_path, compared c d)
 counted_counted c d n m (e ∷ bag) = grind (arith, counts, pair_path, before_trans, compared c d, compared c e.0, compared d e.0, counted_counted c d n m bag)
 
-joined_counted : (a b : Bag) (c : Contribution) (n : ℕ) → joined (counted c n a) b ≡ counted c n (joined a b)
+pub joined_counted : (a b : Bag) (c : Contribution) (n : ℕ) → joined (counted c n a) b ≡ counted c n (joined a b)
 unfolding joined
 joined_counted a [] c n = refl
 joined_counted a (e ∷ b) c n = ap (λ w. joined w b) (counted_counted e.0 c e.1 n a) ∙ joined_counted (counted e.0 e.1 a) b c n
@@ -55,7 +55,7 @@ pub all_after : (c d : Contribution) (bag : Bag) → comes_before c d ≡ true �
 all_after c d [] h hs = tt
 all_after c d (e ∷ bag) h hs = (before_trans c d e.0 h hs.0, all_after c d bag h hs.1)
 
-absent : (c : Contribution) (bag : Bag) → AllByRecursion (λ f. comes_before c f.0 ≡ true) bag → count_in c bag ≡ 0
+pub absent : (c : Contribution) (bag : Bag) → AllByRecursion (λ f. comes_before c f.0 ≡ true) bag → count_in c bag ≡ 0
 unfolding count_in
 absent c [] h = refl
 absent c (e ∷ bag) h = grind (arith, (before_differ c e.0 h.0).0, absent c bag h.1)

@@ -1,5 +1,5 @@
 use Rattle.std.proofs.Common.{◌++◌, ◌∷◌, sym, ap, ◌∙◌}
-use Rattle.inst_steps.specs.Grids.{listed_of}
+use Rattle.listed_points.specs.Listed.{listed_of}
 use Rattle.inst_steps.specs.Sweeps.{action_at}
 use Rattle.inst_steps.specs.Stepping.{rest_actions, spot_here, spot_actions}
 use Rattle.inst_steps.proofs.Sweeping.{spot_step}

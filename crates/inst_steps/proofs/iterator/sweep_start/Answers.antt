@@ -2,7 +2,7 @@ use Rattle.std.proofs.Common.{map, sym, ap, ◌∙◌}
 use Rattle.std.specs.Option.{option_map}
 use Rattle.semantics.specs.Kinds.{grid}
 use Rattle.point_laws.specs.Cut.{kept, cut_to}
-use Rattle.inst_steps.specs.Grids.{listed_of}
+use Rattle.listed_points.specs.Listed.{listed_of}
 use Rattle.inst_steps.specs.Sweeps.{action_at, actions_of_pass}
 use Rattle.inst_steps.specs.Stepping.{pass_seen}
 use Rattle.inst_steps.proofs.Sweeping.{actions_cut, no_points, spot_actions_are}

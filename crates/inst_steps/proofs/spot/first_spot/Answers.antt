@@ -1,8 +1,8 @@
 use Rattle.std.proofs.Common.{sym, ◌∙◌}
 use Rattle.point_laws.specs.Cut.{kept}
-use Rattle.inst_steps.specs.Grids.{listed_of}
+use Rattle.listed_points.specs.Listed.{listed_of}
 use Rattle.inst_steps.proofs.Behind.{grid_all, grid_none, grid_empty}
-use Rattle.inst_steps.proofs.Keeping.{kept_up}
+use Rattle.inst_steps.proofs.Behind.{kept_up}
 use Rattle.inst_steps.proofs.spot.first_spot.Goals as goal
 
 pub returns-then-is_empty-clause-grid : goal.returns-then-is_empty-clause-grid

@@ -1,9 +1,9 @@
 use Rattle.std.proofs.Common.{◌∷◌, ap, ◌∙◌, arith}
 use Rattle.point_laws.specs.Cut.{kept}
-use Rattle.inst_steps.specs.Grids.{listed_of}
+use Rattle.listed_points.specs.Listed.{listed_of}
 use Rattle.inst_steps.specs.Stepping.{spot_here}
 use Rattle.inst_steps.proofs.Behind.{grid_last, grid_next, grid_over}
-use Rattle.inst_steps.proofs.Keeping.{kept_up}
+use Rattle.inst_steps.proofs.Behind.{kept_up}
 use Rattle.inst_steps.proofs.spot.next_spot.Goals as goal
 
 pub returns-in-None-clause-grid : goal.returns-in-None-clause-grid

@@ -1,6 +1,6 @@
 use Rattle.std.proofs.Common.{sym}
 use Rattle.std.proofs.lemmas.Result.{on_ok_weaker}
-use Rattle.inst_steps.specs.Grids.{listed_of}
+use Rattle.listed_points.specs.Listed.{listed_of}
 use Rattle.inst_steps.proofs.Starting.{one_inst_by, no_points_held}
 use Rattle.inst_steps.proofs.start.hold_inst.Goals as goal
 

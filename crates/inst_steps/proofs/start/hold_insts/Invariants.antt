@@ -1,7 +1,7 @@
 use Rattle.std.proofs.Common.{take}
 use Rattle.semantics.specs.Execution.{start}
 use Rattle.point_laws.specs.Cut.{cut_to}
-use Rattle.inst_steps.specs.Grids.{listed_of}
+use Rattle.listed_points.specs.Listed.{listed_of}
 use Rattle.inst_steps.specs.Stores.{HoldsMore, is_of_some}
 use Rattle.inst_steps.proofs.start.hold_insts.Given as goal
 

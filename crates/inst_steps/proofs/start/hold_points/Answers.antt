@@ -2,8 +2,8 @@ use Rattle.std.proofs.Common.{◌+◌, ◌<◌, ◌^◌, Contains, refl, arith, 
 use Rattle.std.proofs.lemmas.Bool.{cases_lt}
 use Rattle.std.proofs.lemmas.List.Elements.{All-contains}
 use Rattle.point_laws.specs.Cut.{kept}
-use Rattle.inst_steps.specs.Grids.{listed_of}
-use Rattle.inst_steps.proofs.Keeping.{kept_within}
+use Rattle.point_laws.proofs.lemmas.Cuts.{kept_within}
+use Rattle.listed_points.specs.Listed.{listed_of}
 use Rattle.inst_steps.proofs.Starting.{all_points, more_point}
 use Rattle.inst_steps.proofs.start.hold_points.Goals as goal
 

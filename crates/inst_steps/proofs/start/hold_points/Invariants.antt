@@ -2,7 +2,7 @@ use Rattle.std.proofs.Common.{◌-◌, ◌^◌, ◌&&◌, nat_lt}
 use Rattle.semantics.specs.Points.{is_in}
 use Rattle.value_terms.specs.Values.{plain}
 use Rattle.point_laws.specs.Cut.{kept}
-use Rattle.inst_steps.specs.Grids.{listed_of}
+use Rattle.listed_points.specs.Listed.{listed_of}
 use Rattle.inst_steps.specs.Stores.{HoldsMore, is_at_points}
 use Rattle.inst_steps.proofs.start.hold_points.Given as goal
 

@@ -3,7 +3,7 @@ use Rattle.spy_grammar.specs.declared.record.Lined.{Lined}
 use Rattle.semantics.specs.Tables.{tables_of}
 use Rattle.semantics.specs.Faults.{declaration_fault}
 use Rattle.log_faults.specs.Decls.{decls_of}
-use Rattle.log_decl.proofs.GoodRecords.{good_records}
+use Rattle.log_reading.proofs.lemmas.Numbered.{good_records}
 use Rattle.log_decl.proofs.declaring.declare.Goals as goal
 
 pub of-requires : goal.of-requires

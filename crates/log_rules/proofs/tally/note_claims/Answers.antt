@@ -1,8 +1,8 @@
 use Rattle.std.proofs.Common.{◌≡◌, ℕ, ◌||◌, ap, sym, ◌∙◌}
+use Rattle.std.proofs.Math.Bool.{or-false}
 use Rattle.semantics.specs.Points.{points_in}
 use Rattle.semantics.specs.Tables.{place_of, reqs_before}
 use Rattle.log_rules.specs.Own.{claimed, claims_at, clashes_in}
-use Rattle.log_rules.proofs.Booleans.{or_false}
 use Rattle.log_rules.proofs.Claiming.{first_claims_nothing, later_claims_all}
 use Rattle.log_rules.proofs.tally.note_claims.Goals as goal
 
@@ -11,7 +11,7 @@ returns-then-req_count-eq0 g c = λ k a.
     let t = c.args.draft.now in
     let req = c.in-Req in
     let none = sym (c.req_count.ensures.count ∙ ap (reqs_before t.reqs) c.place-item.ensures) ∙ c.if-req_count-eq0.true in
-    or_false (clashes_in c.args.claims.now k a)
+    sym (or-false (clashes_in c.args.claims.now k a))
     ∙ ap (λ b. clashes_in c.args.claims.now k a || b)
     (sym (first_claims_nothing t req.task req.tree req.space req.fields req.access req.atomic none k a) ∙ ap (λ r. claimed t r k a) (sym req.is))
 

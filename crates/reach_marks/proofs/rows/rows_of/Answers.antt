@@ -1,12 +1,13 @@
-use Rattle.std.proofs.Common.{arith, ◌/◌, ◌+◌, ◌∙◌, ap, length, List}
+use Rattle.std.proofs.Common.{arith, ◌/◌, ◌+◌, ◌∙◌, ap, length, List, ◌<◌}
 use Rattle.std.proofs.lemmas.List.{length_push}
+use Rattle.log_laws.proofs.lemmas.Members.{all_contained}
 use Rattle.reach_marks.specs.declared.block.Block.{Block}
-use Rattle.reach_marks.proofs.Replayed.{all_below, row_added, tidy_more}
+use Rattle.reach_marks.proofs.Replayed.{row_added, tidy_more}
 use Rattle.reach_marks.proofs.rows.rows_of.Goals as goal
 
 pub row_of-requires-clause-waits : goal.row_of-requires-clause-waits
 row_of-requires-clause-waits c =
-    rw (c.as_slice-in-loop-p.ensures.value, c.as_slice.ensures.value) (all_below c.in_ok-waits.waits.items (length c.loop-p.rows.items) (λ w h. let lt = ((c.in_ok-waits.ensures w).0 h).0 in omega (arith, lt, c.loop-p.invariant.each)))
+    rw (c.as_slice-in-loop-p.ensures.value, c.as_slice.ensures.value) (all_contained (λ k. k < length c.loop-p.rows.items) c.in_ok-waits.waits.items (λ w h. let lt = ((c.in_ok-waits.ensures w).0 h).0 in omega (arith, lt, c.loop-p.invariant.each)))
 
 pub loop-p-preserved : goal.loop-p-preserved
 loop-p-preserved c = record {

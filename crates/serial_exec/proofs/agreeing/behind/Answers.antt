@@ -1,10 +1,9 @@
 use Rattle.std.proofs.Common.{ℕ, List, take, drop, sym, subst, arith, refl, ◌∙◌}
 use Rattle.std.proofs.lemmas.Bool.{true≢false}
 use Rattle.serial_exec.specs.declared.change.Change.{Change}
-use Rattle.std.proofs.lemmas.List.{take-append-drop}
+use Rattle.std.proofs.lemmas.List.{take-append-drop, take_rest}
 use Rattle.serial_exec.specs.Marks.{AreMarksUntil}
 use Rattle.serial_exec.specs.Summed.{BeginsOther, IsRest}
-use Rattle.serial_exec.proofs.Keeping.{rest-taken}
 use Rattle.serial_exec.proofs.Grouping.{all-front, no-run, right-run, wrong-run}
 use Rattle.serial_exec.proofs.Marking.{last-told, run-fits}
 use Rattle.serial_exec.proofs.agreeing.behind.Goals as goal
@@ -21,7 +20,7 @@ returns-then-is_bag_of c =
     let cs = c.args.changes.now in
     let marks = c.args.marks.now in
     let end = c.args.end in
-    subst (λ (rest : List Change). IsRest g cs rest × AreMarksUntil end marks rest) (sym (rest-taken cs n)) (
+    subst (λ (rest : List Change). IsRest g cs rest × AreMarksUntil end marks rest) (sym (take_rest cs n)) (
       right-run g n cs c.requires.adds (omega (arith, c.if-n-eq0.false)) c.run_length-n.ensures.bound c.run_length-n.ensures.run c.run_length-n.ensures.rest (sym c.as_slice.ensures ∙ c.if-is_bag_of.ensures.0 refl),
       last-told end marks cs (drop n cs) c.requires.marks (take n cs, sym (take-append-drop n cs)),
     )

@@ -1,7 +1,7 @@
 use Rattle.std.proofs.Common.{◌≡◌, take}
-use Rattle.std.specs.Option.{option_map}
 use Rattle.semantics.specs.declared.places.Place.{Place}
 use Rattle.semantics.specs.SerialOrder.{serial}
+use Rattle.listed_points.specs.Listed.{listed_of}
 use Rattle.serial_exec.specs.Changes.{items_changes}
 use Rattle.point_laws.specs.Cut.{cut_to}
 use Rattle.serial_exec.specs.Histories.{changes_at}
@@ -9,4 +9,4 @@ use Rattle.serial_exec.proofs.gathering.histories_of.Given as goal
 
 abbrev pub invariant-loop-moment : goal.invariant-loop-moment
 invariant-loop-moment g l = (p : Place) → changes_at l.histories p
-    ≡ items_changes (cut_to (option_map (λ q. g.Q.PointSet.points q.now) l.listed) l.log) 0 (take l.moment (serial l.log)) p
+    ≡ items_changes (cut_to (listed_of l.listed) l.log) 0 (take l.moment (serial l.log)) p

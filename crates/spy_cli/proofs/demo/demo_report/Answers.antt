@@ -9,13 +9,13 @@ use Rattle.semantics.specs.Records.{lined, records_of, AreLines}
 use Rattle.log_gen.specs.Stencil.{stencil}
 use Rattle.spy_cli.specs.declared.report.Report.{Report}
 use Rattle.log_reading.proofs.lemmas.Numbered.{are_lines, each_good}
-use Rattle.spy_cli.proofs.Stencils.{records_are, spellings_hold}
+use Rattle.log_laws.proofs.lemmas.Numbered.{records_numbered, spellings_hold}
 use Rattle.spy_cli.proofs.demo.demo_report.Goals as goal
 
 pub finding_in-requires-clause-good : goal.finding_in-requires-clause-good
 finding_in-requires-clause-good c =
     let rs = c.in_ok-records.records.items in
-    let good = subst (AllByRecursion Good) (sym (records_are 1 rs)) c.in_ok-records.ensures.good in
+    let good = subst (AllByRecursion Good) (sym (records_numbered 1 rs)) c.in_ok-records.ensures.good in
     each_good c.in_ok-log.log.items (subst (λ ls. AllByRecursion Good (records_of ls)) (sym c.in_ok-log.ensures) good)
 
 pub finding_in-requires-clause-lines : goal.finding_in-requires-clause-lines

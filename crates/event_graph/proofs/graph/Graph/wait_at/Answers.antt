@@ -1,16 +1,15 @@
-use Rattle.std.proofs.Common.{◌≡◌, ◌∙◌, ap, nat_eq, length, List, subst, get_or, arith}
+use Rattle.std.proofs.Common.{◌≡◌, ◌∙◌, ap, nat_eq, length, List, subst, arith}
 use Rattle.std.specs.HashMap.{get}
 use Rattle.semantics.specs.Events.{Node}
 use Rattle.semantics.specs.ReplayOrder.{waits_at}
 use Rattle.event_graph.specs.Orders.{IsWait}
-use Rattle.event_graph.proofs.Waited.{wait_found, no_waits, known_some}
+use Rattle.event_graph.proofs.Waited.{wait_found, no_waits}
 use Rattle.event_graph.proofs.graph.Graph.wait_at.Goals as goal
 
 pub place_of-requires : goal.place_of-requires
 place_of-requires c =
     let events = c.waits_of-events.ensures ∙ ap (λ (ns : List Node). waits_at ns c.args.node) c.as_slice.ensures.value in
-    known_some (get nat_eq c.self.inside.places (get_or c.waits_of-events.result.now c.args.k 0))
-    (rw events (c.self.invariant.1.waits c.args.node c.args.k 0 (rw events at c.if-k-events.true)))
+    rw events (c.self.invariant.1.waits c.args.node c.args.k 0 (rw events at c.if-k-events.true))
 
 pub returns-then-k-events-clause-some : goal.returns-then-k-events-clause-some
 returns-then-k-events-clause-some c =

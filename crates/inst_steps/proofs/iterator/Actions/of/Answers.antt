@@ -1,7 +1,7 @@
 use Rattle.std.proofs.Common.{sym, ap, ◌∙◌, subst}
 use Rattle.std.specs.List.{AllByRecursion}
+use Rattle.listed_points.specs.Listed.{listed_of}
 use Rattle.inst_steps.specs.Acting.{IsBy, steps_in}
-use Rattle.inst_steps.specs.Grids.{listed_of}
 use Rattle.inst_steps.proofs.Allowed.{all_by}
 use Rattle.inst_steps.proofs.Sweeping.{all_steps, node_moves}
 use Rattle.inst_steps.proofs.iterator.Actions.of.Goals as goal

@@ -1,4 +1,4 @@
-use Rattle.inst_steps.specs.Grids.{listed_of}
+use Rattle.listed_points.specs.Listed.{listed_of}
 use Rattle.inst_steps.proofs.Starting.{all_started}
 use Rattle.inst_steps.proofs.store.Store.start_at.Goals as goal
 

@@ -1,9 +1,8 @@
-use Rattle.std.proofs.Common.{◌≡◌, ℕ, ◌+◌, ◌<◌, List, ◌∷◌, ap, sym, subst, ◌∙◌}
+use Rattle.std.proofs.Common.{◌≡◌, ℕ, suc, ◌+◌, ◌<◌, List, ◌∷◌, ap, sym, subst, ◌∙◌, arith}
 use Rattle.std.specs.List.{AllPairs}
 use Rattle.std.proofs.lemmas.List.Kept.{AllPairs-from_increasing}
 use Rattle.log_rules.specs.Counts.{cut}
 use Rattle.log_rules.specs.Loads.{load_in, one, is_held}
-use Rattle.log_rules.proofs.Ascending.{rest_ascends}
 use Rattle.log_rules.proofs.Loading.{load-point}
 use Rattle.log_rules.proofs.load.Loads.add_all.Goals as goal
 
@@ -11,7 +10,7 @@ pub loop-point-init : goal.loop-point-init
 loop-point-init g c =
     let set = c.args.set.now in
     let points = g.P.PointSet.points set in
-    let start = c.into_iter-point-iterator.ensures.into_iter_gives ∙ c.of-point-items.ensures in
+    let start = c.into_iter-point-iterator.ensures.into_iter_gives ∙ c.points_in-point-items.ensures in
     let P : List ℕ → Type 0 = λ xs. AllPairs (λ p q. p < q) xs in (
       tt,
       tt,
@@ -30,7 +29,7 @@ loop-point-preserved g c =
     let up = subst P steps c.loop-point.invariant.2 in (
       tt,
       tt,
-      rest_ascends point rest up,
+      λ i j d later below. up (suc i) (suc j) d (omega arith) (omega arith),
       λ k.
           let mid = load_in c.loop-point.self k in
           load-point mid (load_in c.add_at_point.new.self k) _ tree point rest fields k up

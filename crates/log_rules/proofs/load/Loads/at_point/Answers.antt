@@ -1,4 +1,4 @@
-use Rattle.std.proofs.Common.{◌≡◌, ◌+◌, ℕ, map, take, arith, sum_by}
+use Rattle.std.proofs.Common.{◌≡◌, ◌+◌, ℕ, take, arith, sum_by}
 use Rattle.log_rules.specs.Counts.{cut}
 use Rattle.log_rules.specs.Loads.{load_in}
 use Rattle.std.proofs.lemmas.List.Sums.{sum_by_more}

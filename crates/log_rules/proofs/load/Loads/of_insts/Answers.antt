@@ -1,4 +1,4 @@
-use Rattle.std.proofs.Common.{◌≡◌, ◌+◌, map, take, get_or, ap, arith, sum_by}
+use Rattle.std.proofs.Common.{◌≡◌, ◌+◌, take, get_or, ap, arith, sum_by}
 use Rattle.log_rules.specs.Counts.{cut}
 use Rattle.log_rules.specs.Loads.{load_in, inst_load}
 use Rattle.std.proofs.lemmas.List.Sums.{sum_by_more}

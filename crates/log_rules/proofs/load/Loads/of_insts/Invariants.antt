@@ -1,4 +1,4 @@
-use Rattle.std.proofs.Common.{◌≡◌, map, take, sum_by}
+use Rattle.std.proofs.Common.{◌≡◌, take, sum_by}
 use Rattle.log_rules.specs.Counts.{cut}
 use Rattle.log_rules.specs.Loads.{load_in, inst_load}
 use Rattle.log_rules.proofs.load.Loads.of_insts.Given as goal

@@ -3,16 +3,16 @@ use Rattle.std.proofs.lemmas.List.{length-map}
 use Rattle.semantics.specs.Events.{graph_of}
 use Rattle.semantics.specs.Tables.{Tables}
 use Rattle.semantics.specs.Steps.{steps_by}
+use Rattle.log_laws.proofs.lemmas.Members.{all_contained}
 use Rattle.point_laws.specs.Cut.{cut}
 use Rattle.replay.specs.Standing.{Stands}
-use Rattle.replay.proofs.Judged.{all_below}
 use Rattle.replay.proofs.moving.Replay.run.Goals as goal
 
 pub take_nodes-requires-clause-nodes : goal.take_nodes-requires-clause-nodes
 take_nodes-requires-clause-nodes g c =
     let t = c.args.self.now.log.now in
     let same = c.as_slice.ensures ∙ c.requires.order.replayed in
-    all_below c.as_slice.result.now (length t.nodes) (λ k h. subst (λ n. k < n) (length-map t.nodes _) ((c.replay_order_lists.ensures.nodes (graph_of t.nodes) k).0 (subst (λ ns. Contains ns k) same h)).0)
+    all_contained (λ k. k < length t.nodes) c.as_slice.result.now (λ k h. subst (λ n. k < n) (length-map t.nodes _) ((c.replay_order_lists.ensures.nodes (graph_of t.nodes) k).0 (subst (λ ns. Contains ns k) same h)).0)
 
 pub take_nodes-requires-clause-stands : goal.take_nodes-requires-clause-stands
 take_nodes-requires-clause-stands g c =

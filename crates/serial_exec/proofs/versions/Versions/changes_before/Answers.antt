@@ -1,8 +1,8 @@
 use Rattle.std.proofs.Common.{◌<◌, ◌∙◌, length, get_or, sym, ap, subst}
+use Rattle.std.proofs.lemmas.List.{get_or_default}
 use Rattle.std.specs.List.Sorted.{IsNonDecreasingBy}
 use Rattle.serial_exec.specs.Changes.{AreFirst, before}
 use Rattle.serial_exec.specs.Kept.{Kept, changes_in}
-use Rattle.serial_exec.proofs.Keeping.{any-default}
 use Rattle.serial_exec.proofs.versions.Versions.changes_before.Goals as goal
 
 pub changes_until-requires : goal.changes_until-requires
@@ -14,7 +14,7 @@ returns-clause-before c =
     let moments = c.self.inside.moments.items in
     let lt : c.args.item < length moments = subst (λ (k : Kept). c.args.item < length k.moments) (sym c.self.view_is) c.requires in
     c.changes_until.ensures.before
-    ∙ ap (λ m. before m c.changes_at.result.now) (c.index.ensures ∙ any-default moments c.args.item c.index.result.now 0 lt ∙ ap (λ (k : Kept). get_or k.moments c.args.item 0) c.self.view_is)
+    ∙ ap (λ m. before m c.changes_at.result.now) (c.index.ensures ∙ get_or_default moments c.args.item c.index.result.now 0 lt ∙ ap (λ (k : Kept). get_or k.moments c.args.item 0) c.self.view_is)
     ∙ ap (before (get_or c.args.self.now.moments c.args.item 0)) c.changes_at.ensures
 
 pub returns-clause-first : goal.returns-clause-first

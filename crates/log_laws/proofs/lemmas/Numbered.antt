@@ -5,9 +5,9 @@ use Rattle.spy_grammar.specs.declared.record.Record.{Record}
 use Rattle.spy_grammar.specs.Spelling.{Good, spelling}
 use Rattle.semantics.specs.Records.{Hold, lined_from, records_of}
 
-pub records_are : (line : ℕ) (rs : List Record) → records_of (lined_from line rs) ≡ rs
-records_are line [] = refl
-records_are line (r ∷ rs) = ap (λ ls. r ∷ ls) (records_are (line + 1) rs)
+pub records_numbered : (line : ℕ) (rs : List Record) → records_of (lined_from line rs) ≡ rs
+records_numbered line [] = refl
+records_numbered line (r ∷ rs) = ap (λ ls. r ∷ ls) (records_numbered (line + 1) rs)
 
 -- Their spellings hold them.
 pub spellings_hold : (line : ℕ) (rs : List Record) → AllByRecursion Good rs → Hold line (map spelling rs) (lined_from line rs)

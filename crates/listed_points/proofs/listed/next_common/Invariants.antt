@@ -1,5 +1,5 @@
 use Rattle.std.proofs.Common.{ℕ, ◌-◌, ◌^◌, ◌≤◌, Contains}
-use Rattle.inst_steps.proofs.listed.next_common.Given as goal
+use Rattle.listed_points.proofs.listed.next_common.Given as goal
 
 -- No common point is below `from`.
 abbrev pub invariant-loop-ours : goal.invariant-loop-ours

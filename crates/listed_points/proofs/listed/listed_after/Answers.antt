@@ -2,9 +2,9 @@ use Rattle.std.proofs.Common.{◌≡◌, ◌^◌, ◌<◌, ◌+◌, subst, arith
 use Rattle.std.proofs.lemmas.List.Elements.{All-contains}
 use Rattle.point_set.specs.Least.{IsLeastFrom}
 use Rattle.point_laws.specs.Cut.{kept}
-use Rattle.inst_steps.specs.Grids.{listed_of}
-use Rattle.inst_steps.proofs.Keeping.{kept_within}
-use Rattle.inst_steps.proofs.listed.next_behind.Goals as goal
+use Rattle.point_laws.proofs.lemmas.Cuts.{kept_within}
+use Rattle.listed_points.specs.Listed.{listed_of}
+use Rattle.listed_points.proofs.listed.listed_after.Goals as goal
 
 pub returns-in-Some : goal.returns-in-Some
 returns-in-Some g c =

@@ -1,0 +1,8 @@
+//! The points of a set that are listed, or all of them where there is no list.
+#![tactic(auto)]
+
+mod listed;
+#[cfg(test)]
+mod tests;
+
+pub use listed::{listed_after, next_listed};
