@@ -60,7 +60,8 @@ fn hold_points<P: PointSet>(
     base: Base,
 ) -> Result<(), Memory>
     requires { IsAscending listed }
-    ensures { OnOk result (HoldsMore (is_at_points inst (is_in (kept (listed_of listed.entry) (P.points set.now))) fields.now)
+    ensures { OnOk result (HoldsMore
+        (is_at_points inst (is_in (kept (listed_of listed.entry) (P.points set.now))) fields.now)
         (λ c. plain base) store.old store.new) }
 {
     let mut low = 0;

@@ -60,7 +60,8 @@ impl<'a, P: PointSet + Copy> Model for Log<'a, P> {
     ghost invariant = { λ l. AreDeclared l.draft × (l.forest ≡ decls_of l.draft)
         × (l.found.uses.items ≡ usages l.draft) × AreBlocks l.found.blocks.items l.found.uses.items
         × AreRepresentatives l.found.representatives.items l.found.uses.items
-        × AreFound l.draft l.found.space_ids.items (get nat_eq l.found.paths) l.found.order.items l.found.places.items (get nat_eq l.found.lines) };
+        × AreFound l.draft l.found.space_ids.items (get nat_eq l.found.paths)
+        l.found.order.items l.found.places.items (get nat_eq l.found.lines) };
 }
 
 impl<'a, P: PointSet + Copy> Log<'a, P> {

@@ -5,12 +5,12 @@ ghost use Rattle.std.specs.List.Sorted.{IsStrictlyIncreasing};
 ghost use Rattle.std.specs.Option.{option_map_or};
 ghost use Rattle.semantics.specs.declared.tables.Req.{Req};
 ghost use Rattle.semantics.specs.Reads.{difference, req_at};
-ghost use Rattle.point_laws.specs.Cut.{cut};
 ghost use Rattle.serial_exec.specs.Kept.{AreVersionsOf, value_at};
 ghost use Rattle.inst_steps.specs.Acting.{IsAllowed, IsBy};
 ghost use Rattle.inst_steps.specs.Stores.{HasCells, IsLight, after_move, value_in};
 ghost use Rattle.replay.specs.Ends.{IsUnlike, Tells};
 ghost use Rattle.replay.specs.Fitting.{IsOfItem, item_at};
+ghost use Rattle.replay.specs.Replaying.{cut_tables};
 
 use crate::ends::ReplayEnd;
 use inst_steps::{Action, Store};
@@ -100,11 +100,11 @@ impl<'r, 'a, P: PointSet + Copy> Replay<'r, 'a, P> {
         value: &Value,
     ) -> Result<(), ReplayEnd>
         requires item { IsOfItem self.now.log.now item (Move.Read task req cell.now) }
-        requires versions { AreVersionsOf (cut self.now.points.now self.now.log.now) self.now.versions.now }
-        ensures right { OnOk result (difference (cut self.now.points.now self.now.log.now)
+        requires versions { AreVersionsOf (cut_tables self.now) self.now.versions.now }
+        ensures right { OnOk result (difference (cut_tables self.now)
             (Move.Read task req cell.now) (λ c. value.now) ≡ None) }
-        ensures end { IfErr result (Tells (cut self.now.points.now self.now.log.now)
-            (difference (cut self.now.points.now self.now.log.now) (Move.Read task req cell.now) (λ c. value.now))) }
+        ensures end { IfErr result (Tells (cut_tables self.now)
+            (difference (cut_tables self.now) (Move.Read task req cell.now) (λ c. value.now))) }
     {
         let place = Place {
             tree: tree_of(self.log, item, req),
@@ -136,13 +136,13 @@ impl<'r, 'a, P: PointSet + Copy> Replay<'r, 'a, P> {
     ) -> Result<(), ReplayEnd>
         requires allowed { IsAllowed self.now.log.now (Move.Read task number cell.now) req }
         requires item { IsOfItem self.now.log.now item (Move.Read task number cell.now) }
-        requires versions { AreVersionsOf (cut self.now.points.now self.now.log.now) self.now.versions.now }
+        requires versions { AreVersionsOf (cut_tables self.now) self.now.versions.now }
         requires cell { HasCells store.old (Move.Read task number cell.now) }
-        ensures right { OnOk result (difference (cut self.now.points.now self.now.log.now)
+        ensures right { OnOk result (difference (cut_tables self.now)
             (Move.Read task number cell.now) (value_in store.old) ≡ None) }
         ensures kept { store.new ≡ store.old }
-        ensures end { IfErr result (Tells (cut self.now.points.now self.now.log.now)
-            (difference (cut self.now.points.now self.now.log.now) (Move.Read task number cell.now) (value_in store.old))) }
+        ensures end { IfErr result (Tells (cut_tables self.now)
+            (difference (cut_tables self.now) (Move.Read task number cell.now) (value_in store.old))) }
     {
         match privilege_of(self.log, req) {
             Some(Priv::Ro) => {
@@ -187,14 +187,14 @@ impl<'r, 'a, P: PointSet + Copy> Replay<'r, 'a, P> {
     ) -> Result<(), ReplayEnd>
         requires allowed { IsAllowed self.now.log.now step.now req }
         requires item { IsOfItem self.now.log.now item step.now }
-        requires versions { AreVersionsOf (cut self.now.points.now self.now.log.now) self.now.versions.now }
+        requires versions { AreVersionsOf (cut_tables self.now) self.now.versions.now }
         requires cells { HasCells store.old step.now }
         requires light { IsLight store.old step.now }
-        ensures right { OnOk result (difference (cut self.now.points.now self.now.log.now)
+        ensures right { OnOk result (difference (cut_tables self.now)
             step.now (value_in store.old) ≡ None) }
         ensures moved { OnOk result (store.new ≡ after_move step.now store.old) }
-        ensures end { IfErr result (Tells (cut self.now.points.now self.now.log.now)
-            (difference (cut self.now.points.now self.now.log.now) step.now (value_in store.old))) }
+        ensures end { IfErr result (Tells (cut_tables self.now)
+            (difference (cut_tables self.now) step.now (value_in store.old))) }
     {
         match *step {
             Move::Read {
@@ -229,14 +229,14 @@ impl<'r, 'a, P: PointSet + Copy> Replay<'r, 'a, P> {
     ) -> Result<(), ReplayEnd>
         requires by { IsBy self.now.log.now action.now }
         requires item { IsOfItem self.now.log.now item action.now.step }
-        requires versions { AreVersionsOf (cut self.now.points.now self.now.log.now) self.now.versions.now }
+        requires versions { AreVersionsOf (cut_tables self.now) self.now.versions.now }
         requires cells { HasCells store.old action.now.step }
         requires light { IsLight store.old action.now.step }
-        ensures right { OnOk result (difference (cut self.now.points.now self.now.log.now)
+        ensures right { OnOk result (difference (cut_tables self.now)
             action.now.step (value_in store.old) ≡ None) }
         ensures moved { OnOk result (store.new ≡ after_move action.now.step store.old) }
-        ensures end { IfErr result (Tells (cut self.now.points.now self.now.log.now)
-            (difference (cut self.now.points.now self.now.log.now) action.now.step (value_in store.old))) }
+        ensures end { IfErr result (Tells (cut_tables self.now)
+            (difference (cut_tables self.now) action.now.step (value_in store.old))) }
     {
         match action.req {
             Some(req) => self.take_by(store, item, req, &action.step),

@@ -14,6 +14,7 @@ ghost use Rattle.atoms.specs.Atoms.{first_points};
 ghost use Rattle.serial_exec.specs.Kept.{AreVersionsOf};
 ghost use Rattle.replay.specs.Ends.{IsEndOf};
 ghost use Rattle.replay.specs.Standing.{Stands};
+ghost use Rattle.replay.specs.Replaying.{cut_tables};
 
 use crate::counting::count_reads;
 use crate::ends::{Reads, ReplayEnd};
@@ -35,12 +36,12 @@ impl<'r, 'a, P: PointSet + Copy> Replay<'r, 'a, P> {
         requires nodes { All (λ k. k < length self.now.log.now.nodes) order.now }
         requires place { place < length order.now }
         requires ascend { IsStrictlyIncreasing self.now.points.now }
-        requires versions { AreVersionsOf (cut self.now.points.now self.now.log.now) self.now.versions.now }
-        requires stands { Stands (cut self.now.points.now self.now.log.now)
-            (steps_by (cut self.now.points.now self.now.log.now) (drop place order.now)) store.old }
-        ensures stands { OnOk result (Stands (cut self.now.points.now self.now.log.now)
-            (steps_by (cut self.now.points.now self.now.log.now) (drop (place + 1) order.now)) store.new) }
-        ensures end { IfErr result (IsEndOf (cut self.now.points.now self.now.log.now)) }
+        requires versions { AreVersionsOf (cut_tables self.now) self.now.versions.now }
+        requires stands { Stands (cut_tables self.now)
+            (steps_by (cut_tables self.now) (drop place order.now)) store.old }
+        ensures stands { OnOk result (Stands (cut_tables self.now)
+            (steps_by (cut_tables self.now) (drop (place + 1) order.now)) store.new) }
+        ensures end { IfErr result (IsEndOf (cut_tables self.now)) }
     {
         stands_go_on();
         let node = order[place];
@@ -55,11 +56,11 @@ impl<'r, 'a, P: PointSet + Copy> Replay<'r, 'a, P> {
     fn take_nodes(&self, store: &mut Store, order: &[usize]) -> Result<(), ReplayEnd>
         requires nodes { All (λ k. k < length self.now.log.now.nodes) order.now }
         requires ascend { IsStrictlyIncreasing self.now.points.now }
-        requires versions { AreVersionsOf (cut self.now.points.now self.now.log.now) self.now.versions.now }
-        requires stands { Stands (cut self.now.points.now self.now.log.now)
-            (steps_by (cut self.now.points.now self.now.log.now) order.now) store.old }
-        ensures right { OnOk result (shown_difference (cut self.now.points.now self.now.log.now) ≡ None) }
-        ensures end { IfErr result (IsEndOf (cut self.now.points.now self.now.log.now)) }
+        requires versions { AreVersionsOf (cut_tables self.now) self.now.versions.now }
+        requires stands { Stands (cut_tables self.now)
+            (steps_by (cut_tables self.now) order.now) store.old }
+        ensures right { OnOk result (shown_difference (cut_tables self.now) ≡ None) }
+        ensures end { IfErr result (IsEndOf (cut_tables self.now)) }
     {
         for place in 0..order.len() {
             self.take_node(store, order, place)?;
@@ -72,9 +73,9 @@ impl<'r, 'a, P: PointSet + Copy> Replay<'r, 'a, P> {
         requires mapped { unmapped_fault self.now.log.now ≡ None }
         requires order { IsOrderOf (graph_of self.now.log.now.nodes) order.now }
         requires ascend { IsStrictlyIncreasing self.now.points.now }
-        requires versions { AreVersionsOf (cut self.now.points.now self.now.log.now) self.now.versions.now }
-        ensures right { OnOk result (shown_difference (cut self.now.points.now self.now.log.now) ≡ None) }
-        ensures end { IfErr result (IsEndOf (cut self.now.points.now self.now.log.now)) }
+        requires versions { AreVersionsOf (cut_tables self.now) self.now.versions.now }
+        ensures right { OnOk result (shown_difference (cut_tables self.now) ≡ None) }
+        ensures end { IfErr result (IsEndOf (cut_tables self.now)) }
     {
         starts_stand();
         replay_order_lists();
