@@ -7,13 +7,13 @@ ghost use Rattle.point_laws.specs.Alike.{AreFirsts};
 ghost use Rattle.atoms.specs.Atoms.{AreAtomsOf, IsAtomAt, first_points};
 
 use crate::spans::spans_of;
-use log_decl::Log;
+use logs::Log;
 use region_tree::{ArenaSet, Memory};
 use std::alloc::Global;
 use std::marker::Model;
 
 /// The points of a log's spaces in runs that no space divides, and that are as long as can be. Contracts see the first and the last point of each, in ascending order.
-#[derive(Debug, Drop)]
+#[derive(Drop)]
 pub struct Atoms {
     spans: Vec<(u64, u64)>,
     firsts: Vec<u64>,

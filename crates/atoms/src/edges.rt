@@ -11,7 +11,7 @@ use region_tree::Memory;
 use std::alloc::Global;
 
 /// A number at which a maximal run of a set begins, or that follows one, with the last point of that run.
-#[derive(Clone, Copy, Debug)]
+#[derive(Clone, Copy)]
 pub(crate) struct Edge {
     pub(crate) at: u64,
     pub(crate) last: u64,

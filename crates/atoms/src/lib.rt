@@ -4,7 +4,5 @@
 mod classes;
 mod edges;
 mod spans;
-#[cfg(test)]
-mod tests;
 
 pub use classes::Atoms;

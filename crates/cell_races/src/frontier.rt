@@ -11,7 +11,7 @@ use std::marker::Model;
 use std::mem;
 
 /// The last two groups of a cell's nodes.
-#[derive(Debug, Drop)]
+#[derive(Drop)]
 pub(crate) struct Frontier {
     earlier: Vec<usize>,
     group: Vec<usize>,

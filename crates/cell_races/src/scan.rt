@@ -19,7 +19,7 @@ use semantics::Cell;
 use std::alloc::{AllocError, Global};
 
 /// Two nodes that conflict at a cell, neither before the other.
-#[derive(Clone, Copy, Debug)]
+#[derive(Clone, Copy)]
 pub struct Clashing {
     pub a: usize,
     pub b: usize,

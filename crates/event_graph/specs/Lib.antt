@@ -3,3 +3,5 @@ pub mod EventPlaces
 pub mod Marked
 pub mod Inverse
 pub mod Orders
+pub use Rattle.semantics.specs.Events
+pub use Rattle.semantics.specs.ReplayOrder

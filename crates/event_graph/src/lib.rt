@@ -12,8 +12,6 @@ mod places;
 mod queue;
 mod rounds;
 mod stuck;
-#[cfg(test)]
-mod tests;
 mod waiters;
 
 pub use graph::Graph;

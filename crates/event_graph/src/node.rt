@@ -12,7 +12,7 @@ use std::marker::Model;
 pub type EventList = Nums;
 
 /// A node of the recorded run, as far as order goes: its completion event, and the events that it waits on.
-#[derive(Debug, Drop)]
+#[derive(Drop)]
 pub struct NodeIn {
     pub done: u32,
     pub waits: EventList,

@@ -6,7 +6,7 @@ use std::alloc::{AllocError, Global};
 use std::marker::Model;
 
 /// The nodes of a graph, each once, in the order in which they are replayed. A node is named by its position.
-#[derive(Debug, Drop)]
+#[derive(Drop)]
 pub struct Order {
     nodes: Vec<usize>,
     places: Vec<usize>,

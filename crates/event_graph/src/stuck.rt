@@ -4,7 +4,7 @@ use crate::node::EventList;
 use std::alloc::AllocError;
 
 /// Why nodes have no order.
-#[derive(Debug, Drop)]
+#[derive(Drop)]
 pub enum Stuck {
     /// The events of nodes on a cycle: each is waited on by the next, and the last by the first.
     Cycle(EventList),

@@ -13,7 +13,7 @@ use spy_grammar::Code;
 use value_terms::Value;
 
 /// A word of a report, no word, or several words.
-#[derive(Clone, Copy, Debug)]
+#[derive(Clone, Copy)]
 pub enum ReportCell<'a> {
     No,
     Says(&'a [u8]),

@@ -5,7 +5,7 @@ use spy_grammar::Code;
 use value_terms::Value;
 
 /// A pair of items that interfere, and the least place at which they do.
-#[derive(Clone, Copy, Debug, PartialEq, Eq)]
+#[derive(Clone, Copy, PartialEq, Eq)]
 pub struct Dep {
     /// Whether the order of the two is fixed; else they take turns in either order.
     pub before: bool,
@@ -22,7 +22,7 @@ pub struct Dep {
 }
 
 /// A report. Places are named by region tree, or by instance, with point and field.
-#[derive(Debug, Drop)]
+#[derive(Drop)]
 #[rattlefmt::skip]
 pub enum Finding {
     /// Every read got the value that the sequential program reads.

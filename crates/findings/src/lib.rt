@@ -19,6 +19,3 @@ pub use reading::{TextFault, read_text};
 pub use spy_grammar::Code;
 pub use value_terms::Value;
 pub use writing::{Memory, good_finding, text};
-
-#[cfg(test)]
-mod tests;

@@ -17,7 +17,7 @@ use std::alloc::{AllocError, Global};
 use value_terms::Value;
 
 /// Memory ran out.
-#[derive(Clone, Copy, Debug, PartialEq, Eq)]
+#[derive(Clone, Copy, PartialEq, Eq)]
 pub struct Memory;
 
 impl From<AllocError> for Memory {

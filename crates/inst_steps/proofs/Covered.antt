@@ -28,7 +28,7 @@ use Rattle.semantics.specs.Rules as rules
 use Rattle.semantics.specs.Rules.{is_declared, names, space_id, lacks, is_not_covered, lacks_req}
 use Rattle.semantics.specs.declared.command.Command.TheVariants.{Check}
 use Rattle.semantics.specs.Faults.{unmapped_fault}
-use Rattle.log_decl.specs.Faultless.{AreDeclared}
+use Rattle.logs.specs.Faultless.{AreDeclared}
 use Rattle.log_laws.proofs.lemmas.Members.{Member, Each, each_more, member_of, member_at, member_flat, member_map, member_append, member_filter, all_at, is_in_of, member_in, found_at, find_any, find_still, none_or_some, only, filter_member}
 use Rattle.log_laws.proofs.lemmas.Apart.{member_grid}
 use Rattle.log_laws.proofs.lemmas.Sane.{two_reqs}

@@ -15,7 +15,7 @@ use Rattle.semantics.specs.Faults.{declaration_fault}
 use Rattle.semantics.specs.Rules as rules
 use Rattle.log_laws.proofs.lemmas.Admitted.{Unbroken, by_records, no_broken_rule}
 use Rattle.log_laws.proofs.lemmas.Apart.{range-more}
-use Rattle.log_decl.specs.Faultless.{AreDeclared}
+use Rattle.logs.specs.Faultless.{AreDeclared}
 use Rattle.inst_steps.specs.Stepping.{AreNumbered}
 
 abbrev of_item : ℕ → List Req → List Req

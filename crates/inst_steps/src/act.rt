@@ -3,7 +3,7 @@
 use semantics::Move;
 
 /// What one sweep of an operation does at each point and field. A requirement is named by the position of its item and its number there, and by its own position.
-#[derive(Clone, Copy, Debug, PartialEq, Eq)]
+#[derive(Clone, Copy)]
 pub(crate) enum Act {
     Read {
         task: u32,
@@ -43,7 +43,7 @@ pub(crate) enum Act {
 }
 
 /// A move of a node, with the position of the requirement by which a run makes it.
-#[derive(Clone, Copy, Debug, PartialEq, Eq)]
+#[derive(Clone, Copy, PartialEq, Eq)]
 pub struct Action {
     pub req: Option<usize>,
     pub step: Move,

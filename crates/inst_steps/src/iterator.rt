@@ -14,7 +14,7 @@ ghost use Rattle.inst_steps.specs.Sweeps.{action_at, passes_of, pass_at, actions
 use crate::act::Action;
 use crate::spot::{Spot, action_here, first_spot, next_spot};
 use crate::sweep::{sweep_at, sweep_count};
-use log_decl::Log;
+use logs::Log;
 use point_set::PointSet;
 use semantics::{Move, Op};
 use std::marker::Model;

@@ -6,7 +6,7 @@ ghost use Rattle.value_terms.specs.Values.{weight_of};
 ghost use Rattle.semantics.specs.declared.places.Cell.{Cell};
 ghost use Rattle.semantics.specs.declared.moves.Move.{Move};
 ghost use Rattle.semantics.specs.Faults.{unmapped_fault};
-ghost use Rattle.log_decl.specs.Faultless.{AreDeclared};
+ghost use Rattle.logs.specs.Faultless.{AreDeclared};
 ghost use Rattle.semantics.specs.Tables.{Tables};
 ghost use Rattle.inst_steps.specs.Celled.{AreOfInsts, HasCellsOf};
 ghost use Rattle.inst_steps.specs.Stepping.{moves_at};

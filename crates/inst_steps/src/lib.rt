@@ -10,8 +10,6 @@ mod spot;
 mod start;
 mod store;
 mod sweep;
-#[cfg(test)]
-mod tests;
 mod view;
 
 pub use act::Action;

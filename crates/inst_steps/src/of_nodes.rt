@@ -8,7 +8,7 @@ ghost use Rattle.inst_steps.specs.Acting.{IsBy, steps_in};
 ghost use Rattle.inst_steps.specs.Stepping.{moves_at};
 
 use crate::iterator::{Actions, Steps};
-use log_decl::Log;
+use logs::Log;
 use point_set::PointSet;
 
 /// What a node does, move by move: of a run all its reads, and then all its changes, each by requirement, point and field; of another operation by point and field. Takes no memory.

@@ -9,7 +9,7 @@ ghost use Rattle.inst_steps.specs.Sweeps.{action_at, move_at, cell_of, req_in};
 
 use crate::act::{Act, Action};
 use listed_points::{listed_after, next_listed};
-use log_decl::Log;
+use logs::Log;
 use point_set::PointSet;
 use semantics::{Cell, Move};
 

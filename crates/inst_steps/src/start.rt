@@ -11,7 +11,7 @@ ghost use Rattle.inst_steps.specs.Stores.{HoldsMore, IsStart, base_of, is_at_poi
 
 use crate::store::Store;
 use listed_points::next_listed;
-use log_decl::Log;
+use logs::Log;
 use point_set::PointSet;
 use semantics::Cell;
 use spy_grammar::InstKind;

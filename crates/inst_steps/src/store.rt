@@ -13,7 +13,7 @@ use std::marker::Model;
 use value_terms::{Contribution, Memory, Value};
 
 /// A cell, as it is looked up.
-#[derive(Clone, Copy, Debug, PartialEq, Eq, Hash)]
+#[derive(Clone, Copy, PartialEq, Eq, Hash)]
 pub(crate) struct Key {
     pub(crate) inst: u32,
     pub(crate) point: u64,

@@ -8,7 +8,7 @@ ghost use Rattle.inst_steps.specs.Stepping.{AreNumbered, pass_seen};
 ghost use Rattle.inst_steps.specs.Sweeps.{reading, changing, pass_for, passes_of, pass_at};
 
 use crate::act::Act;
-use log_decl::Log;
+use logs::Log;
 use point_set::PointSet;
 use privilege::Priv;
 use semantics::{Op, Req};

@@ -8,7 +8,7 @@ ghost use Rattle.inst_steps.specs.Stores.{value_in, with_added};
 ghost use Rattle.inst_steps.specs.Viewing.{HasPrivilege, viewed_cell};
 
 use crate::store::Store;
-use log_decl::Log;
+use logs::Log;
 use point_set::PointSet;
 use privilege::{Folds, Reads, Red, Ro, Rw, Wd, Writes};
 use semantics::Cell;

@@ -10,7 +10,7 @@ use Rattle.semantics.specs.Kinds as kinds
 use Rattle.semantics.specs.SerialOrder.{serial, serial_place, turned_pair}
 use Rattle.log_laws.proofs.lemmas.Members.{Member, member_of, member_map, member_flat, member_filter, found_at, none_or_some}
 use Rattle.log_laws.proofs.lemmas.Apart.{number_between}
-use Rattle.log_decl.specs.Listing.{ArePlacesIn}
+use Rattle.logs.specs.Listing.{ArePlacesIn}
 use Rattle.item_uses.specs.Usages.{Usage, usages_of, usages, usages_at}
 use Rattle.item_uses.specs.Sharing.{kind_between}
 use Rattle.item_uses.proofs.lemmas.ItemKinds.{kind_is}

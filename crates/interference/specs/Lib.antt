@@ -4,3 +4,8 @@ pub mod Searching
 pub mod Stretched
 pub mod Tasks
 pub mod Turned
+pub use Rattle.semantics.specs.Kinds
+pub use Rattle.semantics.specs.Rules
+pub use Rattle.semantics.specs.SerialOrder
+pub use Rattle.semantics.specs.Shown
+pub use Rattle.semantics.specs.Tables

@@ -5,7 +5,7 @@ ghost use Rattle.interference.specs.Pairing.{all_pairs};
 
 use crate::iterator::Pairs;
 use crate::search::Search;
-use log_decl::Log;
+use logs::Log;
 use region_tree::ArenaSet;
 
 /// The pairs of items of a log that interfere, in program order: by the first item, and then by the second. Takes no memory.

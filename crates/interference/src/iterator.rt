@@ -137,7 +137,12 @@ impl<'l, 'a, P: PointSet + Copy> Pairs<'l, 'a, P> {
         ensures { result ≡ left (asked_of search.now.asked) search.now.items.now 0 1 }
     {
         Pairs {
-            search: *search,
+            search: Search {
+                asked: search.asked,
+                items: search.items,
+                blocks: search.blocks,
+                representatives: search.representatives,
+            },
             memory: Memory::new(search.items.len()),
             a: 0,
             from: 1,

@@ -11,8 +11,6 @@ mod search;
 mod serial;
 mod stretch;
 mod tasks;
-#[cfg(test)]
-mod tests;
 
 pub use all::pairs;
 pub use iterator::Pairs;

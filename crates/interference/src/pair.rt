@@ -4,7 +4,7 @@ use privilege::Kind;
 use semantics::Place;
 
 /// Two items that interfere, by their positions, the earlier first: their kind, and the least place at which they do.
-#[derive(Clone, Copy, Debug, PartialEq, Eq)]
+#[derive(Clone, Copy, PartialEq, Eq)]
 pub struct Pair {
     pub a: usize,
     pub b: usize,

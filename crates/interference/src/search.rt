@@ -5,11 +5,11 @@ ghost use Rattle.item_uses.specs.Usages.{usages};
 ghost use Rattle.interference.specs.Searching.{IsSearch};
 
 use item_uses::{ItemUses, Span};
-use log_decl::Log;
+use logs::Log;
 use point_set::PointSet;
 
 /// The items of which pairs are looked for, with their blocks, and for each item one that asks for the same; and which pairs are asked for: all, or those of which the second item comes before the first by these places.
-#[derive(Clone, Copy)]
+#[derive(Drop)]
 pub(crate) struct Search<'l, 'a, P: PointSet + Copy> {
     pub(crate) asked: Option<&'l [usize]>,
     pub(crate) items: &'l [ItemUses<'a, P>],

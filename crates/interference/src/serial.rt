@@ -9,14 +9,14 @@ ghost use Rattle.interference.specs.Searching.{IsSearch};
 use crate::iterator::Pairs;
 use crate::pair::Pair;
 use crate::search::Search;
-use log_decl::Log;
+use logs::Log;
 use point_set::PointSet;
 use privilege::Kind;
 use region_tree::ArenaSet;
 use semantics::Place;
 
 /// A pair of items of kind `Before` that stands against the serial order, and its least place.
-#[derive(Clone, Copy, Debug, PartialEq, Eq)]
+#[derive(Clone, Copy, PartialEq, Eq)]
 pub struct SerialBreaks {
     pub a: usize,
     pub b: usize,

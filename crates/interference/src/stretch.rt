@@ -8,7 +8,7 @@ use privilege::Kind;
 use semantics::Place;
 
 /// An item with each of the items from one to before another, which all interfere with it in one way: the kind and the least place of each pair.
-#[derive(Clone, Copy, Debug, PartialEq, Eq)]
+#[derive(Clone, Copy, PartialEq, Eq)]
 pub struct Stretch {
     pub a: usize,
     pub from: usize,

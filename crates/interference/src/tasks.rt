@@ -8,7 +8,7 @@ ghost use Rattle.interference.specs.Tasks.{are_tasks};
 
 use crate::all::pairs;
 use crate::pair::Pair;
-use log_decl::Log;
+use logs::Log;
 use region_tree::ArenaSet;
 use semantics::{Item, ItemBody};
 

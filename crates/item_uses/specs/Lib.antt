@@ -5,3 +5,9 @@ pub mod Representatives
 pub mod Sharing
 pub mod Spans
 pub mod Usages
+pub use Rattle.log_tables.specs.Ascending
+pub use Rattle.privilege.specs.Interference
+pub use Rattle.semantics.specs.Kinds
+pub use Rattle.semantics.specs.Points
+pub use Rattle.semantics.specs.Shown
+pub use Rattle.semantics.specs.Tables

@@ -8,7 +8,7 @@ ghost use Rattle.item_uses.specs.Accesses.{IsAmong, all_agree};
 use privilege::{Coherence, Kind, Priv, kind};
 
 /// The privileges of some requirements, as far as they tell whether all agree.
-#[derive(Clone, Copy, Debug, PartialEq, Eq)]
+#[derive(Clone, Copy, PartialEq, Eq)]
 pub enum Accesses {
     /// There are none.
     Nothing,

@@ -13,7 +13,7 @@ use privilege::Kind;
 use semantics::Place;
 
 /// How two requirements, or two lists of them, interfere: the strongest kind, and the least place at which they do. The kind there need not be the strongest.
-#[derive(Clone, Copy, Debug, PartialEq, Eq)]
+#[derive(Clone, Copy, PartialEq, Eq)]
 pub struct Interference {
     pub kind: Kind,
     /// `None` exactly where the kind is `Free`.

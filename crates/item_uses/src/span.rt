@@ -7,7 +7,7 @@ ghost use Rattle.item_uses.specs.Spans.{IsWithin, spans_overlap, may_interfere};
 use crate::accesses::Accesses;
 
 /// Bounds on trees, points and fields, the least and the greatest of each, and on privileges. Nothing is within them where a first is greater than its last.
-#[derive(Clone, Copy, Debug, PartialEq, Eq)]
+#[derive(Clone, Copy, PartialEq, Eq)]
 pub struct Span {
     pub first_tree: u32,
     pub last_tree: u32,

@@ -2,7 +2,5 @@
 #![tactic(auto)]
 
 mod listed;
-#[cfg(test)]
-mod tests;
 
 pub use listed::{listed_after, next_listed};

@@ -1,3 +1,11 @@
-mod Lines
-mod Numbers
-mod Spaces
+pub mod lemmas
+mod Depth
+mod Ending
+mod FirstFault
+mod Growing
+mod Members
+mod Placing
+mod SpaceFaults
+mod Steady
+mod SubFaults
+mod Walking

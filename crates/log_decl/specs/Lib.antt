@@ -1,5 +1,7 @@
-pub mod Faultless
-pub mod Listing
-pub mod Looked
-pub mod Mapping
-pub mod Pathways
+pub mod Ends
+pub mod SubLines
+pub mod Walk
+pub use Rattle.semantics.specs.Faults
+pub use Rattle.semantics.specs.Records
+pub use Rattle.spy_grammar.specs.Spelling
+pub use Rattle.semantics.specs.Tables

@@ -1,94 +1,106 @@
-//! From records to the log that they declare.
+//! What records declare, or the fault of their frame and records.
 
-ghost use Rattle.std.specs.Prelude.{◌≡◌, ◌↔◌, ◌≤◌, ℕ, All, Err, IfOk, OnOk, IsTrue, None, Some, map};
-ghost use Rattle.std.specs.List.Sorted.{IsStrictlyIncreasing};
+ghost use Rattle.std.specs.Prelude.{◌≡◌, ◌<◌, ◌-◌, ◌^◌, ℕ, All, [], None, Some, Err, length, IfOk, OnOk};
 ghost use Rattle.spy_grammar.specs.declared.code.Code.{Code};
 ghost use Rattle.spy_grammar.specs.Spelling.{Good};
-ghost use Rattle.semantics.specs.Tables.{tables_of};
-ghost use Rattle.semantics.specs.Faults.{at_line, declaration_fault};
-ghost use Rattle.semantics.specs.Records.{AreLines};
+ghost use Rattle.semantics.specs.Records.{records_of, AreLines};
+ghost use Rattle.semantics.specs.Tables.{no_tables, tables_of};
+ghost use Rattle.semantics.specs.Faults.{at_line, declaration_fault, records_fault};
+ghost use Rattle.log_tables.specs.Views.{Ascends};
+ghost use Rattle.log_tables.specs.Decls.{decls_of};
+ghost use Rattle.log_decl.specs.Ends.{IsFaultOf};
+ghost use Rattle.log_decl.specs.Walk.{StandsAt};
 
-use crate::log::Log;
+use crate::decl_end::DeclEnd;
+use crate::frame::frame_fault;
+use crate::regions::placed_forest;
+use crate::walk::{Walked, walk};
 use bumpalo::Bump;
-use log_faults::{DeclEnd, declarations};
-use region_tree::ArenaSet;
-use spy_grammar::{Code, Lined, good};
-use std::alloc::{AllocError, Global};
+use log_rules::{Tally, WholeLog};
+use log_tables::Draft;
+use logs::Declarations;
+use region_tree::{ArenaSet, Forest, Memory as ForestMemory};
+use spy_grammar::Lined;
+use std::alloc::Global;
 
-/// How many lines an input has at most.
-const MOST_LINES: u32 = 1 << 26;
-
-/// The log that some records declare, or the fault that is shown of its frame and its records. The lines are as many as the input has.
-///
-/// The sets of its spaces, and its forest, lie in the arena.
-pub fn declare<'a, P: ArenaSet<'a>>(
+/// Adds the records of a log up to the first that breaks a rule to a draft in which nothing is declared. The two rules of the forest are left out.
+fn walked<'a, P: ArenaSet<'a>>(
+    draft: &mut Draft<P>,
     alloc: Global,
     bump: &'a Bump,
-    records: &Vec<Lined>,
+    records: &[Lined],
+) -> Result<Walked, ForestMemory>
+    requires none { draft.old ≡ no_tables }
+    requires ascends { All (λ l. Ascends l.rec) records.now }
+    requires few { length records.now < 2 ^ 32 - 1 }
+    ensures { IfOk result (λ w. StandsAt records.now w.kept draft.new w.code) }
+{
+    let whole = WholeLog::new(alloc, records)?;
+    let mut tally = Tally::new(alloc);
+    walk(draft, &mut tally, alloc, bump, &whole, records)
+}
+
+/// Adds the records of a log to a draft in which nothing is declared, and gives their forest; or the fault of the first that breaks a rule.
+///
+/// Where the walk ends at a record that breaks a rule, a subspace before it may still be refused by the forest.
+fn grown_forest<'a, P: ArenaSet<'a>>(
+    draft: &mut Draft<P>,
+    alloc: Global,
+    bump: &'a Bump,
+    records: &[Lined],
+) -> Result<Forest<'a, P>, DeclEnd>
+    requires none { draft.old ≡ no_tables }
+    requires ascends { All (λ l. Ascends l.rec) records.now }
+    requires few { length records.now < 2 ^ 32 - 1 }
+    ensures tables { OnOk result (draft.new ≡ tables_of records.now) }
+    ensures forest { IfOk result (λ forest. forest ≡ decls_of (tables_of records.now)) }
+    ensures faultless { OnOk result (records_fault (records_of records.now) [] records.now ≡ None) }
+    ensures fault { IsFaultOf result (records_fault (records_of records.now) [] records.now) }
+{
+    let walked = walked(draft, alloc, bump, records)?;
+    let forest = placed_forest(alloc, bump, draft, &records[..walked.kept])?;
+    match walked.code {
+        Some(code) => {
+            drop(forest);
+            Err(DeclEnd::Fault {
+                line: records[walked.kept].line,
+                code,
+            })
+        }
+        None => Ok(forest),
+    }
+}
+
+/// What the records of a log declare, or the fault of its frame and records that is shown. `lines` is the number of lines.
+///
+/// Each record has a spelling, and the lines on which the records stand ascend. That memory ran out is the only other answer.
+pub(crate) fn declarations<'a, P: ArenaSet<'a>>(
+    alloc: Global,
+    bump: &'a Bump,
+    records: &[Lined],
     lines: u32,
-) -> Result<Log<'a, P>, DeclEnd>
-    requires good { All (λ l. Good l.rec) records.now.items }
-    requires lines { AreLines lines records.now.items }
-    ensures tables { IfOk result (λ log. log ≡ tables_of records.now.items) }
-    ensures faultless { OnOk result (declaration_fault lines records.now.items ≡ None) }
+) -> Result<Declarations<'a, P>, DeclEnd>
+    requires good { All (λ l. Good l.rec) records.now }
+    requires lines { AreLines lines records.now }
+    ensures tables { IfOk result (λ d. d.draft ≡ tables_of records.now) }
+    ensures forest { IfOk result (λ d. d.forest ≡ decls_of (tables_of records.now)) }
+    ensures faultless { OnOk result (declaration_fault lines records.now ≡ None) }
     ensures fault { (line : ℕ) (code : Code) → result ≡ Err (DeclEnd.Fault line code)
-        → declaration_fault lines records.now.items ≡ Some (at_line code line) }
+        → declaration_fault lines records.now ≡ Some (at_line code line) }
 {
-    match declarations(alloc, bump, records, lines) {
-        Ok(declared) => match Log::of(alloc, bump, declared.draft, declared.forest) {
-            Ok(log) => Ok(log),
-            Err(_) => Err(DeclEnd::Memory),
-        },
-        Err(end) => Err(end),
+    if let Some(fault) = frame_fault(records, lines) {
+        return Err(DeclEnd::Fault {
+            line: fault.line,
+            code: fault.code,
+        });
     }
-}
-
-/// The lines on which records stand.
-fn lines_of(alloc: Global, records: &[Lined]) -> Result<Vec<u32>, AllocError>
-    ensures { IfOk result (λ lines. lines.items ≡ map (λ l. l.line) records.now) }
-{
-    let mut lines = Vec::new(alloc);
-    for l in records {
-        lines.push(l.line)?;
-    }
-    Ok(lines)
-}
-
-/// Whether each record has a spelling.
-fn are_good(records: &[Lined]) -> bool
-    ensures { IsTrue result ↔ All (λ l. Good l.rec) records.now }
-{
-    records.iter().all(|l| good(&l.rec))
-}
-
-/// Whether each record stands on one of these many lines.
-fn are_within(records: &[Lined], lines: u32) -> bool
-    ensures { IsTrue result ↔ All (λ l. l.line ≤ lines) records.now }
-{
-    records.iter().all(|l| l.line <= lines)
-}
-
-/// Whether each number is below the next.
-fn is_ascending(numbers: &[u32]) -> bool
-    ensures { IsTrue result ↔ IsStrictlyIncreasing numbers.now }
-{
-    for k in 1..numbers.len() {
-        if numbers[k - 1] >= numbers[k] {
-            return false;
+    let mut draft = Draft::new(alloc);
+    match grown_forest(&mut draft, alloc, bump, records) {
+        Ok(forest) => Ok(Declarations { draft, forest }),
+        Err(end) => {
+            // Dropped by a call, so that its many fields are no steps of this proof.
+            drop(draft);
+            Err(end)
         }
     }
-    true
-}
-
-/// Whether each record has a spelling, and the records stand on lines that ascend, each on one of these many lines: what [`declare`] asks of records.
-pub fn are_log_records(alloc: Global, records: &[Lined], lines: u32) -> Result<bool, AllocError>
-    ensures { IfOk result (λ are. IsTrue are
-        ↔ (All (λ l. Good l.rec) records.now × AreLines lines records.now)) }
-{
-    let numbers = lines_of(alloc, records)?;
-    let few = lines <= MOST_LINES;
-    let good = are_good(records);
-    let within = are_within(records, lines);
-    let ascending = is_ascending(&numbers);
-    Ok(few && good && within && ascending)
 }

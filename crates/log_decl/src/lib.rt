@@ -1,18 +1,15 @@
-//! The tables of a log without a fault of its frame and records, as the parts above look things up in them.
+//! The log that records declare, or the fault of its frame and records that is shown.
+//!
+//! `records.rt` has the call, `walk.rt` the rules in their order, `regions.rt` the forest.
 #![tactic(auto)]
 
+mod decl_end;
 mod declaring;
-mod found;
-mod log;
-mod mapping;
-mod paths;
-mod serial_order;
-#[cfg(test)]
-mod test_logs;
-#[cfg(test)]
-mod tests;
+mod frame;
+mod records;
+mod regions;
+mod walk;
 
-pub use declaring::{are_log_records, declare};
-pub use log::Log;
-pub use log_faults::DeclEnd;
-pub use mapping::Unmapped;
+pub use decl_end::DeclEnd;
+pub use logs::Log;
+pub use records::{are_log_records, declare};

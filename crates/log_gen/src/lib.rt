@@ -9,10 +9,6 @@ mod laws;
 mod log;
 mod pieces;
 mod runs;
-#[cfg(test)]
-mod tests;
-#[cfg(test)]
-mod texts;
 mod waits;
 
 pub use laws::stencil_logs_are_good;

@@ -8,7 +8,7 @@ ghost use Rattle.spy_grammar.specs.Spelling.{Good};
 ghost use Rattle.semantics.specs.declared.places.Cell.{Cell};
 ghost use Rattle.semantics.specs.Records.{records_of};
 ghost use Rattle.semantics.specs.Tables.{tables_of};
-ghost use Rattle.semantics.specs.Events.{AreLinked, graph_of};
+ghost use Rattle.semantics.specs.Events.{AreLinked, graph_of, HasNoCycle};
 ghost use Rattle.semantics.specs.Steps.{Step};
 ghost use Rattle.semantics.specs.Execution.{State, executed, ReadsIn};
 ghost use Rattle.semantics.specs.Interleavings.{IsInterleaving};
@@ -17,7 +17,6 @@ ghost use Rattle.semantics.specs.Reads.{replay_steps};
 ghost use Rattle.semantics.specs.declared.command.Command.{Command};
 ghost use Rattle.semantics.specs.declared.command.Command.TheVariants.{Check};
 ghost use Rattle.semantics.specs.Faults.{log_fault};
-ghost use Rattle.semantics.specs.Outcome.{HasNoCycle};
 
 use crate::answer_laws::one_answer;
 use semantics::nodes_are_of_records;

@@ -3,8 +3,6 @@
 
 mod input;
 mod reading;
-#[cfg(test)]
-mod tests;
 
 pub use input::{MOST_BYTES, input_in};
 pub use reading::{Input, SpellEnd, read_records};

@@ -12,7 +12,7 @@ use spy_lines::LineList;
 use std::alloc::{AllocError, AllocFailed, Global};
 
 /// Why lines have no records.
-#[derive(Clone, Copy, Debug, PartialEq, Eq)]
+#[derive(Clone, Copy, PartialEq, Eq)]
 pub enum SpellEnd {
     /// The line of this number, the least, has this fault.
     Fault { line: u32, code: Code },

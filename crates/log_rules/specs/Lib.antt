@@ -5,3 +5,9 @@ pub mod Listing
 pub mod Loads
 pub mod Own
 pub mod Tallied
+pub use Rattle.privilege.specs.Interference
+pub use Rattle.semantics.specs.Points
+pub use Rattle.semantics.specs.Records
+pub use Rattle.semantics.specs.Rules
+pub use Rattle.semantics.specs.Tables
+pub use Rattle.log_tables.specs.Views

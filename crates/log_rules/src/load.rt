@@ -21,7 +21,7 @@ use std::collections::HashMap;
 const MOST_LOAD: u128 = 67_108_864;
 
 /// A place.
-#[derive(Clone, Copy, Debug, PartialEq, Eq, Hash)]
+#[derive(Clone, Copy, PartialEq, Eq, Hash)]
 pub(crate) struct LoadPlace {
     pub tree: u32,
     pub point: u64,

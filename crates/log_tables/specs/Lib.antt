@@ -3,3 +3,9 @@ pub mod Mapped
 pub mod Noted
 pub mod Runs
 pub mod Views
+pub mod Decls
+pub use Rattle.semantics.specs.Points
+pub use Rattle.semantics.specs.Reads
+pub use Rattle.semantics.specs.Rules
+pub use Rattle.semantics.specs.Steps
+pub use Rattle.semantics.specs.Tables

@@ -1,7 +1,7 @@
 //! One record more.
 
-ghost use Rattle.std.specs.Prelude.{◌≡◌, ◌<◌, ◌≤◌, ◌+◌, ◌-◌, ◌^◌, length, OnOk, IfOk};
-ghost use Rattle.semantics.specs.Tables.{with_record, privilege_of, coherence_of, points_of};
+ghost use Rattle.std.specs.Prelude.{◌≡◌, ◌<◌, ◌≤◌, ◌+◌, ◌-◌, ◌^◌, ◌++◌, ◌∷◌, [], length, OnOk, IfOk};
+ghost use Rattle.semantics.specs.Tables.{with_node, with_record, privilege_of, coherence_of, points_of};
 ghost use Rattle.log_tables.specs.Views.{Ascends, IsOfRegions, IsOfItems, IsOfNodes};
 ghost use Rattle.spy_grammar.specs.declared.record.Record.TheVariants as records;
 ghost use Rattle.std.specs.List.Sorted.{IsStrictlyIncreasing};
@@ -13,7 +13,7 @@ use privilege::{Coherence, Priv};
 use region_tree::{ArenaSet, Memory};
 use semantics::{Inst, ItemBody, Op, Req};
 use spy_grammar::Record;
-use spy_words::{Nums, PrivWord};
+use spy_words::{InstKind, Nums, PrivWord, Set};
 use std::alloc::{AllocError, Global};
 
 /// A list of the same numbers.
@@ -56,6 +56,30 @@ fn placed<'a, P: ArenaSet<'a>>(bump: &'a Bump, runs: &[(u64, u64)]) -> Result<P,
 }
 
 impl<'a, P: ArenaSet<'a>> Draft<P> {
+    /// One space more, whose set is placed in the arena.
+    fn add_space_of(&mut self, bump: &'a Bump, line: u32, id: u32, set: &Set) -> Result<(), Memory>
+        requires { AreRuns set.now }
+        ensures { OnOk result (self.new ≡ with_record self.old line (records.Ispace id set.now)) }
+    {
+        let set = placed(bump, set.as_slice())?;
+        Ok(self.add_space(id, set)?)
+    }
+
+    /// One field space more.
+    fn add_field_space_of(
+        &mut self,
+        alloc: Global,
+        line: u32,
+        id: u32,
+        fields: &Nums,
+    ) -> Result<(), AllocError>
+        requires { IsStrictlyIncreasing fields.now }
+        ensures { OnOk result (self.new ≡ with_record self.old line (records.Fields id fields.now)) }
+    {
+        let fields = copied(alloc, fields)?;
+        self.add_field_space(id, fields)
+    }
+
     /// What a record on spaces, partitions, trees and operators declares.
     fn add_region(
         &mut self,
@@ -69,10 +93,7 @@ impl<'a, P: ArenaSet<'a>> Draft<P> {
         ensures { OnOk result (self.new ≡ with_record self.old line rec.now) }
     {
         match rec {
-            Record::Ispace { id, set } => {
-                let set = placed(bump, set.as_slice())?;
-                self.add_space(*id, set)?;
-            }
+            Record::Ispace { id, set } => self.add_space_of(bump, line, *id, set)?,
             Record::Part {
                 id,
                 space,
@@ -83,10 +104,7 @@ impl<'a, P: ArenaSet<'a>> Draft<P> {
                 colour,
                 space,
             } => self.add_sub(*part, *colour, *space)?,
-            Record::Fields { id, fields } => {
-                let fields = copied(alloc, fields)?;
-                self.add_field_space(*id, fields)?;
-            }
+            Record::Fields { id, fields } => self.add_field_space_of(alloc, line, *id, fields)?,
             Record::Tree { id, space, fspace } => self.add_tree(*id, *space, *fspace)?,
             Record::Redop { id } => self.add_operator(*id)?,
             _ => {}
@@ -124,6 +142,76 @@ impl<'a, P: ArenaSet<'a>> Draft<P> {
         })
     }
 
+    /// One fill more.
+    fn add_fill_of(
+        &mut self,
+        alloc: Global,
+        line: u32,
+        id: u32,
+        tree: u32,
+        space: u32,
+        fields: &Nums,
+        n: u32,
+    ) -> Result<(), AllocError>
+        requires { IsStrictlyIncreasing fields.now }
+        ensures { OnOk result (self.new ≡ with_record self.old line (records.Fill id tree space fields.now n)) }
+    {
+        let fields = copied(alloc, fields)?;
+        self.add_item(
+            id,
+            line,
+            ItemBody::Fill {
+                tree,
+                space,
+                fields,
+                n,
+            },
+        )
+    }
+
+    /// One instance more.
+    fn add_inst_of(
+        &mut self,
+        alloc: Global,
+        id: u32,
+        tree: u32,
+        space: u32,
+        fields: &Nums,
+        kind: InstKind,
+    ) -> Result<(), AllocError>
+        requires { IsStrictlyIncreasing fields.now }
+        ensures { OnOk result (self.new ≡ record self.old {
+          insts = self.old.insts
+              ++ record { id = id; tree = tree; space = space; fields = fields.now; kind = kind } ∷ [];
+        }) }
+    {
+        let fields = copied(alloc, fields)?;
+        self.add_inst(Inst {
+            id,
+            tree,
+            space,
+            fields,
+            kind,
+        })
+    }
+
+    /// One map more.
+    fn add_map_of(
+        &mut self,
+        alloc: Global,
+        line: u32,
+        task: u32,
+        req: u32,
+        fields: &Nums,
+        inst: u32,
+    ) -> Result<(), AllocError>
+        ensures { OnOk result (self.new ≡ with_record self.old line (records.Map task req fields.now inst)) }
+    {
+        let item = self.place(task);
+        let fields = copied(alloc, fields)?;
+        self.add_map(item, req, fields, inst)
+    }
+
     /// What a record on items declares.
     fn add_of_items(&mut self, alloc: Global, line: u32, rec: &Record) -> Result<(), Memory>
         requires ascends { Ascends rec.now }
@@ -151,14 +239,7 @@ impl<'a, P: ArenaSet<'a>> Draft<P> {
                 fields,
                 n,
             } => {
-                let fields = copied(alloc, fields)?;
-                let body = ItemBody::Fill {
-                    tree: *tree,
-                    space: *space,
-                    fields,
-                    n: *n,
-                };
-                self.add_item(*id, line, body)?;
+                self.add_fill_of(alloc, line, *id, *tree, *space, fields, *n)?;
             }
             Record::Serial { items } => {
                 let ids = copied(alloc, items)?;
@@ -171,14 +252,7 @@ impl<'a, P: ArenaSet<'a>> Draft<P> {
                 fields,
                 kind,
             } => {
-                let fields = copied(alloc, fields)?;
-                self.add_inst(Inst {
-                    id: *id,
-                    tree: *tree,
-                    space: *space,
-                    fields,
-                    kind: *kind,
-                })?;
+                self.add_inst_of(alloc, *id, *tree, *space, fields, *kind)?;
             }
             Record::Map {
                 task,
@@ -186,13 +260,26 @@ impl<'a, P: ArenaSet<'a>> Draft<P> {
                 fields,
                 inst,
             } => {
-                let item = self.place(*task);
-                let fields = copied(alloc, fields)?;
-                self.add_map(item, *req, fields, *inst)?;
+                self.add_map_of(alloc, line, *task, *req, fields, *inst)?;
             }
             _ => {}
         }
         Ok(())
+    }
+
+    /// One node more, whose events are copied.
+    fn add_node_of(
+        &mut self,
+        alloc: Global,
+        line: u32,
+        done: u32,
+        waits: &Nums,
+        op: Op,
+    ) -> Result<(), AllocError>
+        ensures { OnOk result (self.new ≡ with_node self.old line done waits.now op) }
+    {
+        let waits = copied(alloc, waits)?;
+        self.add_node(line, done, waits, op)
     }
 
     /// What a record on nodes declares.
@@ -203,8 +290,7 @@ impl<'a, P: ArenaSet<'a>> Draft<P> {
         match rec {
             Record::Run { task, done, waits } => {
                 let item = self.place(*task);
-                let waits = copied(alloc, waits)?;
-                self.add_node(line, *done, waits, Op::Run { item })?;
+                self.add_node_of(alloc, line, *done, waits, Op::Run { item })?;
             }
             Record::Copy {
                 src,
@@ -215,14 +301,13 @@ impl<'a, P: ArenaSet<'a>> Draft<P> {
                 waits,
             } => {
                 let fields = copied(alloc, fields)?;
-                let waits = copied(alloc, waits)?;
                 let op = Op::Copy {
                     src: *src,
                     dst: *dst,
                     space: *space,
                     fields,
                 };
-                self.add_node(line, *done, waits, op)?;
+                self.add_node_of(alloc, line, *done, waits, op)?;
             }
             Record::Put {
                 inst,
@@ -233,14 +318,13 @@ impl<'a, P: ArenaSet<'a>> Draft<P> {
                 waits,
             } => {
                 let fields = copied(alloc, fields)?;
-                let waits = copied(alloc, waits)?;
                 let op = Op::Put {
                     inst: *inst,
                     space: *space,
                     fields,
                     n: *n,
                 };
-                self.add_node(line, *done, waits, op)?;
+                self.add_node_of(alloc, line, *done, waits, op)?;
             }
             Record::Reset {
                 inst,
@@ -250,13 +334,12 @@ impl<'a, P: ArenaSet<'a>> Draft<P> {
                 waits,
             } => {
                 let fields = copied(alloc, fields)?;
-                let waits = copied(alloc, waits)?;
                 let op = Op::Reset {
                     inst: *inst,
                     space: *space,
                     fields,
                 };
-                self.add_node(line, *done, waits, op)?;
+                self.add_node_of(alloc, line, *done, waits, op)?;
             }
             Record::Fold {
                 src,
@@ -267,18 +350,16 @@ impl<'a, P: ArenaSet<'a>> Draft<P> {
                 waits,
             } => {
                 let fields = copied(alloc, fields)?;
-                let waits = copied(alloc, waits)?;
                 let op = Op::Fold {
                     src: *src,
                     dst: *dst,
                     space: *space,
                     fields,
                 };
-                self.add_node(line, *done, waits, op)?;
+                self.add_node_of(alloc, line, *done, waits, op)?;
             }
             Record::Merge { done, waits } => {
-                let waits = copied(alloc, waits)?;
-                self.add_node(line, *done, waits, Op::Merge)?;
+                self.add_node_of(alloc, line, *done, waits, Op::Merge)?;
             }
             _ => {}
         }

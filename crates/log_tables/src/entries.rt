@@ -10,21 +10,21 @@ use semantics::{FieldSpace, Inst, Item, ItemBody, LogNode, Op, Part, Req, Sub, T
 use spy_words::Nums;
 
 /// An index space and its points.
-#[derive(Debug, Drop)]
+#[derive(Drop)]
 pub struct Space<P> {
     pub id: u32,
     pub set: P,
 }
 
 /// A partition and a colour.
-#[derive(Clone, Copy, Debug, PartialEq, Eq, Hash)]
+#[derive(Clone, Copy, PartialEq, Eq, Hash)]
 pub struct SubKey {
     pub part: u32,
     pub colour: u32,
 }
 
 /// The position of an item, and the number of one of its requirements.
-#[derive(Clone, Copy, Debug, PartialEq, Eq, Hash)]
+#[derive(Clone, Copy, PartialEq, Eq, Hash)]
 pub struct ReqKey {
     pub item: usize,
     pub number: u32,

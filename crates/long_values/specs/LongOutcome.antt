@@ -12,7 +12,9 @@ use Rattle.semantics.specs.Steps.{Step}
 use Rattle.semantics.specs.Interleavings.{IsInterleaving}
 use Rattle.semantics.specs.Races.{IsRaceFree}
 use Rattle.semantics.specs.Reads.{Seen}
-use Rattle.semantics.specs.Outcome.{CheckFinds, HasNoCycle, HasTextFault, operation_count, read_count, task_count}
+use Rattle.outcomes.specs.Outcome.{CheckFinds, HasTextFault}
+use Rattle.semantics.specs.Events.{HasNoCycle}
+use Rattle.semantics.specs.Counts.{operation_count, read_count, task_count}
 use Rattle.long_values.specs.LongSequential.{LongRead, wanted_long}
 use Rattle.long_values.specs.LongExecution.{start_long, executed_long, IsShort, IsRightLong}
 

@@ -17,7 +17,7 @@ ghost use Rattle.semantics.specs.declared.command.Command.{Command};
 ghost use Rattle.semantics.specs.declared.command.Command.TheVariants.{Check};
 ghost use Rattle.semantics.specs.Faults.{log_fault};
 ghost use Rattle.findings.specs.declared.finding.Finding.{Finding};
-ghost use Rattle.semantics.specs.Outcome.{CheckFinds, IsFound, IsOutcome};
+ghost use Rattle.outcomes.specs.Outcome.{CheckFinds, IsFound, IsOutcome};
 ghost use Rattle.semantics.specs.Steps.{Step};
 ghost use Rattle.semantics.specs.Sequential.{after_items, wanted};
 ghost use Rattle.semantics.specs.Execution.{start, executed, ReadsIn};

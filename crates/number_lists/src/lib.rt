@@ -1,9 +1,6 @@
 //! Lists of numbers, each of which grows at its end.
 #![tactic(auto)]
 
-#[cfg(test)]
-mod tests;
-
 ghost use Rattle.std.specs.Prelude.{◌≡◌, ◌<◌, ◌++◌, ◌∷◌, [], length, map, slice_index_or, IfOk, OnErr, OnOk, replicate, set};
 
 use std::alloc::{AllocError, Global};

@@ -9,8 +9,6 @@ mod run_set;
 mod run_slice;
 mod runs;
 mod set;
-#[cfg(test)]
-mod tests;
 
 pub use ascending::next_from;
 pub use law::{maximal_runs_are_apart, points_of_runs_ascend};

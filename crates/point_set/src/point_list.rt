@@ -9,7 +9,7 @@ use crate::set::PointSet;
 /// The points themselves, in an ascending slice, cut into runs that are as long as can be.
 ///
 /// `has`, `first`, `next_from` and `gap_from` are binary searches, and `count` and `last` take one step. `run_count` takes one pass, and `run(k)` one up to the end of run `k`: asking for each of many runs in turn takes quadratic time, and going over the points by `next_from` does not.
-#[derive(Clone, Copy, Debug)]
+#[derive(Clone, Copy)]
 pub struct PointList<'a> {
     points: &'a [u64],
     // What the laws of `PointSet` say of each set.

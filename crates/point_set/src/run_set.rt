@@ -8,7 +8,7 @@ use crate::set::PointSet;
 /// Runs of points in a slice, each a pair of its first and its last point. The set is cut into just these runs, two of which may touch.
 ///
 /// What a call costs goes by the runs, however many points they hold. `has`, `first` and `next_from` are binary searches over the runs, and so is `gap_from`, but that it goes on over the runs that touch one another. `run` and `last` take one step, and `count` takes one pass over the runs.
-#[derive(Clone, Copy, Debug)]
+#[derive(Clone, Copy)]
 pub struct RunSet<'a> {
     runs: &'a [(u64, u64)],
     // What the laws of `PointSet` say of each set.

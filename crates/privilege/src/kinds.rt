@@ -1,7 +1,7 @@
 //! Privileges, coherence, and kinds of interference.
 
 /// What a task may do with a region.
-#[derive(Clone, Copy, Debug, PartialEq, Eq)]
+#[derive(Clone, Copy, PartialEq, Eq)]
 pub enum Priv {
     /// Read.
     Ro,
@@ -14,7 +14,7 @@ pub enum Priv {
 }
 
 /// How a task shares what it uses with other tasks.
-#[derive(Clone, Copy, Debug, PartialEq, Eq)]
+#[derive(Clone, Copy, PartialEq, Eq)]
 pub enum Coherence {
     /// Those that interfere with it keep the serial order.
     Exclusive,
@@ -23,7 +23,7 @@ pub enum Coherence {
 }
 
 /// How two accesses to one place interfere. The order of the variants is that of strength, the weakest first.
-#[derive(Clone, Copy, Debug, PartialEq, Eq)]
+#[derive(Clone, Copy, PartialEq, Eq)]
 pub enum Kind {
     /// They do not: they may overlap.
     Free,

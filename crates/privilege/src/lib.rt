@@ -5,8 +5,6 @@ mod kinds;
 mod laws;
 mod markers;
 mod table;
-#[cfg(test)]
-mod tests;
 
 pub use kinds::{Coherence, Kind, Priv};
 pub use laws::kind_laws;

@@ -8,19 +8,19 @@ ghost use Rattle.privilege.specs.Allowed.{may_read, may_write};
 use crate::kinds::Priv;
 
 /// Read.
-#[derive(Clone, Copy, Debug, PartialEq, Eq)]
+#[derive(Clone, Copy, PartialEq, Eq)]
 pub struct Ro;
 
 /// Read and write.
-#[derive(Clone, Copy, Debug, PartialEq, Eq)]
+#[derive(Clone, Copy, PartialEq, Eq)]
 pub struct Rw;
 
 /// Write, and see nothing of the old contents.
-#[derive(Clone, Copy, Debug, PartialEq, Eq)]
+#[derive(Clone, Copy, PartialEq, Eq)]
 pub struct Wd;
 
 /// Reduce with an operator.
-#[derive(Clone, Copy, Debug, PartialEq, Eq)]
+#[derive(Clone, Copy, PartialEq, Eq)]
 pub struct Red {
     /// The id of the operator.
     pub op: u32,

@@ -1,3 +1,13 @@
 pub mod Gathered
 pub mod Placed
 pub mod Ends
+pub use Rattle.point_laws.specs.Alike
+pub use Rattle.atoms.specs.Atoms
+pub use Rattle.point_laws.specs.Cut
+pub use Rattle.semantics.specs.Events
+pub use Rattle.semantics.specs.Faults
+pub use Rattle.event_graph.specs.Orders
+pub use Rattle.semantics.specs.Races
+pub use Rattle.reach_marks.specs.Reached
+pub use Rattle.semantics.specs.Shown
+pub use Rattle.semantics.specs.Tables

@@ -8,7 +8,7 @@ ghost use Rattle.race_scan.specs.Gathered.{node_touches, touches_before};
 use cell_races::{Touch, push_touches};
 use event_graph::Order;
 use inst_steps::steps_on;
-use log_decl::Log;
+use logs::Log;
 use region_tree::ArenaSet;
 use std::alloc::{AllocError, Global};
 

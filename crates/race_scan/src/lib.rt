@@ -3,7 +3,5 @@
 
 mod gathering;
 mod shown;
-#[cfg(test)]
-mod tests;
 
 pub use shown::{ScanEnd, scan};

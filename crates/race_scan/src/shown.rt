@@ -20,8 +20,8 @@ use crate::gathering::touches_on;
 use atoms::Atoms;
 use cell_races::{Clashing, shown_clash, touches_are_accesses};
 use event_graph::{Graph, Order};
-use log_decl::Log;
 use log_laws::{replay_order_lists, stuck_nodes_have_cycles};
+use logs::Log;
 use point_laws::{cut_tables_keep_points, first_points_show_the_race};
 use reach_marks::Reach;
 use region_tree::ArenaSet;
@@ -29,7 +29,7 @@ use semantics::Cell;
 use std::alloc::{AllocError, Global};
 
 /// Why a scan finds no log free of races.
-#[derive(Clone, Copy, Debug)]
+#[derive(Clone, Copy)]
 pub enum ScanEnd {
     /// Nodes `a` and `b` conflict at the cell, and neither is before the other.
     Race { a: usize, b: usize, cell: Cell },

@@ -12,8 +12,6 @@ mod reach;
 mod row;
 mod rows;
 mod search;
-#[cfg(test)]
-mod tests;
 mod waits;
 
 pub use laws::before_is_transitive;

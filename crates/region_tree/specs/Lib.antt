@@ -8,3 +8,5 @@ pub mod Paths
 pub mod Sharing
 pub mod RunsFrom
 pub mod Growing
+pub use Rattle.point_set.specs.Least
+pub use Rattle.point_set.specs.Runs

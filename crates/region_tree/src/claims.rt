@@ -12,7 +12,7 @@ use point_set::PointSet;
 use std::alloc::{AllocError, Global};
 
 /// The points from `first` to `last` that the subspace at place `sub` claims for its partition.
-#[derive(Clone, Copy, Debug)]
+#[derive(Clone, Copy)]
 pub(crate) struct Claim {
     pub part: u32,
     pub first: u64,

@@ -9,14 +9,14 @@ use std::alloc::Global;
 use std::marker::Model;
 
 /// A space: its id, and its points.
-#[derive(Debug, Drop)]
+#[derive(Drop)]
 pub struct SpaceDecl<P> {
     pub id: u32,
     pub set: P,
 }
 
 /// A partition of a space. No two subspaces of a disjoint one share a point.
-#[derive(Clone, Copy, Debug, PartialEq, Eq)]
+#[derive(Clone, Copy, PartialEq, Eq)]
 pub struct PartDecl {
     pub id: u32,
     pub space: u32,
@@ -24,7 +24,7 @@ pub struct PartDecl {
 }
 
 /// That a space is the subspace that a partition has under a colour.
-#[derive(Clone, Copy, Debug, PartialEq, Eq)]
+#[derive(Clone, Copy, PartialEq, Eq)]
 pub struct SubDecl {
     pub part: u32,
     pub colour: u32,

@@ -15,8 +15,6 @@ mod path;
 mod place_fault;
 mod shape;
 mod sharing;
-#[cfg(test)]
-mod tests;
 
 pub use arena_set::ArenaSet;
 pub use decls::{Decls, PartDecl, SpaceDecl, SubDecl};

@@ -6,7 +6,7 @@ use smallvec::SmallVec;
 use std::marker::Model;
 
 /// One step down: from a space to the subspace that a partition of it has under a colour.
-#[derive(Clone, Copy, Debug, Default, PartialEq, Eq, Hash)]
+#[derive(Clone, Copy, Default, PartialEq, Eq, Hash)]
 pub struct Step {
     pub part: u32,
     pub colour: u32,

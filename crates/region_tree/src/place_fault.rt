@@ -6,7 +6,7 @@ ghost use Rattle.region_tree.specs.declared.place_fault.PlaceFault.TheVariants.{
 use std::alloc::{AllocError, AllocFailed};
 
 /// Why declarations were not placed. A subspace is named by its place among the declared ones, from 0.
-#[derive(Clone, Copy, Debug, PartialEq, Eq)]
+#[derive(Clone, Copy, PartialEq, Eq)]
 pub enum PlaceFault {
     /// The least faulty subspace has this point, the least of them, that the space which its partition cuts has not.
     NotWithin {

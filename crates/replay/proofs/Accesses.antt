@@ -16,8 +16,8 @@ use Rattle.semantics.specs.Records.{records_of}
 use Rattle.semantics.specs.Tables.{Tables, with_record, no_tables, tables_of}
 use Rattle.semantics.specs.Rules.{size_of, accesses}
 use Rattle.semantics.specs.Faults.{tried, is_end, header_fault, ended_fault, records_fault}
-use Rattle.semantics.specs.Outcome.{read_count}
-use Rattle.log_decl.specs.Faultless.{AreDeclared}
+use Rattle.semantics.specs.Counts.{read_count}
+use Rattle.logs.specs.Faultless.{AreDeclared}
 use Rattle.log_laws.proofs.lemmas.Members.{both_none, member_of, none_found, unmapped_none}
 use Rattle.log_laws.proofs.lemmas.Admitted.{Unbroken, no_broken_rule}
 use Rattle.replay.specs.Counts.{reads_in}

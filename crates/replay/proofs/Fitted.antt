@@ -26,7 +26,7 @@ use Rattle.semantics.specs.Points.{points_in}
 use Rattle.semantics.specs.Kinds.{reqs_of, grid, req_grid}
 use Rattle.semantics.specs.Steps.{id_of, cell_in, mapped_cell, at_cells, reads_by, changes_by, run_moves, moves_of, operator_of, steps_by}
 use Rattle.semantics.specs.Rules.{is_task, is_declared, is_reduction, reduces_in, is_of_wrong_kind, names, inst_id, task_id}
-use Rattle.log_decl.specs.Faultless.{AreDeclared}
+use Rattle.logs.specs.Faultless.{AreDeclared}
 use Rattle.log_laws.proofs.lemmas.Members.{Member, Each, each_more, contains_of, member_at, member_append, member_flat, member_map, all_at, any_at, any_found, find_any, find_still, only}
 use Rattle.log_laws.proofs.lemmas.StepLists.{of_node}
 use Rattle.log_laws.proofs.lemmas.Admitted.{Unbroken, by_records, no_broken_rule}

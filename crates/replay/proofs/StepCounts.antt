@@ -26,7 +26,7 @@ use Rattle.semantics.specs.Steps.{Step, mapped_cell, at_cells, reads_by, changes
 use Rattle.semantics.specs.Rules.{size_of, runs_item, is_run_again}
 use Rattle.point_laws.specs.Alike.{is_at}
 use Rattle.point_laws.specs.Cut.{cut}
-use Rattle.log_decl.specs.Faultless.{AreDeclared}
+use Rattle.logs.specs.Faultless.{AreDeclared}
 use Rattle.log_laws.proofs.lemmas.Members.{Member, contains_of, member_left, member_right, member_append, member_flat, member_filter, none_at, only}
 use Rattle.log_laws.proofs.lemmas.Apart.{Apart, pairs_from, pairs_append, apart_flat, apart_filter, number_in}
 use Rattle.log_laws.proofs.lemmas.Lists.{split_at}

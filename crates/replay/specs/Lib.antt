@@ -3,3 +3,12 @@ pub mod Ends
 pub mod Fitting
 pub mod Standing
 pub mod Replaying
+pub use Rattle.point_laws.specs.Alike
+pub use Rattle.atoms.specs.Atoms
+pub use Rattle.point_laws.specs.Cut
+pub use Rattle.semantics.specs.Events
+pub use Rattle.semantics.specs.Faults
+pub use Rattle.serial_exec.specs.Kept
+pub use Rattle.event_graph.specs.Orders
+pub use Rattle.semantics.specs.Reads
+pub use Rattle.semantics.specs.Steps

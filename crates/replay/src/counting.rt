@@ -1,12 +1,12 @@
 //! How many reads a log has.
 
 ghost use Rattle.std.specs.Prelude.{◌≡◌, ◌<◌, ◌^◌};
-ghost use Rattle.semantics.specs.Outcome.{read_count};
+ghost use Rattle.semantics.specs.Counts.{read_count};
 ghost use Rattle.semantics.specs.Rules.{size_of};
 ghost use Rattle.replay.specs.Counts.{reads_of};
 
 use crate::laws::reads_are_few;
-use log_decl::Log;
+use logs::Log;
 use point_set::PointSet;
 use privilege::Priv;
 use semantics::Req;

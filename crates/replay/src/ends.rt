@@ -3,7 +3,7 @@
 use value_terms::{Memory, Value};
 
 /// What a replay found right.
-#[derive(Clone, Copy, Debug, PartialEq, Eq)]
+#[derive(Clone, Copy, PartialEq, Eq)]
 pub struct Reads {
     /// The reads of all tasks: a point and a field of a requirement each.
     pub count: u64,

@@ -4,10 +4,10 @@ ghost use Rattle.std.specs.Prelude.{◌≡◌, ℕ, ◌≤◌, ◌<◌, ◌^◌,
 ghost use Rattle.std.specs.List.{AllByRecursion};
 ghost use Rattle.semantics.specs.Tables.{Tables};
 ghost use Rattle.semantics.specs.Faults.{unmapped_fault};
-ghost use Rattle.semantics.specs.Outcome.{read_count};
+ghost use Rattle.semantics.specs.Counts.{read_count};
 ghost use Rattle.semantics.specs.Reads.{difference, replay_steps, shown_difference};
 ghost use Rattle.semantics.specs.Steps.{Step};
-ghost use Rattle.log_decl.specs.Faultless.{AreDeclared};
+ghost use Rattle.logs.specs.Faultless.{AreDeclared};
 ghost use Rattle.point_laws.specs.Alike.{AreFirsts};
 ghost use Rattle.point_laws.specs.Cut.{cut};
 ghost use Rattle.inst_steps.specs.Stores.{Contents, HasCells, IsLight, IsStart, after_move, value_in};

@@ -6,8 +6,6 @@ mod ends;
 mod laws;
 mod moving;
 mod replaying;
-#[cfg(test)]
-mod tests;
 
 pub use ends::{Reads, ReplayEnd};
 pub use replaying::replay;

@@ -14,7 +14,7 @@ ghost use Rattle.replay.specs.Replaying.{cut_tables};
 
 use crate::ends::ReplayEnd;
 use inst_steps::{Action, Store};
-use log_decl::Log;
+use logs::Log;
 use point_set::PointSet;
 use privilege::Priv;
 use semantics::{Cell, Move, Op, Place};
@@ -30,7 +30,7 @@ pub(crate) struct Unlike {
 }
 
 /// What a replay goes by: a log, what its items want at some points, and these points.
-#[derive(Clone, Copy)]
+#[derive(Drop)]
 pub(crate) struct Replay<'r, 'a, P: PointSet + Copy> {
     pub(crate) alloc: Global,
     pub(crate) log: &'r Log<'a, P>,

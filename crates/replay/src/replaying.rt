@@ -4,7 +4,7 @@ ghost use Rattle.std.specs.Prelude.{◌≡◌, ◌+◌, ◌<◌, drop, length, A
 ghost use Rattle.std.specs.List.Sorted.{IsStrictlyIncreasing};
 ghost use Rattle.semantics.specs.Events.{graph_of};
 ghost use Rattle.semantics.specs.Faults.{unmapped_fault};
-ghost use Rattle.semantics.specs.Outcome.{read_count};
+ghost use Rattle.semantics.specs.Counts.{read_count};
 ghost use Rattle.semantics.specs.Reads.{replay_steps, shown_difference};
 ghost use Rattle.semantics.specs.Steps.{steps_by};
 ghost use Rattle.event_graph.specs.Orders.{IsOrderOf};
@@ -23,8 +23,8 @@ use crate::moving::Replay;
 use atoms::Atoms;
 use event_graph::Order;
 use inst_steps::{Store, actions_on};
-use log_decl::Log;
 use log_laws::replay_order_lists;
+use logs::Log;
 use point_set::PointSet;
 use region_tree::ArenaSet;
 use serial_exec::Versions;

@@ -1,6 +1,7 @@
 -- Nodes, what they wait on, and which is before which. Nodes are named by position.
 use Rattle.std.specs.Prelude.{◌≡◌, ◌≢◌, ℕ, List, [], ◌∷◌, map, Some, Contains, AllPairs, slice_get}
 use Rattle.semantics.specs.declared.tables.LogNode.{LogNode}
+use Rattle.semantics.specs.Tables.{Tables}
 
 -- A node: its completion event, and the events that it waits on.
 pub record Node : Type 0 where
@@ -32,6 +33,9 @@ Before nodes a b = (between : List ℕ) × IsChain nodes a between b
 abbrev pub IsCycle : List Node → List ℕ → Type 0
 IsCycle nodes [] = ⊥
 IsCycle nodes (first ∷ rest) = AllPairs (λ a b. a ≢ b) (first ∷ rest) × IsChain nodes first rest first
+
+abbrev pub HasNoCycle : Tables → Type 0
+HasNoCycle t = (ks : List ℕ) → IsCycle (graph_of t.nodes) ks → ⊥
 
 -- The nodes' events are all different, and each event that a node waits on is that of some node.
 pub record AreLinked (nodes : List Node) : Type 0 where

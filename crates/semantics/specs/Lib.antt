@@ -15,5 +15,5 @@ pub mod TextFaults
 pub mod Rules
 pub mod Faults
 pub mod Shown
-pub mod Outcome
+pub mod Counts
 pub mod Computed

@@ -1,7 +1,7 @@
 //! What is asked of a log.
 
 /// What is asked of a log.
-#[derive(Clone, Copy, Debug, PartialEq, Eq)]
+#[derive(Clone, Copy, PartialEq, Eq)]
 pub enum Command {
     /// Whether the run computed what the sequential program computes. This alone asks that each field of a requirement is mapped.
     Check,

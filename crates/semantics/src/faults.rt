@@ -3,7 +3,7 @@
 use spy_grammar::Code;
 
 /// A broken rule, by its code, and the line that is shown with it.
-#[derive(Clone, Copy, Debug, PartialEq, Eq)]
+#[derive(Clone, Copy, PartialEq, Eq)]
 pub struct Fault {
     pub line: u32,
     pub code: Code,

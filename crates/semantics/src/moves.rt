@@ -3,7 +3,7 @@
 use crate::places::Cell;
 
 /// What one step of an operation does to one cell, or from one cell to another.
-#[derive(Clone, Copy, Debug, PartialEq, Eq)]
+#[derive(Clone, Copy, PartialEq, Eq)]
 pub enum Move {
     /// The task reads the cell, for its requirement of this number.
     Read {

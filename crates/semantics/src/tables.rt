@@ -4,7 +4,7 @@ use privilege::{Coherence, Priv};
 use spy_grammar::{InstKind, Nums};
 
 /// A partition: the space that it splits, and whether its subspaces have to be disjoint.
-#[derive(Clone, Copy, Debug, PartialEq, Eq)]
+#[derive(Clone, Copy, PartialEq, Eq)]
 pub struct Part {
     pub id: u32,
     pub space: u32,
@@ -12,7 +12,7 @@ pub struct Part {
 }
 
 /// A subspace: the space that a partition has at a colour.
-#[derive(Clone, Copy, Debug, PartialEq, Eq)]
+#[derive(Clone, Copy, PartialEq, Eq)]
 pub struct Sub {
     pub part: u32,
     pub colour: u32,
@@ -20,14 +20,14 @@ pub struct Sub {
 }
 
 /// A field space: its fields, ascending.
-#[derive(Debug, Drop)]
+#[derive(Drop)]
 pub struct FieldSpace {
     pub id: u32,
     pub fields: Nums,
 }
 
 /// A region tree: its root space and its field space.
-#[derive(Clone, Copy, Debug, PartialEq, Eq)]
+#[derive(Clone, Copy, PartialEq, Eq)]
 pub struct Tree {
     pub id: u32,
     pub space: u32,
@@ -35,14 +35,14 @@ pub struct Tree {
 }
 
 /// Items that a line lists in serial order.
-#[derive(Debug, Drop)]
+#[derive(Drop)]
 pub struct Serial {
     pub line: u32,
     pub ids: Nums,
 }
 
 /// The instance to which some fields of a requirement are mapped. The requirement is named by the position of its item, and by its number there.
-#[derive(Debug, Drop)]
+#[derive(Drop)]
 pub struct Map {
     pub item: usize,
     pub number: u32,
@@ -51,7 +51,7 @@ pub struct Map {
 }
 
 /// What an item is.
-#[derive(Debug, Drop)]
+#[derive(Drop)]
 pub enum ItemBody {
     /// A task. What it does is said by its requirements.
     Task,
@@ -65,7 +65,7 @@ pub enum ItemBody {
 }
 
 /// An item of program order, the order of the lines.
-#[derive(Debug, Drop)]
+#[derive(Drop)]
 pub struct Item {
     pub id: u32,
     pub line: u32,
@@ -73,7 +73,7 @@ pub struct Item {
 }
 
 /// A requirement of a task: what it may do with which fields of which points.
-#[derive(Debug, Drop)]
+#[derive(Drop)]
 pub struct Req {
     /// The position of its task among the items.
     pub item: usize,
@@ -88,7 +88,7 @@ pub struct Req {
 }
 
 /// An instance: a copy of the data of some points and fields of a region tree.
-#[derive(Debug, Drop)]
+#[derive(Drop)]
 pub struct Inst {
     pub id: u32,
     pub tree: u32,
@@ -98,7 +98,7 @@ pub struct Inst {
 }
 
 /// What a node of the recorded run does.
-#[derive(Debug, Drop)]
+#[derive(Drop)]
 pub enum Op {
     /// It runs the task at this position among the items.
     Run {
@@ -136,7 +136,7 @@ pub enum Op {
 }
 
 /// A node of the recorded run: its completion event, and the events that it waits on.
-#[derive(Debug, Drop)]
+#[derive(Drop)]
 pub struct LogNode {
     pub line: u32,
     pub done: u32,

@@ -13,7 +13,7 @@ use Rattle.semantics.specs.declared.places.Place.{Place}
 use Rattle.semantics.specs.Tables.{Tables}
 use Rattle.semantics.specs.SerialOrder.{serial, serial_place}
 use Rattle.semantics.specs.Sequential.{wanted, after_items}
-use Rattle.log_decl.specs.Listing.{ArePlacesIn}
+use Rattle.logs.specs.Listing.{ArePlacesIn}
 use Rattle.serial_exec.specs.declared.change.Change.{Change}
 use Rattle.serial_exec.specs.declared.change.PlaceKey.{PlaceKey}
 use Rattle.serial_exec.specs.declared.histories.Histories.{Histories}

@@ -5,3 +5,6 @@ pub mod Kept
 pub mod Marks
 pub mod OwnReqs
 pub mod Summed
+pub use Rattle.point_laws.specs.Cut
+pub use Rattle.semantics.specs.Points
+pub use Rattle.semantics.specs.Sequential

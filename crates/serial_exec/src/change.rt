@@ -7,7 +7,7 @@ use privilege::Priv;
 use value_terms::{Base, Contribution};
 
 /// What an item does to the value at a place.
-#[derive(Clone, Copy, Debug, PartialEq, Eq)]
+#[derive(Clone, Copy)]
 pub(crate) enum Action {
     /// It puts a base in place of what was there.
     Put(Base),
@@ -16,7 +16,7 @@ pub(crate) enum Action {
 }
 
 /// A change of the value at a place.
-#[derive(Clone, Copy, Debug, PartialEq, Eq)]
+#[derive(Clone, Copy)]
 pub(crate) struct Change {
     /// The place of its item in serial order.
     pub moment: usize,
@@ -24,7 +24,7 @@ pub(crate) struct Change {
 }
 
 /// A place, as a key.
-#[derive(Clone, Copy, Debug, PartialEq, Eq, Hash)]
+#[derive(Clone, Copy, PartialEq, Eq, Hash)]
 pub(crate) struct PlaceKey {
     pub tree: u32,
     pub point: u64,

@@ -14,7 +14,7 @@ ghost use Rattle.serial_exec.specs.OwnReqs.{AreOwn, reqs_at};
 use crate::change::{Action, Change, task_action};
 use crate::histories::Histories;
 use crate::own_reqs::own_reqs;
-use log_decl::Log;
+use logs::Log;
 use number_lists::NumberLists;
 use point_set::PointSet;
 use semantics::{ItemBody, Req};

@@ -8,8 +8,6 @@ mod histories;
 mod marks;
 mod own_reqs;
 mod sums;
-#[cfg(test)]
-mod tests;
 mod versions;
 
 pub use versions::Versions;

@@ -15,7 +15,7 @@ use std::collections::HashMap;
 use value_terms::Contribution;
 
 /// That the change at a position adds a contribution.
-#[derive(Clone, Copy, Debug)]
+#[derive(Clone, Copy)]
 pub(crate) struct Mark {
     pub by: Contribution,
     pub position: usize,

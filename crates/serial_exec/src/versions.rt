@@ -18,7 +18,7 @@ use crate::gathering::histories_of;
 use crate::histories::Histories;
 use crate::marks::{Mark, Marks};
 use crate::sums::{latest, sum_of};
-use log_decl::Log;
+use logs::Log;
 use point_laws::cut_tables_keep_points;
 use point_set::PointSet;
 use semantics::Place;

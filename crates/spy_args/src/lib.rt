@@ -6,8 +6,6 @@
 mod asking;
 mod command_line;
 mod request;
-#[cfg(test)]
-mod tests;
 
 pub use asking::request_in;
 pub use request::Request;

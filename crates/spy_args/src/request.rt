@@ -1,7 +1,7 @@
 //! What can be asked for.
 
 /// What is asked for.
-#[derive(Clone, Copy, Debug, PartialEq, Eq)]
+#[derive(Clone, Copy, PartialEq, Eq)]
 pub enum Request {
     /// Whether a log of an execution is right in every interleaving.
     Check,

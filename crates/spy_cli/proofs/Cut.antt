@@ -21,7 +21,7 @@ use Rattle.spy_cli.specs.Answers.{IsAdmitted}
 use Rattle.spy_cli.specs.Cut.{IsCodeOfCut, IsCut, ShowsCut}
 use Rattle.log_reading.proofs.lemmas.Lines.{count_is, end_is, lines_are, lines_decide, parts_before}
 use Rattle.log_reading.proofs.lemmas.Numbered.{within}
-use Rattle.outcome_laws.proofs.lemmas.Clean.{clean}
+use Rattle.outcomes.proofs.lemmas.Clean.{clean}
 
 -- ---- bytes, cut at each line feed
 

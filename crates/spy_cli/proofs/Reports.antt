@@ -13,7 +13,7 @@ use Rattle.semantics.specs.declared.command.Command.TheVariants as commands
 use Rattle.semantics.specs.declared.faults.Fault.{Fault}
 use Rattle.semantics.specs.Records.{text_of, records_of, lined, line_count, Reads}
 use Rattle.semantics.specs.TextFaults.{text_fault}
-use Rattle.semantics.specs.Outcome.{IsFound, IsOutcome, IsPrinted, HasTextFault}
+use Rattle.outcomes.specs.Outcome.{IsFound, IsOutcome, IsPrinted, HasTextFault}
 use Rattle.log_gen.specs.Stencil.{stencil}
 use Rattle.spy_args.specs.Asked.{IsSized}
 use Rattle.spy_args.specs.declared.request.Request.{Request}

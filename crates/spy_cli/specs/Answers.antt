@@ -11,7 +11,7 @@ use Rattle.semantics.specs.declared.command.Command.TheVariants as commands
 use Rattle.semantics.specs.Records.{Reads, line_count, lined}
 use Rattle.semantics.specs.TextFaults.{text_fault}
 use Rattle.semantics.specs.Faults.{log_fault}
-use Rattle.semantics.specs.Outcome.{HasTextFault, IsFound, IsOutcome, IsPrinted}
+use Rattle.outcomes.specs.Outcome.{HasTextFault, IsFound, IsOutcome, IsPrinted}
 use Rattle.long_values.specs.LongOutcome.{IsOutcomeLong}
 use Rattle.log_gen.specs.Stencil.{stencil}
 use Rattle.spy_args.specs.declared.request.Request.{Request}

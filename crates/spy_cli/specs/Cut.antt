@@ -8,7 +8,7 @@ use Rattle.semantics.specs.declared.command.Command.{Command}
 use Rattle.semantics.specs.declared.faults.Fault.{Fault}
 use Rattle.semantics.specs.Records.{line_count}
 use Rattle.semantics.specs.Faults.{is_end}
-use Rattle.semantics.specs.Outcome.{IsOutcome}
+use Rattle.outcomes.specs.Outcome.{IsOutcome}
 
 -- The front of an input without the whole line of `end`, with its line feed.
 pub record IsCut (bytes : List ℕ) (log : List Lined) (front : List ℕ) : Type 0 where

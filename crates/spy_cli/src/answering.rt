@@ -54,7 +54,7 @@ fn report_on_bytes(alloc: Global, request: Request, bytes: Vec<u8>) -> Result<Re
 }
 
 /// Why there is no report.
-#[derive(Clone, Copy, Debug, PartialEq, Eq)]
+#[derive(Clone, Copy)]
 pub(crate) enum ReportEnd {
     ReadFault,
     Memory,

@@ -3,7 +3,7 @@
 ghost use Rattle.std.specs.Prelude.{◌≤◌, ◌^◌, All, length, IfOk};
 ghost use Rattle.findings.specs.Texts as texts;
 ghost use Rattle.spy_grammar.specs.Spelling.{Good};
-ghost use Rattle.semantics.specs.Outcome.{IsFound, IsOutcome};
+ghost use Rattle.outcomes.specs.Outcome.{IsFound, IsOutcome};
 ghost use Rattle.semantics.specs.Records.{AreLines};
 ghost use Rattle.spy_cli.specs.Answers.{IsJudged};
 

@@ -12,7 +12,7 @@ use spy_grammar::Code;
 use std::alloc::Global;
 
 /// What is answered: how the call ends if its text is written, and that text.
-#[derive(Debug, Drop)]
+#[derive(Drop)]
 pub(crate) struct Report {
     pub(crate) status: Status,
     pub(crate) text: Vec<u8>,

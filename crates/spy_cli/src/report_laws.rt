@@ -5,7 +5,7 @@ ghost use Rattle.spy_grammar.specs.declared.record.Lined.{Lined};
 ghost use Rattle.findings.specs.declared.finding.Finding.{Finding};
 ghost use Rattle.semantics.specs.declared.command.Command.{Command};
 ghost use Rattle.semantics.specs.Records.{Reads, lined, line_count, records_of};
-ghost use Rattle.semantics.specs.Outcome.{IsFound, IsOutcome, IsPrinted};
+ghost use Rattle.outcomes.specs.Outcome.{IsFound, IsOutcome, IsPrinted};
 ghost use Rattle.spy_args.specs.declared.request.Request.{Request};
 ghost use Rattle.spy_args.specs.Asked.{IsSized};
 ghost use Rattle.spy_cli.specs.declared.status.Status.{Status};
@@ -15,7 +15,7 @@ ghost use Rattle.spy_cli.specs.Cut.{IsCut, ShowsCut};
 use log_gen::stencil_logs_are_good;
 use log_laws::{one_log, printed_logs_are_read};
 use long_values::check_finds_the_same_in_long;
-use outcome_laws::{one_finding, one_outcome};
+use outcomes::{one_finding, one_outcome};
 
 /// One thing is answered to an input.
 pub fn one_report()

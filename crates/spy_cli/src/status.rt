@@ -4,7 +4,7 @@ ghost use Rattle.std.specs.Prelude.{◌≡◌};
 ghost use Rattle.spy_cli.specs.Statuses.{number_of};
 
 /// How a call ended. Its number is the status with which the program exits.
-#[derive(Clone, Copy, Debug, PartialEq, Eq)]
+#[derive(Clone, Copy, PartialEq, Eq)]
 pub enum Status {
     /// 0: what was asked holds of the log.
     Yes,

@@ -2,3 +2,5 @@ pub mod Rows
 pub mod Spelling
 pub mod Reading
 pub mod Cells
+pub use Rattle.spy_words.specs.Classes
+pub use Rattle.spy_words.specs.Faults

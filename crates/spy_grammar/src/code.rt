@@ -1,7 +1,7 @@
 //! The codes of the rules that a log may break.
 
 /// Which rule a log breaks.
-#[derive(Clone, Copy, Debug, PartialEq, Eq)]
+#[derive(Clone, Copy, PartialEq, Eq)]
 pub enum Code {
     TooLong,
     Newline,

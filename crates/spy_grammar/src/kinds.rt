@@ -7,7 +7,7 @@ use crate::kinds::RecordKind::*;
 use spy_words::LineFault;
 
 /// The kinds of record.
-#[derive(Clone, Copy, Debug, PartialEq, Eq)]
+#[derive(Clone, Copy, PartialEq, Eq)]
 pub enum RecordKind {
     Header,
     Ispace,

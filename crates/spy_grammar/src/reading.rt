@@ -4,6 +4,7 @@ ghost use Rattle.std.specs.Prelude.{◌≡◌, ◌⊎◌, true, IfOk, Some, None
 ghost use Rattle.spy_words.specs.declared.fault.LineFault.TheVariants.{Memory};
 ghost use Rattle.spy_words.specs.Faults.{Gives};
 ghost use Rattle.spy_grammar.specs.declared.record.Record.{Record};
+ghost use Rattle.spy_grammar.specs.declared.kinds.RecordKind.TheVariants as kinds;
 ghost use Rattle.spy_grammar.specs.Rows.{entry};
 ghost use Rattle.spy_grammar.specs.Reading.{is_passed_over, line_at, record_at, read_record};
 ghost use Rattle.spy_grammar.specs.Spelling.{spelling, Good};
@@ -14,6 +15,110 @@ use crate::row::RowReader;
 use spy_words::{LineFault, Pieces, Read};
 use std::alloc::{AllocError, Global};
 
+#[tactic(auto, using(crate::proofs::CellLaws::record_told))]
+#[rattlefmt::skip]
+fn read_ispace(row: &mut RowReader<'_>) -> Result<Record, AllocError>
+    ensures { IfOk result (λ rec. read_record (entry kinds.Ispace) row.old ≡ (rec, row.new)) }
+{
+    Ok(Record::Ispace { id: row.id(), set: row.points()? })
+}
+
+#[tactic(auto, using(crate::proofs::CellLaws::record_told))]
+#[rattlefmt::skip]
+fn read_fields(row: &mut RowReader<'_>) -> Result<Record, AllocError>
+    ensures { IfOk result (λ rec. read_record (entry kinds.Fields) row.old ≡ (rec, row.new)) }
+{
+    Ok(Record::Fields { id: row.id(), fields: row.fields()? })
+}
+
+#[tactic(auto, using(crate::proofs::CellLaws::record_told))]
+#[rattlefmt::skip]
+fn read_req(row: &mut RowReader<'_>) -> Result<Record, AllocError>
+    ensures { IfOk result (λ rec. read_record (entry kinds.Req) row.old ≡ (rec, row.new)) }
+{
+    Ok(Record::Req { task: row.id(), tree: row.id(), space: row.id(), fields: row.fields()?, access: row.access(), atomic: row.coherence() })
+}
+
+#[tactic(auto, using(crate::proofs::CellLaws::record_told))]
+#[rattlefmt::skip]
+fn read_fill(row: &mut RowReader<'_>) -> Result<Record, AllocError>
+    ensures { IfOk result (λ rec. read_record (entry kinds.Fill) row.old ≡ (rec, row.new)) }
+{
+    Ok(Record::Fill { id: row.id(), tree: row.id(), space: row.id(), fields: row.fields()?, n: row.number() })
+}
+
+#[tactic(auto, using(crate::proofs::CellLaws::record_told))]
+#[rattlefmt::skip]
+fn read_serial(row: &mut RowReader<'_>) -> Result<Record, AllocError>
+    ensures { IfOk result (λ rec. read_record (entry kinds.Serial) row.old ≡ (rec, row.new)) }
+{
+    Ok(Record::Serial { items: row.ids()? })
+}
+
+#[tactic(auto, using(crate::proofs::CellLaws::record_told))]
+#[rattlefmt::skip]
+fn read_inst(row: &mut RowReader<'_>) -> Result<Record, AllocError>
+    ensures { IfOk result (λ rec. read_record (entry kinds.Inst) row.old ≡ (rec, row.new)) }
+{
+    Ok(Record::Inst { id: row.id(), tree: row.id(), space: row.id(), fields: row.fields()?, kind: row.layout() })
+}
+
+#[tactic(auto, using(crate::proofs::CellLaws::record_told))]
+#[rattlefmt::skip]
+fn read_map(row: &mut RowReader<'_>) -> Result<Record, AllocError>
+    ensures { IfOk result (λ rec. read_record (entry kinds.Map) row.old ≡ (rec, row.new)) }
+{
+    Ok(Record::Map { task: row.id(), req: row.id(), fields: row.fields()?, inst: row.id() })
+}
+
+#[tactic(auto, using(crate::proofs::CellLaws::record_told))]
+#[rattlefmt::skip]
+fn read_run(row: &mut RowReader<'_>) -> Result<Record, AllocError>
+    ensures { IfOk result (λ rec. read_record (entry kinds.Run) row.old ≡ (rec, row.new)) }
+{
+    Ok(Record::Run { task: row.id(), done: row.id(), waits: row.waits()? })
+}
+
+#[tactic(auto, using(crate::proofs::CellLaws::record_told))]
+#[rattlefmt::skip]
+fn read_copy(row: &mut RowReader<'_>) -> Result<Record, AllocError>
+    ensures { IfOk result (λ rec. read_record (entry kinds.Copy) row.old ≡ (rec, row.new)) }
+{
+    Ok(Record::Copy { src: row.id(), dst: row.id(), space: row.id(), fields: row.fields()?, done: row.id(), waits: row.waits()? })
+}
+
+#[tactic(auto, using(crate::proofs::CellLaws::record_told))]
+#[rattlefmt::skip]
+fn read_put(row: &mut RowReader<'_>) -> Result<Record, AllocError>
+    ensures { IfOk result (λ rec. read_record (entry kinds.Put) row.old ≡ (rec, row.new)) }
+{
+    Ok(Record::Put { inst: row.id(), space: row.id(), fields: row.fields()?, n: row.number(), done: row.id(), waits: row.waits()? })
+}
+
+#[tactic(auto, using(crate::proofs::CellLaws::record_told))]
+#[rattlefmt::skip]
+fn read_reset(row: &mut RowReader<'_>) -> Result<Record, AllocError>
+    ensures { IfOk result (λ rec. read_record (entry kinds.Reset) row.old ≡ (rec, row.new)) }
+{
+    Ok(Record::Reset { inst: row.id(), space: row.id(), fields: row.fields()?, done: row.id(), waits: row.waits()? })
+}
+
+#[tactic(auto, using(crate::proofs::CellLaws::record_told))]
+#[rattlefmt::skip]
+fn read_fold(row: &mut RowReader<'_>) -> Result<Record, AllocError>
+    ensures { IfOk result (λ rec. read_record (entry kinds.Fold) row.old ≡ (rec, row.new)) }
+{
+    Ok(Record::Fold { src: row.id(), dst: row.id(), space: row.id(), fields: row.fields()?, done: row.id(), waits: row.waits()? })
+}
+
+#[tactic(auto, using(crate::proofs::CellLaws::record_told))]
+#[rattlefmt::skip]
+fn read_merge(row: &mut RowReader<'_>) -> Result<Record, AllocError>
+    ensures { IfOk result (λ rec. read_record (entry kinds.Merge) row.old ≡ (rec, row.new)) }
+{
+    Ok(Record::Merge { done: row.id(), waits: row.waits()? })
+}
+
 /// The record of a kind, from the words after the first: the format's table.
 #[tactic(auto, using(crate::proofs::CellLaws::record_told))]
 #[rattlefmt::skip]
@@ -22,24 +127,24 @@ fn read_words(kind: RecordKind, row: &mut RowReader<'_>) -> Result<Record, Alloc
 {
     match kind {
         RecordKind::Header => Ok(Record::Header { version: row.number() }),
-        RecordKind::Ispace => Ok(Record::Ispace { id: row.id(), set: row.points()? }),
+        RecordKind::Ispace => read_ispace(row),
         RecordKind::Part => Ok(Record::Part { id: row.id(), space: row.id(), disjoint: row.split() }),
         RecordKind::Sub => Ok(Record::Sub { part: row.id(), colour: row.number(), space: row.id() }),
-        RecordKind::Fields => Ok(Record::Fields { id: row.id(), fields: row.fields()? }),
+        RecordKind::Fields => read_fields(row),
         RecordKind::Tree => Ok(Record::Tree { id: row.id(), space: row.id(), fspace: row.id() }),
         RecordKind::Redop => Ok(Record::Redop { id: row.id() }),
         RecordKind::Task => Ok(Record::Task { id: row.id() }),
-        RecordKind::Req => Ok(Record::Req { task: row.id(), tree: row.id(), space: row.id(), fields: row.fields()?, access: row.access(), atomic: row.coherence() }),
-        RecordKind::Fill => Ok(Record::Fill { id: row.id(), tree: row.id(), space: row.id(), fields: row.fields()?, n: row.number() }),
-        RecordKind::Serial => Ok(Record::Serial { items: row.ids()? }),
-        RecordKind::Inst => Ok(Record::Inst { id: row.id(), tree: row.id(), space: row.id(), fields: row.fields()?, kind: row.layout() }),
-        RecordKind::Map => Ok(Record::Map { task: row.id(), req: row.id(), fields: row.fields()?, inst: row.id() }),
-        RecordKind::Run => Ok(Record::Run { task: row.id(), done: row.id(), waits: row.waits()? }),
-        RecordKind::Copy => Ok(Record::Copy { src: row.id(), dst: row.id(), space: row.id(), fields: row.fields()?, done: row.id(), waits: row.waits()? }),
-        RecordKind::Put => Ok(Record::Put { inst: row.id(), space: row.id(), fields: row.fields()?, n: row.number(), done: row.id(), waits: row.waits()? }),
-        RecordKind::Reset => Ok(Record::Reset { inst: row.id(), space: row.id(), fields: row.fields()?, done: row.id(), waits: row.waits()? }),
-        RecordKind::Fold => Ok(Record::Fold { src: row.id(), dst: row.id(), space: row.id(), fields: row.fields()?, done: row.id(), waits: row.waits()? }),
-        RecordKind::Merge => Ok(Record::Merge { done: row.id(), waits: row.waits()? }),
+        RecordKind::Req => read_req(row),
+        RecordKind::Fill => read_fill(row),
+        RecordKind::Serial => read_serial(row),
+        RecordKind::Inst => read_inst(row),
+        RecordKind::Map => read_map(row),
+        RecordKind::Run => read_run(row),
+        RecordKind::Copy => read_copy(row),
+        RecordKind::Put => read_put(row),
+        RecordKind::Reset => read_reset(row),
+        RecordKind::Fold => read_fold(row),
+        RecordKind::Merge => read_merge(row),
         RecordKind::End => Ok(Record::End { n: row.number() }),
     }
 }

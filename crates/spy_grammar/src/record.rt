@@ -3,7 +3,7 @@
 use spy_words::{InstKind, Nums, PrivWord, Set};
 
 /// One record. The words of a line stand in the order of the fields.
-#[derive(Debug, Drop)]
+#[derive(Drop)]
 #[rattlefmt::skip]
 pub enum Record {
     Header { version: u32 },
@@ -29,7 +29,7 @@ pub enum Record {
 }
 
 /// A record and the number of its line, from 1.
-#[derive(Debug, Drop)]
+#[derive(Drop)]
 pub struct Lined {
     pub line: u32,
     pub rec: Record,

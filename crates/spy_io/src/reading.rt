@@ -7,7 +7,7 @@ use crate::{Failed, Source};
 use std::alloc::{AllocError, Global};
 
 /// Why `read_all` gave no bytes.
-#[derive(Clone, Copy, Debug, PartialEq, Eq)]
+#[derive(Clone, Copy, PartialEq, Eq)]
 pub enum ReadEnd {
     ReadFault,
     TooLong,

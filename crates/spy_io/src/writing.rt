@@ -5,7 +5,7 @@ ghost use Rattle.spy_io.specs.Causes.{HasCause, Grows};
 use crate::{Failed, Sink};
 
 /// A sink failed before it took all the bytes.
-#[derive(Clone, Copy, Debug, PartialEq, Eq)]
+#[derive(Clone, Copy, PartialEq, Eq)]
 pub struct WriteFault;
 
 /// Puts all the bytes, piece by piece. At the first call that fails it stops, and the sink holds a prefix of them.

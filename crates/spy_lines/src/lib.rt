@@ -4,8 +4,6 @@
 mod law;
 mod line_list;
 mod lines;
-#[cfg(test)]
-mod tests;
 
 pub use law::one_list_of_lines;
 pub use line_list::{LineIter, LineList};

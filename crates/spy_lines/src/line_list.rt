@@ -7,7 +7,7 @@ use memchr::{memchr, memchr_iter};
 use std::marker::Model;
 
 /// The lines of a text, each without its line feed.
-#[derive(Debug, Drop)]
+#[derive(Drop)]
 pub struct LineList {
     bytes: Vec<u8>,
 }
@@ -66,7 +66,7 @@ impl LineList {
 }
 
 /// The lines that are left of a text, in order.
-#[derive(Debug, Drop)]
+#[derive(Drop)]
 pub struct LineIter<'a> {
     rest: &'a [u8],
 }

@@ -6,7 +6,7 @@ use std::alloc::{AllocError, Global};
 use std::marker::Model;
 
 /// There was no memory left.
-#[derive(Clone, Copy, Debug, PartialEq, Eq)]
+#[derive(Clone, Copy, PartialEq, Eq)]
 pub struct Memory;
 
 impl From<AllocError> for Memory {
@@ -16,13 +16,13 @@ impl From<AllocError> for Memory {
 }
 
 /// The last line, with this number from 1, has no line feed.
-#[derive(Clone, Copy, Debug, PartialEq, Eq)]
+#[derive(Clone, Copy, PartialEq, Eq)]
 pub struct NoNewline {
     pub line: u32,
 }
 
 /// Bytes that come in pieces.
-#[derive(Debug, Drop)]
+#[derive(Drop)]
 pub struct Lines {
     bytes: Vec<u8>,
 }

@@ -1,7 +1,7 @@
 //! What a task may do with a region, and what an instance holds.
 
 /// What a task may do with a region.
-#[derive(Clone, Copy, Debug, PartialEq, Eq)]
+#[derive(Clone, Copy, PartialEq, Eq)]
 pub enum PrivWord {
     /// Read.
     Ro,
@@ -14,7 +14,7 @@ pub enum PrivWord {
 }
 
 /// What an instance holds.
-#[derive(Clone, Copy, Debug, PartialEq, Eq)]
+#[derive(Clone, Copy, PartialEq, Eq)]
 pub enum InstKind {
     /// Values that are unknown at the start.
     Plain,

@@ -7,7 +7,7 @@ ghost use Rattle.spy_words.specs.Faults.{worse, met_with, kept, unless_met};
 use std::alloc::AllocError;
 
 /// Why a line could not be read. Of several faults the first in this order is reported.
-#[derive(Clone, Copy, Debug, PartialEq, Eq)]
+#[derive(Clone, Copy, PartialEq, Eq)]
 pub enum LineFault {
     /// The first word names no record.
     Word,

@@ -1,2 +1,4 @@
 pub mod Runs
 pub mod Searched
+pub use Rattle.semantics.specs.Events
+pub use Rattle.reach_marks.specs.Reached

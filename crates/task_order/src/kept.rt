@@ -6,7 +6,7 @@ ghost use Rattle.semantics.specs.Shown.{IsKept};
 ghost use Rattle.reach_marks.specs.Reached.{AreMarksOf};
 ghost use Rattle.task_order.specs.Runs.{AreRunsOf};
 
-use log_decl::Log;
+use logs::Log;
 use point_set::PointSet;
 use reach_marks::Reach;
 

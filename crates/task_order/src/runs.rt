@@ -4,7 +4,7 @@ ghost use Rattle.std.specs.Prelude.{◌≡◌, ◌+◌, ◌<◌, length, IfOk};
 ghost use Rattle.task_order.specs.Runs.{AreRunsFrom, AreRunsOf};
 
 use crate::memory::Memory;
-use log_decl::Log;
+use logs::Log;
 use point_set::PointSet;
 use semantics::{LogNode, Op};
 use std::alloc::Global;

@@ -10,7 +10,7 @@ use crate::kept::is_kept;
 use crate::memory::Memory;
 use crate::runs::runs_of;
 use interference::{Stretch, are_tasks, pairs, pairs_are_of_items};
-use log_decl::Log;
+use logs::Log;
 use point_set::PointSet;
 use reach_marks::Reach;
 use region_tree::ArenaSet;
@@ -18,7 +18,7 @@ use semantics::Place;
 use std::alloc::Global;
 
 /// Whether every two tasks that interfere are run in serial order.
-#[derive(Clone, Copy, Debug, PartialEq, Eq)]
+#[derive(Clone, Copy, PartialEq, Eq)]
 pub enum TaskOrder {
     /// They are, and so many pairs interfere.
     Kept { pairs: u64 },

@@ -10,7 +10,7 @@ use std::alloc::{AllocError, Global};
 use std::marker::Model;
 
 /// Contributions, each with its count, in the order of their tasks and then of their requirements.
-#[derive(Debug, Drop)]
+#[derive(Drop)]
 pub struct Bag {
     entries: Vec<(Contribution, u64)>,
 }
@@ -25,7 +25,7 @@ impl Model for Bag {
 }
 
 /// An operator, and the bag of what was added by it.
-#[derive(Debug, Drop)]
+#[derive(Drop)]
 pub struct Group {
     /// The operator.
     pub op: u32,

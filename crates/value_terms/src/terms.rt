@@ -1,7 +1,7 @@
 //! What a value is made of.
 
 /// What a value was before anything was added to it.
-#[derive(Clone, Copy, Debug, PartialEq, Eq)]
+#[derive(Clone, Copy, PartialEq, Eq)]
 pub enum Base {
     /// Unknown.
     Raw,
@@ -16,7 +16,7 @@ pub enum Base {
 }
 
 /// What a reduction of a task adds to a place.
-#[derive(Clone, Copy, Debug, PartialEq, Eq)]
+#[derive(Clone, Copy, PartialEq, Eq)]
 pub struct Contribution {
     /// The id of the task.
     pub task: u32,

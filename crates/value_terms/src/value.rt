@@ -13,7 +13,7 @@ use std::alloc::{AllocError, Global};
 use std::marker::Model;
 
 /// Memory ran out. What was to change stays as it was.
-#[derive(Clone, Copy, Debug, PartialEq, Eq)]
+#[derive(Clone, Copy, PartialEq, Eq)]
 pub struct Memory;
 
 impl From<AllocError> for Memory {
@@ -26,7 +26,7 @@ impl From<AllocError> for Memory {
 ///
 /// No raw value has groups, no bag is empty, and neighbouring groups have different operators. All
 /// counts together stay below 2^64.
-#[derive(Debug, Drop)]
+#[derive(Drop)]
 pub struct Value {
     base: Base,
     groups: Vec<Group>,

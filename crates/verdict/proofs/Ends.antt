@@ -18,12 +18,12 @@ use Rattle.semantics.specs.Records.{records_of, AreLines}
 use Rattle.semantics.specs.Tables.{Tables, with_record, tables_of, no_tables}
 use Rattle.semantics.specs.Events.{AreLinked, graph_of}
 use Rattle.semantics.specs.Faults.{at_line, declaration_fault, serial_fault, log_fault}
-use Rattle.semantics.specs.Outcome.{IsFound, CheckFinds}
+use Rattle.outcomes.specs.Outcome.{IsFound, CheckFinds}
 use Rattle.semantics.specs.Rules.{is_late}
 use Rattle.log_laws.proofs.lemmas.Admitted.{by_records, no_broken_rule}
 use Rattle.log_laws.proofs.lemmas.Members.{both_none}
-use Rattle.log_decl.specs.Faultless.{AreDeclared}
-use Rattle.log_faults.proofs.lemmas.Ascending.{few_records}
+use Rattle.logs.specs.Faultless.{AreDeclared}
+use Rattle.log_decl.proofs.lemmas.Ascending.{few_records}
 use Rattle.verdict.specs.Findings.{table_fault, IsFoundOf}
 
 -- ---- a log has no more items and nodes than records

@@ -8,7 +8,7 @@ use Rattle.std.proofs.lemmas.List.{append_assoc}
 use Rattle.semantics.specs.Tables.{Tables}
 use Rattle.semantics.specs.Kinds as kinds
 use Rattle.semantics.specs.Kinds.{least_place}
-use Rattle.semantics.specs.Outcome.{dependence_at, dependences}
+use Rattle.outcomes.specs.Outcome.{dependence_at, dependences}
 use Rattle.findings.specs.declared.finding.Dep.{Dep}
 use Rattle.interference.specs.declared.pair.Pair.{Pair}
 use Rattle.interference.specs.Pairing.{pair_of, all_pairs}

@@ -3,7 +3,7 @@ use Rattle.std.specs.Prelude.{◌↔◌}
 use Rattle.findings.specs.declared.finding.Finding.{Finding}
 use Rattle.findings.specs.declared.finding.Finding.TheVariants as findings
 use Rattle.semantics.specs.declared.command.Command.TheVariants.{Check}
-use Rattle.semantics.specs.Outcome.{CheckFinds}
+use Rattle.outcomes.specs.Outcome.{CheckFinds}
 use Rattle.semantics.specs.Tables.{Tables}
 use Rattle.long_values.specs.LongOutcome.{CheckFindsLong}
 use Rattle.verdict.specs.Findings.{IsFoundOf}

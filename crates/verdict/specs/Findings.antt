@@ -7,7 +7,7 @@ use Rattle.semantics.specs.declared.command.Command.{Command}
 use Rattle.semantics.specs.declared.faults.Fault.{Fault}
 use Rattle.semantics.specs.Tables.{Tables}
 use Rattle.semantics.specs.Faults.{serial_fault, map_fault}
-use Rattle.semantics.specs.Outcome.{Finds}
+use Rattle.outcomes.specs.Outcome.{Finds}
 
 -- The fault that a command shows of tables: of the serial order, and then of what is mapped.
 abbrev pub table_fault : Command → Tables → Option Fault

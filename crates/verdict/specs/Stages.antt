@@ -4,7 +4,7 @@ use Rattle.findings.specs.declared.finding.Finding.{Finding}
 use Rattle.findings.specs.declared.finding.Finding.TheVariants as findings
 use Rattle.findings.specs.Texts.{Good}
 use Rattle.semantics.specs.declared.command.Command.TheVariants.{Check}
-use Rattle.semantics.specs.Outcome.{CheckFinds}
+use Rattle.outcomes.specs.Outcome.{CheckFinds}
 use Rattle.semantics.specs.Tables.{Tables}
 use Rattle.verdict.specs.Findings.{table_fault}
 use Rattle.verdict.specs.declared.stop.Stop.{Stop}

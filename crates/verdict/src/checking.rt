@@ -4,7 +4,7 @@ ghost use Rattle.std.specs.Prelude.{◌≡◌, All, IfOk, IfErr};
 ghost use Rattle.findings.specs.Texts as texts;
 ghost use Rattle.spy_grammar.specs.Spelling.{Good};
 ghost use Rattle.semantics.specs.declared.command.Command.TheVariants.{Check};
-ghost use Rattle.semantics.specs.Outcome.{CheckFinds, IsFound};
+ghost use Rattle.outcomes.specs.Outcome.{CheckFinds, IsFound};
 ghost use Rattle.long_values.specs.LongOutcome.{IsFoundLong};
 ghost use Rattle.semantics.specs.Records.{AreLines};
 ghost use Rattle.verdict.specs.Findings.{IsFoundOf};
@@ -53,7 +53,7 @@ fn run_found<'a, P: ArenaSet<'a>>(
     match passed(alloc, declared) {
         Ok(judged) => {
             let finding = judged.finding();
-            drop(judged);
+            judged.let_go();
             Ok(finding)
         }
         Err(Stop::Found(finding)) => Ok(finding),

@@ -3,15 +3,16 @@
 ghost use Rattle.std.specs.Prelude.{◌≡◌, None, IfOk, IfErr, OnOk};
 ghost use Rattle.semantics.specs.declared.command.Command.TheVariants.{Check};
 ghost use Rattle.semantics.specs.Events.{graph_of};
-ghost use Rattle.semantics.specs.Outcome.{IsSound, read_count};
+ghost use Rattle.outcomes.specs.Outcome.{IsSound};
+ghost use Rattle.semantics.specs.Counts.{read_count};
 ghost use Rattle.semantics.specs.Races.{IsRaceFree};
+ghost use Rattle.semantics.specs.Reads.{shown_difference};
+ghost use Rattle.replay.specs.Ends.{IsEndOf};
 ghost use Rattle.long_values.specs.LongOutcome.{CheckFindsLong, IsSoundLong};
 ghost use Rattle.point_laws.specs.Alike.{AreFirsts};
 ghost use Rattle.atoms.specs.Atoms.{first_points};
 ghost use Rattle.verdict.specs.declared.stop.Stop.{Stop};
 ghost use Rattle.verdict.specs.Findings.{table_fault};
-ghost use Rattle.point_laws.specs.Cut.{cut};
-ghost use Rattle.serial_exec.specs.Kept.{AreVersionsOf};
 ghost use Rattle.verdict.specs.Sorted.{AreSorted};
 ghost use Rattle.verdict.specs.Stages.{FindsDifference, IsStop};
 
@@ -22,10 +23,10 @@ use crate::stop::Stop;
 use atoms::Atoms;
 use log_decl::Log;
 use long_values::check_finds_the_same_in_long;
-use outcome_laws::replays_speak_for_all;
+use outcomes::replays_speak_for_all;
 use point_set::PointSet;
 use region_tree::ArenaSet;
-use replay::{ReplayEnd, replay};
+use replay::{Reads, ReplayEnd, replay};
 use serial_exec::Versions;
 use std::alloc::Global;
 use std::marker::Model;
@@ -57,18 +58,23 @@ impl<'a, P: PointSet + Copy> Model for Clean<'a, P> {
         × AreFirsts c.log (first_points c.atoms) × IsRaceFree c.log };
 }
 
-/// The values that sequential execution makes at the first points of a log.
-fn versions_of<'a, P: ArenaSet<'a>>(
+/// The replay of a log, at its first points, over the values that sequential execution makes there.
+fn replayed<'a, P: ArenaSet<'a>>(
     alloc: Global,
     log: &Log<'a, P>,
+    sorting: &Sorting,
     atoms: &Atoms,
-) -> Result<Versions, Stop>
-    ensures versions { IfOk result (λ v. AreVersionsOf (cut (first_points atoms.now) log.now) v) }
-    ensures stop { IfErr result (λ stop. stop ≡ Stop.Memory) }
+) -> Result<Reads, ReplayEnd>
+    requires faultless { table_fault Check log.now ≡ None }
+    requires sorted { AreSorted (graph_of log.now.nodes) sorting.now }
+    requires firsts { AreFirsts log.now (first_points atoms.now) }
+    ensures right { OnOk result (shown_difference log.now ≡ None) }
+    ensures count { IfOk result (λ reads. reads.count ≡ read_count log.now) }
+    ensures end { IfErr result (IsEndOf log.now) }
 {
     match Versions::build_on(alloc, log, atoms.firsts()) {
-        Ok(versions) => Ok(versions),
-        Err(_) => Err(Stop::Memory),
+        Ok(versions) => replay(alloc, log, &sorting.order, &versions, atoms),
+        Err(_) => Err(ReplayEnd::Memory),
     }
 }
 
@@ -92,11 +98,7 @@ fn judged_reads<'a, P: ArenaSet<'a>>(
     log.is_declared();
     replays_speak_for_all();
     check_finds_the_same_in_long();
-    let versions = match versions_of(alloc, log, atoms) {
-        Ok(versions) => versions,
-        Err(stop) => return Err(stop),
-    };
-    match replay(alloc, log, &sorting.order, &versions, atoms) {
+    match replayed(alloc, log, sorting, atoms) {
         Ok(reads) => Ok(reads.count),
         Err(
             ReplayEnd::Differ {
@@ -128,6 +130,13 @@ impl<'a, P: ArenaSet<'a>> Clean<'a, P> {
         }
     }
 
+    /// Lets the log go.
+    fn let_go(self) {
+        drop(self.sorting);
+        drop(self.atoms);
+        self.log.let_go();
+    }
+
     /// The log, if each of its reads is right in every interleaving, or the read that is shown to differ in every interleaving. Told by long values, it is the same.
     pub fn replay(self, alloc: Global) -> Result<Judged<'a, P>, Stop>
         ensures judged { IfOk result (λ j. j ≡ self.entry) }
@@ -142,7 +151,7 @@ impl<'a, P: ArenaSet<'a>> Clean<'a, P> {
                 Ok(Judged::of(self.log, reads))
             }
             Err(stop) => {
-                drop(self);
+                self.let_go();
                 Err(stop)
             }
         }

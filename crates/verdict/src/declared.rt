@@ -64,7 +64,7 @@ impl<'a, P: ArenaSet<'a>> Declared<'a, P> {
         match table_fault(&log) {
             None => Ok(Declared { log }),
             Some(fault) => {
-                drop(log);
+                log.let_go();
                 Err(Stop::Found(fault_found(fault.line, fault.code)))
             }
         }
@@ -78,7 +78,7 @@ impl<'a, P: ArenaSet<'a>> Declared<'a, P> {
         match sorted_parts(alloc, &self.log) {
             Ok((sorting, atoms)) => Ok(Sorted::of(self.log, sorting, atoms)),
             Err(stop) => {
-                drop(self);
+                self.log.let_go();
                 Err(stop)
             }
         }

@@ -4,7 +4,7 @@ ghost use Rattle.std.specs.Prelude.{◌≡◌, ◌<◌, ◌≤◌, ◌^◌, leng
 ghost use Rattle.findings.specs.Texts as texts;
 ghost use Rattle.spy_grammar.specs.Spelling.{Good};
 ghost use Rattle.semantics.specs.declared.command.Command.TheVariants.{Deps};
-ghost use Rattle.semantics.specs.Outcome.{DepsFinds, IsFound, dependences};
+ghost use Rattle.outcomes.specs.Outcome.{DepsFinds, IsFound, dependences};
 ghost use Rattle.semantics.specs.Records.{AreLines};
 ghost use Rattle.verdict.specs.Findings.{IsFoundOf};
 ghost use Rattle.verdict.specs.Listing.{dependence_of};
@@ -100,7 +100,7 @@ pub fn deps(alloc: Global, records: &Vec<Lined>, lines: u32) -> Result<Finding, 
     match declare::<RunSet<'_>>(alloc, &bump, records, lines) {
         Ok(log) => {
             let found = deps_in(alloc, &log);
-            drop(log);
+            log.let_go();
             found
         }
         Err(DeclEnd::Fault { line, code }) => Ok(fault_found(line, code)),

@@ -4,7 +4,7 @@ ghost use Rattle.std.specs.Prelude.{◌≡◌, ◌<◌, ◌^◌, length, count_b
 ghost use Rattle.semantics.specs.Rules as rules;
 ghost use Rattle.semantics.specs.SerialOrder.{by_serial};
 ghost use Rattle.semantics.specs.Steps.{id_of};
-ghost use Rattle.semantics.specs.Outcome as outcome;
+ghost use Rattle.semantics.specs.Counts as counts;
 
 use log_decl::Log;
 use region_tree::ArenaSet;
@@ -31,14 +31,14 @@ fn count_tasks(items: &[Item]) -> u32
 /// How many tasks a log has.
 pub(crate) fn task_count<'a, P: ArenaSet<'a>>(log: &Log<'a, P>) -> u32
     requires { length log.now.items < 2 ^ 32 }
-    ensures { result ≡ outcome.task_count log.now }
+    ensures { result ≡ counts.task_count log.now }
 {
     count_tasks(log.items())
 }
 
 /// Whether a node is an operation: no merge.
 fn is_operation(node: &LogNode) -> bool
-    ensures { result ≡ outcome.is_operation node.now.op }
+    ensures { result ≡ counts.is_operation node.now.op }
 {
     match node.op {
         Op::Merge => false,
@@ -49,7 +49,7 @@ fn is_operation(node: &LogNode) -> bool
 /// How many of some nodes are operations.
 fn count_operations(nodes: &[LogNode]) -> u32
     requires { length nodes.now < 2 ^ 32 }
-    ensures { result ≡ count_by (λ n. outcome.is_operation n.op) nodes.now }
+    ensures { result ≡ count_by (λ n. counts.is_operation n.op) nodes.now }
 {
     nodes.iter().filter(|node| is_operation(*node)).count() as u32
 }
@@ -57,7 +57,7 @@ fn count_operations(nodes: &[LogNode]) -> u32
 /// How many operations a log has.
 pub(crate) fn operation_count<'a, P: ArenaSet<'a>>(log: &Log<'a, P>) -> u32
     requires { length log.now.nodes < 2 ^ 32 }
-    ensures { result ≡ outcome.operation_count log.now }
+    ensures { result ≡ counts.operation_count log.now }
 {
     count_operations(log.nodes())
 }

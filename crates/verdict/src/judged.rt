@@ -3,8 +3,8 @@
 ghost use Rattle.std.specs.Prelude.{◌≡◌, ◌<◌, ◌^◌, length, None, filter};
 ghost use Rattle.findings.specs.Texts as texts;
 ghost use Rattle.semantics.specs.declared.command.Command.TheVariants.{Check};
-ghost use Rattle.semantics.specs.Outcome as outcome;
-ghost use Rattle.semantics.specs.Outcome.{CheckFinds, IsSound, read_count};
+ghost use Rattle.outcomes.specs.Outcome.{CheckFinds, IsSound};
+ghost use Rattle.semantics.specs.Counts.{read_count};
 ghost use Rattle.verdict.specs.Findings.{table_fault};
 
 use crate::items::{operation_count, task_count};
@@ -25,7 +25,8 @@ pub struct Judged<'a, P: PointSet + Copy> {
 impl<'a, P: PointSet + Copy> Model for Judged<'a, P> {
     ghost use Rattle.std.specs.Prelude.{◌≡◌, None};
     ghost use Rattle.semantics.specs.declared.command.Command.TheVariants.{Check};
-    ghost use Rattle.semantics.specs.Outcome.{IsSound, read_count};
+    ghost use Rattle.semantics.specs.Counts.{read_count};
+    ghost use Rattle.outcomes.specs.Outcome.{IsSound};
     ghost use Rattle.semantics.specs.Tables.{Tables};
     ghost use Rattle.verdict.specs.Findings.{table_fault};
 
@@ -45,6 +46,11 @@ impl<'a, P: ArenaSet<'a>> Judged<'a, P> {
         ensures { result ≡ log.entry }
     {
         Judged { log, reads }
+    }
+
+    /// Lets the log go.
+    pub(crate) fn let_go(self) {
+        self.log.let_go();
     }
 
     /// How many tasks, operations and reads were judged. No memory is taken.

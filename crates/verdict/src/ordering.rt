@@ -4,9 +4,9 @@ ghost use Rattle.std.specs.Prelude.{◌≡◌, ◌<◌, ◌^◌, length, All, If
 ghost use Rattle.findings.specs.Texts as texts;
 ghost use Rattle.spy_grammar.specs.Spelling.{Good};
 ghost use Rattle.semantics.specs.declared.command.Command.TheVariants.{Ordered};
-ghost use Rattle.semantics.specs.Events.{graph_of};
+ghost use Rattle.semantics.specs.Events.{graph_of, HasNoCycle};
 ghost use Rattle.semantics.specs.Faults as faults;
-ghost use Rattle.semantics.specs.Outcome.{HasNoCycle, IsFound, OrderedFinds};
+ghost use Rattle.outcomes.specs.Outcome.{IsFound, OrderedFinds};
 ghost use Rattle.semantics.specs.Records.{AreLines};
 ghost use Rattle.reach_marks.specs.Reached.{AreMarksOf};
 ghost use Rattle.verdict.specs.Findings.{IsFoundOf};
@@ -104,7 +104,7 @@ pub fn ordered(alloc: Global, records: &Vec<Lined>, lines: u32) -> Result<Findin
     match declare::<RunSet<'_>>(alloc, &bump, records, lines) {
         Ok(log) => {
             let found = ordered_in(alloc, &log);
-            drop(log);
+            log.let_go();
             found
         }
         Err(DeclEnd::Fault { line, code }) => Ok(fault_found(line, code)),

@@ -3,7 +3,7 @@
 ghost use Rattle.std.specs.Prelude.{◌≡◌, None, IfOk, IfErr, OnOk};
 ghost use Rattle.semantics.specs.declared.command.Command.TheVariants.{Check};
 ghost use Rattle.semantics.specs.Events.{graph_of};
-ghost use Rattle.semantics.specs.Outcome.{event_of};
+ghost use Rattle.outcomes.specs.Outcome.{event_of};
 ghost use Rattle.semantics.specs.Races.{IsRaceFree};
 ghost use Rattle.point_laws.specs.Alike.{AreFirsts};
 ghost use Rattle.atoms.specs.Atoms.{first_points};
@@ -154,6 +154,13 @@ impl<'a, P: ArenaSet<'a>> Sorted<'a, P> {
         }
     }
 
+    /// Lets the log go.
+    fn let_go(self) {
+        drop(self.sorting);
+        drop(self.atoms);
+        self.log.let_go();
+    }
+
     /// The log, if no two of its nodes race, or the race that is shown.
     pub fn scan(self, alloc: Global) -> Result<Clean<'a, P>, Stop>
         ensures clean { IfOk result (λ c. c ≡ self.entry) }
@@ -162,7 +169,7 @@ impl<'a, P: ArenaSet<'a>> Sorted<'a, P> {
         match raced(alloc, &self.log, &self.sorting, &self.atoms) {
             Ok(()) => Ok(Clean::of(self.log, self.sorting, self.atoms)),
             Err(stop) => {
-                drop(self);
+                self.let_go();
                 Err(stop)
             }
         }

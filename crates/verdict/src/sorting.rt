@@ -21,7 +21,7 @@ pub(crate) struct Sorting {
 }
 
 /// Why nodes have no order.
-#[derive(Debug, Drop)]
+#[derive(Drop)]
 pub(crate) enum Unsorted {
     /// The events of the cycle that is shown.
     Cycle(EventList),

@@ -4,7 +4,7 @@ use crate::memory::Memory;
 use findings::Finding;
 
 /// Why judging ends before the last stage.
-#[derive(Debug, Drop)]
+#[derive(Drop)]
 pub enum Stop {
     /// This is found.
     Found(Finding),

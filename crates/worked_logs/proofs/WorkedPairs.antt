@@ -4,7 +4,7 @@ use Rattle.findings.specs.declared.finding.Finding.TheVariants.{Unordered}
 use Rattle.semantics.specs.Records.{lined}
 use Rattle.semantics.specs.Events.{Node, WaitsOn, Before, IsCycle}
 use Rattle.semantics.specs.declared.command.Command.TheVariants.{Ordered}
-use Rattle.semantics.specs.Outcome.{IsFound}
+use Rattle.outcomes.specs.Outcome.{IsFound}
 use Rattle.worked_logs.specs.WorkedLogs.{unordered, three_tasks}
 use Rattle.semantics.specs.Computed.{logs_computed}
 use Rattle.worked_logs.proofs.WorkedRaces.{AreIdle, not_before}

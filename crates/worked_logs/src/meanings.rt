@@ -17,7 +17,7 @@ ghost use Rattle.semantics.specs.Races.{Race};
 ghost use Rattle.semantics.specs.Reads.{shown_difference, want_of};
 ghost use Rattle.semantics.specs.declared.command.Command.TheVariants.{Check, Ordered};
 ghost use Rattle.semantics.specs.Faults.{at_line, log_fault};
-ghost use Rattle.semantics.specs.Outcome.{operation_count, read_count, task_count};
+ghost use Rattle.semantics.specs.Counts.{operation_count, read_count, task_count};
 ghost use Rattle.worked_logs.specs.WorkedLogs.{accepted, both_added, copy_unordered, first_cell, first_place, folded_once, folded_twice, fresh_copy, in_a_circle, merges_in_a_circle, not_reset, one, one_instance, overlapping, saw, stale_copy, turned, turned_by_log, two_operators, unmapped, unordered};
 
 /// What the definitions say of worked logs.

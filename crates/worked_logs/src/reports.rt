@@ -6,7 +6,8 @@ ghost use Rattle.semantics.specs.Records.{lined};
 ghost use Rattle.semantics.specs.Tables.{tables_of};
 ghost use Rattle.semantics.specs.Shown.{task_pairs};
 ghost use Rattle.semantics.specs.declared.command.Command.TheVariants.{Deps, Ordered};
-ghost use Rattle.semantics.specs.Outcome.{IsFound, operation_count, read_count, task_count};
+ghost use Rattle.outcomes.specs.Outcome.{IsFound};
+ghost use Rattle.semantics.specs.Counts.{operation_count, read_count, task_count};
 ghost use Rattle.worked_logs.specs.WorkedLogs.{merges_in_a_circle, three_tasks, three_tasks_dependences, unordered};
 
 /// Dependences, unordered pairs and counts.

@@ -14,6 +14,21 @@ pub fn words_of(alloc: Global, texts: &[&str]) -> Result<Vec<String>, Fail> {
     Ok(words)
 }
 
+/// A log of these lines between header and end.
+pub fn framed(alloc: Global, lines: &[u8]) -> Result<Vec<u8>, Fail> {
+    let mut log = b"legion-spy 1\n".to_vec(alloc)?;
+    log.extend_from_slice(lines)?;
+    let mut count = 0u64;
+    for byte in lines {
+        if *byte == b'\n' {
+            count = count.wrapping_add(1);
+        }
+    }
+    let end = format!(in alloc; "end {count}\n")?;
+    log.extend_from_slice(end.as_bytes())?;
+    Ok(log)
+}
+
 /// The status of a command over an input, and what it writes.
 pub fn answer(alloc: Global, command: &str, log: &[u8]) -> Result<(Status, Vec<u8>), Fail> {
     answer_to(alloc, &[command], log)
@@ -23,7 +38,9 @@ pub fn answer(alloc: Global, command: &str, log: &[u8]) -> Result<(Status, Vec<u
 pub fn answer_to(alloc: Global, texts: &[&str], log: &[u8]) -> Result<(Status, Vec<u8>), Fail> {
     let words = words_of(alloc, texts)?;
     let mut source = MemSource::new(log.to_vec(alloc)?, 1000, Vec::new(alloc));
-    let mut sink = MemSink::with_room(alloc, 65_536, 1000, Vec::new(alloc))?;
+    let mut sink = MemSink::with_room(alloc, 65_536, 1000, Vec::new(alloc))
+        .ok()
+        .ok_or("no memory")?;
     let status = run(alloc, &words, &mut source, &mut sink);
     Ok((status, sink.held().to_vec(alloc)?))
 }

@@ -1,7 +1,7 @@
 //! Sources and sinks that fail, give short pieces or have little room, under `check` over one log.
 
 use crate::answers::words_of;
-use crate::logs::WRITE_THEN_READ;
+use crate::example_logs::WRITE_THEN_READ;
 use spy_cli::{Status, run};
 use spy_io::{MemSink, MemSource};
 use std::alloc::Global;
@@ -40,7 +40,9 @@ fn checked(alloc: Global, source: Device, sink: Device) -> Result<(Status, Vec<u
     let log = WRITE_THEN_READ.to_vec(alloc)?;
     let mut source = MemSource::new(log, source.cut.max(1), failing_calls(alloc, source)?);
     let calls = failing_calls(alloc, sink)?;
-    let mut sink = MemSink::with_room(alloc, sink.room, sink.cut.max(1), calls)?;
+    let mut sink = MemSink::with_room(alloc, sink.room, sink.cut.max(1), calls)
+        .ok()
+        .ok_or("no memory")?;
     let status = run(alloc, &words, &mut source, &mut sink);
     Ok((status, sink.held().to_vec(alloc)?))
 }
@@ -69,13 +71,13 @@ fn sources_fail_and_give_short_pieces(rt: HostRuntime) -> Result<(), Fail> {
     // The log has 168 bytes, so the call after 168 of a byte each meets the end.
     for call in 1..170u64 {
         let (status, said) = checked(alloc, failing(1, call), AMPLE)?;
-        assert_eq!(rt; status, Status::ReadFault);
+        assert!(rt; status == Status::ReadFault);
         assert_eq!(rt; said.as_slice(), b"cannot read\n".as_slice());
     }
     let short = [failing(1, 170), failing(7, 1000), failing(1000, 1000)];
     for source in short {
         let (status, said) = checked(alloc, source, AMPLE)?;
-        assert_eq!(rt; status, Status::Yes);
+        assert!(rt; status == Status::Yes);
         assert_eq!(rt; said.as_slice(), REPORT);
     }
     Ok(())
@@ -87,23 +89,23 @@ fn sinks_fail_and_have_little_room(rt: HostRuntime) -> Result<(), Fail> {
     let mut written = 0usize;
     for call in 1..9u64 {
         let (status, said) = checked(alloc, AMPLE, failing(5, call))?;
-        assert_eq!(rt; status, Status::WriteFault);
+        assert!(rt; status == Status::WriteFault);
         assert_eq!(rt; said.as_slice(), REPORT.get(..written).unwrap_or(b""));
         written = written.wrapping_add(5);
     }
     for room in 0..38usize {
         let (status, said) = checked(alloc, AMPLE, narrow(room))?;
-        assert_eq!(rt; status, Status::WriteFault);
+        assert!(rt; status == Status::WriteFault);
         assert_eq!(rt; said.as_slice(), REPORT.get(..room).unwrap_or(b""));
     }
     for sink in [failing(5, 9), narrow(38)] {
         let (status, said) = checked(alloc, AMPLE, sink)?;
-        assert_eq!(rt; status, Status::Yes);
+        assert!(rt; status == Status::Yes);
         assert_eq!(rt; said.as_slice(), REPORT);
     }
     // Both fail: nothing is written.
     let (status, said) = checked(alloc, failing(1000, 1), failing(1000, 1))?;
-    assert_eq!(rt; status, Status::WriteFault);
+    assert!(rt; status == Status::WriteFault);
     assert!(rt; said.is_empty());
     Ok(())
 }

@@ -1,7 +1,7 @@
 //! The logs of the folder `examples` with their reports, as its page lists them, and the faults of the logs that `docs/FORMAT.md` gives as examples. `.ci/examples` holds the files and the pages against these tables.
 
 use crate::answers::answer;
-use crate::logs::{
+use crate::example_logs::{
     FILL_NEVER_PUT, FOLDED_EARLY, FOLDED_TWICE, FRESH_COPY, GATHERED_REDUCTIONS, HALO_EXCHANGE,
     HALO_STENCIL, HALO_STENCIL_UNORDERED, MERGED_WAITS, MISSING_COPY, MISSING_WAIT, NEVER_EMPTIED,
     STALE_COPY, STALE_HALO, TURNED_WRITES, TWO_OPERATORS, TWO_TASKS, TWO_TASKS_UNORDERED,

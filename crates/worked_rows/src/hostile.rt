@@ -1,25 +1,10 @@
 //! Logs at the limits and past them, and logs that are cut off.
 
-use crate::answers::answer;
-use crate::logs::WRITE_THEN_READ;
+use crate::answers::{answer, framed};
+use crate::example_logs::WRITE_THEN_READ;
 use spy_cli::Status;
 use std::alloc::Global;
 use std::test::Fail;
-
-/// A log of these lines between header and end.
-fn log_of(alloc: Global, lines: &[u8]) -> Result<Vec<u8>, Fail> {
-    let mut log = b"legion-spy 1\n".to_vec(alloc)?;
-    log.extend_from_slice(lines)?;
-    let mut count = 0u64;
-    for byte in lines {
-        if *byte == b'\n' {
-            count = count.wrapping_add(1);
-        }
-    }
-    let end = format!(in alloc; "end {count}\n")?;
-    log.extend_from_slice(end.as_bytes())?;
-    Ok(log)
-}
 
 /// Lines of so many merges, none of which waits.
 fn merges(alloc: Global, count: u64) -> Result<Vec<u8>, Fail> {
@@ -68,7 +53,7 @@ fn logs_that_ask_much(rt: HostRuntime) -> Result<(), Fail> {
         (b"".to_vec(alloc)?, b"accepted tasks 0 operations 0 reads 0\n"),
     ];
     for (lines, report) in rows {
-        let (_, said) = answer(alloc, "check", &log_of(alloc, &lines)?)?;
+        let (_, said) = answer(alloc, "check", &framed(alloc, &lines)?)?;
         assert_eq!(rt; said.as_slice(), report);
     }
     Ok(())
@@ -90,7 +75,7 @@ fn logs_that_are_cut_off(rt: HostRuntime) -> Result<(), Fail> {
             "newline"
         };
         let report = format!(in alloc; "fault {lines} {code}\n")?;
-        assert_eq!(rt; status, Status::Fault);
+        assert!(rt; status == Status::Fault);
         assert_eq!(rt; said.as_slice(), report.as_bytes());
         whole = WRITE_THEN_READ.get(n) == Some(&b'\n');
         if whole {

@@ -8,13 +8,13 @@ mod checked;
 #[cfg(test)]
 mod devices;
 #[cfg(test)]
+mod example_logs;
+#[cfg(test)]
 mod examples;
 #[cfg(test)]
 mod hostile;
 #[cfg(test)]
 mod lines;
-#[cfg(test)]
-mod logs;
 #[cfg(test)]
 mod printed;
 #[cfg(test)]

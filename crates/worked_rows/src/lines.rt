@@ -37,9 +37,12 @@ fn writes_what_it_reads(rt: HostRuntime) -> Result<(), Fail> {
         "merge 1 -",
         "end 4294967295",
     ] {
-        let rec = read_line(rt.alloc(), line.as_bytes())?.expect(&rt, "a record");
+        let rec = read_line(rt.alloc(), line.as_bytes())
+            .ok()
+            .flatten()
+            .ok_or("no record")?;
         assert!(rt; good(&rec), "at {line}");
-        let mut text = write_record(rt.alloc(), &rec)?;
+        let mut text = write_record(rt.alloc(), &rec).ok().ok_or("no memory")?;
         assert_eq!(rt; text.pop(), Some(b'\n'), "at {line}");
         assert_eq!(rt; text.as_slice(), line.as_bytes(), "at {line}");
     }
@@ -48,7 +51,10 @@ fn writes_what_it_reads(rt: HostRuntime) -> Result<(), Fail> {
 
 #[test]
 fn reads_the_fields_in_order(rt: HostRuntime) -> Result<(), Fail> {
-    let rec = read_line(rt.alloc(), b"inst 5 6 7 1,3 red:2")?.expect(&rt, "a record");
+    let rec = read_line(rt.alloc(), b"inst 5 6 7 1,3 red:2")
+        .ok()
+        .flatten()
+        .ok_or("no record")?;
     let Record::Inst {
         id,
         tree,
@@ -61,7 +67,7 @@ fn reads_the_fields_in_order(rt: HostRuntime) -> Result<(), Fail> {
     };
     assert_eq!(rt; (id, tree, space), (5, 6, 7));
     assert_eq!(rt; fields.as_slice(), [1, 3].as_slice());
-    assert_eq!(rt; kind, InstKind::Red(2));
+    assert!(rt; kind == InstKind::Red(2));
     Ok(())
 }
 
@@ -114,7 +120,7 @@ fn tells_the_fault(rt: HostRuntime) {
         ("fields 1 1,1", LineFault::Order),
     ] {
         let read = read_line(rt.alloc(), line.as_bytes());
-        assert_eq!(rt; read.err(), Some(fault), "at {line}");
+        assert!(rt; read.err() == Some(fault), "at {line}");
     }
 }
 
@@ -133,7 +139,8 @@ fn passes_over(rt: HostRuntime) -> Result<(), Fail> {
         b"# \xff\r\x00".as_slice(),
         long.as_slice(),
     ] {
-        assert!(rt; read_line(rt.alloc(), line)?.is_none());
+        let read = read_line(rt.alloc(), line).ok().ok_or("a fault")?;
+        assert!(rt; read.is_none());
     }
     Ok(())
 }
@@ -146,7 +153,8 @@ fn takes_a_long_line(rt: HostRuntime) -> Result<(), Fail> {
         (b"serial 1".as_slice(), b' ', LineFault::Form),
     ] {
         let line = long_line(rt.alloc(), start, byte)?;
-        assert_eq!(rt; read_line(rt.alloc(), &line).err(), Some(fault));
+        let read = read_line(rt.alloc(), &line);
+        assert!(rt; read.err() == Some(fault));
     }
     Ok(())
 }

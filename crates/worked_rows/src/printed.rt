@@ -1,7 +1,7 @@
 //! `print`, and the faults of lines.
 
 use crate::answers::{answer, with_line};
-use crate::logs::{
+use crate::example_logs::{
     GATHERED_REDUCTIONS, STALE_COPY, TURNED_WRITES, TWO_OPERATORS, TWO_TASKS, WRITE_THEN_READ,
 };
 use spy_cli::Status;
@@ -24,7 +24,7 @@ fn a_log_prints_as_itself(rt: HostRuntime) -> Result<(), Fail> {
     ];
     for log in logs {
         let (status, text) = answer(alloc, "print", log)?;
-        assert_eq!(rt; status, Status::Yes);
+        assert!(rt; status == Status::Yes);
         assert_eq!(rt; text.as_slice(), log);
     }
     Ok(())
@@ -38,12 +38,12 @@ fn comments_and_blank_lines_are_dropped(rt: HostRuntime) -> Result<(), Fail> {
             let noted = with_line(alloc, log, 1, b"legion-spy 1\n# note\n")?;
             let (status, text) = answer(alloc, command, &noted)?;
             let (plain_status, plain) = answer(alloc, command, log)?;
-            assert_eq!(rt; status, plain_status);
+            assert!(rt; status == plain_status);
             assert_eq!(rt; text, plain);
         }
     }
     let (status, text) = answer(alloc, "print", b"# note\n\n#\n")?;
-    assert_eq!(rt; status, Status::Yes);
+    assert!(rt; status == Status::Yes);
     assert_eq!(rt; text.as_slice(), b"".as_slice());
     Ok(())
 }
@@ -66,12 +66,12 @@ fn the_least_faulty_line_is_shown(rt: HostRuntime) -> Result<(), Fail> {
         for (number, text, report) in cases {
             let log = with_line(alloc, WRITE_THEN_READ, number, text)?;
             let (status, said) = answer(alloc, command, &log)?;
-            assert_eq!(rt; status, Status::Fault, "line {number}");
+            assert!(rt; status == Status::Fault, "line {number}");
             assert_eq!(rt; said.as_slice(), report, "line {number}");
         }
         let whole = WRITE_THEN_READ.len();
         let (status, said) = answer(alloc, command, &WRITE_THEN_READ[..whole.wrapping_sub(1)])?;
-        assert_eq!(rt; status, Status::Fault);
+        assert!(rt; status == Status::Fault);
         assert_eq!(rt; said.as_slice(), b"fault 14 newline\n".as_slice());
     }
     Ok(())
@@ -94,14 +94,14 @@ fn an_input_has_64_mebibytes_at_most(rt: HostRuntime) -> Result<(), Fail> {
     let alloc = rt.alloc();
     let most = long_comment(alloc, 67_108_863, true)?;
     let (status, text) = answer(alloc, "print", &most)?;
-    assert_eq!(rt; status, Status::Yes);
+    assert!(rt; status == Status::Yes);
     assert_eq!(rt; text.as_slice(), b"".as_slice());
     let (status, text) = answer(alloc, "ordered", &most)?;
-    assert_eq!(rt; status, Status::Fault);
+    assert!(rt; status == Status::Fault);
     assert_eq!(rt; text.as_slice(), b"fault 2 header\n".as_slice());
     let more = long_comment(alloc, 67_108_865, false)?;
     let (status, text) = answer(alloc, "print", &more)?;
-    assert_eq!(rt; status, Status::Fault);
+    assert!(rt; status == Status::Fault);
     assert_eq!(rt; text.as_slice(), b"fault 0 too-long\n".as_slice());
     Ok(())
 }

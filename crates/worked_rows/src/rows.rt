@@ -1,7 +1,7 @@
 //! The worked examples of whole logs, each through `run`.
 
 use crate::answers::{answer, edited};
-use crate::logs::{
+use crate::example_logs::{
     GATHERED_REDUCTIONS, STALE_COPY, TURNED_WRITES, TWO_OPERATORS, TWO_TASKS, WRITE_THEN_READ,
 };
 use spy_cli::Status;
@@ -70,7 +70,7 @@ fn logs_with_some_lines_changed(rt: HostRuntime) -> Result<(), Fail> {
         let log = edited(alloc, log, edits)?;
         let (ended, said) = answer(alloc, command, &log)?;
         assert_eq!(rt; said.as_slice(), report);
-        assert_eq!(rt; ended, status);
+        assert!(rt; ended == status);
     }
     Ok(())
 }
@@ -98,7 +98,7 @@ fn whole_logs(rt: HostRuntime) -> Result<(), Fail> {
     for (command, log, status, report) in rows {
         let (ended, said) = answer(alloc, command, log)?;
         assert_eq!(rt; said.as_slice(), report);
-        assert_eq!(rt; ended, status);
+        assert!(rt; ended == status);
     }
     Ok(())
 }

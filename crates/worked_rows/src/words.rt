@@ -1,7 +1,7 @@
 //! Words of the command line, and `demo`.
 
 use crate::answers::{answer, answer_to, words_of};
-use crate::logs::WRITE_THEN_READ;
+use crate::example_logs::WRITE_THEN_READ;
 use log_gen::stencil;
 use spy_cli::{Status, run};
 use spy_grammar::{good, write_record};
@@ -40,8 +40,9 @@ fn words_that_read_nothing(rt: HostRuntime) -> Result<(), Fail> {
         let words = words_of(alloc, texts)?;
         // A call of the source would fail.
         let mut source = MemSource::new(WRITE_THEN_READ.to_vec(alloc)?, 1000, [1].to_vec(alloc)?);
-        let mut sink = MemSink::with_room(alloc, 1000, 1000, Vec::new(alloc))?;
-        assert_eq!(rt; run(alloc, &words, &mut source, &mut sink), status);
+        let mut sink = MemSink::with_room(alloc, 1000, 1000, Vec::new(alloc)).ok().ok_or("no memory")?;
+        let ended = run(alloc, &words, &mut source, &mut sink);
+        assert!(rt; ended == status);
         assert_eq!(rt; sink.held(), report);
         assert_eq!(rt; source.left(), WRITE_THEN_READ);
     }
@@ -54,7 +55,7 @@ fn the_command_may_stand_behind_dashes(rt: HostRuntime) -> Result<(), Fail> {
     let rows: [&[&str]; 3] = [&["check"], &["check", "--"], &["--", "check"]];
     for texts in rows {
         let (status, said) = answer_to(alloc, texts, WRITE_THEN_READ)?;
-        assert_eq!(rt; status, Status::Yes);
+        assert!(rt; status == Status::Yes);
         assert_eq!(rt;
             said.as_slice(),
             b"accepted tasks 2 operations 2 reads 4\n".as_slice()
@@ -66,10 +67,13 @@ fn the_command_may_stand_behind_dashes(rt: HostRuntime) -> Result<(), Fail> {
 /// The text of the stencil log of so many pieces, from 1 to 500.
 fn stencil_text(alloc: Global, size: u32) -> Result<Vec<u8>, Fail> {
     let mut text = Vec::new(alloc);
-    for rec in stencil(alloc, size.max(1).min(500))? {
+    let records = stencil(alloc, size.max(1).min(500))
+        .ok()
+        .ok_or("no memory")?;
+    for rec in records {
         // Each has a spelling.
         if good(&rec) {
-            text.extend_from_slice(&write_record(alloc, &rec)?)?;
+            text.extend_from_slice(&write_record(alloc, &rec).ok().ok_or("no memory")?)?;
         }
     }
     Ok(text)
@@ -95,10 +99,10 @@ fn the_stencil_log_is_accepted_though_not_ordered(rt: HostRuntime) -> Result<(),
         let log = stencil_text(alloc, size)?;
         let (status, said) = answer(alloc, "check", &log)?;
         assert_eq!(rt; said.as_slice(), checked);
-        assert_eq!(rt; status, Status::Yes);
+        assert!(rt; status == Status::Yes);
         let (status, said) = answer(alloc, "ordered", &log)?;
         assert_eq!(rt; said.as_slice(), ordered);
-        assert_eq!(rt; status, Status::Refused);
+        assert!(rt; status == Status::Refused);
         let (_, printed) = answer(alloc, "print", &log)?;
         assert_eq!(rt; printed, log);
     }

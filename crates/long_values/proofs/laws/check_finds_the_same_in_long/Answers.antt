@@ -9,7 +9,7 @@ use Rattle.semantics.specs.Execution.{ReadsIn}
 use Rattle.semantics.specs.Reads.{Seen, read_step, IsRight, Differs}
 use Rattle.semantics.specs.Records.{line_count}
 use Rattle.semantics.specs.Faults.{log_fault}
-use Rattle.semantics.specs.Outcome.{CheckFinds, IsFound, IsOutcome}
+use Rattle.outcomes.specs.Outcome.{CheckFinds, IsFound, IsOutcome}
 use Rattle.log_laws.proofs.lemmas.Members.{contains_of}
 use Rattle.long_values.specs.LongValues.{short}
 use Rattle.long_values.specs.LongExecution.{start_long, IsRightLong}

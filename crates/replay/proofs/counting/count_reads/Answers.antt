@@ -1,5 +1,5 @@
 use Rattle.std.proofs.Common.{◌≡◌, sym, arith}
-use Rattle.semantics.specs.Outcome.{read_count}
+use Rattle.semantics.specs.Counts.{read_count}
 use Rattle.replay.specs.Counts.{reads_in}
 use Rattle.replay.proofs.Accesses.{reads_counted}
 use Rattle.replay.proofs.counting.count_reads.Goals as goal

@@ -1,5 +1,5 @@
 use Rattle.std.proofs.Common.{◌≡◌, ◌+◌, drop}
-use Rattle.semantics.specs.Outcome.{read_count}
+use Rattle.semantics.specs.Counts.{read_count}
 use Rattle.replay.specs.Counts.{reads_in}
 use Rattle.replay.proofs.counting.count_reads.Given as goal
 

@@ -4,7 +4,7 @@ use Rattle.std.proofs.lemmas.List.{length-map}
 use Rattle.std.proofs.lemmas.Result.{IfOk-weaker}
 use Rattle.spy_grammar.specs.Spelling.{Good, spelling}
 use Rattle.semantics.specs.declared.command.Command.TheVariants.{Check}
-use Rattle.semantics.specs.Outcome.{IsFound}
+use Rattle.outcomes.specs.Outcome.{IsFound}
 use Rattle.semantics.specs.Records.{lined, records_of, AreLines}
 use Rattle.log_gen.specs.Stencil.{stencil}
 use Rattle.spy_cli.specs.declared.report.Report.{Report}

@@ -1,7 +1,7 @@
 use Rattle.std.proofs.lemmas.Result.{IfOk-weaker}
 use Rattle.findings.specs.declared.finding.Finding.{Finding}
 use Rattle.semantics.specs.declared.command.Command.TheVariants.{Check}
-use Rattle.semantics.specs.Outcome.{IsFound}
+use Rattle.outcomes.specs.Outcome.{IsFound}
 use Rattle.long_values.specs.LongOutcome.{IsFoundLong}
 use Rattle.verdict.proofs.checking.check.Goals as goal
 

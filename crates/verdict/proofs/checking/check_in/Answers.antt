@@ -3,7 +3,7 @@ use Rattle.std.proofs.lemmas.Result.{IfOk-weaker}
 use Rattle.findings.specs.declared.finding.Finding.{Finding}
 use Rattle.semantics.specs.declared.command.Command.TheVariants.{Check}
 use Rattle.semantics.specs.Tables.{Tables}
-use Rattle.semantics.specs.Outcome.{CheckFinds}
+use Rattle.outcomes.specs.Outcome.{CheckFinds}
 use Rattle.verdict.specs.Findings.{IsFoundOf}
 use Rattle.verdict.proofs.Ends.{check_found}
 use Rattle.verdict.proofs.checking.check_in.Goals as goal

@@ -4,7 +4,7 @@ use Rattle.findings.specs.declared.finding.Finding.{Finding}
 use Rattle.findings.specs.declared.finding.Finding.TheVariants.{Fault}
 use Rattle.semantics.specs.declared.command.Command.TheVariants.{Check}
 use Rattle.semantics.specs.Tables.{Tables}
-use Rattle.semantics.specs.Outcome.{IsFound}
+use Rattle.outcomes.specs.Outcome.{IsFound}
 use Rattle.verdict.specs.Findings.{IsFoundOf}
 use Rattle.verdict.proofs.Ends.{found_in_log, fault_in_log}
 use Rattle.verdict.proofs.checking.check_records.Goals as goal

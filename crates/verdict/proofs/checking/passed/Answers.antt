@@ -1,6 +1,6 @@
 use Rattle.std.proofs.Common.{◌∙◌, subst}
 use Rattle.std.proofs.lemmas.Result.{IfErr-weaker}
-use Rattle.semantics.specs.Outcome.{CheckFinds}
+use Rattle.outcomes.specs.Outcome.{CheckFinds}
 use Rattle.semantics.specs.Tables.{Tables}
 use Rattle.verdict.specs.Stages.{IsStop}
 use Rattle.verdict.specs.declared.stop.Stop.{Stop}

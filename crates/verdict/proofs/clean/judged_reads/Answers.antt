@@ -2,7 +2,8 @@ use Rattle.std.proofs.Common.{◌≡◌, ◌∙◌, Some, None, refl, sym, subst
 use Rattle.semantics.specs.Tables.{Tables}
 use Rattle.semantics.specs.Races.{IsRaceFree}
 use Rattle.semantics.specs.Reads.{Seen, IsRight, Differs, shown_difference}
-use Rattle.semantics.specs.Outcome.{HasNoCycle, operation_count, read_count, task_count}
+use Rattle.semantics.specs.Events.{HasNoCycle}
+use Rattle.semantics.specs.Counts.{operation_count, read_count, task_count}
 use Rattle.verdict.specs.Stages.{FindsDifference}
 use Rattle.findings.specs.declared.finding.Finding.TheVariants.{Accepted}
 use Rattle.verdict.proofs.Differing.{told, same_reads}
@@ -10,18 +11,18 @@ use Rattle.verdict.proofs.Ends.{of_declared}
 use Rattle.verdict.proofs.Stages.{FindsAlike, of_difference}
 use Rattle.verdict.proofs.clean.judged_reads.Goals as goal
 
-pub returns-in-Ok-replay-clause-sound : goal.returns-in-Ok-replay-clause-sound
-returns-in-Ok-replay-clause-sound g c =
+pub returns-in-Ok-clause-sound : goal.returns-in-Ok-clause-sound
+returns-in-Ok-clause-sound g c =
     let t = c.args.log.now in
     let law = of_declared (λ (s : Tables). HasNoCycle s → IsRaceFree s → shown_difference s ≡ None → IsRight s) c.replays_speak_for_all.ensures.right t c.is_declared.ensures c.requires.faultless in
-    record { no_cycle = c.requires.sorted.order.free; no_race = c.requires.free; right = law c.requires.sorted.order.free c.requires.free c.in-Ok-replay.ensures.right }
+    record { no_cycle = c.requires.sorted.order.free; no_race = c.requires.free; right = law c.requires.sorted.order.free c.requires.free c.in-Ok.ensures.right }
 
 pub returns-in-Err-Differ-clause-stop : goal.returns-in-Err-Differ-clause-stop
 returns-in-Err-Differ-clause-stop g c =
     let t = c.args.log.now in
     let law = of_declared (λ (s : Tables). HasNoCycle s → IsRaceFree s → (r : Seen) → shown_difference s ≡ Some r → Differs s r) c.replays_speak_for_all.ensures.differs t c.is_declared.ensures c.requires.faultless in
     let w = c.in-Err-Differ in
-    let end = told t c.replay.result w.field-0 w.task w.req w.point w.field w.got w.want c.replay.ensures.end w.is w.field-0-is in (
+    let end = told t c.replayed.result w.field-0 w.task w.req w.point w.field w.got w.want c.replayed.ensures.end w.is w.field-0-is in (
       subst (FindsDifference t) (sym (c.differ_found.ensures.finding ∙ same_reads w.task-is w.req-is w.point-is w.field-is w.got-is w.want-is)) (
         c.requires.sorted.order.free,
         c.requires.free,
@@ -30,11 +31,11 @@ returns-in-Err-Differ-clause-stop g c =
       c.differ_found.ensures.good,
     )
 
-pub returns-in-Ok-replay-clause-sound_long : goal.returns-in-Ok-replay-clause-sound_long
-returns-in-Ok-replay-clause-sound_long g c =
+pub returns-in-Ok-clause-sound_long : goal.returns-in-Ok-clause-sound_long
+returns-in-Ok-clause-sound_long g c =
     let t = c.args.log.now in
     let same = of_declared FindsAlike (λ lines log good none. c.check_finds_the_same_in_long.ensures.tables lines log none) t c.is_declared.ensures c.requires.faultless in
-    ((same (Accepted (task_count t) (operation_count t) (read_count t))).0 (returns-in-Ok-replay-clause-sound g c, refl, refl, refl)).0
+    ((same (Accepted (task_count t) (operation_count t) (read_count t))).0 (returns-in-Ok-clause-sound g c, refl, refl, refl)).0
 
 pub returns-in-Err-Differ-clause-stop_long : goal.returns-in-Err-Differ-clause-stop_long
 returns-in-Err-Differ-clause-stop_long g c =

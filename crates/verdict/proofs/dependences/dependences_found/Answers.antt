@@ -1,7 +1,7 @@
 use Rattle.std.proofs.Common.{◌∙◌, ◌≡◌, Bool, not, sym, ap, subst, arith, count_by, length}
 use Rattle.findings.specs.declared.finding.Dep.{Dep}
 use Rattle.std.proofs.lemmas.List.Sums.{length-filter}
-use Rattle.semantics.specs.Outcome.{DepsFinds}
+use Rattle.outcomes.specs.Outcome.{DepsFinds}
 use Rattle.verdict.proofs.Listings.{rest_counted}
 use Rattle.verdict.proofs.dependences.dependences_found.Goals as goal
 

@@ -1,5 +1,5 @@
 use Rattle.std.proofs.Common.{◌≡◌, ◌++◌, map, Contains}
-use Rattle.semantics.specs.Outcome.{dependences}
+use Rattle.outcomes.specs.Outcome.{dependences}
 use Rattle.interference.specs.declared.pair.Pair.{Pair}
 use Rattle.interference.specs.Pairing.{all_pairs}
 use Rattle.verdict.specs.Listing.{dependence_of}

@@ -1,7 +1,7 @@
 use Rattle.std.proofs.Common.{◌∙◌, sym, ap, count_by}
 use Rattle.std.proofs.lemmas.List.Sums.{length-filter}
 use Rattle.semantics.specs.declared.tables.LogNode.{LogNode}
-use Rattle.semantics.specs.Outcome.{is_operation}
+use Rattle.semantics.specs.Counts.{is_operation}
 use Rattle.verdict.proofs.items.operation_count.Goals as goal
 
 pub returns : goal.returns

@@ -4,7 +4,7 @@ use Rattle.findings.specs.declared.finding.Finding.{Finding}
 use Rattle.findings.specs.declared.finding.Finding.TheVariants.{Fault}
 use Rattle.semantics.specs.declared.command.Command.TheVariants.{Ordered}
 use Rattle.semantics.specs.Tables.{Tables}
-use Rattle.semantics.specs.Outcome.{IsFound}
+use Rattle.outcomes.specs.Outcome.{IsFound}
 use Rattle.verdict.specs.Findings.{IsFoundOf}
 use Rattle.verdict.proofs.Ends.{few_items, few_nodes, found_in_log, fault_in_log}
 use Rattle.verdict.proofs.ordering.ordered.Goals as goal

@@ -1,6 +1,6 @@
 use Rattle.std.proofs.Common.{◌∙◌, List, ℕ, sym, ap, subst, length}
 use Rattle.semantics.specs.SerialOrder.{serial}
-use Rattle.log_decl.specs.Listing.{ArePlacesIn}
+use Rattle.logs.specs.Listing.{ArePlacesIn}
 use Rattle.listed_points.specs.Listed.{listed_of}
 use Rattle.serial_exec.specs.Changes.{items_changes}
 use Rattle.point_laws.specs.Cut.{cut_to}

@@ -1,6 +1,0 @@
-use Rattle.std.proofs.Common.{◌≡◌, map, flat_map, take}
-use Rattle.semantics.specs.Tables.{place_of}
-use Rattle.log_decl.proofs.serial_order.listed_order.Given as goal
-
-abbrev pub invariant-loop-list : goal.invariant-loop-list
-invariant-loop-list g l = l.order.items ≡ map (place_of l.draft.items) (flat_map (λ s. s.ids) (take l.list-index l.draft.serials))

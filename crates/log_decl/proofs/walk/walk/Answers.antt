@@ -1,0 +1,40 @@
+use Rattle.std.proofs.Common.{◌≡◌, ◌+◌, List, take, None, sym, ap, ◌∙◌, arith}
+use Rattle.spy_grammar.specs.declared.record.Record.{Record}
+use Rattle.semantics.specs.Records.{records_of}
+use Rattle.log_decl.specs.Walk.{broken_of}
+use Rattle.log_decl.proofs.Walking.{counted, stands_where, none_where, may_count, tables_more, records_more, keeps_more, tally_more}
+use Rattle.log_decl.proofs.walk.walk.Goals as goal
+
+pub returns-then-is_some : goal.returns-then-is_some
+returns-then-is_some g c =
+    let inv = c.loop-l.invariant in
+    let log = c.args.records.now in
+    let i = c.loop-l.l-index in
+    let es = records_of (take i log) in
+    let t = c.loop-l.draft in
+    let r = c.l-item.result.rec in
+    let told = c.in_ok-code.ensures es inv.tally (counted log c.loop-l.kept i inv.at (omega (arith, c.loop-l-test.true))) in
+    stands_where log c.loop-l.kept i t c.in_ok-code.code c.l-item.result inv.at inv.tables inv.keep inv.tally.within c.loop-l-test.true c.l-item.is
+    (sym c.is_some.ensures ∙ c.if-is_some.true)
+    (told ∙ ap (λ (w : List Record). broken_of w es t r) c.requires.whole)
+
+pub loop-l-preserved : goal.loop-l-preserved
+loop-l-preserved g c =
+    let inv = c.loop-l.invariant in
+    let log = c.args.records.now in
+    let i = c.loop-l.l-index in
+    let es = records_of (take i log) in
+    let t = c.loop-l.draft in
+    let l = c.l-item.result in
+    let r = c.l-item.result.rec in
+    let told = c.in_ok-code.ensures es inv.tally (counted log c.loop-l.kept i inv.at (omega (arith, c.loop-l-test.true))) in
+    let none : broken_of (records_of log) es t r ≡ None = ap (λ (w : List Record). broken_of w es t r) (sym c.requires.whole) ∙ sym told ∙ none_where c.in_ok-code.code (sym c.is_some.ensures ∙ c.if-is_some.false) in
+    let next = c.in_ok-add-2.ensures.ok in
+    let tally = c.in_ok-add.ensures es l.line inv.tally (may_count (records_of log) es t r none) in
+    record {
+      at = ap (λ n. n + 1) inv.at;
+      tables = next ∙ tables_more log i t l inv.tables c.loop-l-test.true c.l-item.is;
+      tally = tally_more _ _ _ _ _ tally (records_more log i l c.loop-l-test.true c.l-item.is) next;
+      few = omega (arith, c.in_ok-add-2.ensures.few, inv.few);
+      keep = keeps_more log i t l inv.tables inv.keep c.loop-l-test.true c.l-item.is none;
+    }

@@ -1,0 +1,15 @@
+use Rattle.std.proofs.Common.{◌≡◌, ◌≤◌, take, length, []}
+use Rattle.semantics.specs.Records.{records_of}
+use Rattle.semantics.specs.Tables.{tables_of}
+use Rattle.log_rules.specs.Tallied.{IsTally}
+use Rattle.log_decl.specs.Walk.{Keep}
+use Rattle.log_decl.proofs.walk.walk.Given as goal
+
+abbrev pub invariant-loop-l : goal.invariant-loop-l
+invariant-loop-l g l = record {
+  at : l.kept ≡ l.l-index;
+  tables : l.draft ≡ tables_of (take l.l-index l.records);
+  tally : IsTally (records_of (take l.l-index l.records)) l.draft l.tally;
+  few : length (l.draft).reqs ≤ l.l-index;
+  keep : Keep (records_of l.records) [] (take l.l-index l.records);
+}

@@ -1,4 +1,0 @@
-pub mod Decls
-pub mod Ends
-pub mod SubLines
-pub mod Walk

@@ -1,0 +1,16 @@
+pub use Rattle.semantics.specs.Events
+pub use Rattle.semantics.specs.Execution
+pub use Rattle.semantics.specs.Faults
+pub use Rattle.semantics.specs.Interleavings
+pub use Rattle.semantics.specs.Points
+pub use Rattle.semantics.specs.Races
+pub use Rattle.semantics.specs.Reads
+pub use Rattle.semantics.specs.Records
+pub use Rattle.semantics.specs.ReplayOrder
+pub use Rattle.semantics.specs.Rules
+pub use Rattle.semantics.specs.SerialOrder
+pub use Rattle.spy_grammar.specs.Spelling
+pub use Rattle.semantics.specs.Steps
+pub use Rattle.semantics.specs.Tables
+pub use Rattle.semantics.specs.TextFaults
+pub use Rattle.value_terms.specs.Values

@@ -1,0 +1,81 @@
+//! What is looked up in a log beside its tables: found once, and kept.
+
+ghost use Rattle.std.specs.Prelude.{◌≡◌, nat_eq, map, IfOk};
+ghost use Rattle.item_uses.specs.Blocks.{AreBlocks};
+ghost use Rattle.item_uses.specs.Representatives.{AreRepresentatives};
+ghost use Rattle.item_uses.specs.Usages.{usages};
+ghost use Rattle.std.specs.HashMap.{get};
+ghost use Rattle.log_tables.specs.Decls.{decls_of};
+ghost use Rattle.logs.specs.Looked.{AreFound};
+
+use crate::paths::paths_of;
+use crate::serial_order::{serial_lines, serial_order, serial_places};
+use bumpalo::Bump;
+use item_uses::{ItemUses, Span, representatives, spans_of_blocks, uses_of_items};
+use log_tables::{Draft, Space};
+use point_set::PointSet;
+use region_tree::{Forest, Memory, Path};
+use std::alloc::{AllocError, Global};
+use std::collections::HashMap;
+
+/// What is found of a log.
+#[derive(Drop)]
+pub(crate) struct Found<'a, P: PointSet + Copy> {
+    /// The ids of the spaces, in the order of their lines.
+    pub(crate) space_ids: Vec<u32>,
+    /// The path of each space.
+    pub(crate) paths: HashMap<u32, Path>,
+    /// The positions of the items in serial order.
+    pub(crate) order: Vec<usize>,
+    /// For each item its place in that order.
+    pub(crate) places: Vec<usize>,
+    /// For the id of each item that is listed, the line that lists it.
+    pub(crate) lines: HashMap<u32, u32>,
+    /// What each item asks for.
+    pub(crate) uses: Vec<ItemUses<'a, P>>,
+    /// Bounds on each 64 items.
+    pub(crate) blocks: Vec<Span>,
+    /// For each item one that asks for the same.
+    pub(crate) representatives: Vec<usize>,
+}
+
+/// The ids of spaces.
+fn ids_of<P>(alloc: Global, spaces: &[Space<P>]) -> Result<Vec<u32>, AllocError>
+    ensures { IfOk result (λ ids. ids.items ≡ map (λ s. s.id) spaces.now) }
+{
+    spaces.iter().map(|s| s.id).collect(alloc)
+}
+
+/// What is found of these tables and their forest.
+pub(crate) fn found_in<'a, P: PointSet + Copy>(
+    alloc: Global,
+    bump: &'a Bump,
+    draft: &Draft<P>,
+    forest: &Forest<'a, P>,
+) -> Result<Found<'a, P>, Memory>
+    requires { forest.now ≡ decls_of draft.now }
+    ensures uses { IfOk result (λ f. f.uses.items ≡ usages draft.now) }
+    ensures blocks { IfOk result (λ f. AreBlocks f.blocks.items f.uses.items) }
+    ensures representatives { IfOk result (λ f. AreRepresentatives f.representatives.items f.uses.items) }
+    ensures found { IfOk result (λ f. AreFound draft.now f.space_ids.items (get nat_eq f.paths)
+        f.order.items f.places.items (get nat_eq f.lines)) }
+{
+    let space_ids = ids_of(alloc, draft.spaces())?;
+    let paths = paths_of(alloc, forest, space_ids.as_slice())?;
+    let order = serial_order(alloc, draft)?;
+    let places = serial_places(alloc, draft.items().len(), order.as_slice())?;
+    let lines = serial_lines(alloc, draft.serials())?;
+    let uses = uses_of_items(alloc, bump, draft)?;
+    let blocks = spans_of_blocks(alloc, &uses)?;
+    let representatives = representatives(alloc, &uses)?;
+    Ok(Found {
+        space_ids,
+        paths,
+        order,
+        places,
+        lines,
+        uses,
+        blocks,
+        representatives,
+    })
+}

@@ -1,0 +1,308 @@
+//! The log of a recorded run.
+
+ghost use Rattle.std.specs.Prelude.{◌≡◌, ◌<◌, ◌==◌, ◌&&◌, ◌↔◌, map, length, position, slice_get, Some, None, [], IfOk, OnOk, IfErr, IsSome, IfSome, IsTrue, All, MatchOption};
+ghost use Rattle.std.specs.List.Sorted.{IsStrictlyIncreasing};
+ghost use Rattle.std.specs.Option.{option_and_then, option_copied};
+ghost use Rattle.region_tree.specs.Regions.{space_of};
+ghost use Rattle.region_tree.specs.Paths.{IsPath};
+ghost use Rattle.semantics.specs.SerialOrder.{serial, serial_place};
+ghost use Rattle.semantics.specs.Steps.{inst_at, mapped};
+ghost use Rattle.semantics.specs.Tables.{reqs_before};
+ghost use Rattle.semantics.specs.Points.{points_in};
+ghost use Rattle.semantics.specs.Reads.{req_at};
+ghost use Rattle.semantics.specs.Faults.{at_line, unmapped_fault};
+ghost use Rattle.spy_grammar.specs.declared.code.Code.TheVariants as codes;
+ghost use Rattle.log_tables.specs.Decls.{decls_of};
+ghost use Rattle.logs.specs.Faultless.{AreDeclared};
+ghost use Rattle.logs.specs.Listing.{item_line, ArePlacesIn};
+ghost use Rattle.log_tables.specs.Ascending.{body_fields};
+ghost use Rattle.log_tables.specs.Mapped.{inst_mapped};
+ghost use Rattle.log_tables.specs.Views.{space_seen};
+ghost use Rattle.item_uses.specs.Blocks.{AreBlocks};
+ghost use Rattle.item_uses.specs.Representatives.{AreRepresentatives};
+ghost use Rattle.item_uses.specs.Usages.{usages};
+
+use crate::declared::Declarations;
+use crate::found::{Found, found_in};
+use crate::mapping::{Unmapped, first_unmapped, inst_mapped};
+use bumpalo::Bump;
+use item_uses::{ItemUses, Span};
+use log_laws::items_are_listed;
+use log_tables::{Draft, Space};
+use point_set::PointSet;
+use region_tree::{ArenaSet, Forest, Memory, Path};
+use semantics::{Inst, Item, LogNode, Req};
+use std::alloc::Global;
+use std::marker::Model;
+
+/// What a log declares, whose records break no rule of its frame and no rule on single records. Contracts see it as the tables of these records.
+#[derive(Drop)]
+pub struct Log<'a, P: PointSet + Copy> {
+    draft: Draft<P>,
+    forest: Forest<'a, P>,
+    found: Found<'a, P>,
+}
+
+impl<'a, P: PointSet + Copy> Model for Log<'a, P> {
+    ghost use Rattle.std.specs.Prelude.{◌≡◌, nat_eq};
+    ghost use Rattle.std.specs.HashMap.{get};
+    ghost use Rattle.semantics.specs.Tables.{Tables};
+    ghost use Rattle.log_tables.specs.Decls.{decls_of};
+    ghost use Rattle.logs.specs.Faultless.{AreDeclared};
+    ghost use Rattle.logs.specs.Looked.{AreFound};
+    ghost use Rattle.item_uses.specs.Blocks.{AreBlocks};
+    ghost use Rattle.item_uses.specs.Representatives.{AreRepresentatives};
+    ghost use Rattle.item_uses.specs.Usages.{usages};
+
+    ghost Value = { Tables };
+
+    ghost view = { λ l. l.draft };
+
+    ghost invariant = { λ l. AreDeclared l.draft × (l.forest ≡ decls_of l.draft)
+        × (l.found.uses.items ≡ usages l.draft) × AreBlocks l.found.blocks.items l.found.uses.items
+        × AreRepresentatives l.found.representatives.items l.found.uses.items
+        × AreFound l.draft l.found.space_ids.items (get nat_eq l.found.paths)
+        l.found.order.items l.found.places.items (get nat_eq l.found.lines) };
+}
+
+impl<'a, P: ArenaSet<'a>> Log<'a, P> {
+    /// The log that declares this.
+    pub fn of(
+        alloc: Global,
+        bump: &'a Bump,
+        declared: Declarations<'a, P>,
+    ) -> Result<Log<'a, P>, Memory>
+        requires declared { AreDeclared declared.draft }
+        requires forest { declared.forest ≡ decls_of declared.draft }
+        ensures { IfOk result (λ log. log ≡ declared.entry.draft) }
+    {
+        match found_in(alloc, bump, &declared.draft, &declared.forest) {
+            Ok(found) => Ok(Log {
+                draft: declared.draft,
+                forest: declared.forest,
+                found,
+            }),
+            Err(memory) => {
+                declared.let_go();
+                Err(memory)
+            }
+        }
+    }
+
+    /// Lets the log go: who owns one then proves no drop of its parts.
+    pub fn let_go(self) {
+        Declarations {
+            draft: self.draft,
+            forest: self.forest,
+        }
+        .let_go();
+        drop(self.found);
+    }
+}
+
+impl<'a, P: PointSet + Copy> Log<'a, P> {
+    /// What every log keeps: its tables are those of records that break no rule of a log's frame and no rule on single records.
+    pub fn is_declared(&self)
+        ensures { AreDeclared self.now }
+    {
+        let _draft = &self.draft;
+    }
+
+    /// The items, in program order, the order of their lines.
+    pub fn items(&self) -> &[Item]
+        ensures { result.now ≡ self.now.items }
+    {
+        self.draft.items()
+    }
+
+    /// The law of the fields of fills: they ascend. There is nothing to do.
+    pub fn fill_fields_ascend(&self)
+        ensures { All (λ i. IsStrictlyIncreasing (body_fields i.body)) self.now.items }
+    {
+        let _items = self.draft.items();
+    }
+
+    /// The requirements, in the order of their lines.
+    pub fn reqs(&self) -> &[Req]
+        ensures reqs { result.now ≡ self.now.reqs }
+        ensures ascend { All (λ r. IsStrictlyIncreasing r.fields) result.now }
+    {
+        self.draft.reqs()
+    }
+
+    /// The instances, in the order of their lines.
+    pub fn insts(&self) -> &[Inst]
+        ensures { result.now ≡ self.now.insts }
+    {
+        self.draft.insts()
+    }
+
+    /// The nodes of the recorded run, in the order of their lines.
+    pub fn nodes(&self) -> &[LogNode]
+        ensures { result.now ≡ self.now.nodes }
+    {
+        self.draft.nodes()
+    }
+
+    /// The positions of all items in serial order.
+    pub fn serial(&self) -> &[usize]
+        ensures { result.now ≡ serial self.now }
+    {
+        self.found.order.as_slice()
+    }
+
+    /// The place of an item in serial order.
+    pub fn serial_place(&self, item: usize) -> usize
+        requires { item < length self.now.items }
+        ensures { result ≡ serial_place self.now item }
+    {
+        self.found.places[item]
+    }
+
+    /// The place of each item in serial order.
+    pub fn serial_places(&self) -> &[usize]
+        ensures { ArePlacesIn (serial self.now) (length self.now.items) result.now }
+    {
+        self.found.places.as_slice()
+    }
+
+    /// Whether a line lists items in serial order.
+    pub fn has_serial(&self) -> bool
+        ensures { IsTrue result ↔ (0 < length self.now.serials) }
+    {
+        !self.draft.serials().is_empty()
+    }
+
+    // The first line that lists an item.
+    fn line_listing(&self, item: usize) -> Option<u32>
+        ensures { result ≡ item_line self.now item }
+    {
+        let item = self.draft.items().get(item)?;
+        self.found.lines.get(&item.id).copied()
+    }
+
+    /// The line that lists an item in serial order, or `None` exactly where no line lists items, or there is no such item.
+    pub fn serial_line(&self, item: usize) -> Option<u32>
+        ensures line { result ≡ item_line self.now item }
+        ensures some { IsSome result ↔ ((0 < length self.now.serials) × (item < length self.now.items)) }
+    {
+        items_are_listed();
+        self.is_declared();
+        self.line_listing(item)
+    }
+
+    /// What each item asks for, in program order.
+    pub fn uses(&self) -> &[ItemUses<'a, P>]
+        ensures { result.now ≡ usages self.now }
+    {
+        self.found.uses.as_slice()
+    }
+
+    /// Bounds on what each 64 items ask for.
+    pub fn blocks(&self) -> &[Span]
+        ensures { AreBlocks result.now (usages self.now) }
+    {
+        self.found.blocks.as_slice()
+    }
+
+    /// For each item one that asks for the same.
+    pub fn representatives(&self) -> &[usize]
+        ensures { AreRepresentatives result.now (usages self.now) }
+    {
+        self.found.representatives.as_slice()
+    }
+
+    /// The declared spaces with their sets, in the order of their lines.
+    pub fn space_sets(&self) -> &[Space<P>]
+        ensures { map (space_seen P.points) result.now ≡ self.now.spaces }
+    {
+        self.draft.spaces()
+    }
+
+    /// The ids of the declared spaces, in the order of their lines.
+    pub fn spaces(&self) -> &[u32]
+        ensures { result.now ≡ map (λ s. s.id) self.now.spaces }
+    {
+        self.found.space_ids.as_slice()
+    }
+
+    /// The forest of the spaces, partitions and subspaces.
+    pub fn forest(&self) -> &Forest<'a, P>
+        ensures { result.now ≡ decls_of self.now }
+    {
+        &self.forest
+    }
+
+    /// The path of a space in the forest, or `None` where the space is not declared.
+    pub fn path(&self, space: u32) -> Option<&Path>
+        ensures declared { IsSome result ↔ IsSome (space_of (decls_of self.now) space) }
+        ensures path { IfSome result (λ way. IsPath (decls_of self.now) way.now space) }
+    {
+        self.found.paths.get(&space)
+    }
+
+    /// The set of a space: none of a space that is not declared, which has no points.
+    pub fn set(&self, space: u32) -> Option<&P>
+        ensures { MatchOption result (points_in self.now space ≡ []) (λ s. points_in self.now space
+            ≡ P.points s.now) }
+    {
+        self.draft.set(space)
+    }
+
+    /// The instance with this id.
+    pub fn inst(&self, id: u32) -> Option<&Inst>
+        ensures inst { option_copied result ≡ inst_at self.now id }
+        ensures ascend { IfSome result (λ inst. IsStrictlyIncreasing inst.now.fields) }
+    {
+        self.draft.inst(id)
+    }
+
+    /// The requirement of an item with this number.
+    pub fn req(&self, item: usize, number: u32) -> Option<&Req>
+        ensures req { option_copied result ≡ req_at self.now item number }
+        ensures ascend { IfSome result (λ req. IsStrictlyIncreasing req.now.fields) }
+    {
+        self.draft.req(item, number)
+    }
+
+    /// The position of the requirement of an item with this number.
+    pub fn req_place(&self, item: usize, number: u32) -> Option<usize>
+        ensures place { result ≡ position (λ r. (r.item == item) && (r.number == number)) self.now.reqs }
+        ensures req { option_and_then (slice_get self.now.reqs) result ≡ req_at self.now item number }
+    {
+        self.draft.req_place(item, number)
+    }
+
+    /// How many requirements an item has.
+    pub fn req_count(&self, item: usize) -> usize
+        ensures { result ≡ reqs_before self.now.reqs item }
+    {
+        self.draft.req_count(item)
+    }
+
+    /// The instance to which a field of a requirement is mapped, or `None` where no line maps it. The requirement is named by the position of its item, and by its number there.
+    pub fn inst_of_item(&self, item: usize, number: u32, field: u32) -> Option<u32>
+        ensures { result ≡ inst_mapped self.now.maps (record { item = item; number = number; field = field }) }
+    {
+        self.draft.inst_of(item, number, field)
+    }
+
+    /// The instance to which a field of a requirement is mapped, or `None` where no line maps it. The requirement is named by its position.
+    pub fn inst_of(&self, req: usize, field: u32) -> Option<u32>
+        ensures { result ≡ option_and_then (λ r. mapped self.now r field) (slice_get self.now.reqs req) }
+    {
+        let req = self.draft.reqs().get(req)?;
+        inst_mapped(&self.draft, req, field)
+    }
+
+    /// Whether each field of each requirement is mapped, or else the line of the first requirement of which one is not.
+    pub fn mapped(&self) -> Result<(), Unmapped>
+        ensures mapped { OnOk result (unmapped_fault self.now ≡ None) }
+        ensures unmapped { IfErr result (λ u. unmapped_fault self.now ≡ Some (at_line codes.Unmapped u.line)) }
+    {
+        match first_unmapped(&self.draft) {
+            Some(req) => Err(Unmapped { line: req.line }),
+            None => Ok(()),
+        }
+    }
+}

@@ -1,0 +1,32 @@
+//! Laws that carry what one replay shows to every interleaving. Each function has nothing to do: its contract is the law.
+
+ghost use Rattle.std.specs.Prelude.{◌≡◌, ℕ, None, Some, List};
+ghost use Rattle.std.specs.List.{AllByRecursion};
+ghost use Rattle.spy_grammar.specs.declared.record.Lined.{Lined};
+ghost use Rattle.spy_grammar.specs.Spelling.{Good};
+ghost use Rattle.semantics.specs.declared.command.Command.TheVariants.{Check};
+ghost use Rattle.semantics.specs.Records.{records_of};
+ghost use Rattle.semantics.specs.Tables.{tables_of};
+ghost use Rattle.semantics.specs.Races.{IsRaceFree};
+ghost use Rattle.semantics.specs.Reads.{Differs, IsRight, Seen, shown_difference};
+ghost use Rattle.semantics.specs.Faults.{log_fault};
+ghost use Rattle.semantics.specs.Events.{HasNoCycle};
+
+use log_laws::{faultless_logs_have_one_answer, replay_is_an_interleaving};
+use value_terms::same_values_are_equal;
+
+/// In a log without a fault, a cycle and a race: where the replay shows no differing read, each read is right in every interleaving; and a read that it shows differs in every interleaving.
+pub fn replays_speak_for_all()
+    ensures right { (lines : ℕ) (log : List Lined) → AllByRecursion Good (records_of log)
+        → log_fault Check lines log ≡ None
+        → HasNoCycle (tables_of log) → IsRaceFree (tables_of log) → shown_difference (tables_of log) ≡ None
+        → IsRight (tables_of log) }
+    ensures differs { (lines : ℕ) (log : List Lined) → AllByRecursion Good (records_of log)
+        → log_fault Check lines log ≡ None
+        → HasNoCycle (tables_of log) → IsRaceFree (tables_of log) → (r : Seen)
+        → shown_difference (tables_of log) ≡ Some r → Differs (tables_of log) r }
+{
+    faultless_logs_have_one_answer();
+    replay_is_an_interleaving();
+    same_values_are_equal();
+}

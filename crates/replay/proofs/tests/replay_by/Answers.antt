@@ -1,5 +1,0 @@
-use Rattle.std.proofs.Common.{refl}
-use Rattle.replay.proofs.tests.replay_by.Goals as goal
-
-pub replay-requires : goal.replay-requires
-replay-requires g c κs = ((refl, tt), (c.requires.mapped, (c.requires.order, (c.in_ok-versions.ensures, c.requires.atoms))))

@@ -1,0 +1,41 @@
+//! Tests of calls of the library crates, over the code that they try.
+#![tactic(auto)]
+
+#[cfg(test)]
+mod atoms_tests;
+#[cfg(test)]
+mod findings_tests;
+#[cfg(test)]
+mod framed_logs;
+#[cfg(test)]
+mod graph_tests;
+#[cfg(test)]
+mod inst_steps_tests;
+#[cfg(test)]
+mod interference_tests;
+#[cfg(test)]
+mod listed_points_tests;
+#[cfg(test)]
+mod log_gen_tests;
+#[cfg(test)]
+mod log_reading_tests;
+#[cfg(test)]
+mod number_lists_tests;
+#[cfg(test)]
+mod point_set_tests;
+#[cfg(test)]
+mod privilege_tests;
+#[cfg(test)]
+mod region_tree_tests;
+#[cfg(test)]
+mod replay_tests;
+#[cfg(test)]
+mod serial_exec_tests;
+#[cfg(test)]
+mod spy_args_tests;
+#[cfg(test)]
+mod spy_io_tests;
+#[cfg(test)]
+mod spy_lines_tests;
+#[cfg(test)]
+mod values;
