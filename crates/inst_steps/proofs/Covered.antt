@@ -7,6 +7,7 @@ use Rattle.std.proofs.lemmas.Bool.{not-false, false≢true, true≢false, or_par
 use Rattle.std.proofs.lemmas.List.Elements.{recursion_from_All}
 use Rattle.privilege.specs.declared.kinds.Priv.{Priv}
 use Rattle.privilege.specs.declared.kinds.Priv.TheVariants as privileges
+use Rattle.spy_grammar.specs.declared.code.Code.TheVariants as codes
 use Rattle.spy_grammar.specs.declared.record.Record.{Record}
 use Rattle.spy_grammar.specs.declared.record.Record.TheVariants as records
 use Rattle.spy_grammar.specs.declared.record.Lined.{Lined}
@@ -32,7 +33,7 @@ use Rattle.logs.specs.Faultless.{AreDeclared}
 use Rattle.log_laws.proofs.lemmas.Members.{Member, Each, each_more, member_of, member_at, member_flat, member_map, member_append, member_filter, all_at, is_in_of, member_in, found_at, find_any, find_still, none_or_some, only, filter_member}
 use Rattle.log_laws.proofs.lemmas.Apart.{member_grid}
 use Rattle.log_laws.proofs.lemmas.Sane.{two_reqs}
-use Rattle.log_laws.proofs.lemmas.Admitted.{Unbroken, by_records, no_broken_rule, IsFaultless, sane, all_mapped}
+use Rattle.log_laws.proofs.lemmas.Admitted.{Unbroken, rule_kept, by_records, no_broken_rule, IsFaultless, sane, all_mapped}
 use Rattle.inst_steps.specs.declared.act.Act.{Act}
 use Rattle.inst_steps.specs.declared.act.Act.TheVariants as acts
 use Rattle.point_laws.specs.Cut.{kept, cut_to, cut}
@@ -211,8 +212,8 @@ nothing_covered = record { insts = λ i m. absurd m; reqs = λ r m. absurd m; ma
 
 ruled : (log : List Record) (earlier : List Lined) (r : Record) → Unbroken log earlier r → Ruled (tables_of earlier) r
 ruled log earlier r u =
-    let known = or_parts (not (list_all (is_declared (tables_of earlier)) (names r))) _ u.1.1.0 in
-    record { declared = not-false _ known.0; named = known.1; covered = u.1.1.1.1.1.1.1.1.1.1.1.1.1.1.1.0 }
+    let known = or_parts (not (list_all (is_declared (tables_of earlier)) (names r))) _ (rule_kept codes.UnknownId refl u) in
+    record { declared = not-false _ known.0; named = known.1; covered = rule_kept codes.NotCovered refl u }
 
 covers : (log : List Lined) → IsFaultless Check log → Covers (tables_of log)
 covers log f = by_records (λ r. Unit {0}) Covers (records_of log) (λ earlier l u _. more_covers (tables_of earlier) l.line l.rec (ruled (records_of log) earlier l.rec u))

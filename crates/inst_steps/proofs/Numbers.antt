@@ -5,6 +5,7 @@ use Rattle.std.proofs.lemmas.Bool.{cases_Bool, eq-eqb, ne_eqb, eqb-true, ltb-fal
 use Rattle.std.proofs.lemmas.List.{map-append, length-map, length-append, append-nil}
 use Rattle.std.proofs.lemmas.List.Sums.{length-filter, count_by-le-length}
 use Rattle.std.proofs.lemmas.List.Elements.{filter-append, recursion_from_All}
+use Rattle.spy_grammar.specs.declared.code.Code.TheVariants as codes
 use Rattle.spy_grammar.specs.declared.record.Record.{Record}
 use Rattle.spy_grammar.specs.declared.record.Record.TheVariants as records
 use Rattle.spy_grammar.specs.declared.record.Lined.{Lined}
@@ -13,7 +14,7 @@ use Rattle.semantics.specs.Records.{records_of}
 use Rattle.semantics.specs.Tables.{Tables, with_record, no_tables, tables_of}
 use Rattle.semantics.specs.Faults.{declaration_fault}
 use Rattle.semantics.specs.Rules as rules
-use Rattle.log_laws.proofs.lemmas.Admitted.{Unbroken, by_records, no_broken_rule}
+use Rattle.log_laws.proofs.lemmas.Admitted.{Unbroken, rule_kept, by_records, no_broken_rule}
 use Rattle.log_laws.proofs.lemmas.Apart.{range-more}
 use Rattle.logs.specs.Faultless.{AreDeclared}
 use Rattle.inst_steps.specs.Stepping.{AreNumbered}
@@ -80,7 +81,7 @@ few_more log earlier l u few = by l.rec refl
   where
     by : (r : Record) → l.rec ≡ r → Few (with_record (tables_of earlier) l.line r)
     by (records.Req task tree space fields access atomic) e =
-        let early : nat_lt 131072 (length (records_of earlier)) ≡ false = subst (λ r. rules.is_late (length (records_of earlier)) r ≡ false) e u.0 in
+        let early : nat_lt 131072 (length (records_of earlier)) ≡ false = subst (λ r. rules.is_late (length (records_of earlier)) r ≡ false) e (rule_kept codes.TooManyRecords refl u) in
         omega (arith, ltb-false 131072 (length (records_of earlier)) early, length-map earlier (λ (l : Lined). l.rec), within_all no_tables earlier, within_one (tables_of earlier) l.line (records.Req task tree space fields access atomic))
     by _ e = few
 

@@ -16,15 +16,14 @@ use Rattle.region_tree.specs.Regions as regions
 use Rattle.region_tree.specs.Regions.{space_of, part_of, step_of}
 use Rattle.semantics.specs.declared.tables.Part as parts
 use Rattle.semantics.specs.declared.tables.Sub as subs
-use Rattle.semantics.specs.Records.{records_of}
 use Rattle.semantics.specs.Tables.{Tables, Space, with_record, tables_of}
-use Rattle.semantics.specs.Faults.{first_broken}
+use Rattle.semantics.specs.Faults.{record_in}
 use Rattle.semantics.specs.Rules as rules
 use Rattle.log_tables.specs.Decls.{decls_of, space_decl, part_decl, sub_decl}
 use Rattle.region_tree.specs.Growing.{IsGrown, MaySub, with_space, with_part, with_sub}
-use Rattle.log_decl.specs.Walk.{other_broken, tried_before}
+use Rattle.semantics.proofs.lemmas.RecordRules.{none_passes}
+use Rattle.log_decl.specs.Walk.{breaks_other, other_broken}
 use Rattle.log_decl.proofs.Depth.{depth_told}
-use Rattle.log_decl.proofs.FirstFault.{none_at, or_left}
 use Rattle.region_tree.proofs.lemmas.Growth.{grown_space, grown_part, grown_sub}
 use Rattle.log_decl.proofs.SubFaults.{found_any, space_is, part_is}
 
@@ -58,16 +57,13 @@ pub record Keeps (t : Tables) (r : Record) : Type 0 where
 
 pub keeps_of : (log : List Record) (earlier : List Lined) (r : Record) → other_broken log earlier r ≡ None → Keeps (tables_of earlier) r
 keeps_of log earlier r e =
-    let t = tables_of earlier in
-    let es = records_of earlier in
-    let rs = tried_before es t r in
-    let none : first_broken rs ≡ None = or_left (first_broken rs) _ e in
+    let kept = none_passes (breaks_other (record_in log earlier r)) e in
     record {
-      new = none_at rs 1 (codes.RepeatedId, rules.repeats_id t r) none refl;
-      known = none_at rs 2 (codes.UnknownId, rules.names_unknown t r) none refl;
-      once = none_at rs 4 (codes.SpaceInTwo, rules.is_sub_again t r) none refl;
-      early = none_at rs 5 (codes.LateSub, rules.is_late_sub t r) none refl;
-      shallow = none_at rs 6 (codes.TooDeep, rules.is_too_deep t r) none refl;
+      new = kept codes.RepeatedId refl;
+      known = kept codes.UnknownId refl;
+      once = kept codes.SpaceInTwo refl;
+      early = kept codes.LateSub refl;
+      shallow = kept codes.TooDeep refl;
     }
 
 -- One record more.

@@ -1,6 +1,5 @@
 -- The walk, record by record.
 use Rattle.std.proofs.Common.{◌≡◌, ℕ, ◌+◌, ◌<◌, ◌≤◌, List, [], ◌∷◌, ◌++◌, length, get_or, take, true, false, is_some, Option, Some, None, subst, refl, sym, ap, ◌∙◌, append_assoc, arith}
-use Rattle.std.specs.Option.{option_or}
 use Rattle.std.proofs.lemmas.Bool.{false≢true}
 use Rattle.std.proofs.lemmas.Option.{slice_get-get_or}
 use Rattle.std.proofs.lemmas.List.{append-nil, take_more, map-append, length-map, length-take-le}
@@ -11,44 +10,21 @@ use Rattle.spy_grammar.specs.declared.record.Record.{Record}
 use Rattle.spy_grammar.specs.declared.record.Lined.{Lined}
 use Rattle.semantics.specs.Records.{records_of}
 use Rattle.semantics.specs.Tables.{Tables, tables_of, with_record, no_tables}
-use Rattle.semantics.specs.Faults.{first_broken}
-use Rattle.semantics.specs.Rules as rules
+use Rattle.semantics.proofs.lemmas.RecordRules.{none_passes}
 use Rattle.log_rules.specs.Counts.{access_total}
 use Rattle.log_rules.specs.declared.tally.Tally.{Tally}
 use Rattle.log_rules.specs.Tallied.{IsTally, MayCount}
-use Rattle.log_decl.specs.Walk.{tried_before, tried_of_uses, tried_of_insts, tried_of_runs, tried_of_limits, tried_after, broken_of, other_broken, Keep, StandsAt}
-use Rattle.log_decl.proofs.FirstFault.{broken-append, none_at, or_left, or_right}
-
--- The first rule that is broken of all groups of rules.
-pub first_of_all : (log es : List Record) (t : Tables) (r : Record) (o1 o2 o3 o4 o5 : Option Code)
-    → o1 ≡ first_broken (tried_before es t r) → o2 ≡ first_broken (tried_of_uses t r) → o3 ≡ first_broken (tried_of_insts t r) → o4 ≡ first_broken (tried_of_runs log t r) → o5 ≡ first_broken (tried_of_limits es t r)
-    → option_or o1 (option_or o2 (option_or o3 (option_or o4 o5))) ≡ broken_of log es t r
-first_of_all log es t r o1 o2 o3 o4 o5 e1 e2 e3 e4 e5 =
-    let limits = tried_of_limits es t r in
-    let runs = tried_of_runs log t r in
-    let insts = tried_of_insts t r in
-    let uses = tried_of_uses t r in
-    rw (e1, e2, e3, e4, e5) (
-    ap (option_or (first_broken (tried_before es t r))) (
-    sym (
-    broken-append uses (insts ++ (runs ++ limits))
-    ∙ ap (option_or (first_broken uses)) (broken-append insts (runs ++ limits) ∙ ap (option_or (first_broken insts)) (broken-append runs limits))
-    )
-    )
-    )
+use Rattle.log_decl.specs.Walk.{breaks_other, broken_of, other_broken, Keep, StandsAt}
 
 -- A record that breaks none of them may be counted.
 pub may_count : (log es : List Record) (t : Tables) (r : Record) → broken_of log es t r ≡ None → MayCount es t r
 may_count log es t r e =
-    let before = tried_before es t r in
-    let after = tried_after log es t r in
-    let first : first_broken before ≡ None = or_left (first_broken before) (first_broken after) e in
-    let rest : first_broken after ≡ None = or_right (first_broken before) (first_broken after) e in
+    let kept = none_passes (breaks_other (record { log = log; earlier = es; tables = t; rec = r })) e in
     record {
-      known = none_at before 2 (codes.UnknownId, rules.names_unknown t r) first refl;
-      points = none_at before 3 (codes.TooManyPoints, rules.has_many_points t r) first refl;
-      cells = none_at after 13 (codes.TooManyCells, rules.has_many_cells t r) rest refl;
-      accesses = none_at after 14 (codes.TooManyAccesses, rules.has_many_accesses es t r) rest refl;
+      known = kept codes.UnknownId refl;
+      points = kept codes.TooManyPoints refl;
+      cells = kept codes.TooManyCells refl;
+      accesses = kept codes.TooManyAccesses refl;
     }
 
 -- One record more.

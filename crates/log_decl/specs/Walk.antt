@@ -1,6 +1,7 @@
 -- The rules that are tried record by record, and the two that are left to the forest.
-use Rattle.std.specs.Prelude.{◌≡◌, ℕ, ◌≤◌, Bool, List, [], ◌∷◌, ◌++◌, length, take, slice_get, Option, Some, None, MatchOption, option_map, if◌then◌else◌}
+use Rattle.std.specs.Prelude.{◌≡◌, ℕ, ◌≤◌, Bool, true, false, not, ◌&&◌, List, [], ◌∷◌, ◌++◌, find, length, take, slice_get, Option, Some, None, MatchOption, option_map, if◌then◌else◌}
 use Rattle.log_rules.specs.Counts.{access_total}
+use Rattle.log_rules.specs.Tallied.{IfTally}
 use Rattle.std.specs.Option.{option_or}
 use Rattle.spy_grammar.specs.declared.code.Code.{Code}
 use Rattle.spy_grammar.specs.declared.code.Code.TheVariants as codes
@@ -9,63 +10,31 @@ use Rattle.spy_grammar.specs.declared.record.Lined.{Lined}
 use Rattle.semantics.specs.Records.{records_of}
 use Rattle.semantics.specs.Tables.{Tables, tables_of}
 use Rattle.semantics.specs.declared.faults.Fault.{Fault}
-use Rattle.semantics.specs.Faults.{at_line, first_broken}
+use Rattle.semantics.specs.Faults.{at_line, InLog, record_rules, breaks}
 use Rattle.semantics.specs.Rules as rules
+use Rattle.log_decl.specs.declared.broken.AtRecord.{AtRecord}
 
--- The rules that are tried before the two of the forest.
-abbrev pub tried_before : List Record → Tables → Record → List (Code × Bool)
-tried_before earlier t r =
-    (codes.TooManyRecords, rules.is_late (length earlier) r)
-    ∷ (codes.RepeatedId, rules.repeats_id t r)
-    ∷ (codes.UnknownId, rules.names_unknown t r)
-    ∷ (codes.TooManyPoints, rules.has_many_points t r)
-    ∷ (codes.SpaceInTwo, rules.is_sub_again t r)
-    ∷ (codes.LateSub, rules.is_late_sub t r)
-    ∷ (codes.TooDeep, rules.is_too_deep t r)
-    ∷ []
+-- Whether a rule is one of the two that the forest judges, of all subspaces at once.
+abbrev pub is_of_forest : Code → Bool
+is_of_forest codes.NotWithin = true
+is_of_forest codes.NotDisjoint = true
+is_of_forest _ = false
 
--- Those on the trees, fields and privileges of a record.
-abbrev pub tried_of_uses : Tables → Record → List (Code × Bool)
-tried_of_uses t r =
-    (codes.NotRoot, rules.is_no_root t r)
-    ∷ (codes.NotInTree, rules.is_not_in_tree t r)
-    ∷ (codes.Fields, rules.has_wrong_fields t r)
-    ∷ (codes.SelfInterference, rules.interferes_with_own t r)
-    ∷ []
+-- Whether a record breaks a rule that is tried record by record.
+abbrev pub breaks_other : InLog → Code → Bool
+breaks_other r code = not (is_of_forest code) && breaks r code
 
--- Those on the instances of a record.
-abbrev pub tried_of_insts : Tables → Record → List (Code × Bool)
-tried_of_insts t r =
-    (codes.WrongTree, rules.is_of_wrong_tree t r)
-    ∷ (codes.WrongKind, rules.is_of_wrong_kind t r)
-    ∷ (codes.NotCovered, rules.is_not_covered t r)
-    ∷ (codes.MappedTwice, rules.is_mapped_again t r)
-    ∷ []
+-- The record that the code is at, after these records.
+abbrev pub seen : {P : Type 0} → AtRecord P → List Record → InLog
+seen at earlier = record { log = at.whole.now; earlier = earlier; tables = at.draft.now; rec = at.rec.now }
 
--- Those on runs, events and the serial order.
-abbrev pub tried_of_runs : List Record → Tables → Record → List (Code × Bool)
-tried_of_runs log t r =
-    (codes.NoRun, rules.has_no_run log r)
-    ∷ (codes.TwoRuns, rules.is_run_again t r)
-    ∷ (codes.RepeatedEvent, rules.repeats_event t r)
-    ∷ (codes.UndefinedEvent, rules.waits_for_none log r)
-    ∷ (codes.Serial, rules.is_bad_serial log t r)
-    ∷ []
-
--- The limits on work.
-abbrev pub tried_of_limits : List Record → Tables → Record → List (Code × Bool)
-tried_of_limits earlier t r =
-    (codes.TooManyCells, rules.has_many_cells t r)
-    ∷ (codes.TooManyAccesses, rules.has_many_accesses earlier t r)
-    ∷ (codes.TooMuchLoad, rules.has_much_load t r)
-    ∷ []
-
-abbrev pub tried_after : List Record → List Record → Tables → Record → List (Code × Bool)
-tried_after log earlier t r = tried_of_uses t r ++ (tried_of_insts t r ++ (tried_of_runs log t r ++ tried_of_limits earlier t r))
+-- A fact of that record, after all records whose tally, tables and number these are.
+abbrev pub IfAt : {P : Type 0} → AtRecord P → (InLog → Type 0) → Type 0
+IfAt at P = IfTally at.draft.now at.tally.now (λ earlier. at.before ≡ length earlier → P (seen at earlier))
 
 -- The first of these rules that a record breaks, of its log, the earlier records, and their tables.
 abbrev pub broken_of : List Record → List Record → Tables → Record → Option Code
-broken_of log earlier t r = option_or (first_broken (tried_before earlier t r)) (first_broken (tried_after log earlier t r))
+broken_of log earlier t r = find (breaks_other (record { log = log; earlier = earlier; tables = t; rec = r })) record_rules
 
 abbrev pub other_broken : List Record → List Lined → Record → Option Code
 other_broken log earlier r = broken_of log (records_of earlier) (tables_of earlier) r

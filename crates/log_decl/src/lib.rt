@@ -1,8 +1,9 @@
 //! The log that records declare, or the fault of its frame and records that is shown.
 //!
-//! `records.rt` has the call, `walk.rt` the rules in their order, `regions.rt` the forest.
+//! `records.rt` has the call, `broken.rt` the rules in their order, `walk.rt` the walk over the records, `regions.rt` the forest.
 #![tactic(auto)]
 
+mod broken;
 mod decl_end;
 mod declaring;
 mod frame;

@@ -3,6 +3,7 @@ use Rattle.std.proofs.Common.{eqb-true, ◌≡◌, ◌==◌, ◌≢◌, ℕ, tru
 use Rattle.std.specs.Option.{option_map_or}
 use Rattle.std.specs.List.{filter_map, list_any, list_all}
 use Rattle.std.proofs.lemmas.Bool.{false≢true, not-false}
+use Rattle.spy_grammar.specs.declared.code.Code.TheVariants as codes
 use Rattle.spy_grammar.specs.declared.record.Lined.{Lined}
 use Rattle.semantics.specs.Records.{records_of}
 use Rattle.semantics.specs.Tables.{tables_of}
@@ -11,7 +12,7 @@ use Rattle.semantics.specs.Rules.{node_of, completes}
 use Rattle.semantics.specs.declared.command.Command.{Command}
 use Rattle.log_laws.proofs.lemmas.Members.{Member, member_of, contains_of, member_filter_map, filter_map_member, any_found, all_at}
 use Rattle.log_laws.proofs.lemmas.Apart.{all_pairs}
-use Rattle.log_laws.proofs.lemmas.Admitted.{IsFaultless, each_unbroken, events_are_completed}
+use Rattle.log_laws.proofs.lemmas.Admitted.{IsFaultless, each_unbroken, rule_kept}
 use Rattle.log_laws.proofs.Strict.{AreStrict}
 
 -- The nodes of a log are those of its records.
@@ -29,7 +30,7 @@ linked nodes_are command log f strict = record {
   linked = λ n event is wait.
       let at = member_filter_map node_of (records_of log) n (rw nodes_are at (member_of _ n is)) in
       let kept = each_unbroken (records_of log) [] log f.records at.0 at.1 in
-      let all : not (list_all (λ event. list_any (completes event) (records_of log)) n.waits) ≡ false = rw at.2 at (events_are_completed (records_of log) kept.0 at.0 kept.1) in
+      let all : not (list_all (λ event. list_any (completes event) (records_of log)) n.waits) ≡ false = rw at.2 at (rule_kept codes.UndefinedEvent refl kept.1) in
       let some = any_found (completes event) (records_of log) (all_at _ n.waits event (not-false _ all) (member_of n.waits event wait)) in
       let m = node_with event (node_of some.0) some.2 in
       (m.0, contains_of _ m.0 (subst (λ ns. Member ns m.0) (sym (nodes_are log)) (filter_map_member node_of (records_of log) some.0 m.0 some.1 m.1)), m.2);

@@ -6,6 +6,7 @@ use Rattle.std.proofs.lemmas.Grind.{flat_map-append}
 use Rattle.std.proofs.lemmas.List.Elements.{recursion_from_All, Contains-get_or, filter-append}
 use Rattle.std.proofs.lemmas.List.Folds.{list_any-append}
 use Rattle.std.proofs.lemmas.Option.{slice_get_cases}
+use Rattle.spy_grammar.specs.declared.code.Code.TheVariants as codes
 use Rattle.spy_grammar.specs.declared.record.Record.{Record}
 use Rattle.spy_grammar.specs.declared.record.Record.TheVariants as records
 use Rattle.spy_grammar.specs.declared.record.Lined.{Lined}
@@ -22,7 +23,7 @@ use Rattle.semantics.specs.Faults.{records_fault}
 use Rattle.log_laws.proofs.lemmas.Members.{Member, Each, each_more, member_of, member_at, member_append, map_member, member_flat, any_at, find_any, none_at, all_at, is_in_of, member_in, meets_of}
 use Rattle.log_laws.proofs.lemmas.Apart.{Apart, PairsBy, pairs_append, pairs_more}
 use Rattle.log_laws.proofs.lemmas.Sane.{Keeps}
-use Rattle.log_laws.proofs.lemmas.Admitted.{Unbroken, by_records, keeps_of, id_is_new, serial_is_good}
+use Rattle.log_laws.proofs.lemmas.Admitted.{Unbroken, rule_kept, by_records, keeps_of}
 
 -- Whether a record lists items.
 abbrev lists : Record → Bool
@@ -87,7 +88,7 @@ one_more log t line _ m k new good h = record { ids = h.ids; of_log = h.of_log; 
 
 one_more_unbroken : (log : List Record) (earlier : List Lined) (l : Lined) → Unbroken log earlier l.rec → Member log l.rec
     → AreListed log (tables_of earlier) → AreListed log (with_record (tables_of earlier) l.line l.rec)
-one_more_unbroken log earlier l u m = one_more log (tables_of earlier) l.line l.rec m (keeps_of log earlier l.rec u) (id_is_new log earlier l.rec u) (serial_is_good log earlier l.rec u)
+one_more_unbroken log earlier l u m = one_more log (tables_of earlier) l.line l.rec m (keeps_of log earlier l.rec u) (rule_kept codes.RepeatedId refl u) (rule_kept codes.Serial refl u)
 
 pub are_listed : (log : List Lined) → records_fault (records_of log) [] log ≡ None → AreListed (records_of log) (tables_of log)
 are_listed log none = by_records (Member (records_of log)) (AreListed (records_of log)) (records_of log) (one_more_unbroken (records_of log))

@@ -1,7 +1,8 @@
 -- In the tables of an admitted log no space has a point twice, no requirement or operation a field twice, and no two nodes have one event.
-use Rattle.std.proofs.Common.{◌≡◌, ◌≢◌, ap, ℕ, inl, inr, false, ◌==◌, List, [], ◌∷◌, ◌++◌, sym, ◌∙◌, subst, find, true≢false, eq-eqb}
+use Rattle.std.proofs.Common.{◌≡◌, ◌≢◌, refl, ap, ℕ, inl, inr, false, ◌==◌, List, [], ◌∷◌, ◌++◌, sym, ◌∙◌, subst, find, true≢false, eq-eqb}
 use Rattle.std.specs.List.{AllByRecursion, list_any}
 use Rattle.std.proofs.lemmas.List.{map-append}
+use Rattle.spy_grammar.specs.declared.code.Code.TheVariants as codes
 use Rattle.spy_grammar.specs.declared.record.Record.{Record}
 use Rattle.spy_grammar.specs.declared.record.Record.TheVariants as records
 use Rattle.spy_grammar.specs.declared.record.Lined.{Lined}
@@ -18,7 +19,7 @@ use Rattle.semantics.specs.Rules.{repeats_event}
 use Rattle.semantics.specs.declared.command.Command.{Command}
 use Rattle.log_laws.proofs.lemmas.Members.{Each, each_more, member_map, none_at, found_at, none_or_some}
 use Rattle.log_laws.proofs.lemmas.Apart.{Apart, PairsBy, pairs_more, points_apart, fields_apart}
-use Rattle.log_laws.proofs.lemmas.Admitted.{IsFaultless, by_records, event_is_new}
+use Rattle.log_laws.proofs.lemmas.Admitted.{IsFaultless, by_records, rule_kept}
 
 -- An operation has no field twice.
 abbrev pub HasFieldsApart : Op → Type 0
@@ -56,7 +57,7 @@ with_good t line (records.Merge done waits) good e h = with_node t _ e tt h
 with_good t line _ good e h = record { spaces = h.spaces; fields = h.fields; operations = h.operations; events = h.events }
 
 pub strict : (command : Command) (log : List Lined) → AllByRecursion Good (records_of log) → IsFaultless command log → AreStrict (tables_of log)
-strict command log good f = by_records Good AreStrict (records_of log) (λ earlier l u g h. with_good (tables_of earlier) l.line l.rec g (event_is_new (records_of log) earlier l.rec u) h)
+strict command log good f = by_records Good AreStrict (records_of log) (λ earlier l u g h. with_good (tables_of earlier) l.line l.rec g (rule_kept codes.RepeatedEvent refl u) h)
     [] log good f.records (record { spaces = λ s m. absurd m; fields = λ r m. absurd m; operations = λ n m. absurd m; events = tt })
 
 -- The points of a space, declared or not, are apart.

@@ -1,5 +1,5 @@
 -- In the tables of an admitted log each id names one item, each item stands once in serial order, and each task is run once.
-use Rattle.std.proofs.Common.{◌≡◌, ◌≢◌, ℕ, zero, suc, ◌<◌, inl, inr, true, false, ◌&&◌, ◌==◌, nat_lt, List, [], ◌∷◌, ◌++◌, Some, None, length, get_or, position, unwrap_or, slice_get, sym, ap, ◌∙◌, arith, AllPairs}
+use Rattle.std.proofs.Common.{◌≡◌, ◌≢◌, ℕ, zero, suc, ◌<◌, inl, inr, true, false, ◌&&◌, ◌==◌, nat_lt, List, [], ◌∷◌, ◌++◌, Some, None, length, get_or, position, unwrap_or, slice_get, refl, sym, ap, ◌∙◌, arith, AllPairs}
 use Rattle.std.specs.List.{list_any, list_all}
 use Rattle.std.specs.Option.{option_map_or}
 use Rattle.std.proofs.lemmas.Bool.{and_parts, ltb-true, eqb-true, eq-eqb, true≢false, false_from_ne_true, cases_eq, cases_Bool}
@@ -8,6 +8,7 @@ use Rattle.std.proofs.lemmas.Option.{slice_get_within, get_or_from_slice_get}
 use Rattle.std.proofs.lemmas.List.Sums.{position_or_len_is}
 use Rattle.std.proofs.lemmas.List.Folds.{find_at}
 use Rattle.std.proofs.lemmas.List.Elements.{recursion_from_All}
+use Rattle.spy_grammar.specs.declared.code.Code.TheVariants as codes
 use Rattle.spy_grammar.specs.declared.record.Record.{Record}
 use Rattle.spy_grammar.specs.declared.record.Record.TheVariants as records
 use Rattle.spy_grammar.specs.declared.record.Lined.{Lined}
@@ -24,7 +25,7 @@ use Rattle.semantics.specs.Rules.{is_declared, is_task, names, task_id, is_run_a
 use Rattle.semantics.specs.Faults.{declaration_fault, log_fault}
 use Rattle.log_laws.proofs.lemmas.Members.{Member, Each, both_none, each_more, none_at, any_at, any_found, find_any, member_at, found_at}
 use Rattle.log_laws.proofs.lemmas.Apart.{PairsBy, all_pairs, pairs_more}
-use Rattle.log_laws.proofs.lemmas.Admitted.{Unbroken, IsFaultless, by_records, keeps_of}
+use Rattle.log_laws.proofs.lemmas.Admitted.{Unbroken, rule_kept, IsFaultless, by_records, keeps_of}
 use Rattle.log_laws.proofs.lemmas.Lists.{place_len}
 use Rattle.long_values.proofs.LiftSequential.{AreNamed}
 use Rattle.long_values.proofs.LiftExecution.{AreRunOnce}
@@ -66,7 +67,7 @@ record Keeps (t : Tables) (r : Record) : Type 0 where
 keeps : (log : List Record) (earlier : List Lined) (r : Record) → Unbroken log earlier r → Keeps (tables_of earlier) r
 keeps log earlier r u = record {
   declared = (keeps_of log earlier r u).declared;
-  first_run = u.1.1.1.1.1.1.1.1.1.1.1.1.1.1.1.1.1.1.0;
+  first_run = rule_kept codes.TwoRuns refl u;
 }
 
 with_item : (t : Tables) (i : Item) → AreRuns t → AreRuns (record t { items = t.items ++ i ∷ [] })

@@ -2,8 +2,7 @@
 use Rattle.std.proofs.Common.{◌≡◌, ℕ, ◌+◌, ◌≤◌, inl, inr, Bool, true, false, List, [], ◌∷◌, ◌++◌, filter, fold, refl, sym, ap, ◌∙◌, subst, arith, None, append_assoc, sum_by}
 use Rattle.std.proofs.lemmas.Bool.{cases_Bool, true≢false, ltb-false}
 use Rattle.std.proofs.lemmas.List.Sums.{fold-append, sum_by-cons, sum_by_push}
-use Rattle.std.proofs.lemmas.List.Elements.{recursion_from_All, Contains-get_or}
-use Rattle.spy_grammar.specs.declared.code.Code.{Code}
+use Rattle.spy_grammar.specs.declared.code.Code.TheVariants as codes
 use Rattle.privilege.specs.Allowed.{may_read}
 use Rattle.spy_grammar.specs.declared.record.Record.{Record}
 use Rattle.spy_grammar.specs.declared.record.Record.TheVariants as records
@@ -15,11 +14,11 @@ use Rattle.semantics.specs.declared.tables.Op.TheVariants as operations
 use Rattle.semantics.specs.Records.{records_of}
 use Rattle.semantics.specs.Tables.{Tables, with_record, no_tables, tables_of}
 use Rattle.semantics.specs.Rules.{size_of, accesses}
-use Rattle.semantics.specs.Faults.{tried, is_end, header_fault, ended_fault, records_fault}
+use Rattle.semantics.specs.Faults.{is_end, header_fault, ended_fault, records_fault}
 use Rattle.semantics.specs.Counts.{read_count}
 use Rattle.logs.specs.Faultless.{AreDeclared}
-use Rattle.log_laws.proofs.lemmas.Members.{both_none, member_of, none_found, unmapped_none}
-use Rattle.log_laws.proofs.lemmas.Admitted.{Unbroken, no_broken_rule}
+use Rattle.log_laws.proofs.lemmas.Members.{both_none}
+use Rattle.log_laws.proofs.lemmas.Admitted.{Unbroken, rule_kept, unbroken, no_broken_rule}
 use Rattle.replay.specs.Counts.{reads_in}
 
 -- ---- what the tables ask for
@@ -80,7 +79,7 @@ at_end log earlier l u is =
     let t = tables_of earlier in
     let last = ends_with t l.line l.rec is in
     let same : tables_of (earlier ++ l ∷ []) ≡ t = fold-append (λ t (l : Lined). with_record t l.line l.rec) no_tables earlier (l ∷ []) ∙ last.0 in
-    let within : sum_by (accesses t) (records_of earlier) + accesses t l.rec ≤ 4194304 = ltb-false 4194304 (sum_by (accesses t) (records_of earlier) + accesses t l.rec) u.1.1.1.1.1.1.1.1.1.1.1.1.1.1.1.1.1.1.1.1.1.1.1.0 in
+    let within : sum_by (accesses t) (records_of earlier) + accesses t l.rec ≤ 4194304 = ltb-false 4194304 (sum_by (accesses t) (records_of earlier) + accesses t l.rec) (rule_kept codes.TooManyAccesses refl u) in
     subst (λ (u : Tables). sum_by (accesses u) (records_of (earlier ++ l ∷ [])) ≤ 4194304) (sym same) (rest t earlier l within)
   where
     rest : (t : Tables) (earlier : List Lined) (l : Lined) → sum_by (accesses t) (records_of earlier) + accesses t l.rec ≤ 4194304 → sum_by (accesses t) (records_of (earlier ++ l ∷ [])) ≤ 4194304
@@ -90,27 +89,16 @@ at_end log earlier l u is =
         both t [] = refl
         both t (l ∷ ls) = sum_by-cons (accesses t) l.rec (records_of ls) ∙ ap (λ n. accesses t l.rec + n) (both t ls) ∙ sym (sum_by-cons (λ (l : Lined). accesses t l.rec) l ls)
 
--- Where no record breaks a rule, the first does not, nor do the later.
-first : (log : List Record) (earlier : List Lined) (l : Lined) (rest : List Lined) → records_fault log earlier (l ∷ rest) ≡ None → Unbroken log earlier l.rec
-first log earlier l rest e =
-    let parts = both_none _ (records_fault log (earlier ++ l ∷ []) rest) e in
-    let rules = tried log (records_of earlier) (tables_of earlier) l.rec in
-    let none = unmapped_none _ _ (unmapped_none _ _ parts.0) in
-    recursion_from_All (λ (p : Code × Bool). p.1 ≡ false) rules (λ k d lt. none_found (λ (p : Code × Bool). p.1) rules _ none (member_of rules _ (Contains-get_or rules k d lt)))
-
-later : (log : List Record) (earlier : List Lined) (l : Lined) (rest : List Lined) → records_fault log earlier (l ∷ rest) ≡ None → records_fault log (earlier ++ l ∷ []) rest ≡ None
-later log earlier l rest e = (both_none _ (records_fault log (earlier ++ l ∷ []) rest) e).1
-
 to_end : (log : List Record) (lines : ℕ) (earlier rest : List Lined) → records_fault log earlier rest ≡ None → ended_fault lines rest ≡ None → asked (earlier ++ rest) ≤ 4194304
 to_end log lines earlier [] e ended = absurd cc
 to_end log lines earlier (l ∷ []) e ended = elim (cases_Bool (is_end l.rec)) [
-  | inl is ↦ at_end log earlier l (first log earlier l [] e) is
+  | inl is ↦ at_end log earlier l (unbroken log earlier l [] e).0 is
   | inr other ↦ absurd (let bad = rw other at ended in cc)
 ]
 to_end log lines earlier (l ∷ m ∷ rest) e ended = elim (cases_Bool (is_end l.rec)) [
   | inl is ↦ absurd (let bad = rw is at ended in cc)
   | inr other ↦
-      subst (λ ls. asked ls ≤ 4194304) (append_assoc earlier (l ∷ []) (m ∷ rest)) (to_end log lines (earlier ++ l ∷ []) (m ∷ rest) (later log earlier l (m ∷ rest) e) (rw other at ended))
+      subst (λ ls. asked ls ≤ 4194304) (append_assoc earlier (l ∷ []) (m ∷ rest)) (to_end log lines (earlier ++ l ∷ []) (m ∷ rest) (unbroken log earlier l (m ∷ rest) e).1 (rw other at ended))
 ]
 
 pub few_accesses : (t : Tables) → AreDeclared t → cost t t ≤ 4194304

@@ -1,5 +1,5 @@
 -- The steps of a log are of instances of the right kinds, and its reads of the items that nodes run.
-use Rattle.std.proofs.Common.{◌≡◌, ℕ, ◌<◌, ◌≤◌, ◌==◌, ◌&&◌, nat_lt, cond, inl, inr, Bool, true, false, List, [], ◌∷◌, ◌++◌, flat_map, find, position, length, Some, None, unwrap_or, refl, sym, ap, ◌∙◌, subst, arith, Contains}
+use Rattle.std.proofs.Common.{◌≡◌, ℕ, ◌<◌, ◌≤◌, ◌==◌, ◌&&◌, nat_lt, cond, inl, inr, Bool, true, false, not, List, [], ◌∷◌, ◌++◌, flat_map, find, position, length, Some, None, unwrap_or, refl, sym, ap, ◌∙◌, subst, arith, Contains}
 use Rattle.std.specs.List.{AllByRecursion, list_any, list_all, position_or_len}
 use Rattle.std.specs.Option.{option_map_or}
 use Rattle.std.proofs.lemmas.Bool.{cases_Bool, and_parts, or_parts, not-false, true≢false, ltb-true, ltb-false}
@@ -8,6 +8,7 @@ use Rattle.std.proofs.lemmas.List.Sums.{fails_before_first}
 use Rattle.std.proofs.lemmas.List.Elements.{recursion_from_All}
 use Rattle.privilege.specs.declared.kinds.Priv.{Priv}
 use Rattle.privilege.specs.declared.kinds.Priv.TheVariants as privileges
+use Rattle.spy_grammar.specs.declared.code.Code.TheVariants as codes
 use Rattle.spy_grammar.specs.declared.record.Record.{Record}
 use Rattle.spy_grammar.specs.declared.record.Record.TheVariants as records
 use Rattle.spy_grammar.specs.declared.record.Lined.{Lined}
@@ -29,7 +30,7 @@ use Rattle.semantics.specs.Rules.{is_task, is_declared, is_reduction, reduces_in
 use Rattle.logs.specs.Faultless.{AreDeclared}
 use Rattle.log_laws.proofs.lemmas.Members.{Member, Each, each_more, contains_of, member_at, member_append, member_flat, member_map, all_at, any_at, any_found, find_any, find_still, only}
 use Rattle.log_laws.proofs.lemmas.StepLists.{of_node}
-use Rattle.log_laws.proofs.lemmas.Admitted.{Unbroken, by_records, no_broken_rule}
+use Rattle.log_laws.proofs.lemmas.Admitted.{Unbroken, rule_kept, by_records, no_broken_rule}
 use Rattle.inst_steps.specs.Celled.{AreOfInsts}
 use Rattle.inst_steps.specs.Stepping.{moves_at}
 use Rattle.replay.specs.Fitting.{Fits, IsOfItem, KeepsKinds, item_at, item_run}
@@ -124,8 +125,8 @@ more_fit t line _ k h = h
 
 ruled : (log : List Record) (earlier : List Lined) (r : Record) → Unbroken log earlier r → Ruled (tables_of earlier) r
 ruled log earlier r u =
-    let known = or_parts _ _ u.1.1.0 in
-    record { declared = not-false _ known.0; kinds = u.1.1.1.1.1.1.1.1.1.1.1.1.1.1.0 }
+    let known = or_parts (not (list_all (is_declared (tables_of earlier)) (names r))) _ (rule_kept codes.UnknownId refl u) in
+    record { declared = not-false _ known.0; kinds = rule_kept codes.WrongKind refl u }
 
 pub nodes_fit : (t : Tables) → AreDeclared t → NodesFit t
 nodes_fit t d = subst NodesFit (sym d.tables) (by_records (λ r. Unit {0}) NodesFit (records_of d.log)

@@ -9,6 +9,7 @@ use Rattle.std.proofs.lemmas.List.Elements.{recursion_from_All}
 use Rattle.std.proofs.lemmas.List.Concat.{flat_map-append}
 use Rattle.privilege.specs.declared.kinds.Priv.{Priv}
 use Rattle.privilege.specs.declared.kinds.Priv.TheVariants as privileges
+use Rattle.spy_grammar.specs.declared.code.Code.TheVariants as codes
 use Rattle.spy_grammar.specs.declared.record.Record.{Record}
 use Rattle.spy_grammar.specs.declared.record.Record.TheVariants as records
 use Rattle.semantics.specs.declared.places.Cell.{Cell}
@@ -31,7 +32,7 @@ use Rattle.log_laws.proofs.lemmas.Members.{Member, contains_of, member_left, mem
 use Rattle.log_laws.proofs.lemmas.Apart.{Apart, pairs_from, pairs_append, apart_flat, apart_filter, number_in}
 use Rattle.log_laws.proofs.lemmas.Lists.{split_at}
 use Rattle.log_laws.proofs.lemmas.Sane.{reqs_apart}
-use Rattle.log_laws.proofs.lemmas.Admitted.{by_records, no_broken_rule, sane}
+use Rattle.log_laws.proofs.lemmas.Admitted.{rule_kept, by_records, no_broken_rule, sane}
 use Rattle.log_laws.proofs.lemmas.StepLists.{moves_at, steps_at}
 use Rattle.replay.proofs.Accesses.{sizes, op_size, op_sizes, few_accesses}
 
@@ -206,7 +207,7 @@ more_once t line _ e h = h
 
 run_once : (t : Tables) → AreDeclared t → RunOnce t
 run_once t d = subst RunOnce (sym d.tables) (by_records (λ r. Unit {0}) RunOnce (records_of d.log)
-    (λ earlier l u _. more_once (tables_of earlier) l.line l.rec u.1.1.1.1.1.1.1.1.1.1.1.1.1.1.1.1.1.1.0)
+    (λ earlier l u _. more_once (tables_of earlier) l.line l.rec (rule_kept codes.TwoRuns refl u))
     [] d.log (recursion_from_All _ (records_of d.log) (λ k d lt. tt)) (no_broken_rule d.lines d.log d.faultless) tt)
 
 -- ---- all together

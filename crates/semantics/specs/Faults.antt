@@ -57,45 +57,85 @@ miscounts count _ = false
 abbrev pub count_fault : List Lined → Option Fault
 count_fault log = first_with codes.Count (miscounts (length log - 2)) log
 
--- Each rule on single records, in the order in which they are tried, with whether a record of the log breaks it. (`t` are the tables of the earlier records.)
-abbrev pub tried : List Record → List Record → Tables → Record → List (Code × Bool)
-tried log earlier t r =
-    (codes.TooManyRecords, rules.is_late (length earlier) r)
-    ∷ (codes.RepeatedId, rules.repeats_id t r)
-    ∷ (codes.UnknownId, rules.names_unknown t r)
-    ∷ (codes.TooManyPoints, rules.has_many_points t r)
-    ∷ (codes.SpaceInTwo, rules.is_sub_again t r)
-    ∷ (codes.LateSub, rules.is_late_sub t r)
-    ∷ (codes.TooDeep, rules.is_too_deep t r)
-    ∷ (codes.NotWithin, rules.is_outside t r)
-    ∷ (codes.NotDisjoint, rules.is_not_disjoint t r)
-    ∷ (codes.NotRoot, rules.is_no_root t r)
-    ∷ (codes.NotInTree, rules.is_not_in_tree t r)
-    ∷ (codes.Fields, rules.has_wrong_fields t r)
-    ∷ (codes.SelfInterference, rules.interferes_with_own t r)
-    ∷ (codes.WrongTree, rules.is_of_wrong_tree t r)
-    ∷ (codes.WrongKind, rules.is_of_wrong_kind t r)
-    ∷ (codes.NotCovered, rules.is_not_covered t r)
-    ∷ (codes.MappedTwice, rules.is_mapped_again t r)
-    ∷ (codes.NoRun, rules.has_no_run log r)
-    ∷ (codes.TwoRuns, rules.is_run_again t r)
-    ∷ (codes.RepeatedEvent, rules.repeats_event t r)
-    ∷ (codes.UndefinedEvent, rules.waits_for_none log r)
-    ∷ (codes.Serial, rules.is_bad_serial log t r)
-    ∷ (codes.TooManyCells, rules.has_many_cells t r)
-    ∷ (codes.TooManyAccesses, rules.has_many_accesses earlier t r)
-    ∷ (codes.TooMuchLoad, rules.has_much_load t r)
+-- A record in its log, as the rules see it: the records of the whole log, those before it, what these declare, and the record.
+pub record InLog : Type 0 where
+  pub log : List Record
+  pub earlier : List Record
+  pub tables : Tables
+  pub rec : Record
+
+-- The rules on single records, in the order in which they are tried.
+abbrev pub record_rules : List Code
+record_rules =
+    codes.TooManyRecords
+    ∷ codes.RepeatedId
+    ∷ codes.UnknownId
+    ∷ codes.TooManyPoints
+    ∷ codes.SpaceInTwo
+    ∷ codes.LateSub
+    ∷ codes.TooDeep
+    ∷ codes.NotWithin
+    ∷ codes.NotDisjoint
+    ∷ codes.NotRoot
+    ∷ codes.NotInTree
+    ∷ codes.Fields
+    ∷ codes.SelfInterference
+    ∷ codes.WrongTree
+    ∷ codes.WrongKind
+    ∷ codes.NotCovered
+    ∷ codes.MappedTwice
+    ∷ codes.NoRun
+    ∷ codes.TwoRuns
+    ∷ codes.RepeatedEvent
+    ∷ codes.UndefinedEvent
+    ∷ codes.Serial
+    ∷ codes.TooManyCells
+    ∷ codes.TooManyAccesses
+    ∷ codes.TooMuchLoad
     ∷ []
 
--- The first rule that is broken.
-abbrev pub first_broken : List (Code × Bool) → Option Code
-first_broken rs = option_map (λ (p : Code × Bool). p.0) (find (λ (p : Code × Bool). p.1) rs)
+-- Whether a record breaks the rule of a code. (No other code is that of a rule on single records.)
+abbrev pub breaks : InLog → Code → Bool
+breaks r codes.TooManyRecords = rules.is_late (length r.earlier) r.rec
+breaks r codes.RepeatedId = rules.repeats_id r.tables r.rec
+breaks r codes.UnknownId = rules.names_unknown r.tables r.rec
+breaks r codes.TooManyPoints = rules.has_many_points r.tables r.rec
+breaks r codes.SpaceInTwo = rules.is_sub_again r.tables r.rec
+breaks r codes.LateSub = rules.is_late_sub r.tables r.rec
+breaks r codes.TooDeep = rules.is_too_deep r.tables r.rec
+breaks r codes.NotWithin = rules.is_outside r.tables r.rec
+breaks r codes.NotDisjoint = rules.is_not_disjoint r.tables r.rec
+breaks r codes.NotRoot = rules.is_no_root r.tables r.rec
+breaks r codes.NotInTree = rules.is_not_in_tree r.tables r.rec
+breaks r codes.Fields = rules.has_wrong_fields r.tables r.rec
+breaks r codes.SelfInterference = rules.interferes_with_own r.tables r.rec
+breaks r codes.WrongTree = rules.is_of_wrong_tree r.tables r.rec
+breaks r codes.WrongKind = rules.is_of_wrong_kind r.tables r.rec
+breaks r codes.NotCovered = rules.is_not_covered r.tables r.rec
+breaks r codes.MappedTwice = rules.is_mapped_again r.tables r.rec
+breaks r codes.NoRun = rules.has_no_run r.log r.rec
+breaks r codes.TwoRuns = rules.is_run_again r.tables r.rec
+breaks r codes.RepeatedEvent = rules.repeats_event r.tables r.rec
+breaks r codes.UndefinedEvent = rules.waits_for_none r.log r.rec
+breaks r codes.Serial = rules.is_bad_serial r.log r.tables r.rec
+breaks r codes.TooManyCells = rules.has_many_cells r.tables r.rec
+breaks r codes.TooManyAccesses = rules.has_many_accesses r.earlier r.tables r.rec
+breaks r codes.TooMuchLoad = rules.has_much_load r.tables r.rec
+breaks r _ = false
+
+-- The first rule that a record breaks.
+abbrev pub first_broken : InLog → Option Code
+first_broken r = find (breaks r) record_rules
+
+-- A record of a log, after these of its lines.
+abbrev pub record_in : List Record → List Lined → Record → InLog
+record_in log earlier r = record { log = log; earlier = records_of earlier; tables = tables_of earlier; rec = r }
 
 -- The fault of the first of some records that breaks a rule.
 abbrev pub records_fault : List Record → List Lined → List Lined → Option Fault
 records_fault log earlier [] = None
 records_fault log earlier (l ∷ rest) =
-    option_or (option_map (λ code. at_line code l.line) (first_broken (tried log (records_of earlier) (tables_of earlier) l.rec)))
+    option_or (option_map (λ code. at_line code l.line) (first_broken (record_in log earlier l.rec)))
     (records_fault log (earlier ++ l ∷ []) rest)
 
 -- The fault of a log's frame, or else of its single records: where there is none, it has tables.

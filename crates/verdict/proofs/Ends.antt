@@ -7,6 +7,7 @@ use Rattle.std.proofs.lemmas.List.{length-map, length_push}
 use Rattle.std.proofs.lemmas.List.Elements.{recursion_from_All}
 use Rattle.spy_grammar.specs.Spelling.{Good}
 use Rattle.spy_grammar.specs.declared.code.Code.{Code}
+use Rattle.spy_grammar.specs.declared.code.Code.TheVariants as codes
 use Rattle.spy_grammar.specs.declared.record.Lined.{Lined}
 use Rattle.spy_grammar.specs.declared.record.Record.{Record}
 use Rattle.spy_grammar.specs.declared.record.Record.TheVariants as records
@@ -20,7 +21,7 @@ use Rattle.semantics.specs.Events.{AreLinked, graph_of}
 use Rattle.semantics.specs.Faults.{at_line, declaration_fault, serial_fault, log_fault}
 use Rattle.outcomes.specs.Outcome.{IsFound, CheckFinds}
 use Rattle.semantics.specs.Rules.{is_late}
-use Rattle.log_laws.proofs.lemmas.Admitted.{by_records, no_broken_rule}
+use Rattle.log_laws.proofs.lemmas.Admitted.{rule_kept, by_records, no_broken_rule}
 use Rattle.log_laws.proofs.lemmas.Members.{both_none}
 use Rattle.logs.specs.Faultless.{AreDeclared}
 use Rattle.log_decl.proofs.lemmas.Ascending.{few_records}
@@ -117,7 +118,7 @@ capped_with earlier line (records.End n) late capped = capped
 capped_with earlier line r late capped = one_within earlier line r late
 
 capped : (lines : ℕ) (log : List Lined) → declaration_fault lines log ≡ None → IsCapped (tables_of log)
-capped lines log e = by_records (λ r. Unit {0}) IsCapped (records_of log) (λ earlier l u _ h. capped_with earlier l.line l.rec u.0 h)
+capped lines log e = by_records (λ r. Unit {0}) IsCapped (records_of log) (λ earlier l u _ h. capped_with earlier l.line l.rec (rule_kept codes.TooManyRecords refl u) h)
     [] log (recursion_from_All _ (records_of log) (λ k d lt. tt)) (no_broken_rule lines log e) (record { items = omega arith; nodes = omega arith })
 
 pub few_declared_nodes : (t : Tables) → AreDeclared t → length t.nodes < 2 ^ 32

@@ -14,7 +14,7 @@ use Rattle.semantics.specs.Records.{records_of, lined, lined_from}
 use Rattle.semantics.specs.Tables.{Tables, with_record, no_tables, tables_of}
 use Rattle.semantics.specs.Rules.{accesses}
 use Rattle.semantics.specs.declared.faults.Fault.{Fault}
-use Rattle.semantics.specs.Faults.{at_line, is_header, is_end, first_with, miscounts, header_fault, ended_fault, count_fault, tried, first_broken, records_fault, declaration_fault}
+use Rattle.semantics.specs.Faults.{at_line, is_header, is_end, first_with, miscounts, header_fault, ended_fault, count_fault, first_broken, record_in, records_fault, declaration_fault}
 use Rattle.worked_logs.specs.WorkedLimits.{framed}
 use Rattle.log_laws.proofs.lemmas.Numbered.{records_numbered}
 
@@ -22,7 +22,7 @@ use Rattle.log_laws.proofs.lemmas.Numbered.{records_numbered}
 
 -- The first rule that a record of the log breaks, after these.
 abbrev pub broken_by : List Record → List Lined → Record → Option Code
-broken_by log earlier r = first_broken (tried log (records_of earlier) (tables_of earlier) r)
+broken_by log earlier r = first_broken (record_in log earlier r)
 
 module _ (log : List Record) (earlier : List Lined) (l : Lined) (rest : List Lined) where
   -- The fault, where the next record breaks this rule or none.

@@ -1,5 +1,5 @@
 -- Requirements that reduce at each place of a region, instances with a cell at each: their load, and the rules.
-use Rattle.std.proofs.Common.{◌≡◌, ℕ, suc, ◌+◌, ◌*◌, ◌≤◌, ◌<◌, ◌==◌, nat_lt, Bool, true, false, not, ◌&&◌, List, [], ◌∷◌, ◌++◌, All, length, sum_by, filter, option_map, cond, Option, Some, refl, sym, ap, ap₂, ◌∙◌, arith, None, add-one, mul-le-mul_right, length-append}
+use Rattle.std.proofs.Common.{◌≡◌, ℕ, suc, ◌+◌, ◌*◌, ◌≤◌, ◌<◌, ◌==◌, nat_lt, Bool, true, false, not, ◌&&◌, List, [], ◌∷◌, ◌++◌, All, length, sum_by, filter, cond, Option, Some, refl, sym, ap, ap₂, ◌∙◌, arith, None, add-one, mul-le-mul_right, length-append}
 use Rattle.std.specs.List.{list_any}
 use Rattle.std.proofs.Math.Bool.{and-false}
 use Rattle.std.proofs.Math.Nat.{suc-mul}
@@ -259,12 +259,7 @@ module _ (points fs : List ℕ) where
         load_of_all at_last refl before.reduce k before.insts before.whole
         ∙ ap₂ (λ a b. a * (size * b)) before.insts_are before.reqs_are
 
-    -- The rule on the load is tried last of all.
-    last_rule : (big : Bool)
-        → option_map (λ (p : Code × Bool). p.0) (cond big (Some (codes.TooMuchLoad, big)) None) ≡ broken_if big
-    last_rule true = refl
-    last_rule false = refl
-
+    -- (The rule on the load is tried last of all.)
     pub at_end : (log : List Record) (count : ℕ) (big : Bool) → n * size ≤ 4194304
         → nat_lt 67108864 (k * (size * n)) ≡ big
         → broken_by log (earlier ++ run ∷ []) (records.End count) ≡ broken_if big
@@ -274,4 +269,4 @@ module _ (points fs : List ℕ) where
           declares_more earlier run t before.tables,
           le-ltb 4194304 (sum_by (accesses at_last) (records_of (earlier ++ run ∷ [])) + 0) (omega (arith, asked, asks_few)),
           ap (λ load. nat_lt 67108864 load) load ∙ is,
-        ) (last_rule big)
+        ) refl

@@ -1,35 +1,39 @@
 -- What it means for the tables of a log that no fault is shown of it.
-use Rattle.std.proofs.Common.{◌≡◌, ℕ, inl, inr, Bool, true, false, not, List, [], ◌∷◌, ◌++◌, sym, subst, append_assoc, append-nil, None, is_some}
+use Rattle.std.proofs.Common.{◌≡◌, ℕ, inl, inr, true, false, not, refl, List, [], ◌∷◌, ◌++◌, sym, subst, append_assoc, append-nil, None, is_some}
 use Rattle.std.specs.List.{AllByRecursion, list_all}
 use Rattle.std.proofs.lemmas.Bool.{not-false, or_parts}
-use Rattle.std.proofs.lemmas.List.Elements.{recursion_from_All, Contains-get_or}
+use Rattle.std.proofs.lemmas.List.Elements.{recursion_from_All}
 use Rattle.std.proofs.lemmas.List.Sums.{fold-append}
 use Rattle.spy_grammar.specs.declared.code.Code.{Code}
+use Rattle.spy_grammar.specs.declared.code.Code.TheVariants as codes
 use Rattle.spy_grammar.specs.declared.record.Record.{Record}
 use Rattle.spy_grammar.specs.declared.record.Lined.{Lined}
 use Rattle.semantics.specs.declared.tables.Req.{Req}
 use Rattle.semantics.specs.Records.{records_of}
 use Rattle.semantics.specs.Tables.{Tables, with_record, no_tables, tables_of}
 use Rattle.semantics.specs.Steps.{mapped}
-use Rattle.semantics.specs.Rules.{is_declared, names, repeats_id, repeats_event, waits_for_none, is_bad_serial}
+use Rattle.semantics.specs.Rules.{is_declared, names}
 use Rattle.semantics.specs.declared.command.Command.{Command}
 use Rattle.semantics.specs.declared.command.Command.TheVariants.{Check}
-use Rattle.semantics.specs.Faults.{tried, records_fault, declaration_fault, log_fault, header_fault, ended_fault, count_fault, serial_fault, map_fault}
-use Rattle.log_laws.proofs.lemmas.Members.{Member, member_of, none_found, both_none, unmapped_none, all_at}
+use Rattle.semantics.specs.Faults.{breaks, first_broken, record_in, records_fault, declaration_fault, log_fault, header_fault, ended_fault, count_fault, serial_fault, map_fault}
+use Rattle.semantics.proofs.lemmas.RecordRules.{is_record_rule, none_passes}
+use Rattle.log_laws.proofs.lemmas.Members.{Member, none_found, both_none, unmapped_none, all_at}
 use Rattle.log_laws.proofs.lemmas.Sane.{Keeps, AreSane, with_kept, nothing_sane}
 
 -- A record of the log breaks no rule.
-abbrev pub Unbroken : List Record → List Lined → Record → Type 0
-Unbroken log earlier r = AllByRecursion (λ (p : Code × Bool). p.1 ≡ false) (tried log (records_of earlier) (tables_of earlier) r)
+pub record Unbroken (log : List Record) (earlier : List Lined) (r : Record) : Type 0 where
+  pub none : first_broken (record_in log earlier r) ≡ None
+
+-- So it does not break the rule with this code, which is one of those on single records.
+pub rule_kept : {log : List Record} {earlier : List Lined} {r : Record} (code : Code) → is_record_rule code ≡ true → Unbroken log earlier r → breaks (record_in log earlier r) code ≡ false
+rule_kept {log} {earlier} {r} code is u = none_passes (breaks (record_in log earlier r)) u.none code is
 
 -- Where no record breaks a rule, the first does not, nor do the later.
-unbroken : (log : List Record) (earlier : List Lined) (l : Lined) (rest : List Lined) → records_fault log earlier (l ∷ rest) ≡ None
+pub unbroken : (log : List Record) (earlier : List Lined) (l : Lined) (rest : List Lined) → records_fault log earlier (l ∷ rest) ≡ None
     → Unbroken log earlier l.rec × (records_fault log (earlier ++ l ∷ []) rest ≡ None)
 unbroken log earlier l rest e =
     let parts = both_none _ (records_fault log (earlier ++ l ∷ []) rest) e in
-    let rules = tried log (records_of earlier) (tables_of earlier) l.rec in
-    let none = unmapped_none _ _ (unmapped_none _ _ parts.0) in
-    (recursion_from_All (λ (p : Code × Bool). p.1 ≡ false) rules (λ k d lt. none_found (λ (p : Code × Bool). p.1) rules _ none (member_of rules _ (Contains-get_or rules k d lt))), parts.1)
+    (record { none = unmapped_none _ (first_broken (record_in log earlier l.rec)) parts.0 }, parts.1)
 
 -- What holds of no tables, and stays with each good record that breaks no rule, holds of the tables of the log. (`G` is what is known of each record by itself.)
 pub by_records : (G : Record → Type 0) (P : Tables → Type 0) (log : List Record)
@@ -50,20 +54,8 @@ each_unbroken log earlier (l ∷ rest) e r (inr later) = each_unbroken log (earl
 
 pub keeps_of : (log : List Record) (earlier : List Lined) (r : Record) → Unbroken log earlier r → Keeps (tables_of earlier) r
 keeps_of log earlier r u =
-    let known = or_parts (not (list_all (is_declared (tables_of earlier)) (names r))) _ u.1.1.0 in
-    record { declared = not-false _ known.0; named = known.1; own = u.1.1.1.1.1.1.1.1.1.1.1.1.0; tree = u.1.1.1.1.1.1.1.1.1.1.1.1.1.0 }
-
-pub id_is_new : (log : List Record) (earlier : List Lined) (r : Record) → Unbroken log earlier r → repeats_id (tables_of earlier) r ≡ false
-id_is_new log earlier r u = u.1.0
-
-pub event_is_new : (log : List Record) (earlier : List Lined) (r : Record) → Unbroken log earlier r → repeats_event (tables_of earlier) r ≡ false
-event_is_new log earlier r u = u.1.1.1.1.1.1.1.1.1.1.1.1.1.1.1.1.1.1.1.0
-
-pub events_are_completed : (log : List Record) (earlier : List Lined) (r : Record) → Unbroken log earlier r → waits_for_none log r ≡ false
-events_are_completed log earlier r u = u.1.1.1.1.1.1.1.1.1.1.1.1.1.1.1.1.1.1.1.1.0
-
-pub serial_is_good : (log : List Record) (earlier : List Lined) (r : Record) → Unbroken log earlier r → is_bad_serial log (tables_of earlier) r ≡ false
-serial_is_good log earlier r u = u.1.1.1.1.1.1.1.1.1.1.1.1.1.1.1.1.1.1.1.1.1.0
+    let known = or_parts (not (list_all (is_declared (tables_of earlier)) (names r))) _ (rule_kept codes.UnknownId refl u) in
+    record { declared = not-false _ known.0; named = known.1; own = rule_kept codes.SelfInterference refl u; tree = rule_kept codes.WrongTree refl u }
 
 -- What it means, part by part, that a command shows no fault of a log.
 pub record IsFaultless (command : Command) (log : List Lined) : Type 0 where

@@ -1,0 +1,92 @@
+//! The first rule on single records that a record breaks. The two rules of the forest are left out.
+
+ghost use Rattle.std.specs.Prelude.{◌≡◌, find, IfOk};
+ghost use Rattle.semantics.specs.Faults.{record_rules};
+ghost use Rattle.log_tables.specs.Views.{Ascends};
+ghost use Rattle.log_decl.specs.Walk.{IfAt, breaks_other};
+
+use log_rules::{
+    Tally, WholeLog, has_many_accesses, has_many_cells, has_many_points, has_much_load, has_no_run,
+    has_wrong_fields, interferes_with_own, is_bad_serial, is_late, is_late_sub, is_mapped_again,
+    is_no_root, is_not_covered, is_not_in_tree, is_of_wrong_kind, is_of_wrong_tree, is_run_again,
+    is_sub_again, is_too_deep, names_unknown, repeats_event, repeats_id, waits_for_none,
+};
+use log_tables::Draft;
+use point_set::PointSet;
+use spy_grammar::Code::*;
+use spy_grammar::{Code, Record};
+use std::alloc::{AllocError, Global};
+
+/// The rules on single records, in the order in which they are tried.
+#[rattlefmt::skip]
+const RULES: [Code; 25] = [
+    TooManyRecords, RepeatedId, UnknownId, TooManyPoints, SpaceInTwo, LateSub, TooDeep, NotWithin,
+    NotDisjoint, NotRoot, NotInTree, Fields, SelfInterference, WrongTree, WrongKind, NotCovered,
+    MappedTwice, NoRun, TwoRuns, RepeatedEvent, UndefinedEvent, Serial, TooManyCells,
+    TooManyAccesses, TooMuchLoad,
+];
+
+/// A record of a log, with what the rules ask of: the log as a whole, what the earlier records declare and add up to, and how many they are.
+#[derive(Clone, Copy)]
+pub(crate) struct AtRecord<'w, 'l, P: PointSet> {
+    pub(crate) whole: &'w WholeLog<'l>,
+    pub(crate) draft: &'w Draft<P>,
+    pub(crate) tally: &'w Tally,
+    pub(crate) before: usize,
+    pub(crate) rec: &'w Record,
+}
+
+/// Whether a record breaks the rule of a code. The rules of the forest are passed over.
+fn breaks<P: PointSet>(
+    alloc: Global,
+    at: &AtRecord<'_, '_, P>,
+    code: Code,
+) -> Result<bool, AllocError>
+    requires { Ascends at.now.rec.now }
+    ensures { IfAt at.now (λ r. IfOk result (λ broken. broken ≡ breaks_other r code)) }
+{
+    match code {
+        TooManyRecords => Ok(is_late(at.before, at.rec)),
+        RepeatedId => Ok(repeats_id(at.draft, at.rec)),
+        UnknownId => Ok(names_unknown(at.draft, at.rec)),
+        TooManyPoints => Ok(has_many_points(at.draft, at.tally, at.rec)),
+        SpaceInTwo => Ok(is_sub_again(at.draft, at.rec)),
+        LateSub => Ok(is_late_sub(at.draft, at.rec)),
+        TooDeep => Ok(is_too_deep(at.draft, at.rec)),
+        NotRoot => Ok(is_no_root(at.draft, at.rec)),
+        NotInTree => Ok(is_not_in_tree(at.draft, at.rec)),
+        Fields => Ok(has_wrong_fields(at.draft, at.rec)),
+        SelfInterference => Ok(interferes_with_own(at.draft, at.tally, at.rec)),
+        WrongTree => Ok(is_of_wrong_tree(at.draft, at.rec)),
+        WrongKind => Ok(is_of_wrong_kind(at.draft, at.rec)),
+        NotCovered => Ok(is_not_covered(at.draft, at.rec)),
+        MappedTwice => Ok(is_mapped_again(at.draft, at.rec)),
+        NoRun => Ok(has_no_run(at.whole, at.rec)),
+        TwoRuns => Ok(is_run_again(at.draft, at.rec)),
+        RepeatedEvent => Ok(repeats_event(at.draft, at.rec)),
+        UndefinedEvent => Ok(waits_for_none(at.whole, at.rec)),
+        Serial => is_bad_serial(alloc, at.whole, at.draft, at.tally, at.rec),
+        TooManyCells => Ok(has_many_cells(at.draft, at.tally, at.rec)),
+        TooManyAccesses => Ok(has_many_accesses(at.draft, at.tally, at.rec)),
+        TooMuchLoad => has_much_load(alloc, at.draft, at.rec),
+        _ => Ok(false),
+    }
+}
+
+/// The first rule that a record breaks, but for those of the forest.
+pub(crate) fn first_broken<P: PointSet>(
+    alloc: Global,
+    at: &AtRecord<'_, '_, P>,
+) -> Result<Option<Code>, AllocError>
+    requires { Ascends at.now.rec.now }
+    ensures { IfAt at.now (λ r. IfOk result (λ code. code ≡ find (breaks_other r) record_rules)) }
+{
+    let mut rest = RULES.as_slice();
+    while let [code, more @ ..] = rest {
+        if breaks(alloc, at, *code)? {
+            return Ok(Some(*code));
+        }
+        rest = more;
+    }
+    Ok(None)
+}
