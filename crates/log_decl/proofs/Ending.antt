@@ -7,6 +7,7 @@ use Rattle.std.proofs.lemmas.List.{take-append-drop, drop_all}
 use Rattle.spy_grammar.specs.declared.code.Code.{Code}
 use Rattle.spy_grammar.specs.declared.record.Lined.{Lined}
 use Rattle.log_rules.specs.Counts.{access_total}
+use Rattle.semantics.specs.declared.limits.TheConstants.{MOST_ACCESSES}
 use Rattle.semantics.specs.Records.{records_of}
 use Rattle.semantics.specs.Tables.{Tables, tables_of}
 use Rattle.semantics.specs.declared.faults.Fault.{Fault}
@@ -38,7 +39,7 @@ stopped log k t code l stands at e =
     let kept = take k log in
     let here = stands.here in
     let rest = behind log k here.0 here.1 in
-    let within : AreWithin kept = subst (λ (u : Tables). access_total u (records_of kept) ≤ 4194304) stands.tables stands.within in
+    let within : AreWithin kept = subst (λ (u : Tables). access_total u (records_of kept) ≤ MOST_ACCESSES) stands.tables stands.within in
     let same : here.0 ≡ l = same_Some here.0 l (sym here.1 ∙ at) in
     parted log k t (Some code) stands
     ∙ ap (λ o. option_or o (records_fault all kept (drop k log))) e

@@ -10,6 +10,7 @@ use Rattle.spy_grammar.specs.declared.code.Code.TheVariants as codes
 use Rattle.spy_grammar.specs.declared.record.Record.{Record}
 use Rattle.spy_grammar.specs.declared.record.Record.TheVariants.{Sub}
 use Rattle.spy_grammar.specs.declared.record.Lined.{Lined}
+use Rattle.semantics.specs.declared.limits.TheConstants.{MOST_ACCESSES}
 use Rattle.semantics.specs.Records.{records_of}
 use Rattle.semantics.specs.Tables.{tables_of}
 use Rattle.semantics.specs.declared.faults.Fault.{Fault}
@@ -62,7 +63,7 @@ module _ (kind broken : Code → Bool) where
 
 -- The earlier records keep the limit on accesses.
 abbrev pub AreWithin : List Lined → Type 0
-AreWithin earlier = access_total (tables_of earlier) (records_of earlier) ≤ 4194304
+AreWithin earlier = access_total (tables_of earlier) (records_of earlier) ≤ MOST_ACCESSES
 
 not_more : (n most : ℕ) → n ≤ most → nat_lt most (n + 0) ≡ false
 not_more n most le = grind (arith, nat_tests)
@@ -75,7 +76,7 @@ come_after : (log : List Record) (earlier : List Lined) (r : Record) → AreWith
 come_after log earlier (Sub part colour space) within =
     let t = tables_of earlier in
     let r = Sub part colour space in
-    let few = not_more (access_total t (records_of earlier)) 4194304 within in
+    let few = not_more (access_total t (records_of earlier)) MOST_ACCESSES within in
     rw (list_any_none (λ x. false) t.nodes (λ _ _ _. refl), few) (both_or (not (rules.is_outside t r)) (not (rules.is_not_disjoint t r)))
 come_after log earlier r within = refl
 
@@ -87,7 +88,7 @@ tried_told log earlier r within = others_first is_of_forest (breaks (record_in l
 -- Where a record keeps the other rules, so do those before it keep the limit on accesses.
 few_kept : (log : List Record) (earlier : List Lined) (r : Record) → other_broken log earlier r ≡ None → AreWithin earlier
 few_kept log earlier r e =
-    not_less (access_total (tables_of earlier) (records_of earlier)) (rules.accesses (tables_of earlier) r) 4194304
+    not_less (access_total (tables_of earlier) (records_of earlier)) (rules.accesses (tables_of earlier) r) MOST_ACCESSES
     (none_passes (breaks_other (record_in log earlier r)) e codes.TooManyAccesses refl)
 
 -- Where the first records keep the other rules, the first fault is theirs against the forest, or else that of the records after them.

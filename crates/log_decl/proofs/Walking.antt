@@ -8,6 +8,7 @@ use Rattle.spy_grammar.specs.declared.code.Code.{Code}
 use Rattle.spy_grammar.specs.declared.code.Code.TheVariants as codes
 use Rattle.spy_grammar.specs.declared.record.Record.{Record}
 use Rattle.spy_grammar.specs.declared.record.Lined.{Lined}
+use Rattle.semantics.specs.declared.limits.TheConstants.{MOST_ACCESSES}
 use Rattle.semantics.specs.Records.{records_of}
 use Rattle.semantics.specs.Tables.{Tables, tables_of, with_record, no_tables}
 use Rattle.semantics.proofs.lemmas.RecordRules.{none_passes}
@@ -49,7 +50,7 @@ keeps_more log i t l tables keep lt is none =
     subst (Keep (records_of log) []) (ap (λ (x : Lined). take i log ++ x ∷ []) is ∙ sym (take_more log i l lt))
     (keep_more (records_of log) [] (take i log) l keep (subst (λ (u : Tables). broken_of (records_of log) (records_of (take i log)) u l.rec ≡ None) tables none))
 
-pub stands : (log : List Lined) (k i : ℕ) (t : Tables) (code : Code) (l : Lined) → k ≡ i → t ≡ tables_of (take i log) → Keep (records_of log) [] (take i log) → access_total t (records_of (take i log)) ≤ 4194304
+pub stands : (log : List Lined) (k i : ℕ) (t : Tables) (code : Code) (l : Lined) → k ≡ i → t ≡ tables_of (take i log) → Keep (records_of log) [] (take i log) → access_total t (records_of (take i log)) ≤ MOST_ACCESSES
     → i < length log → l ≡ get_or log i l → broken_of (records_of log) (records_of (take i log)) t l.rec ≡ Some code → StandsAt log k t (Some code)
 stands log k i t code l at tables keep within lt is e =
     subst (λ n. StandsAt log n t (Some code)) (sym at) (record {
@@ -63,7 +64,7 @@ stands log k i t code l at tables keep within lt is e =
 pub counted : (log : List Lined) (k i : ℕ) → k ≡ i → i ≤ length log → k ≡ length (records_of (take i log))
 counted log k i at le = at ∙ sym (length-map (take i log) (λ (x : Lined). x.rec) ∙ length-take-le i log le)
 
-pub stands_where : (log : List Lined) (k i : ℕ) (t : Tables) (o : Option Code) (l : Lined) → k ≡ i → t ≡ tables_of (take i log) → Keep (records_of log) [] (take i log) → access_total t (records_of (take i log)) ≤ 4194304
+pub stands_where : (log : List Lined) (k i : ℕ) (t : Tables) (o : Option Code) (l : Lined) → k ≡ i → t ≡ tables_of (take i log) → Keep (records_of log) [] (take i log) → access_total t (records_of (take i log)) ≤ MOST_ACCESSES
     → i < length log → l ≡ get_or log i l → is_some o ≡ true → o ≡ broken_of (records_of log) (records_of (take i log)) t l.rec → StandsAt log k t o
 stands_where log k i t None l at tables keep within lt is some e = absurd (false≢true some)
 stands_where log k i t (Some code) l at tables keep within lt is some e = stands log k i t code l at tables keep within lt is (sym e)

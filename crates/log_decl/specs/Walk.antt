@@ -7,6 +7,7 @@ use Rattle.spy_grammar.specs.declared.code.Code.{Code}
 use Rattle.spy_grammar.specs.declared.code.Code.TheVariants as codes
 use Rattle.spy_grammar.specs.declared.record.Record.{Record}
 use Rattle.spy_grammar.specs.declared.record.Lined.{Lined}
+use Rattle.semantics.specs.declared.limits.TheConstants.{MOST_ACCESSES}
 use Rattle.semantics.specs.Records.{records_of}
 use Rattle.semantics.specs.Tables.{Tables, tables_of}
 use Rattle.semantics.specs.declared.faults.Fault.{Fault}
@@ -58,5 +59,5 @@ pub record StandsAt (log : List Lined) (k : ℕ) (t : Tables) (code : Option Cod
   pub in_log : k ≤ length log
   pub tables : t ≡ tables_of (take k log)
   pub kept : Keep (records_of log) [] (take k log)
-  pub within : access_total t (records_of (take k log)) ≤ 4194304
+  pub within : access_total t (records_of (take k log)) ≤ MOST_ACCESSES
   pub here : MatchOption code (length log ≤ k) (λ c. (l : Lined) × (slice_get log k ≡ Some l) × (other_broken (records_of log) (take k log) l.rec ≡ Some c))

@@ -9,12 +9,10 @@ ghost use Rattle.log_reading.specs.Spelled.{EndsBy, HasFault, HasFaultOfLines, S
 
 use crate::reading::{Input, SpellEnd, read_input};
 use log_laws::read_logs_are_good;
+use semantics::MOST_BYTES;
 use spy_grammar::Code;
 use spy_lines::{LineList, Lines};
 use std::alloc::Global;
-
-/// How many bytes an input has at most.
-pub const MOST_BYTES: u64 = 67_108_864;
 
 /// The lines of an input, over its bytes.
 fn lines_of(bytes: Vec<u8>) -> Result<LineList, SpellEnd>

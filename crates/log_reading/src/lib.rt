@@ -4,5 +4,5 @@
 mod input;
 mod reading;
 
-pub use input::{MOST_BYTES, input_in};
+pub use input::input_in;
 pub use reading::{Input, SpellEnd, read_records};

@@ -6,6 +6,7 @@ use Rattle.std.specs.Option.{option_map_or}
 use Rattle.spy_grammar.specs.declared.record.Record.{Record}
 use Rattle.semantics.specs.declared.tables.Req as reqs
 use Rattle.semantics.specs.declared.tables.Inst as insts
+use Rattle.semantics.specs.declared.limits.TheConstants.{MOST_ACCESSES}
 use Rattle.semantics.specs.Tables.{Tables}
 use Rattle.semantics.specs.SerialOrder.{listed}
 use Rattle.semantics.specs.Rules.{is_declared, space_id, names_unknown, has_many_points, has_many_cells, has_many_accesses}
@@ -32,7 +33,7 @@ pub record IsTally (earlier : List Record) (t : Tables) (tally : Tally) : Type 0
   pub lists : IsSetOf (listed t) (contains nat_eq tally.listed)
   pub claims : AreClaims t tally.claims
   pub known : AreKnown earlier t
-  pub within : access_total t earlier ≤ 4194304
+  pub within : access_total t earlier ≤ MOST_ACCESSES
 
 -- A fact of all earlier records whose tally and tables these are.
 abbrev pub IfTally : Tables → Tally → (List Record → Type 0) → Type 0

@@ -7,10 +7,8 @@ ghost use Rattle.log_rules.specs.Counts.{cut, asked, points_asked, cells_asked, 
 
 use log_tables::Draft;
 use point_set::PointSet;
+use semantics::MOST_RECORDS;
 use spy_grammar::{Nums, Record};
-
-/// How many records may stand before one that is not the end.
-const MOST_RECORDS: usize = 131_072;
 
 /// Whether so many records after the header stand before a record that it is late, and is not the end.
 pub fn is_late(before: usize, rec: &Record) -> bool

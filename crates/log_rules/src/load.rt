@@ -12,13 +12,10 @@ use crate::counts::{exceeds, raised};
 use log_tables::Draft;
 use point_set::{PointSet, points_in};
 use privilege::Priv;
-use semantics::{Inst, Req};
+use semantics::{Inst, MOST_LOAD, Req};
 use spy_grammar::Record;
 use std::alloc::{AllocError, Global};
 use std::collections::HashMap;
-
-/// How much load a log may have.
-const MOST_LOAD: u128 = 67_108_864;
 
 /// A place.
 #[derive(Clone, Copy, PartialEq, Eq, Hash)]

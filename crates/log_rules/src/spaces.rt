@@ -6,10 +6,8 @@ ghost use Rattle.semantics.specs.Rules.{is_sub_again, is_late_sub, is_too_deep, 
 
 use log_tables::Draft;
 use point_set::PointSet;
+use semantics::DEEPEST;
 use spy_grammar::Record;
-
-/// The steps that a space may lie below its topmost space.
-const DEEPEST: usize = 64;
 
 /// Whether a record makes a subspace of a space that is one already.
 pub fn is_sub_again<P: PointSet>(draft: &Draft<P>, rec: &Record) -> bool
@@ -55,7 +53,7 @@ fn height<P: PointSet>(draft: &Draft<P>, space: u32, limit: usize) -> usize
     limit
 }
 
-/// Whether a record makes a subspace that lies more than 64 steps below its topmost space.
+/// Whether a record makes a subspace that lies too far below its topmost space.
 pub fn is_too_deep<P: PointSet>(draft: &Draft<P>, rec: &Record) -> bool
     ensures { result ≡ is_too_deep draft.now rec.now }
 {

@@ -16,18 +16,10 @@ use crate::serial::note_all;
 use log_tables::{Draft, priv_of};
 use point_set::PointSet;
 use privilege::Priv;
+use semantics::{MOST_ACCESSES, MOST_CELLS, MOST_POINTS};
 use spy_grammar::{Nums, Record};
 use std::alloc::{AllocError, Global};
 use std::collections::HashSet;
-
-/// How many points the spaces of a log may have together.
-const MOST_POINTS: u128 = 1_048_576;
-
-/// How many cells the instances of a log may have together.
-const MOST_CELLS: u128 = 1_048_576;
-
-/// How many accesses the records of a log may ask for together.
-const MOST_ACCESSES: u128 = 4_194_304;
 
 /// What the records so far add up to: their points, cells and accesses, the items that they list in serial order, and the places that the requirements of each task claim, but for its first.
 #[derive(Drop)]

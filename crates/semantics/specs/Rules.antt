@@ -19,6 +19,7 @@ use Rattle.semantics.specs.declared.tables.Inst as insts
 use Rattle.semantics.specs.declared.tables.LogNode.{LogNode}
 use Rattle.semantics.specs.declared.tables.Op.{Op}
 use Rattle.semantics.specs.declared.tables.Op.TheVariants as operations
+use Rattle.semantics.specs.declared.limits.TheConstants.{MOST_RECORDS, MOST_POINTS, DEEPEST, MOST_CELLS, MOST_ACCESSES, MOST_LOAD}
 use Rattle.semantics.specs.Tables as tables
 use Rattle.semantics.specs.Tables.{Tables, points_of, privilege_of, place_of}
 use Rattle.semantics.specs.Points.{is_in, is_within, meets, points_in, fields_in, tree_at, part_at, spaces_above, is_in_tree}
@@ -33,7 +34,7 @@ use Rattle.semantics.specs.Reads.{req_at}
 -- too-many-records: it is later than the 131,072nd record after the header, and not the end. (`before` records stand before it.)
 abbrev pub is_late : ℕ → Record → Bool
 is_late before (End n) = false
-is_late before r = nat_lt 131072 before
+is_late before r = nat_lt MOST_RECORDS before
 
 -- What has an id. Tasks and fills are one kind of thing, items; a task may also be named as such.
 pub data Thing : Type 0 where
@@ -119,7 +120,7 @@ names_unknown t r = not (list_all (is_declared t) (names r)) || lacks_req t r
 
 -- too-many-points: the spaces up to this one have more than 1,048,576 points together.
 abbrev pub has_many_points : Tables → Record → Bool
-has_many_points t (Ispace id set) = nat_lt 1048576 (sum_by (λ (s : tables.Space). length s.points) t.spaces + length (points_of set))
+has_many_points t (Ispace id set) = nat_lt MOST_POINTS (sum_by (λ (s : tables.Space). length s.points) t.spaces + length (points_of set))
 has_many_points t _ = false
 
 abbrev pub is_sub : Tables → ℕ → Bool
@@ -137,7 +138,7 @@ is_late_sub t _ = false
 
 -- too-deep: its space lies more than 64 steps below the topmost space above it.
 abbrev pub is_too_deep : Tables → Record → Bool
-is_too_deep t (Sub part colour space) = nat_lt 64 (1 + option_map_or (λ (p : tables.Part). length (spaces_above t p.space)) (part_at t part) 0)
+is_too_deep t (Sub part colour space) = nat_lt DEEPEST (1 + option_map_or (λ (p : tables.Part). length (spaces_above t p.space)) (part_at t part) 0)
 is_too_deep t _ = false
 
 -- not-within: its space has a point outside the space that its partition splits.
@@ -307,7 +308,7 @@ size_of t space fields = length (points_in t space) * length fields
 
 -- too-many-cells: the instances up to this one have more than 1,048,576 cells.
 abbrev pub has_many_cells : Tables → Record → Bool
-has_many_cells t (Inst id tree space fields kind) = nat_lt 1048576 (sum_by (λ (i : insts.Inst). size_of t i.space i.fields) t.insts + size_of t space fields)
+has_many_cells t (Inst id tree space fields kind) = nat_lt MOST_CELLS (sum_by (λ (i : insts.Inst). size_of t i.space i.fields) t.insts + size_of t space fields)
 has_many_cells t _ = false
 
 -- The accesses that a record asks for: its points and fields.
@@ -322,7 +323,7 @@ accesses t _ = 0
 
 -- too-many-accesses: those of the records up to this one are more than 4,194,304.
 abbrev pub has_many_accesses : List Record → Tables → Record → Bool
-has_many_accesses earlier t r = nat_lt 4194304 (sum_by (accesses t) earlier + accesses t r)
+has_many_accesses earlier t r = nat_lt MOST_ACCESSES (sum_by (accesses t) earlier + accesses t r)
 
 abbrev pub reduces : Priv → Bool
 reduces (privileges.Red op) = true
@@ -334,5 +335,5 @@ load_of t i = sum_by (λ (p : ℕ × ℕ). length (filter (λ (r : reqs.Req). re
 
 -- too-much-load: the load of all instances is more than 67,108,864.
 abbrev pub has_much_load : Tables → Record → Bool
-has_much_load t (End n) = nat_lt 67108864 (sum_by (load_of t) t.insts)
+has_much_load t (End n) = nat_lt MOST_LOAD (sum_by (load_of t) t.insts)
 has_much_load t _ = false

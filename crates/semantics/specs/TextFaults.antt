@@ -9,11 +9,12 @@ use Rattle.spy_grammar.specs.declared.code.Code.TheVariants as codes
 use Rattle.spy_grammar.specs.declared.record.Record.{Record}
 use Rattle.spy_grammar.specs.Reading.{line_at}
 use Rattle.semantics.specs.declared.faults.Fault.{Fault}
+use Rattle.semantics.specs.declared.limits.TheConstants.{MOST_BYTES}
 use Rattle.semantics.specs.Records.{parts_of, line_count}
 
 -- too-long: the input has more than 67,108,864 bytes.
 abbrev pub is_too_long : List ℕ → Bool
-is_too_long bytes = nat_lt 67108864 (length bytes)
+is_too_long bytes = nat_lt MOST_BYTES (length bytes)
 
 -- newline: some bytes stand after the last line feed.
 abbrev pub ends_within_line : List ℕ → Bool

@@ -4,6 +4,7 @@
 mod command;
 mod faults;
 mod laws;
+mod limits;
 mod moves;
 mod places;
 mod tables;
@@ -11,6 +12,9 @@ mod tables;
 pub use command::Command;
 pub use faults::Fault;
 pub use laws::nodes_are_of_records;
+pub use limits::{
+    DEEPEST, MOST_ACCESSES, MOST_BYTES, MOST_CELLS, MOST_LOAD, MOST_POINTS, MOST_RECORDS,
+};
 pub use moves::Move;
 pub use places::{Cell, Place};
 pub use tables::{
