@@ -1,6 +1,5 @@
 -- The codes of the rules that a log may break, and their texts.
-use Rattle.std.specs.Prelude.{ℕ, List, [], ◌∷◌, codes, if◌then◌else◌}
-use Rattle.std.specs.Str.{bytes_eq}
+use Rattle.std.specs.Prelude.{ℕ, List, codes}
 use Rattle.spy_grammar.specs.declared.code.Code.{Code}
 use Rattle.spy_grammar.specs.declared.code.Code.TheVariants.{TooLong, Newline, Word, Form, Number, Order, Header, Ended, Count, TooManyRecords, RepeatedId, UnknownId, TooManyPoints, SpaceInTwo, LateSub, TooDeep, NotWithin, NotDisjoint, NotRoot, NotInTree, Fields, SelfInterference, WrongTree, WrongKind, NotCovered, MappedTwice, NoRun, TwoRuns, RepeatedEvent, UndefinedEvent, Serial, TooManyCells, TooManyAccesses, TooMuchLoad, SerialOrder, Unmapped}
 
@@ -42,16 +41,3 @@ code_text TooManyAccesses = codes "too-many-accesses"
 code_text TooMuchLoad = codes "too-much-load"
 code_text SerialOrder = codes "serial-order"
 code_text Unmapped = codes "unmapped"
-
--- Every code, in the order of the table.
-abbrev pub all_codes : List Code
-all_codes = TooLong ∷ Newline ∷ Word ∷ Form ∷ Number ∷ Order ∷ Header ∷ Ended ∷ Count ∷ TooManyRecords ∷ RepeatedId ∷ UnknownId ∷ TooManyPoints ∷ SpaceInTwo ∷ LateSub ∷ TooDeep ∷ NotWithin ∷ NotDisjoint ∷ NotRoot ∷ NotInTree ∷ Fields ∷ SelfInterference ∷ WrongTree ∷ WrongKind ∷ NotCovered ∷ MappedTwice ∷ NoRun ∷ TwoRuns ∷ RepeatedEvent ∷ UndefinedEvent ∷ Serial ∷ TooManyCells ∷ TooManyAccesses ∷ TooMuchLoad ∷ SerialOrder ∷ Unmapped ∷ []
-
--- The first of these codes that has this text, or `Word`.
-abbrev pub code_among : List Code → List ℕ → Code
-code_among [] w = Word
-code_among (c ∷ cs) w = if bytes_eq w (code_text c) then c else code_among cs w
-
--- The code with this text, or `Word` where no code has it.
-unfoldable pub code_at : List ℕ → Code
-code_at w = code_among all_codes w

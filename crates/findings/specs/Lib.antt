@@ -2,8 +2,5 @@ pub mod Codes
 pub mod ValueTexts
 pub mod Texts
 pub mod Cells
-pub mod Numbers
-pub mod ValueReading
-pub mod Reading
 pub use Rattle.spy_words.specs.Classes
 pub use Rattle.value_terms.specs.Values

@@ -35,18 +35,18 @@ last_line (Fault line code) = record { name = codes "fault"; row = small line �
 last_line Usage = record { name = codes "usage"; row = [] }
 last_line CannotRead = record { name = codes "cannot"; row = says (codes "read") ∷ [] }
 
--- The pairs that a report lists, each in a line before its last.
-abbrev pub deps_of : Finding → List Dep
-deps_of (Deps list items before turn) = list
-deps_of f = []
-
--- The line of such a pair.
+-- The line of a pair of items.
 abbrev pub dep_line : Dep → Line
 dep_line d = record { name = if d.before then codes "before" else codes "turn"; row = small d.a ∷ small d.b ∷ says (codes "tree") ∷ small d.tree ∷ says (codes "point") ∷ large d.point ∷ says (codes "field") ∷ small d.field ∷ [] }
 
--- The lines of a report.
+-- The lines that a report lists before its own.
+abbrev pub listed_lines : Finding → List Line
+listed_lines (Deps list items before turn) = map dep_line list
+listed_lines f = []
+
+-- The lines of a report: those that it lists, and then its own.
 abbrev pub lines_of : Finding → List Line
-lines_of f = map dep_line (deps_of f) ++ last_line f ∷ []
+lines_of f = listed_lines f ++ last_line f ∷ []
 
 -- How a word is written.
 abbrev pub word_text : Word → List ℕ

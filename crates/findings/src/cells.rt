@@ -5,7 +5,7 @@ ghost use Rattle.std.specs.List.{AllByRecursion};
 ghost use Rattle.value_terms.specs.Values.{IsHeld};
 ghost use Rattle.findings.specs.declared.cells.ReportCell.TheVariants as cells;
 ghost use Rattle.findings.specs.Cells.{words_in};
-ghost use Rattle.findings.specs.Texts.{dep_line, last_line, small, Fits, IsInRange};
+ghost use Rattle.findings.specs.Texts.{Line, dep_line, last_line, small, Fits, IsInRange};
 
 use crate::cells::ReportCell::*;
 use crate::finding::{Dep, Finding};
@@ -31,17 +31,28 @@ pub enum ReportCell<'a> {
 /// The first word of a line, and the words after it.
 pub type Words<'a> = (&'static [u8], [ReportCell<'a>; 6]);
 
+/// A line that a report lists before its own.
+pub trait Listed: Copy + Drop {
+    /// The line.
+    ghost line: { Self → Line };
+
+    /// Its words. Rust's types keep each number in its range.
+    fn words(self) -> Words<'static>
+        ensures name { result.0.now ≡ (line self).name }
+        ensures row { words_in result.1 ≡ (line self).row }
+        ensures fits { Fits (line self) };
+}
+
 /// The line of a pair of items.
-#[rattlefmt::skip]
-pub fn dep_words(dep: &Dep) -> Words<'_>
-    ensures name { result.0.now ≡ (dep_line dep.now).name }
-    ensures row { words_in result.1 ≡ (dep_line dep.now).row }
-    // Rust's types keep each number in its range.
-    ensures fits { Fits (dep_line dep.now) }
-{
-    let Dep { before, a, b, tree, point, field } = dep;
-    let row = [Small(*a), Small(*b), Says(b"tree"), Small(*tree), At(*point, *field), No];
-    (if *before { b"before" } else { b"turn" }, row)
+impl Listed for Dep {
+    ghost line = { dep_line };
+
+    #[rattlefmt::skip]
+    fn words(self) -> Words<'static> {
+        let Dep { before, a, b, tree, point, field } = self;
+        let row = [Small(a), Small(b), Says(b"tree"), Small(tree), At(point, field), No];
+        (if before { b"before" } else { b"turn" }, row)
+    }
 }
 
 /// Events, each a word.

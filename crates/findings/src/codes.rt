@@ -1,20 +1,10 @@
 //! The text of each code.
 
 ghost use Rattle.std.specs.Prelude.{◌≡◌};
-ghost use Rattle.findings.specs.Codes.{code_text, code_at};
+ghost use Rattle.findings.specs.Codes.{code_text};
 
 use spy_grammar::Code;
 use spy_grammar::Code::*;
-
-/// Every code, in the order of the table.
-#[rattlefmt::skip]
-const CODES: [Code; 36] = [
-    TooLong, Newline, Word, Form, Number, Order, Header, Ended, Count, TooManyRecords,
-    RepeatedId, UnknownId, TooManyPoints, SpaceInTwo, LateSub, TooDeep, NotWithin, NotDisjoint,
-    NotRoot, NotInTree, Fields, SelfInterference, WrongTree, WrongKind, NotCovered, MappedTwice,
-    NoRun, TwoRuns, RepeatedEvent, UndefinedEvent, Serial, TooManyCells, TooManyAccesses,
-    TooMuchLoad, SerialOrder, Unmapped,
-];
 
 /// The text of a code.
 pub fn code_text(code: Code) -> &'static [u8]
@@ -58,19 +48,4 @@ pub fn code_text(code: Code) -> &'static [u8]
         SerialOrder => b"serial-order",
         Unmapped => b"unmapped",
     }
-}
-
-/// The code with this text, or `Word` where no code has it.
-#[tactic(auto, unfolding(crate::specs::Codes::code_at))]
-pub fn code_of(word: &[u8]) -> Code
-    ensures { result ≡ code_at word.now }
-{
-    let mut rest = CODES.as_slice();
-    while let [code, more @ ..] = rest {
-        if word == code_text(*code) {
-            return *code;
-        }
-        rest = more;
-    }
-    Word
 }

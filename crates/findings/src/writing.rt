@@ -3,12 +3,13 @@
 ghost use Rattle.std.specs.Prelude.{◌≡◌, ◌↔◌, ◌++◌, ◌∷◌, [], not, map, count_by, IsTrue, IfOk, OnOk};
 ghost use Rattle.std.specs.List.{AllByRecursion};
 ghost use Rattle.findings.specs.declared.cells.ReportCell.TheVariants as cells;
+ghost use Rattle.findings.specs.declared.finding.Finding.TheVariants as findings;
 ghost use Rattle.findings.specs.Cells.{with_cell, words_in};
 ghost use Rattle.findings.specs.Texts as texts;
-ghost use Rattle.findings.specs.Texts.{small, dep_line, row_text, line_text, lines_text, Fits, IsWhole, Good};
+ghost use Rattle.findings.specs.Texts.{small, row_text, line_text, lines_text, Fits, IsWhole, Good};
 
 use crate::cells::ReportCell::*;
-use crate::cells::{ReportCell, dep_words, last_words};
+use crate::cells::{Listed, ReportCell, last_words};
 use crate::codes;
 use crate::finding::{Dep, Finding};
 use crate::value_text::push_value;
@@ -36,28 +37,35 @@ impl From<value_terms::Memory> for Memory {
     }
 }
 
-/// The pairs that a report lists.
-fn deps_of(f: &Finding) -> &[Dep]
-    ensures { result.now ≡ texts.deps_of f.now }
+/// Whether each number of some lines lies in the range of its type. Rust's types see to that, and a
+/// proof learns of it where the numbers are read.
+fn lines_fit<L: Listed>(lines: &[L]) -> bool
+    ensures { IsTrue result ↔ AllByRecursion Fits (map L.line lines.now) }
+{
+    let mut rest = lines;
+    while let [line, more @ ..] = rest {
+        let _words = line.words();
+        rest = more;
+    }
+    true
+}
+
+/// The same of the lines that a report lists.
+fn listed_fit(f: &Finding) -> bool
+    ensures { IsTrue result ↔ AllByRecursion Fits (texts.listed_lines f.now) }
 {
     match f {
-        Finding::Deps { list, .. } => list.as_slice(),
-        _ => &[],
+        Finding::Deps { list, .. } => lines_fit(list.as_slice()),
+        _ => true,
     }
 }
 
-/// Whether each number lies in the range of its type. Rust's types see to that, and a proof learns
-/// of it where the numbers are read.
+/// The same of all its lines.
 fn fits(f: &Finding) -> bool
     ensures { IsTrue result ↔ AllByRecursion Fits (texts.lines_of f.now) }
 {
     let _last = last_words(f);
-    let mut rest = deps_of(f);
-    while let [dep, more @ ..] = rest {
-        let _line = dep_words(dep);
-        rest = more;
-    }
-    true
+    listed_fit(f)
 }
 
 /// How many pairs have a fixed order.
@@ -170,22 +178,32 @@ fn push_line(out: &mut Vec<u8>, name: &[u8], row: &[ReportCell<'_>]) -> Result<(
     out.extend_from_slice(b"\n")
 }
 
-fn push_dep(out: &mut Vec<u8>, dep: &Dep) -> Result<(), AllocError>
-    ensures { OnOk result (out.new.items ≡ out.old.items ++ line_text (dep_line dep.now) ++ 10 ∷ []) }
+fn push_listed_line<L: Listed>(out: &mut Vec<u8>, line: L) -> Result<(), AllocError>
+    ensures { OnOk result (out.new.items ≡ out.old.items ++ line_text (L.line line) ++ 10 ∷ []) }
 {
-    let (name, row) = dep_words(dep);
+    let (name, row) = line.words();
     push_line(out, name, &row)
 }
 
-fn push_deps(out: &mut Vec<u8>, deps: &[Dep]) -> Result<(), AllocError>
-    ensures { OnOk result (out.new.items ≡ out.old.items ++ lines_text (map dep_line deps.now)) }
+fn push_lines<L: Listed>(out: &mut Vec<u8>, lines: &[L]) -> Result<(), AllocError>
+    ensures { OnOk result (out.new.items ≡ out.old.items ++ lines_text (map L.line lines.now)) }
 {
-    let mut rest = deps;
-    while let [dep, more @ ..] = rest {
-        push_dep(out, dep)?;
+    let mut rest = lines;
+    while let [line, more @ ..] = rest {
+        push_listed_line(out, *line)?;
         rest = more;
     }
     Ok(())
+}
+
+/// Writes the lines that a report lists.
+fn push_listed(out: &mut Vec<u8>, f: &Finding) -> Result<(), AllocError>
+    ensures { OnOk result (out.new.items ≡ out.old.items ++ lines_text (texts.listed_lines f.now)) }
+{
+    match f {
+        Finding::Deps { list, .. } => push_lines(out, list.as_slice()),
+        _ => Ok(()),
+    }
 }
 
 /// The text of a report.
@@ -195,8 +213,24 @@ pub fn text(alloc: Global, f: &Finding) -> Result<Vec<u8>, Memory>
     ensures { IfOk result (λ v. v.items ≡ texts.report_text f.now) }
 {
     let mut out = Vec::new(alloc);
-    push_deps(&mut out, deps_of(f))?;
+    push_listed(&mut out, f)?;
     let (name, row) = last_words(f);
     push_line(&mut out, name, &row)?;
     Ok(out)
+}
+
+/// The text of `Usage`, for those who write it without taking memory.
+#[tactic(auto, unfolding(crate::specs::Texts::report_text))]
+pub fn usage_text() -> &'static [u8]
+    ensures { result.now ≡ texts.report_text findings.Usage }
+{
+    b"usage\n"
+}
+
+/// The text of `CannotRead`, likewise.
+#[tactic(auto, unfolding(crate::specs::Texts::report_text))]
+pub fn cannot_read_text() -> &'static [u8]
+    ensures { result.now ≡ texts.report_text findings.CannotRead }
+{
+    b"cannot read\n"
 }

@@ -6,7 +6,7 @@ use Rattle.std.proofs.lemmas.List.{length-map}
 use Rattle.spy_grammar.specs.declared.record.Lined.{Lined}
 use Rattle.spy_grammar.specs.Spelling.{Good}
 use Rattle.findings.specs.declared.finding.Finding.{Finding}
-use Rattle.findings.specs.declared.finding.Finding.TheVariants.{Accepted, Ordered, Deps, Cycle, Race, Unordered, Differ, Fault, Usage, CannotRead}
+use Rattle.findings.specs.declared.finding.Finding.TheVariants.{Accepted, Ordered, Deps, Cycle, Race, Unordered, Differ, Fault}
 use Rattle.semantics.specs.declared.command.Command.{Command}
 use Rattle.semantics.specs.declared.command.Command.TheVariants as commands
 use Rattle.semantics.specs.declared.faults.Fault.{Fault as Shown}
@@ -173,15 +173,7 @@ Told command lines log f = ((shown : Shown) × (f ≡ Fault shown.line shown.cod
 
 told : (command : Command) (lines : ℕ) (log : List Lined) (f : Finding) → IsFound command lines log f → Told command lines log f
 told command lines log (Fault line code) p = inl (record { line = line; code = code }, refl, p)
-told command lines log (Accepted tasks operations reads) p = inr p
-told command lines log (Ordered tasks pairs) p = inr p
-told command lines log (Deps list items before turn) p = inr p
-told command lines log (Cycle events) p = inr p
-told command lines log (Race a b inst point field) p = inr p
-told command lines log (Unordered a b tree point field) p = inr p
-told command lines log (Differ task number point field got want) p = inr p
-told command lines log Usage p = inr p
-told command lines log CannotRead p = inr p
+told command lines log _ p = inr p
 
 one_told : (command : Command) (lines : ℕ) (log : List Lined) → (command ≡ commands.Check → log_fault command lines log ≡ None → AreOrderly (tables_of log))
     → (f g : Finding) → Told command lines log f → Told command lines log g → f ≡ g

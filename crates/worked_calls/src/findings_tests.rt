@@ -1,7 +1,8 @@
 //! The texts of reports, each read and written, and values that are changed before they are written.
 
 use crate::values::value_of;
-use findings::{Finding, TextFault, good_finding, read_text, text};
+use findings::{Finding, good_finding, text};
+use report_reading::{TextFault, read_text};
 use std::test::Fail;
 use value_terms::{Base, Contribution};
 

@@ -1,13 +1,13 @@
 -- The lines of a report, written cell by cell.
+use Rattle.std.specs.Prelude.{◌↔◌, Bool, IsTrue}
 use Rattle.std.proofs.Common.{◌≡◌, ℕ, suc, ◌-◌, ◌<◌, ◌≤◌, ◌^◌, List, [], ◌∷◌, ◌++◌, map, length, take, drop, get_or, arith, refl, sym, ap, ◌∙◌, append_assoc, append-nil}
 use Rattle.std.specs.List.{AllByRecursion}
 use Rattle.std.proofs.lemmas.List.{take_all}
 use Rattle.findings.specs.declared.cells.ReportCell.{ReportCell}
 use Rattle.findings.specs.declared.cells.ReportCell.TheVariants as cells
-use Rattle.findings.specs.declared.finding.Dep.{Dep}
 use Rattle.findings.specs.declared.finding.Finding.{Finding}
 use Rattle.findings.specs.Cells.{with_cell, words_in}
-use Rattle.findings.specs.Texts.{Word, Line, small, last_line, deps_of, dep_line, word_text, row_text, line_text, lines_text, report_text, IsInRange}
+use Rattle.findings.specs.Texts.{Word, Line, small, last_line, listed_lines, lines_of, word_text, row_text, line_text, lines_text, report_text, IsInRange, Fits}
 
 pub small_fit : (ns : List ℕ) → ((k : ℕ) → get_or ns k 0 < 2 ^ 32) → AllByRecursion IsInRange (map small ns)
 small_fit [] h = tt
@@ -30,20 +30,32 @@ cell_written before out all (c ∷ cs) x some read whole is =
     rw (rest, is, read, append_assoc) (ap (λ (w : List ℕ). before ++ w) (sym split) ∙ whole)
 
 -- one line more was written
-pub line_written : (before out all : List ℕ) (ds : List Dep) (d : Dep) → 1 ≤ length ds → before ++ lines_text (map dep_line ds) ≡ all → out ≡ before ++ line_text (dep_line (get_or ds 0 d)) ++ 10 ∷ [] → out ++ lines_text (map dep_line (take (length ds - 1) (drop 1 ds))) ≡ all
-line_written before out all [] d some whole is = absurd (omega arith)
-line_written before out all (e ∷ ds) d some whole is =
-    let rest : take (length (e ∷ ds) - 1) ds ≡ ds = take_all _ ds (omega arith) in
-    rw (rest, is) (ends before (line_text (dep_line e)) (lines_text (map dep_line ds)) ∙ whole)
+pub line_written : {A : Type 0} (line : A → Line) (before out all : List ℕ) (xs : List A) (x : A) → 1 ≤ length xs → x ≡ get_or xs 0 x → before ++ lines_text (map line xs) ≡ all → out ≡ before ++ line_text (line x) ++ 10 ∷ [] → out ++ lines_text (map line (take (length xs - 1) (drop 1 xs))) ≡ all
+line_written line before out all [] x some read whole is = absurd (omega arith)
+line_written line before out all (y ∷ ys) x some read whole is =
+    let rest : take (length (y ∷ ys) - 1) ys ≡ ys = take_all _ ys (omega arith) in
+    rw (rest, is, read) (ends before (line_text (line y)) (lines_text (map line ys)) ∙ whole)
   where
-    ends : (xs ys zs : List ℕ) → (xs ++ ys ++ 10 ∷ []) ++ zs ≡ xs ++ (ys ++ 10 ∷ zs)
-    ends xs ys zs = simp append_assoc
+    ends : (us vs ws : List ℕ) → (us ++ vs ++ 10 ∷ []) ++ ws ≡ us ++ (vs ++ 10 ∷ ws)
+    ends us vs ws = simp append_assoc
 
 lines_text-append : (ks ls : List Line) → lines_text (ks ++ ls) ≡ lines_text ks ++ lines_text ls
 lines_text-append [] ls = refl
 lines_text-append (k ∷ ks) ls = ap (λ (x : List ℕ). line_text k ++ 10 ∷ x) (lines_text-append ks ls) ∙ sym (append_assoc (line_text k) (10 ∷ lines_text ks) (lines_text ls))
 
--- the text of a report: the pairs that it lists, and then its own line
-pub text_told : (f : Finding) → report_text f ≡ lines_text (map dep_line (deps_of f)) ++ line_text (last_line f) ++ 10 ∷ []
+-- the text of a report: the lines that it lists, and then its own
+pub text_told : (f : Finding) → report_text f ≡ lines_text (listed_lines f) ++ line_text (last_line f) ++ 10 ∷ []
 unfolding report_text
-text_told f = lines_text-append (map dep_line (deps_of f)) (last_line f ∷ []) ∙ sym (append_assoc (lines_text (map dep_line (deps_of f))) (line_text (last_line f)) (10 ∷ []))
+text_told f = lines_text-append (listed_lines f) (last_line f ∷ []) ∙ sym (append_assoc (lines_text (listed_lines f)) (line_text (last_line f)) (10 ∷ []))
+
+all_with : (ls : List Line) (l : Line) → Fits l → AllByRecursion Fits ls → AllByRecursion Fits (ls ++ l ∷ [])
+all_with [] l fits all = (fits, tt)
+all_with (k ∷ ls) l fits all = (all.0, all_with ls l fits all.1)
+
+pub all_before : (ls : List Line) (l : Line) → AllByRecursion Fits (ls ++ l ∷ []) → AllByRecursion Fits ls
+all_before [] l all = tt
+all_before (k ∷ ls) l all = (all.0, all_before ls l all.1)
+
+-- a report whose own line fits does where the lines that it lists do
+pub all_fit : (f : Finding) (b : Bool) → Fits (last_line f) → (IsTrue b ↔ AllByRecursion Fits (listed_lines f)) → IsTrue b ↔ AllByRecursion Fits (lines_of f)
+all_fit f b fits h = (λ good. all_with (listed_lines f) (last_line f) fits (h.0 good), λ all. h.1 (all_before (listed_lines f) (last_line f) all))

@@ -1,9 +1,0 @@
-use Rattle.std.proofs.Common.{◌≡◌, ◌++◌, map, length}
-use Rattle.findings.specs.Reading as says
-use Rattle.findings.proofs.reading.events_at.Given as goal
-
-abbrev pub invariant-loop-rest : goal.invariant-loop-rest
-invariant-loop-rest l = l.events.items ++ says.events_at (map (λ w. w.now) l.rest) ≡ says.events_at (map (λ w. w.now) l.words)
-
-abbrev pub decreases-loop-rest : goal.decreases-loop-rest
-decreases-loop-rest l = length l.rest

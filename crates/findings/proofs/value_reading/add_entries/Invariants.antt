@@ -1,9 +1,0 @@
-use Rattle.std.proofs.Common.{◌≡◌, length}
-use Rattle.findings.specs.ValueReading as says
-use Rattle.findings.proofs.value_reading.add_entries.Given as goal
-
-abbrev pub invariant-loop-word : goal.invariant-loop-word
-invariant-loop-word l = says.with_entries l.op l.words l.value ≡ says.with_entries l.op l.fn.words l.fn.value
-
-abbrev pub decreases-loop-word : goal.decreases-loop-word
-decreases-loop-word l = length l.words

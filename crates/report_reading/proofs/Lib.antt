@@ -1,0 +1,3 @@
+mod NumberLaws
+mod ValueLaws
+mod ReadLaws
