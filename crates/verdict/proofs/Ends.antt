@@ -12,10 +12,10 @@ use Rattle.spy_grammar.specs.declared.record.Lined.{Lined}
 use Rattle.spy_grammar.specs.declared.record.Record.{Record}
 use Rattle.spy_grammar.specs.declared.record.Record.TheVariants as records
 use Rattle.findings.specs.declared.finding.Finding.{Finding}
-use Rattle.findings.specs.declared.finding.Finding.TheVariants.{Accepted, Ordered, Deps, Cycle, Race, Unordered, Differ, Fault, Usage, CannotRead}
+use Rattle.findings.specs.declared.finding.Finding.TheVariants.{Accepted, Cycle, Race, Differ, Fault}
 use Rattle.semantics.specs.declared.command.Command.{Command}
 use Rattle.semantics.specs.declared.command.Command.TheVariants as commands
-use Rattle.semantics.specs.Records.{records_of, AreLines}
+use Rattle.semantics.specs.Records.{records_of}
 use Rattle.semantics.specs.Tables.{Tables, with_record, tables_of, no_tables}
 use Rattle.semantics.specs.Events.{AreLinked, graph_of}
 use Rattle.semantics.specs.Faults.{at_line, declaration_fault, serial_fault, log_fault}
@@ -24,8 +24,8 @@ use Rattle.semantics.specs.Rules.{is_late}
 use Rattle.log_laws.proofs.lemmas.Admitted.{rule_kept, by_records, no_broken_rule}
 use Rattle.log_laws.proofs.lemmas.Members.{both_none}
 use Rattle.logs.specs.Faultless.{AreDeclared}
-use Rattle.log_decl.proofs.lemmas.Ascending.{few_records}
 use Rattle.verdict.specs.Findings.{table_fault, IsFoundOf}
+use Rattle.verdict.specs.Faultless.{AreFaultless}
 
 -- ---- a log has no more items and nodes than records
 
@@ -58,12 +58,6 @@ few_from t n (l ∷ log) few =
     let more = few_from (with_record t l.line l.rec) (n + 1) log (record { items = omega (arith, few.items, one.items); nodes = omega (arith, few.nodes, one.nodes) }) in
     record { items = omega (arith, more.items); nodes = omega (arith, more.nodes) }
 
-pub few_items : (lines : ℕ) (log : List Lined) → AreLines lines log → length (tables_of log).items < 2 ^ 32
-few_items lines log stand = let few = few_from no_tables 0 log (record { items = omega arith; nodes = omega arith }) in omega (arith, few.items, few_records lines log stand)
-
-pub few_nodes : (lines : ℕ) (log : List Lined) → AreLines lines log → length (tables_of log).nodes < 2 ^ 32
-few_nodes lines log stand = let few = few_from no_tables 0 log (record { items = omega arith; nodes = omega arith }) in omega (arith, few.nodes, few_records lines log stand)
-
 -- ---- faults
 
 -- Past its frame and records, the fault of a log is that of its tables.
@@ -77,15 +71,7 @@ fault_in_log command lines log line code e = rw e refl
 
 pub found_in_log : (command : Command) (lines : ℕ) (log : List Lined) → declaration_fault lines log ≡ None → (f : Finding) → IsFoundOf command (tables_of log) f → IsFound command lines log f
 found_in_log command lines log e (Fault line code) h = past command lines log e ∙ h
-found_in_log command lines log e (Accepted tasks operations reads) h = (past command lines log e ∙ h.0, h.1)
-found_in_log command lines log e (Ordered tasks pairs) h = (past command lines log e ∙ h.0, h.1)
-found_in_log command lines log e (Deps list items before turn) h = (past command lines log e ∙ h.0, h.1)
-found_in_log command lines log e (Cycle events) h = (past command lines log e ∙ h.0, h.1)
-found_in_log command lines log e (Race a b inst point field) h = (past command lines log e ∙ h.0, h.1)
-found_in_log command lines log e (Unordered a b tree point field) h = (past command lines log e ∙ h.0, h.1)
-found_in_log command lines log e (Differ task number point field got want) h = (past command lines log e ∙ h.0, h.1)
-found_in_log command lines log e Usage h = (past command lines log e ∙ h.0, h.1)
-found_in_log command lines log e CannotRead h = (past command lines log e ∙ h.0, h.1)
+found_in_log command lines log e _ h = (past command lines log e ∙ h.0, h.1)
 
 -- ---- order
 
@@ -133,12 +119,18 @@ few_declared_items t are = let few = capped are.lines are.log are.faultless in o
 
 -- ---- what one replay shows
 
+-- Tables that are declared and keep each rule are those of a log that does.
+pub faultless_of : (t : Tables) → AreDeclared t → table_fault commands.Check t ≡ None → AreFaultless t
+faultless_of t are none =
+    let own : table_fault commands.Check (tables_of are.log) ≡ None = subst (λ (s : Tables). table_fault commands.Check s ≡ None) are.tables none in
+    record { lines = are.lines; log = are.log; good = are.good; faultless = past commands.Check are.lines are.log are.faultless ∙ own; tables = are.tables }
+
 -- What a law says of logs without a fault holds of tables that are declared and keep each rule.
 pub of_declared : (P : Tables → Type 0) → ((lines : ℕ) (log : List Lined) → AllByRecursion Good (records_of log) → log_fault commands.Check lines log ≡ None → P (tables_of log))
     → (t : Tables) → AreDeclared t → table_fault commands.Check t ≡ None → P t
 of_declared P law t are none =
-    let own : table_fault commands.Check (tables_of are.log) ≡ None = subst (λ (s : Tables). table_fault commands.Check s ≡ None) are.tables none in
-    subst P (sym are.tables) (law are.lines are.log are.good (past commands.Check are.lines are.log are.faultless ∙ own))
+    let kept = faultless_of t are none in
+    subst P (sym kept.tables) (law kept.lines kept.log kept.good kept.faultless)
 
 -- What is found in tables without a fault.
 pub check_found : (t : Tables) → table_fault commands.Check t ≡ None → (f : Finding) → CheckFinds t f → IsFoundOf commands.Check t f

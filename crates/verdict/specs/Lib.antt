@@ -1,4 +1,5 @@
 pub mod Sorted
+pub mod Faultless
 pub mod Findings
 pub mod Listing
 pub mod Stages

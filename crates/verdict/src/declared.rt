@@ -4,7 +4,9 @@ ghost use Rattle.std.specs.Prelude.{◌≡◌, ◌≢◌, None, IfOk, OnOk, IfEr
 ghost use Rattle.semantics.specs.declared.command.Command.TheVariants.{Check};
 ghost use Rattle.verdict.specs.declared.stop.Stop.{Stop};
 ghost use Rattle.verdict.specs.Findings as faults;
+ghost use Rattle.semantics.specs.Events.{HasNoCycle};
 ghost use Rattle.verdict.specs.Stages.{FindsCycle, FindsFault, IsStop};
+ghost use Rattle.verdict.specs.Faultless.{AreFaultless};
 
 use crate::reports::fault_found;
 use crate::serial::serial_fault;
@@ -70,9 +72,17 @@ impl<'a, P: ArenaSet<'a>> Declared<'a, P> {
         }
     }
 
+    /// What every such log keeps: each rule of `check`. There is nothing to do.
+    pub fn is_faultless(&self)
+        ensures { AreFaultless self.now }
+    {
+        self.log.is_declared();
+    }
+
     /// The log with its nodes sorted, or the cycle that is shown.
     pub fn sort(self, alloc: Global) -> Result<Sorted<'a, P>, Stop>
         ensures sorted { IfOk result (λ s. s ≡ self.entry) }
+        ensures no_cycle { OnOk result (HasNoCycle self.entry) }
         ensures stop { IfErr result (IsStop (FindsCycle self.entry)) }
     {
         match sorted_parts(alloc, &self.log) {

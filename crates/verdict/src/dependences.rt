@@ -1,26 +1,21 @@
 //! The pairs of items of a log that interfere.
 
-ghost use Rattle.std.specs.Prelude.{◌≡◌, ◌<◌, ◌≤◌, ◌^◌, length, All, IfOk, count_by};
+ghost use Rattle.std.specs.Prelude.{◌≡◌, ◌<◌, ◌≤◌, length, IfOk, count_by};
 ghost use Rattle.findings.specs.Texts as texts;
-ghost use Rattle.spy_grammar.specs.Spelling.{Good};
 ghost use Rattle.semantics.specs.declared.command.Command.TheVariants.{Deps};
-ghost use Rattle.outcomes.specs.Outcome.{DepsFinds, IsFound, dependences};
-ghost use Rattle.semantics.specs.Records.{AreLines};
+ghost use Rattle.outcomes.specs.Outcome.{DepsFinds, dependences};
 ghost use Rattle.verdict.specs.Findings.{IsFoundOf};
 ghost use Rattle.verdict.specs.Listing.{dependence_of};
 
-use crate::items::ids_by_serial;
+use crate::items::{ids_by_serial, item_count};
 use crate::memory::Memory;
 use crate::reports::{deps_found, fault_found};
 use crate::serial::serial_fault;
-use bumpalo::Bump;
 use findings::{Dep, DepList, Finding};
 use interference::{Pair, pairs, pairs_are_of_items};
-use log_decl::{DeclEnd, Log, declare};
-use point_set::RunSet;
+use log_decl::Log;
 use privilege::Kind;
 use region_tree::ArenaSet;
-use spy_grammar::Lined;
 use std::alloc::Global;
 
 /// The dependence of a pair.
@@ -66,20 +61,17 @@ fn dependences_found<'a, P: ArenaSet<'a>>(
     alloc: Global,
     log: &Log<'a, P>,
 ) -> Result<Finding, Memory>
-    requires few { length log.now.items < 2 ^ 32 }
     ensures found { IfOk result (DepsFinds log.now) }
     ensures text { IfOk result texts.Good }
 {
     let list = deps_of(alloc, log)?;
     let before = count_before(&list);
     let turn = list.len() as u64 - before;
-    let items = log.items().len() as u32;
-    Ok(deps_found(DepList::from_vec(list), items, before, turn))
+    Ok(deps_found(DepList::from_vec(list), item_count(log), before, turn))
 }
 
-/// What `deps` finds in a log.
-fn deps_in<'a, P: ArenaSet<'a>>(alloc: Global, log: &Log<'a, P>) -> Result<Finding, Memory>
-    requires { length log.now.items < 2 ^ 32 }
+/// The finding of `deps` on a log.
+fn deps_finding<'a, P: ArenaSet<'a>>(alloc: Global, log: &Log<'a, P>) -> Result<Finding, Memory>
     ensures found { IfOk result (IsFoundOf Deps log.now) }
     ensures text { IfOk result texts.Good }
 {
@@ -89,21 +81,15 @@ fn deps_in<'a, P: ArenaSet<'a>>(alloc: Global, log: &Log<'a, P>) -> Result<Findi
     }
 }
 
-/// What `deps` finds in the records of a log, which has so many lines: the fault that is shown, or the pairs of items that interfere.
-pub fn deps(alloc: Global, records: &Vec<Lined>, lines: u32) -> Result<Finding, Memory>
-    requires good { All (λ l. Good l.rec) records.now.items }
-    requires lines { AreLines lines records.now.items }
-    ensures found { IfOk result (IsFound Deps lines records.now.items) }
+/// What `deps` finds in a log, which is let go then.
+pub(crate) fn deps_in<'a, P: ArenaSet<'a>>(
+    alloc: Global,
+    log: Log<'a, P>,
+) -> Result<Finding, Memory>
+    ensures found { IfOk result (IsFoundOf Deps log.entry) }
     ensures text { IfOk result texts.Good }
 {
-    let bump = Bump::new(alloc);
-    match declare::<RunSet<'_>>(alloc, &bump, records, lines) {
-        Ok(log) => {
-            let found = deps_in(alloc, &log);
-            log.let_go();
-            found
-        }
-        Err(DeclEnd::Fault { line, code }) => Ok(fault_found(line, code)),
-        Err(DeclEnd::Memory) => Err(Memory),
-    }
+    let found = deps_finding(alloc, &log);
+    log.let_go();
+    found
 }

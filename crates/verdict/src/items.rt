@@ -10,6 +10,15 @@ use log_decl::Log;
 use region_tree::ArenaSet;
 use semantics::{Item, ItemBody, LogNode, Op};
 
+/// How many items a log has.
+#[tactic(auto, using(crate::proofs::Ends::few_declared_items))]
+pub(crate) fn item_count<'a, P: ArenaSet<'a>>(log: &Log<'a, P>) -> u32
+    ensures { result ≡ length log.now.items }
+{
+    log.is_declared();
+    log.items().len() as u32
+}
+
 /// Whether an item is a task.
 fn is_task(item: &Item) -> bool
     ensures { result ≡ rules.is_task item.now.body }
@@ -30,9 +39,9 @@ fn count_tasks(items: &[Item]) -> u32
 
 /// How many tasks a log has.
 pub(crate) fn task_count<'a, P: ArenaSet<'a>>(log: &Log<'a, P>) -> u32
-    requires { length log.now.items < 2 ^ 32 }
     ensures { result ≡ counts.task_count log.now }
 {
+    log.is_declared();
     count_tasks(log.items())
 }
 
@@ -56,9 +65,9 @@ fn count_operations(nodes: &[LogNode]) -> u32
 
 /// How many operations a log has.
 pub(crate) fn operation_count<'a, P: ArenaSet<'a>>(log: &Log<'a, P>) -> u32
-    requires { length log.now.nodes < 2 ^ 32 }
     ensures { result ≡ counts.operation_count log.now }
 {
+    log.is_declared();
     count_operations(log.nodes())
 }
 

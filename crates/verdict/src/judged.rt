@@ -1,11 +1,12 @@
 //! A log whose run computed what the sequential program computes.
 
-ghost use Rattle.std.specs.Prelude.{◌≡◌, ◌<◌, ◌^◌, length, None, filter};
+ghost use Rattle.std.specs.Prelude.{◌≡◌, None};
 ghost use Rattle.findings.specs.Texts as texts;
 ghost use Rattle.semantics.specs.declared.command.Command.TheVariants.{Check};
 ghost use Rattle.outcomes.specs.Outcome.{CheckFinds, IsSound};
 ghost use Rattle.semantics.specs.Counts.{read_count};
 ghost use Rattle.verdict.specs.Findings.{table_fault};
+ghost use Rattle.verdict.specs.Faultless.{AreFaultless};
 
 use crate::items::{operation_count, task_count};
 use crate::reports::accepted_found;
@@ -53,12 +54,19 @@ impl<'a, P: ArenaSet<'a>> Judged<'a, P> {
         self.log.let_go();
     }
 
+    /// What every judged log keeps: each rule of `check`, and that its run computed what sequential execution computes. There is nothing to do.
+    pub fn is_sound(&self)
+        ensures faultless { AreFaultless self.now }
+        ensures sound { IsSound self.now }
+    {
+        self.log.is_declared();
+    }
+
     /// How many tasks, operations and reads were judged. No memory is taken.
     pub fn finding(&self) -> Finding
         ensures found { CheckFinds self.now result }
         ensures text { texts.Good result }
     {
-        self.log.is_declared();
         accepted_found(
             task_count(&self.log),
             operation_count(&self.log),

@@ -3,24 +3,24 @@
 
 mod checking;
 mod clean;
+mod commands;
 mod declared;
 mod dependences;
 mod items;
 mod judged;
 mod memory;
 mod ordering;
+mod reads;
 mod reports;
 mod serial;
 mod sorted;
 mod sorting;
 mod stop;
 
-pub use checking::check;
 pub use clean::Clean;
+pub use commands::{check, deps, find, ordered};
 pub use declared::Declared;
-pub use dependences::deps;
 pub use judged::Judged;
 pub use memory::Memory;
-pub use ordering::ordered;
 pub use sorted::Sorted;
 pub use stop::Stop;

@@ -1,13 +1,11 @@
 //! Whether the tasks of a log that interfere are run in serial order.
 
-ghost use Rattle.std.specs.Prelude.{◌≡◌, ◌<◌, ◌^◌, length, All, IfOk, IfErr, None};
+ghost use Rattle.std.specs.Prelude.{◌≡◌, IfOk, IfErr, None};
 ghost use Rattle.findings.specs.Texts as texts;
-ghost use Rattle.spy_grammar.specs.Spelling.{Good};
 ghost use Rattle.semantics.specs.declared.command.Command.TheVariants.{Ordered};
 ghost use Rattle.semantics.specs.Events.{graph_of, HasNoCycle};
 ghost use Rattle.semantics.specs.Faults as faults;
-ghost use Rattle.outcomes.specs.Outcome.{IsFound, OrderedFinds};
-ghost use Rattle.semantics.specs.Records.{AreLines};
+ghost use Rattle.outcomes.specs.Outcome.{OrderedFinds};
 ghost use Rattle.reach_marks.specs.Reached.{AreMarksOf};
 ghost use Rattle.verdict.specs.Findings.{IsFoundOf};
 ghost use Rattle.verdict.specs.Sorted.{AreSorted, IsUnsorted};
@@ -17,14 +15,11 @@ use crate::memory::Memory;
 use crate::reports::{cycle_found, fault_found, ordered_found, unordered_found};
 use crate::serial::serial_fault;
 use crate::sorting::{Sorting, Unsorted, sorting_of};
-use bumpalo::Bump;
 use findings::Finding;
-use log_decl::{DeclEnd, Log, declare};
+use log_decl::Log;
 use log_laws::faultless_logs_are_linked;
-use point_set::RunSet;
 use reach_marks::Reach;
 use region_tree::ArenaSet;
-use spy_grammar::Lined;
 use std::alloc::Global;
 use task_order::{TaskOrder, task_order};
 
@@ -34,12 +29,12 @@ fn tasks_found<'a, P: ArenaSet<'a>>(
     log: &Log<'a, P>,
     reach: &Reach,
 ) -> Result<Finding, Memory>
-    requires few { length log.now.items < 2 ^ 32 }
     requires no_cycle { HasNoCycle log.now }
     requires marks { AreMarksOf (graph_of log.now.nodes) reach.now }
     ensures found { IfOk result (OrderedFinds log.now) }
     ensures text { IfOk result texts.Good }
 {
+    log.is_declared();
     match task_order(alloc, log, reach) {
         Ok(TaskOrder::Kept { pairs }) => Ok(ordered_found(task_count(log), pairs)),
         Ok(TaskOrder::Unordered { a, b, place }) => {
@@ -55,8 +50,7 @@ pub(crate) fn sort_log<'a, P: ArenaSet<'a>>(
     alloc: Global,
     log: &Log<'a, P>,
 ) -> Result<Sorting, Unsorted>
-    requires few { length log.now.nodes < 2 ^ 32 }
-    requires serial { faults.serial_fault log.now ≡ None }
+    requires { faults.serial_fault log.now ≡ None }
     ensures sorted { IfOk result (AreSorted (graph_of log.now.nodes)) }
     ensures unsorted { IfErr result (IsUnsorted (graph_of log.now.nodes)) }
 {
@@ -67,9 +61,7 @@ pub(crate) fn sort_log<'a, P: ArenaSet<'a>>(
 
 /// What `ordered` finds in a log whose serial order has no fault.
 fn order_found<'a, P: ArenaSet<'a>>(alloc: Global, log: &Log<'a, P>) -> Result<Finding, Memory>
-    requires few { length log.now.items < 2 ^ 32 }
-    requires few_nodes { length log.now.nodes < 2 ^ 32 }
-    requires serial { faults.serial_fault log.now ≡ None }
+    requires { faults.serial_fault log.now ≡ None }
     ensures found { IfOk result (OrderedFinds log.now) }
     ensures text { IfOk result texts.Good }
 {
@@ -80,10 +72,8 @@ fn order_found<'a, P: ArenaSet<'a>>(alloc: Global, log: &Log<'a, P>) -> Result<F
     }
 }
 
-/// What `ordered` finds in a log.
-fn ordered_in<'a, P: ArenaSet<'a>>(alloc: Global, log: &Log<'a, P>) -> Result<Finding, Memory>
-    requires few { length log.now.items < 2 ^ 32 }
-    requires few_nodes { length log.now.nodes < 2 ^ 32 }
+/// The finding of `ordered` on a log.
+fn ordered_finding<'a, P: ArenaSet<'a>>(alloc: Global, log: &Log<'a, P>) -> Result<Finding, Memory>
     ensures found { IfOk result (IsFoundOf Ordered log.now) }
     ensures text { IfOk result texts.Good }
 {
@@ -93,21 +83,15 @@ fn ordered_in<'a, P: ArenaSet<'a>>(alloc: Global, log: &Log<'a, P>) -> Result<Fi
     }
 }
 
-/// What `ordered` finds in the records of a log, which has so many lines: the fault that is shown, a cycle, the first two tasks that interfere and are not run in serial order, or how many tasks and pairs there are.
-pub fn ordered(alloc: Global, records: &Vec<Lined>, lines: u32) -> Result<Finding, Memory>
-    requires good { All (λ l. Good l.rec) records.now.items }
-    requires lines { AreLines lines records.now.items }
-    ensures found { IfOk result (IsFound Ordered lines records.now.items) }
+/// What `ordered` finds in a log, which is let go then.
+pub(crate) fn ordered_in<'a, P: ArenaSet<'a>>(
+    alloc: Global,
+    log: Log<'a, P>,
+) -> Result<Finding, Memory>
+    ensures found { IfOk result (IsFoundOf Ordered log.entry) }
     ensures text { IfOk result texts.Good }
 {
-    let bump = Bump::new(alloc);
-    match declare::<RunSet<'_>>(alloc, &bump, records, lines) {
-        Ok(log) => {
-            let found = ordered_in(alloc, &log);
-            log.let_go();
-            found
-        }
-        Err(DeclEnd::Fault { line, code }) => Ok(fault_found(line, code)),
-        Err(DeclEnd::Memory) => Err(Memory),
-    }
+    let found = ordered_finding(alloc, &log);
+    log.let_go();
+    found
 }

@@ -2,18 +2,22 @@
 
 ghost use Rattle.std.specs.Prelude.{◌≡◌, None, IfOk, IfErr, OnOk};
 ghost use Rattle.semantics.specs.declared.command.Command.TheVariants.{Check};
-ghost use Rattle.semantics.specs.Events.{graph_of};
-ghost use Rattle.outcomes.specs.Outcome.{event_of};
+ghost use Rattle.semantics.specs.Counts.{read_count};
+ghost use Rattle.semantics.specs.Events.{graph_of, HasNoCycle};
+ghost use Rattle.outcomes.specs.Outcome.{IsSound, event_of};
+ghost use Rattle.long_values.specs.LongOutcome.{CheckFindsLong, IsSoundLong};
 ghost use Rattle.semantics.specs.Races.{IsRaceFree};
 ghost use Rattle.point_laws.specs.Alike.{AreFirsts};
 ghost use Rattle.atoms.specs.Atoms.{first_points};
 ghost use Rattle.verdict.specs.declared.stop.Stop.{Stop};
 ghost use Rattle.verdict.specs.Findings.{table_fault};
 ghost use Rattle.verdict.specs.Sorted.{AreSorted};
-ghost use Rattle.verdict.specs.Stages.{FindsCycle, FindsRace, IsStop};
+ghost use Rattle.verdict.specs.Stages.{FindsCycle, FindsDifference, FindsRace, IsStop};
+ghost use Rattle.verdict.specs.Faultless.{AreFaultless};
 
 use crate::clean::Clean;
 use crate::ordering::sort_log;
+use crate::reads::judged_reads;
 use crate::reports::{cycle_found, race_found};
 use crate::sorting::{Sorting, Unsorted};
 use crate::stop::Stop;
@@ -154,20 +158,51 @@ impl<'a, P: ArenaSet<'a>> Sorted<'a, P> {
         }
     }
 
+    /// The log alone.
+    pub(crate) fn into_log(self) -> Log<'a, P>
+        ensures log { result ≡ self.entry }
+        ensures faultless { table_fault Check self.entry ≡ None }
+    {
+        drop(self.sorting);
+        drop(self.atoms);
+        self.log
+    }
+
     /// Lets the log go.
-    fn let_go(self) {
+    pub(crate) fn let_go(self) {
         drop(self.sorting);
         drop(self.atoms);
         self.log.let_go();
     }
 
+    /// What every sorted log keeps: each rule of `check`, and that it has no cycle. There is nothing to do.
+    pub fn has_no_cycle(&self)
+        ensures faultless { AreFaultless self.now }
+        ensures no_cycle { HasNoCycle self.now }
+    {
+        self.log.is_declared();
+    }
+
+    /// How many reads there are, if each is right in every interleaving, or the read that is shown to differ in every interleaving.
+    pub(crate) fn reads(&self, alloc: Global) -> Result<u64, Stop>
+        requires { IsRaceFree self.now }
+        ensures sound { OnOk result (IsSound self.now) }
+        ensures count { IfOk result (λ count. count ≡ read_count self.now) }
+        ensures stop { IfErr result (IsStop (FindsDifference self.now)) }
+        ensures sound_long { OnOk result (IsSoundLong self.now) }
+        ensures stop_long { IfErr result (IsStop (CheckFindsLong self.now)) }
+    {
+        judged_reads(alloc, &self.log, &self.sorting, &self.atoms)
+    }
+
     /// The log, if no two of its nodes race, or the race that is shown.
     pub fn scan(self, alloc: Global) -> Result<Clean<'a, P>, Stop>
         ensures clean { IfOk result (λ c. c ≡ self.entry) }
+        ensures free { OnOk result (IsRaceFree self.entry) }
         ensures stop { IfErr result (IsStop (FindsRace self.entry)) }
     {
         match raced(alloc, &self.log, &self.sorting, &self.atoms) {
-            Ok(()) => Ok(Clean::of(self.log, self.sorting, self.atoms)),
+            Ok(()) => Ok(Clean::of(self)),
             Err(stop) => {
                 self.let_go();
                 Err(stop)

@@ -21,7 +21,7 @@ returns-clause-found g c =
     let before = c.count_before-before.ensures.count ∙ ap (count_by p) (seen ∙ sym c.from_vec.ensures) in
     subst (DepsFinds c.args.log.now) (sym c.deps_found.ensures.finding) (
       c.from_vec.ensures ∙ c.in_ok-list.ensures,
-      ap length c.items.ensures,
+      c.item_count.ensures,
       before ∙ sym (length-filter p c.from_vec.result),
       omega (arith, many, before, rest_counted p c.from_vec.result, ap length c.from_vec.ensures),
     )

@@ -9,7 +9,7 @@ use Rattle.findings.specs.declared.finding.Finding.TheVariants.{Accepted}
 use Rattle.verdict.proofs.Differing.{told, same_reads}
 use Rattle.verdict.proofs.Ends.{of_declared}
 use Rattle.verdict.proofs.Stages.{FindsAlike, of_difference}
-use Rattle.verdict.proofs.clean.judged_reads.Goals as goal
+use Rattle.verdict.proofs.reads.judged_reads.Goals as goal
 
 pub returns-in-Ok-clause-sound : goal.returns-in-Ok-clause-sound
 returns-in-Ok-clause-sound g c =

@@ -1,0 +1,8 @@
+use Rattle.std.proofs.Common.{subst}
+use Rattle.semantics.specs.Tables.{Tables}
+use Rattle.verdict.specs.Faultless.{AreFaultless}
+use Rattle.verdict.proofs.Ends.{faultless_of}
+use Rattle.verdict.proofs.declared.Declared.is_faultless.Goals as goal
+
+pub returns : goal.returns
+returns g c = subst (λ (t : Tables). AreFaultless t) c.self.view_is (faultless_of c.self.inside.log c.is_declared.ensures c.self.invariant)

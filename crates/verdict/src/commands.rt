@@ -1,0 +1,93 @@
+//! What each command finds in the records of a log.
+
+ghost use Rattle.std.specs.Prelude.{◌≡◌, All, IfOk};
+ghost use Rattle.findings.specs.Texts as texts;
+ghost use Rattle.spy_grammar.specs.Spelling.{Good};
+ghost use Rattle.semantics.specs.declared.command.Command.TheVariants.{Check, Deps, Ordered};
+ghost use Rattle.outcomes.specs.Outcome.{IsFound};
+ghost use Rattle.long_values.specs.LongOutcome.{IsFoundLong};
+ghost use Rattle.semantics.specs.Records.{AreLines};
+ghost use Rattle.verdict.specs.Findings.{IsFoundOf};
+
+use crate::checking::check_in;
+use crate::dependences::deps_in;
+use crate::memory::Memory;
+use crate::ordering::ordered_in;
+use crate::reports::fault_found;
+use bumpalo::Bump;
+use findings::Finding;
+use log_decl::{DeclEnd, Log, declare};
+use long_values::check_finds_the_same_in_long;
+use point_set::RunSet;
+use region_tree::ArenaSet;
+use semantics::Command;
+use spy_grammar::Lined;
+use std::alloc::Global;
+
+/// What a command finds in a log: a row for each command.
+fn found_in<'a, P: ArenaSet<'a>>(
+    alloc: Global,
+    command: Command,
+    log: Log<'a, P>,
+) -> Result<Finding, Memory>
+    ensures found { IfOk result (IsFoundOf command log.entry) }
+    ensures text { IfOk result texts.Good }
+{
+    match command {
+        Command::Check => check_in(alloc, log),
+        Command::Ordered => ordered_in(alloc, log),
+        Command::Deps => deps_in(alloc, log),
+    }
+}
+
+/// What a command finds in the records of a log, which has so many lines: the fault that is shown, or what there is to find in a log without one.
+pub fn find(
+    alloc: Global,
+    command: Command,
+    records: &Vec<Lined>,
+    lines: u32,
+) -> Result<Finding, Memory>
+    requires good { All (λ l. Good l.rec) records.now.items }
+    requires lines { AreLines lines records.now.items }
+    ensures found { IfOk result (IsFound command lines records.now.items) }
+    ensures text { IfOk result texts.Good }
+{
+    let bump = Bump::new(alloc);
+    match declare::<RunSet<'_>>(alloc, &bump, records, lines) {
+        Ok(log) => found_in(alloc, command, log),
+        Err(DeclEnd::Fault { line, code }) => Ok(fault_found(line, code)),
+        Err(DeclEnd::Memory) => Err(Memory),
+    }
+}
+
+/// What `check` finds: the fault that is shown, a cycle, a race, a read that differs in every interleaving, or how much was judged and found right in every interleaving. By long values, which carry what was read, it is the same.
+pub fn check(alloc: Global, records: &Vec<Lined>, lines: u32) -> Result<Finding, Memory>
+    requires good { All (λ l. Good l.rec) records.now.items }
+    requires lines { AreLines lines records.now.items }
+    ensures found { IfOk result (IsFound Check lines records.now.items) }
+    ensures long { IfOk result (IsFoundLong lines records.now.items) }
+    ensures text { IfOk result texts.Good }
+{
+    check_finds_the_same_in_long();
+    find(alloc, Command::Check, records, lines)
+}
+
+/// What `ordered` finds: the fault that is shown, a cycle, the first two tasks that interfere and are not run in serial order, or how many tasks and pairs there are.
+pub fn ordered(alloc: Global, records: &Vec<Lined>, lines: u32) -> Result<Finding, Memory>
+    requires good { All (λ l. Good l.rec) records.now.items }
+    requires lines { AreLines lines records.now.items }
+    ensures found { IfOk result (IsFound Ordered lines records.now.items) }
+    ensures text { IfOk result texts.Good }
+{
+    find(alloc, Command::Ordered, records, lines)
+}
+
+/// What `deps` finds: the fault that is shown, or the pairs of items that interfere.
+pub fn deps(alloc: Global, records: &Vec<Lined>, lines: u32) -> Result<Finding, Memory>
+    requires good { All (λ l. Good l.rec) records.now.items }
+    requires lines { AreLines lines records.now.items }
+    ensures found { IfOk result (IsFound Deps lines records.now.items) }
+    ensures text { IfOk result texts.Good }
+{
+    find(alloc, Command::Deps, records, lines)
+}

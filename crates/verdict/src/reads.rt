@@ -1,0 +1,84 @@
+//! The reads of a log, replayed.
+
+ghost use Rattle.std.specs.Prelude.{◌≡◌, None, IfOk, IfErr, OnOk};
+ghost use Rattle.semantics.specs.declared.command.Command.TheVariants.{Check};
+ghost use Rattle.semantics.specs.Events.{graph_of};
+ghost use Rattle.outcomes.specs.Outcome.{IsSound};
+ghost use Rattle.semantics.specs.Counts.{read_count};
+ghost use Rattle.semantics.specs.Races.{IsRaceFree};
+ghost use Rattle.semantics.specs.Reads.{shown_difference};
+ghost use Rattle.replay.specs.Ends.{IsEndOf};
+ghost use Rattle.long_values.specs.LongOutcome.{CheckFindsLong, IsSoundLong};
+ghost use Rattle.point_laws.specs.Alike.{AreFirsts};
+ghost use Rattle.atoms.specs.Atoms.{first_points};
+ghost use Rattle.verdict.specs.Findings.{table_fault};
+ghost use Rattle.verdict.specs.Sorted.{AreSorted};
+ghost use Rattle.verdict.specs.Stages.{FindsDifference, IsStop};
+
+use crate::reports::differ_found;
+use crate::sorting::Sorting;
+use crate::stop::Stop;
+use atoms::Atoms;
+use log_decl::Log;
+use long_values::check_finds_the_same_in_long;
+use outcomes::replays_speak_for_all;
+use region_tree::ArenaSet;
+use replay::{Reads, ReplayEnd, replay};
+use serial_exec::Versions;
+use std::alloc::Global;
+
+/// The replay of a log, at its first points, over the values that sequential execution makes there.
+fn replayed<'a, P: ArenaSet<'a>>(
+    alloc: Global,
+    log: &Log<'a, P>,
+    sorting: &Sorting,
+    atoms: &Atoms,
+) -> Result<Reads, ReplayEnd>
+    requires faultless { table_fault Check log.now ≡ None }
+    requires sorted { AreSorted (graph_of log.now.nodes) sorting.now }
+    requires firsts { AreFirsts log.now (first_points atoms.now) }
+    ensures right { OnOk result (shown_difference log.now ≡ None) }
+    ensures count { IfOk result (λ reads. reads.count ≡ read_count log.now) }
+    ensures end { IfErr result (IsEndOf log.now) }
+{
+    match Versions::build_on(alloc, log, atoms.firsts()) {
+        Ok(versions) => replay(alloc, log, &sorting.order, &versions, atoms),
+        Err(_) => Err(ReplayEnd::Memory),
+    }
+}
+
+/// How many reads there are, if each is right in every interleaving, or the read that is shown to differ in every interleaving.
+pub(crate) fn judged_reads<'a, P: ArenaSet<'a>>(
+    alloc: Global,
+    log: &Log<'a, P>,
+    sorting: &Sorting,
+    atoms: &Atoms,
+) -> Result<u64, Stop>
+    requires faultless { table_fault Check log.now ≡ None }
+    requires sorted { AreSorted (graph_of log.now.nodes) sorting.now }
+    requires firsts { AreFirsts log.now (first_points atoms.now) }
+    requires free { IsRaceFree log.now }
+    ensures sound { OnOk result (IsSound log.now) }
+    ensures count { IfOk result (λ count. count ≡ read_count log.now) }
+    ensures stop { IfErr result (IsStop (FindsDifference log.now)) }
+    ensures sound_long { OnOk result (IsSoundLong log.now) }
+    ensures stop_long { IfErr result (IsStop (CheckFindsLong log.now)) }
+{
+    log.is_declared();
+    replays_speak_for_all();
+    check_finds_the_same_in_long();
+    match replayed(alloc, log, sorting, atoms) {
+        Ok(reads) => Ok(reads.count),
+        Err(
+            ReplayEnd::Differ {
+                task,
+                req,
+                point,
+                field,
+                got,
+                want,
+            },
+        ) => Err(Stop::Found(differ_found(task, req, point, field, got, want))),
+        Err(ReplayEnd::Memory) => Err(Stop::Memory),
+    }
+}
