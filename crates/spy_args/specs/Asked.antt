@@ -1,11 +1,12 @@
 -- What words ask for.
-use Rattle.std.specs.Prelude.{ℕ, ◌≤◌, Bool, ◌&&◌, not, nat_le, List, ◌∷◌, length, Option, Some, None, codes, bytes_eq, if◌then◌else◌, option_map, option_and_then}
+use Rattle.std.specs.Prelude.{ℕ, ◌≤◌, Bool, ◌&&◌, not, nat_le, List, [], ◌∷◌, length, Option, Some, None, codes, bytes_eq, if◌then◌else◌, option_map, option_and_then}
 use Rattle.std.specs.Str.Parse.{digits_value}
 use Rattle.clap.specs.Walk.{Text}
 use Rattle.spy_words.specs.Reading.{is_digits, has_leading_zero}
 use Rattle.spy_args.specs.CommandLine.{values_in}
 use Rattle.spy_args.specs.declared.request.Request.{Request}
-use Rattle.spy_args.specs.declared.request.Request.TheVariants.{Check, Ordered, Deps, Print, Demo}
+use Rattle.spy_args.specs.declared.request.Request.TheVariants.{Judge, Print, Demo}
+use Rattle.semantics.specs.declared.command.Command.TheVariants.{Check, Ordered, Deps}
 
 -- A word says a size: it is one to three digits without a leading zero, and the number is from 1 to 500.
 abbrev pub is_size : Text → Bool
@@ -22,14 +23,18 @@ IsSized _ = Unit {0}
 abbrev pub size_at : Text → Option ℕ
 size_at word = if is_size word then Some (digits_value 10 word) else None
 
+-- The commands without a size: the word of each, and what it asks for.
+abbrev pub plain_words : List (Text × Request)
+plain_words = (codes "check", Judge Check) ∷ (codes "ordered", Judge Ordered) ∷ (codes "deps", Judge Deps) ∷ (codes "print", Print) ∷ []
+
+-- What a word asks for by such a table: the first row with that word says it.
+abbrev pub request_among : List (Text × Request) → Text → Option Request
+request_among [] word = None
+request_among (row ∷ rows) word = if bytes_eq word row.0 then Some row.1 else request_among rows word
+
 -- What a command without a size asks for.
 abbrev pub plain_request : Text → Option Request
-plain_request command =
-    if bytes_eq command (codes "check") then Some Check
-    else if bytes_eq command (codes "ordered") then Some Ordered
-    else if bytes_eq command (codes "deps") then Some Deps
-    else if bytes_eq command (codes "print") then Some Print
-    else None
+plain_request command = request_among plain_words command
 
 -- What a command asks for, with a size or without: `demo` alone has one.
 abbrev pub request_of : Text → Option Text → Option Request

@@ -3,10 +3,12 @@
 ghost use Rattle.std.specs.Prelude.{◌≡◌, ◌∷◌, IfOk, IfSome, codes, map, string_bytes};
 ghost use Rattle.spy_args.specs.declared.request.Request.TheVariants.{Demo};
 ghost use Rattle.spy_args.specs.CommandLine.{word_text, texts_of};
+ghost use Rattle.spy_args.specs.Asked as says;
 ghost use Rattle.spy_args.specs.Asked.{IsSized, asked, plain_request, request_of, size_at};
 
 use crate::command_line::given;
 use crate::request::Request;
+use semantics::Command;
 use spy_io::Memory;
 use spy_words::number_of;
 use std::alloc::{AllocError, Global};
@@ -29,22 +31,33 @@ fn size_of(word: &[u8]) -> Option<u32>
     }
 }
 
+/// The commands without a size: the word of each, and what it asks for.
+const PLAIN_WORDS: [(&[u8], Request); 4] = [
+    (b"check", Request::Judge(Command::Check)),
+    (b"ordered", Request::Judge(Command::Ordered)),
+    (b"deps", Request::Judge(Command::Deps)),
+    (b"print", Request::Print),
+];
+
+/// What a word asks for by such a table.
+fn request_among(mut table: &[(&[u8], Request)], word: &[u8]) -> Option<Request>
+    ensures { result ≡ says.request_among (map (λ row. (row.0.now, row.1)) table.entry.now) word.now }
+{
+    while let [row, rest @ ..] = table {
+        if word == row.0 {
+            return Some(row.1);
+        }
+        table = rest;
+    }
+    None
+}
+
 /// What a command without a size asks for.
 fn plain(command: &str) -> Option<Request>
     ensures request { result ≡ plain_request command.now }
     ensures sized { IfSome result IsSized }
 {
-    if command == "check" {
-        Some(Request::Check)
-    } else if command == "ordered" {
-        Some(Request::Ordered)
-    } else if command == "deps" {
-        Some(Request::Deps)
-    } else if command == "print" {
-        Some(Request::Print)
-    } else {
-        None
-    }
+    request_among(&PLAIN_WORDS, command.as_bytes())
 }
 
 /// What a command asks for, with a size or without.

@@ -1,14 +1,12 @@
 //! What can be asked for.
 
+use semantics::Command;
+
 /// What is asked for.
 #[derive(Clone, Copy, PartialEq, Eq)]
 pub enum Request {
-    /// Whether a log of an execution is right in every interleaving.
-    Check,
-    /// Whether every two tasks that interfere are run in serial order.
-    Ordered,
-    /// The pairs of items that interfere.
-    Deps,
+    /// What a command finds in a log.
+    Judge(Command),
     /// The records, each on a line of its own.
     Print,
     /// The check of a stencil log of so many pieces, from 1 to 500.

@@ -59,9 +59,7 @@ abbrev DemosAreGood : Type 0
 DemosAreGood = (n : ℕ) → 1 ≤ n → n ≤ 500 → AllByRecursion Good (stencil n)
 
 pub same_answer : OneLog → OneOutcome → OneFinding → DemosAreGood → (request : Request) (bytes : List ℕ) (s t : Status) (x y : List ℕ) → IsSized request → IsAnswer request bytes s x → IsAnswer request bytes t y → (s ≡ t) × (x ≡ y)
-same_answer one outcome finding good requests.Check bytes s t x y sized p q = judged_alike outcome commands.Check bytes s t x y p q
-same_answer one outcome finding good requests.Ordered bytes s t x y sized p q = judged_alike outcome commands.Ordered bytes s t x y p q
-same_answer one outcome finding good requests.Deps bytes s t x y sized p q = judged_alike outcome commands.Deps bytes s t x y p q
+same_answer one outcome finding good (requests.Judge command) bytes s t x y sized p q = judged_alike outcome command bytes s t x y p q
 same_answer one outcome finding good requests.Print bytes s t x y sized (inl p) (inl q) = told_alike p.finding q.finding s t x y (faults_alike bytes p.finding q.finding p.fault q.fault) p.tells q.tells
 same_answer one outcome finding good requests.Print bytes s t x y sized (inl p) (inr q) = clean_or_not bytes p.finding p.fault q.1.spelled
 same_answer one outcome finding good requests.Print bytes s t x y sized (inr p) (inl q) = clean_or_not bytes q.finding q.fault p.1.spelled
@@ -101,8 +99,6 @@ told_long bytes h = record { fault = record { line = 0; code = TooLong }; shown 
 -- Its fault is reported, whatever is asked. (`demo` has no input.)
 pub too_long_told : (request : Request) (left : Option (List ℕ)) (bytes : List ℕ) (s : Status) (x : List ℕ) → IsInput request left bytes → 2 ^ 26 < length bytes
     → Tells (Faulty 0 TooLong) s x → IsAnswer request bytes s x
-too_long_told requests.Check left bytes s x input long tells = record { finding = Faulty 0 TooLong; outcome = inl (told_long bytes long); tells = tells }
-too_long_told requests.Ordered left bytes s x input long tells = record { finding = Faulty 0 TooLong; outcome = inl (told_long bytes long); tells = tells }
-too_long_told requests.Deps left bytes s x input long tells = record { finding = Faulty 0 TooLong; outcome = inl (told_long bytes long); tells = tells }
+too_long_told (requests.Judge command) left bytes s x input long tells = record { finding = Faulty 0 TooLong; outcome = inl (told_long bytes long); tells = tells }
 too_long_told requests.Print left bytes s x input long tells = inl (record { finding = Faulty 0 TooLong; fault = told_long bytes long; tells = tells })
 too_long_told (requests.Demo size) left bytes s x input long tells = absurd (omega (arith, long, ap length input))

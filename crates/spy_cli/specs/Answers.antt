@@ -88,9 +88,7 @@ pub record IsDemo (size : ℕ) (status : Status) (text : List ℕ) : Type 0 wher
 
 -- What is answered to an input.
 abbrev pub IsAnswer : Request → List ℕ → Status → List ℕ → Type 0
-IsAnswer requests.Check bytes status text = IsJudged commands.Check bytes status text
-IsAnswer requests.Ordered bytes status text = IsJudged commands.Ordered bytes status text
-IsAnswer requests.Deps bytes status text = IsJudged commands.Deps bytes status text
+IsAnswer (requests.Judge command) bytes status text = IsJudged command bytes status text
 IsAnswer requests.Print bytes status text = IsFaulty bytes status text ⊎ ((status ≡ statuses.Yes) × IsPrinted bytes text)
 IsAnswer (requests.Demo size) bytes status text = IsDemo size status text
 
@@ -134,16 +132,18 @@ pub record IsAdmitted (command : Command) (bytes : List ℕ) : Type 0 where
 
 -- The input keeps each rule that is judged. (Of the stencil log nothing is asked.)
 abbrev pub Keeps : Request → List ℕ → Type 0
-Keeps requests.Check bytes = IsAdmitted commands.Check bytes
-Keeps requests.Ordered bytes = IsAdmitted commands.Ordered bytes
-Keeps requests.Deps bytes = IsAdmitted commands.Deps bytes
+Keeps (requests.Judge command) bytes = IsAdmitted command bytes
 Keeps requests.Print bytes = text_fault bytes ≡ None
 Keeps (requests.Demo size) bytes = Unit {0}
 
+-- How a command ends on a log that keeps each rule: `deps` lists, and refuses none.
+abbrev pub EndsOnLog : Command → Status → Type 0
+EndsOnLog commands.Deps status = (status ≡ statuses.Yes) ⊎ (status ≡ statuses.Memory)
+EndsOnLog _ status = (status ≡ statuses.Yes) ⊎ (status ≡ statuses.Refused) ⊎ (status ≡ statuses.Memory)
+
 -- How a call ends, if no device fails, on an input that keeps each rule.
 abbrev pub Ends : Request → Status → Type 0
-Ends requests.Check status = (status ≡ statuses.Yes) ⊎ (status ≡ statuses.Refused) ⊎ (status ≡ statuses.Memory)
-Ends requests.Ordered status = (status ≡ statuses.Yes) ⊎ (status ≡ statuses.Refused) ⊎ (status ≡ statuses.Memory)
+Ends (requests.Judge command) status = EndsOnLog command status
 Ends (requests.Demo size) status = IsDecided status ⊎ (status ≡ statuses.Memory)
 Ends _ status = (status ≡ statuses.Yes) ⊎ (status ≡ statuses.Memory)
 

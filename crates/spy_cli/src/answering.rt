@@ -10,7 +10,7 @@ use crate::judging::judged_report;
 use crate::memory::Memory;
 use crate::printing::printed_report;
 use crate::report::{Report, fault_report};
-use semantics::{Command, MOST_BYTES};
+use semantics::MOST_BYTES;
 use spy_args::Request;
 use spy_grammar::Code;
 use spy_io::{ReadEnd, Source, read_all};
@@ -44,9 +44,7 @@ fn report_on_bytes(alloc: Global, request: Request, bytes: Vec<u8>) -> Result<Re
     ensures { IfOk result (λ r. IsAnswer request bytes.items r.status r.text.items) }
 {
     match request {
-        Request::Check => judged_report(alloc, Command::Check, bytes),
-        Request::Ordered => judged_report(alloc, Command::Ordered, bytes),
-        Request::Deps => judged_report(alloc, Command::Deps, bytes),
+        Request::Judge(command) => judged_report(alloc, command, bytes),
         Request::Print => printed_report(alloc, bytes),
         Request::Demo { size } => demo_report(alloc, size),
     }

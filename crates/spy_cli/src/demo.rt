@@ -6,13 +6,13 @@ ghost use Rattle.spy_grammar.specs.Spelling.{Good};
 ghost use Rattle.semantics.specs.Records.{lined, AreLines};
 ghost use Rattle.spy_cli.specs.Answers.{IsDemo};
 
-use crate::judging::finding_in;
 use crate::memory::Memory;
 use crate::report::{Report, report_of};
 use log_gen::stencil;
 use semantics::Command;
 use spy_grammar::{Lined, Record};
 use std::alloc::Global;
+use verdict::find;
 
 /// Records, each on a line of its own from line 1 on.
 fn lined_records(alloc: Global, records: Vec<Record>) -> Result<Vec<Lined>, Memory>
@@ -37,6 +37,6 @@ pub(crate) fn demo_report(alloc: Global, size: u32) -> Result<Report, Memory>
     let records = stencil(alloc, size)?;
     let lines = records.len() as u32;
     let log = lined_records(alloc, records)?;
-    let finding = finding_in(alloc, Command::Check, &log, lines)?;
+    let finding = find(alloc, Command::Check, &log, lines)?;
     report_of(alloc, &finding)
 }

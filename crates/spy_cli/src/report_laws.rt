@@ -32,7 +32,7 @@ pub fn one_report()
 /// What is answered to an input under `check` is the same by long values as by values.
 pub fn answers_in_long()
     ensures { (bytes : List ℕ) (status : Status) (text : List ℕ)
-        → IsAnswer Request.Check bytes status text ↔ IsAnswerLong bytes status text }
+        → IsAnswer (Request.Judge Command.Check) bytes status text ↔ IsAnswerLong bytes status text }
 {
     check_finds_the_same_in_long();
 }

@@ -3,6 +3,7 @@
 ghost use Rattle.std.specs.Prelude.{◌≡◌, ◌≢◌, ◌⊎◌, ◌+◌, ◌≤◌, ◌^◌, ℕ, List, true, false, Some, None, map, string_bytes};
 ghost use Rattle.std.specs.Io.KnownBytes.{Appends};
 ghost use Rattle.spy_io.specs.Causes.{Rose, Grows, Takes};
+ghost use Rattle.semantics.specs.declared.command.Command.{Command};
 ghost use Rattle.spy_args.specs.declared.request.Request.{Request};
 ghost use Rattle.spy_args.specs.Asked.{asked};
 ghost use Rattle.spy_cli.specs.declared.status.Status.{Status};
@@ -13,6 +14,7 @@ ghost use Rattle.spy_cli.specs.Answers.{Answers, AnswersLong, Ends, IsAnswer, Is
 use crate::answering::{ReportEnd, report_on};
 use crate::report_laws::{answers_in_long, one_report};
 use crate::status::Status;
+use findings::{cannot_read_text, usage_text};
 use log_laws::one_log;
 use spy_args::{Request, request_in};
 use spy_io::{Memory, Sink, Source, WriteFault, write_all};
@@ -34,7 +36,6 @@ fn written<K: Sink>(sink: &mut K, text: &[u8], status: Status) -> Status
 
 /// Runs the command that the words ask for over the bytes of the source, and writes its report to the sink.
 /// The words do not hold the program's name. The commands are `check`, `ordered`, `deps` and `print`, and `demo --size N`, which reads nothing: it checks the stencil log of N pieces.
-#[tactic(auto, unfolding(findings::specs::Texts::report_text))]
 pub fn run<S: Source, K: Sink>(
     alloc: Global,
     words: &Vec<String>,
@@ -57,10 +58,10 @@ pub fn run<S: Source, K: Sink>(
         → IsDecided result → (result ≡ status) × Appends (K.held sink.old) (K.held sink.new) text }
 
     // Under `check` the same is true of long values, which carry what was read.
-    ensures answer_long { asked (map string_bytes words.now.items) ≡ Some Request.Check → IsDecided result
+    ensures answer_long { asked (map string_bytes words.now.items) ≡ Some (Request.Judge Command.Check) → IsDecided result
         → (bytes : List ℕ) → S.left source.old ≡ Some bytes
         → AnswersLong bytes result (K.held sink.old) (K.held sink.new) }
-    ensures exact_long { asked (map string_bytes words.now.items) ≡ Some Request.Check
+    ensures exact_long { asked (map string_bytes words.now.items) ≡ Some (Request.Judge Command.Check)
         → (bytes : List ℕ) (status : Status) (text : List ℕ)
         → S.left source.old ≡ Some bytes → IsAnswerLong bytes status text
         → IsDecided result → (result ≡ status) × Appends (K.held sink.old) (K.held sink.new) text }
@@ -115,12 +116,12 @@ pub fn run<S: Source, K: Sink>(
     answers_in_long();
     let request = match request_in(alloc, words) {
         Ok(Some(request)) => request,
-        Ok(None) => return written(sink, b"usage\n", Status::Usage),
+        Ok(None) => return written(sink, usage_text(), Status::Usage),
         Err(Memory) => return Status::Memory,
     };
     match report_on(alloc, request, source) {
         Ok(report) => written(sink, &report.text, report.status),
-        Err(ReportEnd::ReadFault) => written(sink, b"cannot read\n", Status::ReadFault),
+        Err(ReportEnd::ReadFault) => written(sink, cannot_read_text(), Status::ReadFault),
         Err(ReportEnd::Memory) => Status::Memory,
     }
 }

@@ -1,5 +1,6 @@
 //! What words ask for.
 
+use semantics::Command;
 use spy_args::{Request, request_in};
 use std::test::Fail;
 
@@ -7,8 +8,8 @@ use std::test::Fail;
 fn words_ask_for_a_command(rt: HostRuntime) -> Result<(), Fail> {
     let alloc = rt.alloc();
     let cases: [(&[&str], Option<Request>); 5] = [
-        (&["check"], Some(Request::Check)),
-        (&["--", "ordered"], Some(Request::Ordered)),
+        (&["check"], Some(Request::Judge(Command::Check))),
+        (&["--", "ordered"], Some(Request::Judge(Command::Ordered))),
         (&["--size=4", "demo"], Some(Request::Demo { size: 4 })),
         (&["demo", "--size", "501"], None),
         (&[], None),

@@ -12,14 +12,14 @@ use Rattle.log_reading.proofs.lemmas.Numbered.{are_lines, each_good}
 use Rattle.log_laws.proofs.lemmas.Numbered.{records_numbered, spellings_hold}
 use Rattle.spy_cli.proofs.demo.demo_report.Goals as goal
 
-pub finding_in-requires-clause-good : goal.finding_in-requires-clause-good
-finding_in-requires-clause-good c =
+pub find-requires-clause-good : goal.find-requires-clause-good
+find-requires-clause-good c =
     let rs = c.in_ok-records.records.items in
     let good = subst (AllByRecursion Good) (sym (records_numbered 1 rs)) c.in_ok-records.ensures.good in
     each_good c.in_ok-log.log.items (subst (λ ls. AllByRecursion Good (records_of ls)) (sym c.in_ok-log.ensures) good)
 
-pub finding_in-requires-clause-lines : goal.finding_in-requires-clause-lines
-finding_in-requires-clause-lines c =
+pub find-requires-clause-lines : goal.find-requires-clause-lines
+find-requires-clause-lines c =
     let rs = c.in_ok-records.records.items in
     let many = length-map rs spelling in
     let own = c.in_ok-records.records.ok in

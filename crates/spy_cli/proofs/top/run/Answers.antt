@@ -2,7 +2,8 @@ use Rattle.std.proofs.Common.{◌≡◌, Option, Some, subst, sym, ◌∙◌}
 use Rattle.std.specs.Prelude.{IfSome}
 use Rattle.std.specs.Io.KnownBytes.{Appends}
 use Rattle.spy_args.specs.declared.request.Request.{Request}
-use Rattle.spy_args.specs.declared.request.Request.TheVariants.{Check}
+use Rattle.spy_args.specs.declared.request.Request.TheVariants.{Judge}
+use Rattle.semantics.specs.declared.command.Command.TheVariants.{Check}
 use Rattle.spy_args.specs.Asked.{IsSized}
 use Rattle.spy_cli.specs.Answers.{IsAnswer, IsDecided, IsInput}
 use Rattle.spy_cli.proofs.top.run.Goals as goal
@@ -29,9 +30,9 @@ returns-in-Ok-clause-exact g c request asks bytes status text input out decided 
 
 pub returns-in-Ok-clause-answer_long : goal.returns-in-Ok-clause-answer_long
 returns-in-Ok-clause-answer_long g c asks decided bytes left =
-    let a = returns-in-Ok-clause-answer g c Check asks decided bytes left in
+    let a = returns-in-Ok-clause-answer g c (Judge Check) asks decided bytes left in
     record { text = a.text; answer = (c.answers_in_long.ensures bytes c.written-in-Ok.result a.text).0 a.answer; written = a.written }
 
 pub returns-in-Ok-clause-exact_long : goal.returns-in-Ok-clause-exact_long
 returns-in-Ok-clause-exact_long g c asks bytes status text left out decided =
-    returns-in-Ok-clause-exact g c Check asks bytes status text left ((c.answers_in_long.ensures bytes status text).1 out) decided
+    returns-in-Ok-clause-exact g c (Judge Check) asks bytes status text left ((c.answers_in_long.ensures bytes status text).1 out) decided
