@@ -63,7 +63,8 @@ fn events_at(alloc: Global, words: &[&[u8]]) -> Result<EventList, AllocError>
 #[tactic(auto, unfolding(crate::specs::Reading::report_at))]
 #[rattlefmt::skip]
 fn report_at(alloc: Global, listed: &[&[u8]], words: &[&[u8]]) -> Result<Finding, Memory>
-    ensures { IfOk result (λ f. f ≡ says.report_at (map (parts 32) (map (λ w. w.now) listed.now)) (map (λ w. w.now) words.now)) }
+    ensures { IfOk result (λ f. f
+        ≡ says.report_at (map (parts 32) (map (λ w. w.now) listed.now)) (map (λ w. w.now) words.now)) }
 {
     let name = word_at(words, 0);
     if name == b"accepted".as_slice() {

@@ -5,7 +5,6 @@ use Rattle.spy_grammar.specs.Spelling.{Good}
 use Rattle.spy_grammar.specs.declared.code.Code.TheVariants.{TooLong}
 use Rattle.spy_grammar.specs.declared.record.Lined.{Lined}
 use Rattle.findings.specs.declared.finding.Finding.{Finding}
-use Rattle.findings.specs.declared.finding.Finding.TheVariants.{Ordered, Deps}
 use Rattle.findings.specs.declared.finding.Finding.TheVariants.{Fault as Faulty}
 use Rattle.findings.specs.Texts as reports
 use Rattle.semantics.specs.declared.command.Command.{Command}
@@ -19,7 +18,6 @@ use Rattle.spy_args.specs.Asked.{IsSized}
 use Rattle.spy_args.specs.declared.request.Request.{Request}
 use Rattle.spy_args.specs.declared.request.Request.TheVariants as requests
 use Rattle.spy_cli.specs.declared.status.Status.{Status}
-use Rattle.spy_cli.specs.declared.status.Status.TheVariants as statuses
 use Rattle.spy_cli.specs.Answers.{status_of, Tells, IsJudged, IsDemo, IsAnswer, IsInput}
 use Rattle.log_reading.proofs.lemmas.Lines.{long}
 use Rattle.log_laws.proofs.lemmas.Numbered.{records_numbered}

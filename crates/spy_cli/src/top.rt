@@ -58,8 +58,8 @@ pub fn run<S: Source, K: Sink>(
         → IsDecided result → (result ≡ status) × Appends (K.held sink.old) (K.held sink.new) text }
 
     // Under `check` the same is true of long values, which carry what was read.
-    ensures answer_long { asked (map string_bytes words.now.items) ≡ Some (Request.Judge Command.Check) → IsDecided result
-        → (bytes : List ℕ) → S.left source.old ≡ Some bytes
+    ensures answer_long { asked (map string_bytes words.now.items) ≡ Some (Request.Judge Command.Check)
+        → IsDecided result → (bytes : List ℕ) → S.left source.old ≡ Some bytes
         → AnswersLong bytes result (K.held sink.old) (K.held sink.new) }
     ensures exact_long { asked (map string_bytes words.now.items) ≡ Some (Request.Judge Command.Check)
         → (bytes : List ℕ) (status : Status) (text : List ℕ)
