@@ -1,7 +1,7 @@
 -- What a call answers: the status and the text that the words and the input decide.
 use Rattle.std.specs.Prelude.{◌≡◌, ℕ, ◌+◌, ◌-◌, ◌^◌, ◌<◌, ◌≤◌, Bool, true, false, List, [], length, Option, Some, None, ◌⊎◌}
 use Rattle.std.specs.Io.KnownBytes.{Appends, Consumes, IsAtEnd}
-use Rattle.spy_io.specs.Causes.{Rose, Takes, TakesExactly}
+use Rattle.spy_io.specs.Causes.{Grows, Rose, Takes, TakesExactly}
 use Rattle.spy_grammar.specs.declared.record.Lined.{Lined}
 use Rattle.findings.specs.declared.finding.Finding.{Finding}
 use Rattle.findings.specs.declared.finding.Finding.TheVariants as findings
@@ -115,7 +115,14 @@ pub record Answers (request : Request) (bytes : List ℕ) (status : Status) (bef
   pub answer : IsAnswer request bytes status text
   pub written : Appends before after text
 
--- The same, by long values.
+-- There is an answer, and a part of its text that is not all was added to the bytes held.
+pub record AnswersPart (request : Request) (bytes : List ℕ) (before after : Option (List ℕ)) : Type 0 where
+  pub status : Status
+  pub text : List ℕ
+  pub answer : IsAnswer request bytes status text
+  pub written : Grows before after text
+
+-- The same as of all of it, by long values.
 pub record AnswersLong (bytes : List ℕ) (status : Status) (before after : Option (List ℕ)) : Type 0 where
   pub text : List ℕ
   pub answer : IsAnswerLong bytes status text

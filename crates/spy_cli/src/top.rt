@@ -9,7 +9,7 @@ ghost use Rattle.spy_args.specs.Asked.{asked};
 ghost use Rattle.spy_cli.specs.declared.status.Status.{Status};
 ghost use Rattle.findings.specs.declared.finding.Finding.TheVariants as findings;
 ghost use Rattle.findings.specs.Texts as reports;
-ghost use Rattle.spy_cli.specs.Answers.{Answers, AnswersLong, Ends, IsAnswer, IsAnswerLong, IsCalm, IsDecided, IsInput, IsInputCalm, IsRead, Keeps, takes_input};
+ghost use Rattle.spy_cli.specs.Answers.{Answers, AnswersLong, AnswersPart, Ends, IsAnswer, IsAnswerLong, IsCalm, IsDecided, IsInput, IsInputCalm, IsRead, Keeps, takes_input};
 
 use crate::answering::{ReportEnd, report_on};
 use crate::report_laws::{answers_in_long, one_report};
@@ -27,6 +27,7 @@ fn written<K: Sink>(sink: &mut K, text: &[u8], status: Status) -> Status
         × Appends (K.held sink.old) (K.held sink.new) text.now × (K.faults sink.new ≡ K.faults sink.old) }
     ensures fault { result ≡ Status.WriteFault → Rose (K.faults sink.old) (K.faults sink.new)
         × Grows (K.held sink.old) (K.held sink.new) text.now }
+    ensures once { K.ended sink.old ≡ 0 → K.ended sink.new ≤ 1 }
 {
     match write_all(sink, text) {
         Ok(()) => status,
@@ -73,7 +74,8 @@ pub fn run<S: Source, K: Sink>(
         → IsCalm (K.faults sink.old) (K.faults sink.new) → Ends request result }
 
     // What is taken of the source: where nothing is read it is not called; else all, or one byte more than an input may
-    // have, unless a call fails or memory runs out before. No call follows one that gave the end or failed.
+    // have, unless a call fails or memory runs out before. No call follows one that gave the end or failed, and each has
+    // room for a byte.
     ensures not_called { takes_input (asked (map string_bytes words.now.items)) ≡ false
         → source.new ≡ source.old }
     ensures read { takes_input (asked (map string_bytes words.now.items)) ≡ true → IsDecided result
@@ -84,6 +86,7 @@ pub fn run<S: Source, K: Sink>(
         ⊎ (Rose (S.faults source.old) (S.faults source.new)
         × Takes (S.left source.old) (S.left source.new) (2 ^ 26)) }
     ensures once { S.ended source.old ≡ 0 → S.ended source.new ≤ 1 }
+    ensures roomy { S.idle source.new ≡ S.idle source.old }
     ensures taken { result ≡ Status.Memory → Takes (S.left source.old) (S.left source.new) (2 ^ 26 + 1) }
 
     // A device that failed says so by its count, and no other answer comes from a failure.
@@ -97,13 +100,20 @@ pub fn run<S: Source, K: Sink>(
         × Appends (K.held sink.old) (K.held sink.new) (reports.report_text findings.CannotRead) }
     ensures write_fault { result ≡ Status.WriteFault → Rose (K.faults sink.old) (K.faults sink.new) }
 
-    // After a failed write the sink has got a part of the report, and nothing else.
+    // After a failed write the sink is not called again. It has got a part of the report that is not all, and nothing else.
+    ensures stopped { K.ended sink.old ≡ 0 → K.ended sink.new ≤ 1 }
     ensures part_of_usage { result ≡ Status.WriteFault → asked (map string_bytes words.now.items) ≡ None
         → Grows (K.held sink.old) (K.held sink.new) (reports.report_text findings.Usage) }
     ensures part { (request : Request) → asked (map string_bytes words.now.items) ≡ Some request
         → (bytes : List ℕ) (status : Status) (text : List ℕ)
         → IsInput request (S.left source.old) bytes → IsAnswer request bytes status text
         → result ≡ Status.WriteFault → Grows (K.held sink.old) (K.held sink.new) text
+        ⊎ (Rose (S.faults source.old) (S.faults source.new)
+        × Grows (K.held sink.old) (K.held sink.new) (reports.report_text findings.CannotRead)) }
+
+    ensures part_of_answer { (request : Request) → asked (map string_bytes words.now.items) ≡ Some request
+        → (bytes : List ℕ) → IsInput request (S.left source.old) bytes → result ≡ Status.WriteFault
+        → AnswersPart request bytes (K.held sink.old) (K.held sink.new)
         ⊎ (Rose (S.faults source.old) (S.faults source.new)
         × Grows (K.held sink.old) (K.held sink.new) (reports.report_text findings.CannotRead)) }
 

@@ -1,5 +1,5 @@
 -- What sources and sinks count, take and hold: the words that the contracts share.
-use Rattle.std.specs.Prelude.{◌≡◌, ℕ, ◌+◌, ◌-◌, ◌^◌, ◌≤◌, ◌==◌, min, Bool, true, not, ◌&&◌, if◌then◌else◌, Result, Ok, Err, OnErr, OnOk, Option, List, length, ◌++◌}
+use Rattle.std.specs.Prelude.{◌≡◌, ◌≢◌, ℕ, ◌+◌, ◌-◌, ◌^◌, ◌≤◌, ◌==◌, min, Bool, true, false, not, ◌&&◌, if◌then◌else◌, Result, Ok, Err, OnErr, OnOk, Option, List, [], length, ◌++◌}
 use Rattle.std.specs.Io.KnownBytes.{Consumes, Appends}
 
 -- One more than the count, which stays at the largest u64.
@@ -21,9 +21,22 @@ abbrev pub is_last : {E : Type 0} → Result ℕ E → List ℕ → Bool
 is_last (Ok n) into = n == 0 && not (length into == 0)
 is_last (Err e) into = true
 
--- How many calls were made from the first on that gave the end of input or failed, after one more that did or did not.
+-- Whether a call failed.
+abbrev pub has_failed : {T E : Type 0} → Result T E → Bool
+has_failed (Ok x) = false
+has_failed (Err e) = true
+
+-- How many calls have failed, after one more that did or did not.
+abbrev pub faults_after : ℕ → Bool → ℕ
+faults_after faults failed = if failed then counted faults else faults
+
+-- How many calls were made from the first on that no call should follow, after one more that was or was not such a one.
 abbrev pub ended_after : ℕ → Bool → ℕ
 ended_after ended last = if ended == 0 && not last then 0 else counted ended
+
+-- How many calls had an empty buffer, after one more with this buffer.
+abbrev pub idle_after : ℕ → List ℕ → ℕ
+idle_after idle into = if length into == 0 then counted idle else idle
 
 -- Some bytes, at most so many, were taken off the front of those left.
 pub record Takes (old new : Option (List ℕ)) (most : ℕ) : Type 0 where
@@ -37,9 +50,10 @@ pub record TakesExactly (old new : Option (List ℕ)) (count : ℕ) : Type 0 whe
   pub taken : Consumes old new bytes
   pub all : length bytes ≡ count
 
--- The bytes held grew by a prefix of these.
+-- The bytes held grew by a prefix of these, and some of these are left.
 pub record Grows (old new : Option (List ℕ)) (bytes : List ℕ) : Type 0 where
   pub front : List ℕ
   pub back : List ℕ
   pub parts : bytes ≡ front ++ back
+  pub more : back ≢ []
   pub grown : Appends old new front

@@ -1,8 +1,8 @@
 -- A source in memory, as its callers see it.
 use Rattle.std.specs.Prelude.{ℕ, ◌==◌, ◌&&◌, min, not, List, length, drop, Contains}
-use Rattle.spy_io.specs.Causes.{counted, ended_after}
+use Rattle.spy_io.specs.Causes.{counted, ended_after, idle_after}
 
--- The bytes left, the most that a call gives, the numbers of the calls that fail, the calls and faults so far, and how many calls were made from the first on that gave the end or failed.
+-- The bytes left, the most that a call gives, the numbers of the calls that fail, the calls and faults so far, how many calls were made from the first on that gave the end or failed, and how many had an empty buffer.
 pub record SourceState : Type 0 where
   pub left : List ℕ
   pub cut : ℕ
@@ -10,10 +10,11 @@ pub record SourceState : Type 0 where
   pub calls : ℕ
   pub faults : ℕ
   pub ended : ℕ
+  pub idle : ℕ
 
 -- Nothing was taken, and no call was made.
 abbrev pub fresh_source : List ℕ → ℕ → List ℕ → SourceState
-fresh_source bytes cut failing = record { left = bytes; cut = cut; failing = failing; calls = 0; faults = 0; ended = 0 }
+fresh_source bytes cut failing = record { left = bytes; cut = cut; failing = failing; calls = 0; faults = 0; ended = 0; idle = 0 }
 
 -- The next call's number is among the failing ones.
 abbrev pub IsFailing : SourceState → Type 0
@@ -25,8 +26,8 @@ given_count s into = min (min s.cut (length into)) (length s.left)
 
 -- The source after a call that gave so many bytes for a buffer.
 abbrev pub after_giving : SourceState → ℕ → List ℕ → SourceState
-after_giving s count into = record s { left = drop count s.left; calls = counted s.calls; ended = ended_after s.ended (count == 0 && not (length into == 0)) }
+after_giving s count into = record s { left = drop count s.left; calls = counted s.calls; ended = ended_after s.ended (count == 0 && not (length into == 0)); idle = idle_after s.idle into }
 
--- The source after a call that failed.
-abbrev pub after_fault : SourceState → SourceState
-after_fault s = record s { calls = counted s.calls; faults = counted s.faults; ended = counted s.ended }
+-- The source after a call for a buffer that failed.
+abbrev pub after_fault : SourceState → List ℕ → SourceState
+after_fault s into = record s { calls = counted s.calls; faults = counted s.faults; ended = counted s.ended; idle = idle_after s.idle into }

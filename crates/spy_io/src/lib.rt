@@ -6,6 +6,7 @@
 
 use std::alloc::AllocError;
 
+mod counts;
 mod memory_sink;
 mod memory_source;
 mod reading;

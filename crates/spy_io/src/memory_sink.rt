@@ -1,7 +1,8 @@
 ghost use Rattle.std.specs.Prelude.{◌≡◌, ◌<◌, ◌≤◌, ◌↔◌, IfOk, OnErr, IsErr, Some, length};
 ghost use Rattle.std.specs.Io.KnownBytes.{WriteAppends};
-ghost use Rattle.spy_io.specs.Causes.{HasCause};
+ghost use Rattle.spy_io.specs.Causes.{HasCause, counted, ended_after, has_failed};
 
+use crate::counts::ended_after;
 use crate::{Failed, Memory, Sink};
 use std::alloc::Global;
 use std::marker::Model;
@@ -15,6 +16,7 @@ pub struct MemSink {
     failing: Vec<u64>,
     calls: u64,
     faults: u64,
+    ended: u64,
 }
 
 impl Model for MemSink {
@@ -30,6 +32,7 @@ impl Model for MemSink {
       failing = s.failing.items;
       calls = s.calls;
       faults = s.faults;
+      ended = s.ended;
     } };
 
     ghost invariant = { λ s. (length s.held.items ≤ s.room) × (s.room ≤ vec_capacity s.held) × (1 ≤ s.cut) };
@@ -56,6 +59,7 @@ impl MemSink {
             failing,
             calls: 0,
             faults: 0,
+            ended: 0,
         })
     }
 
@@ -64,6 +68,18 @@ impl MemSink {
         ensures { result.now ≡ self.now.held }
     {
         &self.held
+    }
+
+    /// Counts a call that fails.
+    fn fail(&mut self) -> Failed
+        ensures { self.new ≡ record self.old {
+          faults = counted self.old.faults;
+          ended = counted self.old.ended;
+        } }
+    {
+        self.faults = self.faults.saturating_add(1);
+        self.ended = ended_after(self.ended, true);
+        Failed
     }
 }
 
@@ -74,12 +90,15 @@ impl Sink for MemSink {
 
     ghost faults = { λ s. s.faults };
 
+    ghost ended = { λ s. s.ended };
+
     fn put(&mut self, piece: &[u8]) -> Result<usize, Failed>
         // What each sink does.
         ensures bound { IfOk result (λ n. n ≤ length piece.now) }
         ensures progress { IfOk result (λ n. 0 < length piece.now → 0 < n) }
         ensures bytes { WriteAppends (Some self.old.held) (Some self.new.held) result piece.now }
         ensures cause { HasCause self.old.faults self.new.faults result }
+        ensures ended { self.new.ended ≡ ended_after self.old.ended (has_failed result) }
 
         // When this one fails, and how many bytes it takes otherwise.
         ensures fails { IsErr result ↔ IsRefused self.old piece.now }
@@ -89,13 +108,12 @@ impl Sink for MemSink {
     {
         self.calls = self.calls.saturating_add(1);
         if self.failing.contains(&self.calls) {
-            self.faults = self.faults.saturating_add(1);
-            return Err(Failed);
+            return Err(self.fail());
         }
         if self.held.len() == self.room && !piece.is_empty() {
-            self.faults = self.faults.saturating_add(1);
-            return Err(Failed);
+            return Err(self.fail());
         }
+        self.ended = ended_after(self.ended, false);
         let count = self.cut.min(piece.len()).min(self.room - self.held.len());
         match self.held.extend_from_slice(&piece[..count]) {
             Ok(()) => Ok(count),

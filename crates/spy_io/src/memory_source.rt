@@ -1,9 +1,9 @@
 ghost use Rattle.std.specs.Prelude.{◌≡◌, ◌≤◌, ◌↔◌, IfOk, OnErr, IsErr, Some, drop};
 ghost use Rattle.std.specs.Io.{ReadsAtMost};
 ghost use Rattle.std.specs.Io.KnownBytes.{ReadConsumes};
-ghost use Rattle.spy_io.specs.Causes.{HasCause, ended_after, is_last};
+ghost use Rattle.spy_io.specs.Causes.{HasCause, ended_after, idle_after, is_last};
 
-use crate::source::ended_after;
+use crate::counts::{ended_after, idle_after};
 use crate::{Failed, Source};
 use std::marker::Model;
 
@@ -17,6 +17,7 @@ pub struct MemSource {
     calls: u64,
     faults: u64,
     ended: u64,
+    idle: u64,
 }
 
 impl Model for MemSource {
@@ -32,6 +33,7 @@ impl Model for MemSource {
       calls = s.calls;
       faults = s.faults;
       ended = s.ended;
+      idle = s.idle;
     } };
 
     ghost invariant = { λ s. (s.at ≤ length s.bytes.items) × (1 ≤ s.cut) };
@@ -54,6 +56,7 @@ impl MemSource {
             calls: 0,
             faults: 0,
             ended: 0,
+            idle: 0,
         }
     }
 
@@ -74,6 +77,8 @@ impl Source for MemSource {
 
     ghost ended = { λ s. s.ended };
 
+    ghost idle = { λ s. s.idle };
+
     fn take(&mut self, into: &mut [u8]) -> Result<usize, Failed>
         // What each source does.
         ensures bound { ReadsAtMost result into.new }
@@ -81,14 +86,16 @@ impl Source for MemSource {
         ensures rest { IfOk result (λ n. drop n into.new ≡ drop n into.old) }
         ensures cause { HasCause self.old.faults self.new.faults result }
         ensures ended { self.new.ended ≡ ended_after self.old.ended (is_last result into.old) }
+        ensures idle { self.new.idle ≡ idle_after self.old.idle into.old }
 
         // When this one fails, and how many bytes it gives otherwise.
         ensures fails { IsErr result ↔ IsFailing self.old }
         ensures count { IfOk result (λ n. n ≡ given_count self.old into.old) }
         ensures ok { IfOk result (λ n. self.new ≡ after_giving self.old n into.old) }
-        ensures err { OnErr result (self.new ≡ after_fault self.old) }
+        ensures err { OnErr result (self.new ≡ after_fault self.old into.old) }
     {
         self.calls = self.calls.saturating_add(1);
+        self.idle = idle_after(self.idle, into);
         if self.failing.contains(&self.calls) {
             self.faults = self.faults.saturating_add(1);
             self.ended = ended_after(self.ended, true);

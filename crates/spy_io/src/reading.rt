@@ -33,8 +33,9 @@ pub fn read_all<S: Source>(alloc: Global, source: &mut S, limit: u64) -> Result<
     ensures end { OnOk result (IsAtEnd (S.left source.new)) }
     ensures few { IfOk result (λ bytes. length bytes.items ≤ limit) }
 
-    // No call follows one that gave the end or failed.
+    // No call follows one that gave the end or failed, and each has room for a byte.
     ensures once { S.ended source.old ≡ 0 → S.ended source.new ≤ 1 }
+    ensures roomy { S.idle source.new ≡ S.idle source.old }
 
     // How many bytes an error took.
     ensures too_long { IsErrOf result ReadEnd.TooLong

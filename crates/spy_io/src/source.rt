@@ -1,7 +1,7 @@
 ghost use Rattle.std.specs.Prelude.{◌≡◌, ℕ, List, Option, drop, IfOk};
 ghost use Rattle.std.specs.Io.{ReadsAtMost};
 ghost use Rattle.std.specs.Io.KnownBytes.{ReadConsumes};
-ghost use Rattle.spy_io.specs.Causes.{HasCause, ended_after, is_last};
+ghost use Rattle.spy_io.specs.Causes.{HasCause, ended_after, idle_after, is_last};
 
 use crate::Failed;
 
@@ -16,6 +16,9 @@ pub trait Source {
     /// How many calls were made from the first on that gave the end of input or failed. No call should follow that one: a terminal would wait for another line.
     ghost ended: { Self → ℕ };
 
+    /// How many calls had an empty buffer. Such a call says nothing, and a reader of the system may answer it as it likes.
+    ghost idle: { Self → ℕ };
+
     /// Takes the first bytes left into the front of `into`, and gives their count. For a nonempty `into` the
     /// count 0 is the end of input. After `Failed` the bytes left are as they were, and `into` may hold anything.
     fn take(&mut self, into: &mut [u8]) -> Result<usize, Failed>
@@ -23,16 +26,6 @@ pub trait Source {
         ensures bytes { ReadConsumes (left self.old) (left self.new) result into.new }
         ensures rest { IfOk result (λ n. drop n into.new ≡ drop n into.old) }
         ensures cause { HasCause (faults self.old) (faults self.new) result }
-        ensures ended { ended self.new ≡ ended_after (ended self.old) (is_last result into.old) };
-}
-
-/// How many calls were made from the first on that gave the end of input or failed, after one more that did or did not.
-pub(crate) fn ended_after(ended: u64, last: bool) -> u64
-    ensures { result ≡ ended_after ended last }
-{
-    if ended == 0 && !last {
-        0
-    } else {
-        ended.saturating_add(1)
-    }
+        ensures ended { ended self.new ≡ ended_after (ended self.old) (is_last result into.old) }
+        ensures idle { idle self.new ≡ idle_after (idle self.old) into.old };
 }

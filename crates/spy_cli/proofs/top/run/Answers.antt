@@ -1,6 +1,7 @@
-use Rattle.std.proofs.Common.{◌≡◌, Option, Some, subst, sym, ◌∙◌}
+use Rattle.std.proofs.Common.{inl, ◌≡◌, Option, Some, subst, sym, ◌∙◌}
 use Rattle.std.specs.Prelude.{IfSome}
 use Rattle.std.specs.Io.KnownBytes.{Appends}
+use Rattle.spy_io.specs.Causes.{Grows}
 use Rattle.spy_args.specs.declared.request.Request.{Request}
 use Rattle.spy_args.specs.declared.request.Request.TheVariants.{Judge}
 use Rattle.semantics.specs.declared.command.Command.TheVariants.{Check}
@@ -36,3 +37,17 @@ returns-in-Ok-clause-answer_long g c asks decided bytes left =
 pub returns-in-Ok-clause-exact_long : goal.returns-in-Ok-clause-exact_long
 returns-in-Ok-clause-exact_long g c asks bytes status text left out decided =
     returns-in-Ok-clause-exact g c (Judge Check) asks bytes status text left ((c.answers_in_long.ensures bytes status text).1 out) decided
+
+pub returns-in-Ok-clause-part_of_answer : goal.returns-in-Ok-clause-part_of_answer
+returns-in-Ok-clause-part_of_answer g c request asks bytes input fails =
+    let r = c.in-Ok.report in
+    let both : ◌≡◌ {A = Option Request} (Some c.in-Ok-Some.request) (Some request) = sym c.in-Ok-Some.field-0-is ∙ c.in-Ok-Some.ensures.asked ∙ asks in
+    let same : c.in-Ok-Some.request ≡ request = cc in
+    let own = c.in-Ok.ensures.outcome bytes (subst (λ k. IsInput k (g.S.Source.left c.args.source.now) bytes) (sym same) input) in
+    let fault = c.written-in-Ok.ensures.fault fails in
+    inl (record {
+      status = r.status;
+      text = r.text.items;
+      answer = subst (λ k. IsAnswer k bytes r.status r.text.items) same own;
+      written = subst (Grows (g.K.Sink.held c.args.sink.now) (g.K.Sink.held c.written-in-Ok.new.sink)) c.deref.ensures.value fault.1;
+    })
