@@ -1,2 +1,3 @@
 mod CellLaws
 mod RowLaws
+mod WordFaults

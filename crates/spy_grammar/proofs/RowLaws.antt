@@ -80,6 +80,10 @@ unfolding kind_at
 in_table kinds.Header = record { named = refl; kept = refl; letters = refl; apart = λ m. refl }
 in_table k = record { named = refl; kept = refl; letters = refl; apart = λ m. refl }
 
+-- a kind is found by its name
+pub found_by_name : (k : RecordKind) → kind_at (entry k).name ≡ Ok k
+found_by_name k = (in_table k).named
+
 made_again : (r : Record) → made (parts_of r).0 (parts_of r).1 ≡ r
 made_again (records.Header version) = refl
 made_again r = refl
@@ -89,7 +93,7 @@ is_kind [] = tt
 is_kind (k ∷ ks) = (tt, is_kind ks)
 
 -- a word that names a kind is its name
-named_so : (w : List ℕ) (k : RecordKind) → kind_at w ≡ Ok k → w ≡ (entry k).name
+pub named_so : (w : List ℕ) (k : RecordKind) → kind_at w ≡ Ok k → w ≡ (entry k).name
 unfolding kind_at
 named_so w k e = (text_takes RecordKind (λ k. (entry k).name) (λ k. Unit {0}) KINDS w (Err Word) k (is_kind KINDS) (λ e. absurd cc) e).0
 

@@ -1,8 +1,11 @@
 //! Laws of the spelling.
 
-ghost use Rattle.std.specs.Prelude.{◌≡◌, ◌≢◌, ℕ, true, List, [], None, Some, Ok};
+ghost use Rattle.std.specs.Prelude.{◌≡◌, ◌≢◌, ◌↔◌, ℕ, true, false, List, [], None, Some, Ok, Err};
 ghost use Rattle.std.specs.List.{All};
+ghost use Rattle.spy_words.specs.declared.fault.LineFault.TheVariants as faults;
+ghost use Rattle.spy_grammar.specs.declared.kinds.RecordKind.{RecordKind};
 ghost use Rattle.spy_grammar.specs.declared.record.Record.{Record};
+ghost use Rattle.spy_grammar.specs.LineFaults.{Names, are_in_order, have_numbers, have_shape, row_of, words_after};
 ghost use Rattle.spy_grammar.specs.Reading.{is_passed_over, line_at};
 ghost use Rattle.spy_grammar.specs.Spelling.{spelling, Good};
 
@@ -31,4 +34,19 @@ pub fn reading_is_of_spellings()
 pub fn spelling_is_one_line()
     ensures some { (r : Record) → Good r → spelling r ≢ [] }
     ensures no_line_feed { (r : Record) → Good r → All (λ b. b ≢ 10) (spelling r) }
+{}
+
+/// The fault of a line that is no blank line and no comment, as a person would tell it. `word`: its first word is the name of no kind. `form`: it names a kind, and the words after it are too few or too many, or one lacks the shape of its class. `number`: they have their shape, and some number has a zero before further digits, or is too small or too large. `order`: their numbers are right too, and some list or run does not ascend.
+pub fn faults_in_words()
+    ensures word { (line : List ℕ) → is_passed_over line ≡ false → (line_at line ≡ Err faults.Word)
+        ↔ ((k : RecordKind) → Names line k → ⊥) }
+    ensures form { (line : List ℕ) → is_passed_over line ≡ false → (line_at line ≡ Err faults.Form)
+        ↔ ((k : RecordKind) × Names line k × (have_shape (row_of k) (words_after line) ≡ false)) }
+    ensures number { (line : List ℕ) → is_passed_over line ≡ false → (line_at line ≡ Err faults.Number)
+        ↔ ((k : RecordKind) × Names line k × (have_shape (row_of k) (words_after line) ≡ true)
+        × (have_numbers (row_of k) (words_after line) ≡ false)) }
+    ensures order { (line : List ℕ) → is_passed_over line ≡ false → (line_at line ≡ Err faults.Order)
+        ↔ ((k : RecordKind) × Names line k × (have_shape (row_of k) (words_after line) ≡ true)
+        × (have_numbers (row_of k) (words_after line) ≡ true)
+        × (are_in_order (row_of k) (words_after line) ≡ false)) }
 {}

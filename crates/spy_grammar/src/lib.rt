@@ -11,7 +11,9 @@ mod row;
 mod writing;
 
 pub use code::Code;
-pub use law::{one_spelling, reading_is_of_spellings, spelling_is_one_line, spelling_is_read};
+pub use law::{
+    faults_in_words, one_spelling, reading_is_of_spellings, spelling_is_one_line, spelling_is_read,
+};
 pub use reading::read_line;
 pub use record::{Lined, Record};
 pub use spy_words::{InstKind, LineFault, Nums, PrivWord, Set};

@@ -2,7 +2,7 @@
 
 ghost use Rattle.std.specs.Prelude.{◌≡◌, ◌↔◌, ◌++◌, ◌∷◌, [], IsTrue, IfOk, OnOk};
 ghost use Rattle.std.specs.List.{AllByRecursion};
-ghost use Rattle.spy_words.specs.Classes.{follow};
+ghost use Rattle.spy_words.specs.Classes.{IsSpan, follow};
 ghost use Rattle.spy_grammar.specs.Cells.{items_in, with_cell};
 ghost use Rattle.spy_grammar.specs.Spelling.{Good, IsGoodItem, spelling, words_in};
 
@@ -28,6 +28,14 @@ impl From<AllocError> for Memory {
     }
 }
 
+/// Whether each run of points goes upward.
+#[tactic(auto, using(spy_words::proofs::lemmas::ClassLaws::spans_from_zero))]
+fn are_spans(set: &[(u64, u64)]) -> bool
+    ensures { IsTrue result ↔ AllByRecursion IsSpan set.now }
+{
+    are_fit(0, set)
+}
+
 fn is_good(cell: &WordCell<'_>) -> bool
     ensures { IsTrue result ↔ AllByRecursion IsGoodItem (with_cell cell.now []) }
 {
@@ -35,7 +43,7 @@ fn is_good(cell: &WordCell<'_>) -> bool
         No | Split(_) | Coherence(_) => true,
         Number(n) => n.is_fit(0),
         Id(n) => n.is_fit(1),
-        Points(set) => are_fit(0, set.as_slice()) && ascend(set.as_slice()),
+        Points(set) => are_spans(set.as_slice()) && ascend(set.as_slice()),
         Fields(numbers) => {
             let numbers = numbers.as_slice();
             !numbers.is_empty() && are_fit(0, numbers) && ascend(numbers)

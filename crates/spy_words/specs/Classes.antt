@@ -72,6 +72,10 @@ IsNumberFrom least n = (least ≤ n) × (n < 2 ^ 32)
 abbrev pub IsSpan : ℕ × ℕ → Type 0
 IsSpan p = (p.0 ≤ p.1) × (p.1 < 2 ^ 32)
 
+-- A run of points goes upward from a least number on.
+abbrev pub IsSpanFrom : ℕ → ℕ × ℕ → Type 0
+IsSpanFrom least p = (least ≤ p.0) × IsSpan p
+
 -- Each element of a list stands before the next.
 abbrev pub ascends : {A : Type 0} → (A → A → Bool) → List A → Bool
 ascends before [] = true

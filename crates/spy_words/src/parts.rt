@@ -4,7 +4,7 @@ ghost use Rattle.std.specs.Prelude.{◌≡◌, [], ◌↔◌, ◌++◌, IsTrue, 
 ghost use Rattle.std.specs.List.{AllByRecursion};
 ghost use Rattle.spy_words.specs.declared.fault.LineFault.{LineFault};
 ghost use Rattle.spy_words.specs.declared.fault.LineFault.TheVariants.{Form, Order};
-ghost use Rattle.spy_words.specs.Classes.{ascends, follow, span_before, span_word, list_word, IsNumberFrom, IsSpan};
+ghost use Rattle.spy_words.specs.Classes.{ascends, follow, span_before, span_word, list_word, IsNumberFrom, IsSpanFrom};
 ghost use Rattle.spy_words.specs.Faults.{map_ok, tested};
 ghost use Rattle.spy_words.specs.Reading.{each, has_some, list_at, number_from, span_among, span_from};
 
@@ -78,7 +78,7 @@ impl ListPart for (u64, u64) {
 
     ghost text = { span_word };
 
-    ghost IsFit = { λ _ p. IsSpan p };
+    ghost IsFit = { IsSpanFrom };
 
     ghost before = { span_before };
 
@@ -96,8 +96,8 @@ impl ListPart for (u64, u64) {
         push_u64(out, self.1)
     }
 
-    fn is_fit(self, _least: u32) -> bool {
-        self.0 <= self.1 && self.1 < 1 << 32
+    fn is_fit(self, least: u32) -> bool {
+        u64::from(least) <= self.0 && self.0 <= self.1 && self.1 < 1 << 32
     }
 
     fn is_before(self, next: (u64, u64)) -> bool {

@@ -12,7 +12,7 @@ use Rattle.spy_words.specs.declared.access.PrivWord.{PrivWord}
 use Rattle.spy_words.specs.declared.access.PrivWord.TheVariants as privileges
 use Rattle.spy_words.specs.declared.access.InstKind.{InstKind}
 use Rattle.spy_words.specs.declared.access.InstKind.TheVariants as instances
-use Rattle.spy_words.specs.Classes.{Class, number, points, fields, waits, split, access, coherence, layout, Meaning, span_word, list_word, split_word, access_word, coherence_word, layout_word, word_of, IsNumberFrom, IsSpan, ascends, span_before, HasOperator, HoldsOperator, IsGood}
+use Rattle.spy_words.specs.Classes.{Class, number, points, fields, waits, split, access, coherence, layout, Meaning, span_word, list_word, split_word, access_word, coherence_word, layout_word, word_of, IsNumberFrom, IsSpan, IsSpanFrom, ascends, span_before, HasOperator, HoldsOperator, IsGood}
 use Rattle.spy_words.specs.Faults.{unless_met, kept, with_part, each_after, both, map_ok, tested}
 use Rattle.spy_words.specs.Reading.{number_from, parts, goes_up, span_among, span_from, each, has_some, list_at, text_at, operator_at, meaning_at}
 use Rattle.spy_words.proofs.Numbers.{number_takes, number_again}
@@ -44,6 +44,11 @@ kept_ok met r other e = grind arith
 
 pub number_agrees : (least : ℕ) → Agree ℕ (number_from least) decimal (IsNumberFrom least) 45
 number_agrees least = record { takes = number_takes least; again = number_again least }
+
+-- Each run of points goes upward from 0 on.
+pub spans_from_zero : (ps : List (ℕ × ℕ)) → AllByRecursion (IsSpanFrom 0) ps ↔ AllByRecursion IsSpan ps
+spans_from_zero [] = (λ h. h, λ h. h)
+spans_from_zero (p ∷ ps) = let rest = spans_from_zero ps in (λ h. (h.0.1, rest.0 h.1), λ h. ((omega arith, h.0), rest.1 h.1))
 
 span_takes : (ws : List (List ℕ)) (p : ℕ × ℕ) → span_among 0 ws ≡ Ok p → (join_with_byte 45 ws ≡ span_word p) × IsSpan p
 span_takes (v ∷ []) p e =
