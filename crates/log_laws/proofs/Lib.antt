@@ -1,6 +1,7 @@
 pub mod lemmas
 mod Cycles
 mod Reorder
+mod Swapped
 mod Strict
 mod ReadLogs
 mod Linked

@@ -42,7 +42,7 @@ module _
 
   module _ (t : Tables) (tidy : IsTidy t) (free : IsRaceFree t) where
     -- Steps that may stand in either order conflict at no cell.
-    calm : (x y : Step) → Contains (steps t) x → Contains (steps t) y → MayFollow t x y → MayFollow t y x → IsCalm x.move y.move
+    pub calm : (x y : Step) → Contains (steps t) x → Contains (steps t) y → MayFollow t x y → MayFollow t y x → IsCalm x.move y.move
     calm x y x_in y_in xy yx cell = false_from_ne_true (conflicts (access x.move cell) (access y.move cell)) (λ conflict. elim (cases_eq x.node y.node) [
       | inl same ↦
           let y_here = subst (λ n. Contains (steps t) (record { node = n; move = y.move })) (sym same) y_in in

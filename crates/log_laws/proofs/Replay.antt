@@ -11,10 +11,10 @@ use Rattle.semantics.specs.Tables.{Tables}
 use Rattle.semantics.specs.Kinds.{reqs_of}
 use Rattle.semantics.specs.Events.{Node, Before, graph_of, IsCycle, AreLinked}
 use Rattle.semantics.specs.ReplayOrder.{replay_order, is_stuck}
-use Rattle.semantics.specs.Steps.{Step, id_of, moves_of, steps_by}
+use Rattle.semantics.specs.Steps.{Step, id_of, moves_of, steps, steps_by}
 use Rattle.semantics.specs.Interleavings.{is_read, IsInterleaving}
 use Rattle.log_laws.proofs.lemmas.Members.{Member, member_of, contains_of, member_at, member_flat, flat_member, none_or_some}
-use Rattle.log_laws.proofs.lemmas.Apart.{Apart, PairsBy, all_pairs, pairs_from, pairs_append, pairs_map, pairs_where, pairs_flat, number_in, number_within}
+use Rattle.log_laws.proofs.lemmas.Apart.{Apart, PairsBy, all_pairs, apart_flat, apart_map, numbers_apart, pairs_from, pairs_append, pairs_map, pairs_where, pairs_flat, number_in, number_within}
 use Rattle.log_laws.proofs.lemmas.StepLists.{moves_at, steps_at, MayFollow, step_at}
 use Rattle.log_laws.proofs.lemmas.Tidy.{is_of, a_read, no_read}
 use Rattle.log_laws.proofs.lemmas.Rounds.{once, taken_within, in_turn, not_before_itself, replay, listed}
@@ -46,6 +46,13 @@ among : (t : Tables) (ks ls : List ℕ) → ((k : ℕ) → Member ks k → Membe
 among t ks ls more x c =
     let at = member_flat (steps_at t) ks x (member_of (steps_by t ks) x c) in
     contains_of (steps_by t ls) x (flat_member (steps_at t) ls at.0 x (more at.0 at.1) at.2)
+
+-- A log lists no step twice, where no node does.
+pub steps_once : (t : Tables) → ((k : ℕ) → Apart (moves_at t k)) → Apart (steps t)
+steps_once t moves = apart_flat (steps_at t) (range_with_len 0 (length t.nodes))
+    (λ k m. apart_map (λ m. record { node = k; move = m }) (moves_at t k) (λ m n e. ap (λ (x : Step). x.move) e) (moves k))
+    (λ k l x _ _ m n. sym (step_at t k x m).0 ∙ (step_at t l x n).0)
+    (numbers_apart 0 (length t.nodes))
 
 module _ (t : Tables) (linked : AreLinked (graph_of t.nodes)) (moves : (k : ℕ) → Apart (moves_at t k)) where
   abbrev nodes : List Node

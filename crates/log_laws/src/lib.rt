@@ -13,5 +13,5 @@ pub use read_laws::{one_log, printed_logs_are_read, read_logs_are_good};
 pub use serial_laws::{item_ids_are_apart, items_are_listed, serial_order_lists};
 pub use step_laws::{
     faultless_logs_are_linked, faultless_logs_are_tidy, faultless_logs_have_one_answer,
-    replay_is_an_interleaving,
+    neighbours_may_change_places, replay_is_an_interleaving, steps_are_listed_once,
 };

@@ -1,24 +1,24 @@
 //! Laws of logs without a fault: of those whose records are good, and of which a command shows none.
 
-ghost use Rattle.std.specs.Prelude.{◌≡◌, ℕ, None, List};
+ghost use Rattle.std.specs.Prelude.{◌≡◌, ◌≢◌, ℕ, None, List, ◌∷◌, ◌++◌, AllPairs};
 ghost use Rattle.std.specs.List.{AllByRecursion};
 ghost use Rattle.value_terms.specs.Values.{Value};
 ghost use Rattle.spy_grammar.specs.declared.record.Lined.{Lined};
 ghost use Rattle.spy_grammar.specs.Spelling.{Good};
 ghost use Rattle.semantics.specs.declared.places.Cell.{Cell};
 ghost use Rattle.semantics.specs.Records.{records_of};
-ghost use Rattle.semantics.specs.Tables.{tables_of};
+ghost use Rattle.semantics.specs.Tables.{Tables, tables_of};
 ghost use Rattle.semantics.specs.Events.{AreLinked, graph_of, HasNoCycle};
-ghost use Rattle.semantics.specs.Steps.{Step};
-ghost use Rattle.semantics.specs.Execution.{State, executed, ReadsIn};
-ghost use Rattle.semantics.specs.Interleavings.{IsInterleaving};
+ghost use Rattle.semantics.specs.Steps.{Step, steps};
+ghost use Rattle.semantics.specs.Execution.{State, effect, executed, sees, ReadsIn};
+ghost use Rattle.semantics.specs.Interleavings.{AreUnordered, IsInterleaving};
 ghost use Rattle.semantics.specs.Races.{IsRaceFree, IsTidy};
 ghost use Rattle.semantics.specs.Reads.{replay_steps};
 ghost use Rattle.semantics.specs.declared.command.Command.{Command};
 ghost use Rattle.semantics.specs.declared.command.Command.TheVariants.{Check};
 ghost use Rattle.semantics.specs.Faults.{log_fault};
 
-use crate::answer_laws::one_answer;
+use crate::answer_laws::{one_answer, swap_law};
 use semantics::nodes_are_of_records;
 
 /// The nodes have different events, and wait on events of nodes alone.
@@ -57,4 +57,27 @@ pub fn faultless_logs_have_one_answer()
 {
     faultless_logs_are_tidy();
     one_answer();
+}
+
+/// A log lists no step twice.
+pub fn steps_are_listed_once()
+    ensures { (lines : ℕ) (log : List Lined) → AllByRecursion Good (records_of log)
+        → log_fault Check lines log ≡ None → AllPairs (λ x y. x ≢ y) (steps (tables_of log)) }
+{}
+
+/// In a log without a race, two steps that nothing orders may change places: where they are neighbours in an interleaving, it stays one, the state after both is the same, and so is what either of them reads.
+pub fn neighbours_may_change_places()
+    ensures interleaving { (t : Tables) (front : List Step) (x y : Step) (back : List Step)
+        → AreUnordered t x y → IsInterleaving t (front ++ x ∷ y ∷ back)
+        → IsInterleaving t (front ++ y ∷ x ∷ back) }
+    ensures state { (lines : ℕ) (log : List Lined) → log_fault Check lines log ≡ None
+        → IsRaceFree (tables_of log) → (x y : Step) → AreUnordered (tables_of log) x y
+        → (s : State) (cell : Cell)
+        → effect y.move (effect x.move s) cell ≡ effect x.move (effect y.move s) cell }
+    ensures sight { (lines : ℕ) (log : List Lined) → log_fault Check lines log ≡ None
+        → IsRaceFree (tables_of log) → (x y : Step) → AreUnordered (tables_of log) x y → (s : State)
+        → (sees y.move (effect x.move s) ≡ sees y.move s) × (sees x.move (effect y.move s) ≡ sees x.move s) }
+{
+    faultless_logs_are_tidy();
+    swap_law();
 }

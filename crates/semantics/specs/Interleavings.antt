@@ -21,3 +21,11 @@ pub record IsInterleaving (t : Tables) (xs : List Step) : Type 0 where
   pub in_log : (x : Step) → Contains xs x → Contains (steps t) x
   pub whole : (x : Step) → Contains (steps t) x → Contains xs x
   pub in_order : AllPairs (λ x y. MustPrecede (graph_of t.nodes) y x → ⊥) xs
+
+-- Two steps of the log that are different, and of which neither has to be taken before the other.
+pub record AreUnordered (t : Tables) (x y : Step) : Type 0 where
+  pub differ : x ≢ y
+  pub one_in : Contains (steps t) x
+  pub other_in : Contains (steps t) y
+  pub not_before : MustPrecede (graph_of t.nodes) x y → ⊥
+  pub not_after : MustPrecede (graph_of t.nodes) y x → ⊥

@@ -81,7 +81,7 @@ touches P (moves.Fold op from to) c h both = from_to_touches P from to (Folds op
 touches P _ c h both = at_cell_touches P _ _ c h both.0
 
 -- Two moves conflict only at a cell that both touch.
-meet : (P Q : Cell → Type 0) (m n : Move) (c : Cell) → conflicts (access m c) (access n c) ≡ true → Ends P m → Ends Q n → P c × Q c
+pub meet : (P Q : Cell → Type 0) (m n : Move) (c : Cell) → conflicts (access m c) (access n c) ≡ true → Ends P m → Ends Q n → P c × Q c
 meet P Q m n c e at_m at_n = (
   touches P m c (λ none. true≢false (sym e ∙ ap (λ a. conflicts a (access n c)) none)) at_m,
   touches Q n c (λ none. true≢false (sym e ∙ ap (conflicts (access m c)) none ∙ untouched (access m c))) at_n,

@@ -1,0 +1,17 @@
+use Rattle.semantics.specs.Tables.{tables_of}
+use Rattle.semantics.specs.Steps.{steps}
+use Rattle.semantics.specs.declared.command.Command.TheVariants.{Check}
+use Rattle.std.proofs.Common.{◌≢◌}
+use Rattle.log_laws.proofs.lemmas.Apart.{Apart, all_pairs}
+use Rattle.log_laws.proofs.lemmas.Admitted.{faultless, sane, all_mapped}
+use Rattle.log_laws.proofs.Strict.{strict}
+use Rattle.log_laws.proofs.lemmas.Tidy.{moves_once}
+use Rattle.log_laws.proofs.Replay.{at_position, steps_once}
+use Rattle.log_laws.proofs.step_laws.steps_are_listed_once.Goals as goal
+
+pub returns : goal.returns
+returns c lines log good none =
+    let t = tables_of log in
+    let f = faultless Check lines log none in
+    let clear = strict Check log good f in
+    all_pairs (λ x y. x ≢ y) (steps t) (steps_once t (at_position t Apart tt (λ n m. moves_once t (sane Check log f) (all_mapped log f) clear n.op (clear.operations n m))))
