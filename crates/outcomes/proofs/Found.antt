@@ -74,8 +74,24 @@ pub record AreOrderly (t : Tables) : Type 0 where
   pub replayed : HasNoCycle t → (k : ℕ) → k < length t.nodes → Contains (replay_order (graph_of t.nodes)) k
   pub interleaved : HasNoCycle t → IsInterleaving t (replay_steps t)
 
-graph_length : (ns : List LogNode) → length (graph_of ns) ≡ length ns
+pub graph_length : (ns : List LogNode) → length (graph_of ns) ≡ length ns
 graph_length ns = length-map {B = Node} ns _
+
+-- Where there is no cycle, each node is in the replay order.
+pub all_replayed : (t : Tables) → AreLinked (graph_of t.nodes)
+    → ((nodes : List Node) (k : ℕ) → Contains (replay_order nodes) k ↔ ((k < length nodes) × (is_stuck nodes k ≡ false)))
+    → ((nodes : List Node) → AreLinked nodes → (k : ℕ) → k < length nodes → is_stuck nodes k ≡ true → (c : List ℕ) × IsCycle nodes c)
+    → HasNoCycle t → (k : ℕ) → k < length t.nodes → Contains (replay_order (graph_of t.nodes)) k
+all_replayed t linked listed stuck none k lt =
+    let nodes = graph_of t.nodes in
+    let within : k < length nodes = subst (λ n. k < n) (sym (graph_length t.nodes)) lt in
+    (listed nodes k).1 (
+      within,
+      elim (cases_Bool (is_stuck nodes k)) [
+        | inl is ↦ (let cycle = stuck nodes linked k within is in absurd (none cycle.0 cycle.1))
+        | inr not_stuck ↦ not_stuck
+      ],
+    )
 
 pub orderly : ((command : Command) (lines : ℕ) (log : List Lined) → AllByRecursion Good (records_of log) → log_fault command lines log ≡ None → AreLinked (graph_of (tables_of log).nodes))
     → ((nodes : List Node) (k : ℕ) → Contains (replay_order nodes) k ↔ ((k < length nodes) × (is_stuck nodes k ≡ false)))
@@ -83,19 +99,7 @@ pub orderly : ((command : Command) (lines : ℕ) (log : List Lined) → AllByRec
     → ((lines : ℕ) (log : List Lined) → AllByRecursion Good (records_of log) → log_fault commands.Check lines log ≡ None → HasNoCycle (tables_of log) → IsInterleaving (tables_of log) (replay_steps (tables_of log)))
     → (lines : ℕ) (log : List Lined) → AllByRecursion Good (records_of log) → log_fault commands.Check lines log ≡ None → AreOrderly (tables_of log)
 orderly linked listed stuck interleaved lines log good clear =
-    let nodes = graph_of (tables_of log).nodes in
-    record {
-      replayed = λ none k lt.
-          let within : k < length nodes = subst (λ n. k < n) (sym (graph_length (tables_of log).nodes)) lt in
-          (listed nodes k).1 (
-            within,
-            elim (cases_Bool (is_stuck nodes k)) [
-              | inl is ↦ (let cycle = stuck nodes (linked commands.Check lines log good clear) k within is in absurd (none cycle.0 cycle.1))
-              | inr not_stuck ↦ not_stuck
-            ],
-          );
-      interleaved = interleaved lines log good clear;
-    }
+    record { replayed = all_replayed (tables_of log) (linked commands.Check lines log good clear) listed stuck; interleaved = interleaved lines log good clear }
 
 same_race : (t : Tables) → AreOrderly t → HasNoCycle t → (a b c d : ℕ) (cell other : Cell) → ShowsRace t a b cell → ShowsRace t c d other → (a ≡ c) × (b ≡ d) × (cell ≡ other)
 same_race t orderly none a b c d cell other p q =

@@ -1,6 +1,9 @@
 pub mod lemmas
 mod Pairs
 mod Races
+mod Decided
+mod SomeRaces
 mod Found
+mod Existing
 mod Inputs
 mod Replays

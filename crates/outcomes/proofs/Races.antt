@@ -50,7 +50,7 @@ module _ (t : Tables) (replayed : (k : ℕ) → k < length t.nodes → Contains 
   within : (b : ℕ) (m : Move) → Contains (steps t) (record { node = b; move = m }) → b < length t.nodes
   within b m at = let node = of_node t (range_with_len 0 (length t.nodes)) _ (member_of (steps t) _ at) in slice_get_within t.nodes b node.node node.is_node
 
-  one_node : (b d : ℕ) (m n : Move) → Contains (steps t) (record { node = b; move = m }) → Contains (steps t) (record { node = d; move = n }) → replay_place t b ≤ replay_place t d → replay_place t d ≤ replay_place t b → b ≡ d
+  pub one_node : (b d : ℕ) (m n : Move) → Contains (steps t) (record { node = b; move = m }) → Contains (steps t) (record { node = d; move = n }) → replay_place t b ≤ replay_place t d → replay_place t d ≤ replay_place t b → b ≡ d
   one_node b d m n at there le ge = node_of_place b d (within b m at) (within d n there) (omega (arith, le, ge))
 
   pub one_race : (a b c d : ℕ) (cell other : Cell) → IsShownRace t a b cell → IsShownRace t c d other → (a ≡ c) × (b ≡ d) × (cell ≡ other)

@@ -7,6 +7,6 @@ mod finding_laws;
 mod input_laws;
 mod replay_laws;
 
-pub use finding_laws::{one_finding, one_outcome};
+pub use finding_laws::{one_finding, one_outcome, some_finding, some_outcome};
 pub use input_laws::inputs_are_read;
 pub use replay_laws::replays_speak_for_all;
