@@ -36,8 +36,7 @@ fn walked<'a, P: ArenaSet<'a>>(
     ensures { IfOk result (λ w. StandsAt records.now w.kept draft.new w.code) }
 {
     let whole = WholeLog::new(alloc, records)?;
-    let mut tally = Tally::new(alloc);
-    walk(draft, &mut tally, alloc, bump, &whole, records)
+    walk(draft, Tally::new(alloc), alloc, bump, &whole, records)
 }
 
 /// Adds the records of a log to a draft in which nothing is declared, and gives their forest; or the fault of the first that breaks a rule.

@@ -25,14 +25,14 @@ pub(crate) struct Walked {
 /// Adds the records up to the first that breaks a rule to a draft in which nothing is declared.
 pub(crate) fn walk<'a, P: ArenaSet<'a>>(
     draft: &mut Draft<P>,
-    tally: &mut Tally,
+    mut tally: Tally,
     alloc: Global,
     bump: &'a Bump,
     whole: &WholeLog,
     records: &[Lined],
 ) -> Result<Walked, Memory>
     requires none { draft.old ≡ no_tables }
-    requires tally { IsTally [] no_tables tally.old }
+    requires tally { IsTally [] no_tables tally }
     requires whole { whole.now ≡ records_of records.now }
     requires ascends { All (λ l. Ascends l.rec) records.now }
     requires few { length records.now < 2 ^ 32 - 1 }
@@ -43,7 +43,7 @@ pub(crate) fn walk<'a, P: ArenaSet<'a>>(
         let at = AtRecord {
             whole: &*whole,
             draft: &*draft,
-            tally: &*tally,
+            tally: &tally,
             before: kept,
             rec: &l.rec,
         };
@@ -51,7 +51,7 @@ pub(crate) fn walk<'a, P: ArenaSet<'a>>(
         if code.is_some() {
             return Ok(Walked { kept, code });
         }
-        tally.add(draft, &l.rec)?;
+        tally = tally.add(draft, &l.rec)?;
         draft.add(alloc, bump, l.line, &l.rec)?;
         kept += 1;
     }

@@ -1,6 +1,6 @@
 //! What is kept count of along a log, and the limits on it.
 
-ghost use Rattle.std.specs.Prelude.{◌≡◌, nat_eq, ℕ, List, [], ◌++◌, ◌∷◌, OnOk};
+ghost use Rattle.std.specs.Prelude.{◌≡◌, nat_eq, ℕ, List, [], ◌++◌, ◌∷◌, IfOk, OnOk};
 ghost use Rattle.std.specs.HashSet.{contains};
 ghost use Rattle.spy_grammar.specs.declared.record.Record.{Record};
 ghost use Rattle.semantics.specs.Points.{points_in};
@@ -103,18 +103,19 @@ impl Tally {
         }
     }
 
-    /// Counts one record more, given what the records before it declare. Where memory runs out the tally is of no use.
-    pub fn add<P: PointSet>(&mut self, draft: &Draft<P>, rec: &Record) -> Result<(), AllocError>
-        ensures { OnOk result ((earlier : List Record) (line : ℕ) → IsTally earlier draft.now self.old
+    /// The tally of one record more, given what the records before it declare. The old one is spent, also where memory runs out.
+    pub fn add<P: PointSet>(self, draft: &Draft<P>, rec: &Record) -> Result<Tally, AllocError>
+        ensures { IfOk result (λ tally. (earlier : List Record) (line : ℕ) → IsTally earlier draft.now self
             → MayCount earlier draft.now rec.now
-            → IsTally (earlier ++ rec.now ∷ []) (with_record draft.now line rec.now) self.new) }
+            → IsTally (earlier ++ rec.now ∷ []) (with_record draft.now line rec.now) tally) }
     {
-        self.points = raised(self.points, points_asked(rec));
-        self.cells = raised(self.cells, cells_asked(draft, rec));
-        self.accesses = raised(self.accesses, accesses(draft, rec));
-        note_listed(&mut self.listed, rec)?;
-        note_claims(&mut self.claims, draft, rec)?;
-        Ok(())
+        let mut tally = self;
+        tally.points = raised(tally.points, points_asked(rec));
+        tally.cells = raised(tally.cells, cells_asked(draft, rec));
+        tally.accesses = raised(tally.accesses, accesses(draft, rec));
+        note_listed(&mut tally.listed, rec)?;
+        note_claims(&mut tally.claims, draft, rec)?;
+        Ok(tally)
     }
 }
 

@@ -1,6 +1,6 @@
 //! One record more.
 
-ghost use Rattle.std.specs.Prelude.{◌≡◌, ◌<◌, ◌≤◌, ◌+◌, ◌-◌, ◌^◌, ◌++◌, ◌∷◌, [], length, OnOk, IfOk};
+ghost use Rattle.std.specs.Prelude.{◌≡◌, ◌<◌, ◌≤◌, ◌+◌, ◌-◌, ◌^◌, ◌++◌, ◌∷◌, [], length, OnOk, IfOk, OnErr};
 ghost use Rattle.semantics.specs.Tables.{with_node, with_record, privilege_of, coherence_of, points_of};
 ghost use Rattle.log_tables.specs.Views.{Ascends, IsOfRegions, IsOfItems, IsOfNodes};
 ghost use Rattle.spy_grammar.specs.declared.record.Record.TheVariants as records;
@@ -59,7 +59,8 @@ impl<'a, P: ArenaSet<'a>> Draft<P> {
     /// One space more, whose set is placed in the arena.
     fn add_space_of(&mut self, bump: &'a Bump, line: u32, id: u32, set: &Set) -> Result<(), Memory>
         requires { AreRuns set.now }
-        ensures { OnOk result (self.new ≡ with_record self.old line (records.Ispace id set.now)) }
+        ensures ok { OnOk result (self.new ≡ with_record self.old line (records.Ispace id set.now)) }
+        ensures err { OnErr result (self.new ≡ self.old) }
     {
         let set = placed(bump, set.as_slice())?;
         Ok(self.add_space(id, set)?)
@@ -74,7 +75,8 @@ impl<'a, P: ArenaSet<'a>> Draft<P> {
         fields: &Nums,
     ) -> Result<(), AllocError>
         requires { IsStrictlyIncreasing fields.now }
-        ensures { OnOk result (self.new ≡ with_record self.old line (records.Fields id fields.now)) }
+        ensures ok { OnOk result (self.new ≡ with_record self.old line (records.Fields id fields.now)) }
+        ensures err { OnErr result (self.new ≡ self.old) }
     {
         let fields = copied(alloc, fields)?;
         self.add_field_space(id, fields)
@@ -90,7 +92,8 @@ impl<'a, P: ArenaSet<'a>> Draft<P> {
     ) -> Result<(), Memory>
         requires ascends { Ascends rec.now }
         requires kind { IsOfRegions rec.now }
-        ensures { OnOk result (self.new ≡ with_record self.old line rec.now) }
+        ensures ok { OnOk result (self.new ≡ with_record self.old line rec.now) }
+        ensures err { OnErr result (self.new ≡ self.old) }
     {
         match rec {
             Record::Ispace { id, set } => self.add_space_of(bump, line, *id, set)?,
@@ -125,8 +128,9 @@ impl<'a, P: ArenaSet<'a>> Draft<P> {
     ) -> Result<(), AllocError>
         requires few { length self.old.reqs < 2 ^ 32 - 1 }
         requires ascend { IsStrictlyIncreasing fields }
-        ensures { OnOk result (self.new ≡ with_record self.old line
+        ensures ok { OnOk result (self.new ≡ with_record self.old line
             (records.Req task tree space fields access atomic)) }
+        ensures err { OnErr result (self.new ≡ self.old) }
     {
         let item = self.place(task);
         let number = self.req_count(item) as u32 + 1;
@@ -154,7 +158,8 @@ impl<'a, P: ArenaSet<'a>> Draft<P> {
         n: u32,
     ) -> Result<(), AllocError>
         requires { IsStrictlyIncreasing fields.now }
-        ensures { OnOk result (self.new ≡ with_record self.old line (records.Fill id tree space fields.now n)) }
+        ensures ok { OnOk result (self.new ≡ with_record self.old line (records.Fill id tree space fields.now n)) }
+        ensures err { OnErr result (self.new ≡ self.old) }
     {
         let fields = copied(alloc, fields)?;
         self.add_item(
@@ -180,10 +185,11 @@ impl<'a, P: ArenaSet<'a>> Draft<P> {
         kind: InstKind,
     ) -> Result<(), AllocError>
         requires { IsStrictlyIncreasing fields.now }
-        ensures { OnOk result (self.new ≡ record self.old {
+        ensures ok { OnOk result (self.new ≡ record self.old {
           insts = self.old.insts
               ++ record { id = id; tree = tree; space = space; fields = fields.now; kind = kind } ∷ [];
         }) }
+        ensures err { OnErr result (self.new ≡ self.old) }
     {
         let fields = copied(alloc, fields)?;
         self.add_inst(Inst {
@@ -205,7 +211,8 @@ impl<'a, P: ArenaSet<'a>> Draft<P> {
         fields: &Nums,
         inst: u32,
     ) -> Result<(), AllocError>
-        ensures { OnOk result (self.new ≡ with_record self.old line (records.Map task req fields.now inst)) }
+        ensures ok { OnOk result (self.new ≡ with_record self.old line (records.Map task req fields.now inst)) }
+        ensures err { OnErr result (self.new ≡ self.old) }
     {
         let item = self.place(task);
         let fields = copied(alloc, fields)?;
@@ -217,7 +224,8 @@ impl<'a, P: ArenaSet<'a>> Draft<P> {
         requires ascends { Ascends rec.now }
         requires few { length self.old.reqs < 2 ^ 32 - 1 }
         requires kind { IsOfItems rec.now }
-        ensures { OnOk result (self.new ≡ with_record self.old line rec.now) }
+        ensures ok { OnOk result (self.new ≡ with_record self.old line rec.now) }
+        ensures err { OnErr result (self.new ≡ self.old) }
     {
         match rec {
             Record::Task { id } => self.add_item(*id, line, ItemBody::Task)?,
@@ -276,7 +284,8 @@ impl<'a, P: ArenaSet<'a>> Draft<P> {
         waits: &Nums,
         op: Op,
     ) -> Result<(), AllocError>
-        ensures { OnOk result (self.new ≡ with_node self.old line done waits.now op) }
+        ensures ok { OnOk result (self.new ≡ with_node self.old line done waits.now op) }
+        ensures err { OnErr result (self.new ≡ self.old) }
     {
         let waits = copied(alloc, waits)?;
         self.add_node(line, done, waits, op)
@@ -285,7 +294,8 @@ impl<'a, P: ArenaSet<'a>> Draft<P> {
     /// What a record on nodes declares.
     fn add_of_nodes(&mut self, alloc: Global, line: u32, rec: &Record) -> Result<(), Memory>
         requires { IsOfNodes rec.now }
-        ensures { OnOk result (self.new ≡ with_record self.old line rec.now) }
+        ensures ok { OnOk result (self.new ≡ with_record self.old line rec.now) }
+        ensures err { OnErr result (self.new ≡ self.old) }
     {
         match rec {
             Record::Run { task, done, waits } => {
@@ -377,6 +387,7 @@ impl<'a, P: ArenaSet<'a>> Draft<P> {
         requires ascends { Ascends rec.now }
         requires few { length self.old.reqs < 2 ^ 32 - 1 }
         ensures ok { OnOk result (self.new ≡ with_record self.old line rec.now) }
+        ensures err { OnErr result (self.new ≡ self.old) }
         ensures few { OnOk result (length self.new.reqs ≤ length self.old.reqs + 1) }
     {
         match rec {

@@ -1,6 +1,6 @@
 //! Tables of a log, as they grow.
 
-ghost use Rattle.std.specs.Prelude.{◌≡◌, ◌++◌, ◌∷◌, [], ◌^◌, ◌<◌, length, OnOk};
+ghost use Rattle.std.specs.Prelude.{◌≡◌, ◌++◌, ◌∷◌, [], ◌^◌, ◌<◌, length, OnOk, OnErr};
 ghost use Rattle.std.specs.List.Sorted.{IsStrictlyIncreasing};
 ghost use Rattle.semantics.specs.Tables.{no_tables, with_item, with_node, with_record};
 ghost use Rattle.log_tables.specs.Ascending.{body_fields};
@@ -86,16 +86,18 @@ impl<P: PointSet> Draft<P> {
     pub(crate) fn add_space(&mut self, id: u32, set: P) -> Result<(), AllocError>
     where
         P: Drop,
-        ensures { OnOk result (self.new ≡ record self.old {
+        ensures ok { OnOk result (self.new ≡ record self.old {
           spaces = self.old.spaces
               ++ record { id = id; points = P.points set } ∷ [];
         }) }
+        ensures err { OnErr result (self.new ≡ self.old) }
     {
         self.spaces.push(Space { id, set })
     }
 
     pub(crate) fn add_part(&mut self, id: u32, space: u32, disjoint: bool) -> Result<(), AllocError>
-        ensures { OnOk result (Declares self.old self.new (records.Part id space disjoint)) }
+        ensures ok { OnOk result (Declares self.old self.new (records.Part id space disjoint)) }
+        ensures err { OnErr result (self.new ≡ self.old) }
     {
         self.parts.push(Part {
             id,
@@ -105,7 +107,8 @@ impl<P: PointSet> Draft<P> {
     }
 
     pub(crate) fn add_sub(&mut self, part: u32, colour: u32, space: u32) -> Result<(), AllocError>
-        ensures { OnOk result (Declares self.old self.new (records.Sub part colour space)) }
+        ensures ok { OnOk result (Declares self.old self.new (records.Sub part colour space)) }
+        ensures err { OnErr result (self.new ≡ self.old) }
     {
         self.subs.push(Sub {
             part,
@@ -116,26 +119,30 @@ impl<P: PointSet> Draft<P> {
 
     pub(crate) fn add_field_space(&mut self, id: u32, fields: Nums) -> Result<(), AllocError>
         requires { IsStrictlyIncreasing fields }
-        ensures { OnOk result (Declares self.old self.new (records.Fields id fields)) }
+        ensures ok { OnOk result (Declares self.old self.new (records.Fields id fields)) }
+        ensures err { OnErr result (self.new ≡ self.old) }
     {
         self.field_spaces.push(FieldSpace { id, fields })
     }
 
     pub(crate) fn add_tree(&mut self, id: u32, space: u32, fspace: u32) -> Result<(), AllocError>
-        ensures { OnOk result (Declares self.old self.new (records.Tree id space fspace)) }
+        ensures ok { OnOk result (Declares self.old self.new (records.Tree id space fspace)) }
+        ensures err { OnErr result (self.new ≡ self.old) }
     {
         self.trees.push(Tree { id, space, fspace })
     }
 
     pub(crate) fn add_operator(&mut self, id: u32) -> Result<(), AllocError>
-        ensures { OnOk result (Declares self.old self.new (records.Redop id)) }
+        ensures ok { OnOk result (Declares self.old self.new (records.Redop id)) }
+        ensures err { OnErr result (self.new ≡ self.old) }
     {
         self.operators.push(id)
     }
 
     pub(crate) fn add_item(&mut self, id: u32, line: u32, body: ItemBody) -> Result<(), AllocError>
         requires { IsStrictlyIncreasing (body_fields body) }
-        ensures { OnOk result (self.new ≡ with_item self.old line id body) }
+        ensures ok { OnOk result (self.new ≡ with_item self.old line id body) }
+        ensures err { OnErr result (self.new ≡ self.old) }
     {
         self.items.push(Item { id, line, body })
     }
@@ -143,13 +150,15 @@ impl<P: PointSet> Draft<P> {
     pub(crate) fn add_req(&mut self, req: Req) -> Result<(), AllocError>
         requires few { length self.old.reqs < 2 ^ 32 }
         requires ascend { IsStrictlyIncreasing req.fields }
-        ensures { OnOk result (self.new ≡ record self.old { reqs = self.old.reqs ++ req ∷ [] }) }
+        ensures ok { OnOk result (self.new ≡ record self.old { reqs = self.old.reqs ++ req ∷ [] }) }
+        ensures err { OnErr result (self.new ≡ self.old) }
     {
         self.reqs.push(req)
     }
 
     pub(crate) fn add_serial(&mut self, line: u32, ids: Nums) -> Result<(), AllocError>
-        ensures { OnOk result (self.new ≡ with_record self.old line (records.Serial ids)) }
+        ensures ok { OnOk result (self.new ≡ with_record self.old line (records.Serial ids)) }
+        ensures err { OnErr result (self.new ≡ self.old) }
     {
         self.serials.push(Serial { line, ids })?;
         Ok(())
@@ -157,7 +166,8 @@ impl<P: PointSet> Draft<P> {
 
     pub(crate) fn add_inst(&mut self, inst: Inst) -> Result<(), AllocError>
         requires { IsStrictlyIncreasing inst.fields }
-        ensures { OnOk result (self.new ≡ record self.old { insts = self.old.insts ++ inst ∷ [] }) }
+        ensures ok { OnOk result (self.new ≡ record self.old { insts = self.old.insts ++ inst ∷ [] }) }
+        ensures err { OnErr result (self.new ≡ self.old) }
     {
         self.insts.push(inst)
     }
@@ -169,10 +179,11 @@ impl<P: PointSet> Draft<P> {
         fields: Nums,
         inst: u32,
     ) -> Result<(), AllocError>
-        ensures { OnOk result (self.new ≡ record self.old {
+        ensures ok { OnOk result (self.new ≡ record self.old {
           maps = self.old.maps
               ++ record { item = item; number = number; fields = fields; inst = inst } ∷ [];
         }) }
+        ensures err { OnErr result (self.new ≡ self.old) }
     {
         self.maps.push(Map {
             item,
@@ -189,7 +200,8 @@ impl<P: PointSet> Draft<P> {
         waits: Nums,
         op: Op,
     ) -> Result<(), AllocError>
-        ensures { OnOk result (self.new ≡ with_node self.old line done waits op) }
+        ensures ok { OnOk result (self.new ≡ with_node self.old line done waits op) }
+        ensures err { OnErr result (self.new ≡ self.old) }
     {
         self.nodes.push(LogNode {
             line,

@@ -1,6 +1,6 @@
 //! Maps of requirements' fields to instances.
 
-ghost use Rattle.std.specs.Prelude.{◌≡◌, ◌++◌, ◌∷◌, [], ◌≤◌, OnOk, IsOk, length};
+ghost use Rattle.std.specs.Prelude.{◌≡◌, ◌++◌, ◌∷◌, [], ◌≤◌, OnOk, IsOk, length, OnErr};
 ghost use Rattle.indexmap.specs.IndexMap.{get, spare};
 ghost use Rattle.log_tables.specs.Mapped.{same_field, inst_mapped, names_field};
 ghost use Rattle.log_tables.specs.Noted.{NotesFirst};
@@ -90,7 +90,8 @@ impl Maps {
 
     /// One map more.
     pub fn push(&mut self, map: Map) -> Result<(), AllocError>
-        ensures { OnOk result (self.new ≡ self.old ++ map ∷ []) }
+        ensures ok { OnOk result (self.new ≡ self.old ++ map ∷ []) }
+        ensures err { OnErr result (self.new ≡ self.old) }
     {
         self.rows.reserve(1)?;
         self.insts.reserve(map.fields.len())?;

@@ -3,14 +3,15 @@ use Rattle.std.specs.Prelude.{◌≡◌, ℕ, List, None}
 use Rattle.std.specs.List.{AllByRecursion}
 use Rattle.spy_grammar.specs.declared.record.Lined.{Lined}
 use Rattle.spy_grammar.specs.Spelling.{Good}
-use Rattle.semantics.specs.Records.{records_of}
+use Rattle.semantics.specs.Records.{records_of, AreLines}
 use Rattle.semantics.specs.Tables.{Tables, tables_of}
 use Rattle.semantics.specs.Faults.{declaration_fault}
 
--- The tables are those of good records that break no rule of a log's frame and no rule on single records.
+-- The tables are those of good records, on lines that ascend, that break no rule of a log's frame and no rule on single records.
 pub record AreDeclared (t : Tables) : Type 0 where
   pub lines : ℕ
   pub log : List Lined
   pub good : AllByRecursion Good (records_of log)
+  pub on_lines : AreLines lines log
   pub faultless : declaration_fault lines log ≡ None
   pub tables : t ≡ tables_of log

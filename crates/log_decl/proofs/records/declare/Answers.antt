@@ -17,6 +17,7 @@ of-requires g c κs =
           lines = c.args.lines;
           log = log;
           good = good_records log c.requires.good;
+          on_lines = c.requires.lines;
           faultless = ap (λ (log : List Lined). declaration_fault c.args.lines log) (sym is) ∙ c.in-Ok.ensures.faultless;
           tables = tables ∙ ap tables_of is;
         },

@@ -29,12 +29,12 @@ loop-l-preserved g c =
     let r = c.l-item.result.rec in
     let told = c.in_ok-code.ensures es inv.tally (counted log c.loop-l.kept i inv.at (omega (arith, c.loop-l-test.true))) in
     let none : broken_of (records_of log) es t r ≡ None = ap (λ (w : List Record). broken_of w es t r) (sym c.requires.whole) ∙ sym told ∙ none_where c.in_ok-code.code (sym c.is_some.ensures ∙ c.if-is_some.false) in
-    let next = c.in_ok-add-2.ensures.ok in
-    let tally = c.in_ok-add.ensures es l.line inv.tally (may_count (records_of log) es t r none) in
+    let next = c.in_ok-add.ensures.ok in
+    let tally = c.in_ok-tally.ensures es l.line inv.tally (may_count (records_of log) es t r none) in
     record {
       at = ap (λ n. n + 1) inv.at;
       tables = next ∙ tables_more log i t l inv.tables c.loop-l-test.true c.l-item.is;
       tally = tally_more _ _ _ _ _ tally (records_more log i l c.loop-l-test.true c.l-item.is) next;
-      few = omega (arith, c.in_ok-add-2.ensures.few, inv.few);
+      few = omega (arith, c.in_ok-add.ensures.few, inv.few);
       keep = keeps_more log i t l inv.tables inv.keep c.loop-l-test.true c.l-item.is none;
     }
