@@ -1,4 +1,4 @@
--- The requirements that actions name allow their moves.
+-- The requirements that actions name allow their moves, and are those that the moves name.
 use Rattle.std.proofs.Common.{◌≡◌, ℕ, ◌+◌, ◌==◌, ◌&&◌, inl, inr, List, [], ◌∷◌, map, Option, Some, None, option_map, unwrap_or, slice_get, refl, sym, ap, ap₂, ◌∙◌, subst}
 use Rattle.std.specs.Prelude.{IfSome}
 use Rattle.std.specs.List.{AllByRecursion}
@@ -16,12 +16,12 @@ use Rattle.semantics.specs.Points.{points_in}
 use Rattle.semantics.specs.Kinds.{reqs_of, grid}
 use Rattle.semantics.specs.Reads.{req_at}
 use Rattle.semantics.specs.Steps.{cell_in, id_of, mapped}
-use Rattle.log_laws.proofs.lemmas.Members.{Member, Each, contains_of, found_at, member_append, member_flat, member_map, none_or_some, only}
+use Rattle.log_laws.proofs.lemmas.Members.{Member, Each, contains_of, found_at, member_append, member_filter, member_flat, member_map, none_or_some, only}
 use Rattle.region_tree.proofs.lemmas.Firsts.{find_by_place}
 use Rattle.inst_steps.specs.declared.act.Act.{Act}
 use Rattle.inst_steps.specs.declared.act.Act.TheVariants as acts
 use Rattle.inst_steps.specs.declared.act.Action.{Action}
-use Rattle.inst_steps.specs.Acting.{IsBy, IsMappedTo}
+use Rattle.inst_steps.specs.Acting.{IsBy, IsMappedTo, IsOfTask, IsOwn, HasNumber}
 use Rattle.point_laws.specs.Cut.{kept, cut_to}
 use Rattle.inst_steps.specs.Stepping.{AreNumbered, rest_actions}
 use Rattle.inst_steps.specs.Sweeps.{Pass, action_at, actions_of_pass, cell_of, changing, own_place, pass_for, passes_of, reading}
@@ -33,15 +33,25 @@ all_of P [] h = tt
 all_of P (x ∷ xs) h = (h x (inl refl), all_of P xs (λ y m. h y (inr m)))
 
 module _ (t : Tables) where
-  -- What an act does at each point and field, its requirement allows.
+  -- An action is by the requirement that its move names, which allows it.
+  abbrev IsFit : Action → Type 0
+  IsFit a = IsBy t a × IsOwn t a
+
+  -- So is what an act does at each point and field.
   abbrev Suits : Act → Type 0
-  Suits act = (p : ℕ × ℕ) → IsBy t (action_at t act p)
+  Suits act = (p : ℕ × ℕ) → IsFit (action_at t act p)
 
   has : (r : Req) (req : ℕ) (a : Priv) → slice_get t.reqs req ≡ Some r → r.access ≡ a → HasPrivilege t req a
   has r req a at e = ap (option_map (λ (r : Req). r.access)) at ∙ ap (λ a. Some a) e
 
   mapped_to : (r : Req) (req : ℕ) → slice_get t.reqs req ≡ Some r → (p : ℕ × ℕ) → IsMappedTo t req (cell_of t r.item r.number p)
   mapped_to r req at p = ap (λ o. cell_in (unwrap_or (option_and_then (λ (r : Req). mapped t r p.1) o) 0) p) at
+
+  of_task : (task : ℕ) (r : Req) (req : ℕ) → slice_get t.reqs req ≡ Some r → id_of t r.item ≡ task → IsOfTask t req task
+  of_task task r req at e = ap (option_map (λ (r : Req). id_of t r.item)) at ∙ ap (λ n. Some n) e
+
+  numbered_so : (r : Req) (req : ℕ) → slice_get t.reqs req ≡ Some r → HasNumber t req r.number
+  numbered_so r req at = ap (option_map (λ (r : Req). r.number)) at
 
   -- ---- a requirement that is found by its item and number stands at the place of these
 
@@ -54,27 +64,27 @@ module _ (t : Tables) where
         | inr some ↦ (some.0, some.1, sym (ap (option_and_then (slice_get t.reqs)) some.1) ∙ same)
       ]
 
-  read_suits : (task : ℕ) (r : Req) → req_at t r.item r.number ≡ Some r → (a : Priv) → r.access ≡ a → IfSome (reading t task r) Suits
-  read_suits task r found privileges.Ro e =
+  read_suits : (task : ℕ) (r : Req) → id_of t r.item ≡ task → req_at t r.item r.number ≡ Some r → (a : Priv) → r.access ≡ a → IfSome (reading t task r) Suits
+  read_suits task r own_task found privileges.Ro e =
       let o = own r found in
-      rw e (λ p. subst (λ q. IsBy t (action_at t (acts.Read task r.item r.number q) p)) (sym o.1) (inl (has r o.0 privileges.Ro o.2 e), mapped_to r o.0 o.2 p))
-  read_suits task r found privileges.Rw e =
+      rw e (λ p. subst (λ q. IsFit (action_at t (acts.Read task r.item r.number q) p)) (sym o.1) ((inl (has r o.0 privileges.Ro o.2 e), mapped_to r o.0 o.2 p), (of_task task r o.0 o.2 own_task, numbered_so r o.0 o.2)))
+  read_suits task r own_task found privileges.Rw e =
       let o = own r found in
-      rw e (λ p. subst (λ q. IsBy t (action_at t (acts.Read task r.item r.number q) p)) (sym o.1) (inr (has r o.0 privileges.Rw o.2 e), mapped_to r o.0 o.2 p))
-  read_suits task r found privileges.Wd e = rw e tt
-  read_suits task r found (privileges.Red op) e = rw e tt
+      rw e (λ p. subst (λ q. IsFit (action_at t (acts.Read task r.item r.number q) p)) (sym o.1) ((inr (has r o.0 privileges.Rw o.2 e), mapped_to r o.0 o.2 p), (of_task task r o.0 o.2 own_task, numbered_so r o.0 o.2)))
+  read_suits task r own_task found privileges.Wd e = rw e tt
+  read_suits task r own_task found (privileges.Red op) e = rw e tt
 
-  change_suits : (task : ℕ) (r : Req) → req_at t r.item r.number ≡ Some r → (a : Priv) → r.access ≡ a → IfSome (changing t task r) Suits
-  change_suits task r found privileges.Ro e = rw e tt
-  change_suits task r found privileges.Rw e =
+  change_suits : (task : ℕ) (r : Req) → id_of t r.item ≡ task → req_at t r.item r.number ≡ Some r → (a : Priv) → r.access ≡ a → IfSome (changing t task r) Suits
+  change_suits task r own_task found privileges.Ro e = rw e tt
+  change_suits task r own_task found privileges.Rw e =
       let o = own r found in
-      rw e (λ p. subst (λ q. IsBy t (action_at t (acts.Write task r.item r.number q) p)) (sym o.1) (inl (has r o.0 privileges.Rw o.2 e), mapped_to r o.0 o.2 p))
-  change_suits task r found privileges.Wd e =
+      rw e (λ p. subst (λ q. IsFit (action_at t (acts.Write task r.item r.number q) p)) (sym o.1) ((inl (has r o.0 privileges.Rw o.2 e), mapped_to r o.0 o.2 p), of_task task r o.0 o.2 own_task))
+  change_suits task r own_task found privileges.Wd e =
       let o = own r found in
-      rw e (λ p. subst (λ q. IsBy t (action_at t (acts.Write task r.item r.number q) p)) (sym o.1) (inr (has r o.0 privileges.Wd o.2 e), mapped_to r o.0 o.2 p))
-  change_suits task r found (privileges.Red op) e =
+      rw e (λ p. subst (λ q. IsFit (action_at t (acts.Write task r.item r.number q) p)) (sym o.1) ((inr (has r o.0 privileges.Wd o.2 e), mapped_to r o.0 o.2 p), of_task task r o.0 o.2 own_task))
+  change_suits task r own_task found (privileges.Red op) e =
       let o = own r found in
-      rw e (λ p. subst (λ q. IsBy t (action_at t (acts.Reduce task r.item r.number q op) p)) (sym o.1) (has r o.0 (privileges.Red op) o.2 e, mapped_to r o.0 o.2 p))
+      rw e (λ p. subst (λ q. IsFit (action_at t (acts.Reduce task r.item r.number q op) p)) (sym o.1) ((has r o.0 (privileges.Red op) o.2 e, mapped_to r o.0 o.2 p), (of_task task r o.0 o.2 own_task, numbered_so r o.0 o.2)))
 
   pass_suits : (r : Req) (o : Option Act) → IfSome o Suits → IfSome (pass_for r o) (λ (p : Pass). Suits p.act)
   pass_suits r None h = tt
@@ -91,6 +101,9 @@ module _ (t : Tables) where
         let both = and_parts (r.item == item) (r.number == c.0 + 1) (found_at (λ (q : Req). (q.item == item) && (q.number == c.0 + 1)) t.reqs r at).1 in
         ap₂ (λ i n. req_at t i n) (eqb-true r.item item both.0) (eqb-true r.number (c.0 + 1) both.1) ∙ at
 
+    task_of : (item : ℕ) (r : Req) → Member (reqs_of t item) r → id_of t r.item ≡ id_of t item
+    task_of item r m = ap (id_of t) (eqb-true r.item item (member_filter (λ (r : Req). r.item == item) t.reqs r m).1)
+
     sweep_suits : (op : Op) (o : Option Pass) → Member (passes_of t op) o → IfSome o (λ (p : Pass). Suits p.act)
     sweep_suits (operations.Run item) o m =
         let task = id_of t item in
@@ -99,24 +112,30 @@ module _ (t : Tables) where
         elim (member_append (map reads (reqs_of t item)) (map changes (reqs_of t item)) o m) [
           | inl a ↦
               let r = member_map reads (reqs_of t item) o a in
-              subst (λ o. IfSome o (λ (p : Pass). Suits p.act)) (sym r.2) (pass_suits r.0 (reading t task r.0) (read_suits task r.0 (found item r.0 r.1) r.0.access refl))
+              subst (λ o. IfSome o (λ (p : Pass). Suits p.act)) (sym r.2) (pass_suits r.0 (reading t task r.0) (read_suits task r.0 (task_of item r.0 r.1) (found item r.0 r.1) r.0.access refl))
           | inr b ↦
               let r = member_map changes (reqs_of t item) o b in
-              subst (λ o. IfSome o (λ (p : Pass). Suits p.act)) (sym r.2) (pass_suits r.0 (changing t task r.0) (change_suits task r.0 (found item r.0 r.1) r.0.access refl))
+              subst (λ o. IfSome o (λ (p : Pass). Suits p.act)) (sym r.2) (pass_suits r.0 (changing t task r.0) (change_suits task r.0 (task_of item r.0 r.1) (found item r.0 r.1) r.0.access refl))
         ]
-    sweep_suits (operations.Copy src dst space fields) o m = subst (λ o. IfSome o (λ (p : Pass). Suits p.act)) (sym (only m)) (λ p. tt)
-    sweep_suits (operations.Put inst space fields n) o m = subst (λ o. IfSome o (λ (p : Pass). Suits p.act)) (sym (only m)) (λ p. tt)
-    sweep_suits (operations.Reset inst space fields) o m = subst (λ o. IfSome o (λ (p : Pass). Suits p.act)) (sym (only m)) (λ p. tt)
-    sweep_suits (operations.Fold src dst space fields) o m = subst (λ o. IfSome o (λ (p : Pass). Suits p.act)) (sym (only m)) (λ p. tt)
+    sweep_suits (operations.Copy src dst space fields) o m = subst (λ o. IfSome o (λ (p : Pass). Suits p.act)) (sym (only m)) (λ p. (tt, tt))
+    sweep_suits (operations.Put inst space fields n) o m = subst (λ o. IfSome o (λ (p : Pass). Suits p.act)) (sym (only m)) (λ p. (tt, tt))
+    sweep_suits (operations.Reset inst space fields) o m = subst (λ o. IfSome o (λ (p : Pass). Suits p.act)) (sym (only m)) (λ p. (tt, tt))
+    sweep_suits (operations.Fold src dst space fields) o m = subst (λ o. IfSome o (λ (p : Pass). Suits p.act)) (sym (only m)) (λ p. (tt, tt))
     sweep_suits operations.Merge o m = absurd m
 
-    one_by : (listed : Option (List ℕ)) (o : Option Pass) → IfSome o (λ (p : Pass). Suits p.act) → (a : Action) → Member (actions_of_pass (cut_to listed t) o) a → IsBy t a
+    one_by : (listed : Option (List ℕ)) (o : Option Pass) → IfSome o (λ (p : Pass). Suits p.act) → (a : Action) → Member (actions_of_pass (cut_to listed t) o) a → IsFit a
     one_by listed None h a m = absurd m
     one_by listed (Some p) h a m =
         let q = member_map (action_at t p.act) (grid (kept listed (points_in t p.space)) p.fields) a (subst (λ xs. Member xs a) (actions_cut listed t p) m) in
-        subst (IsBy t) (sym q.2) (h q.0)
+        subst IsFit (sym q.2) (h q.0)
+
+    each_fit : (listed : Option (List ℕ)) (op : Op) (a : Action) → Member (rest_actions t op listed 0) a → IsFit a
+    each_fit listed op a m =
+        let o = member_flat (actions_of_pass (cut_to listed t)) (passes_of t op) a m in
+        one_by listed o.0 (sweep_suits op o.0 o.1) a o.2
 
     pub all_by : (listed : Option (List ℕ)) (op : Op) → AllByRecursion (IsBy t) (rest_actions t op listed 0)
-    all_by listed op = all_of (IsBy t) (rest_actions t op listed 0) (λ a m.
-        let o = member_flat (actions_of_pass (cut_to listed t)) (passes_of t op) a m in
-        one_by listed o.0 (sweep_suits op o.0 o.1) a o.2)
+    all_by listed op = all_of (IsBy t) (rest_actions t op listed 0) (λ a m. (each_fit listed op a m).0)
+
+    pub all_own : (listed : Option (List ℕ)) (op : Op) → AllByRecursion (IsOwn t) (rest_actions t op listed 0)
+    all_own listed op = all_of (IsOwn t) (rest_actions t op listed 0) (λ a m. (each_fit listed op a m).1)

@@ -5,7 +5,7 @@ ghost use Rattle.std.specs.Iterator.{YieldsFirst, item_count};
 ghost use Rattle.std.specs.List.{AllByRecursion};
 ghost use Rattle.std.specs.List.Sorted.{IsStrictlyIncreasing};
 ghost use Rattle.semantics.specs.Points.{points_in};
-ghost use Rattle.inst_steps.specs.Acting.{IsBy, steps_in};
+ghost use Rattle.inst_steps.specs.Acting.{IsBy, IsOwn, steps_in};
 ghost use Rattle.point_laws.specs.Cut.{cut_to};
 ghost use Rattle.listed_points.specs.Listed.{IsAscending, listed_of};
 ghost use Rattle.inst_steps.specs.Stepping.{AreNumbered, IsSpot, IsAt, at_left, rest_actions, moves_at, spot_here, spot_actions};
@@ -178,6 +178,7 @@ impl<'l, 'a, 'p, P: PointSet + Copy> Actions<'l, 'a, 'p, P> {
         requires ascending { IsAscending listed }
         ensures steps { steps_in result ≡ moves_at (cut_to (listed_of listed.entry) log.now) node }
         ensures by { AllByRecursion (IsBy log.now) result }
+        ensures own { AllByRecursion (IsOwn log.now) result }
     {
         reqs_are_numbered(log);
         let op = &log.nodes()[node].op;

@@ -4,7 +4,7 @@ ghost use Rattle.std.specs.Prelude.{◌≡◌, ◌<◌, length};
 ghost use Rattle.std.specs.List.{AllByRecursion};
 ghost use Rattle.std.specs.List.Sorted.{IsStrictlyIncreasing};
 ghost use Rattle.point_laws.specs.Cut.{cut};
-ghost use Rattle.inst_steps.specs.Acting.{IsBy, steps_in};
+ghost use Rattle.inst_steps.specs.Acting.{IsBy, IsOwn, steps_in};
 ghost use Rattle.inst_steps.specs.Stepping.{moves_at};
 
 use crate::iterator::{Actions, Steps};
@@ -36,7 +36,7 @@ pub fn steps_on<'l, 'a, 'p, P: PointSet + Copy>(
     }
 }
 
-/// The same, each with the position of the requirement by which a run makes it: its privilege allows the move, in the cell that its view has there.
+/// The same, each with the position of the requirement by which a run makes it: the one of the move's task and number, whose privilege allows the move in the cell that its view has there.
 pub fn actions_on<'l, 'a, 'p, P: PointSet + Copy>(
     log: &'l Log<'a, P>,
     node: usize,
@@ -46,6 +46,7 @@ pub fn actions_on<'l, 'a, 'p, P: PointSet + Copy>(
     requires ascend { IsStrictlyIncreasing points.now }
     ensures steps { steps_in result ≡ moves_at (cut points.now log.now) node }
     ensures by { AllByRecursion (IsBy log.now) result }
+    ensures own { AllByRecursion (IsOwn log.now) result }
 {
     Actions::of(log, node, Some(points))
 }

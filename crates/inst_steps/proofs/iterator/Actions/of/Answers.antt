@@ -1,8 +1,8 @@
 use Rattle.std.proofs.Common.{sym, ap, ◌∙◌, subst}
 use Rattle.std.specs.List.{AllByRecursion}
 use Rattle.listed_points.specs.Listed.{listed_of}
-use Rattle.inst_steps.specs.Acting.{IsBy, steps_in}
-use Rattle.inst_steps.proofs.Allowed.{all_by}
+use Rattle.inst_steps.specs.Acting.{IsBy, IsOwn, steps_in}
+use Rattle.inst_steps.proofs.Allowed.{all_by, all_own}
 use Rattle.inst_steps.proofs.Sweeping.{all_steps, node_moves}
 use Rattle.inst_steps.proofs.iterator.Actions.of.Goals as goal
 
@@ -19,3 +19,8 @@ pub returns-clause-by : goal.returns-clause-by
 returns-clause-by g c =
     let t = c.args.log.now in
     subst (AllByRecursion (IsBy t)) (sym c.start_from.ensures.actions) (all_by t c.reqs_are_numbered.ensures (listed_of c.args.listed) _)
+
+pub returns-clause-own : goal.returns-clause-own
+returns-clause-own g c =
+    let t = c.args.log.now in
+    subst (AllByRecursion (IsOwn t)) (sym c.start_from.ensures.actions) (all_own t c.reqs_are_numbered.ensures (listed_of c.args.listed) _)
