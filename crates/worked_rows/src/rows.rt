@@ -79,7 +79,7 @@ fn logs_with_some_lines_changed(rt: HostRuntime) -> Result<(), Fail> {
 #[test]
 fn whole_logs(rt: HostRuntime) -> Result<(), Fail> {
     let alloc = rt.alloc();
-    let rows: [(&str, &[u8], Status, &[u8]); 12] = [
+    let rows: [(&str, &[u8], Status, &[u8]); 15] = [
         ("ordered", b"", Status::Fault, b"fault 1 header\n"),
         ("deps", b"# nothing\n", Status::Fault, b"fault 2 header\n"),
         ("ordered", b"legion-spy 1\nispace 1 0-1048575\nend 1\n", Status::Yes, b"ordered tasks 0 pairs 0\n"),
@@ -87,6 +87,9 @@ fn whole_logs(rt: HostRuntime) -> Result<(), Fail> {
         ("ordered", b"legion-spy 1\nispace 1 0-1048575\nispace 2 5\nend 2\n", Status::Fault, b"fault 3 too-many-points\n"),
         ("ordered", b"legion-spy 1\nispace 1 0-9\npart 1 1 disjoint\nispace 2 0-5\nsub 1 0 2\nispace 3 5-9\nsub 1 1 3\nend 6\n", Status::Fault, b"fault 7 not-disjoint\n"),
         ("ordered", b"legion-spy 1\nispace 1 0-9\npart 1 1 aliased\nispace 2 0-5\nsub 1 0 2\nispace 3 5-9\nsub 1 1 3\nend 6\n", Status::Yes, b"ordered tasks 0 pairs 0\n"),
+        ("check", b"legion-spy 1\nispace 1 0-1048575\nispace 2 5\nend 2\n", Status::Fault, b"fault 3 too-many-points\n"),
+        ("check", b"legion-spy 1\nispace 1 0-9\npart 1 1 disjoint\nispace 2 0-5\nsub 1 0 2\nispace 3 5-9\nsub 1 1 3\nend 6\n", Status::Fault, b"fault 7 not-disjoint\n"),
+        ("check", b"legion-spy 1\nispace 1 0-9\npart 1 1 aliased\nispace 2 0-5\nsub 1 0 2\nispace 3 5-9\nsub 1 1 3\nend 6\n", Status::Yes, b"accepted tasks 0 operations 0 reads 0\n"),
         // Pieces of an aliased partition: only those that share a point interfere, and it is the least that is shown.
         ("ordered", b"legion-spy 1\nispace 1 0-9\npart 1 1 aliased\nispace 2 0-4\nsub 1 0 2\nispace 3 4-9\nsub 1 1 3\nispace 4 6-7\nsub 1 2 4\nfields 1 1,2\ntree 1 1 1\ntask 1\nreq 1 1 2 1,2 rw ex\ntask 2\nreq 2 1 4 1,2 rw ex\ntask 3\nreq 3 1 3 2 ro ex\nrun 1 1 -\nrun 2 2 -\nrun 3 3 1,2\nend 19\n", Status::Yes, b"ordered tasks 3 pairs 2\n"),
         ("ordered", b"legion-spy 1\nispace 1 0-9\npart 1 1 aliased\nispace 2 0-4\nsub 1 0 2\nispace 3 4-9\nsub 1 1 3\nispace 4 6-7\nsub 1 2 4\nfields 1 1,2\ntree 1 1 1\ntask 1\nreq 1 1 2 1,2 rw ex\ntask 2\nreq 2 1 4 1,2 rw ex\ntask 3\nreq 3 1 3 2 ro ex\nrun 1 1 -\nrun 2 2 -\nrun 3 3 1\nend 19\n", Status::Refused, b"unordered 2 3 tree 1 point 6 field 2\n"),
