@@ -17,7 +17,7 @@ use Rattle.semantics.specs.Kinds.{reqs_of, grid}
 use Rattle.semantics.specs.Reads.{req_at}
 use Rattle.semantics.specs.Steps.{cell_in, id_of, mapped}
 use Rattle.log_laws.proofs.lemmas.Members.{Member, Each, contains_of, found_at, member_append, member_filter, member_flat, member_map, none_or_some, only}
-use Rattle.region_tree.proofs.lemmas.Firsts.{find_by_place}
+use Rattle.list_lemmas.proofs.lemmas.Firsts.{find_by_place}
 use Rattle.inst_steps.specs.declared.act.Act.{Act}
 use Rattle.inst_steps.specs.declared.act.Act.TheVariants as acts
 use Rattle.inst_steps.specs.declared.act.Action.{Action}

@@ -21,7 +21,7 @@ use Rattle.interference.specs.Pairing.{pair_of, all_pairs, no_place, row, rows, 
 use Rattle.interference.specs.Turned.{is_turned, turned}
 use Rattle.interference.proofs.AllPairs.{all_are}
 use Rattle.interference.proofs.Rows.{meeting}
-use Rattle.log_tables.proofs.lemmas.Places.{find_map}
+use Rattle.list_lemmas.proofs.lemmas.Places.{find_map}
 
 -- ---- the pairs against some places are those of all pairs that stand so
 

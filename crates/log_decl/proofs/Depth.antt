@@ -10,7 +10,7 @@ use Rattle.region_tree.specs.declared.decls.PartDecl.{PartDecl}
 use Rattle.region_tree.specs.declared.decls.SubDecl.{SubDecl}
 use Rattle.region_tree.specs.Regions.{whole_of, parent_of}
 use Rattle.region_tree.specs.Ancestors.{ancestor_of}
-use Rattle.region_tree.proofs.lemmas.Firsts.{cases_option}
+use Rattle.list_lemmas.proofs.lemmas.Firsts.{cases_option}
 use Rattle.region_tree.proofs.lemmas.Climbs.{ancestor-sum, ends}
 use Rattle.log_tables.proofs.lemmas.Members.{eq_turned}
 use Rattle.semantics.specs.Tables.{Tables}
@@ -18,7 +18,7 @@ use Rattle.semantics.specs.declared.tables.Part as parts
 use Rattle.semantics.specs.declared.tables.Sub as subs
 use Rattle.semantics.specs.Points.{part_at, space_above, upward, spaces_above}
 use Rattle.semantics.specs.Rules.{is_too_deep}
-use Rattle.log_tables.specs.Decls.{decls_of, part_decl, sub_decl}
+use Rattle.logs.specs.Decls.{decls_of, part_decl, sub_decl}
 use Rattle.region_tree.specs.Growing.{IsGrown}
 
 pub find_seen : {X Y : Type 0} (p : Y → Bool) (q : X → Bool) (f : X → Y) (xs : List X) → ((x : X) → p (f x) ≡ q x) → find p (map f xs) ≡ option_map f (find q xs)

@@ -15,7 +15,7 @@ use Rattle.log_tables.specs.Views.{space_seen}
 use Rattle.log_tables.specs.declared.entries.Space as spaces
 use Rattle.semantics.specs.Tables.{Space, tables_of, no_tables}
 use Rattle.semantics.specs.Faults.{at_line}
-use Rattle.log_tables.specs.Decls.{decls_of, space_kept, space_decl}
+use Rattle.logs.specs.Decls.{decls_of, space_kept, space_decl}
 use Rattle.log_decl.specs.SubLines.{sub_lines}
 use Rattle.log_decl.specs.Walk.{Keep, spaces_fault}
 use Rattle.log_decl.proofs.SpaceFaults.{ShownAt, outside, met, no_fault, first_fault, grown_all}

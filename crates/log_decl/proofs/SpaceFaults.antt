@@ -15,7 +15,7 @@ use Rattle.semantics.specs.declared.tables.Sub as subs
 use Rattle.semantics.specs.Tables.{Tables, with_record, tables_of}
 use Rattle.semantics.specs.Faults.{at_line}
 use Rattle.semantics.specs.Rules as rules
-use Rattle.log_tables.specs.Decls.{decls_of, sub_decl}
+use Rattle.logs.specs.Decls.{decls_of, sub_decl}
 use Rattle.region_tree.specs.Growing.{IsGrown}
 use Rattle.log_decl.specs.SubLines.{sub_line, sub_lines}
 use Rattle.log_decl.specs.Walk.{other_broken, space_broken, spaces_fault, Keep}

@@ -19,7 +19,7 @@ use Rattle.semantics.specs.declared.tables.Sub as subs
 use Rattle.semantics.specs.Tables.{Tables, Space, with_record, tables_of}
 use Rattle.semantics.specs.Faults.{record_in}
 use Rattle.semantics.specs.Rules as rules
-use Rattle.log_tables.specs.Decls.{decls_of, space_decl, part_decl, sub_decl}
+use Rattle.logs.specs.Decls.{decls_of, space_decl, part_decl, sub_decl}
 use Rattle.region_tree.specs.Growing.{IsGrown, MaySub, with_space, with_part, with_sub}
 use Rattle.semantics.proofs.lemmas.RecordRules.{none_passes}
 use Rattle.log_decl.specs.Walk.{breaks_other, other_broken}

@@ -13,13 +13,13 @@ use Rattle.region_tree.specs.Regions as regions
 use Rattle.region_tree.specs.Regions.{space_of, part_of, space_points}
 use Rattle.region_tree.specs.Faults.{IsOutside, MeetsEarlier, points_cut, is_disjoint}
 use Rattle.region_tree.specs.Shape.{IsForest}
-use Rattle.region_tree.proofs.lemmas.Firsts.{find_some, all_at, seen_back}
+use Rattle.list_lemmas.proofs.lemmas.Firsts.{find_some, all_at, seen_back}
 use Rattle.semantics.specs.declared.tables.Part as parts
 use Rattle.semantics.specs.declared.tables.Sub as subs
 use Rattle.semantics.specs.Tables.{Tables, Space}
 use Rattle.semantics.specs.Points.{points_in, part_at, meets}
 use Rattle.semantics.specs.Rules.{is_outside, is_not_disjoint}
-use Rattle.log_tables.specs.Decls.{decls_of, space_decl, part_decl, sub_decl}
+use Rattle.logs.specs.Decls.{decls_of, space_decl, part_decl, sub_decl}
 use Rattle.log_tables.proofs.lemmas.Members.{eq_turned}
 use Rattle.log_decl.proofs.Depth.{find_seen, whole_is}
 use Rattle.log_decl.proofs.Growing.{Extends, points_kept, part_kept}

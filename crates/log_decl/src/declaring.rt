@@ -7,7 +7,7 @@ ghost use Rattle.semantics.specs.Records.{records_of, AreLines};
 ghost use Rattle.semantics.specs.Tables.{no_tables, tables_of};
 ghost use Rattle.semantics.specs.Faults.{at_line, declaration_fault, records_fault};
 ghost use Rattle.log_tables.specs.Views.{Ascends};
-ghost use Rattle.log_tables.specs.Decls.{decls_of};
+ghost use Rattle.logs.specs.Decls.{decls_of};
 ghost use Rattle.log_decl.specs.Ends.{IsFaultOf};
 ghost use Rattle.log_decl.specs.Walk.{StandsAt};
 

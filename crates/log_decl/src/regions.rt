@@ -3,7 +3,7 @@
 ghost use Rattle.std.specs.Prelude.{◌≡◌, ◌<◌, List, [], IfOk, OnOk, length, map, slice_get};
 ghost use Rattle.spy_grammar.specs.declared.record.Record.{Record};
 ghost use Rattle.semantics.specs.Tables.{tables_of};
-ghost use Rattle.log_tables.specs.Decls.{decls_of, space_kept, part_decl, sub_decl};
+ghost use Rattle.logs.specs.Decls.{decls_of, space_kept, part_decl, sub_decl};
 ghost use Rattle.log_decl.specs.Ends.{IsFaultOf};
 ghost use Rattle.log_decl.specs.SubLines.{sub_line, sub_lines};
 ghost use Rattle.log_decl.specs.Walk.{Keep, spaces_fault};

@@ -4,7 +4,7 @@ use Rattle.std.specs.List.{list_any, list_all}
 use Rattle.std.specs.Option.{option_map, option_or}
 use Rattle.std.proofs.lemmas.Bool.{cases_Bool}
 use Rattle.std.proofs.lemmas.List.Folds.{find-append, list_any_none}
-use Rattle.region_tree.proofs.lemmas.Firsts.{or_none}
+use Rattle.list_lemmas.proofs.lemmas.Firsts.{or_none}
 
 pub list_any-alike : {X : Type 0} (p q : X → Bool) (xs : List X) → ((x : X) → p x ≡ q x) → list_any p xs ≡ list_any q xs
 list_any-alike p q [] e = refl

@@ -3,7 +3,7 @@ use Rattle.std.proofs.Common.{◌≡◌, ℕ, ◌+◌, Bool, List, [], ◌∷◌
 use Rattle.std.specs.List.{position_from}
 use Rattle.std.specs.Option.{option_or}
 use Rattle.log_tables.specs.Noted.{NotesFirst, HoldsPlaces}
-use Rattle.log_tables.proofs.lemmas.Places.{position_more}
+use Rattle.list_lemmas.proofs.lemmas.Places.{position_more}
 
 pub place_noted : {K T : Type 0} (eq : K → K → Bool) (key_of : T → K) (old new : K → Option ℕ) (rows : List T) (row : T) (key : K) (place : ℕ)
     → HoldsPlaces eq key_of old rows → NotesFirst old new (eq key) place → key ≡ key_of row → place ≡ length rows → HoldsPlaces eq key_of new (rows ++ row ∷ [])

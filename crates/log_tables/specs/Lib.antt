@@ -3,7 +3,6 @@ pub mod Mapped
 pub mod Noted
 pub mod Runs
 pub mod Views
-pub mod Decls
 pub use Rattle.semantics.specs.Points
 pub use Rattle.semantics.specs.Reads
 pub use Rattle.semantics.specs.Rules

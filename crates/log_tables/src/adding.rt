@@ -8,9 +8,9 @@ ghost use Rattle.std.specs.List.Sorted.{IsStrictlyIncreasing};
 ghost use Rattle.point_set.specs.Runs.{AreRuns};
 
 use crate::draft::Draft;
+use arena_sets::{ArenaSet, Memory};
 use bumpalo::Bump;
 use privilege::{Coherence, Priv};
-use region_tree::{ArenaSet, Memory};
 use semantics::{Inst, ItemBody, Op, Req};
 use spy_grammar::Record;
 use spy_words::{InstKind, Nums, PrivWord, Set};

@@ -11,7 +11,7 @@ use crate::entries::SubKey;
 use point_set::PointSet;
 use semantics::ItemBody;
 
-#[tactic(auto, using(crate::proofs::lemmas::Places::list_any_map))]
+#[tactic(auto, using(list_lemmas::proofs::lemmas::Places::list_any_map))]
 impl<P: PointSet> Draft<P> {
     /// Whether a space is declared.
     pub fn has_space(&self, id: u32) -> bool
@@ -105,7 +105,7 @@ impl<P: PointSet> Draft<P> {
     }
 }
 
-#[tactic(auto, using(crate::proofs::lemmas::Places::find_map))]
+#[tactic(auto, using(list_lemmas::proofs::lemmas::Places::find_map))]
 impl<P: PointSet> Draft<P> {
     /// The set of a space.
     pub fn set(&self, id: u32) -> Option<&P>

@@ -1,11 +1,10 @@
+pub mod Decls
 pub mod Faultless
 pub mod Listing
 pub mod Looked
 pub mod Mapping
-pub mod Pathways
 pub use Rattle.log_tables.specs.Ascending
 pub use Rattle.item_uses.specs.Blocks
-pub use Rattle.log_tables.specs.Decls
 pub use Rattle.semantics.specs.Faults
 pub use Rattle.log_tables.specs.Mapped
 pub use Rattle.region_tree.specs.Paths

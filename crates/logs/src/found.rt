@@ -5,16 +5,14 @@ ghost use Rattle.item_uses.specs.Blocks.{AreBlocks};
 ghost use Rattle.item_uses.specs.Representatives.{AreRepresentatives};
 ghost use Rattle.item_uses.specs.Usages.{usages};
 ghost use Rattle.std.specs.HashMap.{get};
-ghost use Rattle.log_tables.specs.Decls.{decls_of};
 ghost use Rattle.logs.specs.Looked.{AreFound};
 
-use crate::paths::paths_of;
 use crate::serial_order::{serial_lines, serial_order, serial_places};
 use bumpalo::Bump;
 use item_uses::{ItemUses, Span, representatives, spans_of_blocks, uses_of_items};
 use log_tables::{Draft, Space};
 use point_set::PointSet;
-use region_tree::{Forest, Memory, Path};
+use region_tree::Memory;
 use std::alloc::{AllocError, Global};
 use std::collections::HashMap;
 
@@ -23,8 +21,6 @@ use std::collections::HashMap;
 pub(crate) struct Found<'a, P: PointSet + Copy> {
     /// The ids of the spaces, in the order of their lines.
     pub(crate) space_ids: Vec<u32>,
-    /// The path of each space.
-    pub(crate) paths: HashMap<u32, Path>,
     /// The positions of the items in serial order.
     pub(crate) order: Vec<usize>,
     /// For each item its place in that order.
@@ -46,22 +42,18 @@ fn ids_of<P>(alloc: Global, spaces: &[Space<P>]) -> Result<Vec<u32>, AllocError>
     spaces.iter().map(|s| s.id).collect(alloc)
 }
 
-/// What is found of these tables and their forest.
+/// What is found of these tables.
 pub(crate) fn found_in<'a, P: PointSet + Copy>(
     alloc: Global,
     bump: &'a Bump,
     draft: &Draft<P>,
-    forest: &Forest<'a, P>,
 ) -> Result<Found<'a, P>, Memory>
-    requires { forest.now ≡ decls_of draft.now }
     ensures uses { IfOk result (λ f. f.uses.items ≡ usages draft.now) }
     ensures blocks { IfOk result (λ f. AreBlocks f.blocks.items f.uses.items) }
     ensures representatives { IfOk result (λ f. AreRepresentatives f.representatives.items f.uses.items) }
-    ensures found { IfOk result (λ f. AreFound draft.now f.space_ids.items (get nat_eq f.paths)
-        f.order.items f.places.items (get nat_eq f.lines)) }
+    ensures found { IfOk result (λ f. AreFound draft.now f.space_ids.items f.order.items f.places.items (get nat_eq f.lines)) }
 {
     let space_ids = ids_of(alloc, draft.spaces())?;
-    let paths = paths_of(alloc, forest, space_ids.as_slice())?;
     let order = serial_order(alloc, draft)?;
     let places = serial_places(alloc, draft.items().len(), order.as_slice())?;
     let lines = serial_lines(alloc, draft.serials())?;
@@ -70,7 +62,6 @@ pub(crate) fn found_in<'a, P: PointSet + Copy>(
     let representatives = representatives(alloc, &uses)?;
     Ok(Found {
         space_ids,
-        paths,
         order,
         places,
         lines,

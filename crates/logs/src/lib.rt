@@ -7,7 +7,6 @@ mod declared;
 mod found;
 mod log;
 mod mapping;
-mod paths;
 mod serial_order;
 
 pub use declared::Declarations;

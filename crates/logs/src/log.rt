@@ -12,7 +12,7 @@ ghost use Rattle.semantics.specs.Points.{points_in};
 ghost use Rattle.semantics.specs.Reads.{req_at};
 ghost use Rattle.semantics.specs.Faults.{at_line, unmapped_fault};
 ghost use Rattle.spy_grammar.specs.declared.code.Code.TheVariants as codes;
-ghost use Rattle.log_tables.specs.Decls.{decls_of};
+ghost use Rattle.logs.specs.Decls.{decls_of};
 ghost use Rattle.logs.specs.Faultless.{AreDeclared};
 ghost use Rattle.logs.specs.Listing.{item_line, ArePlacesIn};
 ghost use Rattle.log_tables.specs.Ascending.{body_fields};
@@ -47,7 +47,7 @@ impl<'a, P: PointSet + Copy> Model for Log<'a, P> {
     ghost use Rattle.std.specs.Prelude.{◌≡◌, nat_eq};
     ghost use Rattle.std.specs.HashMap.{get};
     ghost use Rattle.semantics.specs.Tables.{Tables};
-    ghost use Rattle.log_tables.specs.Decls.{decls_of};
+    ghost use Rattle.logs.specs.Decls.{decls_of};
     ghost use Rattle.logs.specs.Faultless.{AreDeclared};
     ghost use Rattle.logs.specs.Looked.{AreFound};
     ghost use Rattle.item_uses.specs.Blocks.{AreBlocks};
@@ -61,8 +61,7 @@ impl<'a, P: PointSet + Copy> Model for Log<'a, P> {
     ghost invariant = { λ l. AreDeclared l.draft × (l.forest ≡ decls_of l.draft)
         × (l.found.uses.items ≡ usages l.draft) × AreBlocks l.found.blocks.items l.found.uses.items
         × AreRepresentatives l.found.representatives.items l.found.uses.items
-        × AreFound l.draft l.found.space_ids.items (get nat_eq l.found.paths)
-        l.found.order.items l.found.places.items (get nat_eq l.found.lines) };
+        × AreFound l.draft l.found.space_ids.items l.found.order.items l.found.places.items (get nat_eq l.found.lines) };
 }
 
 impl<'a, P: ArenaSet<'a>> Log<'a, P> {
@@ -76,7 +75,7 @@ impl<'a, P: ArenaSet<'a>> Log<'a, P> {
         requires forest { declared.forest ≡ decls_of declared.draft }
         ensures { IfOk result (λ log. log ≡ declared.entry.draft) }
     {
-        match found_in(alloc, bump, &declared.draft, &declared.forest) {
+        match found_in(alloc, bump, &declared.draft) {
             Ok(found) => Ok(Log {
                 draft: declared.draft,
                 forest: declared.forest,
@@ -233,12 +232,12 @@ impl<'a, P: PointSet + Copy> Log<'a, P> {
         &self.forest
     }
 
-    /// The path of a space in the forest, or `None` where the space is not declared.
-    pub fn path(&self, space: u32) -> Option<&Path>
-        ensures declared { IsSome result ↔ IsSome (space_of (decls_of self.now) space) }
-        ensures path { IfSome result (λ way. IsPath (decls_of self.now) way.now space) }
+    /// The path of a space in the forest, or `None` where the space is not declared. The only error is that memory ran out.
+    pub fn path(&self, alloc: Global, space: u32) -> Result<Option<Path>, Memory>
+        ensures declared { IfOk result (λ path. IsSome path ↔ IsSome (space_of (decls_of self.now) space)) }
+        ensures path { IfOk result (λ path. IfSome path (λ way. IsPath (decls_of self.now) way space)) }
     {
-        self.found.paths.get(&space)
+        self.forest.path_of(alloc, space)
     }
 
     /// The set of a space: none of a space that is not declared, which has no points.

@@ -12,7 +12,7 @@ use Rattle.region_tree.specs.Shape.{IsForest}
 use Rattle.region_tree.specs.Faults.{points_cut, is_disjoint, IsFaulty}
 use Rattle.region_tree.specs.Paths.{Way, Leads, IsPath}
 use Rattle.region_tree.proofs.Distinct.{found_by, steps_told}
-use Rattle.region_tree.proofs.lemmas.Firsts.{find_place, at_contains}
+use Rattle.list_lemmas.proofs.lemmas.Firsts.{find_place, at_contains}
 
 -- a subspace has only points of the space that is cut
 step_within : (d : Regions) → ((i : ℕ) → ¬ IsFaulty d i) → (s : SubDecl) (from p : ℕ) → Contains d.subs s → whole_of d s.part ≡ Some from → Contains (space_points d s.space) p → Contains (space_points d from) p

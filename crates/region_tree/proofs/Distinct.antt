@@ -7,7 +7,7 @@ use Rattle.std.specs.Cmp.Derive.{both_true}
 use Rattle.region_tree.specs.declared.path.Step.{Step}
 use Rattle.std.proofs.lemmas.Bool.{cases_Bool, cases_eq, eqb-true, and_parts}
 use Rattle.region_tree.specs.Index.{AllFirst, SomeLater}
-use Rattle.region_tree.proofs.lemmas.Firsts.{seen_back}
+use Rattle.list_lemmas.proofs.lemmas.Firsts.{seen_back}
 use Rattle.std.proofs.lemmas.Option.{none-some, same_Some, slice_get-get_or, slice_get-map, get_or_from_slice_get, slice_get_within}
 
 -- the element at this place is the first that is like it.

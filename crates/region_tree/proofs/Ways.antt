@@ -9,7 +9,7 @@ use Rattle.region_tree.specs.declared.path.Step.{Step}
 use Rattle.region_tree.specs.Regions.{Regions, step_of, space_of, part_of, sub_of, whole_of, parent_of}
 use Rattle.region_tree.specs.Shape.{IsForest}
 use Rattle.region_tree.specs.Paths.{Leads, step_with, step_to}
-use Rattle.region_tree.proofs.lemmas.Firsts.{map_cases, find_some, all_at, contains_at}
+use Rattle.list_lemmas.proofs.lemmas.Firsts.{map_cases, find_some, all_at, contains_at}
 use Rattle.region_tree.proofs.lemmas.Climbs.{sub_from_parent}
 
 -- what a partition cuts is declared

@@ -1,4 +1,3 @@
 -- Lemmas for the proofs of other crates.
-pub mod Firsts
 pub mod Climbs
 pub mod Growth

@@ -6,7 +6,6 @@ pub mod Faults
 pub mod Claims
 pub mod Paths
 pub mod Sharing
-pub mod RunsFrom
 pub mod Growing
 pub use Rattle.point_set.specs.Least
 pub use Rattle.point_set.specs.Runs

@@ -7,9 +7,9 @@ ghost use Rattle.region_tree.specs.Paths.{IsPath};
 ghost use Rattle.region_tree.specs.Shape.{IsForest};
 
 use crate::finder::Finder;
-use crate::memory::Memory;
 use crate::path::Path;
 use crate::shape::DEPTH_LIMIT;
+use arena_sets::Memory;
 use point_set::PointSet;
 use smallvec::SmallVec;
 use std::alloc::Global;

@@ -9,15 +9,14 @@ ghost use Rattle.region_tree.specs.Paths.{IsPath};
 ghost use Rattle.region_tree.specs.Shape.{IsForest};
 ghost use Rattle.region_tree.specs.Faults.{IsFaulty, FirstNotWithin, FirstNotDisjoint};
 
-use crate::arena_set::ArenaSet;
 use crate::climb::{is_under, path_to};
 use crate::decls::{Decls, SpaceDecl};
 use crate::faults::judge;
 use crate::finder::Finder;
-use crate::memory::Memory;
 use crate::path::Path;
 use crate::place_fault::PlaceFault;
 use crate::sharing::alias_of;
+use arena_sets::{ArenaSet, Memory};
 use bumpalo::Bump;
 use bumpalo::collections::into_bump_slice;
 use point_set::PointSet;

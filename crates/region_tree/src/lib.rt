@@ -1,7 +1,6 @@
 //! Forests of regions: spaces, the partitions of spaces, and the subspaces of partitions.
 #![tactic(auto)]
 
-mod arena_set;
 mod claims;
 mod climb;
 mod decls;
@@ -10,17 +9,15 @@ mod finder;
 mod forest;
 mod growing;
 mod index;
-mod memory;
 mod path;
 mod place_fault;
 mod shape;
 mod sharing;
 
-pub use arena_set::ArenaSet;
+pub use arena_sets::{ArenaSet, Memory};
 pub use decls::{Decls, PartDecl, SpaceDecl, SubDecl};
 pub use forest::Forest;
 pub use growing::declarations_grow;
-pub use memory::Memory;
 pub use path::{Path, Step};
 pub use place_fault::PlaceFault;
 pub use shape::is_forest;

@@ -4,7 +4,7 @@ use Rattle.std.proofs.lemmas.Bool.{cases_lt, eqb-true}
 use Rattle.std.proofs.lemmas.Option.{none-some, option_and_then_some}
 use Rattle.region_tree.specs.declared.decls.SubDecl.{SubDecl}
 use Rattle.region_tree.specs.Regions.{Regions, sub_of, whole_of, parent_of}
-use Rattle.region_tree.proofs.lemmas.Firsts.{cases_option, find_some, all_at}
+use Rattle.list_lemmas.proofs.lemmas.Firsts.{cases_option, find_some, all_at}
 use Rattle.region_tree.specs.Ancestors.{ancestor_of, IsBelow, IsShallow}
 
 -- one step more

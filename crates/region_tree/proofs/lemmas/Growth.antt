@@ -10,7 +10,7 @@ use Rattle.region_tree.specs.declared.decls.PartDecl.{PartDecl}
 use Rattle.region_tree.specs.declared.decls.SubDecl.{SubDecl}
 use Rattle.region_tree.specs.Regions.{Regions, Space, space_of, part_of, sub_of, whole_of, parent_of, step_of}
 use Rattle.region_tree.specs.Ancestors.{ancestor_of}
-use Rattle.region_tree.proofs.lemmas.Firsts.{cases_option, or_none, find_some, all_at}
+use Rattle.list_lemmas.proofs.lemmas.Firsts.{cases_option, or_none, find_some, all_at}
 use Rattle.region_tree.proofs.lemmas.Climbs.{acyclic_from, ancestor-sum}
 use Rattle.region_tree.specs.Growing.{IsGrown, MaySub, with_space, with_part, with_sub}
 

@@ -1,6 +1,6 @@
 use Rattle.std.proofs.Common.{map, ap, ◌∙◌}
 use Rattle.region_tree.specs.Regions.{seen}
-use Rattle.log_tables.specs.Decls.{part_decl, sub_decl}
+use Rattle.logs.specs.Decls.{part_decl, sub_decl}
 use Rattle.log_decl.proofs.Placing.{regions_are, spaces_placed}
 use Rattle.log_decl.proofs.regions.decls.Goals as goal
 

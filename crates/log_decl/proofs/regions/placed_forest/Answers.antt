@@ -3,7 +3,7 @@ use Rattle.spy_grammar.specs.declared.code.Code.TheVariants as codes
 use Rattle.region_tree.specs.Faults.{IsFaulty, FirstNotWithin, FirstNotDisjoint}
 use Rattle.region_tree.specs.Regions.{Regions}
 use Rattle.region_tree.specs.Shape.{IsForest}
-use Rattle.log_tables.specs.Decls.{decls_of}
+use Rattle.logs.specs.Decls.{decls_of}
 use Rattle.log_decl.proofs.Ending.{same_fault}
 use Rattle.log_decl.proofs.Placing.{grown_log, faultless, not_within, not_disjoint, listed, told_at}
 use Rattle.log_decl.proofs.regions.placed_forest.Goals as goal

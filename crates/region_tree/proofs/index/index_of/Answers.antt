@@ -5,7 +5,7 @@ use Rattle.region_tree.specs.declared.path.Step.{Step}
 use Rattle.region_tree.specs.declared.decls.SpaceDecl.{SpaceDecl}
 use Rattle.region_tree.specs.declared.decls.PartDecl.{PartDecl}
 use Rattle.region_tree.specs.declared.decls.SubDecl.{SubDecl}
-use Rattle.region_tree.proofs.lemmas.Firsts.{position_from-map}
+use Rattle.list_lemmas.proofs.lemmas.Firsts.{position_from-map}
 use Rattle.region_tree.proofs.index.index_of.Goals as goal
 
 pub returns : goal.returns

@@ -3,7 +3,7 @@ use Rattle.std.specs.List.{position_from}
 use Rattle.std.proofs.lemmas.Iterator.Adapters.{position_from-zero}
 use Rattle.semantics.specs.declared.tables.Req.{Req}
 use Rattle.semantics.specs.Tables.{Tables}
-use Rattle.region_tree.proofs.lemmas.Firsts.{find_by_place}
+use Rattle.list_lemmas.proofs.lemmas.Firsts.{find_by_place}
 use Rattle.log_tables.proofs.draft.Draft.req_place.Goals as goal
 
 pub returns-clause-place : goal.returns-clause-place

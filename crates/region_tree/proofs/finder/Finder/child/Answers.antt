@@ -2,7 +2,7 @@ use Rattle.std.proofs.Common.{List, slice_get, ap, ◌∙◌}
 use Rattle.std.specs.Option.{option_and_then}
 use Rattle.region_tree.specs.declared.decls.SubDecl.{SubDecl}
 use Rattle.region_tree.specs.Regions.{is_at}
-use Rattle.region_tree.proofs.lemmas.Firsts.{find_by_place}
+use Rattle.list_lemmas.proofs.lemmas.Firsts.{find_by_place}
 use Rattle.region_tree.proofs.finder.Finder.child.Goals as goal
 
 pub returns : goal.returns

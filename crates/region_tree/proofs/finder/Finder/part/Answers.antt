@@ -1,7 +1,7 @@
 use Rattle.std.proofs.Common.{◌==◌, List, slice_get, ap, ◌∙◌}
 use Rattle.std.specs.Option.{option_and_then}
 use Rattle.region_tree.specs.declared.decls.PartDecl.{PartDecl}
-use Rattle.region_tree.proofs.lemmas.Firsts.{find_by_place}
+use Rattle.list_lemmas.proofs.lemmas.Firsts.{find_by_place}
 use Rattle.region_tree.proofs.finder.Finder.part.Goals as goal
 
 pub returns : goal.returns

@@ -1,7 +1,7 @@
 use Rattle.std.proofs.Common.{◌==◌, List, slice_get, ap, ◌∙◌}
 use Rattle.std.specs.Option.{option_and_then, option_map}
 use Rattle.region_tree.specs.Regions.{Space, seen}
-use Rattle.region_tree.proofs.lemmas.Firsts.{find_by_place, seen_at, seen_behind}
+use Rattle.list_lemmas.proofs.lemmas.Firsts.{find_by_place, seen_at, seen_behind}
 use Rattle.region_tree.proofs.finder.Finder.space.Goals as goal
 
 pub returns : goal.returns

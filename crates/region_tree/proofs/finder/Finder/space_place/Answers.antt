@@ -1,7 +1,7 @@
 use Rattle.std.proofs.Common.{◌==◌, ap, sym, ◌∙◌}
 use Rattle.std.specs.List.{position_from}
 use Rattle.region_tree.specs.Regions.{Regions, Space, seen}
-use Rattle.region_tree.proofs.lemmas.Firsts.{position_from-map}
+use Rattle.list_lemmas.proofs.lemmas.Firsts.{position_from-map}
 use Rattle.region_tree.proofs.finder.Finder.space_place.Goals as goal
 
 pub returns-in-Some : goal.returns-in-Some

@@ -1,6 +1,6 @@
 use Rattle.std.proofs.Common.{◌≡◌, take}
 use Rattle.point_set.specs.Runs.{points_of}
-use Rattle.region_tree.proofs.arena_set.PointListArenaSet.place.Given as goal
+use Rattle.arena_sets.proofs.arena_set.PointListArenaSet.place.Given as goal
 
 abbrev pub invariant-loop-run : goal.invariant-loop-run
 invariant-loop-run l = l.points.items ≡ points_of (take l.run-index l.runs)

@@ -1,7 +1,7 @@
 use Rattle.std.proofs.Common.{◌≡◌, ◌++◌, length}
 use Rattle.point_set.specs.Runs.{points_of}
-use Rattle.region_tree.specs.RunsFrom.{AreRunsFrom}
-use Rattle.region_tree.proofs.arena_set.RunSetArenaSet.place.Given as goal
+use Rattle.arena_sets.specs.RunsFrom.{AreRunsFrom}
+use Rattle.arena_sets.proofs.arena_set.RunSetArenaSet.place.Given as goal
 
 abbrev pub invariant-loop-run : goal.invariant-loop-run
 invariant-loop-run l = record {

@@ -2,7 +2,7 @@
 
 ghost use Rattle.std.specs.Prelude.{◌≡◌, ◌+◌, ◌<◌, ◌↔◌, [], ◌∷◌, ◌++◌, length, OnOk, IfOk, IfNone, IfSome, IsTrue};
 ghost use Rattle.point_set.specs.Runs.{AreRuns, points_of, run_points};
-ghost use Rattle.region_tree.specs.RunsFrom.{AreRunsFrom, BeginAs};
+ghost use Rattle.arena_sets.specs.RunsFrom.{AreRunsFrom, BeginAs};
 
 use crate::memory::Memory;
 use bumpalo::Bump;

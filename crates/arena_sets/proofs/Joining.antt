@@ -4,7 +4,7 @@ use Rattle.std.proofs.lemmas.List.Elements.{All-nil, All-cons}
 use Rattle.point_set.specs.Runs.{run_points, points_of, AreRuns}
 use Rattle.point_set.proofs.lemmas.InRuns.{later_runs}
 use Rattle.point_set.proofs.lemmas.Maximal.{joined_run}
-use Rattle.region_tree.specs.RunsFrom.{AreRunsFrom}
+use Rattle.arena_sets.specs.RunsFrom.{AreRunsFrom}
 
 -- both ways to say that runs are in order
 from_first : (low : ℕ) (run : ℕ × ℕ) (runs : List (ℕ × ℕ)) → low ≤ run.0 → AreRuns (run ∷ runs) → AreRunsFrom low (run ∷ runs)

@@ -1,7 +1,7 @@
 use Rattle.std.proofs.Common.{◌≡◌, ℕ, ◌<◌, ◌++◌, ◌∷◌, length}
 use Rattle.point_set.specs.Runs.{run_points, points_of}
-use Rattle.region_tree.specs.RunsFrom.{AreRunsFrom}
-use Rattle.region_tree.proofs.arena_set.cut_joined.Given as goal
+use Rattle.arena_sets.specs.RunsFrom.{AreRunsFrom}
+use Rattle.arena_sets.proofs.arena_set.cut_joined.Given as goal
 
 abbrev pub invariant-loop-next : goal.invariant-loop-next
 invariant-loop-next l = record {

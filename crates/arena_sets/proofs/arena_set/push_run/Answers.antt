@@ -1,6 +1,6 @@
 use Rattle.std.proofs.Common.{◌≡◌, ◌+◌, ◌-◌, refl, arith}
-use Rattle.region_tree.proofs.RunPoints.{one_more, end_is}
-use Rattle.region_tree.proofs.arena_set.push_run.Goals as goal
+use Rattle.arena_sets.proofs.RunPoints.{one_more, end_is}
+use Rattle.arena_sets.proofs.arena_set.push_run.Goals as goal
 
 pub loop-p-preserved : goal.loop-p-preserved
 loop-p-preserved c = (

@@ -1,8 +1,8 @@
 use Rattle.std.proofs.Common.{◌≡◌, ◌+◌, ◌∷◌, ◌++◌, ℕ, List, subst, ap, ◌∙◌, arith}
 use Rattle.point_set.specs.Runs.{run_points, points_of}
-use Rattle.region_tree.specs.RunsFrom.{AreRunsFrom}
-use Rattle.region_tree.proofs.Joining.{points_joined, order_joined}
-use Rattle.region_tree.proofs.arena_set.cut_joined.Goals as goal
+use Rattle.arena_sets.specs.RunsFrom.{AreRunsFrom}
+use Rattle.arena_sets.proofs.Joining.{points_joined, order_joined}
+use Rattle.arena_sets.proofs.arena_set.cut_joined.Goals as goal
 
 pub loop-next-preserved : goal.loop-next-preserved
 loop-next-preserved c =

@@ -2,7 +2,7 @@ use Rattle.std.proofs.Common.{◌≡◌, is_some, true, false, take, sym, subst,
 use Rattle.std.specs.List.Sorted.{IsStrictlyIncreasing}
 use Rattle.std.proofs.lemmas.List.{take_all}
 use Rattle.point_set.specs.Runs.{points_of}
-use Rattle.region_tree.proofs.arena_set.PointListArenaSet.place.Goals as goal
+use Rattle.arena_sets.proofs.arena_set.PointListArenaSet.place.Goals as goal
 
 pub unreachable-requires : goal.unreachable-requires
 unreachable-requires c =

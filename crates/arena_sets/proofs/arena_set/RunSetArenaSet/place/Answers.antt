@@ -1,8 +1,8 @@
 use Rattle.std.proofs.Common.{◌≡◌, List, ℕ, [], ◌∷◌, ◌++◌, true, false, refl, sym, subst, ap, ◌∙◌, append-nil}
 use Rattle.point_set.specs.Runs.{AreRuns}
-use Rattle.region_tree.specs.RunsFrom.{AreRunsFrom}
-use Rattle.region_tree.proofs.Joining.{from_zero, are_runs, only_rest, order_behind, points_behind}
-use Rattle.region_tree.proofs.arena_set.RunSetArenaSet.place.Goals as goal
+use Rattle.arena_sets.specs.RunsFrom.{AreRunsFrom}
+use Rattle.arena_sets.proofs.Joining.{from_zero, are_runs, only_rest, order_behind, points_behind}
+use Rattle.arena_sets.proofs.arena_set.RunSetArenaSet.place.Goals as goal
 
 pub loop-run-init : goal.loop-run-init
 loop-run-init c = rw c.new-joined.ensures.items (record { points = refl; order = from_zero c.args.runs.now c.requires })

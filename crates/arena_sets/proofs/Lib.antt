@@ -1,0 +1,2 @@
+mod RunPoints
+mod Joining

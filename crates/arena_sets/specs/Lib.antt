@@ -1,0 +1,2 @@
+pub mod RunsFrom
+pub use Rattle.point_set.specs.Runs

@@ -1,0 +1,2 @@
+//! Lemmas on lists and options, which the proofs of other crates cite. There is no code.
+#![tactic(auto)]
