@@ -1,4 +1,2 @@
-mod Ends
-mod Listings
 mod Differing
 mod Stages

@@ -6,7 +6,7 @@ use Rattle.semantics.specs.declared.command.Command.TheVariants.{Check}
 use Rattle.outcomes.specs.Outcome.{CheckFinds}
 use Rattle.semantics.specs.Tables.{Tables}
 use Rattle.long_values.specs.LongOutcome.{CheckFindsLong}
-use Rattle.verdict.specs.Findings.{IsFoundOf}
+use Rattle.log_findings.specs.Findings.{IsFoundOf}
 use Rattle.verdict.specs.Stages.{FindsCycle, FindsDifference, FindsFault, FindsRace, IsStop}
 use Rattle.verdict.specs.declared.stop.Stop.{Stop}
 use Rattle.verdict.specs.declared.stop.Stop.TheVariants.{Found, Memory}

@@ -1,7 +1,3 @@
-pub mod Sorted
-pub mod Faultless
-pub mod Findings
-pub mod Listing
 pub mod Stages
 pub use Rattle.point_laws.specs.Alike
 pub use Rattle.atoms.specs.Atoms
@@ -9,11 +5,14 @@ pub use Rattle.semantics.specs.Counts
 pub use Rattle.point_laws.specs.Cut
 pub use Rattle.semantics.specs.Events
 pub use Rattle.semantics.specs.Faults
+pub use Rattle.log_findings.specs.Faultless
+pub use Rattle.log_findings.specs.Findings
 pub use Rattle.serial_exec.specs.Kept
 pub use Rattle.long_values.specs.LongOutcome
 pub use Rattle.outcomes.specs.Outcome
 pub use Rattle.semantics.specs.Races
 pub use Rattle.reach_marks.specs.Reached
+pub use Rattle.log_findings.specs.Sorted
 pub use Rattle.semantics.specs.Records
 pub use Rattle.spy_grammar.specs.Spelling
 pub use Rattle.semantics.specs.Tables

@@ -4,15 +4,15 @@ ghost use Rattle.std.specs.Prelude.{◌≡◌, IfOk, IfErr};
 ghost use Rattle.findings.specs.Texts as texts;
 ghost use Rattle.semantics.specs.declared.command.Command.TheVariants.{Check};
 ghost use Rattle.outcomes.specs.Outcome.{CheckFinds};
-ghost use Rattle.verdict.specs.Findings.{IsFoundOf};
+ghost use Rattle.log_findings.specs.Findings.{IsFoundOf};
 ghost use Rattle.verdict.specs.Stages.{IsStop};
 
 use crate::declared::Declared;
 use crate::judged::Judged;
-use crate::memory::Memory;
 use crate::stop::Stop;
 use findings::Finding;
-use log_decl::Log;
+use log_findings::Memory;
+use logs::Log;
 use region_tree::ArenaSet;
 use std::alloc::Global;
 

@@ -6,7 +6,7 @@ ghost use Rattle.semantics.specs.Races.{IsRaceFree};
 ghost use Rattle.outcomes.specs.Outcome.{IsSound};
 ghost use Rattle.long_values.specs.LongOutcome.{CheckFindsLong, IsSoundLong};
 ghost use Rattle.verdict.specs.Stages.{FindsDifference, IsStop};
-ghost use Rattle.verdict.specs.Faultless.{AreFaultless};
+ghost use Rattle.log_findings.specs.Faultless.{AreFaultless};
 
 use crate::judged::Judged;
 use crate::sorted::Sorted;

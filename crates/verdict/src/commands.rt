@@ -7,22 +7,40 @@ ghost use Rattle.semantics.specs.declared.command.Command.TheVariants.{Check, De
 ghost use Rattle.outcomes.specs.Outcome.{IsFound};
 ghost use Rattle.long_values.specs.LongOutcome.{IsFoundLong};
 ghost use Rattle.semantics.specs.Records.{AreLines};
-ghost use Rattle.verdict.specs.Findings.{IsFoundOf};
+ghost use Rattle.log_findings.specs.Findings.{IsFoundOf};
 
 use crate::checking::check_in;
-use crate::dependences::deps_in;
-use crate::memory::Memory;
-use crate::ordering::ordered_in;
-use crate::reports::fault_found;
 use bumpalo::Bump;
 use findings::Finding;
-use log_decl::{DeclEnd, Log, declare};
+use log_decl::{DeclEnd, declare};
+use log_findings::{Memory, deps_finding, fault_found, ordered_finding};
+use logs::Log;
 use long_values::check_finds_the_same_in_long;
 use point_set::RunSet;
 use region_tree::ArenaSet;
 use semantics::Command;
 use spy_grammar::Lined;
 use std::alloc::Global;
+
+/// What `ordered` finds in a log, which is let go then.
+fn ordered_in<'a, P: ArenaSet<'a>>(alloc: Global, log: Log<'a, P>) -> Result<Finding, Memory>
+    ensures found { IfOk result (IsFoundOf Ordered log.entry) }
+    ensures text { IfOk result texts.Good }
+{
+    let found = ordered_finding(alloc, &log);
+    log.let_go();
+    found
+}
+
+/// What `deps` finds in a log, which is let go then.
+fn deps_in<'a, P: ArenaSet<'a>>(alloc: Global, log: Log<'a, P>) -> Result<Finding, Memory>
+    ensures found { IfOk result (IsFoundOf Deps log.entry) }
+    ensures text { IfOk result texts.Good }
+{
+    let found = deps_finding(alloc, &log);
+    log.let_go();
+    found
+}
 
 /// What a command finds in a log: a row for each command.
 fn found_in<'a, P: ArenaSet<'a>>(

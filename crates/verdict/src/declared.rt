@@ -3,16 +3,15 @@
 ghost use Rattle.std.specs.Prelude.{◌≡◌, ◌≢◌, None, IfOk, OnOk, IfErr};
 ghost use Rattle.semantics.specs.declared.command.Command.TheVariants.{Check};
 ghost use Rattle.verdict.specs.declared.stop.Stop.{Stop};
-ghost use Rattle.verdict.specs.Findings as faults;
+ghost use Rattle.log_findings.specs.Findings as faults;
 ghost use Rattle.semantics.specs.Events.{HasNoCycle};
 ghost use Rattle.verdict.specs.Stages.{FindsCycle, FindsFault, IsStop};
-ghost use Rattle.verdict.specs.Faultless.{AreFaultless};
+ghost use Rattle.log_findings.specs.Faultless.{AreFaultless};
 
-use crate::reports::fault_found;
-use crate::serial::serial_fault;
 use crate::sorted::{Sorted, sorted_parts};
 use crate::stop::Stop;
-use log_decl::Log;
+use log_findings::{fault_found, serial_fault};
+use logs::Log;
 use point_set::PointSet;
 use region_tree::ArenaSet;
 use semantics::Fault;
@@ -30,7 +29,7 @@ impl<'a, P: PointSet + Copy> Model for Declared<'a, P> {
     ghost use Rattle.std.specs.Prelude.{◌≡◌, None};
     ghost use Rattle.semantics.specs.declared.command.Command.TheVariants.{Check};
     ghost use Rattle.semantics.specs.Tables.{Tables};
-    ghost use Rattle.verdict.specs.Findings.{table_fault};
+    ghost use Rattle.log_findings.specs.Findings.{table_fault};
 
     ghost Value = { Tables };
 

@@ -5,13 +5,12 @@ ghost use Rattle.findings.specs.Texts as texts;
 ghost use Rattle.semantics.specs.declared.command.Command.TheVariants.{Check};
 ghost use Rattle.outcomes.specs.Outcome.{CheckFinds, IsSound};
 ghost use Rattle.semantics.specs.Counts.{read_count};
-ghost use Rattle.verdict.specs.Findings.{table_fault};
-ghost use Rattle.verdict.specs.Faultless.{AreFaultless};
+ghost use Rattle.log_findings.specs.Findings.{table_fault};
+ghost use Rattle.log_findings.specs.Faultless.{AreFaultless};
 
-use crate::items::{operation_count, task_count};
-use crate::reports::accepted_found;
 use findings::Finding;
-use log_decl::Log;
+use log_findings::{accepted_found, operation_count, task_count};
+use logs::Log;
 use point_set::PointSet;
 use region_tree::ArenaSet;
 use std::marker::Model;
@@ -29,7 +28,7 @@ impl<'a, P: PointSet + Copy> Model for Judged<'a, P> {
     ghost use Rattle.semantics.specs.Counts.{read_count};
     ghost use Rattle.outcomes.specs.Outcome.{IsSound};
     ghost use Rattle.semantics.specs.Tables.{Tables};
-    ghost use Rattle.verdict.specs.Findings.{table_fault};
+    ghost use Rattle.log_findings.specs.Findings.{table_fault};
 
     ghost Value = { Tables };
 

@@ -10,19 +10,17 @@ ghost use Rattle.semantics.specs.Races.{IsRaceFree};
 ghost use Rattle.point_laws.specs.Alike.{AreFirsts};
 ghost use Rattle.atoms.specs.Atoms.{first_points};
 ghost use Rattle.verdict.specs.declared.stop.Stop.{Stop};
-ghost use Rattle.verdict.specs.Findings.{table_fault};
-ghost use Rattle.verdict.specs.Sorted.{AreSorted};
+ghost use Rattle.log_findings.specs.Findings.{table_fault};
+ghost use Rattle.log_findings.specs.Sorted.{AreSorted};
 ghost use Rattle.verdict.specs.Stages.{FindsCycle, FindsDifference, FindsRace, IsStop};
-ghost use Rattle.verdict.specs.Faultless.{AreFaultless};
+ghost use Rattle.log_findings.specs.Faultless.{AreFaultless};
 
 use crate::clean::Clean;
-use crate::ordering::sort_log;
 use crate::reads::judged_reads;
-use crate::reports::{cycle_found, race_found};
-use crate::sorting::{Sorting, Unsorted};
 use crate::stop::Stop;
 use atoms::Atoms;
-use log_decl::Log;
+use log_findings::{Sorting, Unsorted, cycle_found, race_found, sort_log};
+use logs::Log;
 use point_set::PointSet;
 use race_scan::{ScanEnd, scan};
 use region_tree::ArenaSet;
@@ -44,8 +42,8 @@ impl<'a, P: PointSet + Copy> Model for Sorted<'a, P> {
     ghost use Rattle.semantics.specs.Tables.{Tables};
     ghost use Rattle.point_laws.specs.Alike.{AreFirsts};
     ghost use Rattle.atoms.specs.Atoms.{first_points};
-    ghost use Rattle.verdict.specs.Findings.{table_fault};
-    ghost use Rattle.verdict.specs.Sorted.{AreSorted};
+    ghost use Rattle.log_findings.specs.Findings.{table_fault};
+    ghost use Rattle.log_findings.specs.Sorted.{AreSorted};
 
     ghost Value = { Tables };
 
@@ -80,7 +78,7 @@ fn atoms_of<'a, P: ArenaSet<'a>>(alloc: Global, log: &Log<'a, P>) -> Result<Atom
     }
 }
 
-/// Both.
+/// The nodes of a log sorted, or the cycle that is shown, and the runs of its points that no space divides.
 pub(crate) fn sorted_parts<'a, P: ArenaSet<'a>>(
     alloc: Global,
     log: &Log<'a, P>,

@@ -1,7 +1,7 @@
 //! Why judging ends before the last stage.
 
-use crate::memory::Memory;
 use findings::Finding;
+use log_findings::Memory;
 
 /// Why judging ends before the last stage.
 #[derive(Drop)]

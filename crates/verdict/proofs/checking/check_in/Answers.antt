@@ -4,8 +4,8 @@ use Rattle.findings.specs.declared.finding.Finding.{Finding}
 use Rattle.semantics.specs.declared.command.Command.TheVariants.{Check}
 use Rattle.semantics.specs.Tables.{Tables}
 use Rattle.outcomes.specs.Outcome.{CheckFinds}
-use Rattle.verdict.specs.Findings.{IsFoundOf}
-use Rattle.verdict.proofs.Ends.{check_found}
+use Rattle.log_findings.specs.Findings.{IsFoundOf}
+use Rattle.log_findings.proofs.lemmas.Ends.{check_found}
 use Rattle.verdict.proofs.checking.check_in.Goals as goal
 
 pub returns-in-Ok-clause-found : goal.returns-in-Ok-clause-found

@@ -4,8 +4,8 @@ use Rattle.findings.specs.declared.finding.Finding.{Finding}
 use Rattle.findings.specs.declared.finding.Finding.TheVariants.{Fault}
 use Rattle.semantics.specs.Tables.{Tables}
 use Rattle.outcomes.specs.Outcome.{IsFound}
-use Rattle.verdict.specs.Findings.{IsFoundOf}
-use Rattle.verdict.proofs.Ends.{found_in_log, fault_in_log}
+use Rattle.log_findings.specs.Findings.{IsFoundOf}
+use Rattle.log_findings.proofs.lemmas.Ends.{found_in_log, fault_in_log}
 use Rattle.verdict.proofs.commands.find.Goals as goal
 
 pub returns-in-Ok-clause-found : goal.returns-in-Ok-clause-found

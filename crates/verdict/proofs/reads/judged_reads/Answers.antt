@@ -7,7 +7,7 @@ use Rattle.semantics.specs.Counts.{operation_count, read_count, task_count}
 use Rattle.verdict.specs.Stages.{FindsDifference}
 use Rattle.findings.specs.declared.finding.Finding.TheVariants.{Accepted}
 use Rattle.verdict.proofs.Differing.{told, same_reads}
-use Rattle.verdict.proofs.Ends.{of_declared}
+use Rattle.log_findings.proofs.lemmas.Ends.{of_declared}
 use Rattle.verdict.proofs.Stages.{FindsAlike, of_difference}
 use Rattle.verdict.proofs.reads.judged_reads.Goals as goal
 

@@ -1,5 +1,5 @@
 use Rattle.std.proofs.Common.{refl}
-use Rattle.verdict.proofs.Ends.{serial_of}
+use Rattle.log_findings.proofs.lemmas.Ends.{serial_of}
 use Rattle.verdict.proofs.sorted.sorting_of_log.Goals as goal
 
 pub sort_log-requires : goal.sort_log-requires

@@ -1,7 +1,7 @@
 use Rattle.std.proofs.Common.{subst}
 use Rattle.semantics.specs.Tables.{Tables}
-use Rattle.verdict.specs.Faultless.{AreFaultless}
-use Rattle.verdict.proofs.Ends.{faultless_of}
+use Rattle.log_findings.specs.Faultless.{AreFaultless}
+use Rattle.log_findings.proofs.lemmas.Ends.{faultless_of}
 use Rattle.verdict.proofs.judged.Judged.is_sound.Goals as goal
 
 pub returns-clause-faultless : goal.returns-clause-faultless

@@ -1,0 +1,11 @@
+pub mod Sorted
+pub mod Faultless
+pub mod Findings
+pub mod Listing
+pub use Rattle.semantics.specs.Counts
+pub use Rattle.semantics.specs.Events
+pub use Rattle.semantics.specs.Faults
+pub use Rattle.event_graph.specs.Orders
+pub use Rattle.outcomes.specs.Outcome
+pub use Rattle.reach_marks.specs.Reached
+pub use Rattle.findings.specs.Texts

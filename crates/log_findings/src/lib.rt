@@ -1,0 +1,20 @@
+//! What is found in a log by its items and events alone: the fault of its serial order, the order of its nodes, whether its tasks are run in serial order, and which of its items interfere.
+//!
+//! `ordered_finding` and `deps_finding` are what the commands `ordered` and `deps` find; begin there. `sort_log` is the first stage of `check` too, and `reports` makes the findings of all commands.
+#![tactic(auto)]
+
+mod dependences;
+mod items;
+mod memory;
+mod ordering;
+mod reports;
+mod serial;
+mod sorting;
+
+pub use dependences::deps_finding;
+pub use items::{operation_count, task_count};
+pub use memory::Memory;
+pub use ordering::{ordered_finding, sort_log};
+pub use reports::{accepted_found, cycle_found, differ_found, fault_found, race_found};
+pub use serial::serial_fault;
+pub use sorting::{Sorting, Unsorted};

@@ -1,0 +1,84 @@
+//! Whether the tasks of a log that interfere are run in serial order.
+
+ghost use Rattle.std.specs.Prelude.{◌≡◌, IfOk, IfErr, None};
+ghost use Rattle.findings.specs.Texts as texts;
+ghost use Rattle.semantics.specs.declared.command.Command.TheVariants.{Ordered};
+ghost use Rattle.semantics.specs.Events.{graph_of, HasNoCycle};
+ghost use Rattle.semantics.specs.Faults as faults;
+ghost use Rattle.outcomes.specs.Outcome.{OrderedFinds};
+ghost use Rattle.reach_marks.specs.Reached.{AreMarksOf};
+ghost use Rattle.log_findings.specs.Findings.{IsFoundOf};
+ghost use Rattle.log_findings.specs.Sorted.{AreSorted, IsUnsorted};
+
+use crate::items::{ids_by_serial, task_count};
+use crate::memory::Memory;
+use crate::reports::{cycle_found, fault_found, ordered_found, unordered_found};
+use crate::serial::serial_fault;
+use crate::sorting::{Sorting, Unsorted, sorting_of};
+use findings::Finding;
+use log_laws::faultless_logs_are_linked;
+use logs::Log;
+use reach_marks::Reach;
+use region_tree::ArenaSet;
+use std::alloc::Global;
+use task_order::{TaskOrder, task_order};
+
+/// What `ordered` finds by marks of the nodes, of which none is on a cycle.
+fn tasks_found<'a, P: ArenaSet<'a>>(
+    alloc: Global,
+    log: &Log<'a, P>,
+    reach: &Reach,
+) -> Result<Finding, Memory>
+    requires no_cycle { HasNoCycle log.now }
+    requires marks { AreMarksOf (graph_of log.now.nodes) reach.now }
+    ensures found { IfOk result (OrderedFinds log.now) }
+    ensures text { IfOk result texts.Good }
+{
+    log.is_declared();
+    match task_order(alloc, log, reach) {
+        Ok(TaskOrder::Kept { pairs }) => Ok(ordered_found(task_count(log), pairs)),
+        Ok(TaskOrder::Unordered { a, b, place }) => {
+            let (t, u) = ids_by_serial(log, a, b);
+            Ok(unordered_found(t, u, place))
+        }
+        Err(_) => Err(Memory),
+    }
+}
+
+/// The nodes of a log sorted, or the cycle that is shown.
+pub fn sort_log<'a, P: ArenaSet<'a>>(alloc: Global, log: &Log<'a, P>) -> Result<Sorting, Unsorted>
+    requires { faults.serial_fault log.now ≡ None }
+    ensures sorted { IfOk result (AreSorted (graph_of log.now.nodes)) }
+    ensures unsorted { IfErr result (IsUnsorted (graph_of log.now.nodes)) }
+{
+    log.is_declared();
+    faultless_logs_are_linked();
+    sorting_of(alloc, log.nodes())
+}
+
+/// What `ordered` finds in a log whose serial order has no fault.
+fn order_found<'a, P: ArenaSet<'a>>(alloc: Global, log: &Log<'a, P>) -> Result<Finding, Memory>
+    requires { faults.serial_fault log.now ≡ None }
+    ensures found { IfOk result (OrderedFinds log.now) }
+    ensures text { IfOk result texts.Good }
+{
+    match sort_log(alloc, log) {
+        Ok(sorting) => tasks_found(alloc, log, &sorting.reach),
+        Err(Unsorted::Cycle(events)) => Ok(cycle_found(events)),
+        Err(Unsorted::Memory) => Err(Memory),
+    }
+}
+
+/// What `ordered` finds in a log.
+pub fn ordered_finding<'a, P: ArenaSet<'a>>(
+    alloc: Global,
+    log: &Log<'a, P>,
+) -> Result<Finding, Memory>
+    ensures found { IfOk result (IsFoundOf Ordered log.now) }
+    ensures text { IfOk result texts.Good }
+{
+    match serial_fault(log) {
+        Some(fault) => Ok(fault_found(fault.line, fault.code)),
+        None => order_found(alloc, log),
+    }
+}

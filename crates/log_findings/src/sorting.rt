@@ -1,0 +1,90 @@
+//! The nodes of a log in replay order, and which are before which.
+
+ghost use Rattle.std.specs.Prelude.{◌≡◌, ◌<◌, ◌^◌, length, IfOk, IfErr};
+ghost use Rattle.semantics.specs.Events.{AreLinked, graph_of};
+ghost use Rattle.event_graph.specs.Orders.{IsOrderOf};
+ghost use Rattle.reach_marks.specs.Reached.{AreMarksOf};
+ghost use Rattle.log_findings.specs.Sorted.{AreSorted, IsUnsorted};
+
+use crate::memory::Memory;
+use event_graph::{EventList, Graph, Order, Stuck, nodes_in};
+use reach_marks::Reach;
+use semantics::LogNode;
+use std::alloc::Global;
+
+/// The graph of the nodes of a log, their order, and which are before which.
+#[derive(Drop)]
+pub struct Sorting {
+    pub graph: Graph,
+    pub order: Order,
+    pub reach: Reach,
+}
+
+/// Why the nodes of a log have no order.
+#[derive(Drop)]
+pub enum Unsorted {
+    /// The events of the cycle that is shown.
+    Cycle(EventList),
+    /// Memory ran out.
+    Memory,
+}
+
+impl From<Memory> for Unsorted {
+    ghost use Rattle.std.specs.Prelude.{◌≡◌};
+    ghost use Rattle.log_findings.specs.declared.sorting.Unsorted.TheVariants.{Memory};
+
+    ghost from_gives = { λ _ e. e ≡ Memory };
+
+    fn from(_: Memory) -> Unsorted {
+        Unsorted::Memory
+    }
+}
+
+/// The graph of the nodes of a log.
+fn graph_in(alloc: Global, nodes: &[LogNode]) -> Result<Graph, Memory>
+    requires few { length nodes.now < 2 ^ 32 }
+    requires linked { AreLinked (graph_of nodes.now) }
+    ensures { IfOk result (λ g. g ≡ graph_of nodes.now) }
+{
+    let list = nodes_in(alloc, nodes)?;
+    let graph = Graph::build(alloc, list)?;
+    Ok(graph)
+}
+
+/// The order of a graph, or the cycle that is shown.
+fn order_of(alloc: Global, graph: &Graph) -> Result<Order, Unsorted>
+    ensures order { IfOk result (IsOrderOf graph.now) }
+    ensures unsorted { IfErr result (IsUnsorted graph.now) }
+{
+    match graph.order(alloc) {
+        Ok(order) => Ok(order),
+        Err(Stuck::Cycle(events)) => Err(Unsorted::Cycle(events)),
+        Err(Stuck::Memory) => Err(Unsorted::Memory),
+    }
+}
+
+/// The nodes of a log sorted, or the cycle that is shown.
+pub(crate) fn sorting_of(alloc: Global, nodes: &[LogNode]) -> Result<Sorting, Unsorted>
+    requires few { length nodes.now < 2 ^ 32 }
+    requires linked { AreLinked (graph_of nodes.now) }
+    ensures sorted { IfOk result (AreSorted (graph_of nodes.now)) }
+    ensures unsorted { IfErr result (IsUnsorted (graph_of nodes.now)) }
+{
+    let graph = graph_in(alloc, nodes)?;
+    let order = order_of(alloc, &graph)?;
+    let reach = reach_in(alloc, &graph, &order)?;
+    Ok(Sorting {
+        graph,
+        order,
+        reach,
+    })
+}
+
+/// The marks of a graph.
+fn reach_in(alloc: Global, graph: &Graph, order: &Order) -> Result<Reach, Memory>
+    requires { IsOrderOf graph.now order.now }
+    ensures { IfOk result (AreMarksOf graph.now) }
+{
+    let reach = Reach::build(alloc, graph, order)?;
+    Ok(reach)
+}

@@ -1,6 +1,0 @@
-use Rattle.std.proofs.Common.{refl}
-use Rattle.verdict.proofs.Ends.{few_declared_items}
-use Rattle.verdict.proofs.ordering.tasks_found.Goals as goal
-
-pub task_order-requires : goal.task_order-requires
-task_order-requires g c = λ k. ((refl, tt), (few_declared_items c.args.log.now c.is_declared.ensures, c.requires.marks))
