@@ -4,9 +4,9 @@ ghost use Rattle.std.specs.Prelude.{◌≡◌, ◌+◌, ◌<◌, ◌↔◌, [], 
 ghost use Rattle.point_set.specs.Runs.{AreRuns, points_of, run_points};
 ghost use Rattle.arena_sets.specs.RunsFrom.{AreRunsFrom, BeginAs};
 
-use crate::memory::Memory;
 use bumpalo::Bump;
 use bumpalo::collections::into_bump_slice;
+use memory::Memory;
 use point_set::{PointList, PointSet, RunSet, points_of_runs_ascend};
 
 /// A set of points that is made from runs, and lies in an arena as long as the arena is not reset.

@@ -2,7 +2,6 @@
 #![tactic(auto)]
 
 mod arena_set;
-mod memory;
 
 pub use arena_set::ArenaSet;
 pub use memory::Memory;

@@ -7,7 +7,6 @@ ghost use Rattle.event_graph.specs.Orders.{IsOrderOf, IsWait, IsWhy, AreCycleEve
 
 use crate::cycle_walk::{from_its_least, waits_of, walk_from};
 use crate::marks::{first_unmarked, marks_of};
-use crate::memory::Memory;
 use crate::node::{EventList, NodeIn};
 use crate::order::Order;
 use crate::places::{place_of, places_at, places_of};
@@ -15,6 +14,7 @@ use crate::rounds::order_by;
 use crate::stuck::Stuck;
 use crate::waiters::waiters_of;
 use log_laws::{replay_order_lists, stuck_nodes_have_cycles};
+use memory::Memory;
 use std::alloc::{AllocError, Global};
 use std::collections::HashMap;
 use std::marker::Model;

@@ -5,7 +5,6 @@ mod cycle_walk;
 mod graph;
 mod linked;
 mod marks;
-mod memory;
 mod node;
 mod order;
 mod places;

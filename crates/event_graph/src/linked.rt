@@ -4,9 +4,9 @@ ghost use Rattle.std.specs.Prelude.{◌≡◌, ◌↔◌, ℕ, ◌<◌, true, na
 ghost use Rattle.std.specs.HashMap.{get};
 ghost use Rattle.semantics.specs.Events.{AreLinked};
 
-use crate::memory::Memory;
 use crate::node::NodeIn;
 use crate::places::{events_of, first_places};
+use memory::Memory;
 use std::alloc::Global;
 use std::collections::HashMap;
 

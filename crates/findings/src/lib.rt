@@ -13,4 +13,5 @@ pub use finding::{Dep, Finding};
 pub use lists::{DepList, EventList};
 pub use spy_grammar::Code;
 pub use value_terms::Value;
-pub use writing::{Memory, cannot_read_text, good_finding, text, usage_text};
+pub use memory::Memory;
+pub use writing::{cannot_read_text, good_finding, text, usage_text};

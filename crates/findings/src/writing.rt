@@ -8,34 +8,15 @@ ghost use Rattle.findings.specs.Cells.{with_cell, words_in};
 ghost use Rattle.findings.specs.Texts as texts;
 ghost use Rattle.findings.specs.Texts.{small, row_text, line_text, lines_text, Fits, IsWhole, Good};
 
-use crate::cells::ReportCell::*;
 use crate::cells::{Listed, ReportCell, last_words};
+use crate::cells::ReportCell::*;
 use crate::codes;
 use crate::finding::{Dep, Finding};
 use crate::value_text::push_value;
+use memory::Memory;
 use spy_words::push_u64;
 use std::alloc::{AllocError, Global};
 use value_terms::Value;
-
-/// Memory ran out.
-#[derive(Clone, Copy, PartialEq, Eq)]
-pub struct Memory;
-
-impl From<AllocError> for Memory {
-    ghost from_gives = { λ _ e. Unit {0} };
-
-    fn from(_e: AllocError) -> Memory {
-        Memory
-    }
-}
-
-impl From<value_terms::Memory> for Memory {
-    ghost from_gives = { λ _ e. Unit {0} };
-
-    fn from(_e: value_terms::Memory) -> Memory {
-        Memory
-    }
-}
 
 /// Whether each number of some lines lies in the range of its type. Rust's types see to that, and a
 /// proof learns of it where the numbers are read.

@@ -5,7 +5,7 @@ use Rattle.item_uses.specs.Usages.{Usage, usages_at}
 use Rattle.item_uses.specs.Sharing.{kind_between, place_between}
 use Rattle.semantics.specs.declared.places.Place.{Place}
 use Rattle.interference.specs.declared.pair.Pair.{Pair}
-use Rattle.interference.specs.declared.memory.Remembered.{Remembered}
+use Rattle.interference.specs.declared.recent.Remembered.{Remembered}
 
 -- What is found of two items is how they interfere.
 pub record IsHow (us : List (List Usage)) (a b : ℕ) (found : Interference) : Type 0 where

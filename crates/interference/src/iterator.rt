@@ -7,9 +7,9 @@ ghost use Rattle.interference.specs.Remembering.{AreRight};
 ghost use Rattle.interference.specs.Searching.{IsSearch};
 ghost use Rattle.interference.specs.Stretched.{StartsWith};
 
-use crate::memory::Memory;
 use crate::pair::Pair;
 use crate::partners::{alike_end, next_partner, remembered_pair};
+use crate::recent::Recent;
 use crate::search::Search;
 use crate::stretch::Stretch;
 use point_set::PointSet;
@@ -19,7 +19,7 @@ use std::marker::Model;
 #[derive(Drop)]
 pub struct Pairs<'l, 'a, P: PointSet + Copy> {
     search: Search<'l, 'a, P>,
-    memory: Memory,
+    memory: Recent,
     a: usize,
     from: usize,
 }
@@ -44,7 +44,7 @@ impl<'l, 'a, P: PointSet + Copy> Model for Pairs<'l, 'a, P> {
 #[inline(never)]
 fn first_left<'a, P: PointSet + Copy>(
     search: &Search<'_, 'a, P>,
-    memory: &mut Memory,
+    memory: &mut Recent,
     start: usize,
     start_from: usize,
 ) -> Option<Pair>
@@ -69,7 +69,7 @@ fn first_left<'a, P: PointSet + Copy>(
 #[inline]
 fn next_left<'a, P: PointSet + Copy>(
     search: &Search<'_, 'a, P>,
-    memory: &mut Memory,
+    memory: &mut Recent,
     a: usize,
     from: usize,
 ) -> Option<Pair>
@@ -143,7 +143,7 @@ impl<'l, 'a, P: PointSet + Copy> Pairs<'l, 'a, P> {
                 blocks: search.blocks,
                 representatives: search.representatives,
             },
-            memory: Memory::new(search.items.len()),
+            memory: Recent::new(search.items.len()),
             a: 0,
             from: 1,
         }

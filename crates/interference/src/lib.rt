@@ -4,9 +4,9 @@
 mod all;
 mod iterator;
 mod laws;
-mod memory;
 mod pair;
 mod partners;
+mod recent;
 mod search;
 mod serial;
 mod stretch;

@@ -8,8 +8,8 @@ ghost use Rattle.interference.specs.Remembering.{IsHow, AreRight, pair_found};
 ghost use Rattle.interference.specs.Searching.{IsSearch};
 ghost use Rattle.interference.specs.Stretched.{AreAlikeTo};
 
-use crate::memory::Memory;
 use crate::pair::Pair;
+use crate::recent::Recent;
 use crate::search::Search;
 use item_uses::{Interference, Span};
 use point_set::PointSet;
@@ -44,7 +44,7 @@ fn pair_with(a: usize, b: usize, found: Interference) -> Option<Pair>
 /// How two items interfere: what is remembered of those that stand for them, or else what is found, and then remembered.
 fn interference<'a, P: PointSet + Copy>(
     search: &Search<'_, 'a, P>,
-    memory: &mut Memory,
+    memory: &mut Recent,
     a: usize,
     b: usize,
 ) -> Interference
@@ -68,7 +68,7 @@ fn interference<'a, P: PointSet + Copy>(
 /// The pair of two items, if it is asked for and they interfere.
 fn pair_of<'a, P: PointSet + Copy>(
     search: &Search<'_, 'a, P>,
-    memory: &mut Memory,
+    memory: &mut Recent,
     a: usize,
     b: usize,
 ) -> Option<Pair>
@@ -94,7 +94,7 @@ fn pair_of<'a, P: PointSet + Copy>(
 #[inline]
 pub(crate) fn remembered_pair<'a, P: PointSet + Copy>(
     search: &Search<'_, 'a, P>,
-    memory: &Memory,
+    memory: &Recent,
     a: usize,
     b: usize,
 ) -> Option<Pair>
@@ -137,7 +137,7 @@ pub(crate) fn alike_end(
 /// The first pair of an item with those from one to before another.
 fn partner<'a, P: PointSet + Copy>(
     search: &Search<'_, 'a, P>,
-    memory: &mut Memory,
+    memory: &mut Recent,
     a: usize,
     from: usize,
     to: usize,
@@ -163,7 +163,7 @@ fn partner<'a, P: PointSet + Copy>(
 /// The same within a block, whose items are looked at only where its bounds leave room.
 fn partner_in_block<'a, P: PointSet + Copy>(
     search: &Search<'_, 'a, P>,
-    memory: &mut Memory,
+    memory: &mut Recent,
     block: &Span,
     a: usize,
     from: usize,
@@ -190,7 +190,7 @@ fn partner_in_block<'a, P: PointSet + Copy>(
 /// The first pair of an item with those from one on.
 pub(crate) fn next_partner<'a, P: PointSet + Copy>(
     search: &Search<'_, 'a, P>,
-    memory: &mut Memory,
+    memory: &mut Recent,
     a: usize,
     from: usize,
 ) -> Option<Pair>

@@ -8,12 +8,12 @@ ghost use Rattle.log_findings.specs.Findings.{IsFoundOf};
 ghost use Rattle.log_findings.specs.Listing.{dependence_of};
 
 use crate::items::{ids_by_serial, item_count};
-use crate::memory::Memory;
 use crate::reports::{deps_found, fault_found};
 use crate::serial::serial_fault;
 use findings::{Dep, DepList, Finding};
 use interference::{Pair, pairs, pairs_are_of_items};
 use logs::Log;
+use memory::Memory;
 use privilege::Kind;
 use region_tree::ArenaSet;
 use std::alloc::Global;

@@ -5,7 +5,6 @@
 
 mod dependences;
 mod items;
-mod memory;
 mod ordering;
 mod reports;
 mod serial;

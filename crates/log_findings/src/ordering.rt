@@ -11,13 +11,13 @@ ghost use Rattle.log_findings.specs.Findings.{IsFoundOf};
 ghost use Rattle.log_findings.specs.Sorted.{AreSorted, IsUnsorted};
 
 use crate::items::{ids_by_serial, task_count};
-use crate::memory::Memory;
 use crate::reports::{cycle_found, fault_found, ordered_found, unordered_found};
 use crate::serial::serial_fault;
 use crate::sorting::{Sorting, Unsorted, sorting_of};
 use findings::Finding;
 use log_laws::faultless_logs_are_linked;
 use logs::Log;
+use memory::Memory;
 use reach_marks::Reach;
 use region_tree::ArenaSet;
 use std::alloc::Global;

@@ -6,8 +6,8 @@ ghost use Rattle.event_graph.specs.Orders.{IsOrderOf};
 ghost use Rattle.reach_marks.specs.Reached.{AreMarksOf};
 ghost use Rattle.log_findings.specs.Sorted.{AreSorted, IsUnsorted};
 
-use crate::memory::Memory;
 use event_graph::{EventList, Graph, Order, Stuck, nodes_in};
+use memory::Memory;
 use reach_marks::Reach;
 use semantics::LogNode;
 use std::alloc::Global;

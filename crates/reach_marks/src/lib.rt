@@ -6,7 +6,6 @@ mod block;
 mod fronts;
 mod joining;
 mod laws;
-mod memory;
 mod mixed;
 mod reach;
 mod row;

@@ -4,13 +4,13 @@ ghost use Rattle.std.specs.Prelude.{◌≡◌, ℕ, ◌<◌, length, IfOk, All, 
 ghost use Rattle.event_graph.specs.Orders.{IsOrderOf};
 
 use crate::fronts::fronts_of;
-use crate::memory::Memory;
 use crate::mixed::mixed_in;
 use crate::row::Row;
 use crate::rows::rows_of;
 use crate::search::first_outside;
 use event_graph::{Graph, Order};
 use log_laws::{replay_order_lists, stuck_nodes_have_cycles};
+use memory::Memory;
 use std::alloc::Global;
 use std::marker::Model;
 

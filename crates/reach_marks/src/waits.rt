@@ -5,8 +5,8 @@ ghost use Rattle.semantics.specs.Events.{AreLinked, WaitsOn};
 ghost use Rattle.semantics.specs.ReplayOrder.{replay_order};
 ghost use Rattle.reach_marks.specs.Places.{ArePlacesIn};
 
-use crate::memory::Memory;
 use event_graph::Graph;
+use memory::Memory;
 use std::alloc::{AllocError, Global};
 
 /// The places of these nodes.

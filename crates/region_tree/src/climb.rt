@@ -9,7 +9,7 @@ ghost use Rattle.region_tree.specs.Shape.{IsForest};
 use crate::finder::Finder;
 use crate::path::Path;
 use crate::shape::DEPTH_LIMIT;
-use arena_sets::Memory;
+use memory::Memory;
 use point_set::PointSet;
 use smallvec::SmallVec;
 use std::alloc::Global;

@@ -7,9 +7,9 @@ ghost use Rattle.spy_cli.specs.Answers.{FailsToRead, IsAnswer, IsDecided, IsRead
 
 use crate::demo::demo_report;
 use crate::judging::judged_report;
-use crate::memory::Memory;
 use crate::printing::printed_report;
 use crate::report::{Report, fault_report};
+use memory::Memory;
 use semantics::MOST_BYTES;
 use spy_args::Request;
 use spy_grammar::Code;

@@ -6,9 +6,9 @@ ghost use Rattle.spy_grammar.specs.Spelling.{Good};
 ghost use Rattle.semantics.specs.Records.{lined, AreLines};
 ghost use Rattle.spy_cli.specs.Answers.{IsDemo};
 
-use crate::memory::Memory;
 use crate::report::{Report, report_of};
 use log_gen::stencil;
+use memory::Memory;
 use semantics::Command;
 use spy_grammar::{Lined, Record};
 use std::alloc::Global;

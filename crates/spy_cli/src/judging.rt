@@ -5,10 +5,10 @@ ghost use Rattle.findings.specs.Texts as texts;
 ghost use Rattle.outcomes.specs.Outcome.{IsOutcome};
 ghost use Rattle.spy_cli.specs.Answers.{IsJudged};
 
-use crate::memory::Memory;
 use crate::report::{Report, report_of};
 use findings::Finding;
 use log_reading::{SpellEnd, input_in};
+use memory::Memory;
 use semantics::Command;
 use std::alloc::Global;
 use verdict::find;

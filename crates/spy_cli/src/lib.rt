@@ -4,7 +4,6 @@
 mod answering;
 mod demo;
 mod judging;
-mod memory;
 mod printing;
 mod report;
 mod report_laws;

@@ -6,10 +6,10 @@ ghost use Rattle.spy_grammar.specs.Spelling.{Good};
 ghost use Rattle.semantics.specs.Records.{records_of, text_of};
 ghost use Rattle.spy_cli.specs.Answers.{IsPrintAnswer};
 
-use crate::memory::Memory;
 use crate::report::{Report, fault_report};
 use crate::status::Status;
 use log_reading::{SpellEnd, input_in};
+use memory::Memory;
 use spy_grammar::{Lined, with_line};
 use std::alloc::Global;
 

@@ -5,9 +5,9 @@ ghost use Rattle.findings.specs.declared.finding.Finding.TheVariants as findings
 ghost use Rattle.findings.specs.Texts as reports;
 ghost use Rattle.spy_cli.specs.Answers as answers;
 
-use crate::memory::Memory;
 use crate::status::Status;
 use findings::{Finding, text};
+use memory::Memory;
 use spy_grammar::Code;
 use std::alloc::Global;
 

@@ -16,8 +16,9 @@ use crate::report_laws::{answers_in_long, one_report};
 use crate::status::Status;
 use findings::{cannot_read_text, usage_text};
 use log_laws::one_log;
+use memory::Memory;
 use spy_args::{Request, request_in};
-use spy_io::{Memory, Sink, Source, WriteFault, write_all};
+use spy_io::{Sink, Source, WriteFault, write_all};
 use std::alloc::Global;
 
 /// Writes the text, and ends with this status if that succeeds.

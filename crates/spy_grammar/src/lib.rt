@@ -17,4 +17,5 @@ pub use law::{
 pub use reading::read_line;
 pub use record::{Lined, Record};
 pub use spy_words::{InstKind, LineFault, Nums, PrivWord, Set};
-pub use writing::{Memory, good, with_line, write_record};
+pub use memory::Memory;
+pub use writing::{good, with_line, write_record};

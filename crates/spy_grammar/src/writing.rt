@@ -6,27 +6,16 @@ ghost use Rattle.spy_words.specs.Classes.{IsSpan, follow};
 ghost use Rattle.spy_grammar.specs.Cells.{items_in, with_cell};
 ghost use Rattle.spy_grammar.specs.Spelling.{Good, IsGoodItem, spelling, words_in};
 
-use crate::cells::WordCell::*;
 use crate::cells::{WordCell, cells_of};
+use crate::cells::WordCell::*;
 use crate::kinds::name_text;
 use crate::record::Record;
+use memory::Memory;
 use spy_words::{
     InstKind, ListPart, PrivWord, are_fit, ascend, coherence_text, push_access, push_after,
     push_layout, push_list, push_u64, split_text,
 };
 use std::alloc::{AllocError, Global};
-
-/// Memory ran out.
-#[derive(Clone, Copy, PartialEq, Eq)]
-pub struct Memory;
-
-impl From<AllocError> for Memory {
-    ghost from_gives = { λ _ e. Unit {0} };
-
-    fn from(_e: AllocError) -> Memory {
-        Memory
-    }
-}
 
 /// Whether each run of points goes upward.
 #[tactic(auto, using(spy_words::proofs::lemmas::ClassLaws::spans_from_zero))]

@@ -4,8 +4,6 @@
 //! a writer of std, and `MemSource` and `MemSink` over memory, with faults where a test wants them.
 #![tactic(auto)]
 
-use std::alloc::AllocError;
-
 mod counts;
 mod memory_sink;
 mod memory_source;
@@ -16,6 +14,7 @@ mod sink;
 mod source;
 mod writing;
 
+pub use memory::Memory;
 pub use memory_sink::MemSink;
 pub use memory_source::MemSource;
 pub use reading::{ReadEnd, read_all};
@@ -28,13 +27,3 @@ pub use writing::{WriteFault, write_all};
 /// A call of a source or a sink failed.
 #[derive(Clone, Copy, PartialEq, Eq)]
 pub struct Failed;
-
-/// There was no memory.
-#[derive(Clone, Copy, PartialEq, Eq)]
-pub struct Memory;
-
-impl From<AllocError> for Memory {
-    fn from(_: AllocError) -> Self {
-        Memory
-    }
-}

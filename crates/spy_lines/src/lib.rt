@@ -7,4 +7,5 @@ mod lines;
 
 pub use law::one_list_of_lines;
 pub use line_list::{LineIter, LineList};
-pub use lines::{Lines, Memory, NoNewline};
+pub use lines::{Lines, NoNewline};
+pub use memory::Memory;

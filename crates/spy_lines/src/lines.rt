@@ -2,18 +2,9 @@ ghost use Rattle.std.specs.Prelude.{◌≡◌, ◌+◌, ◌≤◌, ◌^◌, ◌+
 ghost use Rattle.spy_lines.specs.LinesOf.{with_ends, IsLine, IsUnended};
 
 use crate::line_list::{LineList, count_feeds};
-use std::alloc::{AllocError, Global};
+use memory::Memory;
+use std::alloc::Global;
 use std::marker::Model;
-
-/// There was no memory left.
-#[derive(Clone, Copy, PartialEq, Eq)]
-pub struct Memory;
-
-impl From<AllocError> for Memory {
-    fn from(_: AllocError) -> Memory {
-        Memory
-    }
-}
 
 /// The last line, with this number from 1, has no line feed.
 #[derive(Clone, Copy, PartialEq, Eq)]

@@ -2,7 +2,6 @@
 #![tactic(auto)]
 
 mod kept;
-mod memory;
 mod runs;
 mod search;
 

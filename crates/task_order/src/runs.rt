@@ -3,8 +3,8 @@
 ghost use Rattle.std.specs.Prelude.{◌≡◌, ◌+◌, ◌<◌, length, IfOk};
 ghost use Rattle.task_order.specs.Runs.{AreRunsFrom, AreRunsOf};
 
-use crate::memory::Memory;
 use logs::Log;
+use memory::Memory;
 use point_set::PointSet;
 use semantics::{LogNode, Op};
 use std::alloc::Global;

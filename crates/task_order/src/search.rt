@@ -7,10 +7,10 @@ ghost use Rattle.task_order.specs.Runs.{AreRunsOf};
 ghost use Rattle.task_order.specs.Searched.{GoesOn, IsTaskOrder, Shows};
 
 use crate::kept::is_kept;
-use crate::memory::Memory;
 use crate::runs::runs_of;
 use interference::{Stretch, are_tasks, pairs, pairs_are_of_items};
 use logs::Log;
+use memory::Memory;
 use point_set::PointSet;
 use reach_marks::Reach;
 use region_tree::ArenaSet;

@@ -14,5 +14,6 @@ pub use laws::{
     values_stay_well_formed, weights_add_up,
 };
 pub use terms::{Base, Contribution};
-pub use value::{Memory, Value};
+pub use memory::Memory;
+pub use value::Value;
 pub use worked::worked_values;

@@ -9,18 +9,9 @@ ghost use Rattle.value_terms.specs.Foldings.{IsFolding};
 use crate::bag::{Bag, Group};
 use crate::groups;
 use crate::terms::{Base, Contribution};
-use std::alloc::{AllocError, Global};
+use memory::Memory;
+use std::alloc::Global;
 use std::marker::Model;
-
-/// Memory ran out. What was to change stays as it was.
-#[derive(Clone, Copy, PartialEq, Eq)]
-pub struct Memory;
-
-impl From<AllocError> for Memory {
-    fn from(_e: AllocError) -> Memory {
-        Memory
-    }
-}
 
 /// A base, and what was added to it since: groups, each an operator with a bag, the oldest first.
 ///

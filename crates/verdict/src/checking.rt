@@ -11,8 +11,8 @@ use crate::declared::Declared;
 use crate::judged::Judged;
 use crate::stop::Stop;
 use findings::Finding;
-use log_findings::Memory;
 use logs::Log;
+use memory::Memory;
 use region_tree::ArenaSet;
 use std::alloc::Global;
 

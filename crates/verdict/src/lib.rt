@@ -14,6 +14,6 @@ pub use clean::Clean;
 pub use commands::{check, deps, find, ordered};
 pub use declared::Declared;
 pub use judged::Judged;
-pub use log_findings::Memory;
+pub use memory::Memory;
 pub use sorted::Sorted;
 pub use stop::Stop;

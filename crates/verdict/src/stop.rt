@@ -1,7 +1,7 @@
 //! Why judging ends before the last stage.
 
 use findings::Finding;
-use log_findings::Memory;
+use memory::Memory;
 
 /// Why judging ends before the last stage.
 #[derive(Drop)]

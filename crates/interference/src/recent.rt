@@ -17,13 +17,13 @@ pub(crate) struct Remembered {
 
 /// The answers found last. Each has its place by its second item, and the next that belongs there takes it.
 #[derive(Clone, Copy)]
-pub(crate) struct Memory {
+pub(crate) struct Recent {
     answers: [Remembered; 16],
 }
 
-impl Memory {
+impl Recent {
     /// The memory of nothing, but that an item past the last, which asks for nothing, does not interfere with itself.
-    pub(crate) fn new(past: usize) -> Memory
+    pub(crate) fn new(past: usize) -> Recent
         ensures { (us : List (List Usage)) → length us ≤ past → AreRight us result.answers }
     {
         let nothing = Remembered {
@@ -34,7 +34,7 @@ impl Memory {
                 place: None,
             },
         };
-        Memory {
+        Recent {
             answers: [nothing; 16],
         }
     }
