@@ -1,13 +1,14 @@
 //! The atoms of a log.
 
 ghost use Rattle.std.specs.Prelude.{◌≡◌, ◌<◌, ◌≤◌, length, slice_get, IfOk};
-ghost use Rattle.std.specs.List.Sorted.{IsPartitionPoint, IsStrictlyIncreasing};
+ghost use Rattle.std.specs.List.Sorted.{IsStrictlyIncreasing};
 ghost use Rattle.point_set.specs.Runs.{AreRuns};
 ghost use Rattle.point_laws.specs.Alike.{AreFirsts};
 ghost use Rattle.atoms.specs.Atoms.{AreAtomsOf, IsAtomAt, first_points};
 
 use crate::spans::spans_of;
 use logs::Log;
+use point_set::run_from;
 use region_tree::{ArenaSet, Memory};
 use std::alloc::Global;
 use std::marker::Model;
@@ -42,20 +43,12 @@ fn firsts_of(alloc: Global, spans: &[(u64, u64)]) -> Result<Vec<u64>, Memory>
     Ok(firsts)
 }
 
-/// The place of the first span that ends at `p` or after it, by a binary search.
-fn place_from(spans: &[(u64, u64)], p: u64) -> usize
-    requires { AreRuns spans.now }
-    ensures { IsPartitionPoint (λ span. span.1 < p) (λ span. p ≤ span.1) spans.now result }
-{
-    spans.partition_point(|span| span.1 < p)
-}
-
 /// The place of the span that has `p`.
 fn place_of(spans: &[(u64, u64)], p: u64) -> Option<usize>
     requires { AreRuns spans.now }
     ensures { IsAtomAt spans.now p result }
 {
-    let place = place_from(spans, p);
+    let place = run_from(spans, p);
     let span = spans.get(place)?;
     if span.0 <= p { Some(place) } else { None }
 }

@@ -14,4 +14,4 @@ pub use lists::{DepList, EventList};
 pub use spy_grammar::Code;
 pub use value_terms::Value;
 pub use memory::Memory;
-pub use writing::{cannot_read_text, good_finding, text, usage_text};
+pub use writing::{cannot_read_text, count_before, good_finding, text, usage_text};

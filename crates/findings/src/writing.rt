@@ -1,6 +1,6 @@
 //! A report, written, and whether it has a text.
 
-ghost use Rattle.std.specs.Prelude.{◌≡◌, ◌↔◌, ◌++◌, ◌∷◌, [], not, map, count_by, IsTrue, IfOk, OnOk};
+ghost use Rattle.std.specs.Prelude.{◌≡◌, ◌↔◌, ◌++◌, ◌∷◌, [], ◌≤◌, not, map, length, count_by, IsTrue, IfOk, OnOk};
 ghost use Rattle.std.specs.List.{AllByRecursion};
 ghost use Rattle.findings.specs.declared.cells.ReportCell.TheVariants as cells;
 ghost use Rattle.findings.specs.declared.finding.Finding.TheVariants as findings;
@@ -50,8 +50,9 @@ fn fits(f: &Finding) -> bool
 }
 
 /// How many pairs have a fixed order.
-fn count_before(deps: &[Dep]) -> u64
-    ensures { result ≡ count_by (λ d. d.before) deps.now }
+pub fn count_before(deps: &[Dep]) -> u64
+    ensures count { result ≡ count_by (λ d. d.before) deps.now }
+    ensures few { result ≤ length deps.now }
 {
     deps.iter().filter(|dep| dep.before).count() as u64
 }

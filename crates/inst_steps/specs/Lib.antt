@@ -4,7 +4,6 @@ pub mod Viewing
 pub mod Weighing
 pub mod Celled
 pub mod Grids
-pub mod Keys
 pub mod Stepping
 pub mod Stores
 pub use Rattle.point_laws.specs.Cut

@@ -12,42 +12,22 @@ use std::alloc::Global;
 use std::marker::Model;
 use value_terms::{Contribution, Memory, Value};
 
-/// A cell, as it is looked up.
-#[derive(Clone, Copy, PartialEq, Eq, Hash)]
-pub(crate) struct Key {
-    pub(crate) inst: u32,
-    pub(crate) point: u64,
-    pub(crate) field: u32,
-}
-
 /// What each of some cells holds, which contracts see as a finite map.
 #[derive(Drop)]
 pub struct Store {
-    cells: IndexMap<Key, Value>,
+    cells: IndexMap<Cell, Value>,
 }
 
 impl Model for Store {
     ghost use Rattle.std.specs.FinMap as map;
     ghost use Rattle.value_terms.specs.Values as says;
     ghost use Rattle.inst_steps.specs.Stores.{cell_cmp, coded_cell, coded_value};
-    ghost use Rattle.inst_steps.specs.Keys.{seen};
 
     ghost Value = { map.FinMap cell_cmp says.Value };
 
     ghost coded = { map.code coded_cell coded_value };
 
-    ghost view = { λ s. map.from_entries (seen s.cells.entries) };
-}
-
-/// The key of a cell.
-fn key_of(cell: &Cell) -> Key
-    ensures { result ≡ record { inst = cell.now.inst; point = cell.now.point; field = cell.now.field } }
-{
-    Key {
-        inst: cell.inst,
-        point: cell.point,
-        field: cell.field,
-    }
+    ghost view = { λ s. map.from_entries s.cells.entries };
 }
 
 impl Store {
@@ -69,7 +49,7 @@ impl Store {
     pub fn value(&self, cell: &Cell) -> Option<&Value>
         ensures { option_copied result ≡ map.get self.now cell.now }
     {
-        self.cells.get(&key_of(cell))
+        self.cells.get(cell)
     }
 
     /// Puts a value into a cell, which the store may have or not.
@@ -77,7 +57,7 @@ impl Store {
         ensures ok { OnOk result (self.new ≡ map.insert self.old cell value) }
         ensures err { OnErr result (self.new ≡ self.old) }
     {
-        match self.cells.insert(key_of(&cell), value) {
+        match self.cells.insert(cell, value) {
             Ok(_) => Ok(()),
             Err(_) => Err(Memory),
         }
@@ -88,7 +68,7 @@ impl Store {
         requires { map.contains_key self.old cell ≡ true }
         ensures { self.new ≡ map.insert self.old cell value }
     {
-        if let Some(slot) = self.cells.get_mut(&key_of(&cell)) {
+        if let Some(slot) = self.cells.get_mut(&cell) {
             *slot = value;
         }
     }
@@ -100,7 +80,7 @@ impl Store {
         ensures ok { OnOk result (self.new ≡ with_added self.old cell op c) }
         ensures err { OnErr result (self.new ≡ self.old) }
     {
-        match self.cells.get_mut(&key_of(&cell)) {
+        match self.cells.get_mut(&cell) {
             Some(slot) => slot.add(op, c),
             None => Ok(()),
         }
@@ -114,7 +94,7 @@ impl Store {
             ≡ map.insert self.old cell (fold_in (value_in self.old cell) op from.now)) }
         ensures err { OnErr result (self.new ≡ self.old) }
     {
-        match self.cells.get_mut(&key_of(&cell)) {
+        match self.cells.get_mut(&cell) {
             Some(slot) => slot.fold(op, from),
             None => Ok(()),
         }

@@ -1,29 +1,15 @@
 //! Pairs of tasks that interfere.
 
-ghost use Rattle.std.specs.Prelude.{◌≡◌, ◌<◌, ◌^◌, false, length, slice_get};
-ghost use Rattle.std.specs.Option.{option_map_or};
-ghost use Rattle.semantics.specs.Rules.{is_task};
+ghost use Rattle.std.specs.Prelude.{◌≡◌, ◌<◌, ◌^◌, length};
 ghost use Rattle.semantics.specs.Shown.{task_pairs};
 ghost use Rattle.interference.specs.Tasks.{are_tasks};
 
 use crate::all::pairs;
 use crate::pair::Pair;
+use item_uses::is_task_at;
 use logs::Log;
 use region_tree::ArenaSet;
-use semantics::{Item, ItemBody};
-
-/// Whether the item at a position is a task.
-fn is_task_at(items: &[Item], item: usize) -> bool
-    ensures { result ≡ option_map_or (λ i. is_task i.body) (slice_get items.now item) false }
-{
-    match items.get(item) {
-        Some(item) => match item.body {
-            ItemBody::Task => true,
-            _ => false,
-        },
-        None => false,
-    }
-}
+use semantics::Item;
 
 /// Whether both items of a pair are tasks.
 pub fn are_tasks(items: &[Item], pair: Pair) -> bool

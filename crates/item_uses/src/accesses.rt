@@ -5,7 +5,7 @@ ghost use Rattle.privilege.specs.declared.kinds.Priv.{Priv};
 ghost use Rattle.privilege.specs.Interference.{agree};
 ghost use Rattle.item_uses.specs.Accesses.{IsAmong, all_agree};
 
-use privilege::{Coherence, Kind, Priv, kind};
+use privilege::{Priv, agree};
 
 /// The privileges of some requirements, as far as they tell whether all agree.
 #[derive(Clone, Copy, PartialEq, Eq)]
@@ -16,16 +16,6 @@ pub enum Accesses {
     Same(Priv),
     /// They may differ.
     Mixed,
-}
-
-/// Whether two privileges agree.
-fn agree(p: Priv, q: Priv) -> bool
-    ensures { result ≡ agree p q }
-{
-    match kind(p, Coherence::Exclusive, q, Coherence::Exclusive) {
-        Kind::Free => true,
-        _ => false,
-    }
 }
 
 /// Two privileges, as one if they agree.

@@ -2,16 +2,9 @@
 
 ghost use Rattle.std.specs.Prelude.{◌≡◌, ℕ, ◌≤◌, Contains};
 ghost use Rattle.std.specs.List.Sorted.{IsStrictlyIncreasing};
-ghost use Rattle.semantics.specs.Points.{is_in};
 ghost use Rattle.item_uses.specs.Sharing.{least_shared};
 
-/// Whether a field is in a list, by a binary search.
-fn is_in(fields: &[u32], field: u32) -> bool
-    requires { IsStrictlyIncreasing fields.now }
-    ensures { result ≡ is_in fields.now field }
-{
-    fields.binary_search(&field).is_ok()
-}
+use log_tables::is_in;
 
 /// The first field of a list that is in the other.
 fn first_shared(ours: &[u32], theirs: &[u32]) -> Option<u32>

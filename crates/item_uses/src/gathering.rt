@@ -1,9 +1,10 @@
 //! What the items of a log ask for, gathered from its tables.
 
-ghost use Rattle.std.specs.Prelude.{◌≡◌, ◌<◌, [], IfOk, OnOk, length, map};
+ghost use Rattle.std.specs.Prelude.{◌≡◌, ◌<◌, [], false, IfOk, OnOk, length, map, slice_get};
 ghost use Rattle.std.specs.List.Sorted.{IsStrictlyIncreasing};
+ghost use Rattle.std.specs.Option.{option_map_or};
 ghost use Rattle.semantics.specs.Points.{points_in};
-ghost use Rattle.semantics.specs.Shown.{is_task_at};
+ghost use Rattle.semantics.specs.Rules.{is_task};
 ghost use Rattle.log_tables.specs.Ascending.{body_fields};
 ghost use Rattle.item_uses.specs.Usages.{usage, usage_of, usages};
 ghost use Rattle.item_uses.specs.Gathered.{own_usages, with_usage};
@@ -90,10 +91,10 @@ fn own_uses_of_all<'a, P: PointSet + Copy>(
 }
 
 /// Whether the item at a position is a task.
-fn is_task_at<P: PointSet>(draft: &Draft<P>, item: usize) -> bool
-    ensures { result ≡ is_task_at draft.now item }
+pub fn is_task_at(items: &[Item], item: usize) -> bool
+    ensures { result ≡ option_map_or (λ i. is_task i.body) (slice_get items.now item) false }
 {
-    match draft.items().get(item) {
+    match items.get(item) {
         Some(item) => match item.body {
             ItemBody::Task => true,
             _ => false,
@@ -114,7 +115,7 @@ fn add_req<'a, P: PointSet + Copy>(
     ensures { OnOk result (items.new.items
         ≡ with_usage draft.now items.old.items req.now.item (usage_of draft.now req.now)) }
 {
-    if !is_task_at(draft, req.item) {
+    if !is_task_at(draft.items(), req.item) {
         return Ok(());
     }
     let one = placed_use(

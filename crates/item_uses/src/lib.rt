@@ -16,7 +16,7 @@ pub use accesses::Accesses;
 pub use alike::representatives;
 pub use between::Interference;
 pub use blocks::spans_of_blocks;
-pub use gathering::uses_of_items;
+pub use gathering::{is_task_at, uses_of_items};
 pub use item::ItemUses;
 pub use laws::items_interfere_by_requirements;
 pub use span::Span;

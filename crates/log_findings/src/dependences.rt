@@ -1,6 +1,6 @@
 //! The pairs of items of a log that interfere.
 
-ghost use Rattle.std.specs.Prelude.{◌≡◌, ◌<◌, ◌≤◌, length, IfOk, count_by};
+ghost use Rattle.std.specs.Prelude.{◌≡◌, ◌<◌, length, IfOk};
 ghost use Rattle.findings.specs.Texts as texts;
 ghost use Rattle.semantics.specs.declared.command.Command.TheVariants.{Deps};
 ghost use Rattle.outcomes.specs.Outcome.{DepsFinds, dependences};
@@ -10,7 +10,7 @@ ghost use Rattle.log_findings.specs.Listing.{dependence_of};
 use crate::items::{ids_by_serial, item_count};
 use crate::reports::{deps_found, fault_found};
 use crate::serial::serial_fault;
-use findings::{Dep, DepList, Finding};
+use findings::{Dep, DepList, Finding, count_before};
 use interference::{Pair, pairs, pairs_are_of_items};
 use logs::Log;
 use memory::Memory;
@@ -46,14 +46,6 @@ fn deps_of<'a, P: ArenaSet<'a>>(alloc: Global, log: &Log<'a, P>) -> Result<Vec<D
         list.push(one)?;
     }
     Ok(list)
-}
-
-/// How many of some dependences have a fixed order.
-fn count_before(list: &[Dep]) -> u64
-    ensures count { result ≡ count_by (λ d. d.before) list.now }
-    ensures few { result ≤ length list.now }
-{
-    list.iter().filter(|dep| dep.before).count() as u64
 }
 
 /// What `deps` finds in a log whose serial order has no fault.

@@ -9,42 +9,30 @@ use Rattle.std.proofs.lemmas.List.Filters.{length-filter_more}
 use Rattle.std.proofs.lemmas.List.Folds.{list_any_more}
 use Rattle.std.proofs.lemmas.List.Kept.{AllPairs-from_increasing}
 use Rattle.std.proofs.lemmas.Grind.{get_or_default_zero}
+use Rattle.semantics.specs.declared.places.Place.{Place}
 use Rattle.semantics.specs.declared.tables.Req.{Req}
 use Rattle.semantics.specs.declared.tables.Inst.{Inst}
 use Rattle.semantics.specs.Tables.{Tables}
-use Rattle.semantics.specs.Points.{is_in, points_in}
-use Rattle.semantics.specs.Kinds.{grid}
+use Rattle.semantics.specs.Points.{is_in, points_in, same_place}
+use Rattle.semantics.specs.Kinds.{covers, grid}
 use Rattle.semantics.specs.Rules.{load_of, reduces}
-use Rattle.log_rules.specs.declared.load.LoadPlace.{LoadPlace}
 use Rattle.log_rules.specs.Counts.{cut}
-use Rattle.log_rules.specs.Loads.{one, same_load_place, is_held, covers_place, load_at, row_load, inst_load}
+use Rattle.log_rules.specs.Loads.{one, is_held, load_at, row_load, inst_load}
+use Rattle.semantics.proofs.lemmas.SamePlaces.{same_place-true}
 use Rattle.log_tables.proofs.lemmas.Members.{Decides-is_in}
 
--- ---- Places that are one.
-
-place_of_parts : (s t p q f g : ℕ) → s ≡ t → p ≡ q → f ≡ g → (let x : LoadPlace = record { tree = s; point = p; field = f } in x) ≡ record { tree = t; point = q; field = g }
-place_of_parts s t p q f g a b c = cc
-
-same_load_place-true : (j k : LoadPlace) → same_load_place j k ≡ true → j ≡ k
-same_load_place-true j k h =
-    let rest = (and_parts (j.tree == k.tree) ((j.point == k.point) && (j.field == k.field)) h).1 in
-    place_of_parts j.tree k.tree j.point k.point j.field k.field
-    (eqb-true j.tree k.tree (and_parts (j.tree == k.tree) ((j.point == k.point) && (j.field == k.field)) h).0)
-    (eqb-true j.point k.point (and_parts (j.point == k.point) (j.field == k.field) rest).0)
-    (eqb-true j.field k.field (and_parts (j.point == k.point) (j.field == k.field) rest).1)
-
 -- One more at a place.
-pub load-put : (old : LoadPlace → Option ℕ) (j k : LoadPlace) (count : ℕ) (new : Option ℕ) → new ≡ cond (same_load_place j k) (Some count) (old k) → count ≡ cut (unwrap_or (old j) 0 + 1) → cut (unwrap_or new 0) ≡ cut (unwrap_or (old k) 0 + one (same_load_place j k))
+pub load-put : (old : Place → Option ℕ) (j k : Place) (count : ℕ) (new : Option ℕ) → new ≡ cond (same_place j k) (Some count) (old k) → count ≡ cut (unwrap_or (old j) 0 + 1) → cut (unwrap_or new 0) ≡ cut (unwrap_or (old k) 0 + one (same_place j k))
 load-put old j k count new is more =
-    elim (cases_Bool (same_load_place j k)) [
+    elim (cases_Bool (same_place j k)) [
       | inl same ↦
           let e : unwrap_or new 0 ≡ count = ap (λ o. unwrap_or o 0) (is ∙ ap (λ b. cond b (Some count) (old k)) same) in
-          let o : unwrap_or (old j) 0 ≡ unwrap_or (old k) 0 = ap (λ p. unwrap_or (old p) 0) (same_load_place-true j k same) in
-          let n : one (same_load_place j k) ≡ 1 = ap one same in
+          let o : unwrap_or (old j) 0 ≡ unwrap_or (old k) 0 = ap (λ p. unwrap_or (old p) 0) (same_place-true j k same) in
+          let n : one (same_place j k) ≡ 1 = ap one same in
           omega (arith, e, o, n, more)
       | inr other ↦
           let e : unwrap_or new 0 ≡ unwrap_or (old k) 0 = ap (λ o. unwrap_or o 0) (is ∙ ap (λ b. cond b (Some count) (old k)) other) in
-          let n : one (same_load_place j k) ≡ 0 = ap one other in
+          let n : one (same_place j k) ≡ 0 = ap one other in
           omega (arith, e, n)
     ]
 
@@ -69,7 +57,7 @@ split_field true true true true h = absurd (true≢false (h refl))
 split_field true true true false h = refl
 split_field true true false e h = zero-add (one e)
 
-pub load-field : (old mid new : ℕ) (tree point : ℕ) (fields : List ℕ) (i : ℕ) (k : LoadPlace) → IsStrictlyIncreasing fields → i < length fields → cut mid ≡ cut (old + one (is_held tree (point ∷ []) (take i fields) k)) → cut new ≡ cut (mid + one (same_load_place (record { tree = tree; point = point; field = get_or fields i 0 }) k)) → cut new ≡ cut (old + one (is_held tree (point ∷ []) (take (i + 1) fields) k))
+pub load-field : (old mid new : ℕ) (tree point : ℕ) (fields : List ℕ) (i : ℕ) (k : Place) → IsStrictlyIncreasing fields → i < length fields → cut mid ≡ cut (old + one (is_held tree (point ∷ []) (take i fields) k)) → cut new ≡ cut (mid + one (same_place (record { tree = tree; point = point; field = get_or fields i 0 }) k)) → cut new ≡ cut (old + one (is_held tree (point ∷ []) (take (i + 1) fields) k))
 load-field old mid new tree point fields i k up lt before after =
     let field = get_or fields i 0 in
     let split = split_field (tree == k.tree) (point == k.point) (is_in (take i fields) k.field) (field == k.field) (fresh_field fields i k.field up lt) in
@@ -93,16 +81,16 @@ fresh_point p rest n up here =
     let f : p ≡ n = eqb-true p n here in
     omega (arith, c.2))
 
-pub load-point : (mid new goal tree p : ℕ) (rest fields : List ℕ) (k : LoadPlace) → AllPairs (λ a b. a < b) (p ∷ rest) → cut (mid + one (is_held tree (p ∷ rest) fields k)) ≡ goal → cut new ≡ cut (mid + one (is_held tree (p ∷ []) fields k)) → cut (new + one (is_held tree rest fields k)) ≡ goal
+pub load-point : (mid new goal tree p : ℕ) (rest fields : List ℕ) (k : Place) → AllPairs (λ a b. a < b) (p ∷ rest) → cut (mid + one (is_held tree (p ∷ rest) fields k)) ≡ goal → cut new ≡ cut (mid + one (is_held tree (p ∷ []) fields k)) → cut (new + one (is_held tree rest fields k)) ≡ goal
 load-point mid new goal tree p rest fields k up before after =
     let split = split_point (tree == k.tree) (p == k.point) (is_in rest k.point) (is_in fields k.field) (fresh_point p rest k.point up) in
     omega (arith, before, after, split)
 
 -- ---- Requirements, one by one.
 
-pub load-req : (t : Tables) (k : LoadPlace) (reqs : List Req) (i : ℕ) (d : Req) (mid new : ℕ) → i < length reqs → cut mid ≡ cut (load_at t k (take i reqs)) → cut new ≡ cut (mid + one (reduces (get_or reqs i d).access && covers_place t k (get_or reqs i d))) → cut new ≡ cut (load_at t k (take (i + 1) reqs))
+pub load-req : (t : Tables) (k : Place) (reqs : List Req) (i : ℕ) (d : Req) (mid new : ℕ) → i < length reqs → cut mid ≡ cut (load_at t k (take i reqs)) → cut new ≡ cut (mid + one (reduces (get_or reqs i d).access && covers t k (get_or reqs i d))) → cut new ≡ cut (load_at t k (take (i + 1) reqs))
 load-req t k reqs i d mid new lt before after =
-    let more = length-filter_more (λ (r : Req). reduces r.access && covers_place t k r) reqs i d lt in
+    let more = length-filter_more (λ (r : Req). reduces r.access && covers t k r) reqs i d lt in
     omega (arith, before, after, more)
 
 -- ---- Sums.
@@ -127,10 +115,10 @@ sum-grid g (x ∷ xs) fields =
     let all = sum_by-cons (λ x. sum_by (λ f. g (x, f)) fields) x xs in
     omega (arith, split, head, tail, all)
 
-pub loads-told : (t : Tables) (count : LoadPlace → ℕ) (insts : List Inst) → ((k : LoadPlace) → cut (count k) ≡ cut (load_at t k t.reqs)) → cut (sum_by (inst_load count t) insts) ≡ cut (sum_by (load_of t) insts)
+pub loads-told : (t : Tables) (count : Place → ℕ) (insts : List Inst) → ((k : Place) → cut (count k) ≡ cut (load_at t k t.reqs)) → cut (sum_by (inst_load count t) insts) ≡ cut (sum_by (load_of t) insts)
 loads-told t count insts are =
     cut-sum (inst_load count t) (load_of t) insts (λ (i : Inst).
-    let exact = λ (k : LoadPlace). load_at t k t.reqs in
+    let exact = λ (k : Place). load_at t k t.reqs in
     cut-sum (row_load count i.tree i.fields) (row_load exact i.tree i.fields) (points_in t i.space) (λ x.
     cut-sum (λ f. count (record { tree = i.tree; point = x; field = f })) (λ f. exact (record { tree = i.tree; point = x; field = f })) i.fields (λ f. are (record { tree = i.tree; point = x; field = f })))
     ∙ ap cut (sym (sum-grid (λ p. exact (record { tree = i.tree; point = p.0; field = p.1 })) (points_in t i.space) i.fields)))

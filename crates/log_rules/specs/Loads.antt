@@ -1,56 +1,48 @@
 -- How many requirements reduce at places.
 use Rattle.std.specs.Prelude.{◌≡◌, ℕ, ◌+◌, ◌==◌, Bool, ◌&&◌, List, filter, length, unwrap_or, if◌then◌else◌, sum_by}
 use Rattle.std.specs.HashMap.{get}
+use Rattle.semantics.specs.declared.places.Place.{Place}
 use Rattle.semantics.specs.declared.tables.Req.{Req}
 use Rattle.semantics.specs.declared.tables.Inst.{Inst}
 use Rattle.semantics.specs.Tables.{Tables}
-use Rattle.semantics.specs.Points.{is_in, points_in}
+use Rattle.semantics.specs.Points.{is_in, points_in, same_place}
 use Rattle.semantics.specs.Kinds.{covers}
 use Rattle.semantics.specs.Rules.{reduces}
-use Rattle.log_rules.specs.declared.load.LoadPlace.{LoadPlace}
 use Rattle.log_rules.specs.declared.load.Loads.{Loads}
 use Rattle.log_rules.specs.Counts.{cut}
 
--- Whether two places are one.
-abbrev pub same_load_place : LoadPlace → LoadPlace → Bool
-same_load_place j k = (j.tree == k.tree) && ((j.point == k.point) && (j.field == k.field))
-
 -- The count that is kept of a place.
-abbrev pub load_in : Loads → LoadPlace → ℕ
-load_in l k = unwrap_or (get same_load_place l.counts k) 0
+abbrev pub load_in : Loads → Place → ℕ
+load_in l k = unwrap_or (get same_place l.counts k) 0
 
 -- One where a test passes, and else nothing.
 abbrev pub one : Bool → ℕ
 one b = if b then 1 else 0
 
 -- Whether a place is in this tree, at one of these points and one of these fields.
-abbrev pub is_held : ℕ → List ℕ → List ℕ → LoadPlace → Bool
+abbrev pub is_held : ℕ → List ℕ → List ℕ → Place → Bool
 is_held tree points fields k = (tree == k.tree) && (is_in points k.point && is_in fields k.field)
 
--- Whether a requirement covers a place.
-abbrev pub covers_place : Tables → LoadPlace → Req → Bool
-covers_place t k r = covers t (record { tree = k.tree; point = k.point; field = k.field }) r
-
 -- How many of some requirements reduce at a place.
-abbrev pub load_at : Tables → LoadPlace → List Req → ℕ
-load_at t k rs = length (filter (λ (r : Req). reduces r.access && covers_place t k r) rs)
+abbrev pub load_at : Tables → Place → List Req → ℕ
+load_at t k rs = length (filter (λ (r : Req). reduces r.access && covers t k r) rs)
 
 -- The counts of a point and some fields together.
-abbrev pub row_load : (LoadPlace → ℕ) → ℕ → List ℕ → ℕ → ℕ
+abbrev pub row_load : (Place → ℕ) → ℕ → List ℕ → ℕ → ℕ
 row_load count tree fields point = sum_by (λ f. count (record { tree = tree; point = point; field = f })) fields
 
 -- The counts of some points and fields together.
-abbrev pub grid_load : (LoadPlace → ℕ) → ℕ → List ℕ → List ℕ → ℕ
+abbrev pub grid_load : (Place → ℕ) → ℕ → List ℕ → List ℕ → ℕ
 grid_load count tree fields points = sum_by (row_load count tree fields) points
 
 -- The counts of an instance's cells together.
-abbrev pub inst_load : (LoadPlace → ℕ) → Tables → Inst → ℕ
+abbrev pub inst_load : (Place → ℕ) → Tables → Inst → ℕ
 inst_load count t i = grid_load count i.tree i.fields (points_in t i.space)
 
 -- One requirement more is counted at the places that pass a test, and none at the others.
-abbrev pub CountsAt : Loads → Loads → (LoadPlace → Bool) → Type 0
-CountsAt old new test = (k : LoadPlace) → cut (load_in new k) ≡ cut (load_in old k + one (test k))
+abbrev pub CountsAt : Loads → Loads → (Place → Bool) → Type 0
+CountsAt old new test = (k : Place) → cut (load_in new k) ≡ cut (load_in old k + one (test k))
 
 -- The counts are those of these requirements.
 abbrev pub AreLoads : Tables → Loads → List Req → Type 0
-AreLoads t loads rs = (k : LoadPlace) → cut (load_in loads k) ≡ cut (load_at t k rs)
+AreLoads t loads rs = (k : Place) → cut (load_in loads k) ≡ cut (load_at t k rs)

@@ -9,7 +9,7 @@ ghost use Rattle.privilege.specs.Interference.{agree};
 ghost use Rattle.privilege.specs.declared.kinds.Priv.{Priv};
 
 use point_set::{PointSet, points_in};
-use privilege::{Coherence, Kind, Priv, kind};
+use privilege::{Priv, agree};
 use std::alloc::{AllocError, Global};
 use std::collections::HashMap;
 
@@ -26,16 +26,6 @@ pub(crate) struct OwnPlace {
 #[derive(Drop)]
 pub(crate) struct Claims {
     places: HashMap<OwnPlace, Option<Priv>>,
-}
-
-/// Whether two privileges agree.
-pub(crate) fn agree(p: Priv, q: Priv) -> bool
-    ensures { result ≡ agree p q }
-{
-    match kind(p, Coherence::Exclusive, q, Coherence::Exclusive) {
-        Kind::Free => true,
-        _ => false,
-    }
 }
 
 /// What is kept of a place with one requirement more.

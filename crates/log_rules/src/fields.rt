@@ -2,15 +2,9 @@
 
 ghost use Rattle.std.specs.Prelude.{◌≡◌};
 ghost use Rattle.std.specs.List.Sorted.{IsStrictlyIncreasing};
-ghost use Rattle.semantics.specs.Points.{is_in, is_within, meets};
+ghost use Rattle.semantics.specs.Points.{is_within, meets};
 
-/// Whether a field is in a list, by a binary search.
-pub(crate) fn is_in(fields: &[u32], field: u32) -> bool
-    requires { IsStrictlyIncreasing fields.now }
-    ensures { result ≡ is_in fields.now field }
-{
-    fields.binary_search(&field).is_ok()
-}
+use log_tables::is_in;
 
 /// Whether each of some fields is in the other list, by a binary search for each.
 pub(crate) fn is_within(ours: &[u32], theirs: &[u32]) -> bool

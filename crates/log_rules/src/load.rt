@@ -2,33 +2,26 @@
 
 ghost use Rattle.std.specs.Prelude.{◌≡◌, ◌&&◌, [], ◌∷◌, map, IfOk, OnOk, sum_by};
 ghost use Rattle.std.specs.List.Sorted.{IsStrictlyIncreasing};
-ghost use Rattle.semantics.specs.Points.{points_in};
+ghost use Rattle.semantics.specs.declared.places.Place.{Place};
+ghost use Rattle.semantics.specs.Points.{points_in, same_place};
+ghost use Rattle.semantics.specs.Kinds.{covers};
 ghost use Rattle.semantics.specs.Rules.{has_much_load, reduces};
-ghost use Rattle.log_rules.specs.declared.load.LoadPlace.{LoadPlace};
 ghost use Rattle.log_rules.specs.Counts.{cut};
-ghost use Rattle.log_rules.specs.Loads.{AreLoads, CountsAt, load_in, same_load_place, is_held, covers_place, row_load, grid_load, inst_load};
+ghost use Rattle.log_rules.specs.Loads.{AreLoads, CountsAt, load_in, is_held, row_load, grid_load, inst_load};
 
 use crate::counts::{exceeds, raised};
 use log_tables::Draft;
 use point_set::{PointSet, points_in};
 use privilege::Priv;
-use semantics::{Inst, MOST_LOAD, Req};
+use semantics::{Inst, MOST_LOAD, Place, Req};
 use spy_grammar::Record;
 use std::alloc::{AllocError, Global};
 use std::collections::HashMap;
 
-/// A place.
-#[derive(Clone, Copy, PartialEq, Eq, Hash)]
-pub(crate) struct LoadPlace {
-    pub tree: u32,
-    pub point: u64,
-    pub field: u32,
-}
-
 /// How many requirements reduce at each place.
 #[derive(Drop)]
 pub(crate) struct Loads {
-    counts: HashMap<LoadPlace, u128>,
+    counts: HashMap<Place, u128>,
 }
 
 /// Whether a privilege reduces.
@@ -44,7 +37,7 @@ fn reduces(access: Priv) -> bool
 impl Loads {
     /// No requirement reduces anywhere.
     fn new(alloc: Global) -> Loads
-        ensures { (k : LoadPlace) → load_in result k ≡ 0 }
+        ensures { (k : Place) → load_in result k ≡ 0 }
     {
         Loads {
             counts: HashMap::new(alloc),
@@ -52,7 +45,7 @@ impl Loads {
     }
 
     /// How many requirements reduce at a place.
-    fn at(&self, place: LoadPlace) -> u128
+    fn at(&self, place: Place) -> u128
         ensures { result ≡ load_in self.now place }
     {
         match self.counts.get(&place) {
@@ -62,8 +55,8 @@ impl Loads {
     }
 
     /// One requirement more at a place.
-    fn add(&mut self, place: LoadPlace) -> Result<(), AllocError>
-        ensures { OnOk result (CountsAt self.old self.new (same_load_place place)) }
+    fn add(&mut self, place: Place) -> Result<(), AllocError>
+        ensures { OnOk result (CountsAt self.old self.new (same_place place)) }
     {
         let count = raised(self.at(place), 1);
         self.counts.insert(place, count)?;
@@ -76,7 +69,7 @@ impl Loads {
         ensures { OnOk result (CountsAt self.old self.new (is_held tree (point ∷ []) fields.now)) }
     {
         for field in fields {
-            let place = LoadPlace {
+            let place = Place {
                 tree,
                 point,
                 field: *field,
@@ -119,7 +112,7 @@ impl Loads {
     fn add_req<P: PointSet>(&mut self, draft: &Draft<P>, req: &Req) -> Result<(), AllocError>
         requires { IsStrictlyIncreasing req.now.fields }
         ensures { OnOk result (CountsAt self.old self.new (λ k.
-            reduces req.now.access && covers_place draft.now k req.now)) }
+            reduces req.now.access && covers draft.now k req.now)) }
     {
         if reduces(req.access) {
             self.add_space(draft, req.tree, req.space, req.fields.as_slice())
@@ -145,7 +138,7 @@ impl Loads {
     {
         let mut load = 0u128;
         for field in fields {
-            let place = LoadPlace {
+            let place = Place {
                 tree,
                 point,
                 field: *field,

@@ -11,12 +11,12 @@ ghost use Rattle.log_tables.specs.Views.{Ascends};
 ghost use Rattle.log_rules.specs.Own.{AreClaims, clashes_with, clashes_asked, first_clashes, clashes_row};
 ghost use Rattle.log_rules.specs.Tallied.{IfTally};
 
-use crate::claims::{Claims, agree};
+use crate::claims::Claims;
 use crate::fields::meets;
 use crate::tally::{Tally, has_many_accesses};
 use log_tables::{Draft, priv_of};
 use point_set::PointSet;
-use privilege::Priv;
+use privilege::{Priv, agree};
 use semantics::Req;
 use spy_grammar::Record;
 

@@ -15,4 +15,5 @@ pub use law::{maximal_runs_are_apart, points_of_runs_ascend};
 pub use point_list::PointList;
 pub use points::{Points, points_in};
 pub use run_set::RunSet;
+pub use run_slice::run_from;
 pub use set::PointSet;

@@ -9,4 +9,4 @@ mod table;
 pub use kinds::{Coherence, Kind, Priv};
 pub use laws::kind_laws;
 pub use markers::{Folds, Privilege, Reads, Red, Ro, Rw, Wd, Writes};
-pub use table::kind;
+pub use table::{agree, kind};

@@ -5,8 +5,8 @@ ghost use Rattle.privilege.specs.Interference.{agree, kind_of};
 
 use crate::kinds::{Coherence, Kind, Priv};
 
-/// Whether two accesses with these privileges may overlap.
-fn may_overlap(p: Priv, q: Priv) -> bool
+/// Whether two privileges agree: both read, or both reduce with one operator.
+pub fn agree(p: Priv, q: Priv) -> bool
     ensures { result ≡ agree p q }
 {
     match (p, q) {
@@ -20,7 +20,7 @@ fn may_overlap(p: Priv, q: Priv) -> bool
 pub fn kind(p: Priv, c: Coherence, q: Priv, d: Coherence) -> Kind
     ensures { result ≡ kind_of p c q d }
 {
-    if may_overlap(p, q) {
+    if agree(p, q) {
         Kind::Free
     } else if c == Coherence::Atomic && d == Coherence::Atomic {
         Kind::Turn

@@ -1,8 +1,13 @@
 -- Points, and which spaces lie below which.
-use Rattle.std.specs.Prelude.{ℕ, zero, suc, ◌==◌, Bool, false, ◌||◌, List, [], ◌∷◌, length, Option, Some, None, option_map, option_and_then, find}
+use Rattle.std.specs.Prelude.{ℕ, zero, suc, ◌==◌, Bool, false, ◌&&◌, ◌||◌, List, [], ◌∷◌, length, Option, Some, None, option_map, option_and_then, find}
 use Rattle.std.specs.List.{list_any, list_all}
 use Rattle.std.specs.Option.{option_map_or}
+use Rattle.semantics.specs.declared.places.Place.{Place}
 use Rattle.semantics.specs.Tables.{Tables, Space, Part, Sub, FieldSpace, Tree}
+
+-- Whether two places are one.
+abbrev pub same_place : Place → Place → Bool
+same_place p q = (p.tree == q.tree) && ((p.point == q.point) && (p.field == q.field))
 
 -- Whether a number is in a list.
 abbrev pub is_in : List ℕ → ℕ → Bool

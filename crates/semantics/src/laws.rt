@@ -9,7 +9,7 @@ ghost use Rattle.semantics.specs.Events.{graph_of};
 ghost use Rattle.semantics.specs.Rules.{node_of};
 
 /// The nodes of a log are those of its records.
-#[tactic(auto, using(crate::proofs::Nodes::nodes_are))]
+#[tactic(auto, using(crate::proofs::lemmas::Nodes::nodes_are))]
 pub fn nodes_are_of_records()
     ensures { (log : List Lined) → graph_of (tables_of log).nodes ≡ filter_map node_of (records_of log) }
 {}

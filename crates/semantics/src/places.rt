@@ -1,7 +1,7 @@
 //! Where data is: in a region, and in an instance.
 
 /// A point and a field of a region tree.
-#[derive(Clone, Copy, PartialEq, Eq)]
+#[derive(Clone, Copy, PartialEq, Eq, Hash)]
 pub struct Place {
     pub tree: u32,
     pub point: u64,
@@ -9,7 +9,7 @@ pub struct Place {
 }
 
 /// A point and a field of an instance.
-#[derive(Clone, Copy, PartialEq, Eq)]
+#[derive(Clone, Copy, PartialEq, Eq, Hash)]
 pub struct Cell {
     pub inst: u32,
     pub point: u64,

@@ -15,16 +15,16 @@ use Rattle.semantics.specs.SerialOrder.{serial, serial_place}
 use Rattle.semantics.specs.Sequential.{wanted, after_items}
 use Rattle.logs.specs.Listing.{ArePlacesIn}
 use Rattle.serial_exec.specs.declared.change.Change.{Change}
-use Rattle.serial_exec.specs.declared.change.PlaceKey.{PlaceKey}
 use Rattle.serial_exec.specs.declared.histories.Histories.{Histories}
 use Rattle.serial_exec.specs.Changes.{after_changes, acted_by, before, items_changes, IsAdded}
 use Rattle.point_laws.specs.Cut.{cut_to}
-use Rattle.serial_exec.specs.Histories.{same_key, changes_at, key_of}
+use Rattle.serial_exec.specs.Histories.{changes_at}
+use Rattle.semantics.specs.Points.{same_place}
 use Rattle.serial_exec.specs.Kept.{kept, changes_in, AreInOrder, AreVersionsOf}
 use Rattle.serial_exec.proofs.Changing.{before-items, items-changes, Rises, items-rise}
 use Rattle.serial_exec.proofs.Gathered.{items_cut}
 
-lookup-mapped : {V : Type 0} (items : V → List Change) (test : PlaceKey → Bool) (es : List (PlaceKey × V)) → unwrap_or (lookup test (map (λ e. (e.0, items e.1)) es)) [] ≡ option_map_or items (lookup test es) []
+lookup-mapped : {V : Type 0} (items : V → List Change) (test : Place → Bool) (es : List (Place × V)) → unwrap_or (lookup test (map (λ e. (e.0, items e.1)) es)) [] ≡ option_map_or items (lookup test es) []
 lookup-mapped items test [] = refl
 lookup-mapped items test (e ∷ es) = elim (cases_Bool (test e.0)) [
   | inl here ↦ rw here refl
@@ -32,11 +32,11 @@ lookup-mapped items test (e ∷ es) = elim (cases_Bool (test e.0)) [
 ]
 
 pub kept-changes : (moments : List ℕ) (h : Histories) (p : Place) → changes_in (kept moments h) p ≡ changes_at h p
-kept-changes moments h p = lookup-mapped (λ v. v.items) (same_key (key_of p)) h.lists.entries
+kept-changes moments h p = lookup-mapped (λ v. v.items) (same_place p) h.lists.entries
 
--- What is looked up by a key.
-pub found-at : {V X : Type 0} (items : V → List X) (at : PlaceKey → Option V) (key k : PlaceKey) (found : Option V) → key ≡ k → found ≡ at key → option_map_or items (at k) [] ≡ option_map_or items found []
-found-at items at key k found same is = ap (λ j. option_map_or items (at j) []) (sym same) ∙ ap (λ o. option_map_or items o []) (sym is)
+-- What is looked up.
+pub found-at : {V X : Type 0} (items : V → List X) (at found : Option V) → found ≡ at → option_map_or items at [] ≡ option_map_or items found []
+found-at items at found is = ap (λ o. option_map_or items o []) (sym is)
 
 -- ---- in order
 

@@ -10,37 +10,25 @@ use Rattle.std.proofs.lemmas.List.Kept.{AllPairs-from_increasing}
 use Rattle.std.proofs.lemmas.List.{append_assoc, append-nil}
 use Rattle.point_set.specs.Least.{IsLeastFrom}
 use Rattle.semantics.specs.declared.places.Place.{Place}
+use Rattle.semantics.proofs.lemmas.SamePlaces.{same_place-true}
 use Rattle.semantics.specs.Points.{is_in}
 use Rattle.log_tables.proofs.lemmas.Members.{has_in, in_has}
 use Rattle.serial_exec.specs.declared.change.Change.{Change}
-use Rattle.serial_exec.specs.declared.change.PlaceKey.{PlaceKey}
 use Rattle.serial_exec.specs.Changes.{covered}
 use Rattle.serial_exec.specs.Listed.{is_behind, IsPoint}
-use Rattle.serial_exec.specs.Histories.{same_key, key_of}
+use Rattle.semantics.specs.Points.{same_place}
 
-key_of_parts : (s t p q f g : ℕ) → s ≡ t → p ≡ q → f ≡ g → (let x : PlaceKey = record { tree = s; point = p; field = f } in x) ≡ record { tree = t; point = q; field = g }
-key_of_parts s t p q f g a b c = cc
-
-pub same_key-true : (j k : PlaceKey) → same_key j k ≡ true → j ≡ k
-same_key-true j k h =
-    let point = (j.point == k.point) && (j.field == k.field) in
-    let rest = (and_parts (j.tree == k.tree) point h).1 in
-    key_of_parts j.tree k.tree j.point k.point j.field k.field
-    (eqb-true j.tree k.tree (and_parts (j.tree == k.tree) point h).0)
-    (eqb-true j.point k.point (and_parts (j.point == k.point) (j.field == k.field) rest).0)
-    (eqb-true j.field k.field (and_parts (j.point == k.point) (j.field == k.field) rest).1)
-
--- A list more at a key of a map.
-pub list-put : {V : Type 0} (items : V → List Change) (old : PlaceKey → Option V) (new : Option V) (key k : PlaceKey) (list : V) (c : Change)
-    → new ≡ cond (same_key key k) (Some list) (old k)
+-- A list more at a place.
+pub list-put : {V : Type 0} (items : V → List Change) (old : Place → Option V) (new : Option V) (key k : Place) (list : V) (c : Change)
+    → new ≡ cond (same_place key k) (Some list) (old k)
     → items list ≡ option_map_or items (old key) [] ++ c ∷ []
-    → option_map_or items new [] ≡ option_map_or items (old k) [] ++ cond (same_key key k) (c ∷ []) []
+    → option_map_or items new [] ≡ option_map_or items (old k) [] ++ cond (same_place key k) (c ∷ []) []
 list-put items old new key k list c is longer =
-    elim (cases_Bool (same_key key k)) [
+    elim (cases_Bool (same_place key k)) [
       | inl same ↦
           ap (λ o. option_map_or items o []) (is ∙ ap (λ b. cond b (Some list) (old k)) same)
           ∙ longer
-          ∙ ap (λ j. option_map_or items (old j) [] ++ c ∷ []) (same_key-true key k same)
+          ∙ ap (λ j. option_map_or items (old j) [] ++ c ∷ []) (same_place-true key k same)
           ∙ sym (ap (λ b. option_map_or items (old k) [] ++ cond b (c ∷ []) []) same)
       | inr other ↦
           ap (λ o. option_map_or items o []) (is ∙ ap (λ b. cond b (Some list) (old k)) other)
@@ -72,7 +60,7 @@ not_again fields i f up lt h =
 pub field-noted : (c : Change) (old mid new : List Change) (tree point field : ℕ) (fields : List ℕ) (i : ℕ) (p : Place)
     → IsStrictlyIncreasing fields → i < length fields → field ≡ get_or fields i 0
     → mid ≡ old ++ cond (covered tree (point ∷ []) (take i fields) p) (c ∷ []) []
-    → new ≡ mid ++ cond (same_key (record { tree = tree; point = point; field = field }) (key_of p)) (c ∷ []) []
+    → new ≡ mid ++ cond (same_place (record { tree = tree; point = point; field = field }) p) (c ∷ []) []
     → new ≡ old ++ cond (covered tree (point ∷ []) (take (i + 1) fields) p) (c ∷ []) []
 field-noted c old mid new tree point field fields i p up lt is before after =
     after

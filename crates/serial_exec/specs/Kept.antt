@@ -6,24 +6,23 @@ use Rattle.value_terms.specs.declared.terms.Base.TheVariants.{Init}
 use Rattle.value_terms.specs.Values.{Value, plain}
 use Rattle.semantics.specs.declared.places.Place.{Place}
 use Rattle.semantics.specs.Tables.{Tables}
+use Rattle.semantics.specs.Points.{same_place}
 use Rattle.semantics.specs.Sequential.{wanted}
 use Rattle.serial_exec.specs.declared.change.Change.{Change}
-use Rattle.serial_exec.specs.declared.change.PlaceKey.{PlaceKey}
 use Rattle.serial_exec.specs.declared.histories.Histories.{Histories}
 use Rattle.serial_exec.specs.Changes.{before, after_changes}
-use Rattle.serial_exec.specs.Histories.{key_of, same_key}
 
 -- The place of each item in serial order, and the changes at each place.
 pub record Kept : Type 0 where
   pub moments : List ℕ
-  pub lists : List (PlaceKey × List Change)
+  pub lists : List (Place × List Change)
 
 abbrev pub kept : List ℕ → Histories → Kept
 kept moments h = record { moments = moments; lists = map (λ e. (e.0, e.1.items)) h.lists.entries }
 
 -- The changes that are kept of a place.
 abbrev pub changes_in : Kept → Place → List Change
-changes_in k p = unwrap_or (lookup (same_key (key_of p)) k.lists) []
+changes_in k p = unwrap_or (lookup (same_place p) k.lists) []
 
 -- They are in serial order.
 abbrev pub AreInOrder : Kept → Type 0

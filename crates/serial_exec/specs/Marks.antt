@@ -5,17 +5,17 @@ use Rattle.std.specs.List.Sorted.{IsPartitionedBy}
 use Rattle.std.specs.Option.{option_map_or}
 use Rattle.std.specs.HashMap.{get}
 use Rattle.semantics.specs.declared.places.Place.{Place}
+use Rattle.semantics.specs.Points.{same_place}
 use Rattle.value_terms.specs.declared.terms.Contribution.{Contribution}
 use Rattle.value_terms.specs.Values.{comes_before, count_in}
 use Rattle.serial_exec.specs.declared.change.Action.{Action}
 use Rattle.serial_exec.specs.declared.change.Action.TheVariants.{Put, Add}
 use Rattle.serial_exec.specs.declared.change.Change.{Change}
-use Rattle.serial_exec.specs.declared.change.PlaceKey.{PlaceKey}
 use Rattle.serial_exec.specs.declared.histories.Histories.{Histories}
 use Rattle.serial_exec.specs.declared.marks.Mark.{Mark}
 use Rattle.serial_exec.specs.declared.marks.Marks.{Marks}
 use Rattle.serial_exec.specs.Changes.{AreFirst}
-use Rattle.serial_exec.specs.Histories.{key_of, same_key, changes_at}
+use Rattle.serial_exec.specs.Histories.{changes_at}
 use Rattle.serial_exec.specs.Summed.{all_added}
 
 -- The mark of an action at a position, if it adds.
@@ -57,12 +57,12 @@ pub record AreMarksUntil (end : ℕ) (marks : List Mark) (cs : List Change) : Ty
 
 -- The marks at a place.
 abbrev pub marks_at : Marks → Place → List Mark
-marks_at m p = option_map_or (λ v. v.items) (get same_key m.lists (key_of p)) []
+marks_at m p = option_map_or (λ v. v.items) (get same_place m.lists p) []
 
--- At a place of this key there are now the marks of these changes, if there were none. Elsewhere nothing is new.
-pub record AreNoted (key : PlaceKey) (cs : List Change) (p : Place) (old new : List Mark) : Type 0 where
-  pub here : same_key key (key_of p) ≡ true → old ≡ [] → AreMarksOf new cs
-  pub other : same_key key (key_of p) ≡ false → new ≡ old
+-- At this place there are now the marks of these changes, if there were none. Elsewhere nothing is new.
+pub record AreNoted (here : Place) (cs : List Change) (p : Place) (old new : List Mark) : Type 0 where
+  pub same : same_place here p ≡ true → old ≡ [] → AreMarksOf new cs
+  pub other : same_place here p ≡ false → new ≡ old
 
 -- At each place there are the marks of the changes there.
 abbrev pub AreMarked : Marks → Histories → Type 0

@@ -23,14 +23,6 @@ pub(crate) struct Change {
     pub action: Action,
 }
 
-/// A place, as a key.
-#[derive(Clone, Copy, PartialEq, Eq, Hash)]
-pub(crate) struct PlaceKey {
-    pub tree: u32,
-    pub point: u64,
-    pub field: u32,
-}
-
 /// What a task does to a value by a requirement, or `None` where it leaves the value.
 pub(crate) fn task_action(task: u32, number: u32, access: Priv) -> Option<Action>
     ensures { result ≡ says.task_action task number access }

@@ -3,21 +3,23 @@
 ghost use Rattle.std.specs.Prelude.{◌≡◌, ◌++◌, ◌∷◌, [], OnOk, if◌then◌else◌};
 ghost use Rattle.std.specs.List.Sorted.{IsStrictlyIncreasing};
 ghost use Rattle.semantics.specs.declared.places.Place.{Place};
+ghost use Rattle.semantics.specs.Points.{same_place};
 ghost use Rattle.serial_exec.specs.Changes.{Adds, covered};
 ghost use Rattle.point_laws.specs.Cut.{kept};
 ghost use Rattle.listed_points.specs.Listed.{listed_of, IsAscending};
-ghost use Rattle.serial_exec.specs.Histories.{same_key, changes_at, key_of};
+ghost use Rattle.serial_exec.specs.Histories.{changes_at};
 
-use crate::change::{Change, PlaceKey};
+use crate::change::Change;
 use listed_points::{listed_after, next_listed};
 use point_set::PointSet;
+use semantics::Place;
 use std::alloc::{AllocError, Global};
 use std::collections::HashMap;
 
 /// For each place the changes of its value, in the order in which they were noted.
 #[derive(Drop)]
 pub(crate) struct Histories {
-    pub(crate) lists: HashMap<PlaceKey, Vec<Change>>,
+    pub(crate) lists: HashMap<Place, Vec<Change>>,
 }
 
 impl Histories {
@@ -31,17 +33,17 @@ impl Histories {
     }
 
     /// One change more at a place.
-    fn note(&mut self, alloc: Global, key: PlaceKey, change: Change) -> Result<(), AllocError>
+    fn note(&mut self, alloc: Global, place: Place, change: Change) -> Result<(), AllocError>
         ensures { OnOk result ((p : Place) → changes_at self.new p
-            ≡ changes_at self.old p ++ (if same_key key (key_of p) then change ∷ [] else [])) }
+            ≡ changes_at self.old p ++ (if same_place place p then change ∷ [] else [])) }
     {
-        if let Some(list) = self.lists.get_mut(&key) {
+        if let Some(list) = self.lists.get_mut(&place) {
             list.push(change)?;
             return Ok(());
         }
         let mut list = Vec::with_capacity(alloc, 1)?;
         list.push(change)?;
-        self.lists.insert(key, list)?;
+        self.lists.insert(place, list)?;
         Ok(())
     }
 
@@ -59,12 +61,12 @@ impl Histories {
             (changes_at self.old) (changes_at self.new)) }
     {
         for field in fields {
-            let key = PlaceKey {
+            let place = Place {
                 tree,
                 point,
                 field: *field,
             };
-            self.note(alloc, key, change)?;
+            self.note(alloc, place, change)?;
         }
         Ok(())
     }

@@ -8,8 +8,9 @@ ghost use Rattle.serial_exec.specs.declared.marks.Mark.{Mark};
 ghost use Rattle.serial_exec.specs.Marks as says;
 ghost use Rattle.serial_exec.specs.Marks.{marks_by, marks_from, count_before, AreSorted, AreMarksOf, marks_at, AreNoted, AreMarked};
 
-use crate::change::{Action, Change, PlaceKey};
+use crate::change::{Action, Change};
 use crate::histories::Histories;
+use semantics::Place;
 use std::alloc::{AllocError, Global};
 use std::collections::HashMap;
 use value_terms::Contribution;
@@ -98,18 +99,18 @@ pub(crate) fn marks_until(marks: &[Mark], c: Contribution, position: usize) -> u
 /// For each place the sorted marks of the changes there.
 #[derive(Drop)]
 pub(crate) struct Marks {
-    pub(crate) lists: HashMap<PlaceKey, Vec<Mark>>,
+    pub(crate) lists: HashMap<Place, Vec<Mark>>,
 }
 
 impl Marks {
     /// Notes the marks of the changes at a place, if there are any.
-    fn note(&mut self, alloc: Global, key: PlaceKey, changes: &[Change]) -> Result<(), AllocError>
+    fn note(&mut self, alloc: Global, place: Place, changes: &[Change]) -> Result<(), AllocError>
         ensures { OnOk result ((p : Place)
-            → AreNoted key changes.now p (marks_at self.old p) (marks_at self.new p)) }
+            → AreNoted place changes.now p (marks_at self.old p) (marks_at self.new p)) }
     {
         let marks = marks_of(alloc, changes)?;
         if !marks.is_empty() {
-            self.lists.insert(key, marks)?;
+            self.lists.insert(place, marks)?;
         }
         Ok(())
     }
@@ -121,8 +122,8 @@ impl Marks {
         let mut marks = Marks {
             lists: HashMap::new(alloc),
         };
-        for (key, changes) in histories.lists.iter() {
-            marks.note(alloc, *key, changes.as_slice())?;
+        for (place, changes) in histories.lists.iter() {
+            marks.note(alloc, *place, changes.as_slice())?;
         }
         Ok(marks)
     }

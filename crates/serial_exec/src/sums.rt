@@ -8,7 +8,7 @@ ghost use Rattle.serial_exec.specs.Changes.{after_changes, acted_by, AreLast, Is
 
 use crate::change::{Action, Change};
 use std::alloc::Global;
-use value_terms::{Base, Memory, Value, weights_add_up};
+use value_terms::{Base, Memory, Value};
 
 /// What was put last, and the changes since, each of which adds.
 pub(crate) fn latest(changes: &[Change]) -> (Base, &[Change])
@@ -27,12 +27,12 @@ pub(crate) fn latest(changes: &[Change]) -> (Base, &[Change])
 }
 
 /// What a change makes of a value.
+#[tactic(auto, using(value_terms::proofs::lemmas::Sums::weight_added))]
 fn apply(alloc: Global, value: Value, change: Change) -> Result<Value, Memory>
     requires { weight_of value < 2 ^ 64 - 1 }
     ensures value { IfOk result (λ v. v ≡ acted_by change.action value) }
     ensures weight { IfOk result (λ v. weight_of v ≤ weight_of value + 1) }
 {
-    weights_add_up();
     match change.action {
         Action::Put(base) => Ok(Value::of(alloc, base)),
         Action::Add { op, by } => {

@@ -13,13 +13,12 @@ ghost use Rattle.serial_exec.specs.Kept.{AreVersionsOf, changes_before, changes_
 ghost use Rattle.serial_exec.specs.Marks.{AreMarksOf};
 
 use crate::agreeing::is_sum;
-use crate::change::{Change, PlaceKey};
+use crate::change::Change;
 use crate::gathering::histories_of;
 use crate::histories::Histories;
 use crate::marks::{Mark, Marks};
 use crate::sums::{latest, sum_of};
 use logs::Log;
-use point_laws::cut_tables_keep_points;
 use point_set::PointSet;
 use semantics::Place;
 use std::alloc::Global;
@@ -79,6 +78,7 @@ impl Versions {
     }
 
     /// The versions at the listed points: there they say what the whole log wants, and elsewhere what the tables want that are cut to these points.
+    #[tactic(auto, using(point_laws::proofs::lemmas::Cuts::wanted_cut))]
     pub fn build_on<'a, P: PointSet + Copy>(
         alloc: Global,
         log: &Log<'a, P>,
@@ -89,7 +89,6 @@ impl Versions {
         ensures listed { IfOk result (λ v. (item : ℕ) (p : Place) → item < length log.now.items
             → is_in points.now p.point ≡ true → value_at v item p ≡ wanted log.now item p) }
     {
-        cut_tables_keep_points();
         Versions::of(alloc, log, Some(points))
     }
 
@@ -104,7 +103,7 @@ impl Versions {
     fn changes_at(&self, place: &Place) -> &[Change]
         ensures { result.now ≡ changes_in self.now place.now }
     {
-        match self.histories.lists.get(&key_of(place)) {
+        match self.histories.lists.get(place) {
             Some(list) => list.as_slice(),
             None => &[],
         }
@@ -123,7 +122,7 @@ impl Versions {
     fn marks_at(&self, place: &Place) -> &[Mark]
         ensures { AreMarksOf result.now (changes_in self.now place.now) }
     {
-        match self.marks.lists.get(&key_of(place)) {
+        match self.marks.lists.get(place) {
             Some(list) => list.as_slice(),
             None => &[],
         }
@@ -146,17 +145,6 @@ impl Versions {
         let changes = self.changes_before(item, place);
         let (base, added) = latest(changes);
         is_sum(v, base, added, self.marks_at(place), changes.len())
-    }
-}
-
-/// A place as a key.
-fn key_of(place: &Place) -> PlaceKey
-    ensures { result ≡ says.key_of place.now }
-{
-    PlaceKey {
-        tree: place.tree,
-        point: place.point,
-        field: place.field,
     }
 }
 

@@ -1,5 +1,5 @@
--- Maps from cells, and the entries of a table of keys.
-use Rattle.std.proofs.Common.{◌≡◌, ℕ, ◌&&◌, nat_eq, true, cond, is_some, List, [], ◌∷◌, Option, Some, None, refl, sym, ap, ap₂, ◌∙◌, inl, inr}
+-- Maps from cells, and the entries of a table of cells.
+use Rattle.std.proofs.Common.{◌≡◌, ℕ, Bool, ◌&&◌, nat_eq, true, cond, is_some, List, [], ◌∷◌, Option, Some, None, refl, sym, ap, ap₂, ◌∙◌, inl, inr}
 use Rattle.std.specs.Ordering.{nat_cmp, is_eq, ordering_then}
 use Rattle.std.specs.Prelude.{IsSome}
 use Rattle.std.specs.declared.cmp.Ordering.{Ordering}
@@ -13,13 +13,11 @@ use Rattle.std.specs.BTreeMap.{is_at}
 use Rattle.std.specs.Map.{lookup, set_value}
 use Rattle.value_terms.specs.Values.{Value}
 use Rattle.semantics.specs.declared.places.Cell.{Cell}
-use Rattle.inst_steps.specs.declared.store.Key.{Key}
 use Rattle.std.specs.Prelude.{unwrap_or}
 use Rattle.std.proofs.lemmas.Map.Steps.{set_value_same}
 use Rattle.value_terms.specs.declared.terms.Base.TheVariants.{Raw}
 use Rattle.value_terms.specs.Values.{plain}
 use Rattle.inst_steps.specs.Stores.{cell_cmp, Contents, value_in}
-use Rattle.inst_steps.specs.Keys.{seen, same_key, key_at, cell_at}
 
 -- Cells that compare alike are one.
 pub exact_cells : CmpEqualImpliesEq cell_cmp
@@ -42,55 +40,50 @@ numbers_tie a b = elim (cases_Bool (nat_eq a b)) [
   ]
 ]
 
-cells_tie : (c : Cell) (k : Key) → is_at (cell_cmp c) (cell_at k) ≡ same_key (key_at c) k
-cells_tie c k =
-    sym (tied_then (nat_cmp c.inst k.inst) (ordering_then (nat_cmp c.point k.point) (nat_cmp c.field k.field)))
-    ∙ ap₂ (λ a b. a && b) (numbers_tie c.inst k.inst) (sym (tied_then (nat_cmp c.point k.point) (nat_cmp c.field k.field)) ∙ ap₂ (λ a b. a && b) (numbers_tie c.point k.point) (numbers_tie c.field k.field))
+-- Whether two cells are one, as a table of cells tells.
+abbrev pub same : Cell → Cell → Bool
+same a b = nat_eq a.inst b.inst && (nat_eq a.point b.point && nat_eq a.field b.field)
 
--- What the entries of a table have at a cell.
-abbrev pub held_at : List (Key × Value) → Cell → Option Value
-held_at es c = lookup (same_key (key_at c)) es
+cells_tie : (c q : Cell) → is_at (cell_cmp c) q ≡ same c q
+cells_tie c q =
+    sym (tied_then (nat_cmp c.inst q.inst) (ordering_then (nat_cmp c.point q.point) (nat_cmp c.field q.field)))
+    ∙ ap₂ (λ a b. a && b) (numbers_tie c.inst q.inst) (sym (tied_then (nat_cmp c.point q.point) (nat_cmp c.field q.field)) ∙ ap₂ (λ a b. a && b) (numbers_tie c.point q.point) (numbers_tie c.field q.field))
 
-find_seen : (es : List (Key × Value)) (c : Cell) → find cell_cmp c (seen es) ≡ held_at es c
-find_seen [] c = refl
-find_seen (e ∷ es) c = ap₂ (λ b o. cond b (Some e.1) o) (cells_tie c e.0) (find_seen es c)
+-- The map that the entries of a table make.
+abbrev pub map_of : List (Cell × Value) → Contents
+map_of es = from_entries {R = cell_cmp} es
 
-pub get_seen : (es : List (Key × Value)) (c : Cell) → get (from_entries {R = cell_cmp} (seen es)) c ≡ held_at es c
-get_seen es c = get-from_entries cells_total (seen es) c ∙ find_seen es c
+find_same : (es : List (Cell × Value)) (c : Cell) → find cell_cmp c es ≡ lookup (same c) es
+find_same [] c = refl
+find_same (e ∷ es) c = ap₂ (λ b o. cond b (Some e.1) o) (cells_tie c e.0) (find_same es c)
 
--- Entries that differ at one cell make maps that differ there.
-pub one_put : (es fs : List (Key × Value)) (c : Cell) (v : Value) → ((q : Cell) → held_at fs q ≡ cond (same_key (key_at c) (key_at q)) (Some v) (held_at es q))
-    → from_entries {R = cell_cmp} (seen fs) ≡ insert (from_entries (seen es)) c v
-one_put es fs c v h = same_map cells_total exact_cells _ _ (λ q.
-    get_seen fs q ∙ h q ∙ ap (λ b. cond b (Some v) (held_at es q)) (sym (cells_tie c (key_at q)) ∙ (eq_by_cmp_equiv cells_total).symm c q)
-    ∙ sym (get-insert cells_total (from_entries (seen es)) c v q ∙ ap (cond (is_at (cell_cmp q) c) (Some v)) (get_seen es q)))
+get_same : (es : List (Cell × Value)) (c : Cell) → get (map_of es) c ≡ lookup (same c) es
+get_same es c = get-from_entries cells_total es c ∙ find_same es c
 
 -- What a map has, after one value is put into it.
-pub get_put : (m : Contents) (c : Cell) (v : Value) (q : Cell) → get (insert m c v) q ≡ cond (same_key (key_at q) (key_at c)) (Some v) (get m q)
-get_put m c v q = get-insert cells_total m c v q ∙ ap (λ b. cond b (Some v) (get m q)) (cells_tie q (key_at c))
+pub get_put : (m : Contents) (c : Cell) (v : Value) (q : Cell) → get (insert m c v) q ≡ cond (same q c) (Some v) (get m q)
+get_put m c v q = get-insert cells_total m c v q ∙ ap (λ b. cond b (Some v) (get m q)) (cells_tie q c)
 
--- ---- a table of keys, and the map that it is seen as
+-- A table, and the map that it is seen as.
+module _ (es : List (Cell × Value)) (m : Contents) (c : Cell) (view : map_of es ≡ m) where
+  pub got : lookup (same c) es ≡ get m c
+  got = sym (get_same es c) ∙ ap (λ m. get m c) view
 
-abbrev pub map_of : List (Key × Value) → Contents
-map_of es = from_entries {R = cell_cmp} (seen es)
-
-module _ (es : List (Key × Value)) (m : Contents) (c : Cell) (k : Key) (view : map_of es ≡ m) (key : k ≡ key_at c) where
-  pub got : lookup (same_key k) es ≡ get m c
-  got = ap (λ k. lookup (same_key k) es) key ∙ sym (get_seen es c) ∙ ap (λ m. get m c) view
-
-  pub is_there : contains_key m c ≡ true → IsSome (lookup (same_key k) es)
+  pub is_there : contains_key m c ≡ true → IsSome (lookup (same c) es)
   is_there there = ap is_some got ∙ there
 
-  pub not_missing : {X : Type 0} → lookup (same_key k) es ≡ None → contains_key m c ≡ true → X
+  pub not_missing : {X : Type 0} → lookup (same c) es ≡ None → contains_key m c ≡ true → X
   not_missing none there = absurd (false≢true (ap is_some (sym none ∙ got) ∙ there))
 
-  pub value_there : (v : Value) → Some v ≡ lookup (same_key k) es → value_in m c ≡ v
+  pub value_there : (v : Value) → Some v ≡ lookup (same c) es → value_in m c ≡ v
   value_there v is = ap (λ o. unwrap_or o (plain Raw)) (sym (is ∙ got))
 
-  -- Entries that differ at one key make the map in which one value is put.
-  pub put_at : (fs : List (Key × Value)) (v : Value) → ((q : Key) → lookup (same_key q) fs ≡ cond (same_key k q) (Some v) (lookup (same_key q) es)) → map_of fs ≡ insert m c v
-  put_at fs v h = one_put es fs c v (λ q. h (key_at q) ∙ ap (λ k. cond (same_key k (key_at q)) (Some v) (held_at es q)) key) ∙ ap (λ m. insert m c v) view
+  -- Entries that differ at one cell make the map in which one value is put.
+  pub put_at : (fs : List (Cell × Value)) (v : Value) → ((q : Cell) → lookup (same q) fs ≡ cond (same c q) (Some v) (lookup (same q) es)) → map_of fs ≡ insert m c v
+  put_at fs v h = same_map cells_total exact_cells _ _ (λ q.
+      get_same fs q ∙ h q ∙ ap (λ b. cond b (Some v) (lookup (same q) es)) (sym (cells_tie c q) ∙ (eq_by_cmp_equiv cells_total).symm c q)
+      ∙ sym (get-insert cells_total m c v q ∙ ap (cond (is_at (cell_cmp q) c) (Some v)) (ap (λ m. get m q) (sym view) ∙ get_same es q)))
 
   -- A value written over itself.
-  pub same_written : (fs : List (Key × Value)) (v : Value) → Some v ≡ lookup (same_key k) es → fs ≡ set_value (same_key k) es v → map_of fs ≡ m
-  same_written fs v is written = ap map_of (written ∙ set_value_same (same_key k) es v (sym is)) ∙ view
+  pub same_written : (fs : List (Cell × Value)) (v : Value) → Some v ≡ lookup (same c) es → fs ≡ set_value (same c) es v → map_of fs ≡ m
+  same_written fs v is written = ap map_of (written ∙ set_value_same (same c) es v (sym is)) ∙ view

@@ -1,8 +1,9 @@
 use Rattle.std.proofs.Common.{◌+◌, ◌<◌, ◌&&◌, List, length, get_or, ap, subst, ◌∙◌}
 use Rattle.semantics.specs.declared.tables.Req.{Req}
+use Rattle.semantics.specs.Kinds.{covers}
 use Rattle.semantics.specs.Rules.{reduces}
 use Rattle.log_rules.specs.Counts.{cut}
-use Rattle.log_rules.specs.Loads.{load_in, one, covers_place}
+use Rattle.log_rules.specs.Loads.{load_in, one}
 use Rattle.log_rules.proofs.Loading.{load-req}
 use Rattle.log_rules.proofs.load.Loads.of.Goals as goal
 
@@ -15,4 +16,4 @@ loop-req-preserved g c = λ k.
     let P : List Req → Type 0 = λ xs. i < length xs in
     let is = c.req-item.is ∙ ap (λ (xs : List Req). get_or xs i item) c.reqs-req-items.ensures.reqs in
     load-req t k t.reqs i item mid (load_in c.add_req.new.self k) (subst P c.reqs-req-items.ensures.reqs c.loop-req-test.true) (c.loop-req.invariant k)
-    (c.in_ok-add_req.ensures k ∙ ap (λ (q : Req). cut (mid + one (reduces q.access && covers_place t k q))) is)
+    (c.in_ok-add_req.ensures k ∙ ap (λ (q : Req). cut (mid + one (reduces q.access && covers t k q))) is)
