@@ -1,10 +1,11 @@
 -- The cells that the steps of a log without a fault touch are cells of instances.
 use Rattle.std.proofs.Common.{◌≡◌, ℕ, ◌==◌, ◌&&◌, ◌||◌, cond, inl, inr, Bool, true, false, not, is_some, List, [], ◌∷◌, ◌++◌, map, filter, flat_map, find, Option, Some, None, option_map, refl, sym, ap, ap₂, ◌∙◌, subst, slice_get, Contains}
 use Rattle.std.specs.Prelude.{IfSome}
-use Rattle.std.specs.List.{list_all}
+use Rattle.std.specs.List.{list_all, list_any}
 use Rattle.std.specs.Option.{option_map_or}
 use Rattle.std.proofs.lemmas.Bool.{not-false, false≢true, true≢false, or_parts, eqb-true, and_parts}
 use Rattle.std.proofs.lemmas.List.Elements.{recursion_from_All}
+use Rattle.std.proofs.lemmas.Option.{same_Some}
 use Rattle.privilege.specs.declared.kinds.Priv.{Priv}
 use Rattle.privilege.specs.declared.kinds.Priv.TheVariants as privileges
 use Rattle.spy_grammar.specs.declared.code.Code.TheVariants as codes
@@ -19,6 +20,7 @@ use Rattle.semantics.specs.declared.tables.Map.{Map}
 use Rattle.semantics.specs.declared.tables.LogNode.{LogNode}
 use Rattle.semantics.specs.declared.tables.Op.{Op}
 use Rattle.semantics.specs.declared.tables.Op.TheVariants as operations
+use Rattle.semantics.specs.DataOps.{DataAct, Copies, Puts, Resets, Folds, DataOp, insts_of, data_of}
 use Rattle.semantics.specs.Records.{records_of}
 use Rattle.semantics.specs.Tables.{Tables, Space, place_of, with_record, no_tables, tables_of}
 use Rattle.semantics.specs.Points.{is_in, is_within, points_in}
@@ -30,7 +32,7 @@ use Rattle.semantics.specs.Rules.{is_declared, names, space_id, lacks, is_not_co
 use Rattle.semantics.specs.declared.command.Command.TheVariants.{Check}
 use Rattle.semantics.specs.Faults.{unmapped_fault}
 use Rattle.logs.specs.Faultless.{AreDeclared}
-use Rattle.log_laws.proofs.lemmas.Members.{Member, Each, each_more, member_of, member_at, member_flat, member_map, member_append, member_filter, all_at, is_in_of, member_in, found_at, find_any, find_still, none_or_some, only, filter_member}
+use Rattle.log_laws.proofs.lemmas.Members.{Member, Each, each_more, member_right, none_at, member_of, member_at, member_flat, member_map, member_append, member_filter, all_at, is_in_of, member_in, found_at, find_any, find_still, none_or_some, only, filter_member}
 use Rattle.log_laws.proofs.lemmas.Apart.{member_grid}
 use Rattle.log_laws.proofs.lemmas.Sane.{two_reqs}
 use Rattle.log_laws.proofs.lemmas.Admitted.{Unbroken, rule_kept, by_records, no_broken_rule, IsFaultless, sane, all_mapped}
@@ -96,12 +98,7 @@ abbrev Mapped : Tables → Map → Type 0
 Mapped t m = (r : Req) × (req_at t m.item m.number ≡ Some r) × Within t.spaces t.insts r.space m.fields m.inst
 
 abbrev OpWithin : List Space → List Inst → Op → Type 0
-OpWithin ss is (operations.Copy src dst space fields) = Within ss is space fields src × Within ss is space fields dst
-OpWithin ss is (operations.Put inst space fields n) = Within ss is space fields inst
-OpWithin ss is (operations.Reset inst space fields) = Within ss is space fields inst
-OpWithin ss is (operations.Fold src dst space fields) = Within ss is space fields src × Within ss is space fields dst
-OpWithin ss is (operations.Run item) = Unit {0}
-OpWithin ss is operations.Merge = Unit {0}
+OpWithin ss is op = (d : DataOp) → data_of op ≡ Some d → Each (Within ss is d.space d.fields) (insts_of d.act)
 
 record Covers (t : Tables) : Type 0 where
   insts : Each (λ (i : Inst). Spaced t i.space) t.insts
@@ -109,13 +106,8 @@ record Covers (t : Tables) : Type 0 where
   maps : Each (Mapped t) t.maps
   nodes : Each (λ (n : LogNode). OpWithin t.spaces t.insts n.op) t.nodes
 
-more_op : (ss tt : List Space) (is js : List Inst) → ((space : ℕ) (fields : List ℕ) (id : ℕ) → Within ss is space fields id → Within tt js space fields id) → (op : Op) → OpWithin ss is op → OpWithin tt js op
-more_op ss us is js more (operations.Run item) w = tt
-more_op ss us is js more (operations.Copy src dst space fields) w = (more space fields src w.0, more space fields dst w.1)
-more_op ss us is js more (operations.Put inst space fields n) w = more space fields inst w
-more_op ss us is js more (operations.Reset inst space fields) w = more space fields inst w
-more_op ss us is js more (operations.Fold src dst space fields) w = (more space fields src w.0, more space fields dst w.1)
-more_op ss us is js more operations.Merge w = tt
+more_op : (ss us : List Space) (is js : List Inst) → ((space : ℕ) (fields : List ℕ) (id : ℕ) → Within ss is space fields id → Within us js space fields id) → (op : Op) → OpWithin ss is op → OpWithin us js op
+more_op ss us is js more op w d e id m = more d.space d.fields id (w d e id m)
 
 spaced : (t : Tables) (id : ℕ) → is_declared t (space_id id) ≡ true → Spaced t id
 spaced t id e = find_any (λ (s : Space). s.id == id) t.spaces e
@@ -163,16 +155,13 @@ record Ruled (t : Tables) (r : Record) : Type 0 where
 node_more : (t : Tables) (n : LogNode) → Covers t → OpWithin t.spaces t.insts n.op → Covers (record t { nodes = t.nodes ++ n ∷ [] })
 node_more t n h w = record { insts = h.insts; reqs = h.reqs; maps = h.maps; nodes = each_more (λ (n : LogNode). OpWithin t.spaces t.insts n.op) t.nodes n h.nodes w }
 
-both_within : (t : Tables) → Covers t → (space : ℕ) (fields : List ℕ) (src dst : ℕ) → list_all (is_declared t) (rules.inst_id src ∷ rules.inst_id dst ∷ space_id space ∷ []) ≡ true
-    → (lacks t (points_in t space) fields src || lacks t (points_in t space) fields dst) ≡ false → Within t.spaces t.insts space fields src × Within t.spaces t.insts space fields dst
-both_within t h space fields src dst known none =
-    let declared = spaced t space (all_at (is_declared t) (rules.inst_id src ∷ rules.inst_id dst ∷ space_id space ∷ []) (space_id space) known (inr (inr (inl refl)))) in
-    let parts = or_parts (lacks t (points_in t space) fields src) (lacks t (points_in t space) fields dst) none in
-    (within t h space fields src declared parts.0, within t h space fields dst declared parts.1)
-
-one_within : (t : Tables) → Covers t → (space : ℕ) (fields : List ℕ) (inst : ℕ) → list_all (is_declared t) (rules.inst_id inst ∷ space_id space ∷ []) ≡ true
-    → lacks t (points_in t space) fields inst ≡ false → Within t.spaces t.insts space fields inst
-one_within t h space fields inst known none = within t h space fields inst (spaced t space (all_at (is_declared t) (rules.inst_id inst ∷ space_id space ∷ []) (space_id space) known (inr (inl refl)))) none
+op_within : (t : Tables) → Covers t → (act : DataAct) (space : ℕ) (fields : List ℕ) → list_all (is_declared t) (map (λ id. rules.inst_id id) (insts_of act) ++ space_id space ∷ []) ≡ true
+    → list_any (lacks t (points_in t space) fields) (insts_of act) ≡ false → (d : DataOp) → Some (let x : DataOp = record { act = act; space = space; fields = fields } in x) ≡ Some d → Each (Within t.spaces t.insts d.space d.fields) (insts_of d.act)
+op_within t h act space fields known none d e =
+    let insts = map (λ id. rules.inst_id id) (insts_of act) in
+    let declared = spaced t space (all_at (is_declared t) (insts ++ space_id space ∷ []) (space_id space) known (member_right insts (space_id space ∷ []) (space_id space) (inl refl))) in
+    subst (λ (d : DataOp). Each (Within t.spaces t.insts d.space d.fields) (insts_of d.act)) (same_Some _ d e)
+    (λ id m. within t h space fields id declared (none_at (lacks t (points_in t space) fields) (insts_of act) id none m))
 
 more_covers : (t : Tables) (line : ℕ) (r : Record) → Ruled t r → Covers t → Covers (with_record t line r)
 more_covers t line (records.Ispace id set) k h = record {
@@ -199,12 +188,12 @@ more_covers t line (records.Map task number fields inst) k h = record {
   maps = each_more (Mapped t) t.maps _ h.maps (named_there t h (place_of t.items task) number fields inst k.named k.covered);
   nodes = h.nodes;
 }
-more_covers t line (records.Copy src dst space fields done waits) k h = node_more t _ h (both_within t h space fields src dst k.declared k.covered)
-more_covers t line (records.Put inst space fields n done waits) k h = node_more t _ h (one_within t h space fields inst k.declared k.covered)
-more_covers t line (records.Reset inst space fields done waits) k h = node_more t _ h (one_within t h space fields inst k.declared k.covered)
-more_covers t line (records.Fold src dst space fields done waits) k h = node_more t _ h (both_within t h space fields src dst k.declared k.covered)
-more_covers t line (records.Run task done waits) k h = node_more t _ h tt
-more_covers t line (records.Merge done waits) k h = node_more t _ h tt
+more_covers t line (records.Copy src dst space fields done waits) k h = node_more t _ h (op_within t h (Copies src dst) space fields k.declared k.covered)
+more_covers t line (records.Put inst space fields n done waits) k h = node_more t _ h (op_within t h (Puts inst n) space fields k.declared k.covered)
+more_covers t line (records.Reset inst space fields done waits) k h = node_more t _ h (op_within t h (Resets inst) space fields k.declared k.covered)
+more_covers t line (records.Fold src dst space fields done waits) k h = node_more t _ h (op_within t h (Folds src dst) space fields k.declared k.covered)
+more_covers t line (records.Run task done waits) k h = node_more t _ h (λ d e. absurd cc)
+more_covers t line (records.Merge done waits) k h = node_more t _ h (λ d e. absurd cc)
 more_covers t line _ k h = record { insts = h.insts; reqs = h.reqs; maps = h.maps; nodes = h.nodes }
 
 nothing_covered : Covers no_tables
@@ -290,10 +279,10 @@ module _ (log : List Lined) (f : IsFaultless Check log) (listed : Option (List �
         | inl a ↦ let r = member_map reads (reqs_of t item) (Some p) a in read_held task r.0 (own r.0 r.1) r.0.access refl p (sym r.2)
         | inr b ↦ let r = member_map changes (reqs_of t item) (Some p) b in change_held task r.0 (own r.0 r.1) r.0.access refl p (sym r.2)
       ]
-  pass_held (operations.Copy src dst space fields) w p m = only_held p (pass (acts.Copy src dst) space fields) (λ q point field. (held (tables_of log) listed space fields src w.0 q point field, held (tables_of log) listed space fields dst w.1 q point field)) m
-  pass_held (operations.Put inst space fields n) w p m = only_held p (pass (acts.Put inst n) space fields) (held (tables_of log) listed space fields inst w) m
-  pass_held (operations.Reset inst space fields) w p m = only_held p (pass (acts.Reset inst) space fields) (held (tables_of log) listed space fields inst w) m
-  pass_held (operations.Fold src dst space fields) w p m = only_held p (pass (acts.Fold (operator_of (tables_of log) src) src dst) space fields) (λ q point field. (held (tables_of log) listed space fields src w.0 q point field, held (tables_of log) listed space fields dst w.1 q point field)) m
+  pass_held (operations.Copy src dst space fields) w p m = only_held p (pass (acts.Copy src dst) space fields) (λ q point field. (held (tables_of log) listed space fields src (w _ refl src (inl refl)) q point field, held (tables_of log) listed space fields dst (w _ refl dst (inr (inl refl))) q point field)) m
+  pass_held (operations.Put inst space fields n) w p m = only_held p (pass (acts.Put inst n) space fields) (held (tables_of log) listed space fields inst (w _ refl inst (inl refl))) m
+  pass_held (operations.Reset inst space fields) w p m = only_held p (pass (acts.Reset inst) space fields) (held (tables_of log) listed space fields inst (w _ refl inst (inl refl))) m
+  pass_held (operations.Fold src dst space fields) w p m = only_held p (pass (acts.Fold (operator_of (tables_of log) src) src dst) space fields) (λ q point field. (held (tables_of log) listed space fields src (w _ refl src (inl refl)) q point field, held (tables_of log) listed space fields dst (w _ refl dst (inr (inl refl))) q point field)) m
   pass_held operations.Merge w p m = absurd m
 
   one_held : (op : Op) → OpWithin (tables_of log).spaces (tables_of log).insts op → (o : Option Pass) → Member (passes_of (tables_of log) op) o → (step : Move) → Member (moves_of_pass (cut_to listed (tables_of log)) o) step → AreOfInsts (cut_to listed (tables_of log)) step

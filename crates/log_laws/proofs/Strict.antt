@@ -1,5 +1,6 @@
 -- In the tables of an admitted log no space has a point twice, no requirement or operation a field twice, and no two nodes have one event.
 use Rattle.std.proofs.Common.{◌≡◌, ◌≢◌, refl, ap, ℕ, inl, inr, false, ◌==◌, List, [], ◌∷◌, ◌++◌, sym, ◌∙◌, subst, find, true≢false, eq-eqb}
+use Rattle.std.specs.Prelude.{IfSome}
 use Rattle.std.specs.List.{AllByRecursion, list_any}
 use Rattle.std.proofs.lemmas.List.{map-append}
 use Rattle.spy_grammar.specs.declared.code.Code.TheVariants as codes
@@ -10,7 +11,7 @@ use Rattle.spy_grammar.specs.Spelling.{Good}
 use Rattle.semantics.specs.declared.tables.Req.{Req}
 use Rattle.semantics.specs.declared.tables.LogNode.{LogNode}
 use Rattle.semantics.specs.declared.tables.Op.{Op}
-use Rattle.semantics.specs.declared.tables.Op.TheVariants as operations
+use Rattle.semantics.specs.DataOps.{DataOp, data_of}
 use Rattle.semantics.specs.Records.{records_of}
 use Rattle.semantics.specs.Tables.{Tables, Space, with_record, tables_of}
 use Rattle.semantics.specs.Events.{Node, graph_of}
@@ -23,11 +24,7 @@ use Rattle.log_laws.proofs.lemmas.Admitted.{IsFaultless, by_records, rule_kept}
 
 -- An operation has no field twice.
 abbrev pub HasFieldsApart : Op → Type 0
-HasFieldsApart (operations.Copy src dst space fields) = Apart fields
-HasFieldsApart (operations.Put inst space fields n) = Apart fields
-HasFieldsApart (operations.Reset inst space fields) = Apart fields
-HasFieldsApart (operations.Fold src dst space fields) = Apart fields
-HasFieldsApart _ = Unit {0}
+HasFieldsApart op = IfSome (data_of op) (λ (d : DataOp). Apart d.fields)
 
 pub record AreStrict (t : Tables) : Type 0 where
   pub spaces : Each (λ (s : Space). Apart s.points) t.spaces

@@ -19,14 +19,13 @@ use Rattle.semantics.specs.declared.tables.Serial as serials
 use Rattle.semantics.specs.Tables.{Tables, Space, points_of, place_of, privilege_of, coherence_of, reqs_before, with_record}
 use Rattle.semantics.specs.Points.{is_in, points_in}
 use Rattle.semantics.specs.SerialOrder.{listed}
-use Rattle.semantics.specs.Rules.{size_of, accesses, is_declared, space_id, names, names_unknown, lacks_req, has_many_points, has_many_cells, has_many_accesses}
+use Rattle.semantics.specs.Rules.{size_of, asked, accesses, is_declared, space_id, names, names_unknown, lacks_req, has_many_points, has_many_cells, has_many_accesses}
 use Rattle.log_rules.specs.declared.claims.OwnPlace.{OwnPlace}
-use Rattle.log_rules.specs.Counts.{point_total, cell_total, access_total, points_asked, cells_asked, asked, cut}
+use Rattle.log_rules.specs.Counts.{point_total, cell_total, access_total, points_asked, cells_asked, cut}
 use Rattle.log_rules.specs.Listing.{ids_listed}
 use Rattle.log_rules.specs.declared.claims.Claims.{Claims}
 use Rattle.log_rules.specs.Own.{Adds, AreClaims, claims_at, claimed, clashes_in, clashes_at, first_clashes_at, req_clashes_at}
 use Rattle.log_rules.specs.Tallied.{knows_space, AreKnown}
-use Rattle.log_rules.proofs.Limits.{accesses-asked}
 use Rattle.log_rules.proofs.ListTests.{find-none, find-kept, find-last}
 
 -- ---- Spaces that are declared keep their points.
@@ -119,7 +118,7 @@ cell_total-add t line (Ispace id set) known named = let h = cells_grow t (with_r
 cell_total-add t line _ known named = omega arith
 
 accesses-grow : (t u : Tables) (r : Record) → Grows t u → knows_space t r ≡ true → accesses u r ≡ accesses t r
-accesses-grow t u r g known = accesses-asked u r ∙ by (asked r) known ∙ sym (accesses-asked t r)
+accesses-grow t u r g known = by (asked r) known
   where
     by : (o : Option (ℕ × List ℕ)) → option_map_or (λ p. is_declared t (space_id p.0)) o true ≡ true → option_map_or (λ p. size_of u p.0 p.1) o 0 ≡ option_map_or (λ p. size_of t p.0 p.1) o 0
     by None h = refl

@@ -1,14 +1,9 @@
 -- Sums that are counted, and their limits.
 use Rattle.std.proofs.Common.{◌≡◌, ℕ, ◌+◌, ◌-◌, ◌<◌, List, [], ◌∷◌, ◌++◌, min, take, length, get_or, refl, ap, ◌∙◌, arith}
 use Rattle.std.specs.List.{range_with_len}
-use Rattle.std.specs.Option.{option_map_or}
 use Rattle.std.proofs.lemmas.List.{length-append, take_more}
 use Rattle.std.proofs.lemmas.List.FromFn.{length-range_with_len}
-use Rattle.spy_grammar.specs.declared.record.Record.{Record}
-use Rattle.spy_grammar.specs.declared.record.Record.TheVariants.{Req, Fill, Copy, Put, Reset, Fold}
-use Rattle.semantics.specs.Tables.{Tables, points_of}
-use Rattle.semantics.specs.Rules.{size_of, accesses}
-use Rattle.log_rules.specs.Counts.{asked}
+use Rattle.semantics.specs.Tables.{points_of}
 
 pub cut-both : (a b m : ℕ) → min (a + min b m) m ≡ min (a + b) m
 cut-both a b m = omega arith
@@ -27,13 +22,3 @@ points_of-snoc (s ∷ runs) r =
 
 pub points_of_more : (runs : List (ℕ × ℕ)) (i : ℕ) (d : ℕ × ℕ) → i < length runs → length (points_of (take (i + 1) runs)) ≡ length (points_of (take i runs)) + ((get_or runs i d).1 + 1 - (get_or runs i d).0)
 points_of_more runs i d lt = ap (λ (xs : List (ℕ × ℕ)). length (points_of xs)) (take_more runs i d lt) ∙ points_of-snoc (take i runs) (get_or runs i d)
-
--- The accesses of a record by the space and the fields that it names.
-pub accesses-asked : (t : Tables) (r : Record) → accesses t r ≡ option_map_or (λ p. size_of t p.0 p.1) (asked r) 0
-accesses-asked t (Req task tree space fields access atomic) = refl
-accesses-asked t (Fill id tree space fields n) = refl
-accesses-asked t (Copy src dst space fields done waits) = refl
-accesses-asked t (Put inst space fields n done waits) = refl
-accesses-asked t (Reset inst space fields done waits) = refl
-accesses-asked t (Fold src dst space fields done waits) = refl
-accesses-asked t _ = refl

@@ -3,7 +3,7 @@ use Rattle.std.specs.Prelude.{◌≡◌, ℕ, ◌-◌, ◌^◌, min, List, lengt
 use Rattle.std.specs.Borrow.{Bor}
 use Rattle.std.specs.Option.{option_map}
 use Rattle.spy_grammar.specs.declared.record.Record.{Record}
-use Rattle.spy_grammar.specs.declared.record.Record.TheVariants.{Ispace, Inst, Req, Fill, Copy, Put, Reset, Fold}
+use Rattle.spy_grammar.specs.declared.record.Record.TheVariants.{Ispace, Inst}
 use Rattle.semantics.specs.declared.tables.Inst as insts
 use Rattle.semantics.specs.Tables.{Tables, Space, points_of}
 use Rattle.semantics.specs.Rules.{size_of, accesses}
@@ -29,16 +29,6 @@ points_asked _ = 0
 abbrev pub cells_asked : Tables → Record → ℕ
 cells_asked t (Inst id tree space fields kind) = size_of t space fields
 cells_asked t _ = 0
-
--- The space and the fields whose accesses a record asks for.
-abbrev pub asked : Record → Option (ℕ × List ℕ)
-asked (Req task tree space fields access atomic) = Some (space, fields)
-asked (Fill id tree space fields n) = Some (space, fields)
-asked (Copy src dst space fields done waits) = Some (space, fields)
-asked (Put inst space fields n done waits) = Some (space, fields)
-asked (Reset inst space fields done waits) = Some (space, fields)
-asked (Fold src dst space fields done waits) = Some (space, fields)
-asked _ = None
 
 -- The code's answer is this one.
 abbrev pub Asks : Option (ℕ × Bor (List ℕ)) → Option (ℕ × List ℕ) → Type 0

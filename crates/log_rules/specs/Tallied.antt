@@ -9,8 +9,8 @@ use Rattle.semantics.specs.declared.tables.Inst as insts
 use Rattle.semantics.specs.declared.limits.TheConstants.{MOST_ACCESSES}
 use Rattle.semantics.specs.Tables.{Tables}
 use Rattle.semantics.specs.SerialOrder.{listed}
-use Rattle.semantics.specs.Rules.{is_declared, space_id, names_unknown, has_many_points, has_many_cells, has_many_accesses}
-use Rattle.log_rules.specs.Counts.{point_total, cell_total, access_total, asked}
+use Rattle.semantics.specs.Rules.{asked, is_declared, space_id, names_unknown, has_many_points, has_many_cells, has_many_accesses}
+use Rattle.log_rules.specs.Counts.{point_total, cell_total, access_total}
 use Rattle.log_rules.specs.Listing.{IsSetOf}
 use Rattle.log_rules.specs.Own.{AreClaims}
 use Rattle.log_rules.specs.declared.tally.Tally.{Tally}

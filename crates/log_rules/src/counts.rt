@@ -2,8 +2,8 @@
 
 ghost use Rattle.std.specs.Prelude.{◌≡◌, ◌+◌, ◌-◌, ◌<◌, ◌^◌, ℕ, length, nat_lt};
 ghost use Rattle.semantics.specs.Tables.{points_of};
-ghost use Rattle.semantics.specs.Rules.{is_late, size_of, accesses};
-ghost use Rattle.log_rules.specs.Counts.{cut, asked, points_asked, cells_asked, Asks};
+ghost use Rattle.semantics.specs.Rules.{is_late, size_of, asked, accesses};
+ghost use Rattle.log_rules.specs.Counts.{cut, points_asked, cells_asked, Asks};
 
 use log_tables::Draft;
 use point_set::PointSet;

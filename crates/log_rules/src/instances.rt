@@ -194,18 +194,13 @@ fn lacks<P: PointSet>(draft: &Draft<P>, space: u32, fields: &Nums, id: u32) -> b
     }
 }
 
-/// Whether one of two instances lacks a point of a space, or one of these fields.
-fn either_lacks<P: PointSet>(
-    draft: &Draft<P>,
-    space: u32,
-    fields: &Nums,
-    src: u32,
-    dst: u32,
-) -> bool
-    ensures { result ≡ (lacks draft.now (points_in draft.now space) fields.now src
-        || lacks draft.now (points_in draft.now space) fields.now dst) }
+/// Whether one of some instances lacks a point of a space, or one of these fields.
+fn any_lacks<P: PointSet>(draft: &Draft<P>, space: u32, fields: &Nums, insts: &[u32]) -> bool
+    ensures { result ≡ list_any (lacks draft.now (points_in draft.now space) fields.now) insts.now }
 {
-    lacks(draft, space, fields, src) || lacks(draft, space, fields, dst)
+    insts
+        .iter()
+        .any(|inst| lacks(draft, space, fields, *inst))
 }
 
 /// Whether an instance lacks one of these fields.
@@ -269,7 +264,7 @@ pub fn is_not_covered<P: PointSet>(draft: &Draft<P>, rec: &Record) -> bool
             space,
             fields,
             ..
-        } => { either_lacks(draft, *space, fields, *src, *dst) }
+        } => { any_lacks(draft, *space, fields, &[*src, *dst]) }
         Record::Put {
             inst,
             space,
@@ -281,7 +276,7 @@ pub fn is_not_covered<P: PointSet>(draft: &Draft<P>, rec: &Record) -> bool
             space,
             fields,
             ..
-        } => { lacks(draft, *space, fields, *inst) }
+        } => { any_lacks(draft, *space, fields, &[*inst]) }
         _ => false,
     }
 }

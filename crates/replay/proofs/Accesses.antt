@@ -1,5 +1,6 @@
 -- The accesses that a log asks for are few, and so are its requirements' points and fields, and those of its operations.
-use Rattle.std.proofs.Common.{◌≡◌, ℕ, ◌+◌, ◌≤◌, inl, inr, Bool, true, List, [], ◌∷◌, ◌++◌, filter, fold, refl, sym, ap, ◌∙◌, subst, arith, None, append_assoc, sum_by}
+use Rattle.std.proofs.Common.{◌≡◌, ℕ, ◌+◌, ◌≤◌, inl, inr, Bool, true, List, [], ◌∷◌, ◌++◌, filter, fold, refl, sym, ap, ◌∙◌, subst, arith, Option, None, append_assoc, sum_by}
+use Rattle.std.specs.Option.{option_map_or}
 use Rattle.std.proofs.lemmas.Bool.{cases_Bool, true≢false, ltb-false}
 use Rattle.std.proofs.lemmas.List.Sums.{fold-append, sum_by-cons, sum_by_push}
 use Rattle.spy_grammar.specs.declared.code.Code.TheVariants as codes
@@ -10,7 +11,7 @@ use Rattle.spy_grammar.specs.declared.record.Lined.{Lined}
 use Rattle.semantics.specs.declared.tables.Req.{Req}
 use Rattle.semantics.specs.declared.tables.LogNode.{LogNode}
 use Rattle.semantics.specs.declared.tables.Op.{Op}
-use Rattle.semantics.specs.declared.tables.Op.TheVariants as operations
+use Rattle.semantics.specs.DataOps.{DataOp, data_of}
 use Rattle.semantics.specs.Records.{records_of}
 use Rattle.semantics.specs.Tables.{Tables, with_record, no_tables, tables_of}
 use Rattle.semantics.specs.Rules.{size_of, accesses}
@@ -26,14 +27,12 @@ use Rattle.replay.specs.Counts.{reads_in}
 abbrev pub sizes : Tables → List Req → ℕ
 sizes t rs = sum_by (λ (r : Req). size_of t r.space r.fields) rs
 
--- The points and fields of an operation that is no run.
+-- The points and fields of an operation on data.
+abbrev pub data_size : Tables → Option DataOp → ℕ
+data_size t o = option_map_or (λ (d : DataOp). size_of t d.space d.fields) o 0
+
 abbrev pub op_size : Tables → Op → ℕ
-op_size t (operations.Run item) = 0
-op_size t (operations.Copy src dst space fields) = size_of t space fields
-op_size t (operations.Put inst space fields n) = size_of t space fields
-op_size t (operations.Reset inst space fields) = size_of t space fields
-op_size t (operations.Fold src dst space fields) = size_of t space fields
-op_size t operations.Merge = 0
+op_size t op = data_size t (data_of op)
 
 abbrev pub op_sizes : Tables → List LogNode → ℕ
 op_sizes t ns = sum_by (λ (n : LogNode). op_size t n.op) ns

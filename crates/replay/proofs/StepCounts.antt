@@ -1,5 +1,5 @@
 -- The steps of a replay are few.
-use Rattle.std.proofs.Common.{◌≡◌, ◌≢◌, ℕ, suc, ◌+◌, ◌*◌, ◌≤◌, ◌<◌, ◌^◌, ◌==◌, inl, inr, true, false, List, [], ◌∷◌, ◌++◌, map, filter, flat_map, length, slice_get, refl, sym, ap, ◌∙◌, subst, arith, AllPairs, Contains, append-nil, append_assoc, sum_by}
+use Rattle.std.proofs.Common.{◌≡◌, ◌≢◌, ℕ, suc, ◌+◌, ◌*◌, ◌≤◌, ◌<◌, ◌^◌, ◌==◌, inl, inr, true, false, List, [], ◌∷◌, ◌++◌, map, filter, flat_map, length, slice_get, refl, sym, ap, ◌∙◌, subst, arith, AllPairs, Contains, append-nil, append_assoc, sum_by, Option, Some, None}
 use Rattle.std.specs.List.{range_with_len}
 use Rattle.std.specs.Option.{option_map_or}
 use Rattle.std.proofs.lemmas.Bool.{eqb-true, eq-eqb, true≢false}
@@ -18,12 +18,13 @@ use Rattle.semantics.specs.declared.tables.Req.{Req}
 use Rattle.semantics.specs.declared.tables.LogNode.{LogNode}
 use Rattle.semantics.specs.declared.tables.Op.{Op}
 use Rattle.semantics.specs.declared.tables.Op.TheVariants as operations
+use Rattle.semantics.specs.DataOps.{DataOp, data_of}
 use Rattle.semantics.specs.declared.command.Command.TheVariants.{Deps}
 use Rattle.semantics.specs.Records.{records_of}
 use Rattle.semantics.specs.Tables.{Tables, place_of, with_record, tables_of}
 use Rattle.semantics.specs.Points.{points_in}
 use Rattle.semantics.specs.Kinds.{reqs_of, grid, req_grid}
-use Rattle.semantics.specs.Steps.{Step, mapped_cell, at_cells, reads_by, changes_by, run_moves, moves_of, id_of, steps_by}
+use Rattle.semantics.specs.Steps.{Step, mapped_cell, at_cells, reads_by, changes_by, run_moves, move_of, data_moves, moves_of, id_of, steps_by}
 use Rattle.semantics.specs.Rules.{size_of, runs_item, is_run_again}
 use Rattle.point_laws.specs.Alike.{is_at}
 use Rattle.point_laws.specs.Cut.{cut}
@@ -34,7 +35,7 @@ use Rattle.log_laws.proofs.lemmas.Lists.{split_at}
 use Rattle.log_laws.proofs.lemmas.Sane.{reqs_apart}
 use Rattle.log_laws.proofs.lemmas.Admitted.{rule_kept, by_records, no_broken_rule, sane}
 use Rattle.log_laws.proofs.lemmas.StepLists.{moves_at, steps_at}
-use Rattle.replay.proofs.Accesses.{sizes, op_size, op_sizes, few_accesses}
+use Rattle.replay.proofs.Accesses.{sizes, data_size, op_size, op_sizes, few_accesses}
 
 -- ---- lengths
 
@@ -128,19 +129,16 @@ owned_more t (item ∷ items) others =
     let rest = owned_more t items others in
     omega (arith, a, b, rest)
 
-swept_few : {X : Type 0} (t : Tables) (space : ℕ) (fields : List ℕ) (f : ℕ × ℕ → X) → length (map f (grid (points_in t space) fields)) ≤ 2 * 0 + size_of t space fields
-swept_few t space fields f = let a = length-map (grid (points_in t space) fields) f in let b = grid_size (points_in t space) fields in omega (arith, a, b)
+data_few : (t : Tables) (o : Option DataOp) → length (data_moves t o) ≤ 2 * 0 + data_size t o
+data_few t None = omega arith
+data_few t (Some d) = let a = length-map (grid (points_in t d.space) d.fields) (move_of t d.act) in let b = grid_size (points_in t d.space) d.fields in omega (arith, a, b)
 
 op_few : (t : Tables) (op : Op) → length (moves_of t op) ≤ 2 * owned t (runs_of op) + op_size t op
 op_few t (operations.Run item) =
     let all = run_few t (id_of t item) (reqs_of t item) in
     let same = ap (λ rs. length (flat_map (req_grid t) rs)) (append-nil (reqs_of t item)) in
     omega (arith, all, same)
-op_few t (operations.Copy src dst space fields) = swept_few t space fields _
-op_few t (operations.Put inst space fields n) = swept_few t space fields _
-op_few t (operations.Reset inst space fields) = swept_few t space fields _
-op_few t (operations.Fold src dst space fields) = swept_few t space fields _
-op_few t operations.Merge = omega arith
+op_few t op = data_few t (data_of op)
 
 -- ---- the moves of all nodes
 

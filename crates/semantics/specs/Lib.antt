@@ -1,5 +1,6 @@
 pub mod Records
 pub mod Tables
+pub mod DataOps
 pub mod Points
 pub mod Kinds
 pub mod SerialOrder

@@ -22,6 +22,7 @@ use Rattle.semantics.specs.declared.tables.Op.TheVariants as operations
 use Rattle.semantics.specs.declared.limits.TheConstants.{MOST_RECORDS, MOST_POINTS, DEEPEST, MOST_CELLS, MOST_ACCESSES, MOST_LOAD}
 use Rattle.semantics.specs.Tables as tables
 use Rattle.semantics.specs.Tables.{Tables, points_of, privilege_of, place_of}
+use Rattle.semantics.specs.DataOps.{DataAct, Copies, Puts, Resets, Folds, DataOp, insts_of, data_in}
 use Rattle.semantics.specs.Points.{is_in, is_within, meets, points_in, fields_in, tree_at, part_at, spaces_above, is_in_tree}
 use Rattle.semantics.specs.Kinds.{covers, grid}
 use Rattle.semantics.specs.SerialOrder.{listed}
@@ -98,11 +99,7 @@ names (Serial ids) = map (λ id. item_id id) ids
 names (Inst id tree space fields kind) = tree_id tree ∷ space_id space ∷ held_by kind
 names (Map task number fields inst) = task_id task ∷ inst_id inst ∷ []
 names (Run task done waits) = task_id task ∷ []
-names (Copy src dst space fields done waits) = inst_id src ∷ inst_id dst ∷ space_id space ∷ []
-names (Put inst space fields n done waits) = inst_id inst ∷ space_id space ∷ []
-names (Reset inst space fields done waits) = inst_id inst ∷ space_id space ∷ []
-names (Fold src dst space fields done waits) = inst_id src ∷ inst_id dst ∷ space_id space ∷ []
-names _ = []
+names r = option_map_or (λ (d : DataOp). map (λ id. inst_id id) (insts_of d.act) ++ space_id d.space ∷ []) (data_in r) []
 
 -- The requirement of a task with this number.
 abbrev pub named_req : Tables → ℕ → ℕ → Option reqs.Req
@@ -198,12 +195,15 @@ is_of_tree t tree id = option_map_or (λ (i : insts.Inst). option_map_or (λ n. 
 abbrev pub tree_of_inst : Tables → ℕ → Option ℕ
 tree_of_inst t id = option_map (λ (i : insts.Inst). i.tree) (inst_at t id)
 
+-- Whether these are two instances of different trees.
+abbrev pub are_of_two_trees : Tables → List ℕ → Bool
+are_of_two_trees t (src ∷ dst ∷ []) = not (is_of_tree t (tree_of_inst t src) dst)
+are_of_two_trees t _ = false
+
 -- wrong-tree: the instance is of another tree than the requirement, or the two instances are of different trees.
 abbrev pub is_of_wrong_tree : Tables → Record → Bool
 is_of_wrong_tree t (Map task number fields inst) = not (is_of_tree t (option_map (λ (r : reqs.Req). r.tree) (named_req t task number)) inst)
-is_of_wrong_tree t (Copy src dst space fields done waits) = not (is_of_tree t (tree_of_inst t src) dst)
-is_of_wrong_tree t (Fold src dst space fields done waits) = not (is_of_tree t (tree_of_inst t src) dst)
-is_of_wrong_tree t _ = false
+is_of_wrong_tree t r = option_map_or (λ (d : DataOp). are_of_two_trees t (insts_of d.act)) (data_in r) false
 
 -- Whether a requirement with this privilege may be mapped to an instance of this kind: a reduction to any but a reduction instance of another operator, and all others to any but a reduction instance.
 abbrev pub fits : Priv → InstKind → Bool
@@ -211,14 +211,17 @@ fits (privileges.Red op) (layouts.Red other) = op == other
 fits (privileges.Red op) kind = true
 fits p kind = not (is_reduction kind)
 
--- wrong-kind: an instance is of a kind that cannot be used so, or a copy has one instance as source and target.
+-- Whether an instance is of a kind with which this cannot be done, or a copy has one instance as source and target.
+abbrev pub misuses : Tables → DataAct → Bool
+misuses t (Copies src dst) = reduces_in t src || reduces_in t dst || (src == dst)
+misuses t (Puts inst n) = reduces_in t inst
+misuses t (Resets inst) = not (reduces_in t inst)
+misuses t (Folds src dst) = not (reduces_in t src) || reduces_in t dst
+
+-- wrong-kind: an instance is of a kind that cannot be used so.
 abbrev pub is_of_wrong_kind : Tables → Record → Bool
 is_of_wrong_kind t (Map task number fields inst) = not (option_map_or (λ (r : reqs.Req). option_map_or (λ (i : insts.Inst). fits r.access i.kind) (inst_at t inst) false) (named_req t task number) false)
-is_of_wrong_kind t (Copy src dst space fields done waits) = reduces_in t src || reduces_in t dst || (src == dst)
-is_of_wrong_kind t (Put inst space fields n done waits) = reduces_in t inst
-is_of_wrong_kind t (Reset inst space fields done waits) = not (reduces_in t inst)
-is_of_wrong_kind t (Fold src dst space fields done waits) = not (reduces_in t src) || reduces_in t dst
-is_of_wrong_kind t _ = false
+is_of_wrong_kind t r = option_map_or (λ (d : DataOp). misuses t d.act) (data_in r) false
 
 -- Whether an instance lacks one of these points or fields.
 abbrev pub lacks : Tables → List ℕ → List ℕ → ℕ → Bool
@@ -228,11 +231,7 @@ lacks t points fields id = not (option_map_or (λ (i : insts.Inst). is_within po
 abbrev pub is_not_covered : Tables → Record → Bool
 is_not_covered t (Inst id tree space fields kind) = not (is_within (points_in t space) (option_map_or (λ (r : tables.Tree). points_in t r.space) (tree_at t tree) []))
 is_not_covered t (Map task number fields inst) = lacks t (option_map_or (λ (r : reqs.Req). points_in t r.space) (named_req t task number) []) fields inst
-is_not_covered t (Copy src dst space fields done waits) = lacks t (points_in t space) fields src || lacks t (points_in t space) fields dst
-is_not_covered t (Put inst space fields n done waits) = lacks t (points_in t space) fields inst
-is_not_covered t (Reset inst space fields done waits) = lacks t (points_in t space) fields inst
-is_not_covered t (Fold src dst space fields done waits) = lacks t (points_in t space) fields src || lacks t (points_in t space) fields dst
-is_not_covered t _ = false
+is_not_covered t r = option_map_or (λ (d : DataOp). list_any (lacks t (points_in t d.space) d.fields) (insts_of d.act)) (data_in r) false
 
 -- mapped-twice: one of its fields is mapped already for its requirement.
 abbrev pub is_mapped_again : Tables → Record → Bool
@@ -311,15 +310,15 @@ abbrev pub has_many_cells : Tables → Record → Bool
 has_many_cells t (Inst id tree space fields kind) = nat_lt MOST_CELLS (sum_by (λ (i : insts.Inst). size_of t i.space i.fields) t.insts + size_of t space fields)
 has_many_cells t _ = false
 
--- The accesses that a record asks for: its points and fields.
+-- The space and the fields whose accesses a record asks for.
+abbrev pub asked : Record → Option (ℕ × List ℕ)
+asked (Req task tree space fields access atomic) = Some (space, fields)
+asked (Fill id tree space fields n) = Some (space, fields)
+asked r = option_map (λ (d : DataOp). (d.space, d.fields)) (data_in r)
+
+-- The accesses that it asks for: its points and fields.
 abbrev pub accesses : Tables → Record → ℕ
-accesses t (Req task tree space fields access atomic) = size_of t space fields
-accesses t (Fill id tree space fields n) = size_of t space fields
-accesses t (Copy src dst space fields done waits) = size_of t space fields
-accesses t (Put inst space fields n done waits) = size_of t space fields
-accesses t (Reset inst space fields done waits) = size_of t space fields
-accesses t (Fold src dst space fields done waits) = size_of t space fields
-accesses t _ = 0
+accesses t r = option_map_or (λ (p : ℕ × List ℕ). size_of t p.0 p.1) (asked r) 0
 
 -- too-many-accesses: those of the records up to this one are more than 4,194,304.
 abbrev pub has_many_accesses : List Record → Tables → Record → Bool

@@ -17,6 +17,7 @@ use Rattle.semantics.specs.declared.tables.LogNode.{LogNode}
 use Rattle.semantics.specs.declared.tables.Op.{Op}
 use Rattle.semantics.specs.declared.tables.Op.TheVariants as operations
 use Rattle.semantics.specs.Tables.{Tables, Map}
+use Rattle.semantics.specs.DataOps.{DataAct, Copies, Puts, Resets, Folds, DataOp, data_of}
 use Rattle.semantics.specs.Points.{is_in, points_in}
 use Rattle.semantics.specs.Kinds.{reqs_of, grid, req_grid}
 
@@ -64,14 +65,21 @@ at_cells t does rs = flat_map (λ r. flat_map (λ p. does r (mapped_cell t r p))
 abbrev pub run_moves : Tables → ℕ → List Req → List Move
 run_moves t task rs = at_cells t (λ r c. reads_by task r.number r.access c) rs ++ at_cells t (λ r c. changes_by task r.number r.access c) rs
 
+-- What an operation on data does at a point and a field.
+abbrev pub move_of : Tables → DataAct → ℕ × ℕ → Move
+move_of t (Copies src dst) p = moves.Copy (cell_in src p) (cell_in dst p)
+move_of t (Puts inst n) p = moves.Put (cell_in inst p) n
+move_of t (Resets inst) p = moves.Reset (cell_in inst p)
+move_of t (Folds src dst) p = moves.Fold (operator_of t src) (cell_in src p) (cell_in dst p)
+
+-- The moves of an operation on data, if it is one.
+abbrev pub data_moves : Tables → Option DataOp → List Move
+data_moves t o = option_map_or (λ (d : DataOp). map (move_of t d.act) (grid (points_in t d.space) d.fields)) o []
+
 -- What an operation does, move by move.
 abbrev pub moves_of : Tables → Op → List Move
 moves_of t (operations.Run item) = run_moves t (id_of t item) (reqs_of t item)
-moves_of t (operations.Copy src dst space fields) = map (λ p. moves.Copy (cell_in src p) (cell_in dst p)) (grid (points_in t space) fields)
-moves_of t (operations.Put inst space fields n) = map (λ p. moves.Put (cell_in inst p) n) (grid (points_in t space) fields)
-moves_of t (operations.Reset inst space fields) = map (λ p. moves.Reset (cell_in inst p)) (grid (points_in t space) fields)
-moves_of t (operations.Fold src dst space fields) = map (λ p. moves.Fold (operator_of t src) (cell_in src p) (cell_in dst p)) (grid (points_in t space) fields)
-moves_of t operations.Merge = []
+moves_of t op = data_moves t (data_of op)
 
 -- A node, by its position, and one thing that it does.
 pub record Step : Type 0 where
