@@ -1,4 +1,4 @@
--- How many tasks, operations and reads a log has.
+-- How many tasks, operations, reads and listed waits a log has.
 use Rattle.std.specs.Prelude.{ℕ, Bool, true, false, filter, length, sum_by}
 use Rattle.privilege.specs.Allowed.{may_read}
 use Rattle.semantics.specs.declared.tables.Item.{Item}
@@ -23,3 +23,7 @@ operation_count t = length (filter (λ (n : LogNode). is_operation n.op) t.nodes
 -- The reads of all tasks: a point and a field of a requirement each.
 abbrev pub read_count : Tables → ℕ
 read_count t = sum_by (λ (r : Req). size_of t r.space r.fields) (filter (λ (r : Req). may_read r.access) t.reqs)
+
+-- The waits that all nodes list, each as often as it is listed.
+abbrev pub wait_count : Tables → ℕ
+wait_count t = sum_by (λ (n : LogNode). length n.waits) t.nodes

@@ -7,6 +7,7 @@ pub mod SerialOrder
 pub mod Sequential
 pub mod Events
 pub mod ReplayOrder
+pub mod Spare
 pub mod Steps
 pub mod Execution
 pub mod Interleavings

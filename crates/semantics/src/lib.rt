@@ -8,6 +8,7 @@ mod limits;
 mod moves;
 mod places;
 mod tables;
+mod waits;
 
 pub use command::Command;
 pub use faults::Fault;
@@ -20,3 +21,4 @@ pub use places::{Cell, Place};
 pub use tables::{
     FieldSpace, Inst, Item, ItemBody, LogNode, Map, Op, Part, Req, Serial, Sub, Tree,
 };
+pub use waits::ListedWait;
