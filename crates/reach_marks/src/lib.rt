@@ -11,6 +11,7 @@ mod reach;
 mod row;
 mod rows;
 mod search;
+mod unions;
 mod waits;
 
 pub use laws::before_is_transitive;

@@ -1,6 +1,7 @@
 //! Which node is before which.
 
-ghost use Rattle.std.specs.Prelude.{◌≡◌, ℕ, ◌<◌, length, IfOk, All, not, position};
+ghost use Rattle.std.specs.Prelude.{◌≡◌, ℕ, ◌<◌, length, IfOk, All, not, position, map, true};
+ghost use Rattle.std.specs.List.{list_any};
 ghost use Rattle.event_graph.specs.Orders.{IsOrderOf};
 
 use crate::fronts::fronts_of;
@@ -8,6 +9,8 @@ use crate::mixed::mixed_in;
 use crate::row::Row;
 use crate::rows::rows_of;
 use crate::search::first_outside;
+use crate::unions::{marks_in, union_of};
+use crate::waits::places_at;
 use event_graph::{Graph, Order};
 use log_laws::{replay_order_lists, stuck_nodes_have_cycles};
 use memory::Memory;
@@ -81,6 +84,20 @@ impl Reach {
     {
         let row = &self.rows[self.places[b]];
         first_outside(row, self.places.as_slice(), group)
+    }
+
+    /// For each node of a group whether it is before some node of the group.
+    pub fn before_some(&self, alloc: Global, group: &[usize]) -> Result<Vec<bool>, Memory>
+        requires group { All (λ a. a < length self.now.places) group.now }
+        requires passed { (a b c : ℕ) → before_in self.now a b ≡ true → before_in self.now b c ≡ true
+            → before_in self.now a c ≡ true }
+        ensures { IfOk result (λ v.
+            v.items ≡ map (λ a. list_any (before_in self.now a) group.now) group.now) }
+    {
+        let places = places_at(alloc, self.places.as_slice(), group)?;
+        let blocks = union_of(alloc, self.rows.as_slice(), places.as_slice())?;
+        let marks = marks_in(alloc, blocks.as_slice(), places.as_slice())?;
+        Ok(marks)
     }
 
     /// How many pairs of a node and a block there are of which some node of the block is before the node and some is not.

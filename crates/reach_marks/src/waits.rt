@@ -10,7 +10,11 @@ use memory::Memory;
 use std::alloc::{AllocError, Global};
 
 /// The places of these nodes.
-fn places_at(alloc: Global, places: &[usize], nodes: &[usize]) -> Result<Vec<usize>, AllocError>
+pub(crate) fn places_at(
+    alloc: Global,
+    places: &[usize],
+    nodes: &[usize],
+) -> Result<Vec<usize>, AllocError>
     requires { All (λ k. k < length places.now) nodes.now }
     ensures { IfOk result (λ v. v.items ≡ map (λ k. slice_index places.now k) nodes.now) }
 {
