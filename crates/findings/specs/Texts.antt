@@ -1,10 +1,10 @@
 -- The text of each report, and which reports have one.
-use Rattle.std.specs.Prelude.{◌≡◌, ◌≢◌, ℕ, ◌<◌, ◌^◌, not, List, [], ◌∷◌, ◌++◌, map, count_by, codes, decimal, if◌then◌else◌}
+use Rattle.std.specs.Prelude.{◌≡◌, ◌≢◌, ℕ, ◌<◌, ◌≤◌, ◌^◌, not, List, [], ◌∷◌, ◌++◌, map, length, count_by, codes, decimal, if◌then◌else◌}
 use Rattle.std.specs.List.{AllByRecursion}
 use Rattle.spy_grammar.specs.declared.code.Code.{Code}
 use Rattle.findings.specs.declared.finding.Dep.{Dep}
 use Rattle.findings.specs.declared.finding.Finding.{Finding}
-use Rattle.findings.specs.declared.finding.Finding.TheVariants.{Accepted, Ordered, Deps, Cycle, Race, Unordered, Differ, Fault, Usage, CannotRead}
+use Rattle.findings.specs.declared.finding.Finding.TheVariants.{Accepted, Ordered, Deps, Spare, Cycle, Race, Unordered, Differ, Fault, Usage, CannotRead}
 use Rattle.value_terms.specs.Values.{Value, IsHeld}
 use Rattle.findings.specs.Codes.{code_text}
 use Rattle.findings.specs.ValueTexts.{value_text}
@@ -27,6 +27,7 @@ abbrev pub last_line : Finding → Line
 last_line (Accepted tasks operations reads) = record { name = codes "accepted"; row = says (codes "tasks") ∷ small tasks ∷ says (codes "operations") ∷ small operations ∷ says (codes "reads") ∷ large reads ∷ [] }
 last_line (Ordered tasks pairs) = record { name = codes "ordered"; row = says (codes "tasks") ∷ small tasks ∷ says (codes "pairs") ∷ large pairs ∷ [] }
 last_line (Deps list items before turn) = record { name = codes "deps"; row = says (codes "items") ∷ small items ∷ says (codes "before") ∷ large before ∷ says (codes "turn") ∷ large turn ∷ [] }
+last_line (Spare list waits) = record { name = codes "spare"; row = says (codes "waits") ∷ large (length list) ∷ says (codes "of") ∷ large waits ∷ [] }
 last_line (Cycle events) = record { name = codes "cycle"; row = map small events }
 last_line (Race a b inst point field) = record { name = codes "race"; row = small a ∷ small b ∷ says (codes "inst") ∷ small inst ∷ says (codes "point") ∷ large point ∷ says (codes "field") ∷ small field ∷ [] }
 last_line (Unordered t u tree point field) = record { name = codes "unordered"; row = small t ∷ small u ∷ says (codes "tree") ∷ small tree ∷ says (codes "point") ∷ large point ∷ says (codes "field") ∷ small field ∷ [] }
@@ -39,9 +40,14 @@ last_line CannotRead = record { name = codes "cannot"; row = says (codes "read")
 abbrev pub dep_line : Dep → Line
 dep_line d = record { name = if d.before then codes "before" else codes "turn"; row = small d.a ∷ small d.b ∷ says (codes "tree") ∷ small d.tree ∷ says (codes "point") ∷ large d.point ∷ says (codes "field") ∷ small d.field ∷ [] }
 
+-- The line of a wait that others imply: the event of its node, and the one that is waited for.
+abbrev pub spare_line : ℕ × ℕ → Line
+spare_line w = record { name = codes "spare"; row = small w.0 ∷ small w.1 ∷ [] }
+
 -- The lines that a report lists before its own.
 abbrev pub listed_lines : Finding → List Line
 listed_lines (Deps list items before turn) = map dep_line list
+listed_lines (Spare list waits) = map spare_line list
 listed_lines f = []
 
 -- The lines of a report: those that it lists, and then its own.
@@ -86,9 +92,10 @@ IsInRange (holds v) = IsHeld v
 abbrev pub Fits : Line → Type 0
 Fits l = AllByRecursion IsInRange l.row
 
--- Where a report counts what it lists, the counts are right; and a cycle has an event.
+-- Where a report counts what it lists, the counts are right; no more waits are listed as spare than there are; and a cycle has an event.
 abbrev pub IsWhole : Finding → Type 0
 IsWhole (Deps list items before turn) = (before ≡ count_by (λ d. d.before) list) × (turn ≡ count_by (λ d. not d.before) list)
+IsWhole (Spare list waits) = length list ≤ waits
 IsWhole (Cycle events) = events ≢ []
 IsWhole f = Unit {0}
 

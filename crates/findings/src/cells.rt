@@ -5,7 +5,7 @@ ghost use Rattle.std.specs.List.{AllByRecursion};
 ghost use Rattle.value_terms.specs.Values.{IsHeld};
 ghost use Rattle.findings.specs.declared.cells.ReportCell.TheVariants as cells;
 ghost use Rattle.findings.specs.Cells.{words_in};
-ghost use Rattle.findings.specs.Texts.{Line, dep_line, last_line, small, Fits, IsInRange};
+ghost use Rattle.findings.specs.Texts.{Line, dep_line, last_line, small, spare_line, Fits, IsInRange};
 
 use crate::cells::ReportCell::*;
 use crate::finding::{Dep, Finding};
@@ -55,6 +55,16 @@ impl Listed for Dep {
     }
 }
 
+/// The line of a wait that others imply.
+impl Listed for (u32, u32) {
+    ghost line = { spare_line };
+
+    fn words(self) -> Words<'static> {
+        let (node, wait) = self;
+        (b"spare", [Small(node), Small(wait), No, No, No, No])
+    }
+}
+
 /// Events, each a word.
 fn event_words(events: &[u32]) -> [ReportCell<'_>; 6]
     ensures words { words_in result ≡ map small events.now }
@@ -85,6 +95,7 @@ pub fn last_words(f: &Finding) -> Words<'_>
         Finding::Accepted { tasks, operations, reads } => (b"accepted", [Says(b"tasks"), Small(*tasks), Says(b"operations"), Small(*operations), Says(b"reads"), Large(*reads)]),
         Finding::Ordered { tasks, pairs } => (b"ordered", [Says(b"tasks"), Small(*tasks), Says(b"pairs"), Large(*pairs), No, No]),
         Finding::Deps { list: _, items, before, turn } => (b"deps", [Says(b"items"), Small(*items), Says(b"before"), Large(*before), Says(b"turn"), Large(*turn)]),
+        Finding::Spare { list, waits } => (b"spare", [Says(b"waits"), Large(list.len() as u64), Says(b"of"), Large(*waits), No, No]),
         Finding::Cycle { events } => (b"cycle", event_words(events.as_slice())),
         Finding::Race { a, b, inst, point, field } => (b"race", [Small(*a), Small(*b), Says(b"inst"), Small(*inst), At(*point, *field), No]),
         Finding::Unordered { t, u, tree, point, field } => (b"unordered", [Small(*t), Small(*u), Says(b"tree"), Small(*tree), At(*point, *field), No]),

@@ -1,6 +1,6 @@
 //! What a command says of a log.
 
-use crate::lists::{DepList, EventList};
+use crate::lists::{DepList, EventList, PairList};
 use spy_grammar::Code;
 use value_terms::Value;
 
@@ -31,6 +31,8 @@ pub enum Finding {
     Ordered { tasks: u32, pairs: u64 },
     /// The pairs of items that interfere, and how many of them are of each kind.
     Deps { list: DepList, items: u32, before: u64, turn: u64 },
+    /// The listed waits that others imply, each by the event of its node and the one that is waited for, and how many waits are listed in all.
+    Spare { list: PairList, waits: u64 },
     /// Events that wait on each other in a cycle.
     Cycle { events: EventList },
     /// Two nodes, named by their events, that reach a place of an instance in either order.

@@ -10,7 +10,7 @@ mod writing;
 
 pub use codes::code_text;
 pub use finding::{Dep, Finding};
-pub use lists::{DepList, EventList};
+pub use lists::{DepList, EventList, PairList};
 pub use spy_grammar::Code;
 pub use value_terms::Value;
 pub use memory::Memory;

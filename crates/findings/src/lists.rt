@@ -8,3 +8,6 @@ pub type EventList = ListOf<u32>;
 
 /// Pairs of items that interfere.
 pub type DepList = ListOf<Dep>;
+
+/// Waits, each by the event of its node and the one that is waited for.
+pub type PairList = ListOf<(u32, u32)>;

@@ -37,6 +37,7 @@ fn listed_fit(f: &Finding) -> bool
 {
     match f {
         Finding::Deps { list, .. } => lines_fit(list.as_slice()),
+        Finding::Spare { list, .. } => lines_fit(list.as_slice()),
         _ => true,
     }
 }
@@ -64,7 +65,7 @@ fn count_turn(deps: &[Dep]) -> u64
     deps.iter().filter(|dep| !dep.before).count() as u64
 }
 
-/// Whether the report counts right what it lists, and a cycle has an event.
+/// Whether the report counts right what it lists, and lists no more waits than there are; and a cycle has an event.
 fn is_whole(f: &Finding) -> bool
     ensures { IsTrue result ↔ IsWhole f.now }
 {
@@ -78,12 +79,13 @@ fn is_whole(f: &Finding) -> bool
             let deps = list.as_slice();
             count_before(deps) == *before && count_turn(deps) == *turn
         }
+        Finding::Spare { list, waits } => list.len() as u64 <= *waits,
         Finding::Cycle { events } => events.len() > 0,
         _ => true,
     }
 }
 
-/// Whether the report has a text: `Deps` counts right what it lists, and a `Cycle` has an event.
+/// Whether the report has a text: `Deps` counts right what it lists, `Spare` lists at most as many waits as there are, and a `Cycle` has an event.
 pub fn good_finding(f: &Finding) -> bool
     ensures { IsTrue result ↔ Good f.now }
 {
@@ -184,6 +186,7 @@ fn push_listed(out: &mut Vec<u8>, f: &Finding) -> Result<(), AllocError>
 {
     match f {
         Finding::Deps { list, .. } => push_lines(out, list.as_slice()),
+        Finding::Spare { list, .. } => push_lines(out, list.as_slice()),
         _ => Ok(()),
     }
 }

@@ -16,12 +16,12 @@ use Rattle.spy_grammar.specs.declared.code.Code.TheVariants.{TooLong}
 use Rattle.spy_words.specs.Reading.{parts}
 use Rattle.findings.specs.declared.finding.Dep.{Dep}
 use Rattle.findings.specs.declared.finding.Finding.{Finding}
-use Rattle.findings.specs.declared.finding.Finding.TheVariants.{Accepted, Ordered, Deps, Cycle, Race, Unordered, Differ, Fault, Usage, CannotRead}
+use Rattle.findings.specs.declared.finding.Finding.TheVariants.{Accepted, Ordered, Deps, Spare, Cycle, Race, Unordered, Differ, Fault, Usage, CannotRead}
 use Rattle.findings.specs.Codes.{code_text}
 use Rattle.report_reading.specs.CodeReading.{code_at}
-use Rattle.findings.specs.Texts.{Word, says, small, large, names, holds, Line, last_line, listed_lines, dep_line, lines_of, word_text, row_text, line_text, lines_text, report_text, IsInRange, Fits, Good}
+use Rattle.findings.specs.Texts.{Word, says, small, large, names, holds, Line, last_line, listed_lines, dep_line, spare_line, lines_of, word_text, row_text, line_text, lines_text, report_text, IsInRange, Fits, Good}
 use Rattle.report_reading.specs.Numbers.{word_at}
-use Rattle.report_reading.specs.Reading.{dep_at, events_at, report_at, last_place, report_in, finding_at}
+use Rattle.report_reading.specs.Reading.{dep_at, spare_at, events_at, report_at, last_place, report_in, finding_at}
 use Rattle.report_reading.proofs.NumberLaws.{own, digit_is, small_again, large_again}
 use Rattle.report_reading.proofs.ValueLaws.{Sums, HasNames, value_all, value_again}
 
@@ -91,6 +91,10 @@ dep_plain d fits = (name d.before, row_plain (dep_line d).row refl fits)
     name true = plain_by_test (codes "before") refl
     name false = plain_by_test (codes "turn") refl
 
+spare_plain : (w : ℕ × ℕ) → Fits (spare_line w) → PlainLine (spare_line w)
+unfolding is_plain
+spare_plain w fits = (plain_by_test (codes "spare") refl, row_plain (spare_line w).row refl fits)
+
 lacks : (c : ℕ) (w : List ℕ) → c ≤ 32 → Plain w → AllByRecursion (λ b. eqb b c ≡ false) w
 lacks c [] le plain = tt
 lacks c (b ∷ w) le plain = (ne_eqb b c (λ e. absurd (omega (arith, plain.0, e, le))), lacks c w le plain.1)
@@ -156,6 +160,10 @@ dep_again d fits =
     named true = refl
     named false = refl
 
+spare_again : (w : ℕ × ℕ) → Fits (spare_line w) → spare_at (words_of (spare_line w)) ≡ w
+unfolding spare_at
+spare_again w fits = rw (small_again w.0 fits.0, small_again w.1 fits.1.0) refl
+
 code_again : (c : Code) → code_at (code_text c) ≡ c
 unfolding code_at
 code_again TooLong = refl
@@ -170,6 +178,7 @@ unfolding report_at
 report_again sums (Accepted tasks operations reads) listed fits = rw (small_again tasks fits.1.0, small_again operations fits.1.1.1.0, large_again reads fits.1.1.1.1.1.0) refl
 report_again sums (Ordered tasks pairs) listed fits = rw (small_again tasks fits.1.0, large_again pairs fits.1.1.1.0) refl
 report_again sums (Deps list items before turn) listed fits = rw (lines_again dep_line dep_at dep_again list listed, small_again items fits.1.0, large_again before fits.1.1.1.0, large_again turn fits.1.1.1.1.1.0) refl
+report_again sums (Spare list waits) listed fits = rw (lines_again spare_line spare_at spare_again list listed, large_again waits fits.1.1.1.0) refl
 report_again sums (Cycle events) listed fits = rw (events_again events fits) refl
 report_again sums (Race a b inst point field) listed fits = rw (small_again a fits.0, small_again b fits.1.0, small_again inst fits.1.1.1.0, large_again point fits.1.1.1.1.1.0, small_again field fits.1.1.1.1.1.1.1.0) refl
 report_again sums (Unordered t u tree point field) listed fits = rw (small_again t fits.0, small_again u fits.1.0, small_again tree fits.1.1.1.0, large_again point fits.1.1.1.1.1.0, small_again field fits.1.1.1.1.1.1.1.0) refl
@@ -186,6 +195,7 @@ behind (x ∷ xs) y ys = behind xs y ys
 
 listed_plain : (f : Finding) → AllByRecursion Fits (listed_lines f) → AllByRecursion PlainLine (listed_lines f)
 listed_plain (Deps list items before turn) fits = lines_plain dep_line dep_plain list fits
+listed_plain (Spare list waits) fits = lines_plain spare_line spare_plain list fits
 listed_plain _ fits = tt
 
 -- what holds of all lines of a report holds of those that it lists and of its own

@@ -4,7 +4,7 @@ use Rattle.std.specs.Str.{bytes_eq}
 use Rattle.spy_words.specs.Reading.{parts}
 use Rattle.findings.specs.declared.finding.Dep.{Dep}
 use Rattle.findings.specs.declared.finding.Finding.{Finding}
-use Rattle.findings.specs.declared.finding.Finding.TheVariants.{Accepted, Ordered, Deps, Cycle, Race, Unordered, Differ, Fault, Usage, CannotRead}
+use Rattle.findings.specs.declared.finding.Finding.TheVariants.{Accepted, Ordered, Deps, Spare, Cycle, Race, Unordered, Differ, Fault, Usage, CannotRead}
 use Rattle.report_reading.specs.CodeReading.{code_at}
 use Rattle.report_reading.specs.Numbers.{number_of, word_at, small_at, large_at}
 use Rattle.report_reading.specs.ValueReading.{value_at}
@@ -12,6 +12,10 @@ use Rattle.report_reading.specs.ValueReading.{value_at}
 -- The pair of items that the words of a line say.
 unfoldable pub dep_at : List (List ℕ) → Dep
 dep_at ws = record { before = bytes_eq (word_at ws 0) (codes "before"); a = small_at ws 1; b = small_at ws 2; tree = small_at ws 4; point = large_at ws 6; field = small_at ws 8 }
+
+-- The wait, as the events of its node and of what is waited for, that the words of a line say.
+unfoldable pub spare_at : List (List ℕ) → ℕ × ℕ
+spare_at ws = (small_at ws 1, small_at ws 2)
 
 -- The events that words say.
 abbrev pub events_at : List (List ℕ) → List ℕ
@@ -23,6 +27,7 @@ report_at listed ws =
     if bytes_eq (word_at ws 0) (codes "accepted") then Accepted (small_at ws 2) (small_at ws 4) (large_at ws 6)
     else if bytes_eq (word_at ws 0) (codes "ordered") then Ordered (small_at ws 2) (large_at ws 4)
     else if bytes_eq (word_at ws 0) (codes "deps") then Deps (map dep_at listed) (small_at ws 2) (large_at ws 4) (large_at ws 6)
+    else if bytes_eq (word_at ws 0) (codes "spare") then Spare (map spare_at listed) (large_at ws 4)
     else if bytes_eq (word_at ws 0) (codes "cycle") then Cycle (events_at (drop 1 ws))
     else if bytes_eq (word_at ws 0) (codes "race") then Race (small_at ws 1) (small_at ws 2) (small_at ws 4) (large_at ws 6) (small_at ws 8)
     else if bytes_eq (word_at ws 0) (codes "unordered") then Unordered (small_at ws 1) (small_at ws 2) (small_at ws 4) (large_at ws 6) (small_at ws 8)

@@ -1,7 +1,7 @@
 //! The lines that a report lists before its own, read.
 
 ghost use Rattle.std.specs.Prelude.{◌≡◌, map, IfOk, List, ℕ};
-ghost use Rattle.report_reading.specs.Reading.{dep_at};
+ghost use Rattle.report_reading.specs.Reading.{dep_at, spare_at};
 ghost use Rattle.spy_words.specs.Reading.{parts};
 
 use crate::numbers::{large_at, small_at, word_at};
@@ -27,6 +27,16 @@ impl ReadLine for Dep {
     #[rattlefmt::skip]
     fn read(words: &[&[u8]]) -> Dep {
         Dep { before: word_at(words, 0) == b"before".as_slice(), a: small_at(words, 1), b: small_at(words, 2), tree: small_at(words, 4), point: large_at(words, 6), field: small_at(words, 8) }
+    }
+}
+
+/// A wait that others imply.
+impl ReadLine for (u32, u32) {
+    ghost said = { spare_at };
+
+    #[tactic(auto, unfolding(crate::specs::Reading::spare_at))]
+    fn read(words: &[&[u8]]) -> (u32, u32) {
+        (small_at(words, 1), small_at(words, 2))
     }
 }
 

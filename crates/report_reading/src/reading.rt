@@ -73,6 +73,8 @@ fn report_at(alloc: Global, listed: &[&[u8]], words: &[&[u8]]) -> Result<Finding
         Ok(Finding::Ordered { tasks: small_at(words, 2), pairs: large_at(words, 4) })
     } else if name == b"deps".as_slice() {
         Ok(Finding::Deps { list: listed_at(alloc, listed)?, items: small_at(words, 2), before: large_at(words, 4), turn: large_at(words, 6) })
+    } else if name == b"spare".as_slice() {
+        Ok(Finding::Spare { list: listed_at(alloc, listed)?, waits: large_at(words, 4) })
     } else if name == b"cycle".as_slice() {
         Ok(Finding::Cycle { events: events_at(alloc, after_name(words))? })
     } else if name == b"race".as_slice() {

@@ -23,7 +23,10 @@ fn status_of(finding: &Finding) -> Status
     ensures { result ≡ answers.status_of finding.now }
 {
     match finding {
-        Finding::Accepted { .. } | Finding::Ordered { .. } | Finding::Deps { .. } => Status::Yes,
+        Finding::Accepted { .. }
+        | Finding::Ordered { .. }
+        | Finding::Deps { .. }
+        | Finding::Spare { .. } => Status::Yes,
         Finding::Cycle { .. }
         | Finding::Race { .. }
         | Finding::Unordered { .. }
