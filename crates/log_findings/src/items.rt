@@ -1,10 +1,11 @@
-//! What is asked of a log's items for a report.
+//! What is asked of a log's items and nodes for a report.
 
 ghost use Rattle.std.specs.Prelude.{◌≡◌, ◌<◌, ◌^◌, length, count_by};
 ghost use Rattle.semantics.specs.Rules as rules;
 ghost use Rattle.semantics.specs.SerialOrder.{by_serial};
 ghost use Rattle.semantics.specs.Steps.{id_of};
 ghost use Rattle.semantics.specs.Counts as counts;
+ghost use Rattle.outcomes.specs.Outcome.{event_of};
 
 use logs::Log;
 use region_tree::ArenaSet;
@@ -90,5 +91,15 @@ pub(crate) fn ids_by_serial<'a, P: ArenaSet<'a>>(log: &Log<'a, P>, a: usize, b: 
         (id_at(log, b), id_at(log, a))
     } else {
         (id_at(log, a), id_at(log, b))
+    }
+}
+
+/// The event of a node, and 0 where there is none.
+pub fn event_at<'a, P: ArenaSet<'a>>(log: &Log<'a, P>, node: usize) -> u32
+    ensures { result ≡ event_of log.now node }
+{
+    match log.nodes().get(node) {
+        Some(node) => node.done,
+        None => 0,
     }
 }

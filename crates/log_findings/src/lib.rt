@@ -1,9 +1,10 @@
-//! What is found in a log by its items and events alone: the fault of its serial order, the order of its nodes, whether its tasks are run in serial order, and which of its items interfere.
+//! What is found in a log by its items and events alone: the fault of its serial order, the order of its nodes, whether its tasks are run in serial order, which of its items interfere, and which of its waits others imply.
 //!
-//! `ordered_finding` and `deps_finding` are what the commands `ordered` and `deps` find; begin there. `sort_log` is the first stage of `check` too, and `reports` makes the findings of all commands.
+//! `ordered_finding`, `deps_finding` and `spare_finding` are what the commands `ordered`, `deps` and `spare` find; begin there. `sort_log` is the first stage of `check` too, and `reports` makes the findings of all commands.
 #![tactic(auto)]
 
 mod dependences;
+mod implied;
 mod items;
 mod ordering;
 mod reports;
@@ -11,7 +12,8 @@ mod serial;
 mod sorting;
 
 pub use dependences::deps_finding;
-pub use items::{operation_count, task_count};
+pub use implied::spare_finding;
+pub use items::{event_at, operation_count, task_count};
 pub use memory::Memory;
 pub use ordering::{ordered_finding, sort_log};
 pub use reports::{accepted_found, cycle_found, differ_found, fault_found, race_found};

@@ -1,11 +1,11 @@
 //! Findings, each with what a text of it asks.
 
-ghost use Rattle.std.specs.Prelude.{◌≡◌, ◌≢◌, [], not, map, count_by};
+ghost use Rattle.std.specs.Prelude.{◌≡◌, ◌≢◌, ◌≤◌, [], length, not, map, count_by};
 ghost use Rattle.std.specs.List.{AllByRecursion};
 ghost use Rattle.findings.specs.declared.finding.Finding.TheVariants as findings;
-ghost use Rattle.findings.specs.Texts.{Fits, Good, IsInRange, dep_line, small};
+ghost use Rattle.findings.specs.Texts.{Fits, Good, IsInRange, dep_line, small, spare_line};
 
-use findings::{Dep, DepList, EventList, Finding};
+use findings::{Dep, DepList, EventList, Finding, PairList};
 use semantics::{Cell, Place};
 use spy_grammar::Code;
 use value_terms::Value;
@@ -36,6 +36,24 @@ fn deps_fit(deps: &[Dep])
     let mut rest = deps;
     while let [dep, more @ ..] = rest {
         dep_fits(dep);
+        rest = more;
+    }
+}
+
+/// The law of a wait by its events, likewise.
+fn wait_fits(wait: &(u32, u32))
+    ensures { Fits (spare_line wait.now) }
+{
+    let (_node, _event) = *wait;
+}
+
+/// The same of some of them.
+fn waits_fit(waits: &[(u32, u32)])
+    ensures { AllByRecursion Fits (map spare_line waits.now) }
+{
+    let mut rest = waits;
+    while let [wait, more @ ..] = rest {
+        wait_fits(wait);
         rest = more;
     }
 }
@@ -137,4 +155,14 @@ pub(crate) fn deps_found(list: DepList, items: u32, before: u64, turn: u64) -> F
         before,
         turn,
     }
+}
+
+/// Waits that others imply, among so many.
+pub(crate) fn spare_found(list: PairList, waits: u64) -> Finding
+    requires { length list ≤ waits }
+    ensures finding { result ≡ findings.Spare list waits }
+    ensures good { Good result }
+{
+    waits_fit(list.as_slice());
+    Finding::Spare { list, waits }
 }

@@ -81,7 +81,7 @@ module _ {X : Type 0} (less : X → X → Bool) (never : (x : X) → less x x �
 
 -- ---- nodes
 
-waits_told : (nodes : List Node) (later earlier : ℕ) → Told (WaitsOn nodes later earlier)
+pub waits_told : (nodes : List Node) (later earlier : ℕ) → Told (WaitsOn nodes later earlier)
 waits_told nodes later earlier = elim (none_or_some (slice_get nodes earlier)) [
   | inl none ↦ inr (λ w. none-some w.on (sym none ∙ w.on_is))
   | inr on ↦ elim (none_or_some (slice_get nodes later)) [

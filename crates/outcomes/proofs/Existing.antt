@@ -1,5 +1,5 @@
 -- A command finds something in each log, and has an outcome on each input.
-use Rattle.std.proofs.Common.{◌≡◌, ℕ, ◌<◌, ◌+◌, ◌-◌, ◌⊎◌, inl, inr, true, false, not, ◌&&◌, List, [], ◌∷◌, ◌++◌, map, filter, length, refl, sym, ap, ◌∙◌, subst, Some, None, Contains}
+use Rattle.std.proofs.Common.{◌≡◌, ℕ, ◌<◌, ◌⊎◌, inl, inr, true, false, not, ◌&&◌, List, [], ◌∷◌, ◌++◌, map, filter, length, refl, sym, ap, ◌∙◌, subst, Some, None, Contains}
 use Rattle.std.specs.List.{AllByRecursion, range_with_len}
 use Rattle.std.proofs.lemmas.Bool.{cases_Bool, true≢false}
 use Rattle.std.proofs.lemmas.Option.{none-some, slice_get_within}
@@ -9,13 +9,13 @@ use Rattle.privilege.specs.declared.kinds.Kind.TheVariants.{Free, Turn, Before a
 use Rattle.privilege.specs.Interference.{stronger}
 use Rattle.findings.specs.declared.finding.Dep.{Dep}
 use Rattle.findings.specs.declared.finding.Finding.{Finding}
-use Rattle.findings.specs.declared.finding.Finding.TheVariants.{Accepted, Ordered, Deps, Cycle, Race, Unordered, Differ, Fault}
+use Rattle.findings.specs.declared.finding.Finding.TheVariants.{Accepted, Ordered, Deps, Spare, Cycle, Race, Unordered, Differ, Fault}
 use Rattle.spy_grammar.specs.declared.record.Lined.{Lined}
 use Rattle.semantics.specs.declared.command.Command.{Command}
 use Rattle.semantics.specs.declared.command.Command.TheVariants as commands
 use Rattle.semantics.specs.declared.places.Place.{Place}
 use Rattle.semantics.specs.Tables.{Tables, tables_of}
-use Rattle.semantics.specs.Counts.{task_count, operation_count, read_count}
+use Rattle.semantics.specs.Counts.{task_count, operation_count, read_count, wait_count}
 use Rattle.semantics.specs.Kinds.{is_free, item_kind, item_places, kind_at, least_of, least_place, pairs, strongest}
 use Rattle.semantics.specs.SerialOrder.{by_serial}
 use Rattle.semantics.specs.Events.{Node, WaitsOn, Before, IsCycle, AreLinked, HasNoCycle, graph_of}
@@ -26,9 +26,10 @@ use Rattle.semantics.specs.Reads.{Seen, Differs, IsRight, shown_difference, want
 use Rattle.semantics.specs.Shown.{IsKept, is_task_at, run_of, task_pairs}
 use Rattle.semantics.specs.Faults.{log_fault}
 use Rattle.log_laws.proofs.lemmas.Members.{Member, contains_of, member_filter, member_flat, member_map, member_right, none_or_some}
-use Rattle.outcomes.specs.Outcome.{CheckFinds, OrderedFinds, DepsFinds, Finds, IsFound, ShowsCycle, before_count, dependences, event_of}
+use Rattle.outcomes.specs.Outcome.{CheckFinds, OrderedFinds, DepsFinds, SpareFinds, Finds, IsFound, ShowsCycle, before_count, dependences, event_of, events_of_wait}
 use Rattle.outcomes.proofs.Decided.{Told, before_told, last_wait}
 use Rattle.outcomes.proofs.SomeRaces.{race_or_none}
+use Rattle.outcomes.proofs.SomeSpare.{spare_list}
 use Rattle.outcomes.proofs.Found.{graph_length}
 
 -- All of a list pass, or there is a first that fails.
@@ -124,6 +125,11 @@ module _ (t : Tables) (laws : AreJudged t) where
           )
     ]
 
+    spare_without_cycle : (f : Finding) × SpareFinds t f
+    spare_without_cycle =
+        let list = spare_list nodes told in
+        (Spare (map (events_of_wait t) list.0) (wait_count t), (acyclic, record { waits = list.0; are_spare = list.1; events_are = refl }, refl))
+
     module _ (right : IsRaceFree t → shown_difference t ≡ None → IsRight t) (differs : IsRaceFree t → (r : Seen) → shown_difference t ≡ Some r → Differs t r) where
       check_without_race : IsRaceFree t → (f : Finding) × CheckFinds t f
       check_without_race free = elim (none_or_some (shown_difference t)) [
@@ -150,6 +156,9 @@ module _ (t : Tables) (laws : AreJudged t) where
   ordered_finds : (f : Finding) × OrderedFinds t f
   ordered_finds = elim cycle_or_none [ inl c ↦ (Cycle c.0, c.1) | inr acyclic ↦ ordered_without_cycle acyclic ]
 
+  spare_finds : (f : Finding) × SpareFinds t f
+  spare_finds = elim cycle_or_none [ inl c ↦ (Cycle c.0, c.1) | inr acyclic ↦ spare_without_cycle acyclic ]
+
 deps_finds : (t : Tables) → (f : Finding) × DepsFinds t f
 deps_finds t =
     let list = dependences t in (
@@ -162,6 +171,7 @@ found_of : (command : Command) (lines : ℕ) (log : List Lined) (f : Finding) �
 found_of commands.Check lines log (Fault line code) none finds = absurd finds
 found_of commands.Ordered lines log (Fault line code) none finds = absurd finds
 found_of commands.Deps lines log (Fault line code) none finds = absurd finds
+found_of commands.Spare lines log (Fault line code) none finds = absurd finds
 found_of command lines log f none finds = (none, finds)
 
 pub some_found : (command : Command) (lines : ℕ) (log : List Lined) → (log_fault command lines log ≡ None → AreJudged (tables_of log))
@@ -180,3 +190,4 @@ some_found command lines log laws right differs = elim (none_or_some (log_fault 
     finds commands.Check none right differs laws = check_finds (tables_of log) laws (right none) (differs none)
     finds commands.Ordered none right differs laws = ordered_finds (tables_of log) laws
     finds commands.Deps none right differs laws = deps_finds (tables_of log)
+    finds commands.Spare none right differs laws = spare_finds (tables_of log) laws

@@ -6,7 +6,7 @@ use Rattle.std.proofs.lemmas.List.{length-map}
 use Rattle.spy_grammar.specs.declared.record.Lined.{Lined}
 use Rattle.spy_grammar.specs.Spelling.{Good}
 use Rattle.findings.specs.declared.finding.Finding.{Finding}
-use Rattle.findings.specs.declared.finding.Finding.TheVariants.{Accepted, Ordered, Deps, Cycle, Race, Unordered, Differ, Fault}
+use Rattle.findings.specs.declared.finding.Finding.TheVariants.{Accepted, Ordered, Deps, Spare, Cycle, Race, Unordered, Differ, Fault}
 use Rattle.semantics.specs.declared.command.Command.{Command}
 use Rattle.semantics.specs.declared.command.Command.TheVariants as commands
 use Rattle.semantics.specs.declared.faults.Fault.{Fault as Shown}
@@ -25,7 +25,8 @@ use Rattle.semantics.specs.Interleavings.{IsInterleaving}
 use Rattle.semantics.specs.Reads.{Seen, replay_steps, want_of, IsRight}
 use Rattle.semantics.specs.Shown.{IsKept, AreKept, IsShownPair}
 use Rattle.semantics.specs.Faults.{log_fault}
-use Rattle.outcomes.specs.Outcome.{ShowsCycle, ShowsRace, ShowsPair, ShowsDifference, CheckFinds, OrderedFinds, DepsFinds, Finds, IsFound, event_of, before_count, IsOutcome}
+use Rattle.outcomes.specs.Outcome.{ShowsCycle, ShowsRace, ShowsPair, ShowsSpare, ShowsDifference, CheckFinds, OrderedFinds, DepsFinds, SpareFinds, Finds, IsFound, event_of, events_of_wait, before_count, IsOutcome}
+use Rattle.spare_laws.proofs.lemmas.OneList.{one_list}
 use Rattle.outcomes.proofs.Pairs.{first_failing, held_within}
 use Rattle.outcomes.proofs.Races.{one_race}
 
@@ -164,10 +165,23 @@ one_of_deps t (Deps list items before turn) (Deps other things earlier either) p
 one_of_deps t (Deps list items before turn) _ p q = absurd q
 one_of_deps t _ g p q = absurd p
 
+same_spare : (t : Tables) (ws vs : List (ℕ × ℕ)) → ShowsSpare t ws → ShowsSpare t vs → ws ≡ vs
+same_spare t ws vs p q = p.events_are ∙ ap (map (events_of_wait t)) (one_list (graph_of t.nodes) p.waits q.waits p.are_spare q.are_spare) ∙ sym q.events_are
+
+one_of_spare : (t : Tables) → (f g : Finding) → SpareFinds t f → SpareFinds t g → f ≡ g
+one_of_spare t (Cycle es) (Cycle fs) p q = ap Cycle (one_cycle t es fs p q)
+one_of_spare t (Cycle es) (Spare list waits) p q = free t es p q.0
+one_of_spare t (Cycle es) _ p q = absurd q
+one_of_spare t (Spare list waits) (Cycle fs) p q = free t fs q p.0
+one_of_spare t (Spare list waits) (Spare other all) p q = rw (same_spare t list other p.1 q.1, p.2, q.2) refl
+one_of_spare t (Spare list waits) _ p q = absurd q
+one_of_spare t _ g p q = absurd p
+
 one_of : (command : Command) (t : Tables) → (command ≡ commands.Check → AreOrderly t) → (f g : Finding) → Finds command t f → Finds command t g → f ≡ g
 one_of commands.Check t o f g p q = one_of_check t (o refl) f g p q
 one_of commands.Ordered t o f g p q = one_of_ordered t f g p q
 one_of commands.Deps t o f g p q = one_of_deps t f g p q
+one_of commands.Spare t o f g p q = one_of_spare t f g p q
 
 -- ---- in a log, and in an input
 

@@ -3,6 +3,7 @@ mod Pairs
 mod Races
 mod Decided
 mod SomeRaces
+mod SomeSpare
 mod Found
 mod Existing
 mod Inputs

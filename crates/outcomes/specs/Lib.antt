@@ -4,6 +4,7 @@ pub use Rattle.semantics.specs.Faults
 pub use Rattle.semantics.specs.Races
 pub use Rattle.semantics.specs.Reads
 pub use Rattle.semantics.specs.Records
+pub use Rattle.semantics.specs.Spare
 pub use Rattle.spy_grammar.specs.Spelling
 pub use Rattle.semantics.specs.Tables
 pub use Rattle.semantics.specs.TextFaults

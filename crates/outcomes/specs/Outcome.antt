@@ -1,5 +1,5 @@
--- What each command finds in an input: the first that holds of a fault, a cycle, a race or an unordered pair, and a differing read; and else its counts.
-use Rattle.std.specs.Prelude.{◌≡◌, ℕ, ◌+◌, List, map, filter, filter_map, length, Some, None, option_map, unwrap_or, ◌⊎◌}
+-- What each command finds in an input: the first that holds of a fault, a cycle, a race or an unordered pair, and a differing read; and else its counts, with what it lists.
+use Rattle.std.specs.Prelude.{◌≡◌, ℕ, ◌+◌, List, map, filter, filter_map, length, Some, None, option_map, slice_get, unwrap_or, ◌⊎◌}
 use Rattle.value_terms.specs.Values.{Value}
 use Rattle.findings.specs.declared.finding.Dep.{Dep}
 use Rattle.findings.specs.declared.finding.Finding.{Finding}
@@ -7,13 +7,15 @@ use Rattle.findings.specs.declared.finding.Finding.TheVariants as findings
 use Rattle.spy_grammar.specs.declared.record.Lined.{Lined}
 use Rattle.semantics.specs.declared.places.Place.{Place}
 use Rattle.semantics.specs.declared.places.Cell.{Cell}
+use Rattle.semantics.specs.declared.waits.ListedWait.{ListedWait}
 use Rattle.semantics.specs.Records.{Reads, records_of, text_of, line_count}
 use Rattle.semantics.specs.Tables.{Tables, tables_of}
-use Rattle.semantics.specs.Counts.{task_count, operation_count, read_count}
+use Rattle.semantics.specs.Counts.{task_count, operation_count, read_count, wait_count}
 use Rattle.semantics.specs.Kinds.{pairs, item_kind, is_before, least_place}
 use Rattle.semantics.specs.SerialOrder.{by_serial}
 use Rattle.semantics.specs.Events.{graph_of, IsCycle, HasNoCycle}
-use Rattle.semantics.specs.ReplayOrder.{done_at, shown_cycle}
+use Rattle.semantics.specs.ReplayOrder.{done_at, waits_at, shown_cycle}
+use Rattle.semantics.specs.Spare.{AreSpareWaits}
 use Rattle.semantics.specs.Steps.{id_of}
 use Rattle.semantics.specs.Races.{IsRaceFree}
 use Rattle.semantics.specs.Reads.{Seen, want_of, IsRight, Differs, shown_difference}
@@ -47,6 +49,16 @@ pub record ShowsCycle (t : Tables) (events : List ℕ) : Type 0 where
   pub shown : shown_cycle (graph_of t.nodes) ≡ Some nodes
   pub is_cycle : IsCycle (graph_of t.nodes) nodes
   pub events_are : events ≡ map (event_of t) nodes
+
+-- A listed wait by events: that of its node, and the one that is waited for.
+abbrev pub events_of_wait : Tables → ListedWait → ℕ × ℕ
+events_of_wait t w = (event_of t w.node, unwrap_or (slice_get (waits_at (graph_of t.nodes) w.node) w.k) 0)
+
+-- The spare waits that are shown have these events: all of them, in order.
+pub record ShowsSpare (t : Tables) (list : List (ℕ × ℕ)) : Type 0 where
+  pub waits : List ListedWait
+  pub are_spare : AreSpareWaits (graph_of t.nodes) waits
+  pub events_are : list ≡ map (events_of_wait t) waits
 
 -- The race that is shown is between the nodes with these events.
 pub record ShowsRace (t : Tables) (a b : ℕ) (cell : Cell) : Type 0 where
@@ -96,10 +108,17 @@ abbrev pub DepsFinds : Tables → Finding → Type 0
 DepsFinds t (findings.Deps list items before turn) = (list ≡ dependences t) × (items ≡ length t.items) × (before ≡ before_count list) × (before + turn ≡ length list)
 DepsFinds t _ = ⊥
 
+-- What `spare` finds.
+abbrev pub SpareFinds : Tables → Finding → Type 0
+SpareFinds t (findings.Cycle events) = ShowsCycle t events
+SpareFinds t (findings.Spare list waits) = HasNoCycle t × ShowsSpare t list × (waits ≡ wait_count t)
+SpareFinds t _ = ⊥
+
 abbrev pub Finds : Command → Tables → Finding → Type 0
 Finds commands.Check t f = CheckFinds t f
 Finds commands.Ordered t f = OrderedFinds t f
 Finds commands.Deps t f = DepsFinds t f
+Finds commands.Spare t f = SpareFinds t f
 
 -- What a command finds in a log of so many lines: the fault that it shows of the log, or else what it finds in the tables.
 abbrev pub IsFound : Command → ℕ → List Lined → Finding → Type 0

@@ -9,4 +9,6 @@ pub enum Command {
     Ordered,
     /// The pairs of items that interfere.
     Deps,
+    /// The listed waits that others imply.
+    Spare,
 }

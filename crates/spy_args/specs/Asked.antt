@@ -6,7 +6,7 @@ use Rattle.spy_words.specs.Reading.{is_digits, has_leading_zero}
 use Rattle.spy_args.specs.CommandLine.{values_in}
 use Rattle.spy_args.specs.declared.request.Request.{Request}
 use Rattle.spy_args.specs.declared.request.Request.TheVariants.{Judge, Print, Demo}
-use Rattle.semantics.specs.declared.command.Command.TheVariants.{Check, Ordered, Deps}
+use Rattle.semantics.specs.declared.command.Command.TheVariants.{Check, Ordered, Deps, Spare}
 
 -- A word says a size: it is one to three digits without a leading zero, and the number is from 1 to 500.
 abbrev pub is_size : Text → Bool
@@ -25,7 +25,7 @@ size_at word = if is_size word then Some (digits_value 10 word) else None
 
 -- The commands without a size: the word of each, and what it asks for.
 abbrev pub plain_words : List (Text × Request)
-plain_words = (codes "check", Judge Check) ∷ (codes "ordered", Judge Ordered) ∷ (codes "deps", Judge Deps) ∷ (codes "print", Print) ∷ []
+plain_words = (codes "check", Judge Check) ∷ (codes "ordered", Judge Ordered) ∷ (codes "deps", Judge Deps) ∷ (codes "spare", Judge Spare) ∷ (codes "print", Print) ∷ []
 
 -- What a word asks for by such a table: the first row with that word says it.
 abbrev pub request_among : List (Text × Request) → Text → Option Request

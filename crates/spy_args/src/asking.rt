@@ -32,10 +32,11 @@ fn size_of(word: &[u8]) -> Option<u32>
 }
 
 /// The commands without a size: the word of each, and what it asks for.
-const PLAIN_WORDS: [(&[u8], Request); 4] = [
+const PLAIN_WORDS: [(&[u8], Request); 5] = [
     (b"check", Request::Judge(Command::Check)),
     (b"ordered", Request::Judge(Command::Ordered)),
     (b"deps", Request::Judge(Command::Deps)),
+    (b"spare", Request::Judge(Command::Spare)),
     (b"print", Request::Print),
 ];
 

@@ -1,9 +1,9 @@
 //! What each command finds in the records of a log.
 
-ghost use Rattle.std.specs.Prelude.{◌≡◌, All, IfOk};
+ghost use Rattle.std.specs.Prelude.{◌≡◌, ◌≢◌, All, IfOk};
 ghost use Rattle.findings.specs.Texts as texts;
 ghost use Rattle.spy_grammar.specs.Spelling.{Good};
-ghost use Rattle.semantics.specs.declared.command.Command.TheVariants.{Check, Deps, Ordered};
+ghost use Rattle.semantics.specs.declared.command.Command.TheVariants.{Check, Deps, Ordered, Spare};
 ghost use Rattle.outcomes.specs.Outcome.{IsFound};
 ghost use Rattle.long_values.specs.LongOutcome.{IsFoundLong};
 ghost use Rattle.semantics.specs.Records.{AreLines};
@@ -13,7 +13,7 @@ use crate::checking::check_in;
 use bumpalo::Bump;
 use findings::Finding;
 use log_decl::{DeclEnd, declare};
-use log_findings::{deps_finding, fault_found, ordered_finding};
+use log_findings::{deps_finding, fault_found, ordered_finding, spare_finding};
 use logs::Log;
 use long_values::check_finds_the_same_in_long;
 use memory::Memory;
@@ -23,27 +23,25 @@ use semantics::Command;
 use spy_grammar::Lined;
 use std::alloc::Global;
 
-/// What `ordered` finds in a log, which is let go then.
-fn ordered_in<'a, P: ArenaSet<'a>>(alloc: Global, log: Log<'a, P>) -> Result<Finding, Memory>
-    ensures found { IfOk result (IsFoundOf Ordered log.entry) }
+/// What a command finds in a log that it only looks at: a row for each such command.
+fn seen_in<'a, P: ArenaSet<'a>>(
+    alloc: Global,
+    command: Command,
+    log: &Log<'a, P>,
+) -> Result<Finding, Memory>
+    requires { command ≢ Check }
+    ensures found { IfOk result (IsFoundOf command log.now) }
     ensures text { IfOk result texts.Good }
 {
-    let found = ordered_finding(alloc, &log);
-    log.let_go();
-    found
+    match command {
+        Command::Check => unreachable!(),
+        Command::Ordered => ordered_finding(alloc, log),
+        Command::Deps => deps_finding(alloc, log),
+        Command::Spare => spare_finding(alloc, log),
+    }
 }
 
-/// What `deps` finds in a log, which is let go then.
-fn deps_in<'a, P: ArenaSet<'a>>(alloc: Global, log: Log<'a, P>) -> Result<Finding, Memory>
-    ensures found { IfOk result (IsFoundOf Deps log.entry) }
-    ensures text { IfOk result texts.Good }
-{
-    let found = deps_finding(alloc, &log);
-    log.let_go();
-    found
-}
-
-/// What a command finds in a log: a row for each command.
+/// What a command finds in a log, which is let go then.
 fn found_in<'a, P: ArenaSet<'a>>(
     alloc: Global,
     command: Command,
@@ -52,11 +50,12 @@ fn found_in<'a, P: ArenaSet<'a>>(
     ensures found { IfOk result (IsFoundOf command log.entry) }
     ensures text { IfOk result texts.Good }
 {
-    match command {
-        Command::Check => check_in(alloc, log),
-        Command::Ordered => ordered_in(alloc, log),
-        Command::Deps => deps_in(alloc, log),
+    if command == Command::Check {
+        return check_in(alloc, log);
     }
+    let found = seen_in(alloc, command, &log);
+    log.let_go();
+    found
 }
 
 /// What a command finds in the records of a log, which has so many lines: the fault that is shown, or what there is to find in a log without one.
@@ -109,4 +108,14 @@ pub fn deps(alloc: Global, records: &Vec<Lined>, lines: u32) -> Result<Finding, 
     ensures text { IfOk result texts.Good }
 {
     find(alloc, Command::Deps, records, lines)
+}
+
+/// What `spare` finds: the fault that is shown, a cycle, or the listed waits that others imply.
+pub fn spare(alloc: Global, records: &Vec<Lined>, lines: u32) -> Result<Finding, Memory>
+    requires good { All (λ l. Good l.rec) records.now.items }
+    requires lines { AreLines lines records.now.items }
+    ensures found { IfOk result (IsFound Spare lines records.now.items) }
+    ensures text { IfOk result texts.Good }
+{
+    find(alloc, Command::Spare, records, lines)
 }

@@ -11,7 +11,7 @@ mod sorted;
 mod stop;
 
 pub use clean::Clean;
-pub use commands::{check, deps, find, ordered};
+pub use commands::{check, deps, find, ordered, spare};
 pub use declared::Declared;
 pub use judged::Judged;
 pub use memory::Memory;

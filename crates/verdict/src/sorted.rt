@@ -4,7 +4,7 @@ ghost use Rattle.std.specs.Prelude.{◌≡◌, None, IfOk, IfErr, OnOk};
 ghost use Rattle.semantics.specs.declared.command.Command.TheVariants.{Check};
 ghost use Rattle.semantics.specs.Counts.{read_count};
 ghost use Rattle.semantics.specs.Events.{graph_of, HasNoCycle};
-ghost use Rattle.outcomes.specs.Outcome.{IsSound, event_of};
+ghost use Rattle.outcomes.specs.Outcome.{IsSound};
 ghost use Rattle.long_values.specs.LongOutcome.{CheckFindsLong, IsSoundLong};
 ghost use Rattle.semantics.specs.Races.{IsRaceFree};
 ghost use Rattle.point_laws.specs.Alike.{AreFirsts};
@@ -19,7 +19,7 @@ use crate::clean::Clean;
 use crate::reads::judged_reads;
 use crate::stop::Stop;
 use atoms::Atoms;
-use log_findings::{Sorting, Unsorted, cycle_found, race_found, sort_log};
+use log_findings::{Sorting, Unsorted, cycle_found, event_at, race_found, sort_log};
 use logs::Log;
 use point_set::PointSet;
 use race_scan::{ScanEnd, scan};
@@ -98,16 +98,6 @@ pub(crate) fn sorted_parts<'a, P: ArenaSet<'a>>(
             drop(sorting);
             Err(stop)
         }
-    }
-}
-
-/// The event of a node, and 0 where there is none.
-fn event_at<'a, P: ArenaSet<'a>>(log: &Log<'a, P>, node: usize) -> u32
-    ensures { result ≡ event_of log.now node }
-{
-    match log.nodes().get(node) {
-        Some(node) => node.done,
-        None => 0,
     }
 }
 

@@ -1,5 +1,6 @@
 mod WorkedPairs
 mod WorkedRaces
+mod WorkedWaits
 mod Lists
 mod Frames
 mod FewPlaces

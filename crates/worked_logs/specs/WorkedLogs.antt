@@ -54,6 +54,10 @@ with_copy runs = region 3 ++ task_with 1 Wd ++ task_with 2 Rw ++ task_with 3 Ro 
 abbrev pub stale_copy : List Record
 stale_copy = with_copy (Run 1 1 [] ∷ Copy 1 2 1 one 2 one ∷ Run 2 3 (2 ∷ []) ∷ Run 3 4 (3 ∷ []) ∷ End 18 ∷ [])
 
+-- The last run waits on the first one too, which the second waits for through the copy.
+abbrev pub with_spare_wait : List Record
+with_spare_wait = with_copy (Run 1 1 [] ∷ Copy 1 2 1 one 2 one ∷ Run 2 3 (2 ∷ []) ∷ Run 3 4 (1 ∷ 3 ∷ []) ∷ End 18 ∷ [])
+
 -- It is taken after.
 abbrev pub fresh_copy : List Record
 fresh_copy = with_copy (Run 1 1 [] ∷ Run 2 2 one ∷ Copy 1 2 1 one 3 (2 ∷ []) ∷ Run 3 4 (3 ∷ []) ∷ End 18 ∷ [])
