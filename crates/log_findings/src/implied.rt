@@ -22,18 +22,23 @@ use semantics::{ListedWait, LogNode};
 use spare_waits::spare;
 use std::alloc::Global;
 
-/// How many waits some nodes list. Only more of them than any memory holds would pass the range of the count.
-fn count_waits(nodes: &[LogNode]) -> Result<u64, Memory>
+/// The events for which some nodes wait, list by list.
+fn all_waits(alloc: Global, nodes: &[LogNode]) -> Result<Vec<u32>, Memory>
+    ensures { IfOk result (λ all. length all.items ≡ sum_by (λ n. length n.waits) nodes.now) }
+{
+    let mut all = Vec::new(alloc);
+    for node in nodes {
+        all.extend_from_slice(node.waits.as_slice())?;
+    }
+    Ok(all)
+}
+
+/// How many waits some nodes list. Only a list of them all shows that the count has room in its type.
+fn count_waits(alloc: Global, nodes: &[LogNode]) -> Result<u64, Memory>
     ensures { IfOk result (λ n. n ≡ sum_by (λ n. length n.waits) nodes.now) }
 {
-    let mut count = 0u64;
-    for node in nodes {
-        let Some(more) = count.checked_add(node.waits.len() as u64) else {
-            return Err(Memory);
-        };
-        count = more;
-    }
-    Ok(count)
+    let all = all_waits(alloc, nodes)?;
+    Ok(all.len() as u64)
 }
 
 /// The event that a node lists in a place, and 0 where there is none.
@@ -71,7 +76,7 @@ fn waits_found<'a, P: ArenaSet<'a>>(
     ensures found { IfOk result (SpareFinds log.now) }
     ensures text { IfOk result texts.Good }
 {
-    let waits = count_waits(log.nodes())?;
+    let waits = count_waits(alloc, log.nodes())?;
     let list = spare(alloc, &sorting.graph, &sorting.order, &sorting.reach)?;
     let pairs = events_of(alloc, log, list.as_slice())?;
     Ok(spare_found(PairList::from_vec(pairs), waits))
