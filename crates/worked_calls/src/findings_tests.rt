@@ -8,12 +8,14 @@ use value_terms::{Base, Contribution};
 
 /// Each form of a report, with the least and the greatest numbers, and each form of a value.
 #[rattlefmt::skip]
-const REPORTS: [&str; 17] = [
+const REPORTS: [&str; 19] = [
     "accepted tasks 0 operations 0 reads 0\n",
     "accepted tasks 4294967295 operations 4294967295 reads 18446744073709551615\n",
     "ordered tasks 4294967295 pairs 18446744073709551615\n",
     "deps items 4294967295 before 0 turn 0\n",
     "turn 4294967295 4294967295 tree 4294967295 point 18446744073709551615 field 4294967295\nbefore 1 2 tree 3 point 4 field 5\nturn 2 1 tree 3 point 4 field 5\ndeps items 3 before 1 turn 2\n",
+    "spare waits 0 of 18446744073709551615\n",
+    "spare 4294967295 0\nspare 4 1\nspare 4 1\nspare waits 3 of 3\n",
     "cycle 0\n",
     "cycle 4294967295 1 2 1\n",
     "race 4294967295 4294967295 inst 4294967295 point 18446744073709551615 field 4294967295\n",
@@ -30,7 +32,7 @@ const REPORTS: [&str; 17] = [
 
 /// Texts that are nearly those of reports.
 #[rattlefmt::skip]
-const OTHERS: [&str; 17] = [
+const OTHERS: [&str; 20] = [
     "",
     "accepted tasks 4294967296 operations 0 reads 0\n",
     "accepted tasks 00 operations 0 reads 0\n",
@@ -40,6 +42,9 @@ const OTHERS: [&str; 17] = [
     "ordered tasks +1 pairs 0\n",
     "before 1 2 tree 1 point 0 field 1\ndeps items 2 before 0 turn 1\n",
     "before 1 2 tree 1 point 0 field 1\nusage\n",
+    "spare 4 1\nspare waits 0 of 3\n",
+    "spare 4 1\nspare waits 1 of 0\n",
+    "spare 4 4294967296\nspare waits 1 of 1\n",
     "cycle\n",
     "race 1 2 inst 1 point 0 field 1",
     "differ task 3 req 1 point 0 field 1 got raw want init+1[]\n",

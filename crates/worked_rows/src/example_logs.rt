@@ -358,6 +358,55 @@ run 3 4 3
 end 22
 ";
 
+/// Barriers that list every task before them.
+pub const FULL_BARRIERS: &[u8] = b"legion-spy 1
+# Three steps over two pieces. Between steps stands a barrier, a merge that lists all tasks that ran before it. The second lists the tasks of the first step in vain: it waits for those of the second step, which waited for the first barrier.
+ispace 1 0-7
+part 1 1 disjoint
+ispace 2 0-3
+sub 1 0 2
+ispace 3 4-7
+sub 1 1 3
+fields 1 1,2
+tree 1 1 1
+task 1
+req 1 1 2 1 wd ex
+task 2
+req 2 1 3 1 wd ex
+task 3
+req 3 1 1 1 ro ex
+req 3 1 2 2 wd ex
+task 4
+req 4 1 1 1 ro ex
+req 4 1 3 2 wd ex
+task 5
+req 5 1 1 2 ro ex
+req 5 1 2 1 rw ex
+task 6
+req 6 1 1 2 ro ex
+req 6 1 3 1 rw ex
+inst 1 1 1 1,2 plain
+map 1 1 1 1
+map 2 1 1 1
+map 3 1 1 1
+map 3 2 2 1
+map 4 1 1 1
+map 4 2 2 1
+map 5 1 2 1
+map 5 2 1 1
+map 6 1 2 1
+map 6 2 1 1
+run 1 1 -
+run 2 2 -
+merge 3 1,2
+run 3 4 3
+run 4 5 3
+merge 6 1,2,4,5
+run 5 7 6
+run 6 8 6
+end 43
+";
+
 /// Two runs that wait for each other.
 pub const WAITS_IN_A_CYCLE: &[u8] = b"legion-spy 1
 # Each run waits for the other: in a real run neither would have begun.

@@ -2,10 +2,10 @@
 
 use crate::answers::answer;
 use crate::example_logs::{
-    FILL_NEVER_PUT, FOLDED_EARLY, FOLDED_TWICE, FRESH_COPY, GATHERED_REDUCTIONS, HALO_EXCHANGE,
-    HALO_STENCIL, HALO_STENCIL_UNORDERED, MERGED_WAITS, MISSING_COPY, MISSING_WAIT, NEVER_EMPTIED,
-    STALE_COPY, STALE_HALO, TURNED_WRITES, TWO_OPERATORS, TWO_TASKS, TWO_TASKS_UNORDERED,
-    UNSTATED_TURN, WAITS_IN_A_CYCLE, WRITE_THEN_READ, WRITER_APART,
+    FILL_NEVER_PUT, FOLDED_EARLY, FOLDED_TWICE, FRESH_COPY, FULL_BARRIERS, GATHERED_REDUCTIONS,
+    HALO_EXCHANGE, HALO_STENCIL, HALO_STENCIL_UNORDERED, MERGED_WAITS, MISSING_COPY, MISSING_WAIT,
+    NEVER_EMPTIED, STALE_COPY, STALE_HALO, TURNED_WRITES, TWO_OPERATORS, TWO_TASKS,
+    TWO_TASKS_UNORDERED, UNSTATED_TURN, WAITS_IN_A_CYCLE, WRITE_THEN_READ, WRITER_APART,
 };
 use std::alloc::Global;
 use std::test::Fail;
@@ -26,10 +26,11 @@ fn without_comments(alloc: Global, log: &[u8]) -> Result<Vec<u8>, Fail> {
 #[test]
 fn examples_have_their_reports(rt: HostRuntime) -> Result<(), Fail> {
     let alloc = rt.alloc();
-    let rows: [(&[u8], &[u8], &[u8]); 22] = [
+    let rows: [(&[u8], &[u8], &[u8]); 23] = [
         (WRITE_THEN_READ, b"accepted tasks 2 operations 2 reads 4\n", b"ordered tasks 2 pairs 1\n"),
         (MISSING_WAIT, b"race 1 2 inst 1 point 0 field 1\n", b"unordered 1 2 tree 1 point 0 field 1\n"),
         (MERGED_WAITS, b"accepted tasks 3 operations 3 reads 8\n", b"ordered tasks 3 pairs 2\n"),
+        (FULL_BARRIERS, b"accepted tasks 6 operations 6 reads 40\n", b"ordered tasks 6 pairs 10\n"),
         (WAITS_IN_A_CYCLE, b"cycle 1 2\n", b"cycle 1 2\n"),
         (MISSING_COPY, b"differ task 2 req 1 point 0 field 1 got raw want out:1\n", b"ordered tasks 2 pairs 1\n"),
         (STALE_COPY, b"differ task 3 req 1 point 0 field 1 got out:1 want out:2\n", b"ordered tasks 3 pairs 3\n"),
@@ -63,17 +64,19 @@ fn examples_have_their_reports(rt: HostRuntime) -> Result<(), Fail> {
 
 #[rattlefmt::skip]
 #[test]
-fn examples_have_their_dependences(rt: HostRuntime) -> Result<(), Fail> {
+fn examples_have_their_lists(rt: HostRuntime) -> Result<(), Fail> {
     let alloc = rt.alloc();
-    let rows: [(&[u8], &[u8]); 5] = [
-        (WRITE_THEN_READ, b"before 1 2 tree 1 point 0 field 1\ndeps items 2 before 1 turn 0\n"),
-        (FILL_NEVER_PUT, b"before 1 2 tree 1 point 0 field 1\ndeps items 2 before 1 turn 0\n"),
-        (GATHERED_REDUCTIONS, b"before 1 3 tree 1 point 0 field 1\nbefore 2 3 tree 1 point 0 field 1\ndeps items 3 before 2 turn 0\n"),
-        (TURNED_WRITES, b"turn 2 1 tree 1 point 0 field 1\ndeps items 2 before 0 turn 1\n"),
-        (MERGED_WAITS, b"before 1 3 tree 1 point 0 field 1\nbefore 2 3 tree 1 point 4 field 1\ndeps items 3 before 2 turn 0\n"),
+    let rows: [(&str, &[u8], &[u8]); 7] = [
+        ("deps", WRITE_THEN_READ, b"before 1 2 tree 1 point 0 field 1\ndeps items 2 before 1 turn 0\n"),
+        ("deps", FILL_NEVER_PUT, b"before 1 2 tree 1 point 0 field 1\ndeps items 2 before 1 turn 0\n"),
+        ("deps", GATHERED_REDUCTIONS, b"before 1 3 tree 1 point 0 field 1\nbefore 2 3 tree 1 point 0 field 1\ndeps items 3 before 2 turn 0\n"),
+        ("deps", TURNED_WRITES, b"turn 2 1 tree 1 point 0 field 1\ndeps items 2 before 0 turn 1\n"),
+        ("deps", MERGED_WAITS, b"before 1 3 tree 1 point 0 field 1\nbefore 2 3 tree 1 point 4 field 1\ndeps items 3 before 2 turn 0\n"),
+        ("spare", FULL_BARRIERS, b"spare 6 1\nspare 6 2\nspare waits 2 of 10\n"),
+        ("spare", STALE_COPY, b"spare waits 0 of 3\n"),
     ];
-    for (log, listed) in rows {
-        let (_, said) = answer(alloc, "deps", log)?;
+    for (command, log, listed) in rows {
+        let (_, said) = answer(alloc, command, log)?;
         assert_eq!(rt; said.as_slice(), listed);
     }
     Ok(())

@@ -11,7 +11,7 @@ use std::test::Fail;
 #[test]
 fn logs_with_some_lines_changed(rt: HostRuntime) -> Result<(), Fail> {
     let alloc = rt.alloc();
-    let rows: [(&str, &[u8], &[u8], Status, &[u8]); 43] = [
+    let rows: [(&str, &[u8], &[u8], Status, &[u8]); 54] = [
         // Two tasks over one region.
         ("ordered", TWO_TASKS, b"", Status::Yes, b"ordered tasks 2 pairs 1\n"),
         ("deps", TWO_TASKS, b"", Status::Yes, b"before 1 2 tree 1 point 0 field 1\ndeps items 2 before 1 turn 0\n"),
@@ -55,6 +55,18 @@ fn logs_with_some_lines_changed(rt: HostRuntime) -> Result<(), Fail> {
         ("ordered", TWO_OPERATORS, b"", Status::Refused, b"unordered 1 2 tree 1 point 0 field 1\n"),
         ("ordered", TWO_OPERATORS, b"10 req 2 1 1 1 red:1 ex", Status::Yes, b"ordered tasks 2 pairs 0\n"),
         ("deps", TWO_OPERATORS, b"", Status::Yes, b"before 1 2 tree 1 point 0 field 1\ndeps items 2 before 1 turn 0\n"),
+        // Waits that others imply.
+        ("spare", WRITE_THEN_READ, b"", Status::Yes, b"spare waits 0 of 1\n"),
+        ("spare", STALE_COPY, b"19 run 3 4 1,3", Status::Yes, b"spare 4 1\nspare waits 1 of 4\n"),
+        ("spare", TWO_TASKS, b"10 run 2 2 1,1", Status::Yes, b"spare 2 1\nspare waits 1 of 2\n"),
+        ("spare", TWO_TASKS, b"10 run 2 2 1,1,1", Status::Yes, b"spare 2 1\nspare 2 1\nspare waits 2 of 3\n"),
+        ("spare", TWO_TASKS, b"10 run 2 2 -", Status::Yes, b"spare waits 0 of 0\n"),
+        ("spare", TWO_TASKS, b"10 run 2 2 1\n10 merge 3 2,1,2,1\n11 end 10", Status::Yes, b"spare 3 1\nspare 3 2\nspare 3 1\nspare waits 3 of 5\n"),
+        ("spare", TWO_TASKS, b"9 merge 4 2,1\n9 run 1 1 -\n10 run 2 2 1\n10 merge 3 2,4\n11 end 11", Status::Yes, b"spare 4 1\nspare 3 2\nspare waits 2 of 5\n"),
+        ("spare", WRITE_THEN_READ, b"12 run 1 1 2", Status::Refused, b"cycle 1 2\n"),
+        ("spare", TWO_TASKS, b"9 run 1 1 1", Status::Refused, b"cycle 1\n"),
+        ("spare", TWO_TASKS, b"10 run 2 2 7", Status::Fault, b"fault 10 undefined-event\n"),
+        ("spare", TURNED_WRITES, b"6 req 1 1 1 1 rw ex\n8 req 2 1 1 1 rw ex", Status::Fault, b"fault 9 serial-order\n"),
         // The frame of a log.
         ("ordered", WRITE_THEN_READ, b"14", Status::Fault, b"fault 14 ended\n"),
         ("ordered", WRITE_THEN_READ, b"14 end 11", Status::Fault, b"fault 14 count\n"),
@@ -79,11 +91,13 @@ fn logs_with_some_lines_changed(rt: HostRuntime) -> Result<(), Fail> {
 #[test]
 fn whole_logs(rt: HostRuntime) -> Result<(), Fail> {
     let alloc = rt.alloc();
-    let rows: [(&str, &[u8], Status, &[u8]); 15] = [
+    let rows: [(&str, &[u8], Status, &[u8]); 17] = [
         ("ordered", b"", Status::Fault, b"fault 1 header\n"),
         ("deps", b"# nothing\n", Status::Fault, b"fault 2 header\n"),
         ("ordered", b"legion-spy 1\nispace 1 0-1048575\nend 1\n", Status::Yes, b"ordered tasks 0 pairs 0\n"),
         ("deps", b"legion-spy 1\nend 0\n", Status::Yes, b"deps items 0 before 0 turn 0\n"),
+        ("spare", b"", Status::Fault, b"fault 1 header\n"),
+        ("spare", b"legion-spy 1\nend 0\n", Status::Yes, b"spare waits 0 of 0\n"),
         ("ordered", b"legion-spy 1\nispace 1 0-1048575\nispace 2 5\nend 2\n", Status::Fault, b"fault 3 too-many-points\n"),
         ("ordered", b"legion-spy 1\nispace 1 0-9\npart 1 1 disjoint\nispace 2 0-5\nsub 1 0 2\nispace 3 5-9\nsub 1 1 3\nend 6\n", Status::Fault, b"fault 7 not-disjoint\n"),
         ("ordered", b"legion-spy 1\nispace 1 0-9\npart 1 1 aliased\nispace 2 0-5\nsub 1 0 2\nispace 3 5-9\nsub 1 1 3\nend 6\n", Status::Yes, b"ordered tasks 0 pairs 0\n"),

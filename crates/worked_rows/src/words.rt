@@ -13,13 +13,15 @@ use std::test::Fail;
 #[test]
 fn words_that_read_nothing(rt: HostRuntime) -> Result<(), Fail> {
     let alloc = rt.alloc();
-    let rows: [(&[&str], Status, &[u8]); 20] = [
+    let rows: [(&[&str], Status, &[u8]); 22] = [
         (&[], Status::Usage, b"usage\n"),
         (&[""], Status::Usage, b"usage\n"),
         (&["orderd"], Status::Usage, b"usage\n"),
         (&["ordered", "ordered"], Status::Usage, b"usage\n"),
         (&["--help"], Status::Usage, b"usage\n"),
         (&["check", "--size", "4"], Status::Usage, b"usage\n"),
+        (&["spare", "--size", "4"], Status::Usage, b"usage\n"),
+        (&["spare", "x"], Status::Usage, b"usage\n"),
         (&["demo"], Status::Usage, b"usage\n"),
         (&["demo", "--size"], Status::Usage, b"usage\n"),
         (&["demo", "--size", "0"], Status::Usage, b"usage\n"),
