@@ -10,6 +10,6 @@ mod touches;
 mod visits;
 
 pub use access::{Access, Visit};
-pub use laws::{first_race_is_first, groups_tell, touches_are_accesses};
+pub use laws::{first_race_is_first, groups_tell};
 pub use scan::{Clashing, shown_clash};
 pub use touches::{Touch, push_touches};

@@ -13,8 +13,7 @@ use crate::cell_scan::first_race;
 use crate::touches::{Touch, sort};
 use crate::visits::visits_of;
 use event_graph::{Graph, Order};
-use log_laws::replay_order_lists;
-use reach_marks::{Reach, before_is_transitive};
+use reach_marks::Reach;
 use semantics::Cell;
 use std::alloc::{AllocError, Global};
 
@@ -80,16 +79,6 @@ fn first_clash(
     Ok(None)
 }
 
-/// What the order and the marks of a graph say of each other. There is nothing to do.
-fn are_ranked(graph: &Graph, order: &Order, reach: &Reach)
-    requires order { IsOrderOf graph.now order.now }
-    requires reach { AreMarksOf graph.now reach.now }
-    ensures { AreRanked order.now reach.now }
-{
-    replay_order_lists();
-    before_is_transitive();
-}
-
 /// The race that is shown of what the nodes of a graph do at cells. The time is that of a sort of the touches, and linear in them but for that.
 pub fn shown_clash(
     alloc: Global,
@@ -104,7 +93,6 @@ pub fn shown_clash(
     ensures { IfOk result (λ r. MatchOption r (IsFree (before_in reach.now) order.now touches.items)
         (IsShown (before_in reach.now) (rank_in reach.now) order.now touches.items)) }
 {
-    are_ranked(graph, order, reach);
     let mut sorted = touches;
     sort(&mut sorted);
     let clash = first_clash(alloc, reach, order.as_slice(), sorted.as_slice())?;

@@ -13,7 +13,6 @@ use crate::places::{place_of, places_at, places_of};
 use crate::rounds::order_by;
 use crate::stuck::Stuck;
 use crate::waiters::waiters_of;
-use log_laws::{replay_order_lists, stuck_nodes_have_cycles};
 use memory::Memory;
 use std::alloc::{AllocError, Global};
 use std::collections::HashMap;
@@ -144,8 +143,6 @@ impl Graph {
         requires none { shown_cycle self.now ≡ None }
         ensures { IfOk result (IsOrderOf self.now) }
     {
-        replay_order_lists();
-        stuck_nodes_have_cycles();
         let order = Order::of(alloc, self.nodes.len(), taken)?;
         Ok(order)
     }
@@ -155,7 +152,6 @@ impl Graph {
         requires { shown_cycle self.now ≡ Some cycle.now }
         ensures { IfOk result (AreCycleEvents self.now) }
     {
-        stuck_nodes_have_cycles();
         let events = events_at(alloc, self.nodes.as_slice(), cycle)?;
         Ok(events)
     }

@@ -11,7 +11,7 @@ mod writing;
 pub use codes::code_text;
 pub use finding::{Dep, Finding};
 pub use lists::{DepList, EventList, PairList};
+pub use memory::Memory;
 pub use spy_grammar::Code;
 pub use value_terms::Value;
-pub use memory::Memory;
 pub use writing::{cannot_read_text, count_before, good_finding, text, usage_text};

@@ -8,8 +8,8 @@ ghost use Rattle.findings.specs.Cells.{with_cell, words_in};
 ghost use Rattle.findings.specs.Texts as texts;
 ghost use Rattle.findings.specs.Texts.{small, row_text, line_text, lines_text, Fits, IsWhole, Good};
 
-use crate::cells::{Listed, ReportCell, last_words};
 use crate::cells::ReportCell::*;
+use crate::cells::{Listed, ReportCell, last_words};
 use crate::codes;
 use crate::finding::{Dep, Finding};
 use crate::value_text::push_value;

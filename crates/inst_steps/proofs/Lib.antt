@@ -3,6 +3,4 @@ mod Allowed
 mod Behind
 mod Numbers
 mod Starting
-mod StoreLaws
 mod Sweeping
-mod Covered

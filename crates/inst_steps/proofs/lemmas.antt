@@ -1,2 +1,4 @@
 -- Lemmas for the proofs of other crates.
 pub mod StoreMaps
+pub mod StoreLaws
+pub mod Covered

@@ -4,7 +4,6 @@
 mod act;
 mod apply;
 mod iterator;
-mod laws;
 mod of_nodes;
 mod spot;
 mod start;
@@ -14,7 +13,6 @@ mod view;
 
 pub use act::Action;
 pub use iterator::{Actions, Steps};
-pub use laws::{steps_touch_cells_of_instances, stores_hold_states, weights_grow_by_moves};
 pub use of_nodes::{actions_on, steps, steps_on};
 pub use store::Store;
 pub use view::View;

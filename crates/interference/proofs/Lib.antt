@@ -1,5 +1,4 @@
+pub mod lemmas
 mod AllPairs
 mod Answering
-mod Counting
 mod Rows
-mod Turning

@@ -1,4 +1,4 @@
+pub mod lemmas
 mod Each
 mod Numbered
-mod Spelled
 mod Counted

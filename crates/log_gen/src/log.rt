@@ -5,7 +5,6 @@ ghost use Rattle.std.specs.List.{AllByRecursion};
 ghost use Rattle.spy_grammar.specs.Spelling.{Good};
 ghost use Rattle.log_gen.specs.Stencil as stencils;
 
-use crate::laws::stencil_logs_are_good;
 use crate::pieces::{
     push_boundaries, push_fill, push_halos, push_head, push_instances, push_pieces, push_puts,
     push_tree,
@@ -54,6 +53,7 @@ fn push_log(alloc: Global, records: &mut Vec<Record>, n: u32) -> Result<(), Allo
 }
 
 /// The stencil log of `n` pieces. Record `k`, counted from 0, is meant to stand on line `k + 1`.
+#[tactic(auto, using(crate::proofs::lemmas::Spelled::log_good, crate::proofs::Counted::log_length))]
 pub fn stencil(alloc: Global, n: u32) -> Result<Vec<Record>, Memory>
     requires some { 1 ≤ n }
     requires few { n ≤ 500 }
@@ -61,7 +61,6 @@ pub fn stencil(alloc: Global, n: u32) -> Result<Vec<Record>, Memory>
     ensures good { IfOk result (λ rs. AllByRecursion Good rs.items) }
     ensures count { IfOk result (λ rs. length rs.items ≡ 148 * n - 14) }
 {
-    stencil_logs_are_good();
     let mut records = Vec::new(alloc);
     push_log(alloc, &mut records, n)?;
     Ok(records)

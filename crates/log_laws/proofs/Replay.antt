@@ -18,7 +18,7 @@ use Rattle.log_laws.proofs.lemmas.Apart.{Apart, PairsBy, all_pairs, apart_flat, 
 use Rattle.log_laws.proofs.lemmas.StepLists.{moves_at, steps_at, MayFollow, step_at}
 use Rattle.log_laws.proofs.lemmas.Tidy.{is_of, a_read, no_read}
 use Rattle.log_laws.proofs.lemmas.Rounds.{once, taken_within, in_turn, not_before_itself, replay, listed}
-use Rattle.log_laws.proofs.Cycles.{stuck_in, stuck_cycle}
+use Rattle.log_laws.proofs.lemmas.Cycles.{stuck_in, stuck_cycle}
 
 -- ---- the moves of one node: reads come first
 

@@ -3,8 +3,15 @@ pub mod Members
 pub mod Apart
 pub mod Lists
 pub mod Rounds
+pub mod Cycles
 pub mod Sane
 pub mod Admitted
 pub mod StepLists
 pub mod Tidy
+pub mod Swap
+pub mod Answers
+pub mod Laws
+pub mod Listed
+pub mod SerialOrder
+pub mod ReadLogs
 pub mod Numbered

@@ -10,16 +10,13 @@ ghost use Rattle.semantics.specs.Execution.{State, effect, sees, executed, Reads
 ghost use Rattle.semantics.specs.Interleavings.{IsInterleaving};
 ghost use Rattle.semantics.specs.Races.{IsCalm, IsTidy, IsRaceFree};
 
-use value_terms::changes_commute;
-
 /// Two moves that conflict at no cell may change places, from any state: the state after them stays, and so does what the one reads.
+#[tactic(auto, using(crate::proofs::lemmas::Swap::swapped_state, crate::proofs::lemmas::Swap::swapped_sight))]
 pub fn swap_law()
     ensures state { (m n : Move) → IsCalm m n → (s : State) (cell : Cell)
         → effect n (effect m s) cell ≡ effect m (effect n s) cell }
     ensures sight { (m n : Move) → IsCalm m n → (s : State) → sees n (effect m s) ≡ sees n s }
-{
-    changes_commute();
-}
+{}
 
 /// All interleavings of a log without a race end in one state, and in all of them each step reads the same value.
 pub fn one_answer()
@@ -29,6 +26,4 @@ pub fn one_answer()
     ensures reads { (t : Tables) → IsTidy t → IsRaceFree t → (xs ys : List Step) → IsInterleaving t xs
         → IsInterleaving t ys
         → (s : State) (x : Step) (v : Value) → ReadsIn xs s x v → ReadsIn ys s x v }
-{
-    swap_law();
-}
+{}

@@ -7,8 +7,6 @@ ghost use Rattle.spy_grammar.specs.Spelling.{Good};
 ghost use Rattle.semantics.specs.Records.{Hold, Reads, lined, records_of, text_of};
 ghost use Rattle.semantics.specs.TextFaults.{text_fault};
 
-use spy_grammar::{spelling_is_one_line, spelling_is_read};
-
 /// The records of a log that lines hold, or that is read, are good.
 pub fn read_logs_are_good()
     ensures held { (line : ℕ) (lines : List (List ℕ)) (log : List Lined) → Hold line lines log
@@ -18,11 +16,10 @@ pub fn read_logs_are_good()
 {}
 
 /// No input holds two logs.
+#[tactic(auto, using(crate::proofs::lemmas::ReadLogs::one_read))]
 pub fn one_log()
     ensures { (bytes : List ℕ) (log other : List Lined) → Reads bytes log → Reads bytes other → log ≡ other }
-{
-    spelling_is_read();
-}
+{}
 
 /// The text of the records of an input has no fault of its bytes or lines if the input has none, and holds these records and nothing else.
 pub fn printed_logs_are_read()
@@ -32,8 +29,4 @@ pub fn printed_logs_are_read()
         → Reads (text_of (records_of log)) (lined (records_of log)) }
     ensures records { (bytes : List ℕ) (log : List Lined) → Reads bytes log
         → records_of (lined (records_of log)) ≡ records_of log }
-{
-    read_logs_are_good();
-    spelling_is_read();
-    spelling_is_one_line();
-}
+{}

@@ -18,17 +18,13 @@ ghost use Rattle.semantics.specs.declared.command.Command.{Command};
 ghost use Rattle.semantics.specs.declared.command.Command.TheVariants.{Check};
 ghost use Rattle.semantics.specs.Faults.{log_fault};
 
-use crate::answer_laws::{one_answer, swap_law};
-use semantics::nodes_are_of_records;
-
 /// The nodes have different events, and wait on events of nodes alone.
+#[tactic(auto, using(crate::proofs::lemmas::Laws::faultless_linked))]
 pub fn faultless_logs_are_linked()
     ensures { (command : Command) (lines : ℕ) (log : List Lined) → AllByRecursion Good (records_of log)
         → log_fault command lines log ≡ None
         → AreLinked (graph_of (tables_of log).nodes) }
-{
-    nodes_are_of_records();
-}
+{}
 
 /// Two steps of one node conflict only where the one is a read and the other is none.
 pub fn faultless_logs_are_tidy()
@@ -36,13 +32,12 @@ pub fn faultless_logs_are_tidy()
 {}
 
 /// Where there is no cycle, the steps in replay order are an interleaving: so there is one.
+#[tactic(auto, using(crate::proofs::lemmas::Laws::replay_interleaves))]
 pub fn replay_is_an_interleaving()
     ensures { (lines : ℕ) (log : List Lined) → AllByRecursion Good (records_of log)
         → log_fault Check lines log ≡ None
         → HasNoCycle (tables_of log) → IsInterleaving (tables_of log) (replay_steps (tables_of log)) }
-{
-    nodes_are_of_records();
-}
+{}
 
 /// Where there is no race, all interleavings end in one state, and in all of them each step reads the same value.
 pub fn faultless_logs_have_one_answer()
@@ -54,10 +49,7 @@ pub fn faultless_logs_have_one_answer()
         → IsRaceFree (tables_of log) → (xs ys : List Step)
         → IsInterleaving (tables_of log) xs → IsInterleaving (tables_of log) ys
         → (s : State) (x : Step) (v : Value) → ReadsIn xs s x v → ReadsIn ys s x v }
-{
-    faultless_logs_are_tidy();
-    one_answer();
-}
+{}
 
 /// A log lists no step twice.
 pub fn steps_are_listed_once()
@@ -77,7 +69,4 @@ pub fn neighbours_may_change_places()
     ensures sight { (lines : ℕ) (log : List Lined) → log_fault Check lines log ≡ None
         → IsRaceFree (tables_of log) → (x y : Step) → AreUnordered (tables_of log) x y → (s : State)
         → (sees y.move (effect x.move s) ≡ sees y.move s) × (sees x.move (effect y.move s) ≡ sees x.move s) }
-{
-    faultless_logs_are_tidy();
-    swap_law();
-}
+{}

@@ -8,7 +8,6 @@ ghost use Rattle.semantics.specs.TextFaults.{lines_fault};
 ghost use Rattle.log_reading.specs.Spelled.{EndsBy, HasFault, HasFaultOfLines, Spells};
 
 use crate::reading::{Input, SpellEnd, read_input};
-use log_laws::read_logs_are_good;
 use semantics::MOST_BYTES;
 use spy_grammar::Code;
 use spy_lines::{LineList, Lines};
@@ -39,7 +38,6 @@ fn records_of(alloc: Global, list: LineList) -> Result<Input, SpellEnd>
     ensures lines { IfOk result (λ i. AreLines i.lines i.records.items) }
     ensures fault { EndsBy (HasFaultOfLines list) result }
 {
-    read_logs_are_good();
     let input = read_input(alloc, &list)?;
     Ok(input)
 }

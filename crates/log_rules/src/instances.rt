@@ -198,9 +198,7 @@ fn lacks<P: PointSet>(draft: &Draft<P>, space: u32, fields: &Nums, id: u32) -> b
 fn any_lacks<P: PointSet>(draft: &Draft<P>, space: u32, fields: &Nums, insts: &[u32]) -> bool
     ensures { result ≡ list_any (lacks draft.now (points_in draft.now space) fields.now) insts.now }
 {
-    insts
-        .iter()
-        .any(|inst| lacks(draft, space, fields, *inst))
+    insts.iter().any(|inst| lacks(draft, space, fields, *inst))
 }
 
 /// Whether an instance lacks one of these fields.

@@ -1,5 +1,5 @@
 -- In the tables of an admitted log each id names one item, each item stands once in serial order, and each task is run once.
-use Rattle.std.proofs.Common.{◌≡◌, ◌≢◌, ℕ, zero, suc, ◌<◌, inl, inr, true, false, ◌&&◌, ◌==◌, nat_lt, List, [], ◌∷◌, ◌++◌, Some, None, length, get_or, position, unwrap_or, slice_get, refl, sym, ap, ◌∙◌, arith, AllPairs}
+use Rattle.std.proofs.Common.{◌≡◌, ◌≢◌, ℕ, zero, suc, ◌<◌, inl, inr, true, false, ◌&&◌, ◌==◌, nat_lt, List, [], ◌∷◌, ◌++◌, Some, length, get_or, position, unwrap_or, slice_get, refl, sym, ap, ◌∙◌, arith, AllPairs}
 use Rattle.std.specs.List.{list_any, list_all}
 use Rattle.std.specs.Option.{option_map_or}
 use Rattle.std.proofs.lemmas.Bool.{and_parts, ltb-true, eqb-true, eq-eqb, true≢false, false_from_ne_true, cases_eq, cases_Bool}
@@ -20,13 +20,12 @@ use Rattle.semantics.specs.declared.tables.Op.TheVariants as operations
 use Rattle.semantics.specs.Records.{records_of}
 use Rattle.semantics.specs.Tables.{Tables, with_record, tables_of, place_of}
 use Rattle.semantics.specs.SerialOrder.{serial}
-use Rattle.semantics.specs.Steps.{id_of}
 use Rattle.semantics.specs.Rules.{is_declared, is_task, names, task_id, is_run_again, runs_item}
-use Rattle.semantics.specs.Faults.{declaration_fault, log_fault}
-use Rattle.log_laws.proofs.lemmas.Members.{Member, Each, both_none, each_more, none_at, any_at, any_found, find_any, member_at, found_at}
+use Rattle.log_laws.proofs.lemmas.Members.{Member, Each, each_more, none_at, any_at, any_found, find_any, member_at, found_at}
 use Rattle.log_laws.proofs.lemmas.Apart.{PairsBy, all_pairs, pairs_more}
 use Rattle.log_laws.proofs.lemmas.Admitted.{Unbroken, rule_kept, IsFaultless, by_records, keeps_of}
 use Rattle.log_laws.proofs.lemmas.Lists.{place_len}
+use Rattle.log_laws.proofs.lemmas.SerialOrder.{items_placed, serial_has_each}
 use Rattle.long_values.proofs.LiftSequential.{AreNamed}
 use Rattle.long_values.proofs.LiftExecution.{AreRunOnce}
 
@@ -113,11 +112,11 @@ runs_of command log f = by_records (λ r. Unit {0}) AreRuns (records_of log) (λ
 
 -- ---- what follows
 
--- By the laws of ids and of the serial order.
-pub named : (t : Tables) → ((item : ℕ) → item < length t.items → place_of t.items (id_of t item) ≡ item) → AllPairs (λ a b. a ≢ b) (serial t) → AreNamed t
-named t place once = record {
-  ids = λ item i at. ap (λ o. place_of t.items (option_map_or (λ (i : Item). i.id) o 0)) (sym at) ∙ place item (slice_get_within t.items item i at);
-  places = λ n item at. place_found (λ i. i) (serial t) n item once at;
+-- The id of an item leads back to it, and each item stands in serial order once.
+pub named : (command : Command) (log : List Lined) → IsFaultless command log → AreNamed (tables_of log)
+named command log f = record {
+  ids = λ item i at. ap (λ o. place_of (tables_of log).items (option_map_or (λ (i : Item). i.id) o 0)) (sym at) ∙ items_placed log f.records item (slice_get_within (tables_of log).items item i at);
+  places = λ n item at. place_found (λ i. i) (serial (tables_of log)) n item (all_pairs (λ a b. a ≢ b) (serial (tables_of log)) (serial_has_each log f.records).0) at;
 }
 
 once_of : (t : Tables) → AreRuns t → AreRunOnce t
@@ -135,7 +134,3 @@ once_of t h = record {
 
 pub run_once : (command : Command) (log : List Lined) → IsFaultless command log → AreRunOnce (tables_of log)
 run_once command log f = once_of (tables_of log) (runs_of command log f)
-
-pub no_declaration_fault : (command : Command) (lines : ℕ) (log : List Lined) → log_fault command lines log ≡ None → declaration_fault lines log ≡ None
-unfolding log_fault
-no_declaration_fault command lines log none = (both_none (declaration_fault lines log) _ none).0

@@ -26,8 +26,6 @@ ghost use Rattle.long_values.specs.LongSequential.{LongRead, Places, after_items
 ghost use Rattle.long_values.specs.LongExecution.{LongState, start_long, read_place, executed_long, reads_at, IsShort, IsRightLong};
 ghost use Rattle.long_values.specs.LongOutcome.{CheckFindsLong, IsFoundLong, IsOutcomeLong};
 
-use log_laws::{item_ids_are_apart, serial_order_lists};
-
 /// Two contributions by one operator may be added in either order, unless they are of one requirement and carry different lists.
 pub fn contributions_commute()
     ensures { (op : ℕ) (c d : Contribution) (reads others : Readings) → (c ≡ d → reads ≡ others)
@@ -63,10 +61,7 @@ pub fn tasks_read_where_they_should()
         → IsInterleaving (tables_of log) xs
         → (r : LongRead) → Contains (executed_long (tables_of log) xs (start_long (tables_of log))).reads r
         → Contains (places_read (tables_of log) (place_of (tables_of log).items r.task)) (r.req, r.place) }
-{
-    item_ids_are_apart();
-    serial_order_lists();
-}
+{}
 
 /// The places that a task reads are listed by requirement, then by point, and then by field.
 pub fn places_read_ascend()
@@ -80,10 +75,7 @@ pub fn places_read_ascend()
 pub fn right_reads_are_right_in_long()
     ensures { (lines : ℕ) (log : List Lined) → log_fault Check lines log ≡ None → IsRight (tables_of log)
         ↔ IsRightLong (tables_of log) }
-{
-    item_ids_are_apart();
-    serial_order_lists();
-}
+{}
 
 /// What `check` finds in the tables of a log without a fault, in a log, and on an input, is the same by long values as by values.
 pub fn check_finds_the_same_in_long()
@@ -92,6 +84,4 @@ pub fn check_finds_the_same_in_long()
     ensures found { (lines : ℕ) (log : List Lined) (f : Finding) → IsFound Check lines log f
         ↔ IsFoundLong lines log f }
     ensures outcome { (bytes : List ℕ) (f : Finding) → IsOutcome Check bytes f ↔ IsOutcomeLong bytes f }
-{
-    right_reads_are_right_in_long();
-}
+{}

@@ -11,9 +11,11 @@ use Rattle.findings.specs.declared.finding.Dep.{Dep}
 use Rattle.findings.specs.declared.finding.Finding.{Finding}
 use Rattle.findings.specs.declared.finding.Finding.TheVariants.{Accepted, Ordered, Deps, Spare, Cycle, Race, Unordered, Differ, Fault}
 use Rattle.spy_grammar.specs.declared.record.Lined.{Lined}
+use Rattle.spy_grammar.specs.Spelling.{Good}
 use Rattle.semantics.specs.declared.command.Command.{Command}
 use Rattle.semantics.specs.declared.command.Command.TheVariants as commands
 use Rattle.semantics.specs.declared.places.Place.{Place}
+use Rattle.semantics.specs.Records.{records_of}
 use Rattle.semantics.specs.Tables.{Tables, tables_of}
 use Rattle.semantics.specs.Counts.{task_count, operation_count, read_count, wait_count}
 use Rattle.semantics.specs.Kinds.{is_free, item_kind, item_places, kind_at, least_of, least_place, pairs, strongest}
@@ -25,12 +27,16 @@ use Rattle.semantics.specs.Races.{IsRaceFree}
 use Rattle.semantics.specs.Reads.{Seen, Differs, IsRight, shown_difference, want_of}
 use Rattle.semantics.specs.Shown.{IsKept, is_task_at, run_of, task_pairs}
 use Rattle.semantics.specs.Faults.{log_fault}
-use Rattle.log_laws.proofs.lemmas.Members.{Member, contains_of, member_filter, member_flat, member_map, member_right, none_or_some}
+use Rattle.log_laws.proofs.lemmas.Members.{Member, member_of, contains_of, member_filter, member_flat, member_map, member_right, none_or_some}
+use Rattle.log_laws.proofs.lemmas.Cycles.{cycle_is_stuck, none_shown, shown_is_cycle}
+use Rattle.log_laws.proofs.lemmas.Rounds.{before_met}
+use Rattle.log_laws.proofs.lemmas.Laws.{faultless_linked}
 use Rattle.outcomes.specs.Outcome.{CheckFinds, OrderedFinds, DepsFinds, SpareFinds, Finds, IsFound, ShowsCycle, before_count, dependences, event_of, events_of_wait}
 use Rattle.outcomes.proofs.Decided.{Told, before_told, last_wait}
 use Rattle.outcomes.proofs.SomeRaces.{race_or_none}
 use Rattle.outcomes.proofs.SomeSpare.{spare_list}
-use Rattle.outcomes.proofs.Found.{graph_length}
+use Rattle.outcomes.proofs.lemmas.Found.{all_replayed, graph_length}
+use Rattle.outcomes.proofs.lemmas.Replays.{right_everywhere, differs_everywhere}
 
 -- All of a list pass, or there is a first that fails.
 record FirstFailing {X : Type 0} (P : X → Type 0) (xs : List X) : Type 0 where
@@ -174,7 +180,7 @@ found_of commands.Deps lines log (Fault line code) none finds = absurd finds
 found_of commands.Spare lines log (Fault line code) none finds = absurd finds
 found_of command lines log f none finds = (none, finds)
 
-pub some_found : (command : Command) (lines : ℕ) (log : List Lined) → (log_fault command lines log ≡ None → AreJudged (tables_of log))
+some_found : (command : Command) (lines : ℕ) (log : List Lined) → (log_fault command lines log ≡ None → AreJudged (tables_of log))
     → (log_fault commands.Check lines log ≡ None → HasNoCycle (tables_of log) → IsRaceFree (tables_of log) → shown_difference (tables_of log) ≡ None → IsRight (tables_of log))
     → (log_fault commands.Check lines log ≡ None → HasNoCycle (tables_of log) → IsRaceFree (tables_of log) → (r : Seen) → shown_difference (tables_of log) ≡ Some r → Differs (tables_of log) r)
     → (f : Finding) × IsFound command lines log f
@@ -191,3 +197,21 @@ some_found command lines log laws right differs = elim (none_or_some (log_fault 
     finds commands.Ordered none right differs laws = ordered_finds (tables_of log) laws
     finds commands.Deps none right differs laws = deps_finds (tables_of log)
     finds commands.Spare none right differs laws = spare_finds (tables_of log) laws
+
+-- A command finds something in each log.
+pub found_in : (command : Command) (lines : ℕ) (log : List Lined) → AllByRecursion Good (records_of log) → (f : Finding) × IsFound command lines log f
+found_in command lines log good =
+    let t = tables_of log in
+    let nodes = graph_of t.nodes in
+    some_found command lines log
+    (λ none.
+    let linked = faultless_linked command lines log good none in
+    record {
+      linked = linked;
+      behind = λ front k back is j waits. before_met nodes linked front k back is j ([], waits);
+      replayed = all_replayed t linked;
+      on_cycle = λ ks cycle k h. cycle_is_stuck nodes linked ks cycle k (member_of ks k h);
+      shown = shown_is_cycle nodes linked;
+      none = (none_shown nodes).0;
+    })
+    (right_everywhere lines log good) (differs_everywhere lines log good)

@@ -8,8 +8,8 @@ use Rattle.std.proofs.lemmas.List.Splits.{length-slice_split}
 use Rattle.spy_words.specs.declared.fault.LineFault.{LineFault}
 use Rattle.spy_grammar.specs.declared.record.Record.{Record}
 use Rattle.spy_grammar.specs.declared.record.Lined.{Lined}
-use Rattle.spy_grammar.specs.Reading.{is_passed_over, line_at}
-use Rattle.spy_grammar.specs.Spelling.{spelling, Good}
+use Rattle.spy_grammar.specs.Reading.{line_at}
+use Rattle.spy_grammar.proofs.lemmas.RowLaws.{line_blank, line_good, line_spelled}
 use Rattle.semantics.specs.Records.{parts_of, line_count, Hold, Reads}
 use Rattle.semantics.specs.TextFaults.{line_fault, lines_fault, text_fault}
 use Rattle.log_laws.proofs.lemmas.Members.{both_none}
@@ -31,22 +31,20 @@ single ([] ∷ []) e a = refl
 single ((x ∷ w) ∷ []) e a = absurd (grind arith)
 single (w ∷ v ∷ xs) e a = absurd (omega (arith, e))
 
-module _ (blank : (line : List ℕ) → line_at line ≡ Ok None → is_passed_over line ≡ true) (spelled : (line : List ℕ) (r : Record) → line_at line ≡ Ok (Some r) → line ≡ spelling r)
-    (good : (line : List ℕ) (r : Record) → line_at line ≡ Ok (Some r) → Good r) where
-  pub held : (n : ℕ) (lines : List (List ℕ)) → lines_fault n lines ≡ None → (log : List Lined) × Hold n lines log
-  held n [] e = ([], refl)
-  held n (line ∷ lines) e =
-      let none = both_none (line_fault n (line_at line)) (lines_fault (n + 1) lines) e in
-      let rest = held (n + 1) lines none.1 in
-      elim (said n line (line_at line) refl none.0) [
-        | inl over ↦ (rest.0, inl (blank line over, rest.1))
-        | inr r ↦ (record { line = n; rec = r.0 } ∷ rest.0, inr (r.0, rest.0, good line r.0 r.1, spelled line r.0 r.1, refl, rest.1))
-      ]
+pub held : (n : ℕ) (lines : List (List ℕ)) → lines_fault n lines ≡ None → (log : List Lined) × Hold n lines log
+held n [] e = ([], refl)
+held n (line ∷ lines) e =
+    let none = both_none (line_fault n (line_at line)) (lines_fault (n + 1) lines) e in
+    let rest = held (n + 1) lines none.1 in
+    elim (said n line (line_at line) refl none.0) [
+      | inl over ↦ (rest.0, inl (line_blank line over, rest.1))
+      | inr r ↦ (record { line = n; rec = r.0 } ∷ rest.0, inr (r.0, rest.0, line_good line r.0 r.1, line_spelled line r.0 r.1, refl, rest.1))
+    ]
 
-  pub read_by : (bytes : List ℕ) → text_fault bytes ≡ None → (log : List Lined) × Reads bytes log
-  read_by bytes e =
-      let c = clean bytes e in
-      let parts = parts_of bytes in
-      let log = held 1 (take (line_count bytes) parts) c.lines in
-      let one : length (drop (line_count bytes) parts) ≡ 1 = omega (arith, length-drop (line_count bytes) parts, length-slice_split (λ b. b == 10) bytes) in
-      (log.0, record { ended = single _ one (not-false _ c.ended); hold = log.1 })
+pub read_by : (bytes : List ℕ) → text_fault bytes ≡ None → (log : List Lined) × Reads bytes log
+read_by bytes e =
+    let c = clean bytes e in
+    let parts = parts_of bytes in
+    let log = held 1 (take (line_count bytes) parts) c.lines in
+    let one : length (drop (line_count bytes) parts) ≡ 1 = omega (arith, length-drop (line_count bytes) parts, length-slice_split (λ b. b == 10) bytes) in
+    (log.0, record { ended = single _ one (not-false _ c.ended); hold = log.1 })

@@ -4,7 +4,5 @@ mod Races
 mod Decided
 mod SomeRaces
 mod SomeSpare
-mod Found
 mod Existing
 mod Inputs
-mod Replays

@@ -1,2 +1,4 @@
 -- Lemmas for the proofs of other crates.
 pub mod Clean
+pub mod Found
+pub mod Replays

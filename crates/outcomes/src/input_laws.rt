@@ -5,11 +5,8 @@ ghost use Rattle.spy_grammar.specs.declared.record.Lined.{Lined};
 ghost use Rattle.semantics.specs.Records.{Reads};
 ghost use Rattle.semantics.specs.TextFaults.{text_fault};
 
-use spy_grammar::reading_is_of_spellings;
-
 /// An input without a fault of its bytes and lines spells a log.
+#[tactic(auto, using(crate::proofs::Inputs::read_by))]
 pub fn inputs_are_read()
     ensures { (bytes : List ℕ) → text_fault bytes ≡ None → (log : List Lined) × Reads bytes log }
-{
-    reading_is_of_spellings();
-}
+{}

@@ -12,10 +12,8 @@ ghost use Rattle.semantics.specs.Reads.{Differs, IsRight, Seen, shown_difference
 ghost use Rattle.semantics.specs.Faults.{log_fault};
 ghost use Rattle.semantics.specs.Events.{HasNoCycle};
 
-use log_laws::{faultless_logs_have_one_answer, replay_is_an_interleaving};
-use value_terms::same_values_are_equal;
-
 /// In a log without a fault, a cycle and a race: where the replay shows no differing read, each read is right in every interleaving; and a read that it shows differs in every interleaving.
+#[tactic(auto, using(crate::proofs::lemmas::Replays::right_everywhere, crate::proofs::lemmas::Replays::differs_everywhere))]
 pub fn replays_speak_for_all()
     ensures right { (lines : ℕ) (log : List Lined) → AllByRecursion Good (records_of log)
         → log_fault Check lines log ≡ None
@@ -25,8 +23,4 @@ pub fn replays_speak_for_all()
         → log_fault Check lines log ≡ None
         → HasNoCycle (tables_of log) → IsRaceFree (tables_of log) → (r : Seen)
         → shown_difference (tables_of log) ≡ Some r → Differs (tables_of log) r }
-{
-    faultless_logs_have_one_answer();
-    replay_is_an_interleaving();
-    same_values_are_equal();
-}
+{}

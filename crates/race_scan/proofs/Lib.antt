@@ -1,3 +1,4 @@
 mod Collected
 mod Placed
 mod Tied
+mod ShownCut

@@ -1,13 +1,16 @@
 -- Places in the replay order.
-use Rattle.std.proofs.Common.{◌≡◌, ℕ, ◌==◌, ◌<◌, inl, inr, Bool, true, false, List, sym, ap, ◌∙◌, arith, length, slice_index, position, unwrap_or, nat_lt, cond, Some, None}
+use Rattle.std.proofs.Common.{◌≡◌, ℕ, ◌==◌, ◌<◌, inl, inr, Bool, true, false, List, sym, ap, subst, ◌∙◌, arith, length, slice_index, position, unwrap_or, nat_lt, cond, Some, None}
 use Rattle.std.specs.List.{position_or_len}
 use Rattle.std.proofs.lemmas.Bool.{true≢false, cases_Bool, eqb-true}
 use Rattle.std.proofs.lemmas.Bool.Decides.{nat_tests}
 use Rattle.std.proofs.lemmas.List.{get_or_default}
 use Rattle.std.proofs.lemmas.List.Quantifiers.{position-Some}
 use Rattle.std.proofs.lemmas.List.Sums.{fails_before_first}
-use Rattle.reach_marks.specs.Reached.{Marks}
-use Rattle.log_laws.proofs.lemmas.Members.{none_or_some}
+use Rattle.semantics.specs.Events.{Node, AreLinked}
+use Rattle.event_graph.specs.Orders.{IsOrderOf}
+use Rattle.event_graph.proofs.lemmas.Whole.{order_within, order_whole}
+use Rattle.reach_marks.specs.Reached.{Marks, AreMarksOf}
+use Rattle.log_laws.proofs.lemmas.Members.{all_contained, none_or_some}
 use Rattle.cell_races.specs.Ranks.{rank_in}
 use Rattle.race_scan.specs.Placed.{ArePlaced}
 
@@ -41,3 +44,11 @@ module _ (count : ℕ) (order : List ℕ) (marks : Marks) (h : ArePlaced count o
         let is : slice_index order some.0 ≡ k = eqb-true (slice_index order some.0) k at.1 in
         ap (λ o. unwrap_or o other) some.1 ∙ (sym (h.placed some.0 at.0) ∙ ap (rank_in marks) is)
   ]
+
+-- The order of a graph has all of its nodes, and its marks their places.
+pub all_placed : (nodes : List Node) (order : List ℕ) (marks : Marks) → IsOrderOf nodes order → AreMarksOf nodes marks → AreLinked nodes → ArePlaced (length nodes) order marks
+all_placed nodes order marks is are linked = record {
+  within = all_contained (λ k. k < length nodes) order (order_within nodes order is);
+  whole = order_whole nodes order is linked;
+  placed = λ p. subst (λ ns. p < length ns → slice_index marks.places (slice_index ns p) ≡ p) (sym is.replayed) (are.places.placed p);
+}

@@ -19,26 +19,17 @@ use Rattle.reach_marks.specs.Reached.{Marks, AreMarksOf, before_in}
 use Rattle.cell_races.specs.declared.access.Access.{Access}
 use Rattle.cell_races.specs.declared.touches.Touch.{Touch}
 use Rattle.cell_races.specs.declared.scan.Clashing.{Clashing}
-use Rattle.cell_races.specs.Accesses.{meant, conflicts}
-use Rattle.cell_races.specs.Touches.{touch, touches_of}
+use Rattle.cell_races.specs.Accesses.{meant}
+use Rattle.cell_races.specs.Touches.{touch}
 use Rattle.cell_races.specs.Ranks.{rank_in}
 use Rattle.cell_races.specs.Clashes.{Clash, IsFree, IsShown}
+use Rattle.cell_races.proofs.lemmas.Noted.{noted, whole, both_meant}
 use Rattle.inst_steps.specs.Stepping.{moves_at}
 use Rattle.race_scan.specs.Gathered.{touches_before}
 use Rattle.race_scan.specs.Placed.{ArePlaced}
 use Rattle.race_scan.specs.Ends.{IsShownIn}
 use Rattle.race_scan.proofs.Collected.{gathered, all_gathered}
 use Rattle.race_scan.proofs.Placed.{at_place, place_is}
-
--- What the laws of touches say.
-abbrev pub IsNoted : Type 0
-IsNoted = (place : ℕ) (m : Move) (x : Touch) → Contains (touches_of place m) x → (x.place ≡ place) × (access m x.cell ≡ meant x.access)
-
-abbrev pub IsWhole : Type 0
-IsWhole = (place : ℕ) (m : Move) (cell : Cell) (a : Access) → access m cell ≡ meant a → Contains (touches_of place m) (touch place cell a)
-
-abbrev pub IsMeant : Type 0
-IsMeant = (a b : races.Access) → races.conflicts a b ≡ true → (c d : Access) × (a ≡ meant c) × (b ≡ meant d) × (conflicts c d ≡ true)
 
 -- ---- steps
 
@@ -56,7 +47,7 @@ in_steps t k m lt h =
     (map_member (λ m. record { node = k; move = m }) (moves_at t k) m h))
 
 module _ (t : Tables) (order : List ℕ) (marks : Marks) (replayed : order ≡ replay_order (graph_of t.nodes)) (marked : AreMarksOf (graph_of t.nodes) marks)
-    (at_graph : ArePlaced (length (graph_of t.nodes)) order marks) (noted : IsNoted) (whole : IsWhole) (is_meant : IsMeant) where
+    (at_graph : ArePlaced (length (graph_of t.nodes)) order marks) where
   abbrev touches : List Touch
   touches = touches_before t order (length order)
 
@@ -85,13 +76,13 @@ module _ (t : Tables) (order : List ℕ) (marks : Marks) (replayed : order ≡ r
           below = p.1;
           move = m;
           is_move = subst (λ k. Member (moves_at t k) m) (sym p.2) s.1;
-          listed = member_of (touches_of p.0 m) (touch p.0 cell c) (whole p.0 m cell c does);
+          listed = whole p.0 m cell c does;
         })),
       )
 
   pub to_clash : (a b : ℕ) (cell : Cell) → Race t a b cell → Clash (before_in marks) order touches a b cell
   to_clash a b cell r =
-      let m = is_meant (access r.one cell) (access r.other cell) r.conflict in
+      let m = both_meant (access r.one cell) (access r.other cell) r.conflict in
       let one = touch_of a r.one cell m.0 r.one_in m.2 in
       let other = touch_of b r.other cell m.1 r.other_in m.3 in
       let la = (step_in t a r.one r.one_in).0 in
@@ -116,7 +107,7 @@ module _ (t : Tables) (order : List ℕ) (marks : Marks) (replayed : order ≡ r
       → (m : Move) × (k < length t.nodes) × Contains (steps t) (record { node = k; move = m }) × (access m x.cell ≡ meant x.access)
   step_of x k c by =
       let g = gathered t order (length order) x (member_of touches x c) in
-      let n = noted g.place g.move x (contains_of (touches_of g.place g.move) x g.listed) in
+      let n = noted g.place g.move x g.listed in
       let is : slice_index order g.place ≡ k = ap (slice_index order) (sym n.0) ∙ by in
       let lt : k < length t.nodes = subst (λ k. k < length t.nodes) is (placed.within g.place 0 g.below) in
       (g.move, lt, in_steps t k g.move lt (subst (λ k. Member (moves_at t k) g.move) is g.is_move), n.1)
@@ -166,10 +157,10 @@ module _ (t : Tables) (order : List ℕ) (marks : Marks) (replayed : order ≡ r
   found_race (Some s) h = shown_race s h
 
 -- Each touch is at a place of the order.
-pub places_within : (t : Tables) (order : List ℕ) (n : ℕ) → IsNoted → All (λ (x : Touch). x.place < n) (touches_before t order n)
-places_within t order n noted = all_places (touches_before t order n) (λ x m.
+pub places_within : (t : Tables) (order : List ℕ) (n : ℕ) → All (λ (x : Touch). x.place < n) (touches_before t order n)
+places_within t order n = all_places (touches_before t order n) (λ x m.
     let g = gathered t order n x m in
-    subst (λ p. p < n) (sym (noted g.place g.move x (contains_of (touches_of g.place g.move) x g.listed)).0) g.below)
+    subst (λ p. p < n) (sym (noted g.place g.move x g.listed).0) g.below)
   where
     all_places : (xs : List Touch) → ((x : Touch) → Member xs x → x.place < n) → All (λ (x : Touch). x.place < n) xs
     all_places xs h i d lt = h (get_or xs i d) (member_of xs (get_or xs i d) (i, lt, get_or_default xs i (get_or xs i d) d lt))

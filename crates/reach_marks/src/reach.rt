@@ -12,7 +12,6 @@ use crate::search::first_outside;
 use crate::unions::{marks_in, union_of};
 use crate::waits::places_at;
 use event_graph::{Graph, Order};
-use log_laws::{replay_order_lists, stuck_nodes_have_cycles};
 use memory::Memory;
 use std::alloc::Global;
 use std::marker::Model;
@@ -45,8 +44,6 @@ impl Reach {
         ensures { IfOk result (AreMarksOf graph.now) }
     {
         let _linked = graph.len();
-        replay_order_lists();
-        stuck_nodes_have_cycles();
         let places = Vec::from_slice(alloc, order.places())?;
         let rows = rows_of(alloc, graph, order.as_slice(), places.as_slice())?;
         let fronts = fronts_of(alloc, rows.as_slice())?;

@@ -4,3 +4,4 @@ mod Fitted
 mod Stood
 mod Pointed
 mod Judged
+mod Laws

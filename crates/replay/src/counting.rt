@@ -5,7 +5,6 @@ ghost use Rattle.semantics.specs.Counts.{read_count};
 ghost use Rattle.semantics.specs.Rules.{size_of};
 ghost use Rattle.replay.specs.Counts.{reads_of};
 
-use crate::laws::reads_are_few;
 use logs::Log;
 use point_set::PointSet;
 use privilege::Priv;
@@ -37,7 +36,6 @@ fn reads_of<P: PointSet + Copy>(log: &Log<'_, P>, req: &Req) -> u64
 pub(crate) fn count_reads<P: PointSet + Copy>(log: &Log<'_, P>) -> u64
     ensures { result ≡ read_count log.now }
 {
-    reads_are_few();
     log.is_declared();
     let mut count = 0;
     for req in log.reqs() {

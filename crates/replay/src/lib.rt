@@ -3,7 +3,6 @@
 
 mod counting;
 mod ends;
-mod laws;
 mod moving;
 mod replaying;
 

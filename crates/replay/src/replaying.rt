@@ -18,12 +18,10 @@ ghost use Rattle.replay.specs.Replaying.{cut_tables};
 
 use crate::counting::count_reads;
 use crate::ends::{Reads, ReplayEnd};
-use crate::laws::{first_points_tell, stands_go_on, starts_stand};
 use crate::moving::Replay;
 use atoms::Atoms;
 use event_graph::Order;
 use inst_steps::{Store, actions_on};
-use log_laws::replay_order_lists;
 use logs::Log;
 use point_set::PointSet;
 use region_tree::ArenaSet;
@@ -32,6 +30,7 @@ use std::alloc::Global;
 
 impl<'r, 'a, P: PointSet + Copy> Replay<'r, 'a, P> {
     /// Takes the moves of the node at a place of the replay order.
+    #[tactic(auto, using(crate::proofs::Laws::stand_cells, crate::proofs::Stood::stand_light, crate::proofs::Stood::stand_end))]
     fn take_node(&self, store: &mut Store, order: &[usize], place: usize) -> Result<(), ReplayEnd>
         requires nodes { All (λ k. k < length self.now.log.now.nodes) order.now }
         requires place { place < length order.now }
@@ -43,7 +42,6 @@ impl<'r, 'a, P: PointSet + Copy> Replay<'r, 'a, P> {
             (steps_by (cut_tables self.now) (drop (place + 1) order.now)) store.new) }
         ensures end { IfErr result (IsEndOf (cut_tables self.now)) }
     {
-        stands_go_on();
         let node = order[place];
         let item = self.item_at(node);
         for action in actions_on(self.log, node, self.points) {
@@ -77,8 +75,6 @@ impl<'r, 'a, P: PointSet + Copy> Replay<'r, 'a, P> {
         ensures right { OnOk result (shown_difference (cut_tables self.now) ≡ None) }
         ensures end { IfErr result (IsEndOf (cut_tables self.now)) }
     {
-        starts_stand();
-        replay_order_lists();
         self.log.is_declared();
         let mut store = Store::start_on(self.alloc, self.log, self.points)?;
         self.take_nodes(&mut store, order.as_slice())
@@ -101,7 +97,6 @@ pub fn replay<'a, P: ArenaSet<'a>>(
     ensures count { IfOk result (λ reads. reads.count ≡ read_count log.now) }
     ensures end { IfErr result (IsEndOf log.now) }
 {
-    first_points_tell();
     log.is_declared();
     let points = atoms.firsts();
     let replay = Replay {

@@ -23,7 +23,7 @@ use Rattle.findings.specs.Texts.{Word, says, small, large, names, holds, Line, l
 use Rattle.report_reading.specs.Numbers.{word_at}
 use Rattle.report_reading.specs.Reading.{dep_at, spare_at, events_at, report_at, last_place, report_in, finding_at}
 use Rattle.report_reading.proofs.NumberLaws.{own, digit_is, small_again, large_again}
-use Rattle.report_reading.proofs.ValueLaws.{Sums, HasNames, value_all, value_again}
+use Rattle.report_reading.proofs.ValueLaws.{HasNames, value_all, value_again}
 
 -- ---- words, which have no space
 
@@ -173,19 +173,19 @@ events_again : (ns : List ℕ) → AllByRecursion IsInRange (map small ns) → e
 events_again [] fits = refl
 events_again (n ∷ ns) fits = rw (small_again n fits.0, events_again ns fits.1) refl
 
-report_again : Sums → (f : Finding) → AllByRecursion Fits (listed_lines f) → Fits (last_line f) → report_at (map words_of (listed_lines f)) (words_of (last_line f)) ≡ f
+report_again : (f : Finding) → AllByRecursion Fits (listed_lines f) → Fits (last_line f) → report_at (map words_of (listed_lines f)) (words_of (last_line f)) ≡ f
 unfolding report_at
-report_again sums (Accepted tasks operations reads) listed fits = rw (small_again tasks fits.1.0, small_again operations fits.1.1.1.0, large_again reads fits.1.1.1.1.1.0) refl
-report_again sums (Ordered tasks pairs) listed fits = rw (small_again tasks fits.1.0, large_again pairs fits.1.1.1.0) refl
-report_again sums (Deps list items before turn) listed fits = rw (lines_again dep_line dep_at dep_again list listed, small_again items fits.1.0, large_again before fits.1.1.1.0, large_again turn fits.1.1.1.1.1.0) refl
-report_again sums (Spare list waits) listed fits = rw (lines_again spare_line spare_at spare_again list listed, large_again waits fits.1.1.1.0) refl
-report_again sums (Cycle events) listed fits = rw (events_again events fits) refl
-report_again sums (Race a b inst point field) listed fits = rw (small_again a fits.0, small_again b fits.1.0, small_again inst fits.1.1.1.0, large_again point fits.1.1.1.1.1.0, small_again field fits.1.1.1.1.1.1.1.0) refl
-report_again sums (Unordered t u tree point field) listed fits = rw (small_again t fits.0, small_again u fits.1.0, small_again tree fits.1.1.1.0, large_again point fits.1.1.1.1.1.0, small_again field fits.1.1.1.1.1.1.1.0) refl
-report_again sums (Differ task req point field got want) listed fits = rw (small_again task fits.1.0, small_again req fits.1.1.1.0, large_again point fits.1.1.1.1.1.0, small_again field fits.1.1.1.1.1.1.1.0, value_again sums got fits.1.1.1.1.1.1.1.1.1.0, value_again sums want fits.1.1.1.1.1.1.1.1.1.1.1.0) refl
-report_again sums (Fault line code) listed fits = rw (small_again line fits.0, code_again code) refl
-report_again sums Usage listed fits = refl
-report_again sums CannotRead listed fits = refl
+report_again (Accepted tasks operations reads) listed fits = rw (small_again tasks fits.1.0, small_again operations fits.1.1.1.0, large_again reads fits.1.1.1.1.1.0) refl
+report_again (Ordered tasks pairs) listed fits = rw (small_again tasks fits.1.0, large_again pairs fits.1.1.1.0) refl
+report_again (Deps list items before turn) listed fits = rw (lines_again dep_line dep_at dep_again list listed, small_again items fits.1.0, large_again before fits.1.1.1.0, large_again turn fits.1.1.1.1.1.0) refl
+report_again (Spare list waits) listed fits = rw (lines_again spare_line spare_at spare_again list listed, large_again waits fits.1.1.1.0) refl
+report_again (Cycle events) listed fits = rw (events_again events fits) refl
+report_again (Race a b inst point field) listed fits = rw (small_again a fits.0, small_again b fits.1.0, small_again inst fits.1.1.1.0, large_again point fits.1.1.1.1.1.0, small_again field fits.1.1.1.1.1.1.1.0) refl
+report_again (Unordered t u tree point field) listed fits = rw (small_again t fits.0, small_again u fits.1.0, small_again tree fits.1.1.1.0, large_again point fits.1.1.1.1.1.0, small_again field fits.1.1.1.1.1.1.1.0) refl
+report_again (Differ task req point field got want) listed fits = rw (small_again task fits.1.0, small_again req fits.1.1.1.0, large_again point fits.1.1.1.1.1.0, small_again field fits.1.1.1.1.1.1.1.0, value_again got fits.1.1.1.1.1.1.1.1.1.0, value_again want fits.1.1.1.1.1.1.1.1.1.1.1.0) refl
+report_again (Fault line code) listed fits = rw (small_again line fits.0, code_again code) refl
+report_again Usage listed fits = refl
+report_again CannotRead listed fits = refl
 
 -- ---- reports
 
@@ -211,9 +211,9 @@ ends : (ls : List Line) (l : Line) → map line_text (ls ++ l ∷ []) ++ [] ∷ 
 ends [] l = refl
 ends (k ∷ ls) l = ap (λ (xs : List (List ℕ)). line_text k ∷ xs) (ends ls l)
 
-pub read_again : Sums → (f : Finding) → Good f → finding_at (report_text f) ≡ f
+pub read_again : (f : Finding) → Good f → finding_at (report_text f) ≡ f
 unfolding finding_at report_text
-read_again sums f good =
+read_again f good =
     let fit = parted Fits (listed_lines f) (last_line f) good.0 in
     let plain = listed_plain f fit.0 in
     let own = last_plain f fit.1 in
@@ -222,19 +222,15 @@ read_again sums f good =
     let cut : parts 10 (lines_text (lines_of f)) ≡ lines ++ last ∷ [] ∷ [] = lines_parted (lines_of f) (joined PlainLine (listed_lines f) (last_line f) plain own) ∙ ends (listed_lines f) (last_line f) in
     let place : last_place (lines ++ last ∷ [] ∷ []) ≡ length lines = omega (arith, length-append lines (last ∷ [] ∷ [])) in
     let words : parts 32 last ≡ words_of (last_line f) = line_parted (last_line f) own in
-    ap report_in cut ∙ rw (place, take-append_seam lines (last ∷ [] ∷ []), behind lines last ([] ∷ []), all_parted (listed_lines f) plain, words) (report_again sums f fit.0 fit.1)
-
--- Every report is what its text says.
-abbrev pub AreReadAgain : Type 0
-AreReadAgain = (f : Finding) → Good f → finding_at (report_text f) ≡ f
+    ap report_in cut ∙ rw (place, take-append_seam lines (last ∷ [] ∷ []), behind lines last ([] ∷ []), all_parted (listed_lines f) plain, words) (report_again f fit.0 fit.1)
 
 -- what lines say that a program holds, seen by `view`
 pub lines_told : {A : Type 0} (view : A → List ℕ) (lines : List A) (last : ℕ) (listed words : List (List ℕ)) → last ≡ length lines - 2 → listed ≡ map view (take last lines) → words ≡ parts 32 (word_at (map view lines) last)
     → report_at (map (parts 32) listed) words ≡ report_in (map view lines)
 lines_told view lines last listed words is told said = rw (told, said, is, length-map lines view, take-map view (length lines - 2) lines) refl
 
-pub texts_apart : AreReadAgain → (f g : Finding) → Good f → Good g → report_text f ≡ report_text g → f ≡ g
-texts_apart again f g good fine e = sym (again f good) ∙ ap finding_at e ∙ again g fine
+pub texts_apart : (f g : Finding) → Good f → Good g → report_text f ≡ report_text g → f ≡ g
+texts_apart f g good fine e = sym (read_again f good) ∙ ap finding_at e ∙ read_again g fine
 
 pub codes_apart : (c d : Code) → code_text c ≡ code_text d → c ≡ d
 codes_apart c d e = sym (code_again c) ∙ ap code_at e ∙ code_again d

@@ -16,16 +16,11 @@ use Rattle.value_terms.specs.declared.terms.Base.{Base}
 use Rattle.value_terms.specs.declared.terms.Base.TheVariants.{Raw, Init, Ident, Const, Out}
 use Rattle.value_terms.specs.declared.terms.Contribution.{Contribution}
 use Rattle.value_terms.specs.Values as values
-use Rattle.value_terms.specs.Values.{Bag, Value, plain, add, total, weight_of, weight_in, CountsEach, IsWellFormedBag, IsWellFormed, IsSmallBase, IsSmallEntry, IsSmallGroup, IsHeld}
+use Rattle.value_terms.specs.Values.{Bag, Value, plain, add, total, weight_of, weight_in, CountsEach, IsWellFormedBag, IsSmallBase, IsSmallEntry, IsSmallGroup, IsHeld}
 use Rattle.findings.specs.ValueTexts.{base_text, bag_text, entry_text, group_text, value_text}
+use Rattle.value_terms.proofs.lemmas.Sums.{bag_sums, value_sums, weight_added}
 use Rattle.report_reading.specs.ValueReading.{base_at, entry_at, has_room, with_entry, with_entries, with_group, with_groups, value_at}
 use Rattle.report_reading.proofs.NumberLaws.{own, digit_is, small_again, large_again}
-
--- What the laws of values say: a value is what adding the entries of its groups makes of its base, and adding makes it heavier by no more than what is added.
-pub record Sums : Type 0 where
-  pub bag : (op : ℕ) (bag : Bag) (v : Value) → values.with_bag op bag v ≡ add op bag v
-  pub value : (v : Value) → IsWellFormed v → values.with_groups v.groups (plain v.base) ≡ v
-  pub weight : (op : ℕ) (bag : Bag) (v : Value) → weight_of (add op bag v) ≤ weight_of v + total bag
 
 -- ---- the bytes of a value's text
 
@@ -157,16 +152,16 @@ entry_again e small lt =
 taken : (op : ℕ) (e : Contribution × ℕ) (v : Value) → 1 ≤ e.1 → weight_of v + e.1 < 2 ^ 64 → with_entry op e v ≡ add op (e ∷ []) v
 taken op e v some fits = let room : has_room v e.1 ≡ true = grind (arith, nat_tests) in rw room refl
 
-entries_again : Sums → (op : ℕ) (bag : Bag) (v : Value) → AllByRecursion IsSmallEntry bag → CountsEach bag → weight_of v + total bag < 2 ^ 64 → with_entries op (map entry_text bag) v ≡ values.with_bag op bag v
-entries_again sums op [] v small counts fits = refl
-entries_again sums op (e ∷ bag) v small counts fits =
-    let weighs = sums.weight op (e ∷ []) v in
+entries_again : (op : ℕ) (bag : Bag) (v : Value) → AllByRecursion IsSmallEntry bag → CountsEach bag → weight_of v + total bag < 2 ^ 64 → with_entries op (map entry_text bag) v ≡ values.with_bag op bag v
+entries_again op [] v small counts fits = refl
+entries_again op (e ∷ bag) v small counts fits =
+    let weighs = weight_added op (e ∷ []) v in
     let first : with_entry op (entry_at (entry_text e)) v ≡ add op (e ∷ []) v = ap (λ (f : Contribution × ℕ). with_entry op f v) (entry_again e small.0 (omega arith)) ∙ taken op e v counts.0 (omega arith) in
-    ap (with_entries op (map entry_text bag)) first ∙ entries_again sums op bag (add op (e ∷ []) v) small.1 counts.1 (omega arith)
+    ap (with_entries op (map entry_text bag)) first ∙ entries_again op bag (add op (e ∷ []) v) small.1 counts.1 (omega arith)
 
-group_again : Sums → (g : Group) (v : Value) → IsSmallGroup g → g.bag ≢ [] → CountsEach g.bag → weight_of v + total g.bag < 2 ^ 64 → with_group (group_text g) v ≡ values.with_bag g.op g.bag v
+group_again : (g : Group) (v : Value) → IsSmallGroup g → g.bag ≢ [] → CountsEach g.bag → weight_of v + total g.bag < 2 ^ 64 → with_group (group_text g) v ≡ values.with_bag g.op g.bag v
 unfolding with_group
-group_again sums g v small some counts fits =
+group_again g v small some counts fits =
     let bag = bag_text g.bag in
     let whole : group_text g ≡ decimal g.op ++ 91 ∷ (bag ++ 93 ∷ []) = append_assoc (decimal g.op) (91 ∷ bag) (93 ∷ []) in
     let not_open : Lacks 91 bag = bag_all _ (digit_differs 91 (inr (omega arith))) refl refl refl g.bag small.1 (omega arith) in
@@ -174,27 +169,27 @@ group_again sums g v small some counts fits =
     let lacks : Lacks 91 (bag ++ 93 ∷ []) = all-append _ bag (93 ∷ []) not_open (refl, tt) in
     let halves : parts 91 (group_text g) ≡ decimal g.op ∷ (bag ++ 93 ∷ []) ∷ [] = ap (parts 91) whole ∙ cut_at 91 (decimal g.op) (bag ++ 93 ∷ []) (digit_not_in 91 (inr (omega arith)) g.op (omega (arith, small.0))) ∙ ap (λ (xs : List (List ℕ)). decimal g.op ∷ xs) (cut_none 91 (bag ++ 93 ∷ []) lacks) in
     let inside : parts 93 (bag ++ 93 ∷ []) ≡ bag ∷ [] ∷ [] = cut_at 93 bag [] not_closed in
-    rw (halves, inside, bag_parted g.bag some (entries_all _ (digit_differs 44 (inl (omega arith))) refl refl g.bag small.1 (omega arith)), small_again g.op small.0) (entries_again sums g.op g.bag v small.1 counts fits)
+    rw (halves, inside, bag_parted g.bag some (entries_all _ (digit_differs 44 (inl (omega arith))) refl refl g.bag small.1 (omega arith)), small_again g.op small.0) (entries_again g.op g.bag v small.1 counts fits)
   where
     bag_parted : (bag : Bag) → bag ≢ [] → AllByRecursion (Lacks 44) (map entry_text bag) → parts 44 (bag_text bag) ≡ map entry_text bag
     bag_parted [] some all = absurd (some refl)
     bag_parted (e ∷ bag) some all = cut_follow 44 (entry_text e) (map entry_text bag) all.0 all.1
 
-groups_again : Sums → (groups : List Group) (v : Value) → AllByRecursion IsSmallGroup groups → AllByRecursion (λ g. g.bag ≢ []) groups → AllByRecursion (λ g. IsWellFormedBag g.bag) groups → weight_of v + weight_in groups < 2 ^ 64 → with_groups (map group_text groups) v ≡ values.with_groups groups v
-groups_again sums [] v small some bags fits = refl
-groups_again sums (g ∷ groups) v small some bags fits =
-    let weighs = sums.weight g.op g.bag v in
-    let added = ap weight_of (sums.bag g.op g.bag v) in
-    ap (with_groups (map group_text groups)) (group_again sums g v small.0 some.0 bags.0.counts (omega arith)) ∙ groups_again sums groups (values.with_bag g.op g.bag v) small.1 some.1 bags.1 (omega arith)
+groups_again : (groups : List Group) (v : Value) → AllByRecursion IsSmallGroup groups → AllByRecursion (λ g. g.bag ≢ []) groups → AllByRecursion (λ g. IsWellFormedBag g.bag) groups → weight_of v + weight_in groups < 2 ^ 64 → with_groups (map group_text groups) v ≡ values.with_groups groups v
+groups_again [] v small some bags fits = refl
+groups_again (g ∷ groups) v small some bags fits =
+    let weighs = weight_added g.op g.bag v in
+    let added = ap weight_of (bag_sums g.op g.bag v) in
+    ap (with_groups (map group_text groups)) (group_again g v small.0 some.0 bags.0.counts (omega arith)) ∙ groups_again groups (values.with_bag g.op g.bag v) small.1 some.1 bags.1 (omega arith)
 
 -- What is read of the text of a value is that value.
-pub value_again : Sums → (v : Value) → IsHeld v → value_at (value_text v) ≡ v
+pub value_again : (v : Value) → IsHeld v → value_at (value_text v) ≡ v
 unfolding value_at value_text
-value_again sums v held =
+value_again v held =
     let base : Lacks 43 (base_text v.base) = base_all _ (digit_differs 43 (inl (omega arith))) no_plus v.base held.small_base in
     let groups : AllByRecursion (Lacks 43) (map group_text v.groups) = groups_all _ (digit_differs 43 (inl (omega arith))) refl refl refl refl refl v.groups held.small_groups held.weight in
     rw (cut_follow 43 (base_text v.base) (map group_text v.groups) base groups, base_again v.base held.small_base)
-    (groups_again sums v.groups (plain v.base) held.small_groups held.well_formed.no_bag_is_empty held.well_formed.bags (omega (arith, held.weight)) ∙ sums.value v held.well_formed)
+    (groups_again v.groups (plain v.base) held.small_groups held.well_formed.no_bag_is_empty held.well_formed.bags (omega (arith, held.weight)) ∙ value_sums v held.well_formed)
   where
     no_plus : HasNames (λ b. eqb b 43 ≡ false)
     no_plus = record { raw = lacks_by_test 43 (codes "raw") refl; init = lacks_by_test 43 (codes "init") refl; ident = lacks_by_test 43 (codes "ident") refl; const = lacks_by_test 43 (codes "const:") refl; out = lacks_by_test 43 (codes "out:") refl }

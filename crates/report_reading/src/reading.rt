@@ -12,7 +12,6 @@ ghost use Rattle.report_reading.specs.declared.reading.TextFault.TheVariants as 
 ghost use Rattle.spy_words.specs.Reading.{parts};
 
 use crate::codes::code_of;
-use crate::law::texts_are_read_again;
 use crate::listed::{listed_at, parts_of};
 use crate::numbers::{large_at, small_at, small_number, word_at};
 use crate::value_reading::value_at;
@@ -124,6 +123,7 @@ fn has_text(alloc: Global, f: &Finding, bytes: &[u8]) -> Result<bool, Memory>
 }
 
 /// The one report that has this text.
+#[tactic(auto, using(crate::proofs::ReadLaws::read_again))]
 pub fn read_text(alloc: Global, bytes: &[u8]) -> Result<Finding, TextFault>
     // A report that is read has this text, and a report that has it is read, unless memory runs out.
     ensures found { (f : Finding) → result ≡ Ok f → (bytes.now ≡ report_text f) × Good f }
@@ -131,7 +131,6 @@ pub fn read_text(alloc: Global, bytes: &[u8]) -> Result<Finding, TextFault>
         ⊎ (result ≡ Err faults.Memory) }
     ensures none { result ≡ Err faults.NotAReport → (f : Finding) → Good f → bytes.now ≢ report_text f }
 {
-    texts_are_read_again();
     let f = finding_at(alloc, bytes)?;
     if has_text(alloc, &f, bytes)? {
         Ok(f)

@@ -88,7 +88,7 @@ abbrev pub held_by : InstKind → List Thing
 held_by (layouts.Red op) = operator_id op ∷ []
 held_by _ = []
 
--- What a record names.
+-- What a record names. An operation on data names its instances and its space.
 abbrev pub names : Record → List Thing
 names (Part id space disjoint) = space_id space ∷ []
 names (Sub part colour space) = part_id part ∷ space_id space ∷ []

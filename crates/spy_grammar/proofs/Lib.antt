@@ -1,3 +1,3 @@
+pub mod lemmas
 mod CellLaws
-mod RowLaws
 mod WordFaults

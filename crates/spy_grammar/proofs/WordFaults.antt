@@ -19,7 +19,7 @@ use Rattle.spy_grammar.specs.declared.kinds.RecordKind.{RecordKind}
 use Rattle.spy_grammar.specs.LineFaults.{Names, row_of, words_after, is_dash, is_span_shaped, is_operator, is_plain_access, is_plain_layout, has_shape, is_number_from, has_numbers, span_of, is_upward, is_in_order, have_shape, have_numbers, are_in_order}
 use Rattle.spy_grammar.specs.Rows.{Row, no_more, some_ids, ◌&◌, entry, kind_at}
 use Rattle.spy_grammar.specs.Reading.{next_word, read_word, read_ids, read_row, read_record, met_at_end, named_record, record_at, is_passed_over, line_at}
-use Rattle.spy_grammar.proofs.RowLaws.{found_by_name, named_so}
+use Rattle.spy_grammar.proofs.lemmas.RowLaws.{found_by_name, named_so}
 
 -- The fault that is reported, by whether all have their shape, their numbers and their order.
 abbrev pub by_tests : Bool → Bool → Bool → Option LineFault

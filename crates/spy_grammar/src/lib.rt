@@ -14,8 +14,8 @@ pub use code::Code;
 pub use law::{
     faults_in_words, one_spelling, reading_is_of_spellings, spelling_is_one_line, spelling_is_read,
 };
+pub use memory::Memory;
 pub use reading::read_line;
 pub use record::{Lined, Record};
 pub use spy_words::{InstKind, LineFault, Nums, PrivWord, Set};
-pub use memory::Memory;
 pub use writing::{good, with_line, write_record};

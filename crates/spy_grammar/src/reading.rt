@@ -175,7 +175,7 @@ fn any_line(alloc: Global, line: &[u8]) -> Read<Option<Record>>
 }
 
 /// What a line, without its line feed, says: nothing if it is blank or a comment.
-#[tactic(auto, using(crate::proofs::RowLaws::line_blank, crate::proofs::RowLaws::line_spelled, crate::proofs::RowLaws::line_good, crate::proofs::RowLaws::line_again))]
+#[tactic(auto, using(crate::proofs::lemmas::RowLaws::line_blank, crate::proofs::lemmas::RowLaws::line_spelled, crate::proofs::lemmas::RowLaws::line_good, crate::proofs::lemmas::RowLaws::line_again))]
 pub fn read_line(alloc: Global, line: &[u8]) -> Result<Option<Record>, LineFault>
     // Of several faults the one that is reported is the one that the definitions report.
     ensures exact { Gives (λ o. o) result (line_at line.now) }

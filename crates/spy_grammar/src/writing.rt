@@ -6,8 +6,8 @@ ghost use Rattle.spy_words.specs.Classes.{IsSpan, follow};
 ghost use Rattle.spy_grammar.specs.Cells.{items_in, with_cell};
 ghost use Rattle.spy_grammar.specs.Spelling.{Good, IsGoodItem, spelling, words_in};
 
-use crate::cells::{WordCell, cells_of};
 use crate::cells::WordCell::*;
+use crate::cells::{WordCell, cells_of};
 use crate::kinds::name_text;
 use crate::record::Record;
 use memory::Memory;

@@ -8,7 +8,7 @@ ghost use Rattle.task_order.specs.Searched.{GoesOn, IsTaskOrder, Shows};
 
 use crate::kept::is_kept;
 use crate::runs::runs_of;
-use interference::{Stretch, are_tasks, pairs, pairs_are_of_items};
+use interference::{Stretch, are_tasks, pairs};
 use logs::Log;
 use memory::Memory;
 use point_set::PointSet;
@@ -61,7 +61,6 @@ fn order_by_runs<'a, P: ArenaSet<'a>>(log: &Log<'a, P>, reach: &Reach, runs: &[u
     requires runs { AreRunsOf log.now runs.now }
     ensures { IsTaskOrder log.now result }
 {
-    pairs_are_of_items();
     let mut left = pairs(log);
     let mut count = 0;
     while let Some(stretch) = left.next_stretch() {

@@ -13,7 +13,7 @@ pub use laws::{
     bags_are_counts, changes_commute, same_values_are_equal, values_are_sums,
     values_stay_well_formed, weights_add_up,
 };
-pub use terms::{Base, Contribution};
 pub use memory::Memory;
+pub use terms::{Base, Contribution};
 pub use value::Value;
 pub use worked::worked_values;

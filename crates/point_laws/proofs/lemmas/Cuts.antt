@@ -23,18 +23,20 @@ use Rattle.semantics.specs.SerialOrder.{serial, serial_place}
 use Rattle.semantics.specs.Sequential.{after_items, after_uses, wanted, changed}
 use Rattle.semantics.specs.Steps.{Step, id_of, inst_at, cell_in, mapped_cell, operator_of, reads_by, changes_by, at_cells, moves_of, steps_by, steps}
 use Rattle.semantics.specs.Execution.{State, start, effect}
-use Rattle.semantics.specs.Reads.{req_at, difference, first_difference}
+use Rattle.semantics.specs.Events.{graph_of}
+use Rattle.semantics.specs.ReplayOrder.{replay_order}
+use Rattle.semantics.specs.Reads.{req_at, difference, first_difference, shown_difference}
 use Rattle.semantics.specs.Races.{access, Race}
 use Rattle.log_laws.proofs.lemmas.Members.{Member, Each, member_of, contains_of, member_filter, none_or_some, filter_member, member_in, is_in_of}
 use Rattle.log_laws.proofs.lemmas.StepLists.{steps_at}
 use Rattle.log_laws.proofs.lemmas.Lists.{filter_map_of}
-use Rattle.point_laws.specs.Alike.{target, is_at}
+use Rattle.point_laws.specs.Alike.{HasPointsInOrder, AreFirsts, target, is_at}
 use Rattle.point_laws.specs.Cut.{cut, cut_space, kept, cut_to}
 use Rattle.point_laws.proofs.Rows.{filter_flat, kept_grid}
 use Rattle.point_laws.proofs.Moves.{Does, at_points, reads_kept, changes_kept, steps_stay}
 use Rattle.point_laws.proofs.Effects.{Agree, Stay, kept_agree}
-use Rattle.point_laws.proofs.Firsts.{difference_agrees}
-use Rattle.point_laws.proofs.Raced.{is_step, touched_point, both_touched}
+use Rattle.point_laws.proofs.lemmas.Firsts.{difference_agrees, shown_at_first}
+use Rattle.point_laws.proofs.lemmas.Raced.{is_step, touched_point, both_touched}
 
 -- ---- the points of cut tables
 
@@ -160,6 +162,10 @@ module _ (ps : List ℕ) (t : Tables) where
       let xs = filter (is_at ps) (steps_by t nodes) in
       ap (λ xs. first_difference (cut ps t) xs (start (cut ps t))) (steps_cut nodes)
       ∙ differences_cut xs (λ x m. steps_stay t nodes x (member_filter (is_at ps) (steps_by t nodes) x m).0) (λ x m. (member_filter (is_at ps) (steps_by t nodes) x m).1) (start (cut ps t)) (start t) start_cut
+
+-- Tables that are cut to first points show the differing read of the whole.
+pub shown_whole : (t : Tables) → HasPointsInOrder t → (firsts : List ℕ) → AreFirsts t firsts → shown_difference (cut firsts t) ≡ shown_difference t
+shown_whole t order firsts are_firsts = let nodes = replay_order (graph_of t.nodes) in shown_cut firsts t nodes ∙ shown_at_first t order firsts are_firsts nodes
 
 -- ---- races
 

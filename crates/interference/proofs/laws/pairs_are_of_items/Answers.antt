@@ -1,5 +1,5 @@
-use Rattle.interference.proofs.Counting.{task_pairs_listed, few_in_all}
-use Rattle.interference.proofs.Turning.{pair_order, pair_end, pair_place, turned_within}
+use Rattle.interference.proofs.lemmas.Counting.{task_pairs_listed, few_in_all}
+use Rattle.interference.proofs.lemmas.Turning.{pair_order, pair_end, pair_place, turned_within}
 use Rattle.interference.proofs.laws.pairs_are_of_items.Goals as goal
 
 pub returns-clause-order : goal.returns-clause-order

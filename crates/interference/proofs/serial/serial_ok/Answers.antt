@@ -1,7 +1,7 @@
 use Rattle.std.proofs.Common.{◌∙◌, sym, ap, length, arith, inl, inr}
 use Rattle.std.proofs.lemmas.Bool.{cases_lt}
 use Rattle.interference.specs.Pairing.{asked_of}
-use Rattle.interference.proofs.Turning.{first_is, none_turned, turned_found, none_found}
+use Rattle.interference.proofs.lemmas.Turning.{first_is, none_turned, turned_found, none_found}
 use Rattle.interference.proofs.serial.serial_ok.Goals as goal
 
 pub returns-then-not-has_serial-clause-ok : goal.returns-then-not-has_serial-clause-ok

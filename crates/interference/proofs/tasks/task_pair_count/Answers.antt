@@ -1,7 +1,7 @@
 use Rattle.std.proofs.Common.{◌∙◌, sym, ap, arith, length, filter}
 use Rattle.interference.specs.Pairing.{all_pairs}
 use Rattle.interference.specs.Tasks.{are_tasks}
-use Rattle.interference.proofs.Counting.{count_past, count_here, few_pairs, task_pairs_are}
+use Rattle.interference.proofs.lemmas.Counting.{count_past, count_here, few_pairs, task_pairs_are}
 use Rattle.interference.proofs.tasks.task_pair_count.Goals as goal
 
 pub loop-pair-init : goal.loop-pair-init

@@ -1,4 +1,4 @@
-use Rattle.log_gen.proofs.Spelled.{log_good}
+use Rattle.log_gen.proofs.lemmas.Spelled.{log_good}
 use Rattle.log_gen.proofs.Counted.{log_length}
 use Rattle.log_gen.proofs.laws.stencil_logs_are_good.Goals as goal
 

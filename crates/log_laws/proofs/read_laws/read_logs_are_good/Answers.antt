@@ -1,4 +1,4 @@
-use Rattle.log_laws.proofs.ReadLogs.{held_is_good}
+use Rattle.log_laws.proofs.lemmas.ReadLogs.{held_is_good}
 use Rattle.log_laws.proofs.read_laws.read_logs_are_good.Goals as goal
 
 pub returns : goal.returns

@@ -1,15 +1,14 @@
 use Rattle.std.proofs.Common.{◌≢◌}
 use Rattle.semantics.specs.declared.tables.Item.{Item}
-use Rattle.semantics.specs.Records.{records_of}
 use Rattle.semantics.specs.Tables.{tables_of}
 use Rattle.log_laws.proofs.lemmas.Apart.{all_pairs}
 use Rattle.log_laws.proofs.lemmas.Admitted.{no_broken_rule}
-use Rattle.log_laws.proofs.Listed.{are_listed}
-use Rattle.log_laws.proofs.SerialOrder.{place_of_item}
+use Rattle.log_laws.proofs.lemmas.Listed.{are_listed}
+use Rattle.log_laws.proofs.lemmas.SerialOrder.{items_placed}
 use Rattle.log_laws.proofs.serial_laws.item_ids_are_apart.Goals as goal
 
 pub returns-clause-apart : goal.returns-clause-apart
 returns-clause-apart c lines log none = all_pairs (λ (i j : Item). i.id ≢ j.id) (tables_of log).items (are_listed log (no_broken_rule lines log none)).ids
 
 pub returns-clause-place : goal.returns-clause-place
-returns-clause-place c lines log none = place_of_item (records_of log) (tables_of log) (are_listed log (no_broken_rule lines log none))
+returns-clause-place c lines log none = items_placed log (no_broken_rule lines log none)

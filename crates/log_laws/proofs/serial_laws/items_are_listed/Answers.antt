@@ -5,8 +5,8 @@ use Rattle.semantics.specs.SerialOrder.{listed}
 use Rattle.log_laws.proofs.lemmas.Members.{member_of, contains_of}
 use Rattle.log_laws.proofs.lemmas.Apart.{all_pairs}
 use Rattle.log_laws.proofs.lemmas.Admitted.{no_broken_rule}
-use Rattle.log_laws.proofs.Listed.{are_listed, each_listed, line_found}
-use Rattle.log_laws.proofs.SerialOrder.{place_within}
+use Rattle.log_laws.proofs.lemmas.Listed.{are_listed, each_listed, line_found}
+use Rattle.log_laws.proofs.lemmas.SerialOrder.{place_within}
 use Rattle.log_laws.proofs.serial_laws.items_are_listed.Goals as goal
 
 pub returns-clause-listed : goal.returns-clause-listed

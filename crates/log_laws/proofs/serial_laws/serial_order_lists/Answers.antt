@@ -4,7 +4,7 @@ use Rattle.semantics.specs.SerialOrder.{serial}
 use Rattle.log_laws.proofs.lemmas.Members.{member_of, contains_of}
 use Rattle.log_laws.proofs.lemmas.Apart.{all_pairs}
 use Rattle.log_laws.proofs.lemmas.Admitted.{no_broken_rule}
-use Rattle.log_laws.proofs.SerialOrder.{serial_has_each}
+use Rattle.log_laws.proofs.lemmas.SerialOrder.{serial_has_each}
 use Rattle.log_laws.proofs.serial_laws.serial_order_lists.Goals as goal
 
 pub returns-clause-once : goal.returns-clause-once

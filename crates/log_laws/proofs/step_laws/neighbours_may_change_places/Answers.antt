@@ -1,5 +1,7 @@
 use Rattle.std.proofs.Common.{sym}
 use Rattle.semantics.specs.Tables.{tables_of}
+use Rattle.log_laws.proofs.lemmas.Laws.{faultless_tidy}
+use Rattle.log_laws.proofs.lemmas.Swap.{swapped_state, swapped_sight}
 use Rattle.log_laws.proofs.Reorder.{calm}
 use Rattle.log_laws.proofs.Swapped.{swapped}
 use Rattle.log_laws.proofs.step_laws.neighbours_may_change_places.Goals as goal
@@ -9,15 +11,13 @@ returns-clause-interleaving c = swapped
 
 pub returns-clause-state : goal.returns-clause-state
 returns-clause-state c lines log none free x y u =
-    let laws = c.swap_law.ensures in
-    let tidy = c.faultless_logs_are_tidy.ensures lines log none in
-    laws.state x.move y.move (calm laws.state laws.sight (tables_of log) tidy free x y u.one_in u.other_in (u.differ, u.not_after) (λ e. u.differ (sym e), u.not_before))
+    let tidy = faultless_tidy lines log none in
+    swapped_state x.move y.move (calm (tables_of log) tidy free x y u.one_in u.other_in (u.differ, u.not_after) (λ e. u.differ (sym e), u.not_before))
 
 pub returns-clause-sight : goal.returns-clause-sight
 returns-clause-sight c lines log none free x y u s =
-    let laws = c.swap_law.ensures in
-    let tidy = c.faultless_logs_are_tidy.ensures lines log none in
-    let either = calm laws.state laws.sight (tables_of log) tidy free in (
-      laws.sight x.move y.move (either x y u.one_in u.other_in (u.differ, u.not_after) (λ e. u.differ (sym e), u.not_before)) s,
-      laws.sight y.move x.move (either y x u.other_in u.one_in (λ e. u.differ (sym e), u.not_before) (u.differ, u.not_after)) s,
+    let tidy = faultless_tidy lines log none in
+    let either = calm (tables_of log) tidy free in (
+      swapped_sight x.move y.move (either x y u.one_in u.other_in (u.differ, u.not_after) (λ e. u.differ (sym e), u.not_before)) s,
+      swapped_sight y.move x.move (either y x u.other_in u.one_in (λ e. u.differ (sym e), u.not_before) (u.differ, u.not_after)) s,
     )

@@ -1,32 +1,5 @@
-use Rattle.std.proofs.Common.{ap, subst, sym, ◌∙◌}
-use Rattle.semantics.specs.declared.places.Cell.{Cell}
-use Rattle.semantics.specs.Tables.{Tables, tables_of, place_of}
-use Rattle.semantics.specs.Sequential.{wanted}
-use Rattle.semantics.specs.Execution.{ReadsIn}
-use Rattle.semantics.specs.Reads.{read_step, IsRight}
-use Rattle.semantics.specs.declared.command.Command.TheVariants.{Check}
-use Rattle.log_laws.proofs.lemmas.Admitted.{faultless, sane}
-use Rattle.log_laws.proofs.lemmas.Members.{member_of, contains_of}
-use Rattle.long_values.specs.LongValues.{short}
-use Rattle.long_values.specs.LongExecution.{start_long, IsRightLong}
-use Rattle.long_values.proofs.ShortSequential.{short_wanted}
-use Rattle.long_values.proofs.ShortExecution.{short_start, listed_read}
-use Rattle.long_values.proofs.LiftExecution.{right_long}
-use Rattle.long_values.proofs.Named.{named, no_declaration_fault, run_once}
+use Rattle.long_values.proofs.lemmas.Right.{right_same}
 use Rattle.long_values.proofs.laws.right_reads_are_right_in_long.Goals as goal
 
--- What is right in long is right, of every log.
-short_right : (t : Tables) → IsRightLong t → IsRight t
-short_right t right xs il node inst r read =
-    let cell : Cell = record { inst = inst; point = r.point; field = r.field } in
-    let e = listed_read t xs (start_long t) node r.task r.number cell r.got (subst (λ s. ReadsIn xs s (read_step node inst r) r.got) (sym (short_start t)) read) in
-    sym e.2.value_is ∙ ap short (right xs il e.0 (contains_of _ e.0 e.1)) ∙ short_wanted t (place_of t.items e.0.task) e.0.place ∙ (λ i. wanted t (place_of t.items (e.2.task_is i)) (e.2.place_is i))
-
 pub returns : goal.returns
-returns c lines log none =
-    let t = tables_of log in
-    let f = faultless Check lines log none in
-    let n = named t (c.item_ids_are_apart.ensures.place lines log (no_declaration_fault Check lines log none)) (c.serial_order_lists.ensures.once lines log (no_declaration_fault Check lines log none)) in (
-      λ right xs il r m. right_long t n (run_once Check log f) (sane Check log f) xs il (λ node task req cell v read. right xs il node cell.inst (record { task = task; number = req; point = cell.point; field = cell.field; got = v }) read) r (member_of _ r m),
-      short_right t,
-    )
+returns c = right_same

@@ -3,12 +3,11 @@ use Rattle.semantics.specs.declared.command.Command.TheVariants.{Check}
 use Rattle.log_laws.proofs.lemmas.Admitted.{faultless, sane}
 use Rattle.log_laws.proofs.lemmas.Members.{member_of, contains_of}
 use Rattle.long_values.proofs.LiftExecution.{read_there}
-use Rattle.long_values.proofs.Named.{named, no_declaration_fault, run_once}
+use Rattle.long_values.proofs.Named.{named, run_once}
 use Rattle.long_values.proofs.laws.tasks_read_where_they_should.Goals as goal
 
 pub returns : goal.returns
 returns c lines log none xs il r m =
     let t = tables_of log in
     let f = faultless Check lines log none in
-    let n = named t (c.item_ids_are_apart.ensures.place lines log (no_declaration_fault Check lines log none)) (c.serial_order_lists.ensures.once lines log (no_declaration_fault Check lines log none)) in
-    contains_of _ _ (read_there t n (run_once Check log f) (sane Check log f) xs il r (member_of _ r m))
+    contains_of _ _ (read_there t (named Check log f) (run_once Check log f) (sane Check log f) xs il r (member_of _ r m))

@@ -4,17 +4,18 @@ use Rattle.semantics.specs.Shown.{IsShownRace}
 use Rattle.point_laws.specs.Cut.{cut}
 use Rattle.atoms.specs.Atoms.{first_points}
 use Rattle.race_scan.specs.Ends.{IsShownIn}
+use Rattle.race_scan.proofs.ShownCut.{free_whole, shown_whole}
 use Rattle.race_scan.proofs.shown.scan.Goals as goal
 
 pub returns-in-None-clause-free : goal.returns-in-None-clause-free
 returns-in-None-clause-free g c =
     let t = c.args.log.now in
     let cut_free = subst (λ o. MatchOption o (IsRaceFree (cut c.firsts.result.now t)) (IsShownIn (cut c.firsts.result.now t))) c.in-None.is c.in_ok-race_on.ensures in
-    c.cut_tables_show_the_race.ensures.free t (first_points c.args.atoms.now) c.requires.atoms (subst (λ ps. IsRaceFree (cut ps t)) c.firsts.ensures.firsts cut_free)
+    free_whole t (first_points c.args.atoms.now) c.requires.atoms (subst (λ ps. IsRaceFree (cut ps t)) c.firsts.ensures.firsts cut_free)
 
 pub returns-in-Some-clause-race : goal.returns-in-Some-clause-race
 returns-in-Some-clause-race g c =
     let t = c.args.log.now in
     let s = c.in-Some.field-0 in
     let cut_shown = subst (λ o. MatchOption o (IsRaceFree (cut c.firsts.result.now t)) (IsShownIn (cut c.firsts.result.now t))) c.in-Some.is c.in_ok-race_on.ensures in
-    c.cut_tables_show_the_race.ensures.shown t (first_points c.args.atoms.now) c.requires.atoms s.a s.b s.cell (subst (λ ps. IsShownRace (cut ps t) s.a s.b s.cell) c.firsts.ensures.firsts cut_shown)
+    shown_whole t (first_points c.args.atoms.now) c.requires.atoms s.a s.b s.cell (subst (λ ps. IsShownRace (cut ps t) s.a s.b s.cell) c.firsts.ensures.firsts cut_shown)

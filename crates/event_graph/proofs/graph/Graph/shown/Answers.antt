@@ -2,6 +2,7 @@ use Rattle.std.proofs.Common.{◌∙◌, ap, nat_eq, map, List, subst}
 use Rattle.std.specs.HashMap.{get}
 use Rattle.semantics.specs.Events.{Node, AreLinked}
 use Rattle.event_graph.specs.Orders.{event_at}
+use Rattle.log_laws.proofs.lemmas.Cycles.{shown_is_cycle}
 use Rattle.event_graph.proofs.Waited.{linked_from}
 use Rattle.event_graph.proofs.Cycling.{cycle_within}
 use Rattle.event_graph.proofs.graph.Graph.shown.Goals as goal
@@ -9,7 +10,7 @@ use Rattle.event_graph.proofs.graph.Graph.shown.Goals as goal
 pub events_at-requires : goal.events_at-requires
 events_at-requires c =
     let linked = subst AreLinked c.self.view_is (linked_from c.self.inside.nodes.items (get nat_eq c.self.inside.places) c.self.invariant.1) in
-    let is = c.stuck_nodes_have_cycles.ensures.shown c.args.self.now linked c.args.cycle.now c.requires in
+    let is = shown_is_cycle c.args.self.now linked c.args.cycle.now c.requires in
     rw (c.as_slice.ensures.value, c.self.view_is) (cycle_within c.args.self.now c.args.cycle.now is)
 
 pub returns : goal.returns
@@ -17,7 +18,7 @@ returns c =
     let linked = subst AreLinked c.self.view_is (linked_from c.self.inside.nodes.items (get nat_eq c.self.inside.places) c.self.invariant.1) in
     record {
       cycle = c.args.cycle.now;
-      is_cycle = c.stuck_nodes_have_cycles.ensures.shown c.args.self.now linked c.args.cycle.now c.requires;
+      is_cycle = shown_is_cycle c.args.self.now linked c.args.cycle.now c.requires;
       shown = c.requires;
       events_are = c.in_ok-events.ensures ∙ ap (λ (ns : List Node). map (event_at ns) c.args.cycle.now) (c.as_slice.ensures.value ∙ c.self.view_is);
     }

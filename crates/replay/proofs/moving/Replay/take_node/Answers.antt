@@ -4,6 +4,7 @@ use Rattle.semantics.specs.Tables.{Tables}
 use Rattle.point_laws.specs.Cut.{cut}
 use Rattle.inst_steps.specs.Acting.{IsBy, steps_in}
 use Rattle.replay.specs.Standing.{Stands, left_in}
+use Rattle.replay.proofs.Laws.{stands_on}
 use Rattle.replay.proofs.moving.Replay.take_node.Goals as goal
 
 pub loop-action-preserved : goal.loop-action-preserved
@@ -14,5 +15,5 @@ loop-action-preserved g c =
     let left = left_in t order c.args.place node (steps_in c.next.new.self) in
     let by = subst (AllByRecursion (IsBy c.args.self.now.log.now)) c.in-Some.ensures.steps c.loop-action.invariant.2 in
     let before = subst (λ rest. Stands t (left_in t order c.args.place node (steps_in rest)) c.loop-action.store) c.in-Some.ensures.steps c.loop-action.invariant.3 in
-    let after = c.stands_go_on.ensures.next t (record { node = node; move = c.in-Some.action.step }) left c.loop-action.store before c.in_ok-take.ensures.right in
+    let after = stands_on t (record { node = node; move = c.in-Some.action.step }) left c.loop-action.store before c.in_ok-take.ensures.right in
     (tt, tt, by.1, subst (Stands t left) (sym c.in_ok-take.ensures.moved) after)

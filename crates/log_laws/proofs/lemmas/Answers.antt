@@ -1,0 +1,17 @@
+-- All interleavings of a log without a race agree.
+use Rattle.std.proofs.Common.{◌≡◌, List}
+use Rattle.value_terms.specs.Values.{Value}
+use Rattle.semantics.specs.declared.places.Cell.{Cell}
+use Rattle.semantics.specs.Tables.{Tables}
+use Rattle.semantics.specs.Steps.{Step}
+use Rattle.semantics.specs.Execution.{State, executed, ReadsIn}
+use Rattle.semantics.specs.Interleavings.{IsInterleaving}
+use Rattle.semantics.specs.Races.{IsTidy, IsRaceFree}
+use Rattle.log_laws.proofs.Reorder.{all_agree}
+
+module _ (t : Tables) (tidy : IsTidy t) (free : IsRaceFree t) (xs ys : List Step) (a : IsInterleaving t xs) (b : IsInterleaving t ys) where
+  pub one_state : (s : State) (cell : Cell) → executed xs s cell ≡ executed ys s cell
+  one_state = (all_agree t tidy free xs ys a b).state
+
+  pub one_sight : (s : State) (x : Step) (v : Value) → ReadsIn xs s x v → ReadsIn ys s x v
+  one_sight = (all_agree t tidy free ys xs b a).reads
