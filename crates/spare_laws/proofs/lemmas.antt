@@ -2,3 +2,4 @@
 pub mod Listing
 pub mod Growing
 pub mod OneList
+pub mod Spared

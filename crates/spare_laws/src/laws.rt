@@ -6,8 +6,6 @@ ghost use Rattle.semantics.specs.Events.{Node, AreLinked, IsCycle};
 ghost use Rattle.semantics.specs.ReplayOrder.{waits_at};
 ghost use Rattle.semantics.specs.Spare.{AreSpareWaits, HaveSameBefore, without};
 
-use log_laws::{replay_order_lists, stuck_nodes_have_cycles};
-
 /// Where there is no cycle, the same nodes are before the same ones without all spare waits. Without one listed wait more, whichever, they are not.
 pub fn spare_waits_are_implied()
     ensures same { (nodes : List Node) → AreLinked nodes
@@ -17,7 +15,4 @@ pub fn spare_waits_are_implied()
         → ((cycle : List ℕ) → IsCycle nodes cycle → ⊥) → (list : List ListedWait) → AreSpareWaits nodes list
         → (w : ListedWait) (event : ℕ) → slice_get (waits_at nodes w.node) w.k ≡ Some event
         → (Contains list w → ⊥) → HaveSameBefore (without (w ∷ list) nodes) (without list nodes) → ⊥ }
-{
-    replay_order_lists();
-    stuck_nodes_have_cycles();
-}
+{}

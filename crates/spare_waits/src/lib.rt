@@ -6,5 +6,5 @@ mod marks;
 mod search;
 
 pub use list::{SpareList, SpareWait};
-pub use reach_marks::Memory;
+pub use memory::Memory;
 pub use search::spare;

@@ -11,8 +11,8 @@ ghost use Rattle.spare_laws.specs.Listed.{AreUpTo, listed_count};
 use crate::list::{SpareList, SpareWait, add_marked};
 use crate::marks::also_repeated;
 use event_graph::{Graph, Order};
-use reach_marks::{Memory, Reach, before_is_transitive};
-use spare_laws::spare_waits_are_implied;
+use memory::Memory;
+use reach_marks::Reach;
 use std::alloc::Global;
 
 /// Adds the spare waits of a node.
@@ -29,7 +29,6 @@ fn add_node(
     ensures { OnOk result (AreUpTo graph.now (node + 1) list.new.items) }
 {
     let _linked = graph.len();
-    before_is_transitive();
     let waits = graph.waits_of(alloc, node)?;
     let before = reach.before_some(alloc, waits.as_slice())?;
     let marks = also_repeated(alloc, waits.as_slice(), before.as_slice())?;
@@ -54,7 +53,6 @@ pub fn spare(
         → HaveSameBefore (without (w ∷ l) graph.now) (without l graph.now) → ⊥) }
 {
     let _linked = graph.len();
-    spare_waits_are_implied();
     let mut list = Vec::new(alloc);
     for node in 0..graph.len() {
         add_node(alloc, graph, reach, node, &mut list)?;

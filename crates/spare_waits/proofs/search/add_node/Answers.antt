@@ -2,6 +2,7 @@ use Rattle.std.proofs.Common.{◌≡◌, ◌∙◌, ◌<◌, ◌||◌, ℕ, List
 use Rattle.std.specs.List.{list_any}
 use Rattle.semantics.specs.Points.{is_in}
 use Rattle.reach_marks.specs.Reached.{before_in}
+use Rattle.reach_marks.proofs.lemmas.Transitive.{transitive}
 use Rattle.spare_laws.proofs.lemmas.Growing.{node_more}
 use Rattle.spare_waits.proofs.Judged.{told, group_within}
 use Rattle.spare_waits.proofs.search.add_node.Goals as goal
@@ -10,6 +11,9 @@ pub before_some-requires-clause-group : goal.before_some-requires-clause-group
 before_some-requires-clause-group c =
     subst (All (λ a. a < length c.args.reach.now.places)) (sym c.as_slice.ensures.value)
     (group_within c.args.graph.now c.len-linked.ensures.linked c.args.reach.now c.requires.reach c.args.node c.in_ok-waits.waits.items c.in_ok-waits.ensures.each c.in_ok-waits.ensures.listed c.in_ok-waits.ensures.waits)
+
+pub before_some-requires-clause-passed : goal.before_some-requires-clause-passed
+before_some-requires-clause-passed c = transitive c.args.graph.now c.args.reach.now c.requires.reach
 
 pub returns : goal.returns
 returns c =

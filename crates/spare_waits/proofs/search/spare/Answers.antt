@@ -1,5 +1,6 @@
 use Rattle.std.proofs.Common.{◌≡◌, length, arith}
 use Rattle.spare_laws.proofs.lemmas.Growing.{finished, finished_few}
+use Rattle.spare_laws.proofs.lemmas.Spared.{spare_same, spare_least}
 use Rattle.spare_waits.proofs.search.spare.Goals as goal
 
 pub returns-clause-spare : goal.returns-clause-spare
@@ -13,7 +14,7 @@ returns-clause-few c =
     finished_few c.args.graph.now c.loop-node.node c.loop-node.list.items c.from_vec.result c.loop-node.invariant all c.from_vec.ensures
 
 pub returns-clause-same : goal.returns-clause-same
-returns-clause-same c = c.spare_waits_are_implied.ensures.same c.args.graph.now c.len-linked.ensures.linked c.requires.order.free c.from_vec.result (returns-clause-spare c)
+returns-clause-same c = spare_same c.args.graph.now c.len-linked.ensures.linked c.requires.order.free c.from_vec.result (returns-clause-spare c)
 
 pub returns-clause-least : goal.returns-clause-least
-returns-clause-least c = c.spare_waits_are_implied.ensures.least c.args.graph.now c.len-linked.ensures.linked c.requires.order.free c.from_vec.result (returns-clause-spare c)
+returns-clause-least c = spare_least c.args.graph.now c.len-linked.ensures.linked c.requires.order.free c.from_vec.result (returns-clause-spare c)
