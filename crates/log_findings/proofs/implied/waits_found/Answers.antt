@@ -1,4 +1,4 @@
-use Rattle.std.proofs.Common.{◌≡◌, ◌∙◌, List, map, length, sum_by, ap, sym, subst}
+use Rattle.std.proofs.Common.{◌∙◌, List, map, length, sum_by, ap, sym, subst}
 use Rattle.semantics.specs.declared.tables.LogNode.{LogNode}
 use Rattle.semantics.specs.Events.{Node}
 use Rattle.semantics.specs.Spare.{AreSpareWaits}
