@@ -1,6 +1,6 @@
 //! What each command finds in the records of a log.
 
-ghost use Rattle.std.specs.Prelude.{◌≡◌, ◌≢◌, All, IfOk};
+ghost use Rattle.std.specs.Prelude.{◌≡◌, All, IfOk};
 ghost use Rattle.findings.specs.Texts as texts;
 ghost use Rattle.spy_grammar.specs.Spelling.{Good};
 ghost use Rattle.semantics.specs.declared.command.Command.TheVariants.{Check, Deps, Ordered, Spare};
@@ -23,25 +23,7 @@ use semantics::Command;
 use spy_grammar::Lined;
 use std::alloc::Global;
 
-/// What a command finds in a log that it only looks at: a row for each such command.
-fn seen_in<'a, P: ArenaSet<'a>>(
-    alloc: Global,
-    command: Command,
-    log: &Log<'a, P>,
-) -> Result<Finding, Memory>
-    requires { command ≢ Check }
-    ensures found { IfOk result (IsFoundOf command log.now) }
-    ensures text { IfOk result texts.Good }
-{
-    match command {
-        Command::Check => unreachable!(),
-        Command::Ordered => ordered_finding(alloc, log),
-        Command::Deps => deps_finding(alloc, log),
-        Command::Spare => spare_finding(alloc, log),
-    }
-}
-
-/// What a command finds in a log, which is let go then.
+/// What a command finds in a log: a row for each command. A log that is only looked at is let go then.
 fn found_in<'a, P: ArenaSet<'a>>(
     alloc: Global,
     command: Command,
@@ -50,12 +32,24 @@ fn found_in<'a, P: ArenaSet<'a>>(
     ensures found { IfOk result (IsFoundOf command log.entry) }
     ensures text { IfOk result texts.Good }
 {
-    if command == Command::Check {
-        return check_in(alloc, log);
+    match command {
+        Command::Check => check_in(alloc, log),
+        Command::Ordered => {
+            let found = ordered_finding(alloc, &log);
+            log.let_go();
+            found
+        }
+        Command::Deps => {
+            let found = deps_finding(alloc, &log);
+            log.let_go();
+            found
+        }
+        Command::Spare => {
+            let found = spare_finding(alloc, &log);
+            log.let_go();
+            found
+        }
     }
-    let found = seen_in(alloc, command, &log);
-    log.let_go();
-    found
 }
 
 /// What a command finds in the records of a log, which has so many lines: the fault that is shown, or what there is to find in a log without one.
