@@ -105,3 +105,14 @@ pub fn edited(alloc: Global, log: &[u8], edits: &[u8]) -> Result<Vec<u8>, Fail> 
     let _line_feed = changed.pop();
     Ok(changed)
 }
+
+/// The status of a command over a log with other texts in the place of some lines, and what it writes.
+pub fn answer_edited(
+    alloc: Global,
+    command: &str,
+    log: &[u8],
+    edits: &[u8],
+) -> Result<(Status, Vec<u8>), Fail> {
+    let log = edited(alloc, log, edits)?;
+    answer(alloc, command, &log)
+}

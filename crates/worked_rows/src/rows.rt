@@ -1,17 +1,18 @@
 //! The worked examples of whole logs, each through `run`.
 
-use crate::answers::{answer, edited};
+use crate::answers::{answer, answer_edited};
 use crate::example_logs::{
     GATHERED_REDUCTIONS, STALE_COPY, TURNED_WRITES, TWO_OPERATORS, TWO_TASKS, WRITE_THEN_READ,
 };
 use spy_cli::Status;
 use std::test::Fail;
 
+/// The log of two tasks, with some lines changed.
 #[rattlefmt::skip]
 #[test]
-fn logs_with_some_lines_changed(rt: HostRuntime) -> Result<(), Fail> {
+fn orders_and_dependences_of_two_tasks(rt: HostRuntime) -> Result<(), Fail> {
     let alloc = rt.alloc();
-    let rows: [(&str, &[u8], &[u8], Status, &[u8]); 54] = [
+    let rows: [(&str, &[u8], &[u8], Status, &[u8]); 22] = [
         // Two tasks over one region.
         ("ordered", TWO_TASKS, b"", Status::Yes, b"ordered tasks 2 pairs 1\n"),
         ("deps", TWO_TASKS, b"", Status::Yes, b"before 1 2 tree 1 point 0 field 1\ndeps items 2 before 1 turn 0\n"),
@@ -40,6 +41,21 @@ fn logs_with_some_lines_changed(rt: HostRuntime) -> Result<(), Fail> {
         // Fills are items, and no tasks.
         ("ordered", TWO_TASKS, b"8 req 2 1 1 1 ro ex\n8 fill 9 1 1 1 0\n11 end 10", Status::Yes, b"ordered tasks 2 pairs 1\n"),
         ("deps", TWO_TASKS, b"8 req 2 1 1 1 ro ex\n8 fill 9 1 1 1 0\n11 end 10", Status::Yes, b"before 1 2 tree 1 point 0 field 1\nbefore 1 9 tree 1 point 0 field 1\nbefore 2 9 tree 1 point 0 field 1\ndeps items 3 before 3 turn 0\n"),
+    ];
+    for (command, log, edits, status, report) in rows {
+        let (ended, said) = answer_edited(alloc, command, log, edits)?;
+        assert_eq!(rt; said.as_slice(), report);
+        assert!(rt; ended == status);
+    }
+    Ok(())
+}
+
+/// Logs with instances, copies and reductions, with some lines changed.
+#[rattlefmt::skip]
+#[test]
+fn orders_and_dependences_with_instances(rt: HostRuntime) -> Result<(), Fail> {
+    let alloc = rt.alloc();
+    let rows: [(&str, &[u8], &[u8], Status, &[u8]); 13] = [
         // Instances and copies.
         ("deps", WRITE_THEN_READ, b"", Status::Yes, b"before 1 2 tree 1 point 0 field 1\ndeps items 2 before 1 turn 0\n"),
         ("ordered", WRITE_THEN_READ, b"13 run 2 2 -", Status::Refused, b"unordered 1 2 tree 1 point 0 field 1\n"),
@@ -55,7 +71,21 @@ fn logs_with_some_lines_changed(rt: HostRuntime) -> Result<(), Fail> {
         ("ordered", TWO_OPERATORS, b"", Status::Refused, b"unordered 1 2 tree 1 point 0 field 1\n"),
         ("ordered", TWO_OPERATORS, b"10 req 2 1 1 1 red:1 ex", Status::Yes, b"ordered tasks 2 pairs 0\n"),
         ("deps", TWO_OPERATORS, b"", Status::Yes, b"before 1 2 tree 1 point 0 field 1\ndeps items 2 before 1 turn 0\n"),
-        // Waits that others imply.
+    ];
+    for (command, log, edits, status, report) in rows {
+        let (ended, said) = answer_edited(alloc, command, log, edits)?;
+        assert_eq!(rt; said.as_slice(), report);
+        assert!(rt; ended == status);
+    }
+    Ok(())
+}
+
+/// Logs under `spare`, with some lines changed.
+#[rattlefmt::skip]
+#[test]
+fn waits_that_others_imply(rt: HostRuntime) -> Result<(), Fail> {
+    let alloc = rt.alloc();
+    let rows: [(&str, &[u8], &[u8], Status, &[u8]); 11] = [
         ("spare", WRITE_THEN_READ, b"", Status::Yes, b"spare waits 0 of 1\n"),
         ("spare", STALE_COPY, b"19 run 3 4 1,3", Status::Yes, b"spare 4 1\nspare waits 1 of 4\n"),
         ("spare", TWO_TASKS, b"10 run 2 2 1,1", Status::Yes, b"spare 2 1\nspare waits 1 of 2\n"),
@@ -67,6 +97,21 @@ fn logs_with_some_lines_changed(rt: HostRuntime) -> Result<(), Fail> {
         ("spare", TWO_TASKS, b"9 run 1 1 1", Status::Refused, b"cycle 1\n"),
         ("spare", TWO_TASKS, b"10 run 2 2 7", Status::Fault, b"fault 10 undefined-event\n"),
         ("spare", TURNED_WRITES, b"6 req 1 1 1 1 rw ex\n8 req 2 1 1 1 rw ex", Status::Fault, b"fault 9 serial-order\n"),
+    ];
+    for (command, log, edits, status, report) in rows {
+        let (ended, said) = answer_edited(alloc, command, log, edits)?;
+        assert_eq!(rt; said.as_slice(), report);
+        assert!(rt; ended == status);
+    }
+    Ok(())
+}
+
+/// A log whose frame or lines are changed to have a fault.
+#[rattlefmt::skip]
+#[test]
+fn frames_and_lines_with_faults(rt: HostRuntime) -> Result<(), Fail> {
+    let alloc = rt.alloc();
+    let rows: [(&str, &[u8], &[u8], Status, &[u8]); 8] = [
         // The frame of a log.
         ("ordered", WRITE_THEN_READ, b"14", Status::Fault, b"fault 14 ended\n"),
         ("ordered", WRITE_THEN_READ, b"14 end 11", Status::Fault, b"fault 14 count\n"),
@@ -79,8 +124,7 @@ fn logs_with_some_lines_changed(rt: HostRuntime) -> Result<(), Fail> {
         ("deps", WRITE_THEN_READ, b"2 jspace 1 0-3", Status::Fault, b"fault 2 word\n"),
     ];
     for (command, log, edits, status, report) in rows {
-        let log = edited(alloc, log, edits)?;
-        let (ended, said) = answer(alloc, command, &log)?;
+        let (ended, said) = answer_edited(alloc, command, log, edits)?;
         assert_eq!(rt; said.as_slice(), report);
         assert!(rt; ended == status);
     }
