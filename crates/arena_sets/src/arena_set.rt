@@ -7,7 +7,7 @@ ghost use Rattle.arena_sets.specs.RunsFrom.{AreRunsFrom, BeginAs};
 use bumpalo::Bump;
 use bumpalo::collections::into_bump_slice;
 use memory::Memory;
-use point_set::{PointList, PointSet, RunSet, points_of_runs_ascend};
+use point_set::{PointList, PointSet, RunSet};
 
 /// A set of points that is made from runs, and lies in an arena as long as the arena is not reset.
 pub trait ArenaSet<'a>: PointSet + Copy {
@@ -35,7 +35,6 @@ impl<'a> ArenaSet<'a> for PointList<'a> {
         for run in runs {
             push_run(&mut points, run.0, run.1)?;
         }
-        points_of_runs_ascend();
         match PointList::over(into_bump_slice(points)) {
             Some(set) => Ok(set),
             None => unreachable!(),

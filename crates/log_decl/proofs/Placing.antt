@@ -7,13 +7,14 @@ use Rattle.spy_grammar.specs.declared.record.Record.{Record}
 use Rattle.spy_grammar.specs.declared.record.Lined.{Lined}
 use Rattle.region_tree.specs.Faults.{IsFaulty, FirstNotWithin, FirstNotDisjoint}
 use Rattle.region_tree.specs.Growing.{IsGrown}
+use Rattle.region_tree.proofs.lemmas.Growth.{grown_none}
 use Rattle.region_tree.specs.declared.decls.PartDecl.{PartDecl}
 use Rattle.region_tree.specs.declared.decls.SubDecl.{SubDecl}
 use Rattle.region_tree.specs.Regions as regions
 use Rattle.region_tree.specs.Regions.{Regions, seen}
 use Rattle.log_tables.specs.Views.{space_seen}
 use Rattle.log_tables.specs.declared.entries.Space as spaces
-use Rattle.semantics.specs.Tables.{Space, tables_of, no_tables}
+use Rattle.semantics.specs.Tables.{Space, tables_of}
 use Rattle.semantics.specs.Faults.{at_line}
 use Rattle.logs.specs.Decls.{decls_of, space_kept, space_decl}
 use Rattle.log_decl.specs.SubLines.{sub_lines}
@@ -33,18 +34,18 @@ pub regions_are : (d : Regions) (ss : List regions.Space) (ps : List PartDecl) (
 regions_are d ss ps bs s p b =
     ap (λ xs. record { spaces = xs; parts = d.parts; subs = d.subs }) s ∙ ap (λ xs. record { spaces = ss; parts = xs; subs = d.subs }) p ∙ ap (λ xs. record { spaces = ss; parts = ps; subs = xs }) b
 
-module _ (log : List Record) (kept : List Lined) (none : IsGrown (decls_of no_tables)) (keep : Keep log [] kept) where
+module _ (log : List Record) (kept : List Lined) (keep : Keep log [] kept) where
   pub grown_log : IsGrown (decls_of (tables_of kept))
-  grown_log = grown_all log [] kept none keep
+  grown_log = grown_all log [] kept grown_none keep
 
   pub faultless : ((i : ℕ) → ¬ IsFaulty (decls_of (tables_of kept)) i) → spaces_fault [] kept ≡ None
-  faultless sound = no_fault log [] kept none keep (λ i _. sound i)
+  faultless sound = no_fault log [] kept grown_none keep (λ i _. sound i)
 
   pub not_within : (sub point : ℕ) → FirstNotWithin (decls_of (tables_of kept)) sub point → ShownAt [] kept sub codes.NotWithin
-  not_within sub point first = first_fault log [] kept sub codes.NotWithin none keep (omega arith) first.0.1 (outside point first.1.0)
+  not_within sub point first = first_fault log [] kept sub codes.NotWithin grown_none keep (omega arith) first.0.1 (outside point first.1.0)
 
   pub not_disjoint : (sub other point : ℕ) → FirstNotDisjoint (decls_of (tables_of kept)) sub other point → ShownAt [] kept sub codes.NotDisjoint
-  not_disjoint sub other point first = first_fault log [] kept sub codes.NotDisjoint none keep (omega arith) first.0.1 (met other first.2.0 first.1)
+  not_disjoint sub other point first = first_fault log [] kept sub codes.NotDisjoint grown_none keep (omega arith) first.0.1 (met other first.2.0 first.1)
 
 shown_line : (kept : List Lined) (sub : ℕ) (code : Code) (shown : ShownAt [] kept sub code) → slice_get (sub_lines kept) sub ≡ Some shown.0
 shown_line kept sub code shown = let all : sub ≡ sub - 0 = omega arith in ap (slice_get (sub_lines kept)) all ∙ shown.1

@@ -13,7 +13,7 @@ use bumpalo::Bump;
 use log_tables::{Draft, Space};
 use point_set::PointSet;
 use region_tree::{
-    ArenaSet, Decls, Forest, PartDecl, PlaceFault, SpaceDecl, SubDecl, declarations_grow,
+    ArenaSet, Decls, Forest, PartDecl, PlaceFault, SpaceDecl, SubDecl,
 };
 use semantics::{Part, Sub};
 use spy_grammar::{Code, Lined, Record};
@@ -113,7 +113,6 @@ pub(crate) fn placed_forest<'a, P: ArenaSet<'a>>(
     ensures faultless { OnOk result (spaces_fault [] records.now ≡ None) }
     ensures fault { IsFaultOf result (spaces_fault [] records.now) }
 {
-    declarations_grow();
     let decls = decls(alloc, draft)?;
     match Forest::place(alloc, bump, &decls) {
         Ok(forest) => Ok(forest),

@@ -11,7 +11,7 @@ use crate::items::{ids_by_serial, item_count};
 use crate::reports::{deps_found, fault_found};
 use crate::serial::serial_fault;
 use findings::{Dep, DepList, Finding, count_before};
-use interference::{Pair, pairs, pairs_are_of_items};
+use interference::{Pair, pairs};
 use logs::Log;
 use memory::Memory;
 use privilege::Kind;
@@ -39,7 +39,6 @@ fn dep_of<'a, P: ArenaSet<'a>>(log: &Log<'a, P>, pair: Pair) -> Dep
 fn deps_of<'a, P: ArenaSet<'a>>(alloc: Global, log: &Log<'a, P>) -> Result<Vec<Dep>, Memory>
     ensures { IfOk result (λ list. list.items ≡ dependences log.now) }
 {
-    pairs_are_of_items();
     let mut list = Vec::new(alloc);
     for pair in pairs(log) {
         let one = dep_of(log, pair);

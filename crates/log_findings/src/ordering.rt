@@ -15,7 +15,6 @@ use crate::reports::{cycle_found, fault_found, ordered_found, unordered_found};
 use crate::serial::serial_fault;
 use crate::sorting::{Sorting, Unsorted, sorting_of};
 use findings::Finding;
-use log_laws::faultless_logs_are_linked;
 use logs::Log;
 use memory::Memory;
 use reach_marks::Reach;
@@ -52,7 +51,6 @@ pub fn sort_log<'a, P: ArenaSet<'a>>(alloc: Global, log: &Log<'a, P>) -> Result<
     ensures unsorted { IfErr result (IsUnsorted (graph_of log.now.nodes)) }
 {
     log.is_declared();
-    faultless_logs_are_linked();
     sorting_of(alloc, log.nodes())
 }
 

@@ -3,7 +3,7 @@
 ghost use Rattle.std.specs.Prelude.{◌≡◌, ◌<◌, length};
 ghost use Rattle.semantics.specs.Faults as faults;
 
-use interference::{pairs_are_of_items, serial_ok};
+use interference::serial_ok;
 use logs::Log;
 use region_tree::ArenaSet;
 use semantics::Fault;
@@ -18,10 +18,10 @@ fn serial_line<'a, P: ArenaSet<'a>>(log: &Log<'a, P>, item: usize) -> u32
 }
 
 /// The fault of the serial order: two items stand against program order that may not. The line is the one that lists the first of them.
+#[tactic(auto, using(interference::proofs::lemmas::Turning::turned_within))]
 pub fn serial_fault<'a, P: ArenaSet<'a>>(log: &Log<'a, P>) -> Option<Fault>
     ensures { result ≡ faults.serial_fault log.now }
 {
-    pairs_are_of_items();
     match serial_ok(log) {
         Ok(()) => None,
         Err(breaks) => Some(Fault {

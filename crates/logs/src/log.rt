@@ -27,7 +27,6 @@ use crate::found::{Found, found_in};
 use crate::mapping::{Unmapped, first_unmapped, inst_mapped};
 use bumpalo::Bump;
 use item_uses::{ItemUses, Span};
-use log_laws::items_are_listed;
 use log_tables::{Draft, Space};
 use point_set::PointSet;
 use region_tree::{ArenaSet, Forest, Memory, Path};
@@ -185,7 +184,6 @@ impl<'a, P: PointSet + Copy> Log<'a, P> {
         ensures line { result ≡ item_line self.now item }
         ensures some { IsSome result ↔ ((0 < length self.now.serials) × (item < length self.now.items)) }
     {
-        items_are_listed();
         self.is_declared();
         self.line_listing(item)
     }

@@ -1,4 +1,3 @@
 pub mod lemmas
 mod Defaults
-mod RunPoints
 mod Left

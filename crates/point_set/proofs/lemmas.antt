@@ -2,3 +2,4 @@
 pub mod Ahead
 pub mod InRuns
 pub mod Maximal
+pub mod RunPoints

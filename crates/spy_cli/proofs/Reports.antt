@@ -18,21 +18,19 @@ use Rattle.spy_args.specs.Asked.{IsSized}
 use Rattle.spy_args.specs.declared.request.Request.{Request}
 use Rattle.spy_args.specs.declared.request.Request.TheVariants as requests
 use Rattle.spy_cli.specs.declared.status.Status.{Status}
-use Rattle.spy_cli.specs.Answers.{status_of, Tells, IsJudged, IsDemo, IsAnswer, IsInput}
+use Rattle.spy_cli.specs.Answers.{status_of, Tells, IsJudged, IsDemo, IsAnswer, IsAnswerLong, IsInput}
 use Rattle.log_reading.proofs.lemmas.Lines.{long}
 use Rattle.log_laws.proofs.lemmas.Numbered.{records_numbered}
-
-abbrev OneLog : Type 0
-OneLog = (bytes : List ℕ) (log other : List Lined) → Reads bytes log → Reads bytes other → log ≡ other
-
-abbrev OneOutcome : Type 0
-OneOutcome = (command : Command) (bytes : List ℕ) (f g : Finding) → IsOutcome command bytes f → IsOutcome command bytes g → f ≡ g
+use Rattle.log_laws.proofs.lemmas.ReadLogs.{held_is_good, one_read, printed_has_no_fault, printed_is_read}
+use Rattle.long_values.proofs.lemmas.Checked.{outcome_same}
+use Rattle.outcomes.proofs.lemmas.Found.{one_answered, one_found}
+use Rattle.log_gen.proofs.lemmas.Spelled.{log_good}
 
 told_alike : (f g : Finding) (s t : Status) (x y : List ℕ) → f ≡ g → Tells f s x → Tells g t y → (s ≡ t) × (x ≡ y)
 told_alike f g s t x y same p q = (p.status_is ∙ ap status_of same ∙ sym q.status_is, p.text_is ∙ ap reports.report_text same ∙ sym q.text_is)
 
-judged_alike : OneOutcome → (command : Command) (bytes : List ℕ) (s t : Status) (x y : List ℕ) → IsJudged command bytes s x → IsJudged command bytes t y → (s ≡ t) × (x ≡ y)
-judged_alike one command bytes s t x y p q = told_alike p.finding q.finding s t x y (one command bytes p.finding q.finding p.outcome q.outcome) p.tells q.tells
+judged_alike : (command : Command) (bytes : List ℕ) (s t : Status) (x y : List ℕ) → IsJudged command bytes s x → IsJudged command bytes t y → (s ≡ t) × (x ≡ y)
+judged_alike command bytes s t x y p q = told_alike p.finding q.finding s t x y (one_answered command bytes p.finding q.finding p.outcome q.outcome) p.tells q.tells
 
 faults_alike : (bytes : List ℕ) (f g : Finding) → HasTextFault bytes f → HasTextFault bytes g → f ≡ g
 faults_alike bytes f g p q =
@@ -43,51 +41,49 @@ faults_alike bytes f g p q =
 clean_or_not : {A : Type 0} (bytes : List ℕ) (f : Finding) → HasTextFault bytes f → text_fault bytes ≡ None → A
 clean_or_not bytes f p e = let wrong : ◌≡◌ {A = Option Fault} (Some p.fault) None = sym p.shown ∙ e in absurd cc
 
-abbrev OneFinding : Type 0
-OneFinding = (command : Command) (lines : ℕ) (log : List Lined) → AllByRecursion Good (records_of log) → (f g : Finding) → IsFound command lines log f → IsFound command lines log g → f ≡ g
-
 -- Two answers of one `demo` are one.
-demos_alike : OneFinding → (size : ℕ) → AllByRecursion Good (stencil size) → (s t : Status) (x y : List ℕ) → IsDemo size s x → IsDemo size t y → (s ≡ t) × (x ≡ y)
-demos_alike one size good s t x y p q =
+demos_alike : (size : ℕ) → AllByRecursion Good (stencil size) → (s t : Status) (x y : List ℕ) → IsDemo size s x → IsDemo size t y → (s ≡ t) × (x ≡ y)
+demos_alike size good s t x y p q =
     let good_log = subst (AllByRecursion Good) (sym (records_numbered 1 (stencil size))) good in
-    let same = one commands.Check (length (stencil size)) (lined (stencil size)) good_log p.finding q.finding p.found q.found in
+    let same = one_found commands.Check (length (stencil size)) (lined (stencil size)) good_log p.finding q.finding p.found q.found in
     told_alike p.finding q.finding s t x y same p.tells q.tells
 
-abbrev DemosAreGood : Type 0
-DemosAreGood = (n : ℕ) → 1 ≤ n → n ≤ 500 → AllByRecursion Good (stencil n)
+pub same_answer : (request : Request) (bytes : List ℕ) (s t : Status) (x y : List ℕ) → IsSized request → IsAnswer request bytes s x → IsAnswer request bytes t y → (s ≡ t) × (x ≡ y)
+same_answer (requests.Judge command) bytes s t x y sized p q = judged_alike command bytes s t x y p q
+same_answer requests.Print bytes s t x y sized (inl p) (inl q) = told_alike p.finding q.finding s t x y (faults_alike bytes p.finding q.finding p.fault q.fault) p.tells q.tells
+same_answer requests.Print bytes s t x y sized (inl p) (inr q) = clean_or_not bytes p.finding p.fault q.1.spelled
+same_answer requests.Print bytes s t x y sized (inr p) (inl q) = clean_or_not bytes q.finding q.fault p.1.spelled
+same_answer requests.Print bytes s t x y sized (inr p) (inr q) = (p.0 ∙ sym q.0, p.1.text_is ∙ ap (λ log. text_of (records_of log)) (one_read bytes p.1.log q.1.log p.1.reads q.1.reads) ∙ sym q.1.text_is)
+same_answer (requests.Demo size) bytes s t x y sized p q = demos_alike size (log_good size sized.1) s t x y p q
 
-pub same_answer : OneLog → OneOutcome → OneFinding → DemosAreGood → (request : Request) (bytes : List ℕ) (s t : Status) (x y : List ℕ) → IsSized request → IsAnswer request bytes s x → IsAnswer request bytes t y → (s ≡ t) × (x ≡ y)
-same_answer one outcome finding good (requests.Judge command) bytes s t x y sized p q = judged_alike outcome command bytes s t x y p q
-same_answer one outcome finding good requests.Print bytes s t x y sized (inl p) (inl q) = told_alike p.finding q.finding s t x y (faults_alike bytes p.finding q.finding p.fault q.fault) p.tells q.tells
-same_answer one outcome finding good requests.Print bytes s t x y sized (inl p) (inr q) = clean_or_not bytes p.finding p.fault q.1.spelled
-same_answer one outcome finding good requests.Print bytes s t x y sized (inr p) (inl q) = clean_or_not bytes q.finding q.fault p.1.spelled
-same_answer one outcome finding good requests.Print bytes s t x y sized (inr p) (inr q) = (p.0 ∙ sym q.0, p.1.text_is ∙ ap (λ log. text_of (records_of log)) (one bytes p.1.log q.1.log p.1.reads q.1.reads) ∙ sym q.1.text_is)
-same_answer one outcome finding good (requests.Demo size) bytes s t x y sized p q = demos_alike finding size (good size sized.0 sized.1) s t x y p q
+-- What is answered under `check` is the same by long values.
+pub same_in_long : (bytes : List ℕ) (status : Status) (text : List ℕ) → IsAnswer (requests.Judge commands.Check) bytes status text ↔ IsAnswerLong bytes status text
+same_in_long bytes status text = (
+  λ a. record { finding = a.finding; outcome = (outcome_same bytes a.finding).0 a.outcome; tells = a.tells },
+  λ a. record { finding = a.finding; outcome = (outcome_same bytes a.finding).1 a.outcome; tells = a.tells },
+)
 
 -- ---- what is printed, printed again
 
-module _ (one : OneLog) (fault : (bytes : List ℕ) (log : List Lined) → text_fault bytes ≡ None → Reads bytes log → text_fault (text_of (records_of log)) ≡ None)
-    (read : (bytes : List ℕ) (log : List Lined) → Reads bytes log → Reads (text_of (records_of log)) (lined (records_of log)))
-    (records : (bytes : List ℕ) (log : List Lined) → Reads bytes log → records_of (lined (records_of log)) ≡ records_of log) where
-  pub again : (bytes text : List ℕ) → IsPrinted bytes text → IsPrinted text text
-  again bytes text p = record {
-    spelled = subst (λ x. text_fault x ≡ None) (sym p.text_is) (fault bytes p.log p.spelled p.reads);
-    log = lined (records_of p.log);
-    reads = subst (λ x. Reads x (lined (records_of p.log))) (sym p.text_is) (read bytes p.log p.reads);
-    text_is = p.text_is ∙ ap text_of (sym (records bytes p.log p.reads));
-  }
+pub again : (bytes text : List ℕ) → IsPrinted bytes text → IsPrinted text text
+again bytes text p = record {
+  spelled = subst (λ x. text_fault x ≡ None) (sym p.text_is) (printed_has_no_fault bytes p.log p.spelled p.reads);
+  log = lined (records_of p.log);
+  reads = subst (λ x. Reads x (lined (records_of p.log))) (sym p.text_is) (printed_is_read (records_of p.log) (held_is_good 1 _ p.log p.reads.hold));
+  text_is = p.text_is ∙ ap text_of (sym (records_numbered 1 (records_of p.log)));
+}
 
-  pub found_again : (bytes text : List ℕ) → IsPrinted bytes text → (log : List Lined) → Reads bytes log → (command : Command) (f : Finding) → IsOutcome command text f ↔ IsFound command (line_count text) (lined (records_of log)) f
-  unfolding again
-  found_again bytes text p log reads command f =
-      let spelled = (again bytes text p).spelled in
-      let same : p.log ≡ log = one bytes p.log log p.reads reads in
-      let here : Reads text (lined (records_of log)) = subst (λ l. Reads text (lined (records_of l))) same (again bytes text p).reads in
-      (there spelled here, λ h. inr (record { spelled = spelled; log = lined (records_of log); reads = here; found = h }))
-    where
-      there : text_fault text ≡ None → Reads text (lined (records_of log)) → IsOutcome command text f → IsFound command (line_count text) (lined (records_of log)) f
-      there spelled here (inl h) = clean_or_not text f h spelled
-      there spelled here (inr h) = subst (λ l. IsFound command (line_count text) l f) (one text h.log (lined (records_of log)) h.reads here) h.found
+pub found_again : (bytes text : List ℕ) → IsPrinted bytes text → (log : List Lined) → Reads bytes log → (command : Command) (f : Finding) → IsOutcome command text f ↔ IsFound command (line_count text) (lined (records_of log)) f
+unfolding again
+found_again bytes text p log reads command f =
+    let spelled = (again bytes text p).spelled in
+    let same : p.log ≡ log = one_read bytes p.log log p.reads reads in
+    let here : Reads text (lined (records_of log)) = subst (λ l. Reads text (lined (records_of l))) same (again bytes text p).reads in
+    (there spelled here, λ h. inr (record { spelled = spelled; log = lined (records_of log); reads = here; found = h }))
+  where
+    there : text_fault text ≡ None → Reads text (lined (records_of log)) → IsOutcome command text f → IsFound command (line_count text) (lined (records_of log)) f
+    there spelled here (inl h) = clean_or_not text f h spelled
+    there spelled here (inr h) = subst (λ l. IsFound command (line_count text) l f) (one_read text h.log (lined (records_of log)) h.reads here) h.found
 
 -- ---- an input that is too long
 

@@ -12,30 +12,18 @@ ghost use Rattle.spy_cli.specs.declared.status.Status.{Status};
 ghost use Rattle.spy_cli.specs.Answers.{IsAdmitted, IsAnswer, IsAnswerLong};
 ghost use Rattle.spy_cli.specs.Cut.{IsCut, ShowsCut};
 
-use log_gen::stencil_logs_are_good;
-use log_laws::{one_log, printed_logs_are_read};
-use long_values::check_finds_the_same_in_long;
-use outcomes::{one_finding, one_outcome};
-
 /// One thing is answered to an input.
 pub fn one_report()
     ensures { (request : Request) (bytes : List ℕ) (status other : Status) (text words : List ℕ)
         → IsSized request → IsAnswer request bytes status text → IsAnswer request bytes other words
         → (status ≡ other) × (text ≡ words) }
-{
-    one_outcome();
-    one_finding();
-    one_log();
-    stencil_logs_are_good();
-}
+{}
 
 /// What is answered to an input under `check` is the same by long values as by values.
 pub fn answers_in_long()
     ensures { (bytes : List ℕ) (status : Status) (text : List ℕ)
         → IsAnswer (Request.Judge Command.Check) bytes status text ↔ IsAnswerLong bytes status text }
-{
-    check_finds_the_same_in_long();
-}
+{}
 
 /// What `print` writes, it writes again unchanged; and each command finds in it what it finds in the records of the input, counted from line 1.
 pub fn printed_again()
@@ -43,10 +31,7 @@ pub fn printed_again()
     ensures found { (bytes text : List ℕ) → IsPrinted bytes text → (log : List Lined) → Reads bytes log
         → (command : Command) (f : Finding) → IsOutcome command text f
         ↔ IsFound command (line_count text) (lined (records_of log)) f }
-{
-    one_log();
-    printed_logs_are_read();
-}
+{}
 
 /// The front of a log that keeps its rules, cut off before the line of `end` does, shows that: its fault is `newline`, `header` or `ended`.
 pub fn cut_logs_show_it()

@@ -12,10 +12,8 @@ ghost use Rattle.findings.specs.Texts as reports;
 ghost use Rattle.spy_cli.specs.Answers.{Answers, AnswersLong, AnswersPart, Ends, IsAnswer, IsAnswerLong, IsCalm, IsDecided, IsInput, IsInputCalm, IsRead, Keeps, takes_input};
 
 use crate::answering::{ReportEnd, report_on};
-use crate::report_laws::{answers_in_long, one_report};
 use crate::status::Status;
 use findings::{cannot_read_text, usage_text};
-use log_laws::one_log;
 use memory::Memory;
 use spy_args::{Request, request_in};
 use spy_io::{Sink, Source, WriteFault, write_all};
@@ -38,6 +36,7 @@ fn written<K: Sink>(sink: &mut K, text: &[u8], status: Status) -> Status
 
 /// Runs the command that the words ask for over the bytes of the source, and writes its report to the sink.
 /// The words do not hold the program's name. The commands are `check`, `ordered`, `deps`, `spare` and `print`, and `demo --size N`, which reads nothing: it checks the stencil log of N pieces.
+#[tactic(auto, using(log_laws::proofs::lemmas::ReadLogs::one_read))]
 pub fn run<S: Source, K: Sink>(
     alloc: Global,
     words: &Vec<String>,
@@ -122,9 +121,6 @@ pub fn run<S: Source, K: Sink>(
     ensures memory { result ≡ Status.Memory → sink.new ≡ sink.old }
     ensures calm_memory { result ≡ Status.Memory → S.faults source.new ≡ S.faults source.old }
 {
-    one_report();
-    one_log();
-    answers_in_long();
     let request = match request_in(alloc, words) {
         Ok(Some(request)) => request,
         Ok(None) => return written(sink, usage_text(), Status::Usage),

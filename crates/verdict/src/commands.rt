@@ -15,7 +15,6 @@ use findings::Finding;
 use log_decl::{DeclEnd, declare};
 use log_findings::{deps_finding, fault_found, ordered_finding, spare_finding};
 use logs::Log;
-use long_values::check_finds_the_same_in_long;
 use memory::Memory;
 use point_set::RunSet;
 use region_tree::ArenaSet;
@@ -80,7 +79,6 @@ pub fn check(alloc: Global, records: &Vec<Lined>, lines: u32) -> Result<Finding,
     ensures long { IfOk result (IsFoundLong lines records.now.items) }
     ensures text { IfOk result texts.Good }
 {
-    check_finds_the_same_in_long();
     find(alloc, Command::Check, records, lines)
 }
 

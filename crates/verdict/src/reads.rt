@@ -19,8 +19,6 @@ use crate::stop::Stop;
 use atoms::Atoms;
 use log_findings::{Sorting, differ_found};
 use logs::Log;
-use long_values::check_finds_the_same_in_long;
-use outcomes::replays_speak_for_all;
 use region_tree::ArenaSet;
 use replay::{Reads, ReplayEnd, replay};
 use serial_exec::Versions;
@@ -64,8 +62,6 @@ pub(crate) fn judged_reads<'a, P: ArenaSet<'a>>(
     ensures stop_long { IfErr result (IsStop (CheckFindsLong log.now)) }
 {
     log.is_declared();
-    replays_speak_for_all();
-    check_finds_the_same_in_long();
     match replayed(alloc, log, sorting, atoms) {
         Ok(reads) => Ok(reads.count),
         Err(

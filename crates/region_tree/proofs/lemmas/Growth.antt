@@ -4,7 +4,7 @@ use Rattle.std.specs.Option.{option_and_then, option_or, option_map}
 use Rattle.std.proofs.lemmas.Bool.{cases_eq, eqb-true, ne_eqb}
 use Rattle.std.proofs.lemmas.Option.{none-some, same_Some, option_and_then_some}
 use Rattle.std.proofs.lemmas.List.Folds.{find-append}
-use Rattle.std.proofs.lemmas.List.Elements.{All-push}
+use Rattle.std.proofs.lemmas.List.Elements.{All-nil, All-push}
 use Rattle.std.proofs.lemmas.List.Quantifiers.{all_pairs_push}
 use Rattle.region_tree.specs.declared.decls.PartDecl.{PartDecl}
 use Rattle.region_tree.specs.declared.decls.SubDecl.{SubDecl}
@@ -200,4 +200,30 @@ grown_part d p grown new has =
         shallow = shallow;
       };
       counted = λ space root n e. grown.counted space root n (sym (same n space) ∙ e);
+    }
+
+-- Where nothing is declared, nothing lies above anything.
+abbrev nothing : Regions
+nothing = record { spaces = []; parts = []; subs = [] }
+
+none_above : (space root n : ℕ) → ancestor_of nothing n space ≡ Some root → n ≤ 0
+none_above space root zero e = omega arith
+none_above space root (suc n) e = option_and_then_some (parent_of nothing) (ancestor_of nothing n space) root e (λ at is up. absurd (none-some root up))
+
+pub grown_none : IsGrown nothing
+grown_none =
+    let shallow : (space root n : ℕ) → ancestor_of nothing n space ≡ Some root → n ≤ 64 = λ space root n e. omega (arith, none_above space root n e) in
+    record {
+      forest = record {
+        space_ids = λ i j d above within. absurd (omega (arith, within));
+        part_ids = λ i j d above within. absurd (omega (arith, within));
+        steps = λ i j d above within. absurd (omega (arith, within));
+        sub_spaces = λ i j d above within. absurd (omega (arith, within));
+        wholes_declared = All-nil (λ (p : PartDecl). IsSome (space_of nothing p.space));
+        parts_declared = All-nil (λ (s : SubDecl). IsSome (part_of nothing s.part));
+        spaces_declared = All-nil (λ (s : SubDecl). IsSome (space_of nothing s.space));
+        acyclic = acyclic_from nothing (λ space. shallow space);
+        shallow = shallow;
+      };
+      counted = none_above;
     }

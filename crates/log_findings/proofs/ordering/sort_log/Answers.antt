@@ -1,6 +1,7 @@
 use Rattle.std.proofs.Common.{◌<◌, ◌^◌, List, length, sym, subst}
 use Rattle.semantics.specs.declared.tables.LogNode.{LogNode}
 use Rattle.semantics.specs.Events.{AreLinked, graph_of}
+use Rattle.log_laws.proofs.lemmas.Laws.{faultless_linked}
 use Rattle.log_findings.proofs.lemmas.Ends.{few_declared_nodes, linked_in}
 use Rattle.log_findings.proofs.ordering.sort_log.Goals as goal
 
@@ -10,4 +11,4 @@ sorting_of-requires-clause-few g c =
 
 pub sorting_of-requires-clause-linked : goal.sorting_of-requires-clause-linked
 sorting_of-requires-clause-linked g c =
-    subst (λ ns. AreLinked (graph_of ns)) (sym c.nodes.ensures) (linked_in c.faultless_logs_are_linked.ensures c.args.log.now c.is_declared.ensures c.requires)
+    subst (λ ns. AreLinked (graph_of ns)) (sym c.nodes.ensures) (linked_in faultless_linked c.args.log.now c.is_declared.ensures c.requires)

@@ -1,4 +1,4 @@
-use Rattle.std.proofs.Common.{inl, ◌≡◌, Option, Some, subst, sym, ◌∙◌}
+use Rattle.std.proofs.Common.{inl, inr, ◌≡◌, Option, Some, subst, sym, ◌∙◌}
 use Rattle.std.specs.Prelude.{IfSome}
 use Rattle.std.specs.Io.KnownBytes.{Appends}
 use Rattle.spy_io.specs.Causes.{Grows}
@@ -7,6 +7,7 @@ use Rattle.spy_args.specs.declared.request.Request.TheVariants.{Judge}
 use Rattle.semantics.specs.declared.command.Command.TheVariants.{Check}
 use Rattle.spy_args.specs.Asked.{IsSized}
 use Rattle.spy_cli.specs.Answers.{IsAnswer, IsDecided, IsInput}
+use Rattle.spy_cli.proofs.Reports.{same_answer, same_in_long}
 use Rattle.spy_cli.proofs.top.run.Goals as goal
 
 pub returns-in-Ok-clause-answer : goal.returns-in-Ok-clause-answer
@@ -26,17 +27,17 @@ pub returns-in-Ok-clause-exact : goal.returns-in-Ok-clause-exact
 returns-in-Ok-clause-exact g c request asks bytes status text input out decided =
     let a = returns-in-Ok-clause-answer g c request asks decided bytes input in
     let sized = subst (λ o. IfSome o IsSized) (c.in-Ok-Some.ensures.asked ∙ asks) c.in-Ok-Some.ensures.sized in
-    let one = c.one_report.ensures request bytes c.written-in-Ok.result status a.text text sized a.answer out in
+    let one = same_answer request bytes c.written-in-Ok.result status a.text text sized a.answer out in
     (one.0, subst (Appends (g.K.Sink.held c.args.sink.now) (g.K.Sink.held c.written-in-Ok.new.sink)) one.1 a.written)
 
 pub returns-in-Ok-clause-answer_long : goal.returns-in-Ok-clause-answer_long
 returns-in-Ok-clause-answer_long g c asks decided bytes left =
     let a = returns-in-Ok-clause-answer g c (Judge Check) asks decided bytes left in
-    record { text = a.text; answer = (c.answers_in_long.ensures bytes c.written-in-Ok.result a.text).0 a.answer; written = a.written }
+    record { text = a.text; answer = (same_in_long bytes c.written-in-Ok.result a.text).0 a.answer; written = a.written }
 
 pub returns-in-Ok-clause-exact_long : goal.returns-in-Ok-clause-exact_long
 returns-in-Ok-clause-exact_long g c asks bytes status text left out decided =
-    returns-in-Ok-clause-exact g c (Judge Check) asks bytes status text left ((c.answers_in_long.ensures bytes status text).1 out) decided
+    returns-in-Ok-clause-exact g c (Judge Check) asks bytes status text left ((same_in_long bytes status text).1 out) decided
 
 pub returns-in-Ok-clause-part_of_answer : goal.returns-in-Ok-clause-part_of_answer
 returns-in-Ok-clause-part_of_answer g c request asks bytes input fails =
@@ -51,3 +52,11 @@ returns-in-Ok-clause-part_of_answer g c request asks bytes input fails =
       answer = subst (λ k. IsAnswer k bytes r.status r.text.items) same own;
       written = subst (Grows (g.K.Sink.held c.args.sink.now) (g.K.Sink.held c.written-in-Ok.new.sink)) c.deref.ensures.value fault.1;
     })
+
+pub returns-in-Ok-clause-part : goal.returns-in-Ok-clause-part
+returns-in-Ok-clause-part g c request asks bytes status text input out fails =
+    let sized = subst (λ o. IfSome o IsSized) (c.in-Ok-Some.ensures.asked ∙ asks) c.in-Ok-Some.ensures.sized in
+    elim (returns-in-Ok-clause-part_of_answer g c request asks bytes input fails) [
+      | inl a ↦ inl (subst (Grows (g.K.Sink.held c.args.sink.now) (g.K.Sink.held c.written-in-Ok.new.sink)) (same_answer request bytes a.status status a.text text sized a.answer out).1 a.written)
+      | inr r ↦ inr r
+    ]
