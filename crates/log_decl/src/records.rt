@@ -13,11 +13,9 @@ use crate::declaring::declarations;
 use bumpalo::Bump;
 use logs::Log;
 use region_tree::ArenaSet;
+use semantics::MOST_BYTES;
 use spy_grammar::{Code, Lined, good};
 use std::alloc::{AllocError, Global};
-
-/// How many lines an input has at most.
-const MOST_LINES: u32 = 1 << 26;
 
 /// The log that some records declare, or the fault that is shown of its frame and its records. The lines are as many as the input has.
 ///
@@ -87,7 +85,7 @@ pub fn are_log_records(alloc: Global, records: &[Lined], lines: u32) -> Result<b
         ↔ (All (λ l. Good l.rec) records.now × AreLines lines records.now)) }
 {
     let numbers = lines_of(alloc, records)?;
-    let few = lines <= MOST_LINES;
+    let few = lines as u64 <= MOST_BYTES;
     let good = are_good(records);
     let within = are_within(records, lines);
     let ascending = is_ascending(&numbers);

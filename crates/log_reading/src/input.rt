@@ -1,10 +1,11 @@
 //! An input, and the records that it spells.
 
-ghost use Rattle.std.specs.Prelude.{◌≡◌, ◌≤◌, ◌^◌, All, length, IfOk, None, OnOk};
+ghost use Rattle.std.specs.Prelude.{◌≡◌, ◌≤◌, All, length, IfOk, None, OnOk};
 ghost use Rattle.spy_lines.specs.LinesOf.{with_ends, IsLine};
 ghost use Rattle.spy_grammar.specs.Spelling.{Good};
 ghost use Rattle.semantics.specs.Records.{Hold, AreLines};
 ghost use Rattle.semantics.specs.TextFaults.{lines_fault};
+ghost use Rattle.semantics.specs.declared.limits.TheConstants.{MOST_BYTES};
 ghost use Rattle.log_reading.specs.Spelled.{EndsBy, HasFault, HasFaultOfLines, Spells};
 
 use crate::reading::{Input, SpellEnd, read_input};
@@ -15,7 +16,7 @@ use std::alloc::Global;
 
 /// The lines of an input, over its bytes.
 fn lines_of(bytes: Vec<u8>) -> Result<LineList, SpellEnd>
-    requires { length bytes.items ≤ 2 ^ 26 }
+    requires { length bytes.items ≤ MOST_BYTES }
     ensures bytes { IfOk result (λ lines. with_ends lines ≡ bytes.items) }
     ensures lines { IfOk result (λ lines. All IsLine lines) }
     ensures fault { EndsBy (HasFault bytes.items) result }

@@ -1,8 +1,9 @@
 //! The records of an input.
 
-ghost use Rattle.std.specs.Prelude.{◌≡◌, ◌<◌, ◌≤◌, ◌^◌, ◌∷◌, [], ◌++◌, None, IfOk, OnOk, length};
+ghost use Rattle.std.specs.Prelude.{◌≡◌, ◌<◌, ◌≤◌, ◌∷◌, [], ◌++◌, None, IfOk, OnOk, length};
 ghost use Rattle.semantics.specs.Records.{Hold};
 ghost use Rattle.semantics.specs.TextFaults.{code_of, line_fault, lines_fault};
+ghost use Rattle.semantics.specs.declared.limits.TheConstants.{MOST_BYTES};
 ghost use Rattle.spy_grammar.specs.Reading.{line_at};
 ghost use Rattle.log_reading.specs.Spelled.{EndsBy, HasFaultOfLine, HasFaultOfLines, Says, end_at};
 ghost use Rattle.log_reading.specs.declared.reading.SpellEnd.TheVariants.{Memory};
@@ -77,7 +78,7 @@ pub struct Input {
 pub(crate) fn read_input(alloc: Global, list: &LineList) -> Result<Input, SpellEnd>
     ensures held { IfOk result (λ i. Hold 1 list.now i.records.items) }
     ensures count { IfOk result (λ i. i.lines ≡ length list.now) }
-    ensures few { IfOk result (λ i. i.lines ≤ 2 ^ 26) }
+    ensures few { IfOk result (λ i. i.lines ≤ MOST_BYTES) }
     ensures clean { OnOk result (lines_fault 1 list.now ≡ None) }
     ensures fault { EndsBy (HasFaultOfLines list.now) result }
 {

@@ -1,11 +1,12 @@
 -- Lines and records.
-use Rattle.std.specs.Prelude.{◌≡◌, ℕ, ◌+◌, ◌-◌, ◌≤◌, ◌^◌, ◌==◌, true, All, List, [], ◌∷◌, ◌++◌, map, length, take, drop, ◌⊎◌}
+use Rattle.std.specs.Prelude.{◌≡◌, ℕ, ◌+◌, ◌-◌, ◌≤◌, ◌==◌, true, All, List, [], ◌∷◌, ◌++◌, map, length, take, drop, ◌⊎◌}
 use Rattle.std.specs.List.{slice_split}
 use Rattle.std.specs.List.Sorted.{IsStrictlyIncreasing}
 use Rattle.spy_grammar.specs.declared.record.Record.{Record}
 use Rattle.spy_grammar.specs.declared.record.Lined.{Lined}
 use Rattle.spy_grammar.specs.Spelling.{spelling, Good}
 use Rattle.spy_grammar.specs.Reading.{is_passed_over}
+use Rattle.semantics.specs.declared.limits.TheConstants.{MOST_BYTES}
 
 -- The text of some records: the spelling of each in turn, and a line feed after each.
 abbrev pub text_of : List Record → List ℕ
@@ -45,8 +46,8 @@ pub record Reads (bytes : List ℕ) (log : List Lined) : Type 0 where
   pub ended : drop (line_count bytes) (parts_of bytes) ≡ [] ∷ []
   pub hold : Hold 1 (take (line_count bytes) (parts_of bytes)) log
 
--- The records stand on lines that ascend, each on one of these many lines, which are at most 2^26.
+-- The records stand on lines that ascend, each on one of these many lines. (Each line of an input has a byte at least, its line feed.)
 pub record AreLines (lines : ℕ) (log : List Lined) : Type 0 where
   pub ascend : IsStrictlyIncreasing (map (λ (l : Lined). l.line) log)
   pub within : All (λ (l : Lined). l.line ≤ lines) log
-  pub few : lines ≤ 2 ^ 26
+  pub few : lines ≤ MOST_BYTES

@@ -8,6 +8,7 @@ use Rattle.findings.specs.declared.finding.Finding.TheVariants as findings
 use Rattle.findings.specs.Texts as reports
 use Rattle.semantics.specs.declared.command.Command.{Command}
 use Rattle.semantics.specs.declared.command.Command.TheVariants as commands
+use Rattle.semantics.specs.declared.limits.TheConstants.{MOST_BYTES}
 use Rattle.semantics.specs.Records.{Reads, line_count, lined}
 use Rattle.semantics.specs.TextFaults.{text_fault}
 use Rattle.semantics.specs.Faults.{log_fault}
@@ -40,16 +41,16 @@ OfInput request left Holds = (bytes : List ℕ) → IsInput request left bytes �
 pub record TakesAll (before after : Option (List ℕ)) : Type 0 where
   pub bytes : List ℕ
   pub taken : Consumes before after bytes
-  pub few : length bytes ≤ 2 ^ 26
+  pub few : length bytes ≤ MOST_BYTES
   pub end : IsAtEnd after
 
 -- A source was read: all that it had left was taken, or one byte more than an input may have.
 abbrev pub IsRead : Option (List ℕ) → Option (List ℕ) → Type 0
-IsRead before after = TakesAll before after ⊎ TakesExactly before after (2 ^ 26 + 1)
+IsRead before after = TakesAll before after ⊎ TakesExactly before after (MOST_BYTES + 1)
 
 -- A call of the source failed: its count rose, and no more bytes than an input may have were taken before.
 abbrev pub FailsToRead : Request → ℕ → ℕ → Option (List ℕ) → Option (List ℕ) → Type 0
-FailsToRead request before now left after = (takes_input (Some request) ≡ true) × Rose before now × Takes left after (2 ^ 26)
+FailsToRead request before now left after = (takes_input (Some request) ≡ true) × Rose before now × Takes left after (MOST_BYTES)
 
 -- ---- answers
 

@@ -1,9 +1,10 @@
 //! From what is asked, and a source, to a report.
 
-ghost use Rattle.std.specs.Prelude.{◌≡◌, ◌≢◌, ◌+◌, ◌<◌, ◌≤◌, ◌^◌, Err, true, false, Some, length, IfOk, IsErrOf};
+ghost use Rattle.std.specs.Prelude.{◌≡◌, ◌≢◌, ◌+◌, ◌<◌, ◌≤◌, Err, true, false, Some, length, IfOk, IsErrOf};
 ghost use Rattle.spy_io.specs.Causes.{Takes};
 ghost use Rattle.spy_args.specs.Asked.{IsSized};
 ghost use Rattle.spy_cli.specs.Answers.{FailsToRead, IsAnswer, IsDecided, IsRead, OfInput, takes_input};
+ghost use Rattle.semantics.specs.declared.limits.TheConstants.{MOST_BYTES};
 
 use crate::demo::demo_report;
 use crate::judging::judged_report;
@@ -20,7 +21,7 @@ use std::alloc::Global;
 fn input_of<S: Source>(alloc: Global, request: Request, source: &mut S) -> Result<Vec<u8>, ReadEnd>
     ensures input { IfOk result (λ read. OfInput request (S.left source.old) (λ bytes. bytes ≡ read.items)) }
     ensures too_long { IsErrOf result ReadEnd.TooLong
-        → OfInput request (S.left source.old) (λ bytes. 2 ^ 26 < length bytes) }
+        → OfInput request (S.left source.old) (λ bytes. MOST_BYTES < length bytes) }
     ensures read { takes_input (Some request) ≡ true → result ≢ Err ReadEnd.ReadFault
         → result ≢ Err ReadEnd.Memory
         → IsRead (S.left source.old) (S.left source.new) }
@@ -31,7 +32,7 @@ fn input_of<S: Source>(alloc: Global, request: Request, source: &mut S) -> Resul
     ensures fault { IsErrOf result ReadEnd.ReadFault
         → FailsToRead request (S.faults source.old) (S.faults source.new) (S.left source.old) (S.left source.new) }
     ensures memory { IsErrOf result ReadEnd.Memory
-        → Takes (S.left source.old) (S.left source.new) (2 ^ 26 + 1) }
+        → Takes (S.left source.old) (S.left source.new) (MOST_BYTES + 1) }
 {
     match request {
         Request::Demo { .. } => Ok(Vec::new(alloc)),
@@ -88,7 +89,7 @@ pub(crate) fn report_on<S: Source>(
     ensures fault { IsErrOf result ReportEnd.ReadFault
         → FailsToRead request (S.faults source.old) (S.faults source.new) (S.left source.old) (S.left source.new) }
     ensures memory { IsErrOf result ReportEnd.Memory
-        → Takes (S.left source.old) (S.left source.new) (2 ^ 26 + 1) }
+        → Takes (S.left source.old) (S.left source.new) (MOST_BYTES + 1) }
 {
     let report = match input_of(alloc, request, source) {
         Ok(bytes) => report_on_bytes(alloc, request, bytes)?,

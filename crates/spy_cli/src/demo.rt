@@ -1,9 +1,10 @@
 //! The stencil log, made and checked.
 
-ghost use Rattle.std.specs.Prelude.{◌≡◌, ◌≤◌, ◌^◌, All, length, IfOk, OnOk};
+ghost use Rattle.std.specs.Prelude.{◌≡◌, ◌≤◌, All, length, IfOk, OnOk};
 ghost use Rattle.std.specs.List.{AllByRecursion};
 ghost use Rattle.spy_grammar.specs.Spelling.{Good};
 ghost use Rattle.semantics.specs.Records.{lined, AreLines};
+ghost use Rattle.semantics.specs.declared.limits.TheConstants.{MOST_BYTES};
 ghost use Rattle.spy_cli.specs.Answers.{IsDemo};
 
 use crate::report::{Report, report_of};
@@ -16,7 +17,7 @@ use verdict::find;
 
 /// Records, each on a line of its own from line 1 on.
 fn lined_records(alloc: Global, records: Vec<Record>) -> Result<Vec<Lined>, Memory>
-    requires { length records.items ≤ 2 ^ 26 }
+    requires { length records.items ≤ MOST_BYTES }
     ensures { IfOk result (λ log. log.items ≡ lined records.items) }
 {
     let mut log = Vec::new(alloc);

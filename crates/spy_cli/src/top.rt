@@ -1,9 +1,10 @@
 //! The top call.
 
-ghost use Rattle.std.specs.Prelude.{◌≡◌, ◌≢◌, ◌⊎◌, ◌+◌, ◌≤◌, ◌^◌, ℕ, List, true, false, Some, None, map, string_bytes};
+ghost use Rattle.std.specs.Prelude.{◌≡◌, ◌≢◌, ◌⊎◌, ◌+◌, ◌≤◌, ℕ, List, true, false, Some, None, map, string_bytes};
 ghost use Rattle.std.specs.Io.KnownBytes.{Appends};
 ghost use Rattle.spy_io.specs.Causes.{Rose, Grows, Takes};
 ghost use Rattle.semantics.specs.declared.command.Command.{Command};
+ghost use Rattle.semantics.specs.declared.limits.TheConstants.{MOST_BYTES};
 ghost use Rattle.spy_args.specs.declared.request.Request.{Request};
 ghost use Rattle.spy_args.specs.Asked.{asked};
 ghost use Rattle.spy_cli.specs.declared.status.Status.{Status};
@@ -84,10 +85,10 @@ pub fn run<S: Source, K: Sink>(
         → result ≡ Status.WriteFault
         → IsRead (S.left source.old) (S.left source.new)
         ⊎ (Rose (S.faults source.old) (S.faults source.new)
-        × Takes (S.left source.old) (S.left source.new) (2 ^ 26)) }
+        × Takes (S.left source.old) (S.left source.new) (MOST_BYTES)) }
     ensures once { S.ended source.old ≡ 0 → S.ended source.new ≤ 1 }
     ensures roomy { S.idle source.new ≡ S.idle source.old }
-    ensures taken { result ≡ Status.Memory → Takes (S.left source.old) (S.left source.new) (2 ^ 26 + 1) }
+    ensures taken { result ≡ Status.Memory → Takes (S.left source.old) (S.left source.new) (MOST_BYTES + 1) }
 
     // A device that failed says so by its count, and no other answer comes from a failure.
     ensures calm { IsDecided result ⊎ (result ≡ Status.Usage)
@@ -95,7 +96,7 @@ pub fn run<S: Source, K: Sink>(
     ensures read_fault { result ≡ Status.ReadFault
         → (takes_input (asked (map string_bytes words.now.items)) ≡ true)
         × Rose (S.faults source.old) (S.faults source.new)
-        × Takes (S.left source.old) (S.left source.new) (2 ^ 26) }
+        × Takes (S.left source.old) (S.left source.new) (MOST_BYTES) }
     ensures said { result ≡ Status.ReadFault → (K.faults sink.new ≡ K.faults sink.old)
         × Appends (K.held sink.old) (K.held sink.new) (reports.report_text findings.CannotRead) }
     ensures write_fault { result ≡ Status.WriteFault → Rose (K.faults sink.old) (K.faults sink.new) }
