@@ -3,7 +3,6 @@
 
 mod all;
 mod iterator;
-mod laws;
 mod pair;
 mod partners;
 mod recent;
@@ -14,7 +13,6 @@ mod tasks;
 
 pub use all::pairs;
 pub use iterator::Pairs;
-pub use laws::pairs_are_of_items;
 pub use pair::Pair;
 pub use serial::{SerialBreaks, serial_ok};
 pub use stretch::Stretch;

@@ -8,7 +8,6 @@ mod blocks;
 mod fields;
 mod gathering;
 mod item;
-mod laws;
 mod span;
 mod usage;
 
@@ -18,6 +17,5 @@ pub use between::Interference;
 pub use blocks::spans_of_blocks;
 pub use gathering::{is_task_at, uses_of_items};
 pub use item::ItemUses;
-pub use laws::items_interfere_by_requirements;
 pub use span::Span;
 pub use usage::Use;

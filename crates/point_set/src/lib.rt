@@ -11,7 +11,7 @@ mod runs;
 mod set;
 
 pub use ascending::next_from;
-pub use law::{maximal_runs_are_apart, points_of_runs_ascend};
+pub use law::maximal_runs_are_apart;
 pub use point_list::PointList;
 pub use points::{Points, points_in};
 pub use run_set::RunSet;
