@@ -5,7 +5,7 @@ ghost use Rattle.semantics.specs.Rules as rules;
 ghost use Rattle.semantics.specs.SerialOrder.{by_serial};
 ghost use Rattle.semantics.specs.Steps.{id_of};
 ghost use Rattle.semantics.specs.Counts as counts;
-ghost use Rattle.outcomes.specs.Outcome.{event_of};
+ghost use Rattle.semantics.specs.Shown.{event_of};
 
 use logs::Log;
 use region_tree::ArenaSet;

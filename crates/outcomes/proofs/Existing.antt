@@ -25,13 +25,13 @@ use Rattle.semantics.specs.ReplayOrder.{replay_order, is_stuck, shown_cycle}
 use Rattle.semantics.specs.Steps.{id_of}
 use Rattle.semantics.specs.Races.{IsRaceFree}
 use Rattle.semantics.specs.Reads.{Seen, Differs, IsRight, shown_difference, want_of}
-use Rattle.semantics.specs.Shown.{IsKept, is_task_at, run_of, task_pairs}
+use Rattle.semantics.specs.Shown.{event_of, IsKept, is_task_at, run_of, task_pairs}
 use Rattle.semantics.specs.Faults.{log_fault}
 use Rattle.log_laws.proofs.lemmas.Members.{Member, member_of, contains_of, member_filter, member_flat, member_map, member_right, none_or_some}
 use Rattle.log_laws.proofs.lemmas.Cycles.{cycle_is_stuck, none_shown, shown_is_cycle}
 use Rattle.log_laws.proofs.lemmas.Rounds.{before_met}
 use Rattle.log_laws.proofs.lemmas.Laws.{faultless_linked}
-use Rattle.outcomes.specs.Outcome.{CheckFinds, OrderedFinds, DepsFinds, SpareFinds, Finds, IsFound, ShowsCycle, before_count, dependences, event_of, events_of_wait}
+use Rattle.outcomes.specs.Outcome.{CheckFinds, OrderedFinds, DepsFinds, SpareFinds, Finds, IsFound, ShowsCycle, before_count, dependences, events_of_wait}
 use Rattle.outcomes.proofs.Decided.{Told, before_told, last_wait}
 use Rattle.outcomes.proofs.SomeRaces.{race_or_none}
 use Rattle.outcomes.proofs.SomeSpare.{spare_list}

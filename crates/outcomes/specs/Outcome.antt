@@ -14,7 +14,7 @@ use Rattle.semantics.specs.Counts.{task_count, operation_count, read_count, wait
 use Rattle.semantics.specs.Kinds.{pairs, item_kind, is_before, least_place}
 use Rattle.semantics.specs.SerialOrder.{by_serial}
 use Rattle.semantics.specs.Events.{graph_of, IsCycle, HasNoCycle}
-use Rattle.semantics.specs.ReplayOrder.{done_at, waits_at, shown_cycle}
+use Rattle.semantics.specs.ReplayOrder.{waits_at, shown_cycle}
 use Rattle.semantics.specs.Spare.{AreSpareWaits}
 use Rattle.semantics.specs.Steps.{id_of}
 use Rattle.semantics.specs.Races.{IsRaceFree}
@@ -24,7 +24,7 @@ use Rattle.semantics.specs.declared.command.Command.TheVariants as commands
 use Rattle.semantics.specs.declared.faults.Fault.{Fault}
 use Rattle.semantics.specs.TextFaults.{text_fault}
 use Rattle.semantics.specs.Faults.{log_fault}
-use Rattle.semantics.specs.Shown.{task_pairs, AreKept, IsShownPair, IsShownRace}
+use Rattle.semantics.specs.Shown.{event_of, task_pairs, AreKept, IsShownPair, IsShownRace}
 
 -- ---- Dependences.
 
@@ -39,9 +39,6 @@ abbrev pub before_count : List Dep → ℕ
 before_count ds = length (filter (λ (d : Dep). d.before) ds)
 
 -- ---- What is found in an admitted log. Tasks and items are named by their ids, nodes by their events.
-
-abbrev pub event_of : Tables → ℕ → ℕ
-event_of t k = unwrap_or (done_at (graph_of t.nodes) k) 0
 
 -- The cycle that is shown has these events.
 pub record ShowsCycle (t : Tables) (events : List ℕ) : Type 0 where

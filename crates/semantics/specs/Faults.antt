@@ -14,7 +14,7 @@ use Rattle.semantics.specs.Points.{is_in}
 use Rattle.semantics.specs.SerialOrder.{turned_pair}
 use Rattle.semantics.specs.Steps.{mapped, id_of}
 use Rattle.semantics.specs.declared.command.Command.{Command}
-use Rattle.semantics.specs.declared.command.Command.TheVariants.{Check}
+use Rattle.semantics.specs.declared.command.Command.TheVariants.{Check, Why}
 use Rattle.semantics.specs.declared.faults.Fault.{Fault}
 use Rattle.semantics.specs.Rules as rules
 
@@ -154,9 +154,10 @@ serial_fault t = option_map (λ (p : ℕ × ℕ). at_line codes.SerialOrder (ser
 abbrev pub unmapped_fault : Tables → Option Fault
 unmapped_fault t = option_map (λ (r : Req). at_line codes.Unmapped r.line) (find (λ (r : Req). not (list_all (λ f. is_some (mapped t r f)) r.fields)) t.reqs)
 
--- `check` alone asks that each field be mapped.
+-- `check` and `why` ask that each field be mapped, and no other command.
 abbrev pub map_fault : Command → Tables → Option Fault
 map_fault Check t = unmapped_fault t
+map_fault (Why ask) t = unmapped_fault t
 map_fault _ t = None
 
 -- The fault that a command shows of a log.

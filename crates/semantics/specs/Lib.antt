@@ -17,5 +17,6 @@ pub mod TextFaults
 pub mod Rules
 pub mod Faults
 pub mod Shown
+pub mod Links
 pub mod Counts
 pub mod Computed

@@ -9,9 +9,13 @@ use Rattle.semantics.specs.Tables.{Tables}
 use Rattle.semantics.specs.Kinds.{pairs, comes_first}
 use Rattle.semantics.specs.SerialOrder.{by_serial}
 use Rattle.semantics.specs.Events.{graph_of, Before}
-use Rattle.semantics.specs.ReplayOrder.{replay_order}
+use Rattle.semantics.specs.ReplayOrder.{done_at, replay_order}
 use Rattle.semantics.specs.Races.{Race}
 use Rattle.semantics.specs.Rules.{is_task, runs_item}
+
+-- The event of the node at a position.
+abbrev pub event_of : Tables → ℕ → ℕ
+event_of t k = unwrap_or (done_at (graph_of t.nodes) k) 0
 
 -- Whether the item at a position is a task.
 abbrev pub is_task_at : Tables → ℕ → Bool

@@ -5,6 +5,7 @@ mod command;
 mod faults;
 mod laws;
 mod limits;
+mod links;
 mod moves;
 mod places;
 mod tables;
@@ -16,6 +17,7 @@ pub use laws::nodes_are_of_records;
 pub use limits::{
     DEEPEST, MOST_ACCESSES, MOST_BYTES, MOST_CELLS, MOST_LOAD, MOST_POINTS, MOST_RECORDS,
 };
+pub use links::{Ask, Link, LinkKind};
 pub use moves::Move;
 pub use places::{Cell, Place};
 pub use tables::{

@@ -23,13 +23,13 @@ use Rattle.semantics.specs.Events.{Node, graph_of, AreLinked, HasNoCycle}
 use Rattle.semantics.specs.ReplayOrder.{replay_order, is_stuck}
 use Rattle.semantics.specs.Interleavings.{IsInterleaving}
 use Rattle.semantics.specs.Reads.{Seen, replay_steps, want_of, IsRight}
-use Rattle.semantics.specs.Shown.{IsKept, AreKept, IsShownPair}
+use Rattle.semantics.specs.Shown.{event_of, IsKept, AreKept, IsShownPair}
 use Rattle.semantics.specs.Faults.{log_fault}
 use Rattle.log_laws.proofs.lemmas.Cycles.{has_cycle}
 use Rattle.log_laws.proofs.lemmas.Rounds.{listed_decides}
 use Rattle.log_laws.proofs.lemmas.Laws.{faultless_linked, replay_interleaves}
 use Rattle.log_laws.proofs.lemmas.ReadLogs.{held_is_good, one_read}
-use Rattle.outcomes.specs.Outcome.{ShowsCycle, ShowsRace, ShowsPair, ShowsSpare, ShowsDifference, CheckFinds, OrderedFinds, DepsFinds, SpareFinds, Finds, IsFound, event_of, events_of_wait, before_count, IsOutcome}
+use Rattle.outcomes.specs.Outcome.{ShowsCycle, ShowsRace, ShowsPair, ShowsSpare, ShowsDifference, CheckFinds, OrderedFinds, DepsFinds, SpareFinds, Finds, IsFound, events_of_wait, before_count, IsOutcome}
 use Rattle.spare_laws.proofs.lemmas.OneList.{one_list}
 use Rattle.outcomes.proofs.Pairs.{first_failing, held_within}
 use Rattle.outcomes.proofs.Races.{one_race}
