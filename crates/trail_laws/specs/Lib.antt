@@ -1,0 +1,1 @@
+pub use Rattle.semantics.specs.Links
