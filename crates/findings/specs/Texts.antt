@@ -1,10 +1,13 @@
 -- The text of each report, and which reports have one.
-use Rattle.std.specs.Prelude.{◌≡◌, ◌≢◌, ℕ, ◌<◌, ◌≤◌, ◌^◌, not, List, [], ◌∷◌, ◌++◌, map, length, count_by, codes, decimal, if◌then◌else◌}
+use Rattle.std.specs.Prelude.{◌≡◌, ◌≢◌, ℕ, ◌<◌, ◌≤◌, ◌^◌, ◌==◌, Bool, true, false, ◌&&◌, not, List, [], ◌∷◌, ◌++◌, map, length, count_by, codes, decimal, if◌then◌else◌}
 use Rattle.std.specs.List.{AllByRecursion}
 use Rattle.spy_grammar.specs.declared.code.Code.{Code}
 use Rattle.findings.specs.declared.finding.Dep.{Dep}
 use Rattle.findings.specs.declared.finding.Finding.{Finding}
-use Rattle.findings.specs.declared.finding.Finding.TheVariants.{Accepted, Ordered, Deps, Spare, Cycle, Race, Unordered, Differ, Fault, Usage, CannotRead}
+use Rattle.findings.specs.declared.finding.Finding.TheVariants.{Accepted, Ordered, Deps, Spare, Cycle, Race, Unordered, Differ, NoRead, Why, Fault, Usage, CannotRead}
+use Rattle.findings.specs.declared.finding.WhyKind.{WhyKind}
+use Rattle.findings.specs.declared.finding.WhyKind.TheVariants.{Write, Put, Copy, Start}
+use Rattle.findings.specs.declared.finding.WhyLink.{WhyLink}
 use Rattle.value_terms.specs.Values.{Value, IsHeld}
 use Rattle.findings.specs.Codes.{code_text}
 use Rattle.findings.specs.ValueTexts.{value_text}
@@ -22,19 +25,21 @@ pub record Line : Type 0 where
   pub name : List ℕ
   pub row : List Word
 
--- The table: each report's own line, which is its last.
-abbrev pub last_line : Finding → Line
-last_line (Accepted tasks operations reads) = record { name = codes "accepted"; row = says (codes "tasks") ∷ small tasks ∷ says (codes "operations") ∷ small operations ∷ says (codes "reads") ∷ large reads ∷ [] }
-last_line (Ordered tasks pairs) = record { name = codes "ordered"; row = says (codes "tasks") ∷ small tasks ∷ says (codes "pairs") ∷ large pairs ∷ [] }
-last_line (Deps list items before turn) = record { name = codes "deps"; row = says (codes "items") ∷ small items ∷ says (codes "before") ∷ large before ∷ says (codes "turn") ∷ large turn ∷ [] }
-last_line (Spare list waits) = record { name = codes "spare"; row = says (codes "waits") ∷ large (length list) ∷ says (codes "of") ∷ large waits ∷ [] }
-last_line (Cycle events) = record { name = codes "cycle"; row = map small events }
-last_line (Race a b inst point field) = record { name = codes "race"; row = small a ∷ small b ∷ says (codes "inst") ∷ small inst ∷ says (codes "point") ∷ large point ∷ says (codes "field") ∷ small field ∷ [] }
-last_line (Unordered t u tree point field) = record { name = codes "unordered"; row = small t ∷ small u ∷ says (codes "tree") ∷ small tree ∷ says (codes "point") ∷ large point ∷ says (codes "field") ∷ small field ∷ [] }
-last_line (Differ task req point field got want) = record { name = codes "differ"; row = says (codes "task") ∷ small task ∷ says (codes "req") ∷ small req ∷ says (codes "point") ∷ large point ∷ says (codes "field") ∷ small field ∷ says (codes "got") ∷ holds got ∷ says (codes "want") ∷ holds want ∷ [] }
-last_line (Fault line code) = record { name = codes "fault"; row = small line ∷ names code ∷ [] }
-last_line Usage = record { name = codes "usage"; row = [] }
-last_line CannotRead = record { name = codes "cannot"; row = says (codes "read") ∷ [] }
+-- The table: each report's own line.
+abbrev pub own_line : Finding → Line
+own_line (Accepted tasks operations reads) = record { name = codes "accepted"; row = says (codes "tasks") ∷ small tasks ∷ says (codes "operations") ∷ small operations ∷ says (codes "reads") ∷ large reads ∷ [] }
+own_line (Ordered tasks pairs) = record { name = codes "ordered"; row = says (codes "tasks") ∷ small tasks ∷ says (codes "pairs") ∷ large pairs ∷ [] }
+own_line (Deps list items before turn) = record { name = codes "deps"; row = says (codes "items") ∷ small items ∷ says (codes "before") ∷ large before ∷ says (codes "turn") ∷ large turn ∷ [] }
+own_line (Spare list waits) = record { name = codes "spare"; row = says (codes "waits") ∷ large (length list) ∷ says (codes "of") ∷ large waits ∷ [] }
+own_line (Cycle events) = record { name = codes "cycle"; row = map small events }
+own_line (Race a b inst point field) = record { name = codes "race"; row = small a ∷ small b ∷ says (codes "inst") ∷ small inst ∷ says (codes "point") ∷ large point ∷ says (codes "field") ∷ small field ∷ [] }
+own_line (Unordered t u tree point field) = record { name = codes "unordered"; row = small t ∷ small u ∷ says (codes "tree") ∷ small tree ∷ says (codes "point") ∷ large point ∷ says (codes "field") ∷ small field ∷ [] }
+own_line (Differ task req point field got want) = record { name = codes "differ"; row = says (codes "task") ∷ small task ∷ says (codes "req") ∷ small req ∷ says (codes "point") ∷ large point ∷ says (codes "field") ∷ small field ∷ says (codes "got") ∷ holds got ∷ says (codes "want") ∷ holds want ∷ [] }
+own_line (NoRead task req point field) = record { name = codes "no"; row = says (codes "read") ∷ says (codes "task") ∷ small task ∷ says (codes "req") ∷ small req ∷ says (codes "point") ∷ large point ∷ says (codes "field") ∷ small field ∷ [] }
+own_line (Why ask links) = record { name = codes "why"; row = says (codes "task") ∷ small ask.task ∷ says (codes "req") ∷ small ask.req ∷ says (codes "point") ∷ large ask.point ∷ says (codes "field") ∷ small ask.field ∷ [] }
+own_line (Fault line code) = record { name = codes "fault"; row = small line ∷ names code ∷ [] }
+own_line Usage = record { name = codes "usage"; row = [] }
+own_line CannotRead = record { name = codes "cannot"; row = says (codes "read") ∷ [] }
 
 -- The line of a pair of items.
 abbrev pub dep_line : Dep → Line
@@ -44,15 +49,42 @@ dep_line d = record { name = if d.before then codes "before" else codes "turn"; 
 abbrev pub spare_line : ℕ × ℕ → Line
 spare_line w = record { name = codes "spare"; row = small w.0 ∷ small w.1 ∷ [] }
 
--- The lines that a report lists before its own.
+-- How a value came into an instance, in a word.
+abbrev pub kind_text : WhyKind → List ℕ
+kind_text Write = codes "write"
+kind_text Put = codes "put"
+kind_text Copy = codes "copy"
+kind_text Start = codes "start"
+
+-- The word of an event, before further words: the start has none.
+abbrev pub event_words : WhyKind → ℕ → List Word → List Word
+event_words Start done ws = ws
+event_words kind done ws = small done ∷ ws
+
+-- The line of a link: it names its event, which the start has not, the instance, and how often something was added.
+abbrev pub link_line : WhyLink → Line
+link_line l = record { name = kind_text l.kind; row = event_words l.kind l.done (says (codes "inst") ∷ small l.inst ∷ says (codes "adds") ∷ small l.adds ∷ []) }
+
+-- The lines that a report lists beside its own.
 abbrev pub listed_lines : Finding → List Line
 listed_lines (Deps list items before turn) = map dep_line list
 listed_lines (Spare list waits) = map spare_line list
+listed_lines (Why ask links) = map link_line links
 listed_lines f = []
 
--- The lines of a report: those that it lists, and then its own.
+-- A report's own line stands before those that it lists.
+abbrev pub is_headed : Finding → Bool
+is_headed (Why ask links) = true
+is_headed f = false
+
+-- A line, and listed lines after it or before it.
+abbrev pub lines_with : Bool → Line → List Line → List Line
+lines_with true own listed = own ∷ listed
+lines_with false own listed = listed ++ own ∷ []
+
+-- The lines of a report: its own is its last, or the first of `Why`.
 abbrev pub lines_of : Finding → List Line
-lines_of f = listed_lines f ++ last_line f ∷ []
+lines_of f = lines_with (is_headed f) (own_line f) (listed_lines f)
 
 -- How a word is written.
 abbrev pub word_text : Word → List ℕ
@@ -92,11 +124,27 @@ IsInRange (holds v) = IsHeld v
 abbrev pub Fits : Line → Type 0
 Fits l = AllByRecursion IsInRange l.row
 
--- Where a report counts what it lists, the counts are right; no more waits are listed as spare than there are; and a cycle has an event.
+-- The start alone has no event.
+abbrev pub has_its_event : WhyLink → Bool
+has_its_event l = elim l.kind [
+  | Start ↦ l.done == 0
+  | _ ↦ not (l.done == 0)
+]
+
+-- Links are a chain: behind a copy stands a chain, and any other link is the last.
+abbrev pub is_chain : List WhyLink → Bool
+is_chain [] = false
+is_chain (l ∷ ls) = has_its_event l && (elim l.kind [
+  | Copy ↦ is_chain ls
+  | _ ↦ length ls == 0
+])
+
+-- Where a report counts what it lists, the counts are right; no more waits are listed as spare than there are; a cycle has an event; and links are a chain.
 abbrev pub IsWhole : Finding → Type 0
 IsWhole (Deps list items before turn) = (before ≡ count_by (λ d. d.before) list) × (turn ≡ count_by (λ d. not d.before) list)
 IsWhole (Spare list waits) = length list ≤ waits
 IsWhole (Cycle events) = events ≢ []
+IsWhole (Why ask links) = is_chain links ≡ true
 IsWhole f = Unit {0}
 
 -- The report has a text.

@@ -5,10 +5,10 @@ ghost use Rattle.std.specs.List.{AllByRecursion};
 ghost use Rattle.value_terms.specs.Values.{IsHeld};
 ghost use Rattle.findings.specs.declared.cells.ReportCell.TheVariants as cells;
 ghost use Rattle.findings.specs.Cells.{words_in};
-ghost use Rattle.findings.specs.Texts.{Line, dep_line, last_line, small, spare_line, Fits, IsInRange};
+ghost use Rattle.findings.specs.Texts.{Line, dep_line, kind_text, link_line, own_line, small, spare_line, Fits, IsInRange};
 
 use crate::cells::ReportCell::*;
-use crate::finding::{Dep, Finding};
+use crate::finding::{Dep, Finding, WhyAsk, WhyKind, WhyLink};
 use spy_grammar::Code;
 use value_terms::Value;
 
@@ -31,7 +31,7 @@ pub enum ReportCell<'a> {
 /// The first word of a line, and the words after it.
 pub type Words<'a> = (&'static [u8], [ReportCell<'a>; 6]);
 
-/// A line that a report lists before its own.
+/// A line that a report lists beside its own.
 pub trait Listed: Copy + Drop {
     /// The line.
     ghost line: { Self → Line };
@@ -65,6 +65,46 @@ impl Listed for (u32, u32) {
     }
 }
 
+fn kind_text(kind: WhyKind) -> &'static [u8]
+    ensures { result.now ≡ kind_text kind }
+{
+    match kind {
+        WhyKind::Write => b"write",
+        WhyKind::Put => b"put",
+        WhyKind::Copy => b"copy",
+        WhyKind::Start => b"start",
+    }
+}
+
+/// The line of a link.
+impl Listed for WhyLink {
+    ghost line = { link_line };
+
+    fn words(self) -> Words<'static> {
+        let WhyLink {
+            kind,
+            done,
+            inst,
+            adds,
+        } = self;
+        let event = match kind {
+            WhyKind::Start => No,
+            _ => Small(done),
+        };
+        (
+            kind_text(kind),
+            [
+                event,
+                Says(b"inst"),
+                Small(inst),
+                Says(b"adds"),
+                Small(adds),
+                No,
+            ],
+        )
+    }
+}
+
 /// Events, each a word.
 fn event_words(events: &[u32]) -> [ReportCell<'_>; 6]
     ensures words { words_in result ≡ map small events.now }
@@ -84,12 +124,12 @@ fn differing<'a>(got: &'a Value, want: &'a Value) -> ReportCell<'a>
     Differs(got, want)
 }
 
-/// A report's own line, which is its last.
+/// A report's own line.
 #[rattlefmt::skip]
-pub fn last_words(f: &Finding) -> Words<'_>
-    ensures name { result.0.now ≡ (last_line f.now).name }
-    ensures row { words_in result.1 ≡ (last_line f.now).row }
-    ensures fits { Fits (last_line f.now) }
+pub fn own_words(f: &Finding) -> Words<'_>
+    ensures name { result.0.now ≡ (own_line f.now).name }
+    ensures row { words_in result.1 ≡ (own_line f.now).row }
+    ensures fits { Fits (own_line f.now) }
 {
     match f {
         Finding::Accepted { tasks, operations, reads } => (b"accepted", [Says(b"tasks"), Small(*tasks), Says(b"operations"), Small(*operations), Says(b"reads"), Large(*reads)]),
@@ -100,6 +140,8 @@ pub fn last_words(f: &Finding) -> Words<'_>
         Finding::Race { a, b, inst, point, field } => (b"race", [Small(*a), Small(*b), Says(b"inst"), Small(*inst), At(*point, *field), No]),
         Finding::Unordered { t, u, tree, point, field } => (b"unordered", [Small(*t), Small(*u), Says(b"tree"), Small(*tree), At(*point, *field), No]),
         Finding::Differ { task, req, point, field, got, want } => (b"differ", [Says(b"task"), Small(*task), Says(b"req"), Small(*req), At(*point, *field), differing(got, want)]),
+        Finding::NoRead { task, req, point, field } => (b"no", [Says(b"read"), Says(b"task"), Small(*task), Says(b"req"), Small(*req), At(*point, *field)]),
+        Finding::Why { ask: WhyAsk { task, req, point, field }, links: _ } => (b"why", [Says(b"task"), Small(*task), Says(b"req"), Small(*req), At(*point, *field), No]),
         Finding::Fault { line, code } => (b"fault", [Small(*line), Names(*code), No, No, No, No]),
         Finding::Usage => (b"usage", [No, No, No, No, No, No]),
         Finding::CannotRead => (b"cannot", [Says(b"read"), No, No, No, No, No]),

@@ -1,6 +1,6 @@
 //! What a command says of a log.
 
-use crate::lists::{DepList, EventList, PairList};
+use crate::lists::{DepList, EventList, PairList, WhyList};
 use spy_grammar::Code;
 use value_terms::Value;
 
@@ -19,6 +19,36 @@ pub struct Dep {
     pub point: u64,
     /// The field of that place.
     pub field: u32,
+}
+
+/// A read of a task that was asked for: the task, the number of its requirement, a point and a field.
+#[derive(Clone, Copy, PartialEq, Eq)]
+pub struct WhyAsk {
+    pub task: u32,
+    pub req: u32,
+    pub point: u64,
+    pub field: u32,
+}
+
+/// How a value came into an instance: a task wrote it, an operation put it there or copied it, or it was there at the start.
+#[derive(Clone, Copy, PartialEq, Eq)]
+pub enum WhyKind {
+    Write,
+    Put,
+    Copy,
+    Start,
+}
+
+/// One link of the chain that leads from a read back to where its value came from.
+#[derive(Clone, Copy, PartialEq, Eq)]
+pub struct WhyLink {
+    pub kind: WhyKind,
+    /// The event of the operation, and 0 for the start.
+    pub done: u32,
+    /// The instance into which the value came.
+    pub inst: u32,
+    /// How often something was added to it there before it was read.
+    pub adds: u32,
 }
 
 /// A report. Places are named by region tree, or by instance, with point and field.
@@ -41,6 +71,10 @@ pub enum Finding {
     Unordered { t: u32, u: u32, tree: u32, point: u64, field: u32 },
     /// A read of a requirement of a task, named by its place, that gets another value than the sequential program reads.
     Differ { task: u32, req: u32, point: u64, field: u32, got: Value, want: Value },
+    /// The log has no such read.
+    NoRead { task: u32, req: u32, point: u64, field: u32 },
+    /// The links from a read back to where its value came from.
+    Why { ask: WhyAsk, links: WhyList },
     /// The rule that the log breaks, and the line that breaks it.
     Fault { line: u32, code: Code },
     /// The words of the command are not taken.

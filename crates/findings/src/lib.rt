@@ -9,8 +9,8 @@ mod value_text;
 mod writing;
 
 pub use codes::code_text;
-pub use finding::{Dep, Finding};
-pub use lists::{DepList, EventList, PairList};
+pub use finding::{Dep, Finding, WhyAsk, WhyKind, WhyLink};
+pub use lists::{DepList, EventList, PairList, WhyList};
 pub use memory::Memory;
 pub use spy_grammar::Code;
 pub use value_terms::Value;

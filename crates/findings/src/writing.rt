@@ -9,9 +9,9 @@ ghost use Rattle.findings.specs.Texts as texts;
 ghost use Rattle.findings.specs.Texts.{small, row_text, line_text, lines_text, Fits, IsWhole, Good};
 
 use crate::cells::ReportCell::*;
-use crate::cells::{Listed, ReportCell, last_words};
+use crate::cells::{Listed, ReportCell, own_words};
 use crate::codes;
-use crate::finding::{Dep, Finding};
+use crate::finding::{Dep, Finding, WhyKind, WhyLink};
 use crate::value_text::push_value;
 use memory::Memory;
 use spy_words::push_u64;
@@ -38,6 +38,7 @@ fn listed_fit(f: &Finding) -> bool
     match f {
         Finding::Deps { list, .. } => lines_fit(list.as_slice()),
         Finding::Spare { list, .. } => lines_fit(list.as_slice()),
+        Finding::Why { links, .. } => lines_fit(links.as_slice()),
         _ => true,
     }
 }
@@ -46,7 +47,7 @@ fn listed_fit(f: &Finding) -> bool
 fn fits(f: &Finding) -> bool
     ensures { IsTrue result ↔ AllByRecursion Fits (texts.lines_of f.now) }
 {
-    let _last = last_words(f);
+    let _own = own_words(f);
     listed_fit(f)
 }
 
@@ -65,7 +66,34 @@ fn count_turn(deps: &[Dep]) -> u64
     deps.iter().filter(|dep| !dep.before).count() as u64
 }
 
-/// Whether the report counts right what it lists, and lists no more waits than there are; and a cycle has an event.
+/// Whether the start alone has no event.
+fn has_its_event(link: &WhyLink) -> bool
+    ensures { result ≡ texts.has_its_event link.now }
+{
+    match link.kind {
+        WhyKind::Start => link.done == 0,
+        _ => link.done != 0,
+    }
+}
+
+/// Whether all links but the last are copies, and the last is none.
+fn is_chain(links: &[WhyLink]) -> bool
+    ensures { result ≡ texts.is_chain links.now }
+{
+    let mut rest = links;
+    while let [link, more @ ..] = rest {
+        if !has_its_event(link) {
+            return false;
+        }
+        match link.kind {
+            WhyKind::Copy => rest = more,
+            _ => return more.is_empty(),
+        }
+    }
+    false
+}
+
+/// Whether the report counts right what it lists, and lists no more waits than there are; a cycle has an event; and links are a chain.
 fn is_whole(f: &Finding) -> bool
     ensures { IsTrue result ↔ IsWhole f.now }
 {
@@ -81,11 +109,12 @@ fn is_whole(f: &Finding) -> bool
         }
         Finding::Spare { list, waits } => list.len() as u64 <= *waits,
         Finding::Cycle { events } => events.len() > 0,
+        Finding::Why { links, .. } => is_chain(links.as_slice()),
         _ => true,
     }
 }
 
-/// Whether the report has a text: `Deps` counts right what it lists, `Spare` lists at most as many waits as there are, and a `Cycle` has an event.
+/// Whether the report has a text: `Deps` counts right what it lists, `Spare` lists at most as many waits as there are, a `Cycle` has an event, and the links of `Why` are a chain.
 pub fn good_finding(f: &Finding) -> bool
     ensures { IsTrue result ↔ Good f.now }
 {
@@ -187,20 +216,50 @@ fn push_listed(out: &mut Vec<u8>, f: &Finding) -> Result<(), AllocError>
     match f {
         Finding::Deps { list, .. } => push_lines(out, list.as_slice()),
         Finding::Spare { list, .. } => push_lines(out, list.as_slice()),
+        Finding::Why { links, .. } => push_lines(out, links.as_slice()),
         _ => Ok(()),
     }
 }
 
+/// Writes a report's own line.
+fn push_own(out: &mut Vec<u8>, f: &Finding) -> Result<(), AllocError>
+    ensures { OnOk result (out.new.items ≡ out.old.items ++ line_text (texts.own_line f.now) ++ 10 ∷ []) }
+{
+    let (name, row) = own_words(f);
+    push_line(out, name, &row)
+}
+
+/// Whether a report's own line stands before those that it lists.
+fn is_headed(f: &Finding) -> bool
+    ensures { result ≡ texts.is_headed f.now }
+{
+    match f {
+        Finding::Why { .. } => true,
+        _ => false,
+    }
+}
+
+fn push_report(out: &mut Vec<u8>, f: &Finding) -> Result<(), AllocError>
+    ensures { OnOk result (out.new.items ≡ out.old.items ++ lines_text (texts.lines_of f.now)) }
+{
+    if is_headed(f) {
+        push_own(out, f)?;
+        push_listed(out, f)
+    } else {
+        push_listed(out, f)?;
+        push_own(out, f)
+    }
+}
+
 /// The text of a report.
+#[tactic(auto, unfolding(crate::specs::Texts::report_text))]
 pub fn text(alloc: Global, f: &Finding) -> Result<Vec<u8>, Memory>
     // Another report's text would not be read again.
     requires { Good f.now }
     ensures { IfOk result (λ v. v.items ≡ texts.report_text f.now) }
 {
     let mut out = Vec::new(alloc);
-    push_listed(&mut out, f)?;
-    let (name, row) = last_words(f);
-    push_line(&mut out, name, &row)?;
+    push_report(&mut out, f)?;
     Ok(out)
 }
 

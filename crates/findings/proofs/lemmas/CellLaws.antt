@@ -1,5 +1,5 @@
 -- The lines of a report, written cell by cell.
-use Rattle.std.specs.Prelude.{◌↔◌, Bool, IsTrue}
+use Rattle.std.specs.Prelude.{◌↔◌, Bool, true, false, IsTrue}
 use Rattle.std.proofs.Common.{◌≡◌, ℕ, suc, ◌-◌, ◌<◌, ◌≤◌, ◌^◌, List, [], ◌∷◌, ◌++◌, map, length, take, drop, get_or, arith, refl, sym, ap, ◌∙◌, append_assoc, append-nil}
 use Rattle.std.specs.List.{AllByRecursion}
 use Rattle.std.proofs.lemmas.List.{take_all}
@@ -7,7 +7,7 @@ use Rattle.findings.specs.declared.cells.ReportCell.{ReportCell}
 use Rattle.findings.specs.declared.cells.ReportCell.TheVariants as cells
 use Rattle.findings.specs.declared.finding.Finding.{Finding}
 use Rattle.findings.specs.Cells.{with_cell, words_in}
-use Rattle.findings.specs.Texts.{Word, Line, small, last_line, listed_lines, lines_of, word_text, row_text, line_text, lines_text, report_text, IsInRange, Fits}
+use Rattle.findings.specs.Texts.{Word, Line, small, own_line, listed_lines, is_headed, lines_with, lines_of, word_text, row_text, line_text, lines_text, IsInRange, Fits}
 
 pub small_fit : (ns : List ℕ) → ((k : ℕ) → get_or ns k 0 < 2 ^ 32) → AllByRecursion IsInRange (map small ns)
 small_fit [] h = tt
@@ -43,19 +43,30 @@ lines_text-append : (ks ls : List Line) → lines_text (ks ++ ls) ≡ lines_text
 lines_text-append [] ls = refl
 lines_text-append (k ∷ ks) ls = ap (λ (x : List ℕ). line_text k ++ 10 ∷ x) (lines_text-append ks ls) ∙ sym (append_assoc (line_text k) (10 ∷ lines_text ks) (lines_text ls))
 
--- the text of a report: the lines that it lists, and then its own
-pub text_told : (f : Finding) → report_text f ≡ lines_text (listed_lines f) ++ line_text (last_line f) ++ 10 ∷ []
-unfolding report_text
-text_told f = lines_text-append (listed_lines f) (last_line f ∷ []) ∙ sym (append_assoc (lines_text (listed_lines f)) (line_text (last_line f)) (10 ∷ []))
+-- the lines that a report lists were written, and then its own
+pub own_last : (f : Finding) (before out all : List ℕ) → is_headed f ≡ false → out ≡ before ++ lines_text (listed_lines f) → all ≡ out ++ line_text (own_line f) ++ 10 ∷ [] → all ≡ before ++ lines_text (lines_of f)
+own_last f before out all last first then =
+    then ∙ rw (first, last, lines_text-append (listed_lines f) (own_line f ∷ [])) (ends before (lines_text (listed_lines f)) (line_text (own_line f)))
+  where
+    ends : (us vs ws : List ℕ) → us ++ vs ++ ws ++ 10 ∷ [] ≡ us ++ (vs ++ (ws ++ 10 ∷ []))
+    ends us vs ws = simp append_assoc
 
 all_with : (ls : List Line) (l : Line) → Fits l → AllByRecursion Fits ls → AllByRecursion Fits (ls ++ l ∷ [])
 all_with [] l fits all = (fits, tt)
 all_with (k ∷ ls) l fits all = (all.0, all_with ls l fits all.1)
 
-pub all_before : (ls : List Line) (l : Line) → AllByRecursion Fits (ls ++ l ∷ []) → AllByRecursion Fits ls
+all_before : (ls : List Line) (l : Line) → AllByRecursion Fits (ls ++ l ∷ []) → AllByRecursion Fits ls
 all_before [] l all = tt
 all_before (k ∷ ls) l all = (all.0, all_before ls l all.1)
 
 -- a report whose own line fits does where the lines that it lists do
-pub all_fit : (f : Finding) (b : Bool) → Fits (last_line f) → (IsTrue b ↔ AllByRecursion Fits (listed_lines f)) → IsTrue b ↔ AllByRecursion Fits (lines_of f)
-all_fit f b fits h = (λ good. all_with (listed_lines f) (last_line f) fits (h.0 good), λ all. h.1 (all_before (listed_lines f) (last_line f) all))
+pub all_fit : (f : Finding) (b : Bool) → Fits (own_line f) → (IsTrue b ↔ AllByRecursion Fits (listed_lines f)) → IsTrue b ↔ AllByRecursion Fits (lines_of f)
+all_fit f b fits h = (λ good. both (is_headed f) (own_line f) (listed_lines f) fits (h.0 good), λ all. h.1 (listed (is_headed f) (own_line f) (listed_lines f) all))
+  where
+    both : (headed : Bool) (own : Line) (ls : List Line) → Fits own → AllByRecursion Fits ls → AllByRecursion Fits (lines_with headed own ls)
+    both true own ls fits all = (fits, all)
+    both false own ls fits all = all_with ls own fits all
+
+    listed : (headed : Bool) (own : Line) (ls : List Line) → AllByRecursion Fits (lines_with headed own ls) → AllByRecursion Fits ls
+    listed true own ls all = all.1
+    listed false own ls all = all_before ls own all
