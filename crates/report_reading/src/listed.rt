@@ -1,15 +1,15 @@
-//! The lines that a report lists before its own, read.
+//! The lines that a report lists beside its own, read.
 
 ghost use Rattle.std.specs.Prelude.{◌≡◌, map, IfOk, List, ℕ};
-ghost use Rattle.report_reading.specs.Reading.{dep_at, spare_at};
+ghost use Rattle.report_reading.specs.Reading.{dep_at, kind_at, link_at, spare_at};
 ghost use Rattle.spy_words.specs.Reading.{parts};
 
 use crate::numbers::{large_at, small_at, word_at};
-use findings::Dep;
+use findings::{Dep, WhyKind, WhyLink};
 use spy_words::ListOf;
 use std::alloc::{AllocError, Global};
 
-/// A line that a report lists before its own.
+/// A line that a report lists beside its own.
 pub trait ReadLine: Copy + Drop {
     /// What the words of such a line say. Of other words it is some line that has other words.
     ghost said: { List (List ℕ) → Self };
@@ -37,6 +37,35 @@ impl ReadLine for (u32, u32) {
     #[tactic(auto, unfolding(crate::specs::Reading::spare_at))]
     fn read(words: &[&[u8]]) -> (u32, u32) {
         (small_at(words, 1), small_at(words, 2))
+    }
+}
+
+/// How a value came into an instance.
+fn kind_at(word: &[u8]) -> WhyKind
+    ensures { result ≡ kind_at word.now }
+{
+    if word == b"write".as_slice() {
+        WhyKind::Write
+    } else if word == b"put".as_slice() {
+        WhyKind::Put
+    } else {
+        WhyKind::Copy
+    }
+}
+
+/// A link.
+impl ReadLine for WhyLink {
+    ghost said = { link_at };
+
+    #[tactic(auto, unfolding(crate::specs::Reading::link_at))]
+    #[rattlefmt::skip]
+    fn read(words: &[&[u8]]) -> WhyLink {
+        let name = word_at(words, 0);
+        if name == b"start".as_slice() {
+            WhyLink { kind: WhyKind::Start, done: 0, inst: small_at(words, 2), adds: small_at(words, 4) }
+        } else {
+            WhyLink { kind: kind_at(name), done: small_at(words, 1), inst: small_at(words, 3), adds: small_at(words, 5) }
+        }
     }
 }
 

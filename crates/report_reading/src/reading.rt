@@ -4,8 +4,10 @@
 //! where that gives the same text was it a report's. So numbers that are too large, leading zeros,
 //! other spaces and wrong counts need no test of their own.
 
-ghost use Rattle.std.specs.Prelude.{◌≡◌, ◌≢◌, ◌⊎◌, ◌↔◌, map, drop, IsTrue, IfOk, Ok, Err};
+ghost use Rattle.std.specs.Prelude.{◌≡◌, ◌≢◌, ◌⊎◌, ◌↔◌, ◌-◌, codes, map, drop, length, IsTrue, IfOk, Ok, Err};
+ghost use Rattle.std.specs.Str.{bytes_eq};
 ghost use Rattle.findings.specs.declared.finding.Finding.{Finding};
+ghost use Rattle.report_reading.specs.Numbers as numbers;
 ghost use Rattle.report_reading.specs.Reading as says;
 ghost use Rattle.findings.specs.Texts.{report_text, Good};
 ghost use Rattle.report_reading.specs.declared.reading.TextFault.TheVariants as faults;
@@ -15,7 +17,7 @@ use crate::codes::code_of;
 use crate::listed::{listed_at, parts_of};
 use crate::numbers::{large_at, small_at, small_number, word_at};
 use crate::value_reading::value_at;
-use findings::{EventList, Finding, Memory, good_finding, text};
+use findings::{EventList, Finding, Memory, WhyAsk, good_finding, text};
 use std::alloc::{AllocError, Global};
 
 /// Why no report was read.
@@ -35,9 +37,10 @@ impl From<Memory> for TextFault {
     }
 }
 
-/// The words after the first.
-fn after_name<'a, 'b>(words: &'b [&'a [u8]]) -> &'b [&'a [u8]]
-    ensures { map (λ w. w.now) result.now ≡ drop 1 (map (λ w. w.now) words.now) }
+/// The words, or the lines, after the first.
+fn after_first<'a, 'b>(words: &'b [&'a [u8]]) -> &'b [&'a [u8]]
+    ensures words { map (λ w. w.now) result.now ≡ drop 1 (map (λ w. w.now) words.now) }
+    ensures len { length result.now ≡ length words.now - 1 }
 {
     match words {
         [_, row @ ..] => row,
@@ -58,7 +61,15 @@ fn events_at(alloc: Global, words: &[&[u8]]) -> Result<EventList, AllocError>
     Ok(EventList::from_vec(events))
 }
 
-/// The table, backwards: the report that the words of its own line say, if these are the lines before it.
+/// The read that was asked for.
+#[rattlefmt::skip]
+fn ask_at(words: &[&[u8]]) -> WhyAsk
+    ensures { result ≡ says.ask_at (map (λ w. w.now) words.now) }
+{
+    WhyAsk { task: small_at(words, 2), req: small_at(words, 4), point: large_at(words, 6), field: small_at(words, 8) }
+}
+
+/// The table, backwards: the report that the words of its own line say, if these are the lines beside it.
 #[tactic(auto, unfolding(crate::specs::Reading::report_at))]
 #[rattlefmt::skip]
 fn report_at(alloc: Global, listed: &[&[u8]], words: &[&[u8]]) -> Result<Finding, Memory>
@@ -75,7 +86,7 @@ fn report_at(alloc: Global, listed: &[&[u8]], words: &[&[u8]]) -> Result<Finding
     } else if name == b"spare".as_slice() {
         Ok(Finding::Spare { list: listed_at(alloc, listed)?, waits: large_at(words, 4) })
     } else if name == b"cycle".as_slice() {
-        Ok(Finding::Cycle { events: events_at(alloc, after_name(words))? })
+        Ok(Finding::Cycle { events: events_at(alloc, after_first(words))? })
     } else if name == b"race".as_slice() {
         Ok(Finding::Race { a: small_at(words, 1), b: small_at(words, 2), inst: small_at(words, 4), point: large_at(words, 6), field: small_at(words, 8) })
     } else if name == b"unordered".as_slice() {
@@ -84,6 +95,10 @@ fn report_at(alloc: Global, listed: &[&[u8]], words: &[&[u8]]) -> Result<Finding
         let got = value_at(alloc, word_at(words, 10))?;
         let want = value_at(alloc, word_at(words, 12))?;
         Ok(Finding::Differ { task: small_at(words, 2), req: small_at(words, 4), point: large_at(words, 6), field: small_at(words, 8), got, want })
+    } else if name == b"no".as_slice() {
+        Ok(Finding::NoRead { task: small_at(words, 3), req: small_at(words, 5), point: large_at(words, 7), field: small_at(words, 9) })
+    } else if name == b"why".as_slice() {
+        Ok(Finding::Why { ask: ask_at(words), links: listed_at(alloc, listed)? })
     } else if name == b"fault".as_slice() {
         Ok(Finding::Fault { line: small_at(words, 1), code: code_of(word_at(words, 2)) })
     } else if name == b"usage".as_slice() {
@@ -93,13 +108,25 @@ fn report_at(alloc: Global, listed: &[&[u8]], words: &[&[u8]]) -> Result<Finding
     }
 }
 
+/// Whether a report's own line stands first, by the words of the first line.
+fn is_headed(words: &[&[u8]]) -> bool
+    ensures { result ≡ bytes_eq (numbers.word_at (map (λ w. w.now) words.now) 0) (codes "why") }
+{
+    word_at(words, 0) == b"why".as_slice()
+}
+
 /// The report that lines say. After the last line feed a text has one empty part.
 fn report_in(alloc: Global, lines: &[&[u8]]) -> Result<Finding, Memory>
     ensures { IfOk result (λ f. f ≡ says.report_in (map (λ w. w.now) lines.now)) }
 {
     let last = lines.len().saturating_sub(2);
+    let first = parts_of(alloc, word_at(lines, 0), b' ')?;
+    if is_headed(&first) {
+        let others = after_first(lines);
+        return report_at(alloc, &others[..last], &first);
+    }
     let words = parts_of(alloc, word_at(lines, last), b' ')?;
-    Ok(report_at(alloc, &lines[..last], &words)?)
+    report_at(alloc, &lines[..last], &words)
 }
 
 /// The report that a text says.
