@@ -2,13 +2,14 @@
 
 ghost use Rattle.std.specs.Prelude.{◌≡◌, ◌∷◌, IfOk, IfSome, codes, map, string_bytes};
 ghost use Rattle.spy_args.specs.declared.request.Request.TheVariants.{Demo};
-ghost use Rattle.spy_args.specs.CommandLine.{word_text, texts_of};
+ghost use Rattle.spy_args.specs.CommandLine.{given_words, word_text, texts_of};
 ghost use Rattle.spy_args.specs.Asked as says;
-ghost use Rattle.spy_args.specs.Asked.{IsSized, asked, plain_request, request_of, size_at};
+ghost use Rattle.spy_args.specs.Asked.{IsSized, ask_in, asked, plain_request, request_of, size_at};
 
-use crate::command_line::given;
+use crate::command_line::{CommandWords, given};
+use crate::numbers::{large_at, small_at};
 use crate::request::Request;
-use semantics::Command;
+use semantics::{Ask, Command};
 use spy_io::Memory;
 use spy_words::number_of;
 use std::alloc::{AllocError, Global};
@@ -61,9 +62,9 @@ fn plain(command: &str) -> Option<Request>
     request_among(&PLAIN_WORDS, command.as_bytes())
 }
 
-/// What a command asks for, with a size or without.
-fn request(command: &str, size: Option<&str>) -> Option<Request>
-    ensures request { result ≡ request_of command.now (word_text size.entry) }
+/// What a command without a read asks for, with a size or without.
+fn sized_request(command: &str, size: Option<&str>) -> Option<Request>
+    ensures request { result ≡ says.sized_request command.now (word_text size.entry) }
     ensures sized { IfSome result IsSized }
 {
     match size {
@@ -76,6 +77,52 @@ fn request(command: &str, size: Option<&str>) -> Option<Request>
                 None
             }
         }
+    }
+}
+
+/// The read that words say, if all four are there.
+fn ask_in(given: &CommandWords<'_>) -> Option<Ask>
+    ensures { result ≡ ask_in (given_words given.now) }
+{
+    Some(Ask {
+        task: small_at(given.task?)?,
+        req: small_at(given.req?)?,
+        point: large_at(given.point?)?,
+        field: small_at(given.field?)?,
+    })
+}
+
+/// What `why` asks for: it has a read, and no size.
+fn why_request(given: &CommandWords<'_>) -> Option<Request>
+    ensures { result ≡ says.why_request (given_words given.now) }
+{
+    if given.size.is_some() {
+        return None;
+    }
+    match ask_in(given) {
+        Some(ask) => Some(Request::Judge(Command::Why(ask))),
+        None => None,
+    }
+}
+
+/// Whether no word of a read is there.
+fn has_no_read(given: &CommandWords<'_>) -> bool
+    ensures { result ≡ says.has_no_read (given_words given.now) }
+{
+    given.task.is_none() && given.req.is_none() && given.point.is_none() && given.field.is_none()
+}
+
+/// What a command asks for with its options.
+fn request(given: &CommandWords<'_>) -> Option<Request>
+    ensures request { result ≡ request_of (given_words given.now) }
+    ensures sized { IfSome result IsSized }
+{
+    if given.command == "why" {
+        why_request(given)
+    } else if has_no_read(given) {
+        sized_request(given.command, given.size)
+    } else {
+        None
     }
 }
 
@@ -98,7 +145,7 @@ pub fn request_in(alloc: Global, words: &Vec<String>) -> Result<Option<Request>,
 {
     let all = program_words(alloc, words)?;
     match given(alloc, &all)? {
-        Some((command, size)) => Ok(request(command, size)),
+        Some(given) => Ok(request(&given)),
         None => Ok(None),
     }
 }
