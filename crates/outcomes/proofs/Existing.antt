@@ -9,7 +9,7 @@ use Rattle.privilege.specs.declared.kinds.Kind.TheVariants.{Free, Turn, Before a
 use Rattle.privilege.specs.Interference.{stronger}
 use Rattle.findings.specs.declared.finding.Dep.{Dep}
 use Rattle.findings.specs.declared.finding.Finding.{Finding}
-use Rattle.findings.specs.declared.finding.Finding.TheVariants.{Accepted, Ordered, Deps, Spare, Cycle, Race, Unordered, Differ, Fault}
+use Rattle.findings.specs.declared.finding.Finding.TheVariants.{Accepted, Ordered, Deps, Spare, Cycle, Race, Unordered, Differ, Fault, NoRead, Why}
 use Rattle.spy_grammar.specs.declared.record.Lined.{Lined}
 use Rattle.spy_grammar.specs.Spelling.{Good}
 use Rattle.semantics.specs.declared.command.Command.{Command}
@@ -31,7 +31,13 @@ use Rattle.log_laws.proofs.lemmas.Members.{Member, member_of, contains_of, membe
 use Rattle.log_laws.proofs.lemmas.Cycles.{cycle_is_stuck, none_shown, shown_is_cycle}
 use Rattle.log_laws.proofs.lemmas.Rounds.{before_met}
 use Rattle.log_laws.proofs.lemmas.Laws.{faultless_linked}
-use Rattle.outcomes.specs.Outcome.{CheckFinds, OrderedFinds, DepsFinds, SpareFinds, Finds, IsFound, ShowsCycle, before_count, dependences, events_of_wait}
+use Rattle.trail_laws.proofs.lemmas.Trails.{some_list}
+use Rattle.outcomes.proofs.lemmas.Found.{why_as_check}
+use Rattle.semantics.specs.declared.places.Cell.{Cell}
+use Rattle.semantics.specs.declared.links.Ask.{Ask}
+use Rattle.semantics.specs.declared.links.Link.{Link}
+use Rattle.semantics.specs.Links.{AreLinksOf, IsNoRead}
+use Rattle.outcomes.specs.Outcome.{CheckFinds, OrderedFinds, DepsFinds, SpareFinds, WhyFinds, Finds, IsFound, ShowsCycle, ShowsRace, ask_shown, link_shown, before_count, dependences, events_of_wait}
 use Rattle.outcomes.proofs.Decided.{Told, before_told, last_wait}
 use Rattle.outcomes.proofs.SomeRaces.{race_or_none}
 use Rattle.outcomes.proofs.SomeSpare.{spare_list}
@@ -136,6 +142,12 @@ module _ (t : Tables) (laws : AreJudged t) where
         let list = spare_list nodes told in
         (Spare (map (events_of_wait t) list.0) (wait_count t), (acyclic, record { waits = list.0; are_spare = list.1; events_are = refl }, refl))
 
+    shown_race_or_none : ((a : ℕ) × (b : ℕ) × (cell : Cell) × ShowsRace t a b cell) ⊎ IsRaceFree t
+    shown_race_or_none = elim (race_or_none t (laws.replayed acyclic) told) [
+      | inl r ↦ inl (event_of t r.0, event_of t r.1, r.2, record { one = r.0; other = r.1; shown = r.3; a_is = refl; b_is = refl })
+      | inr free ↦ inr free
+    ]
+
     module _ (right : IsRaceFree t → shown_difference t ≡ None → IsRight t) (differs : IsRaceFree t → (r : Seen) → shown_difference t ≡ Some r → Differs t r) where
       check_without_race : IsRaceFree t → (f : Finding) × CheckFinds t f
       check_without_race free = elim (none_or_some (shown_difference t)) [
@@ -146,17 +158,34 @@ module _ (t : Tables) (laws : AreJudged t) where
       ]
 
       check_without_cycle : (f : Finding) × CheckFinds t f
-      check_without_cycle = elim (race_or_none t (laws.replayed acyclic) told) [
-        | inl r ↦
-            let cell = r.2 in
-            (Race (event_of t r.0) (event_of t r.1) cell.inst cell.point cell.field, (acyclic, record { one = r.0; other = r.1; shown = r.3; a_is = refl; b_is = refl }))
+      check_without_cycle = elim shown_race_or_none [
+        | inl r ↦ (Race r.0 r.1 r.2.inst r.2.point r.2.field, (acyclic, r.3))
         | inr free ↦ check_without_race free
+      ]
+
+    module _ (ask : Ask) (links : IsRaceFree t → ((ls : List Link) × AreLinksOf t ask ls) ⊎ IsNoRead t ask) where
+      why_without_race : IsRaceFree t → (f : Finding) × WhyFinds t ask f
+      why_without_race free = elim (links free) [
+        | inl ls ↦ (Why (ask_shown ask) (map link_shown ls.0), (acyclic, free, record { links = ls.0; are_links = ls.1; list_is = refl }, refl))
+        | inr none ↦ (NoRead ask.task ask.req ask.point ask.field, (acyclic, free, none, refl))
+      ]
+
+      why_without_cycle : (f : Finding) × WhyFinds t ask f
+      why_without_cycle = elim shown_race_or_none [
+        | inl r ↦ (Race r.0 r.1 r.2.inst r.2.point r.2.field, (acyclic, r.3))
+        | inr free ↦ why_without_race free
       ]
 
   check_finds : (HasNoCycle t → IsRaceFree t → shown_difference t ≡ None → IsRight t) → (HasNoCycle t → IsRaceFree t → (r : Seen) → shown_difference t ≡ Some r → Differs t r) → (f : Finding) × CheckFinds t f
   check_finds right differs = elim cycle_or_none [
     | inl c ↦ (Cycle c.0, c.1)
     | inr acyclic ↦ check_without_cycle acyclic (right acyclic) (differs acyclic)
+  ]
+
+  why_finds : (ask : Ask) → (HasNoCycle t → IsRaceFree t → ((ls : List Link) × AreLinksOf t ask ls) ⊎ IsNoRead t ask) → (f : Finding) × WhyFinds t ask f
+  why_finds ask links = elim cycle_or_none [
+    | inl c ↦ (Cycle c.0, c.1)
+    | inr acyclic ↦ why_without_cycle acyclic ask (links acyclic)
   ]
 
   ordered_finds : (f : Finding) × OrderedFinds t f
@@ -178,25 +207,28 @@ found_of commands.Check lines log (Fault line code) none finds = absurd finds
 found_of commands.Ordered lines log (Fault line code) none finds = absurd finds
 found_of commands.Deps lines log (Fault line code) none finds = absurd finds
 found_of commands.Spare lines log (Fault line code) none finds = absurd finds
+found_of (commands.Why ask) lines log (Fault line code) none finds = absurd finds
 found_of command lines log f none finds = (none, finds)
 
-some_found : (command : Command) (lines : ℕ) (log : List Lined) → (log_fault command lines log ≡ None → AreJudged (tables_of log))
-    → (log_fault commands.Check lines log ≡ None → HasNoCycle (tables_of log) → IsRaceFree (tables_of log) → shown_difference (tables_of log) ≡ None → IsRight (tables_of log))
-    → (log_fault commands.Check lines log ≡ None → HasNoCycle (tables_of log) → IsRaceFree (tables_of log) → (r : Seen) → shown_difference (tables_of log) ≡ Some r → Differs (tables_of log) r)
+-- What the laws say of the reads of a log without a fault.
+record AreReadsJudged (t : Tables) : Type 0 where
+  right : HasNoCycle t → IsRaceFree t → shown_difference t ≡ None → IsRight t
+  differs : HasNoCycle t → IsRaceFree t → (r : Seen) → shown_difference t ≡ Some r → Differs t r
+  links : (ask : Ask) → HasNoCycle t → IsRaceFree t → ((ls : List Link) × AreLinksOf t ask ls) ⊎ IsNoRead t ask
+
+some_found : (command : Command) (lines : ℕ) (log : List Lined) → (log_fault command lines log ≡ None → AreJudged (tables_of log)) → (log_fault commands.Check lines log ≡ None → AreReadsJudged (tables_of log))
     → (f : Finding) × IsFound command lines log f
-some_found command lines log laws right differs = elim (none_or_some (log_fault command lines log)) [
+some_found command lines log laws reads = elim (none_or_some (log_fault command lines log)) [
   | inr fault ↦ (Fault fault.0.line fault.0.code, fault.1)
-  | inl none ↦ (let found = finds command none right differs (laws none) in (found.0, found_of command lines log found.0 none found.1))
+  | inl none ↦ (let found = finds command none reads (laws none) in (found.0, found_of command lines log found.0 none found.1))
 ]
   where
-    finds : (command : Command) → log_fault command lines log ≡ None
-        → (log_fault commands.Check lines log ≡ None → HasNoCycle (tables_of log) → IsRaceFree (tables_of log) → shown_difference (tables_of log) ≡ None → IsRight (tables_of log))
-        → (log_fault commands.Check lines log ≡ None → HasNoCycle (tables_of log) → IsRaceFree (tables_of log) → (r : Seen) → shown_difference (tables_of log) ≡ Some r → Differs (tables_of log) r)
-        → AreJudged (tables_of log) → (f : Finding) × Finds command (tables_of log) f
-    finds commands.Check none right differs laws = check_finds (tables_of log) laws (right none) (differs none)
-    finds commands.Ordered none right differs laws = ordered_finds (tables_of log) laws
-    finds commands.Deps none right differs laws = deps_finds (tables_of log)
-    finds commands.Spare none right differs laws = spare_finds (tables_of log) laws
+    finds : (command : Command) → log_fault command lines log ≡ None → (log_fault commands.Check lines log ≡ None → AreReadsJudged (tables_of log)) → AreJudged (tables_of log) → (f : Finding) × Finds command (tables_of log) f
+    finds commands.Check none reads laws = check_finds (tables_of log) laws (reads none).right (reads none).differs
+    finds commands.Ordered none reads laws = ordered_finds (tables_of log) laws
+    finds commands.Deps none reads laws = deps_finds (tables_of log)
+    finds commands.Spare none reads laws = spare_finds (tables_of log) laws
+    finds (commands.Why ask) none reads laws = why_finds (tables_of log) laws ask ((reads (sym (why_as_check ask lines log) ∙ none)).links ask)
 
 -- A command finds something in each log.
 pub found_in : (command : Command) (lines : ℕ) (log : List Lined) → AllByRecursion Good (records_of log) → (f : Finding) × IsFound command lines log f
@@ -214,4 +246,8 @@ found_in command lines log good =
       shown = shown_is_cycle nodes linked;
       none = (none_shown nodes).0;
     })
-    (right_everywhere lines log good) (differs_everywhere lines log good)
+    (λ clear. record {
+      right = right_everywhere lines log good clear;
+      differs = differs_everywhere lines log good clear;
+      links = λ ask acyclic free. some_list lines log good clear acyclic free ask;
+    })

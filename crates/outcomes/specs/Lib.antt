@@ -1,6 +1,7 @@
 pub mod Outcome
 pub use Rattle.semantics.specs.Events
 pub use Rattle.semantics.specs.Faults
+pub use Rattle.semantics.specs.Links
 pub use Rattle.semantics.specs.Races
 pub use Rattle.semantics.specs.Reads
 pub use Rattle.semantics.specs.Records

@@ -1,13 +1,21 @@
--- What each command finds in an input: the first that holds of a fault, a cycle, a race or an unordered pair, and a differing read; and else its counts, with what it lists.
+-- What each command finds in an input: the first that holds of a fault, a cycle, a race or an unordered pair, and a differing read; and else its counts, with what it lists, or where a read came from.
 use Rattle.std.specs.Prelude.{◌≡◌, ℕ, ◌+◌, List, map, filter, filter_map, length, Some, None, option_map, slice_get, unwrap_or, ◌⊎◌}
 use Rattle.value_terms.specs.Values.{Value}
 use Rattle.findings.specs.declared.finding.Dep.{Dep}
 use Rattle.findings.specs.declared.finding.Finding.{Finding}
 use Rattle.findings.specs.declared.finding.Finding.TheVariants as findings
+use Rattle.findings.specs.declared.finding.WhyAsk.{WhyAsk}
+use Rattle.findings.specs.declared.finding.WhyKind.{WhyKind}
+use Rattle.findings.specs.declared.finding.WhyKind.TheVariants as shown
+use Rattle.findings.specs.declared.finding.WhyLink.{WhyLink}
 use Rattle.spy_grammar.specs.declared.record.Lined.{Lined}
 use Rattle.semantics.specs.declared.places.Place.{Place}
 use Rattle.semantics.specs.declared.places.Cell.{Cell}
 use Rattle.semantics.specs.declared.waits.ListedWait.{ListedWait}
+use Rattle.semantics.specs.declared.links.Ask.{Ask}
+use Rattle.semantics.specs.declared.links.Link.{Link}
+use Rattle.semantics.specs.declared.links.LinkKind.{LinkKind}
+use Rattle.semantics.specs.declared.links.LinkKind.TheVariants as kinds
 use Rattle.semantics.specs.Records.{Reads, records_of, text_of, line_count}
 use Rattle.semantics.specs.Tables.{Tables, tables_of}
 use Rattle.semantics.specs.Counts.{task_count, operation_count, read_count, wait_count}
@@ -17,6 +25,7 @@ use Rattle.semantics.specs.Events.{graph_of, IsCycle, HasNoCycle}
 use Rattle.semantics.specs.ReplayOrder.{waits_at, shown_cycle}
 use Rattle.semantics.specs.Spare.{AreSpareWaits}
 use Rattle.semantics.specs.Steps.{id_of}
+use Rattle.semantics.specs.Links.{AreLinksOf, IsNoRead}
 use Rattle.semantics.specs.Races.{IsRaceFree}
 use Rattle.semantics.specs.Reads.{Seen, want_of, IsRight, Differs, shown_difference}
 use Rattle.semantics.specs.declared.command.Command.{Command}
@@ -111,11 +120,39 @@ SpareFinds t (findings.Cycle events) = ShowsCycle t events
 SpareFinds t (findings.Spare list waits) = HasNoCycle t × ShowsSpare t list × (waits ≡ wait_count t)
 SpareFinds t _ = ⊥
 
+-- A read that is asked for, and a link, as a report shows them.
+abbrev pub ask_shown : Ask → WhyAsk
+ask_shown ask = record { task = ask.task; req = ask.req; point = ask.point; field = ask.field }
+
+abbrev pub kind_shown : LinkKind → WhyKind
+kind_shown kinds.Write = shown.Write
+kind_shown kinds.Put = shown.Put
+kind_shown kinds.Copy = shown.Copy
+kind_shown kinds.Start = shown.Start
+
+abbrev pub link_shown : Link → WhyLink
+link_shown l = record { kind = kind_shown l.kind; done = l.done; inst = l.inst; adds = l.adds }
+
+-- The links that are shown are those of the read that is asked for.
+pub record ShowsLinks (t : Tables) (ask : Ask) (list : List WhyLink) : Type 0 where
+  pub links : List Link
+  pub are_links : AreLinksOf t ask links
+  pub list_is : list ≡ map link_shown links
+
+-- What `why` finds.
+abbrev pub WhyFinds : Tables → Ask → Finding → Type 0
+WhyFinds t ask (findings.Cycle events) = ShowsCycle t events
+WhyFinds t ask (findings.Race a b inst point field) = HasNoCycle t × ShowsRace t a b (record { inst = inst; point = point; field = field })
+WhyFinds t ask (findings.NoRead task req point field) = HasNoCycle t × IsRaceFree t × IsNoRead t ask × (ask ≡ record { task = task; req = req; point = point; field = field })
+WhyFinds t ask (findings.Why asked list) = HasNoCycle t × IsRaceFree t × ShowsLinks t ask list × (asked ≡ ask_shown ask)
+WhyFinds t ask _ = ⊥
+
 abbrev pub Finds : Command → Tables → Finding → Type 0
 Finds commands.Check t f = CheckFinds t f
 Finds commands.Ordered t f = OrderedFinds t f
 Finds commands.Deps t f = DepsFinds t f
 Finds commands.Spare t f = SpareFinds t f
+Finds (commands.Why ask) t f = WhyFinds t ask f
 
 -- What a command finds in a log of so many lines: the fault that it shows of the log, or else what it finds in the tables.
 abbrev pub IsFound : Command → ℕ → List Lined → Finding → Type 0

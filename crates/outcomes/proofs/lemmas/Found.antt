@@ -1,12 +1,12 @@
 -- A command finds one thing in a log, and has one outcome on an input.
-use Rattle.std.proofs.Common.{◌≡◌, ℕ, ◌<◌, inl, inr, ◌⊎◌, List, map, length, refl, sym, ap, ◌∙◌, subst, arith, Option, Some, None, Contains}
+use Rattle.std.proofs.Common.{ap₂, ◌≡◌, ℕ, ◌<◌, inl, inr, ◌⊎◌, List, map, length, refl, sym, ap, ◌∙◌, subst, arith, Option, Some, None, Contains}
 use Rattle.std.specs.List.{AllByRecursion}
 use Rattle.std.proofs.lemmas.Bool.{false_from_ne_true}
 use Rattle.std.proofs.lemmas.List.{length-map}
 use Rattle.spy_grammar.specs.declared.record.Lined.{Lined}
 use Rattle.spy_grammar.specs.Spelling.{Good}
 use Rattle.findings.specs.declared.finding.Finding.{Finding}
-use Rattle.findings.specs.declared.finding.Finding.TheVariants.{Accepted, Ordered, Deps, Spare, Cycle, Race, Unordered, Differ, Fault}
+use Rattle.findings.specs.declared.finding.Finding.TheVariants.{Accepted, Ordered, Deps, Spare, Cycle, Race, Unordered, Differ, Fault, NoRead, Why}
 use Rattle.semantics.specs.declared.command.Command.{Command}
 use Rattle.semantics.specs.declared.command.Command.TheVariants as commands
 use Rattle.semantics.specs.declared.faults.Fault.{Fault as Shown}
@@ -29,8 +29,13 @@ use Rattle.log_laws.proofs.lemmas.Cycles.{has_cycle}
 use Rattle.log_laws.proofs.lemmas.Rounds.{listed_decides}
 use Rattle.log_laws.proofs.lemmas.Laws.{faultless_linked, replay_interleaves}
 use Rattle.log_laws.proofs.lemmas.ReadLogs.{held_is_good, one_read}
-use Rattle.outcomes.specs.Outcome.{ShowsCycle, ShowsRace, ShowsPair, ShowsSpare, ShowsDifference, CheckFinds, OrderedFinds, DepsFinds, SpareFinds, Finds, IsFound, events_of_wait, before_count, IsOutcome}
+use Rattle.outcomes.specs.Outcome.{ShowsCycle, ShowsRace, ShowsPair, ShowsSpare, ShowsDifference, CheckFinds, OrderedFinds, DepsFinds, SpareFinds, ShowsLinks, WhyFinds, Finds, IsFound, events_of_wait, before_count, link_shown, IsOutcome}
 use Rattle.spare_laws.proofs.lemmas.OneList.{one_list}
+use Rattle.trail_laws.proofs.lemmas.Trails.{one_list as one_trail}
+use Rattle.semantics.specs.declared.links.Ask.{Ask}
+use Rattle.semantics.specs.declared.links.Link.{Link}
+use Rattle.semantics.specs.Links.{AreLinksOf, IsNoRead}
+use Rattle.findings.specs.declared.finding.WhyLink.{WhyLink}
 use Rattle.outcomes.proofs.Pairs.{first_failing, held_within}
 use Rattle.outcomes.proofs.Races.{one_race}
 
@@ -91,6 +96,15 @@ all_replayed t linked none k lt =
 
 orderly : (lines : ℕ) (log : List Lined) → AllByRecursion Good (records_of log) → log_fault commands.Check lines log ≡ None → AreOrderly (tables_of log)
 orderly lines log good clear = record { replayed = all_replayed (tables_of log) (faultless_linked commands.Check lines log good clear); interleaved = replay_interleaves lines log good clear }
+
+-- What the laws say of the links of a read.
+pub record IsOneTrail (t : Tables) (ask : Ask) : Type 0 where
+  pub one : HasNoCycle t → (ls ms : List Link) → AreLinksOf t ask ls → AreLinksOf t ask ms → ls ≡ ms
+  pub not_both : (ls : List Link) → AreLinksOf t ask ls → IsNoRead t ask → ⊥
+
+-- A read that is not there has no links.
+not_both_at : (t : Tables) (ask : Ask) (ls : List Link) → AreLinksOf t ask ls → IsNoRead t ask → ⊥
+not_both_at t ask ls a no_read = let e = sym a.asked ∙ no_read a.read a.is_step in absurd cc
 
 same_race : (t : Tables) → AreOrderly t → HasNoCycle t → (a b c d : ℕ) (cell other : Cell) → ShowsRace t a b cell → ShowsRace t c d other → (a ≡ c) × (b ≡ d) × (cell ≡ other)
 same_race t orderly none a b c d cell other p q =
@@ -167,8 +181,57 @@ one_of_spare t (Spare list waits) (Spare other all) p q = rw (same_spare t list 
 one_of_spare t (Spare list waits) _ p q = absurd q
 one_of_spare t _ g p q = absurd p
 
-one_of : (command : Command) (t : Tables) → (command ≡ commands.Check → AreOrderly t) → (f g : Finding) → Finds command t f → Finds command t g → f ≡ g
-one_of commands.Check t o f g p q = one_of_check t (o refl) f g p q
+no_read_is : (ask : Ask) (task req point field job name at other : ℕ) → ask ≡ record { task = task; req = req; point = point; field = field } → ask ≡ record { task = job; req = name; point = at; field = other }
+    → NoRead task req point field ≡ NoRead job name at other
+no_read_is ask task req point field job name at other p q =
+    let both : ◌≡◌ {A = Ask} (record { task = task; req = req; point = point; field = field }) (record { task = job; req = name; point = at; field = other }) = sym p ∙ q in
+    rw (ap (λ (a : Ask). a.task) both, ap (λ (a : Ask). a.req) both, ap (λ (a : Ask). a.point) both, ap (λ (a : Ask). a.field) both) refl
+
+same_links : (t : Tables) (ask : Ask) → IsOneTrail t ask → HasNoCycle t → (ls ms : List WhyLink) → ShowsLinks t ask ls → ShowsLinks t ask ms → ls ≡ ms
+same_links t ask trail none ls ms p q = p.list_is ∙ ap (map link_shown) (trail.one none p.links q.links p.are_links q.are_links) ∙ sym q.list_is
+
+one_of_why : (t : Tables) (ask : Ask) → AreOrderly t → IsOneTrail t ask → (f g : Finding) → WhyFinds t ask f → WhyFinds t ask g → f ≡ g
+one_of_why t ask o one (Cycle es) (Cycle fs) p q = ap Cycle (one_cycle t es fs p q)
+one_of_why t ask o one (Cycle es) (Race a b inst point field) p q = free t es p q.0
+one_of_why t ask o one (Cycle es) (NoRead task req point field) p q = free t es p q.0
+one_of_why t ask o one (Cycle es) (Why asked list) p q = free t es p q.0
+one_of_why t ask o one (Cycle es) _ p q = absurd q
+one_of_why t ask o one (Race a b inst point field) (Cycle fs) p q = free t fs q p.0
+one_of_why t ask o one (Race a b inst point field) (Race c d other at number) p q = race_is a b inst point field c d other at number (same_race t o p.0 a b c d _ _ p.1 q.1)
+one_of_why t ask o one (Race a b inst point field) (NoRead task req at other) p q = absurd (q.1 _ _ _ p.1.shown.race)
+one_of_why t ask o one (Race a b inst point field) (Why asked list) p q = absurd (q.1 _ _ _ p.1.shown.race)
+one_of_why t ask o one (Race a b inst point field) _ p q = absurd q
+one_of_why t ask o one (NoRead task req point field) (Cycle fs) p q = free t fs q p.0
+one_of_why t ask o one (NoRead task req point field) (Race a b inst at other) p q = absurd (p.1 _ _ _ q.1.shown.race)
+one_of_why t ask o one (NoRead task req point field) (NoRead job name at other) p q = no_read_is ask task req point field job name at other p.3 q.3
+one_of_why t ask o one (NoRead task req point field) (Why asked list) p q = absurd (one.not_both q.2.links q.2.are_links p.2)
+one_of_why t ask o one (NoRead task req point field) _ p q = absurd q
+one_of_why t ask o one (Why asked list) (Cycle fs) p q = free t fs q p.0
+one_of_why t ask o one (Why asked list) (Race a b inst point field) p q = absurd (p.1 _ _ _ q.1.shown.race)
+one_of_why t ask o one (Why asked list) (NoRead task req point field) p q = absurd (one.not_both p.2.links p.2.are_links q.2)
+one_of_why t ask o one (Why asked list) (Why other links) p q = ap₂ Why (p.3 ∙ sym q.3) (same_links t ask one p.0 list links p.2 q.2)
+one_of_why t ask o one (Why asked list) _ p q = absurd q
+one_of_why t ask o one _ g p q = absurd p
+
+-- `why` shows the faults that `check` shows.
+pub why_as_check : (ask : Ask) (lines : ℕ) (log : List Lined) → log_fault (commands.Why ask) lines log ≡ log_fault commands.Check lines log
+unfolding log_fault
+why_as_check ask lines log = refl
+
+-- What is known of the tables of a log in which a command finds no fault.
+abbrev Known : Command → Tables → Type 0
+Known commands.Check t = AreOrderly t
+Known (commands.Why ask) t = AreOrderly t × IsOneTrail t ask
+Known command t = Unit {0}
+
+known : (command : Command) (lines : ℕ) (log : List Lined) → AllByRecursion Good (records_of log) → log_fault command lines log ≡ None → Known command (tables_of log)
+known commands.Check lines log good clear = orderly lines log good clear
+known (commands.Why ask) lines log good none = let clear = sym (why_as_check ask lines log) ∙ none in (orderly lines log good clear, record { one = λ acyclic. one_trail lines log good clear acyclic ask; not_both = λ ls a no_read. not_both_at (tables_of log) ask ls a no_read })
+known command lines log good clear = tt
+
+one_of : (command : Command) (t : Tables) → Known command t → (f g : Finding) → Finds command t f → Finds command t g → f ≡ g
+one_of commands.Check t o f g p q = one_of_check t o f g p q
+one_of (commands.Why ask) t o f g p q = one_of_why t ask o.0 o.1 f g p q
 one_of commands.Ordered t o f g p q = one_of_ordered t f g p q
 one_of commands.Deps t o f g p q = one_of_deps t f g p q
 one_of commands.Spare t o f g p q = one_of_spare t f g p q
@@ -183,18 +246,18 @@ told : (command : Command) (lines : ℕ) (log : List Lined) (f : Finding) → Is
 told command lines log (Fault line code) p = inl (record { line = line; code = code }, refl, p)
 told command lines log _ p = inr p
 
-one_told : (command : Command) (lines : ℕ) (log : List Lined) → (command ≡ commands.Check → log_fault command lines log ≡ None → AreOrderly (tables_of log))
+one_told : (command : Command) (lines : ℕ) (log : List Lined) → (log_fault command lines log ≡ None → Known command (tables_of log))
     → (f g : Finding) → Told command lines log f → Told command lines log g → f ≡ g
-one_told command lines log orderly f g (inl a) (inl b) =
+one_told command lines log laws f g (inl a) (inl b) =
     let both : ◌≡◌ {A = Option Shown} (Some a.0) (Some b.0) = sym a.2 ∙ b.2 in
     let same : a.0 ≡ b.0 = cc in
     a.1 ∙ ap (λ (s : Shown). Fault s.line s.code) same ∙ sym b.1
-one_told command lines log orderly f g (inl a) (inr b) = let wrong : ◌≡◌ {A = Option Shown} (Some a.0) None = sym a.2 ∙ b.0 in absurd cc
-one_told command lines log orderly f g (inr a) (inl b) = let wrong : ◌≡◌ {A = Option Shown} None (Some b.0) = sym a.0 ∙ b.2 in absurd cc
-one_told command lines log orderly f g (inr a) (inr b) = one_of command (tables_of log) (λ is. orderly is a.0) f g a.1 b.1
+one_told command lines log laws f g (inl a) (inr b) = let wrong : ◌≡◌ {A = Option Shown} (Some a.0) None = sym a.2 ∙ b.0 in absurd cc
+one_told command lines log laws f g (inr a) (inl b) = let wrong : ◌≡◌ {A = Option Shown} None (Some b.0) = sym a.0 ∙ b.2 in absurd cc
+one_told command lines log laws f g (inr a) (inr b) = one_of command (tables_of log) (laws a.0) f g a.1 b.1
 
 pub one_found : (command : Command) (lines : ℕ) (log : List Lined) → AllByRecursion Good (records_of log) → (f g : Finding) → IsFound command lines log f → IsFound command lines log g → f ≡ g
-one_found command lines log good f g p q = one_told command lines log (λ is clear. orderly lines log good (rw (← is) clear)) f g (told command lines log f p) (told command lines log g q)
+one_found command lines log good f g p q = one_told command lines log (known command lines log good) f g (told command lines log f p) (told command lines log g q)
 
 pub one_answered : (command : Command) (bytes : List ℕ) (f g : Finding) → IsOutcome command bytes f → IsOutcome command bytes g → f ≡ g
 one_answered command bytes f g (inl p) (inl q) =
