@@ -2,3 +2,5 @@
 pub mod StoreMaps
 pub mod StoreLaws
 pub mod Covered
+pub mod Accesses
+pub mod StepCounts

@@ -21,6 +21,7 @@ use Rattle.point_laws.specs.Cut.{cut}
 use Rattle.point_laws.proofs.lemmas.Order.{good_in_order}
 use Rattle.point_laws.proofs.lemmas.Cuts.{steps_cut, items_cut, shown_whole}
 use Rattle.inst_steps.specs.Stores.{Contents, HasCells, IsStart, after_move, value_in}
+use Rattle.inst_steps.proofs.lemmas.StepCounts.{steps_are_few}
 use Rattle.inst_steps.proofs.lemmas.StoreLaws.{same_cells, weighs}
 use Rattle.inst_steps.proofs.lemmas.Covered.{cells_at_start, cells_there, listed_steps_of_insts}
 use Rattle.replay.specs.declared.ends.ReplayEnd.{ReplayEnd}
@@ -29,16 +30,9 @@ use Rattle.replay.specs.Fitting.{Fits}
 use Rattle.replay.specs.Standing.{Stands}
 use Rattle.replay.proofs.Fitted.{nodes_fit, steps_fitted}
 use Rattle.replay.proofs.Pointed.{shown_point, same_end}
-use Rattle.replay.proofs.StepCounts.{replay_few}
 use Rattle.replay.proofs.Stood.{stand_first, stand_next}
 
 module _ (t : Tables) (d : AreDeclared t) where
-  -- Each node stands in the order once, and runs and operations make at most two steps of an access.
-  steps_are_few : (points : List ℕ) → length (replay_steps (cut points t)) < 2 ^ 31
-  steps_are_few points =
-      let ns = graph_of t.nodes in
-      replay_few t d points (replay_order ns) (steps_cut points t (replay_order ns)) (once (replay ns).taken) (λ k h. subst (λ n. k < n) (length-map t.nodes _) ((listed_decides ns k).0 h).0)
-
   -- The steps are of instances, by their kinds, and the reads of the items that nodes run.
   steps_fit : unmapped_fault t ≡ None → (points : List ℕ) → AllByRecursion (Fits (cut points t)) (replay_steps (cut points t))
   steps_fit mapped points =
@@ -47,7 +41,7 @@ module _ (t : Tables) (d : AreDeclared t) where
 
   -- A store of the start stands before all steps.
   pub starts_stand : unmapped_fault t ≡ None → (points : List ℕ) (m : Contents) → IsStart (cut points t) m → Stands (cut points t) (replay_steps (cut points t)) m
-  starts_stand mapped points m is = stand_first (cut points t) m is (cells_at_start (cut points t) m is) (steps_fit mapped points) (steps_are_few points)
+  starts_stand mapped points m is = stand_first (cut points t) m is (cells_at_start (cut points t) m is) (steps_fit mapped points) (steps_are_few t d points)
 
   module _ (firsts : List ℕ) (are : AreFirsts t firsts) where
     pub shown_by_firsts : shown_difference (cut firsts t) ≡ shown_difference t

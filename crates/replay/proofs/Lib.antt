@@ -1,5 +1,4 @@
-mod Accesses
-mod StepCounts
+mod ReadCounts
 mod Fitted
 mod Stood
 mod Pointed

@@ -2,7 +2,7 @@ use Rattle.std.proofs.Common.{◌≡◌, sym, arith}
 use Rattle.std.proofs.lemmas.Grind.{common_steps}
 use Rattle.semantics.specs.Counts.{read_count}
 use Rattle.replay.specs.Counts.{reads_in}
-use Rattle.replay.proofs.Accesses.{few_reads, reads_counted}
+use Rattle.replay.proofs.ReadCounts.{few_reads, reads_counted}
 use Rattle.replay.proofs.counting.count_reads.Goals as goal
 
 pub loop-req-init : goal.loop-req-init

@@ -1,10 +1,9 @@
 -- The accesses that a log asks for are few, and so are its requirements' points and fields, and those of its operations.
-use Rattle.std.proofs.Common.{◌≡◌, ℕ, ◌+◌, ◌≤◌, inl, inr, Bool, true, List, [], ◌∷◌, ◌++◌, filter, fold, refl, sym, ap, ◌∙◌, subst, arith, Option, None, append_assoc, sum_by}
+use Rattle.std.proofs.Common.{◌≡◌, ℕ, ◌+◌, ◌≤◌, inl, inr, Bool, true, List, [], ◌∷◌, ◌++◌, fold, refl, sym, ap, ◌∙◌, subst, arith, Option, None, append_assoc, sum_by}
 use Rattle.std.specs.Option.{option_map_or}
 use Rattle.std.proofs.lemmas.Bool.{cases_Bool, true≢false, ltb-false}
 use Rattle.std.proofs.lemmas.List.Sums.{fold-append, sum_by-cons, sum_by_push}
 use Rattle.spy_grammar.specs.declared.code.Code.TheVariants as codes
-use Rattle.privilege.specs.Allowed.{may_read}
 use Rattle.spy_grammar.specs.declared.record.Record.{Record}
 use Rattle.spy_grammar.specs.declared.record.Record.TheVariants as records
 use Rattle.spy_grammar.specs.declared.record.Lined.{Lined}
@@ -16,11 +15,9 @@ use Rattle.semantics.specs.Records.{records_of}
 use Rattle.semantics.specs.Tables.{Tables, with_record, no_tables, tables_of}
 use Rattle.semantics.specs.Rules.{size_of, accesses}
 use Rattle.semantics.specs.Faults.{is_end, header_fault, ended_fault, records_fault}
-use Rattle.semantics.specs.Counts.{read_count}
 use Rattle.logs.specs.Faultless.{AreDeclared}
 use Rattle.log_laws.proofs.lemmas.Members.{both_none}
 use Rattle.log_laws.proofs.lemmas.Admitted.{Unbroken, rule_kept, unbroken, no_broken_rule}
-use Rattle.replay.specs.Counts.{reads_in}
 
 -- ---- what the tables ask for
 
@@ -37,7 +34,7 @@ op_size t op = data_size t (data_of op)
 abbrev pub op_sizes : Tables → List LogNode → ℕ
 op_sizes t ns = sum_by (λ (n : LogNode). op_size t n.op) ns
 
-abbrev cost : Tables → Tables → ℕ
+abbrev pub cost : Tables → Tables → ℕ
 cost all t = sizes all t.reqs + op_sizes all t.nodes
 
 one_req : (all : Tables) (rs : List Req) (r : Req) (n : ℕ) → sizes all (rs ++ r ∷ []) + n ≤ sizes all rs + n + size_of all r.space r.fields
@@ -107,26 +104,3 @@ few_accesses t d = subst (λ (u : Tables). cost u u ≤ 4194304) (sym d.tables)
     let asks = to_end (records_of d.log) d.lines [] d.log (no_broken_rule d.lines d.log d.faultless) ended.0 in
     let all = all_records (tables_of d.log) no_tables d.log in
     omega (arith, asks, all))
-
--- ---- reads
-
-fewer : (f : Req → ℕ) (p : Req → Bool) (rs : List Req) → sum_by f (filter p rs) ≤ sum_by f rs
-fewer f p [] = omega arith
-fewer f p (r ∷ rs) =
-    let rest = fewer f p rs in
-    let all = sum_by-cons f r rs in
-    elim (cases_Bool (p r)) [ inl here ↦ rw here (let some = sum_by-cons f r (filter p rs) in omega (arith, rest, all, some)) | inr other ↦ rw other (omega (arith, rest, all)) ]
-
-pub few_reads : (t : Tables) → AreDeclared t → read_count t ≤ 4194304
-few_reads t d =
-    let some = fewer (λ (r : Req). size_of t r.space r.fields) (λ (r : Req). may_read r.access) t.reqs in
-    let all = few_accesses t d in
-    omega (arith, some, all)
-
-pub reads_counted : (t : Tables) (rs : List Req) → sum_by (λ (r : Req). size_of t r.space r.fields) (filter (λ (r : Req). may_read r.access) rs) ≡ reads_in t rs
-reads_counted t [] = refl
-reads_counted t (r ∷ rs) = elim (cases_Bool (may_read r.access)) [
-  | inl reads ↦
-      rw reads (sum_by-cons (λ (r : Req). size_of t r.space r.fields) r (filter (λ (r : Req). may_read r.access) rs) ∙ ap (λ n. size_of t r.space r.fields + n) (reads_counted t rs))
-  | inr other ↦ rw other (let rest = reads_counted t rs in omega (arith, rest))
-]

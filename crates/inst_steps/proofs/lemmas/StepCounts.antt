@@ -22,20 +22,25 @@ use Rattle.semantics.specs.DataOps.{DataOp, data_of}
 use Rattle.semantics.specs.declared.command.Command.TheVariants.{Deps}
 use Rattle.semantics.specs.Records.{records_of}
 use Rattle.semantics.specs.Tables.{Tables, place_of, with_record, tables_of}
+use Rattle.semantics.specs.Events.{graph_of}
+use Rattle.semantics.specs.ReplayOrder.{replay_order}
+use Rattle.semantics.specs.Reads.{replay_steps}
 use Rattle.semantics.specs.Points.{points_in}
 use Rattle.semantics.specs.Kinds.{reqs_of, grid, req_grid}
 use Rattle.semantics.specs.Steps.{Step, mapped_cell, at_cells, reads_by, changes_by, run_moves, move_of, data_moves, moves_of, id_of, steps_by}
 use Rattle.semantics.specs.Rules.{size_of, runs_item, is_run_again}
 use Rattle.point_laws.specs.Alike.{is_at}
 use Rattle.point_laws.specs.Cut.{cut}
+use Rattle.point_laws.proofs.lemmas.Cuts.{steps_cut}
 use Rattle.logs.specs.Faultless.{AreDeclared}
 use Rattle.log_laws.proofs.lemmas.Members.{Member, contains_of, member_left, member_right, member_append, member_flat, member_filter, none_at, only}
 use Rattle.log_laws.proofs.lemmas.Apart.{Apart, pairs_from, pairs_append, apart_flat, apart_filter, number_in}
 use Rattle.log_laws.proofs.lemmas.Lists.{split_at}
+use Rattle.log_laws.proofs.lemmas.Rounds.{replay, once, listed_decides}
 use Rattle.log_laws.proofs.lemmas.Sane.{reqs_apart}
 use Rattle.log_laws.proofs.lemmas.Admitted.{rule_kept, by_records, no_broken_rule, sane}
 use Rattle.log_laws.proofs.lemmas.StepLists.{moves_at, steps_at}
-use Rattle.replay.proofs.Accesses.{sizes, data_size, op_size, op_sizes, few_accesses}
+use Rattle.inst_steps.proofs.lemmas.Accesses.{sizes, data_size, op_size, op_sizes, few_accesses}
 
 -- ---- lengths
 
@@ -239,7 +244,7 @@ steps_few t d =
     let same = by_places t 0 t.nodes (λ k. let e : 0 + k ≡ k = omega arith in ap (slice_get t.nodes) e) in
     omega (arith, all, own, nodes, same)
 
-pub replay_few : (t : Tables) → AreDeclared t → (points ks : List ℕ) → steps_by (cut points t) ks ≡ filter (is_at points) (steps_by t ks)
+replay_few : (t : Tables) → AreDeclared t → (points ks : List ℕ) → steps_by (cut points t) ks ≡ filter (is_at points) (steps_by t ks)
     → AllPairs (λ a b. a ≢ b) ks → ((k : ℕ) → Contains ks k → k < length t.nodes) → length (steps_by (cut points t) ks) < 2 ^ 31
 replay_few t d points ks kept once within =
     let some = flat_few (steps_at t) ks (range_with_len 0 (length t.nodes)) (pairs_from (λ a b. a ≢ b) ks once) (λ k m. number_in (length t.nodes) k (within k (contains_of ks k m))) in
@@ -248,3 +253,9 @@ replay_few t d points ks kept once within =
     let fewer = length-filter (is_at points) (steps_by t ks) in
     let bound = count_by-le-length (is_at points) (steps_by t ks) in
     omega (arith, some, all, same, fewer, bound)
+
+-- Each node stands in the replay order once, and runs and operations make at most two steps of an access.
+pub steps_are_few : (t : Tables) → AreDeclared t → (points : List ℕ) → length (replay_steps (cut points t)) < 2 ^ 31
+steps_are_few t d points =
+    let ns = graph_of t.nodes in
+    replay_few t d points (replay_order ns) (steps_cut points t (replay_order ns)) (once (replay ns).taken) (λ k h. subst (λ n. k < n) (length-map t.nodes _) ((listed_decides ns k).0 h).0)

@@ -1,0 +1,4 @@
+mod Back
+mod Listed
+mod Walked
+mod Traced
