@@ -1,7 +1,6 @@
 -- What a replay rests on: its steps are few, and fit; a store stands before each; and the tables cut to first points tell of the whole.
-use Rattle.std.proofs.Common.{◌≡◌, ℕ, ◌<◌, ◌^◌, ◌∷◌, List, None, length, take, sym, subst, ◌∙◌}
+use Rattle.std.proofs.Common.{◌≡◌, ℕ, ◌<◌, ◌∷◌, List, None, length, take, sym, subst, ◌∙◌}
 use Rattle.std.specs.List.{AllByRecursion}
-use Rattle.std.proofs.lemmas.List.{length-map}
 use Rattle.value_terms.specs.Values.{plain}
 use Rattle.value_terms.specs.declared.terms.Base.TheVariants.{Init}
 use Rattle.semantics.specs.Tables.{Tables, place_of}
@@ -12,7 +11,6 @@ use Rattle.semantics.specs.Steps.{Step, id_of}
 use Rattle.semantics.specs.Execution.{start}
 use Rattle.semantics.specs.Faults.{unmapped_fault}
 use Rattle.semantics.specs.Reads.{difference, replay_steps, shown_difference}
-use Rattle.log_laws.proofs.lemmas.Rounds.{replay, once, listed_decides}
 use Rattle.log_laws.proofs.lemmas.Admitted.{no_broken_rule}
 use Rattle.log_laws.proofs.lemmas.SerialOrder.{items_placed}
 use Rattle.logs.specs.Faultless.{AreDeclared}
