@@ -26,6 +26,8 @@ mod point_set_tests;
 #[cfg(test)]
 mod privilege_tests;
 #[cfg(test)]
+mod provenance_tests;
+#[cfg(test)]
 mod region_tree_tests;
 #[cfg(test)]
 mod replay_tests;

@@ -1,0 +1,7 @@
+use Rattle.std.proofs.Common.{ℕ, ◌×◌, ap, refl, option_map}
+use Rattle.semantics.specs.Faults.{at_line, serial_line}
+use Rattle.spy_grammar.specs.declared.code.Code.TheVariants as codes
+use Rattle.worked_calls.proofs.provenance_tests.traced.Goals as goal
+
+pub trace-requires-clause-serial : goal.trace-requires-clause-serial
+trace-requires-clause-serial g c κs = ap (option_map (λ (p : ℕ × ℕ). at_line codes.SerialOrder (serial_line c.args.log.now p.0))) c.requires.serial
