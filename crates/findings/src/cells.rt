@@ -65,6 +65,7 @@ impl Listed for (u32, u32) {
     }
 }
 
+/// How a value came into an instance, in a word.
 fn kind_text(kind: WhyKind) -> &'static [u8]
     ensures { result.now ≡ kind_text kind }
 {
@@ -80,28 +81,14 @@ fn kind_text(kind: WhyKind) -> &'static [u8]
 impl Listed for WhyLink {
     ghost line = { link_line };
 
+    #[rattlefmt::skip]
     fn words(self) -> Words<'static> {
-        let WhyLink {
-            kind,
-            done,
-            inst,
-            adds,
-        } = self;
+        let WhyLink { kind, done, inst, adds } = self;
         let event = match kind {
             WhyKind::Start => No,
             _ => Small(done),
         };
-        (
-            kind_text(kind),
-            [
-                event,
-                Says(b"inst"),
-                Small(inst),
-                Says(b"adds"),
-                Small(adds),
-                No,
-            ],
-        )
+        (kind_text(kind), [event, Says(b"inst"), Small(inst), Says(b"adds"), Small(adds), No])
     }
 }
 

@@ -18,20 +18,18 @@ use spy_words::push_u64;
 use std::alloc::{AllocError, Global};
 use value_terms::Value;
 
-/// Whether each number of some lines lies in the range of its type. Rust's types see to that, and a
-/// proof learns of it where the numbers are read.
-fn lines_fit<L: Listed>(lines: &[L]) -> bool
-    ensures { IsTrue result ↔ AllByRecursion Fits (map L.line lines.now) }
+/// The law of listed lines: each of their numbers lies in the range of its type. Rust's types see to that, and a proof learns of it where the numbers are read.
+pub fn lines_fit<L: Listed>(lines: &[L])
+    ensures { AllByRecursion Fits (map L.line lines.now) }
 {
     let mut rest = lines;
     while let [line, more @ ..] = rest {
         let _words = line.words();
         rest = more;
     }
-    true
 }
 
-/// The same of the lines that a report lists.
+/// Whether it is so with the lines that a report lists.
 fn listed_fit(f: &Finding) -> bool
     ensures { IsTrue result ↔ AllByRecursion Fits (texts.listed_lines f.now) }
 {
@@ -39,8 +37,9 @@ fn listed_fit(f: &Finding) -> bool
         Finding::Deps { list, .. } => lines_fit(list.as_slice()),
         Finding::Spare { list, .. } => lines_fit(list.as_slice()),
         Finding::Why { links, .. } => lines_fit(links.as_slice()),
-        _ => true,
+        _ => {}
     }
+    true
 }
 
 /// The same of all its lines.

@@ -16,6 +16,8 @@ pub use implied::spare_finding;
 pub use items::{event_at, operation_count, task_count};
 pub use memory::Memory;
 pub use ordering::{ordered_finding, sort_log};
-pub use reports::{accepted_found, cycle_found, differ_found, fault_found, race_found};
+pub use reports::{
+    accepted_found, cycle_found, differ_found, fault_found, no_read_found, race_found, why_found,
+};
 pub use serial::serial_fault;
 pub use sorting::{Sorting, Unsorted};

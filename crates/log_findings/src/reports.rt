@@ -1,12 +1,13 @@
 //! Findings, each with what a text of it asks.
 
-ghost use Rattle.std.specs.Prelude.{◌≡◌, ◌≢◌, ◌≤◌, [], length, not, map, count_by};
+ghost use Rattle.std.specs.Prelude.{◌≡◌, ◌≢◌, ◌≤◌, [], length, not, true, map, count_by};
 ghost use Rattle.std.specs.List.{AllByRecursion};
 ghost use Rattle.findings.specs.declared.finding.Finding.TheVariants as findings;
-ghost use Rattle.findings.specs.Texts.{Fits, Good, IsInRange, dep_line, small, spare_line};
+ghost use Rattle.findings.specs.Texts.{Good, IsInRange, is_chain, small};
+ghost use Rattle.outcomes.specs.Outcome.{ask_shown};
 
-use findings::{Dep, DepList, EventList, Finding, PairList};
-use semantics::{Cell, Place};
+use findings::{DepList, EventList, Finding, PairList, WhyAsk, WhyList, lines_fit};
+use semantics::{Ask, Cell, Place};
 use spy_grammar::Code;
 use value_terms::Value;
 
@@ -14,49 +15,6 @@ use value_terms::Value;
 fn events_fit(events: &[u32])
     ensures { AllByRecursion IsInRange (map small events.now) }
 {}
-
-/// The law of a dependence: its numbers lie in the ranges of their types, and a proof learns of it where they are read.
-fn dep_fits(dep: &Dep)
-    ensures { Fits (dep_line dep.now) }
-{
-    let Dep {
-        before: _,
-        a: _a,
-        b: _b,
-        tree: _tree,
-        point: _point,
-        field: _field,
-    } = *dep;
-}
-
-/// The same of some of them.
-fn deps_fit(deps: &[Dep])
-    ensures { AllByRecursion Fits (map dep_line deps.now) }
-{
-    let mut rest = deps;
-    while let [dep, more @ ..] = rest {
-        dep_fits(dep);
-        rest = more;
-    }
-}
-
-/// The law of a wait by its events, likewise.
-fn wait_fits(wait: &(u32, u32))
-    ensures { Fits (spare_line wait.now) }
-{
-    let (_node, _event) = *wait;
-}
-
-/// The same of some of them.
-fn waits_fit(waits: &[(u32, u32)])
-    ensures { AllByRecursion Fits (map spare_line waits.now) }
-{
-    let mut rest = waits;
-    while let [wait, more @ ..] = rest {
-        wait_fits(wait);
-        rest = more;
-    }
-}
 
 /// A fault.
 pub fn fault_found(line: u32, code: Code) -> Finding
@@ -148,7 +106,7 @@ pub(crate) fn deps_found(list: DepList, items: u32, before: u64, turn: u64) -> F
     ensures finding { result ≡ findings.Deps list items before turn }
     ensures good { Good result }
 {
-    deps_fit(list.as_slice());
+    lines_fit(list.as_slice());
     Finding::Deps {
         list,
         items,
@@ -163,6 +121,47 @@ pub(crate) fn spare_found(list: PairList, waits: u64) -> Finding
     ensures finding { result ≡ findings.Spare list waits }
     ensures good { Good result }
 {
-    waits_fit(list.as_slice());
+    lines_fit(list.as_slice());
     Finding::Spare { list, waits }
+}
+
+/// A read that is asked for, of which the log has none.
+pub fn no_read_found(ask: &Ask) -> Finding
+    ensures finding { result ≡ findings.NoRead ask.now.task ask.now.req ask.now.point ask.now.field }
+    ensures good { Good result }
+{
+    let Ask {
+        task,
+        req,
+        point,
+        field,
+    } = *ask;
+    Finding::NoRead {
+        task,
+        req,
+        point,
+        field,
+    }
+}
+
+/// The links of a read that is asked for.
+pub fn why_found(ask: &Ask, links: WhyList) -> Finding
+    requires { is_chain links ≡ true }
+    ensures finding { result ≡ findings.Why (ask_shown ask.now) links }
+    ensures good { Good result }
+{
+    lines_fit(links.as_slice());
+    let Ask {
+        task,
+        req,
+        point,
+        field,
+    } = *ask;
+    let ask = WhyAsk {
+        task,
+        req,
+        point,
+        field,
+    };
+    Finding::Why { ask, links }
 }

@@ -12,14 +12,15 @@ use Rattle.spy_grammar.specs.declared.record.Lined.{Lined}
 use Rattle.spy_grammar.specs.declared.record.Record.{Record}
 use Rattle.spy_grammar.specs.declared.record.Record.TheVariants as records
 use Rattle.findings.specs.declared.finding.Finding.{Finding}
-use Rattle.findings.specs.declared.finding.Finding.TheVariants.{Accepted, Cycle, Race, Differ, Fault}
+use Rattle.findings.specs.declared.finding.Finding.TheVariants.{Accepted, Cycle, Race, Differ, NoRead, Why, Fault}
 use Rattle.semantics.specs.declared.command.Command.{Command}
 use Rattle.semantics.specs.declared.command.Command.TheVariants as commands
 use Rattle.semantics.specs.Records.{records_of}
 use Rattle.semantics.specs.Tables.{Tables, with_record, tables_of, no_tables}
 use Rattle.semantics.specs.Events.{AreLinked, graph_of}
 use Rattle.semantics.specs.Faults.{at_line, declaration_fault, serial_fault, log_fault}
-use Rattle.outcomes.specs.Outcome.{IsFound, CheckFinds}
+use Rattle.semantics.specs.declared.links.Ask.{Ask}
+use Rattle.outcomes.specs.Outcome.{IsFound, CheckFinds, WhyFinds}
 use Rattle.semantics.specs.Rules.{is_late}
 use Rattle.log_laws.proofs.lemmas.Admitted.{rule_kept, by_records, no_broken_rule}
 use Rattle.log_laws.proofs.lemmas.Members.{both_none}
@@ -139,3 +140,10 @@ check_found t none (Race a b inst point field) h = (none, h)
 check_found t none (Differ task number point field got want) h = (none, h)
 check_found t none (Accepted tasks operations reads) h = (none, h)
 check_found t none _ h = absurd h
+
+pub why_found : (t : Tables) (ask : Ask) → table_fault (commands.Why ask) t ≡ None → (f : Finding) → WhyFinds t ask f → IsFoundOf (commands.Why ask) t f
+why_found t ask none (Cycle events) h = (none, h)
+why_found t ask none (Race a b inst point field) h = (none, h)
+why_found t ask none (NoRead task req point field) h = (none, h)
+why_found t ask none (Why asked list) h = (none, h)
+why_found t ask none _ h = absurd h
