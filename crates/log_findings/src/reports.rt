@@ -126,42 +126,30 @@ pub(crate) fn spare_found(list: PairList, waits: u64) -> Finding
 }
 
 /// A read that is asked for, of which the log has none.
-pub fn no_read_found(ask: &Ask) -> Finding
-    ensures finding { result ≡ findings.NoRead ask.now.task ask.now.req ask.now.point ask.now.field }
+pub fn no_read_found(ask: Ask) -> Finding
+    ensures finding { result ≡ findings.NoRead ask.task ask.req ask.point ask.field }
     ensures good { Good result }
 {
-    let Ask {
-        task,
-        req,
-        point,
-        field,
-    } = *ask;
     Finding::NoRead {
-        task,
-        req,
-        point,
-        field,
+        task: ask.task,
+        req: ask.req,
+        point: ask.point,
+        field: ask.field,
     }
 }
 
 /// The links of a read that is asked for.
-pub fn why_found(ask: &Ask, links: WhyList) -> Finding
+pub fn why_found(ask: Ask, links: WhyList) -> Finding
     requires { is_chain links ≡ true }
-    ensures finding { result ≡ findings.Why (ask_shown ask.now) links }
+    ensures finding { result ≡ findings.Why (ask_shown ask) links }
     ensures good { Good result }
 {
     lines_fit(links.as_slice());
-    let Ask {
-        task,
-        req,
-        point,
-        field,
-    } = *ask;
     let ask = WhyAsk {
-        task,
-        req,
-        point,
-        field,
+        task: ask.task,
+        req: ask.req,
+        point: ask.point,
+        field: ask.field,
     };
     Finding::Why { ask, links }
 }
