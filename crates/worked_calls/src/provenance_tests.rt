@@ -58,12 +58,20 @@ const CASES: [(&[u8], Read, Option<Links<'static>>); 12] = [
     (
         b"task 1\nreq 1 1 1 1 wd ex\ntask 2\nreq 2 1 1 1 ro ex\ninst 1 1 1 1 plain\ninst 2 1 1 1 plain\ninst 3 1 1 1 plain\nmap 1 1 1 1\nmap 2 1 1 3\nrun 1 1 -\ncopy 1 2 1 1 2 1\ncopy 2 3 1 1 3 2\nrun 2 4 3\n",
         (2, 1, 5, 1),
-        Some(&[(LinkKind::Copy, 3, 3, 0), (LinkKind::Copy, 2, 2, 0), (LinkKind::Write, 1, 1, 0)]),
+        Some(&[
+            (LinkKind::Copy, 3, 3, 0),
+            (LinkKind::Copy, 2, 2, 0),
+            (LinkKind::Write, 1, 1, 0),
+        ]),
     ),
     (
         b"task 1\nreq 1 1 1 1 wd ex\ntask 2\nreq 2 1 1 1 red:1 ex\ntask 3\nreq 3 1 1 1 ro ex\ntask 4\nreq 4 1 1 1 red:1 ex\ninst 1 1 1 1 plain\ninst 2 1 1 1 plain\ninst 3 1 1 1 plain\nmap 1 1 1 1\nmap 2 1 1 2\nmap 3 1 1 3\nmap 4 1 1 2\nrun 1 1 -\ncopy 1 2 1 1 2 1\nrun 2 3 2\ncopy 2 3 1 1 4 3\nrun 4 5 4\nrun 3 6 4\n",
         (3, 1, 5, 1),
-        Some(&[(LinkKind::Copy, 4, 3, 0), (LinkKind::Copy, 2, 2, 1), (LinkKind::Write, 1, 1, 0)]),
+        Some(&[
+            (LinkKind::Copy, 4, 3, 0),
+            (LinkKind::Copy, 2, 2, 1),
+            (LinkKind::Write, 1, 1, 0),
+        ]),
     ),
     // A constant is put at one field, and the other holds what it held at the start.
     (
@@ -128,22 +136,33 @@ fn traced<'a, P: ArenaSet<'a>>(
 /// Whether links are those of a case.
 fn are_links(found: &[Link], links: Links<'_>) -> bool {
     found.len() == links.len()
-        && found
-            .iter()
-            .zip(links)
-            .all(|(link, row)| (link.kind, link.done, link.inst, link.adds) == *row)
+        && found.iter().zip(links).all(|(link, row)| (link.kind, link.done, link.inst, link.adds)
+            == *row)
 }
 
 /// Whether what is traced is what a case says.
+fn is_found(links: Result<Vec<Link>, TraceEnd>, found: Option<Links<'_>>) -> Result<bool, Fail> {
+    match (links, found) {
+        (Ok(links), Some(rows)) => Ok(are_links(links.as_slice(), rows)),
+        (Err(TraceEnd::NoRead), None) => Ok(true),
+        (Err(TraceEnd::Memory), _) => Err("no memory".into()),
+        _ => Ok(false),
+    }
+}
+
+/// Whether a log has the links that a case says.
 fn ask<'a, P: ArenaSet<'a>>(
     alloc: Global,
     log: &Log<'a, P>,
     read: Read,
     found: Option<Links<'_>>,
 ) -> Result<bool, Fail> {
-    if log.mapped().is_err() || serial_ok(log).is_err() {
-        return Err("a log with a fault".into());
+    if log.mapped().is_err() {
+        return Err("a requirement that is not mapped".into());
     }
+    let Ok(()) = serial_ok(log) else {
+        return Err("items that stand against program order".into());
+    };
     let nodes = nodes_in(alloc, log.nodes())?;
     let graph = graph_of(alloc, nodes)?;
     let Ok(order) = graph.order(alloc) else {
@@ -155,14 +174,9 @@ fn ask<'a, P: ArenaSet<'a>>(
     ) else {
         return Err("no memory".into());
     };
-    if scan(alloc, log, &graph, &order, &reach, &atoms).is_err() {
-        return Err("a race".into());
-    }
-    match (traced(alloc, log, &order, read), found) {
-        (Ok(links), Some(rows)) => Ok(are_links(links.as_slice(), rows)),
-        (Err(TraceEnd::NoRead), None) => Ok(true),
-        (Err(TraceEnd::Memory), _) => Err("no memory".into()),
-        _ => Ok(false),
+    match scan(alloc, log, &graph, &order, &reach, &atoms) {
+        Ok(()) => is_found(traced(alloc, log, &order, read), found),
+        Err(_) => Err("a race".into()),
     }
 }
 
