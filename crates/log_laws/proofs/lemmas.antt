@@ -9,6 +9,7 @@ pub mod Admitted
 pub mod StepLists
 pub mod Tidy
 pub mod Swap
+pub mod Turns
 pub mod Answers
 pub mod Laws
 pub mod Listed

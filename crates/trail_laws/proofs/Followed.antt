@@ -10,7 +10,7 @@ use Rattle.semantics.specs.Steps.{Step}
 use Rattle.semantics.specs.Execution.{same_cell}
 use Rattle.semantics.specs.Races.{Access, Untouched, Reads, Writes, Folds, at_cell, access, conflicts, IsCalm}
 use Rattle.semantics.specs.Links.{Touch, Leaves, Adds, Puts, Takes, touch, Source, with_last, sources_of, cell_read, ComesFrom}
-use Rattle.trail_laws.proofs.Turns.{SeesIn}
+use Rattle.log_laws.proofs.lemmas.Turns.{SeesIn}
 
 -- ---- what touches conflict with
 

@@ -1,5 +1,4 @@
 pub mod lemmas
-mod Turns
 mod Followed
 mod Told
 mod Away

@@ -8,7 +8,7 @@ use Rattle.privilege.specs.declared.kinds.Priv.TheVariants as privileges
 use Rattle.value_terms.specs.Values.{Value}
 use Rattle.spy_grammar.specs.declared.record.Lined.{Lined}
 use Rattle.spy_grammar.specs.Spelling.{Good}
-use Rattle.semantics.specs.declared.command.Command.TheVariants.{Check}
+use Rattle.semantics.specs.declared.command.Command.TheVariants.{Check, Why}
 use Rattle.semantics.specs.declared.links.Ask.{Ask}
 use Rattle.semantics.specs.declared.links.Link.{Link}
 use Rattle.semantics.specs.declared.links.LinkKind.TheVariants as kinds
@@ -37,7 +37,7 @@ use Rattle.log_laws.proofs.lemmas.Admitted.{IsFaultless, faultless}
 use Rattle.log_laws.proofs.lemmas.StepLists.{of_node}
 use Rattle.log_laws.proofs.lemmas.Tidy.{place, is_of, read_is, change_of, change_tells, reads, changes}
 use Rattle.log_laws.proofs.lemmas.Laws.{faultless_linked, faultless_tidy, replay_interleaves}
-use Rattle.trail_laws.proofs.Turns.{seen_once, once, all_agree}
+use Rattle.log_laws.proofs.lemmas.Turns.{seen_once, once, all_agree}
 use Rattle.trail_laws.proofs.Followed.{Origins, follow, looks, held, seen_from, from_seen, turn, keep}
 use Rattle.trail_laws.proofs.Told.{HasNoAdds, KeepsAway, own_put, own_value, last_value, told, shows_start, reads_member, comes}
 use Rattle.trail_laws.proofs.Away.{steps_kept}
@@ -128,6 +128,11 @@ module _ (t : Tables) (graph : AreLinked (graph_of t.nodes)) (ask : Ask) where
 
 -- ---- the links of a read
 
+-- The faults that are asked for with a read are those of a check.
+pub why_faults : (ask : Ask) (lines : ℕ) (log : List Lined) → log_fault (Why ask) lines log ≡ log_fault Check lines log
+unfolding log_fault
+why_faults ask lines log = refl
+
 module _ (lines : ℕ) (log : List Lined) (good : AllByRecursion Good (records_of log)) (none : log_fault Check lines log ≡ None) (no_cycle : HasNoCycle (tables_of log)) where
   abbrev t : Tables
   t = tables_of log
@@ -186,7 +191,7 @@ module _ (lines : ℕ) (log : List Lined) (good : AllByRecursion Good (records_o
   module _ (free : IsRaceFree (tables_of log)) where
     -- What a read came from in one interleaving it came from in every other.
     pub alike : (xs ys : List Step) → IsInterleaving t xs → IsInterleaving t ys → (x : Step) (ls : List Source) → ComesFrom [] xs x ls → ComesFrom [] ys x ls
-    alike xs ys a b x ls h = from_seen [] ys x ls (all_agree Origins (List Source) follow looks turn keep t (faultless_tidy lines log none) free xs ys a b (held []) x ls (seen_from [] xs x ls h))
+    alike xs ys a b x ls h = from_seen [] ys x ls ((all_agree Origins (List Source) follow looks turn keep t (faultless_tidy lines log none) free ys xs b a).sights (held []) x ls (seen_from [] xs x ls h))
 
     -- So what it came from in the replay is its trail.
     pub trail_of_replay : (x : Step) (ls : List Source) → ComesFrom [] (replay_steps t) x ls → IsTrail t x ls

@@ -2,7 +2,7 @@ use Rattle.std.proofs.Common.{sym}
 use Rattle.semantics.specs.Tables.{tables_of}
 use Rattle.log_laws.proofs.lemmas.Laws.{faultless_tidy}
 use Rattle.log_laws.proofs.lemmas.Swap.{swapped_state, swapped_sight}
-use Rattle.log_laws.proofs.Reorder.{calm}
+use Rattle.log_laws.proofs.lemmas.Turns.{calm}
 use Rattle.log_laws.proofs.Swapped.{swapped}
 use Rattle.log_laws.proofs.step_laws.neighbours_may_change_places.Goals as goal
 
