@@ -72,7 +72,7 @@ listed_lines (Spare list waits) = map spare_line list
 listed_lines (Why ask links) = map link_line links
 listed_lines f = []
 
--- A report's own line stands before those that it lists.
+-- Whether a report's own line stands before those that it lists: that of links does.
 abbrev pub is_headed : Finding → Bool
 is_headed (Why ask links) = true
 is_headed f = false
@@ -124,14 +124,14 @@ IsInRange (holds v) = IsHeld v
 abbrev pub Fits : Line → Type 0
 Fits l = AllByRecursion IsInRange l.row
 
--- The start alone has no event.
+-- Whether a link has its event, which is not 0, and none if it is the start.
 abbrev pub has_its_event : WhyLink → Bool
 has_its_event l = elim l.kind [
   | Start ↦ l.done == 0
   | _ ↦ not (l.done == 0)
 ]
 
--- Links are a chain: behind a copy stands a chain, and any other link is the last.
+-- Whether links are a chain, so that all but the last are copies, and the last is none: behind a copy stands a chain, and behind any other link none.
 abbrev pub is_chain : List WhyLink → Bool
 is_chain [] = false
 is_chain (l ∷ ls) = has_its_event l && (elim l.kind [

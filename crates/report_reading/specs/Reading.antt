@@ -60,7 +60,7 @@ report_at listed ws =
 abbrev pub last_place : List (List ℕ) → ℕ
 last_place lines = length lines - 2
 
--- A report's own line stands first: it is that of links.
+-- Whether a report's own line stands first: it is then that of links.
 abbrev pub is_headed : List (List ℕ) → Bool
 is_headed lines = bytes_eq (word_at (parts 32 (word_at lines 0)) 0) (codes "why")
 

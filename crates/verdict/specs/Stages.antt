@@ -28,6 +28,12 @@ abbrev pub FindsRace : Tables → Finding → Type 0
 FindsRace t (findings.Race a b inst point field) = CheckFinds t (findings.Race a b inst point field)
 FindsRace t _ = ⊥
 
+-- The first of a cycle and a race: `check` and `why` find it alike.
+abbrev pub FindsUnclean : Tables → Finding → Type 0
+FindsUnclean t (findings.Cycle events) = FindsCycle t (findings.Cycle events)
+FindsUnclean t (findings.Race a b inst point field) = FindsRace t (findings.Race a b inst point field)
+FindsUnclean t _ = ⊥
+
 abbrev pub FindsDifference : Tables → Finding → Type 0
 FindsDifference t (findings.Differ task number point field got want) = CheckFinds t (findings.Differ task number point field got want)
 FindsDifference t _ = ⊥

@@ -5,8 +5,9 @@ ghost use Rattle.findings.specs.Texts as texts;
 ghost use Rattle.semantics.specs.declared.command.Command.TheVariants.{Check};
 ghost use Rattle.outcomes.specs.Outcome.{CheckFinds};
 ghost use Rattle.log_findings.specs.Findings.{IsFoundOf};
-ghost use Rattle.verdict.specs.Stages.{IsStop};
+ghost use Rattle.verdict.specs.Stages.{FindsUnclean, IsStop};
 
+use crate::clean::Clean;
 use crate::declared::Declared;
 use crate::judged::Judged;
 use crate::stop::Stop;
@@ -16,8 +17,23 @@ use memory::Memory;
 use region_tree::ArenaSet;
 use std::alloc::Global;
 
-/// A log that passes all stages after its rules, or what stops it.
+/// A log without a cycle and a race, or the first of them.
 #[tactic(auto, using(crate::proofs::Stages::stop_of_cycle))]
+pub(crate) fn cleaned<'a, P: ArenaSet<'a>>(
+    alloc: Global,
+    declared: Declared<'a, P>,
+) -> Result<Clean<'a, P>, Stop>
+    ensures clean { IfOk result (λ c. c ≡ declared.entry) }
+    ensures stop { IfErr result (IsStop (FindsUnclean declared.entry)) }
+{
+    match declared.sort(alloc) {
+        Ok(sorted) => sorted.scan(alloc),
+        Err(stop) => Err(stop),
+    }
+}
+
+/// A log that passes all stages after its rules, or what stops it.
+#[tactic(auto, using(crate::proofs::Stages::stop_of_unclean))]
 fn passed<'a, P: ArenaSet<'a>>(
     alloc: Global,
     declared: Declared<'a, P>,
@@ -25,11 +41,8 @@ fn passed<'a, P: ArenaSet<'a>>(
     ensures judged { IfOk result (λ j. j ≡ declared.entry) }
     ensures stop { IfErr result (IsStop (CheckFinds declared.entry)) }
 {
-    match declared.sort(alloc) {
-        Ok(sorted) => match sorted.scan(alloc) {
-            Ok(clean) => clean.replay(alloc),
-            Err(stop) => Err(stop),
-        },
+    match cleaned(alloc, declared) {
+        Ok(clean) => clean.replay(alloc),
         Err(stop) => Err(stop),
     }
 }

@@ -3,7 +3,8 @@
 ghost use Rattle.std.specs.Prelude.{◌≡◌, IfOk, IfErr, OnOk};
 ghost use Rattle.semantics.specs.Events.{HasNoCycle};
 ghost use Rattle.semantics.specs.Races.{IsRaceFree};
-ghost use Rattle.outcomes.specs.Outcome.{IsSound};
+ghost use Rattle.findings.specs.Texts as texts;
+ghost use Rattle.outcomes.specs.Outcome.{IsSound, WhyFinds};
 ghost use Rattle.long_values.specs.LongOutcome.{CheckFindsLong, IsSoundLong};
 ghost use Rattle.verdict.specs.Stages.{FindsDifference, IsStop};
 ghost use Rattle.log_findings.specs.Faultless.{AreFaultless};
@@ -11,8 +12,11 @@ ghost use Rattle.log_findings.specs.Faultless.{AreFaultless};
 use crate::judged::Judged;
 use crate::sorted::Sorted;
 use crate::stop::Stop;
+use findings::Finding;
+use memory::Memory;
 use point_set::PointSet;
 use region_tree::ArenaSet;
+use semantics::Ask;
 use std::alloc::Global;
 use std::marker::Model;
 
@@ -49,6 +53,19 @@ impl<'a, P: ArenaSet<'a>> Clean<'a, P> {
         ensures free { IsRaceFree self.now }
     {
         self.sorted.has_no_cycle();
+    }
+
+    /// What `why` finds: the links of the read that is asked for, or that there is none.
+    pub fn read_finding(&self, alloc: Global, ask: &Ask) -> Result<Finding, Memory>
+        ensures found { IfOk result (WhyFinds self.now ask.now) }
+        ensures text { IfOk result texts.Good }
+    {
+        self.sorted.read_finding(alloc, ask)
+    }
+
+    /// Lets the log go.
+    pub(crate) fn let_go(self) {
+        self.sorted.let_go();
     }
 
     /// The log, if each of its reads is right in every interleaving, or the read that is shown to differ in every interleaving. Told by long values, it is the same.

@@ -3,12 +3,13 @@
 ghost use Rattle.std.specs.Prelude.{◌≡◌, All, IfOk};
 ghost use Rattle.findings.specs.Texts as texts;
 ghost use Rattle.spy_grammar.specs.Spelling.{Good};
-ghost use Rattle.semantics.specs.declared.command.Command.TheVariants.{Check, Deps, Ordered, Spare};
+ghost use Rattle.semantics.specs.declared.command.Command.TheVariants.{Check, Deps, Ordered, Spare, Why};
 ghost use Rattle.outcomes.specs.Outcome.{IsFound};
 ghost use Rattle.long_values.specs.LongOutcome.{IsFoundLong};
 ghost use Rattle.semantics.specs.Records.{AreLines};
 ghost use Rattle.log_findings.specs.Findings.{IsFoundOf};
 
+use crate::asking::why_in;
 use crate::checking::check_in;
 use bumpalo::Bump;
 use findings::Finding;
@@ -18,7 +19,7 @@ use logs::Log;
 use memory::Memory;
 use point_set::RunSet;
 use region_tree::ArenaSet;
-use semantics::Command;
+use semantics::{Ask, Command};
 use spy_grammar::Lined;
 use std::alloc::Global;
 
@@ -48,6 +49,7 @@ fn found_in<'a, P: ArenaSet<'a>>(
             log.let_go();
             found
         }
+        Command::Why(ask) => why_in(alloc, log, &ask),
     }
 }
 
@@ -110,4 +112,14 @@ pub fn spare(alloc: Global, records: &Vec<Lined>, lines: u32) -> Result<Finding,
     ensures text { IfOk result texts.Good }
 {
     find(alloc, Command::Spare, records, lines)
+}
+
+/// What `why` finds: the fault that is shown, a cycle, a race, the links from a read back to where its value came from, or that the log has no such read. What the links say is so in every interleaving.
+pub fn why(alloc: Global, records: &Vec<Lined>, lines: u32, ask: &Ask) -> Result<Finding, Memory>
+    requires good { All (λ l. Good l.rec) records.now.items }
+    requires lines { AreLines lines records.now.items }
+    ensures found { IfOk result (IsFound (Why ask.now) lines records.now.items) }
+    ensures text { IfOk result texts.Good }
+{
+    find(alloc, Command::Why(*ask), records, lines)
 }

@@ -1,6 +1,7 @@
 //! What each command finds in the records of a log.
 #![tactic(auto)]
 
+mod asking;
 mod checking;
 mod clean;
 mod commands;
@@ -11,7 +12,7 @@ mod sorted;
 mod stop;
 
 pub use clean::Clean;
-pub use commands::{check, deps, find, ordered, spare};
+pub use commands::{check, deps, find, ordered, spare, why};
 pub use declared::Declared;
 pub use judged::Judged;
 pub use memory::Memory;

@@ -4,7 +4,8 @@ ghost use Rattle.std.specs.Prelude.{◌≡◌, None, IfOk, IfErr, OnOk};
 ghost use Rattle.semantics.specs.declared.command.Command.TheVariants.{Check};
 ghost use Rattle.semantics.specs.Counts.{read_count};
 ghost use Rattle.semantics.specs.Events.{graph_of, HasNoCycle};
-ghost use Rattle.outcomes.specs.Outcome.{IsSound};
+ghost use Rattle.findings.specs.Texts as texts;
+ghost use Rattle.outcomes.specs.Outcome.{IsSound, WhyFinds};
 ghost use Rattle.long_values.specs.LongOutcome.{CheckFindsLong, IsSoundLong};
 ghost use Rattle.semantics.specs.Races.{IsRaceFree};
 ghost use Rattle.point_laws.specs.Alike.{AreFirsts};
@@ -19,11 +20,15 @@ use crate::clean::Clean;
 use crate::reads::judged_reads;
 use crate::stop::Stop;
 use atoms::Atoms;
+use findings::Finding;
 use log_findings::{Sorting, Unsorted, cycle_found, event_at, race_found, sort_log};
 use logs::Log;
+use memory::Memory;
 use point_set::PointSet;
 use race_scan::{ScanEnd, scan};
+use read_findings::read_finding;
 use region_tree::ArenaSet;
+use semantics::Ask;
 use std::alloc::Global;
 use std::marker::Model;
 
@@ -181,6 +186,15 @@ impl<'a, P: ArenaSet<'a>> Sorted<'a, P> {
         ensures stop_long { IfErr result (IsStop (CheckFindsLong self.now)) }
     {
         judged_reads(alloc, &self.log, &self.sorting, &self.atoms)
+    }
+
+    /// What `why` finds: the links of the read that is asked for, or that there is none.
+    pub(crate) fn read_finding(&self, alloc: Global, ask: &Ask) -> Result<Finding, Memory>
+        requires { IsRaceFree self.now }
+        ensures found { IfOk result (WhyFinds self.now ask.now) }
+        ensures text { IfOk result texts.Good }
+    {
+        read_finding(alloc, &self.log, &self.sorting.order, ask)
     }
 
     /// The log, if no two of its nodes race, or the race that is shown.

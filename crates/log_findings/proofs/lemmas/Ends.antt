@@ -18,7 +18,7 @@ use Rattle.semantics.specs.declared.command.Command.TheVariants as commands
 use Rattle.semantics.specs.Records.{records_of}
 use Rattle.semantics.specs.Tables.{Tables, with_record, tables_of, no_tables}
 use Rattle.semantics.specs.Events.{AreLinked, graph_of}
-use Rattle.semantics.specs.Faults.{at_line, declaration_fault, serial_fault, log_fault}
+use Rattle.semantics.specs.Faults.{at_line, declaration_fault, serial_fault, unmapped_fault, log_fault}
 use Rattle.semantics.specs.declared.links.Ask.{Ask}
 use Rattle.outcomes.specs.Outcome.{IsFound, CheckFinds, WhyFinds}
 use Rattle.semantics.specs.Rules.{is_late}
@@ -114,6 +114,10 @@ few_declared_nodes t are = let few = capped are.lines are.log are.faultless in o
 -- Tables that keep each rule of `check` keep the serial order.
 pub serial_of : (t : Tables) → table_fault commands.Check t ≡ None → serial_fault t ≡ None
 serial_of t none = (both_none (serial_fault t) _ none).0
+
+-- And each field of a requirement is mapped there.
+pub mapped_of : (t : Tables) → table_fault commands.Check t ≡ None → unmapped_fault t ≡ None
+mapped_of t none = (both_none (serial_fault t) _ none).1
 
 pub few_declared_items : (t : Tables) → AreDeclared t → length t.items < 2 ^ 32
 few_declared_items t are = let few = capped are.lines are.log are.faultless in omega (arith, few.items, ap (λ (s : Tables). length s.items) are.tables)
