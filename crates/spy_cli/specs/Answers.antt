@@ -60,6 +60,7 @@ status_of (findings.Accepted tasks operations reads) = statuses.Yes
 status_of (findings.Ordered tasks pairs) = statuses.Yes
 status_of (findings.Deps list items before turn) = statuses.Yes
 status_of (findings.Spare list waits) = statuses.Yes
+status_of (findings.Why ask links) = statuses.Yes
 status_of (findings.Fault line code) = statuses.Fault
 status_of findings.Usage = statuses.Usage
 status_of findings.CannotRead = statuses.ReadFault

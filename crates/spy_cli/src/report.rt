@@ -26,11 +26,13 @@ fn status_of(finding: &Finding) -> Status
         Finding::Accepted { .. }
         | Finding::Ordered { .. }
         | Finding::Deps { .. }
-        | Finding::Spare { .. } => Status::Yes,
+        | Finding::Spare { .. }
+        | Finding::Why { .. } => Status::Yes,
         Finding::Cycle { .. }
         | Finding::Race { .. }
         | Finding::Unordered { .. }
-        | Finding::Differ { .. } => Status::Refused,
+        | Finding::Differ { .. }
+        | Finding::NoRead { .. } => Status::Refused,
         Finding::Fault { .. } => Status::Fault,
         Finding::Usage => Status::Usage,
         Finding::CannotRead => Status::ReadFault,
