@@ -8,7 +8,7 @@ use value_terms::{Base, Contribution};
 
 /// Each form of a report, with the least and the greatest numbers, and each form of a value.
 #[rattlefmt::skip]
-const REPORTS: [&str; 19] = [
+const REPORTS: [&str; 23] = [
     "accepted tasks 0 operations 0 reads 0\n",
     "accepted tasks 4294967295 operations 4294967295 reads 18446744073709551615\n",
     "ordered tasks 4294967295 pairs 18446744073709551615\n",
@@ -24,6 +24,10 @@ const REPORTS: [&str; 19] = [
     "differ task 4294967295 req 4294967295 point 18446744073709551615 field 4294967295 got const:0 want out:4294967295\n",
     "differ task 1 req 1 point 1 field 1 got ident want const:4294967295+4294967295[0.0*1,4294967295.4294967295*18446744073709551614]\n",
     "differ task 1 req 1 point 1 field 1 got const:7+1[1.2*1,1.3*1,2.1*1]+2[1.1*1]+1[1.1*1] want ident+0[9.9*18446744073709551615]\n",
+    "no read task 0 req 0 point 0 field 0\n",
+    "no read task 4294967295 req 4294967295 point 18446744073709551615 field 4294967295\n",
+    "why task 0 req 0 point 0 field 0\nstart inst 0 adds 0\n",
+    "why task 4294967295 req 4294967295 point 18446744073709551615 field 4294967295\ncopy 4294967295 inst 4294967295 adds 4294967295\ncopy 1 inst 2 adds 3\nput 2 inst 1 adds 0\n",
     "fault 0 too-long\n",
     "fault 4294967295 unmapped\n",
     "usage\n",
@@ -32,7 +36,7 @@ const REPORTS: [&str; 19] = [
 
 /// Texts that are nearly those of reports.
 #[rattlefmt::skip]
-const OTHERS: [&str; 20] = [
+const OTHERS: [&str; 29] = [
     "",
     "accepted tasks 4294967296 operations 0 reads 0\n",
     "accepted tasks 00 operations 0 reads 0\n",
@@ -45,6 +49,15 @@ const OTHERS: [&str; 20] = [
     "spare 4 1\nspare waits 0 of 3\n",
     "spare 4 1\nspare waits 1 of 0\n",
     "spare 4 4294967296\nspare waits 1 of 1\n",
+    "no read task 1 req 1 point 18446744073709551616 field 1\n",
+    "why task 1 req 1 point 0 field 1\n",
+    "why task 1 req 1 point 0 field 1\ncopy 1 inst 1 adds 0\n",
+    "why task 1 req 1 point 0 field 1\nwrite 1 inst 1 adds 0\nstart inst 1 adds 0\n",
+    "why task 1 req 1 point 0 field 1\nwrite 0 inst 1 adds 0\n",
+    "why task 1 req 1 point 0 field 1\nstart 0 inst 1 adds 0\n",
+    "why task 1 req 1 point 0 field 1\nfold 1 inst 1 adds 0\n",
+    "start inst 1 adds 0\nwhy task 1 req 1 point 0 field 1\n",
+    "why task 1 req 1 point 0 field 1\nusage\n",
     "cycle\n",
     "race 1 2 inst 1 point 0 field 1",
     "differ task 3 req 1 point 0 field 1 got raw want init+1[]\n",

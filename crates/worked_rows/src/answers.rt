@@ -45,6 +45,15 @@ pub fn answer_to(alloc: Global, texts: &[&str], log: &[u8]) -> Result<(Status, V
     Ok((status, sink.held().to_vec(alloc)?))
 }
 
+/// The status of `why` over an input, and what it writes: the read is told by the task, the requirement, the point and the field.
+pub fn answer_why(alloc: Global, read: [&str; 4], log: &[u8]) -> Result<(Status, Vec<u8>), Fail> {
+    let [task, req, point, field] = read;
+    let words = [
+        "why", "--task", task, "--req", req, "--point", point, "--field", field,
+    ];
+    answer_to(alloc, &words, log)
+}
+
 /// The log with another text in the place of one line, counted from 1.
 pub fn with_line(alloc: Global, log: &[u8], number: usize, text: &[u8]) -> Result<Vec<u8>, Fail> {
     let mut changed = Vec::new(alloc);

@@ -612,3 +612,48 @@ map 5 1 1 2
 run 5 8 4,5
 end 37
 ";
+
+/// A copy into a halo, taken before the point that it carries is changed.
+pub const EARLY_HALO: &[u8] = b"legion-spy 1
+# The same two pieces, but the copy of point 4 into the halo of the left piece is taken before task 3 changes it.
+# Task 4 waits for task 3 and for the copy, and still reads there what the put left.
+ispace 1 0-7
+part 1 1 disjoint
+part 2 1 aliased
+ispace 2 0-3
+sub 1 0 2
+ispace 3 4-7
+sub 1 1 3
+ispace 4 0-4
+sub 2 0 4
+ispace 5 3-7
+sub 2 1 5
+ispace 6 3
+ispace 7 4
+fields 1 1
+tree 1 1 1
+inst 1 1 4 1 plain
+inst 2 1 5 1 plain
+fill 1 1 1 1 0
+put 1 4 1 0 1 -
+put 2 5 1 0 2 -
+task 2
+req 2 1 2 1 rw ex
+map 2 1 1 1
+run 2 3 1
+task 3
+req 3 1 3 1 rw ex
+map 3 1 1 2
+copy 2 1 7 1 6 1,2
+run 3 4 2,6
+copy 1 2 6 1 5 2,3
+task 4
+req 4 1 4 1 ro ex
+map 4 1 1 1
+run 4 7 3,4,6
+task 5
+req 5 1 5 1 ro ex
+map 5 1 1 2
+run 5 8 4,5
+end 38
+";

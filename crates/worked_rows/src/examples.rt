@@ -1,12 +1,14 @@
 //! The logs of the folder `examples` with their reports, as its page lists them, and the faults of the logs that `docs/FORMAT.md` gives as examples. `.ci/examples` holds the files and the pages against these tables.
 
-use crate::answers::answer;
+use crate::answers::{answer, answer_why};
 use crate::example_logs::{
-    FILL_NEVER_PUT, FOLDED_EARLY, FOLDED_TWICE, FRESH_COPY, FULL_BARRIERS, GATHERED_REDUCTIONS,
-    HALO_EXCHANGE, HALO_STENCIL, HALO_STENCIL_UNORDERED, MERGED_WAITS, MISSING_COPY, MISSING_WAIT,
-    NEVER_EMPTIED, STALE_COPY, STALE_HALO, TURNED_WRITES, TWO_OPERATORS, TWO_TASKS,
-    TWO_TASKS_UNORDERED, UNSTATED_TURN, WAITS_IN_A_CYCLE, WRITE_THEN_READ, WRITER_APART,
+    EARLY_HALO, FILL_NEVER_PUT, FOLDED_EARLY, FOLDED_TWICE, FRESH_COPY, FULL_BARRIERS,
+    GATHERED_REDUCTIONS, HALO_EXCHANGE, HALO_STENCIL, HALO_STENCIL_UNORDERED, MERGED_WAITS,
+    MISSING_COPY, MISSING_WAIT, NEVER_EMPTIED, STALE_COPY, STALE_HALO, TURNED_WRITES,
+    TWO_OPERATORS, TWO_TASKS, TWO_TASKS_UNORDERED, UNSTATED_TURN, WAITS_IN_A_CYCLE,
+    WRITE_THEN_READ, WRITER_APART,
 };
+use spy_cli::Status;
 use std::alloc::Global;
 use std::test::Fail;
 
@@ -26,7 +28,7 @@ fn without_comments(alloc: Global, log: &[u8]) -> Result<Vec<u8>, Fail> {
 #[test]
 fn examples_have_their_reports(rt: HostRuntime) -> Result<(), Fail> {
     let alloc = rt.alloc();
-    let rows: [(&[u8], &[u8], &[u8]); 23] = [
+    let rows: [(&[u8], &[u8], &[u8]); 24] = [
         (WRITE_THEN_READ, b"accepted tasks 2 operations 2 reads 4\n", b"ordered tasks 2 pairs 1\n"),
         (MISSING_WAIT, b"race 1 2 inst 1 point 0 field 1\n", b"unordered 1 2 tree 1 point 0 field 1\n"),
         (MERGED_WAITS, b"accepted tasks 3 operations 3 reads 8\n", b"ordered tasks 3 pairs 2\n"),
@@ -46,6 +48,7 @@ fn examples_have_their_reports(rt: HostRuntime) -> Result<(), Fail> {
         (UNSTATED_TURN, b"differ task 2 req 1 point 0 field 1 got init want out:1\n", b"unordered 1 2 tree 1 point 0 field 1\n"),
         (HALO_EXCHANGE, b"accepted tasks 4 operations 8 reads 18\n", b"ordered tasks 4 pairs 4\n"),
         (STALE_HALO, b"differ task 4 req 1 point 4 field 1 got const:0 want out:3\n", b"ordered tasks 4 pairs 4\n"),
+        (EARLY_HALO, b"differ task 4 req 1 point 4 field 1 got const:0 want out:3\n", b"ordered tasks 4 pairs 4\n"),
         (TWO_TASKS, b"fault 6 unmapped\n", b"ordered tasks 2 pairs 1\n"),
         (TWO_TASKS_UNORDERED, b"fault 6 unmapped\n", b"unordered 1 2 tree 1 point 0 field 1\n"),
         (HALO_STENCIL, b"fault 23 unmapped\n", b"ordered tasks 6 pairs 7\n"),
@@ -78,6 +81,26 @@ fn examples_have_their_lists(rt: HostRuntime) -> Result<(), Fail> {
     for (command, log, listed) in rows {
         let (_, said) = answer(alloc, command, log)?;
         assert_eq!(rt; said.as_slice(), listed);
+    }
+    Ok(())
+}
+
+#[rattlefmt::skip]
+#[test]
+fn examples_tell_where_values_came_from(rt: HostRuntime) -> Result<(), Fail> {
+    let alloc = rt.alloc();
+    let rows: [(&[u8], [&str; 4], &[u8]); 6] = [
+        (STALE_COPY, ["3", "1", "0", "1"], b"why task 3 req 1 point 0 field 1\ncopy 2 inst 2 adds 0\nwrite 1 inst 1 adds 0\n"),
+        (FRESH_COPY, ["3", "1", "0", "1"], b"why task 3 req 1 point 0 field 1\ncopy 3 inst 2 adds 0\nwrite 2 inst 1 adds 0\n"),
+        (MISSING_COPY, ["2", "1", "0", "1"], b"why task 2 req 1 point 0 field 1\nstart inst 2 adds 0\n"),
+        (EARLY_HALO, ["4", "1", "4", "1"], b"why task 4 req 1 point 4 field 1\ncopy 6 inst 1 adds 0\nput 2 inst 2 adds 0\n"),
+        (STALE_HALO, ["4", "1", "4", "1"], b"why task 4 req 1 point 4 field 1\nput 1 inst 1 adds 0\n"),
+        (FOLDED_TWICE, ["3", "1", "0", "1"], b"why task 3 req 1 point 0 field 1\nstart inst 1 adds 2\n"),
+    ];
+    for (log, read, links) in rows {
+        let (status, said) = answer_why(alloc, read, log)?;
+        assert!(rt; status == Status::Yes);
+        assert_eq!(rt; said.as_slice(), links);
     }
     Ok(())
 }

@@ -20,4 +20,6 @@ mod printed;
 #[cfg(test)]
 mod rows;
 #[cfg(test)]
+mod whys;
+#[cfg(test)]
 mod words;

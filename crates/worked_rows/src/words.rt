@@ -13,7 +13,7 @@ use std::test::Fail;
 #[test]
 fn words_that_read_nothing(rt: HostRuntime) -> Result<(), Fail> {
     let alloc = rt.alloc();
-    let rows: [(&[&str], Status, &[u8]); 22] = [
+    let rows: [(&[&str], Status, &[u8]); 24] = [
         (&[], Status::Usage, b"usage\n"),
         (&[""], Status::Usage, b"usage\n"),
         (&["orderd"], Status::Usage, b"usage\n"),
@@ -28,6 +28,8 @@ fn words_that_read_nothing(rt: HostRuntime) -> Result<(), Fail> {
         (&["demo", "--size", "501"], Status::Usage, b"usage\n"),
         (&["demo", "--size", "016"], Status::Usage, b"usage\n"),
         (&["demo", "--size", "4", "--size", "4"], Status::Usage, b"usage\n"),
+        (&["demo", "--size", "4", "--task", "1"], Status::Usage, b"usage\n"),
+        (&["why", "--size", "4"], Status::Usage, b"usage\n"),
         // The stencil log, of a row of pieces with halos, over ten steps.
         (&["demo", "--size", "1"], Status::Yes, b"accepted tasks 20 operations 21 reads 300\n"),
         (&["demo", "--size", "2"], Status::Yes, b"accepted tasks 40 operations 62 reads 620\n"),
@@ -47,6 +49,43 @@ fn words_that_read_nothing(rt: HostRuntime) -> Result<(), Fail> {
         assert!(rt; ended == status);
         assert_eq!(rt; sink.held(), report);
         assert_eq!(rt; source.left(), WRITE_THEN_READ);
+    }
+    Ok(())
+}
+
+/// Options of `why`: each has to be there once, with a number and no zero before it, and no other command has them.
+#[rattlefmt::skip]
+#[test]
+fn words_of_a_read(rt: HostRuntime) -> Result<(), Fail> {
+    let alloc = rt.alloc();
+    let rows: [(&[&str], Status, &[u8]); 22] = [
+        (&["why", "--task", "2", "--req", "1", "--point", "0", "--field", "1"], Status::Yes, b"why task 2 req 1 point 0 field 1\nwrite 1 inst 1 adds 0\n"),
+        (&["--field=1", "why", "--point=0", "--req=1", "--task=2"], Status::Yes, b"why task 2 req 1 point 0 field 1\nwrite 1 inst 1 adds 0\n"),
+        (&["why"], Status::Usage, b"usage\n"),
+        (&["why", "2", "1", "0", "1"], Status::Usage, b"usage\n"),
+        (&["why", "--req", "1", "--point", "0", "--field", "1"], Status::Usage, b"usage\n"),
+        (&["why", "--task", "2", "--point", "0", "--field", "1"], Status::Usage, b"usage\n"),
+        (&["why", "--task", "2", "--req", "1", "--field", "1"], Status::Usage, b"usage\n"),
+        (&["why", "--task", "2", "--req", "1", "--point", "0"], Status::Usage, b"usage\n"),
+        (&["why", "--task", "2", "--req", "1", "--point", "0", "--field"], Status::Usage, b"usage\n"),
+        (&["why", "--task", "2", "--req", "1", "--point", "0", "--field", "1", "--field", "1"], Status::Usage, b"usage\n"),
+        (&["why", "--task", "2", "--req", "1", "--point", "0", "--field", "1", "--size", "4"], Status::Usage, b"usage\n"),
+        (&["why", "--task", "2", "--req", "1", "--point", "0", "--field", "1", "x"], Status::Usage, b"usage\n"),
+        (&["why", "--task", "02", "--req", "1", "--point", "0", "--field", "1"], Status::Usage, b"usage\n"),
+        (&["why", "--task", "2", "--req", "1", "--point", "00", "--field", "1"], Status::Usage, b"usage\n"),
+        (&["why", "--task", "2", "--req", "+1", "--point", "0", "--field", "1"], Status::Usage, b"usage\n"),
+        (&["why", "--task", "2", "--req", "1", "--point", "-1", "--field", "1"], Status::Usage, b"usage\n"),
+        (&["why", "--task", "2", "--req", "1", "--point", "", "--field", "1"], Status::Usage, b"usage\n"),
+        (&["why", "--task", "4294967296", "--req", "1", "--point", "0", "--field", "1"], Status::Usage, b"usage\n"),
+        (&["why", "--task", "2", "--req", "4294967296", "--point", "0", "--field", "1"], Status::Usage, b"usage\n"),
+        (&["why", "--task", "2", "--req", "1", "--point", "18446744073709551616", "--field", "1"], Status::Usage, b"usage\n"),
+        (&["why", "--task", "2", "--req", "1", "--point", "0", "--field", "4294967296"], Status::Usage, b"usage\n"),
+        (&["check", "--task", "2", "--req", "1", "--point", "0", "--field", "1"], Status::Usage, b"usage\n"),
+    ];
+    for (texts, status, report) in rows {
+        let (ended, said) = answer_to(alloc, texts, WRITE_THEN_READ)?;
+        assert_eq!(rt; said.as_slice(), report);
+        assert!(rt; ended == status);
     }
     Ok(())
 }
