@@ -31,8 +31,7 @@ use Rattle.log_laws.proofs.lemmas.Members.{Member, member_of, contains_of, membe
 use Rattle.log_laws.proofs.lemmas.Cycles.{cycle_is_stuck, none_shown, shown_is_cycle}
 use Rattle.log_laws.proofs.lemmas.Rounds.{before_met}
 use Rattle.log_laws.proofs.lemmas.Laws.{faultless_linked}
-use Rattle.trail_laws.proofs.lemmas.Trails.{some_list}
-use Rattle.outcomes.proofs.lemmas.Found.{why_as_check}
+use Rattle.trail_laws.proofs.lemmas.Trails.{some_list, why_faults}
 use Rattle.semantics.specs.declared.places.Cell.{Cell}
 use Rattle.semantics.specs.declared.links.Ask.{Ask}
 use Rattle.semantics.specs.declared.links.Link.{Link}
@@ -228,7 +227,7 @@ some_found command lines log laws reads = elim (none_or_some (log_fault command 
     finds commands.Ordered none reads laws = ordered_finds (tables_of log) laws
     finds commands.Deps none reads laws = deps_finds (tables_of log)
     finds commands.Spare none reads laws = spare_finds (tables_of log) laws
-    finds (commands.Why ask) none reads laws = why_finds (tables_of log) laws ask ((reads (sym (why_as_check ask lines log) ∙ none)).links ask)
+    finds (commands.Why ask) none reads laws = why_finds (tables_of log) laws ask ((reads (sym (why_faults ask lines log) ∙ none)).links ask)
 
 -- A command finds something in each log.
 pub found_in : (command : Command) (lines : ℕ) (log : List Lined) → AllByRecursion Good (records_of log) → (f : Finding) × IsFound command lines log f

@@ -31,7 +31,7 @@ use Rattle.log_laws.proofs.lemmas.Laws.{faultless_linked, replay_interleaves}
 use Rattle.log_laws.proofs.lemmas.ReadLogs.{held_is_good, one_read}
 use Rattle.outcomes.specs.Outcome.{ShowsCycle, ShowsRace, ShowsPair, ShowsSpare, ShowsDifference, CheckFinds, OrderedFinds, DepsFinds, SpareFinds, ShowsLinks, WhyFinds, Finds, IsFound, events_of_wait, before_count, link_shown, IsOutcome}
 use Rattle.spare_laws.proofs.lemmas.OneList.{one_list}
-use Rattle.trail_laws.proofs.lemmas.Trails.{one_list as one_trail}
+use Rattle.trail_laws.proofs.lemmas.Trails.{one_list as one_trail, why_faults}
 use Rattle.semantics.specs.declared.links.Ask.{Ask}
 use Rattle.semantics.specs.declared.links.Link.{Link}
 use Rattle.semantics.specs.Links.{AreLinksOf, IsNoRead}
@@ -97,14 +97,13 @@ all_replayed t linked none k lt =
 orderly : (lines : ℕ) (log : List Lined) → AllByRecursion Good (records_of log) → log_fault commands.Check lines log ≡ None → AreOrderly (tables_of log)
 orderly lines log good clear = record { replayed = all_replayed (tables_of log) (faultless_linked commands.Check lines log good clear); interleaved = replay_interleaves lines log good clear }
 
--- What the laws say of the links of a read.
-pub record IsOneTrail (t : Tables) (ask : Ask) : Type 0 where
-  pub one : HasNoCycle t → (ls ms : List Link) → AreLinksOf t ask ls → AreLinksOf t ask ms → ls ≡ ms
-  pub not_both : (ls : List Link) → AreLinksOf t ask ls → IsNoRead t ask → ⊥
+-- A read has one list of links.
+abbrev IsOneTrail : Tables → Ask → Type 0
+IsOneTrail t ask = HasNoCycle t → (ls ms : List Link) → AreLinksOf t ask ls → AreLinksOf t ask ms → ls ≡ ms
 
 -- A read that is not there has no links.
-not_both_at : (t : Tables) (ask : Ask) (ls : List Link) → AreLinksOf t ask ls → IsNoRead t ask → ⊥
-not_both_at t ask ls a no_read = let e = sym a.asked ∙ no_read a.read a.is_step in absurd cc
+not_both : (t : Tables) (ask : Ask) (ls : List Link) → AreLinksOf t ask ls → IsNoRead t ask → ⊥
+not_both t ask ls a no_read = let e = sym a.asked ∙ no_read a.read a.is_step in absurd cc
 
 same_race : (t : Tables) → AreOrderly t → HasNoCycle t → (a b c d : ℕ) (cell other : Cell) → ShowsRace t a b cell → ShowsRace t c d other → (a ≡ c) × (b ≡ d) × (cell ≡ other)
 same_race t orderly none a b c d cell other p q =
@@ -188,7 +187,7 @@ no_read_is ask task req point field job name at other p q =
     rw (ap (λ (a : Ask). a.task) both, ap (λ (a : Ask). a.req) both, ap (λ (a : Ask). a.point) both, ap (λ (a : Ask). a.field) both) refl
 
 same_links : (t : Tables) (ask : Ask) → IsOneTrail t ask → HasNoCycle t → (ls ms : List WhyLink) → ShowsLinks t ask ls → ShowsLinks t ask ms → ls ≡ ms
-same_links t ask trail none ls ms p q = p.list_is ∙ ap (map link_shown) (trail.one none p.links q.links p.are_links q.are_links) ∙ sym q.list_is
+same_links t ask trail none ls ms p q = p.list_is ∙ ap (map link_shown) (trail none p.links q.links p.are_links q.are_links) ∙ sym q.list_is
 
 one_of_why : (t : Tables) (ask : Ask) → AreOrderly t → IsOneTrail t ask → (f g : Finding) → WhyFinds t ask f → WhyFinds t ask g → f ≡ g
 one_of_why t ask o one (Cycle es) (Cycle fs) p q = ap Cycle (one_cycle t es fs p q)
@@ -204,19 +203,14 @@ one_of_why t ask o one (Race a b inst point field) _ p q = absurd q
 one_of_why t ask o one (NoRead task req point field) (Cycle fs) p q = free t fs q p.0
 one_of_why t ask o one (NoRead task req point field) (Race a b inst at other) p q = absurd (p.1 _ _ _ q.1.shown.race)
 one_of_why t ask o one (NoRead task req point field) (NoRead job name at other) p q = no_read_is ask task req point field job name at other p.3 q.3
-one_of_why t ask o one (NoRead task req point field) (Why asked list) p q = absurd (one.not_both q.2.links q.2.are_links p.2)
+one_of_why t ask o one (NoRead task req point field) (Why asked list) p q = absurd (not_both t ask q.2.links q.2.are_links p.2)
 one_of_why t ask o one (NoRead task req point field) _ p q = absurd q
 one_of_why t ask o one (Why asked list) (Cycle fs) p q = free t fs q p.0
 one_of_why t ask o one (Why asked list) (Race a b inst point field) p q = absurd (p.1 _ _ _ q.1.shown.race)
-one_of_why t ask o one (Why asked list) (NoRead task req point field) p q = absurd (one.not_both p.2.links p.2.are_links q.2)
+one_of_why t ask o one (Why asked list) (NoRead task req point field) p q = absurd (not_both t ask p.2.links p.2.are_links q.2)
 one_of_why t ask o one (Why asked list) (Why other links) p q = ap₂ Why (p.3 ∙ sym q.3) (same_links t ask one p.0 list links p.2 q.2)
 one_of_why t ask o one (Why asked list) _ p q = absurd q
 one_of_why t ask o one _ g p q = absurd p
-
--- `why` shows the faults that `check` shows.
-pub why_as_check : (ask : Ask) (lines : ℕ) (log : List Lined) → log_fault (commands.Why ask) lines log ≡ log_fault commands.Check lines log
-unfolding log_fault
-why_as_check ask lines log = refl
 
 -- What is known of the tables of a log in which a command finds no fault.
 abbrev Known : Command → Tables → Type 0
@@ -226,7 +220,7 @@ Known command t = Unit {0}
 
 known : (command : Command) (lines : ℕ) (log : List Lined) → AllByRecursion Good (records_of log) → log_fault command lines log ≡ None → Known command (tables_of log)
 known commands.Check lines log good clear = orderly lines log good clear
-known (commands.Why ask) lines log good none = let clear = sym (why_as_check ask lines log) ∙ none in (orderly lines log good clear, record { one = λ acyclic. one_trail lines log good clear acyclic ask; not_both = λ ls a no_read. not_both_at (tables_of log) ask ls a no_read })
+known (commands.Why ask) lines log good none = let clear = sym (why_faults ask lines log) ∙ none in (orderly lines log good clear, λ acyclic. one_trail lines log good clear acyclic ask)
 known command lines log good clear = tt
 
 one_of : (command : Command) (t : Tables) → Known command t → (f g : Finding) → Finds command t f → Finds command t g → f ≡ g
