@@ -1,51 +1,41 @@
 -- A forest, record by record, as long as the rules but for the two of the forest are kept.
-use Rattle.std.proofs.Common.{◌≡◌, ◌≢◌, ℕ, suc, ◌==◌, Bool, true, false, ◌&&◌, List, [], ◌∷◌, map, All, IsSome, None, subst, refl, sym, ap, ◌∙◌, eq-eqb, arith}
+use Rattle.std.proofs.Common.{◌≡◌, ℕ, ◌==◌, Bool, true, false, ◌&&◌, List, [], ◌∷◌, All, IsSome, None, subst, refl, sym, ap, ◌∙◌, eq-eqb}
 use Rattle.std.specs.List.{list_any}
-use Rattle.std.proofs.lemmas.List.{map-append}
-use Rattle.std.specs.Option.{option_map}
 use Rattle.std.proofs.lemmas.Bool.{and_from, and_parts, false≢true, not-false, or_parts}
 use Rattle.std.proofs.lemmas.List.Elements.{All-nil, All-cons}
 use Rattle.spy_grammar.specs.declared.code.Code.TheVariants as codes
 use Rattle.spy_grammar.specs.declared.record.Record.{Record}
 use Rattle.spy_grammar.specs.declared.record.Record.TheVariants.{Ispace, Part, Sub}
 use Rattle.spy_grammar.specs.declared.record.Lined.{Lined}
-use Rattle.region_tree.specs.declared.decls.PartDecl.{PartDecl}
-use Rattle.region_tree.specs.declared.decls.SubDecl.{SubDecl}
-use Rattle.region_tree.specs.declared.path.Step.{Step}
-use Rattle.region_tree.specs.Regions as regions
-use Rattle.region_tree.specs.Regions.{space_of, part_of, step_of}
+use Rattle.log_tables.specs.declared.entries.Step.{Step}
+use Rattle.log_tables.specs.Regions.{regions_of, space_of, part_of, step_of}
 use Rattle.semantics.specs.declared.tables.Part as parts
 use Rattle.semantics.specs.declared.tables.Sub as subs
-use Rattle.semantics.specs.Tables.{Tables, Space, with_record, tables_of}
+use Rattle.semantics.specs.Tables.{Tables, Space, points_of, with_record, tables_of}
 use Rattle.semantics.specs.Faults.{record_in}
 use Rattle.semantics.specs.Rules as rules
-use Rattle.logs.specs.Decls.{decls_of, space_decl, part_decl, sub_decl}
-use Rattle.region_tree.specs.Growing.{IsGrown, MaySub, with_space, with_part, with_sub}
+use Rattle.region_tree.specs.Growing.{IsGrown}
 use Rattle.semantics.proofs.lemmas.RecordRules.{none_passes}
 use Rattle.log_decl.specs.Walk.{breaks_other, other_broken}
 use Rattle.log_decl.proofs.Depth.{depth_told}
 use Rattle.region_tree.proofs.lemmas.Growth.{grown_space, grown_part, grown_sub}
-use Rattle.log_decl.proofs.SubFaults.{found_any, space_is, part_is}
+use Rattle.log_decl.proofs.SubFaults.{found_any}
 
 -- Facts from tests.
 none_like : {X : Type 0} (P : X → Type 0) (p : X → Bool) (xs : List X) → ((x : X) → P x → p x ≡ true) → list_any p xs ≡ false → All (λ x. ¬ P x) xs
 none_like P p [] tells e = All-nil (λ x. ¬ P x)
 none_like P p (x ∷ xs) tells e = let both = or_parts (p x) (list_any p xs) e in All-cons (λ x. ¬ P x) x xs (λ h. false≢true (sym both.0 ∙ tells x h)) (none_like P p xs tells both.1)
 
-all_map : {X Y : Type 0} (P : Y → Type 0) (f : X → Y) (xs : List X) → All (λ x. P (f x)) xs → All P (map f xs)
-all_map P f [] all = All-nil P
-all_map P f (x ∷ xs) all = All-cons P (f x) (map f xs) (all 0 x (omega arith)) (all_map P f xs (λ k d lt. all (suc k) d (omega arith)))
-
--- What is declared, in the declarations.
-known_space : (t : Tables) (id : ℕ) → list_any (λ (s : Space). s.id == id) t.spaces ≡ true → IsSome (space_of (decls_of t) id)
+-- What is declared is found.
+known_space : (t : Tables) (id : ℕ) → list_any (λ (s : Space). s.id == id) t.spaces ≡ true → IsSome (space_of (regions_of t) id)
 known_space t id has =
     let h = found_any (λ (s : Space). s.id == id) t.spaces has in
-    subst IsSome (sym (space_is t id ∙ ap (option_map space_decl) h.1)) refl
+    subst IsSome (sym h.1) refl
 
-known_part : (t : Tables) (id : ℕ) → list_any (λ (p : parts.Part). p.id == id) t.parts ≡ true → IsSome (part_of (decls_of t) id)
+known_part : (t : Tables) (id : ℕ) → list_any (λ (p : parts.Part). p.id == id) t.parts ≡ true → IsSome (part_of (regions_of t) id)
 known_part t id has =
     let h = found_any (λ (p : parts.Part). p.id == id) t.parts has in
-    subst IsSome (sym (part_is t id ∙ ap (option_map part_decl) h.1)) refl
+    subst IsSome (sym h.1) refl
 
 -- The rules before those of the forest, as facts.
 pub record Keeps (t : Tables) (r : Record) : Type 0 where
@@ -67,39 +57,30 @@ keeps_of log earlier r e =
     }
 
 -- One record more.
-space_step : (t : Tables) (line id : ℕ) (set : List (ℕ × ℕ)) → IsGrown (decls_of t) → Keeps t (Ispace id set) → IsGrown (decls_of (with_record t line (Ispace id set)))
+space_step : (t : Tables) (line id : ℕ) (set : List (ℕ × ℕ)) → IsGrown (regions_of t) → Keeps t (Ispace id set) → IsGrown (regions_of (with_record t line (Ispace id set)))
 space_step t line id set grown keeps =
-    let d = decls_of t in
-    let s : Space = record { id = id; points = _ } in
-    let e : decls_of (with_record t line (Ispace id set)) ≡ with_space d (space_decl s) = ap (λ (xs : List regions.Space). record d { spaces = xs }) (map-append space_decl t.spaces (s ∷ [])) in
-    subst IsGrown (sym e) (grown_space d (space_decl s) grown (all_map (λ (x : regions.Space). x.id ≢ id) space_decl t.spaces (none_like (λ (x : Space). x.id ≡ id) (λ (x : Space). x.id == id) t.spaces (λ x same. eq-eqb x.id id same) (or_parts _ _ keeps.new).0)))
+    grown_space (regions_of t) (record { id = id; points = points_of set }) grown (none_like (λ (x : Space). x.id ≡ id) (λ (x : Space). x.id == id) t.spaces (λ x same. eq-eqb x.id id same) (or_parts _ _ keeps.new).0)
 
-part_step : (t : Tables) (line id space : ℕ) (disjoint : Bool) → IsGrown (decls_of t) → Keeps t (Part id space disjoint) → IsGrown (decls_of (with_record t line (Part id space disjoint)))
+part_step : (t : Tables) (line id space : ℕ) (disjoint : Bool) → IsGrown (regions_of t) → Keeps t (Part id space disjoint) → IsGrown (regions_of (with_record t line (Part id space disjoint)))
 part_step t line id space disjoint grown keeps =
-    let d = decls_of t in
-    let p : parts.Part = record { id = id; space = space; disjoint = disjoint } in
-    let e : decls_of (with_record t line (Part id space disjoint)) ≡ with_part d (part_decl p) = ap (λ (xs : List PartDecl). record d { parts = xs }) (map-append part_decl t.parts (p ∷ [])) in
     let named = not-false _ (or_parts _ _ keeps.known).0 in
-    subst IsGrown (sym e) (grown_part d (part_decl p) grown (all_map (λ (x : PartDecl). x.id ≢ id) part_decl t.parts (none_like (λ (x : parts.Part). x.id ≡ id) (λ (x : parts.Part). x.id == id) t.parts (λ x same. eq-eqb x.id id same) (or_parts _ _ keeps.new).0)) (known_space t space (and_parts _ _ named).0))
+    grown_part (regions_of t) (record { id = id; space = space; disjoint = disjoint }) grown (none_like (λ (x : parts.Part). x.id ≡ id) (λ (x : parts.Part). x.id == id) t.parts (λ x same. eq-eqb x.id id same) (or_parts _ _ keeps.new).0) (known_space t space (and_parts _ _ named).0)
 
-sub_step : (t : Tables) (line part colour space : ℕ) → IsGrown (decls_of t) → Keeps t (Sub part colour space) → IsGrown (decls_of (with_record t line (Sub part colour space)))
+sub_step : (t : Tables) (line part colour space : ℕ) → IsGrown (regions_of t) → Keeps t (Sub part colour space) → IsGrown (regions_of (with_record t line (Sub part colour space)))
 sub_step t line part colour space grown keeps =
-    let d = decls_of t in
     let s : subs.Sub = record { part = part; colour = colour; space = space } in
-    let e : decls_of (with_record t line (Sub part colour space)) ≡ with_sub d (sub_decl s) = ap (λ (xs : List SubDecl). record d { subs = xs }) (map-append sub_decl t.subs (s ∷ [])) in
     let named = and_parts _ _ (not-false _ (or_parts _ _ keeps.known).0) in
     let late = or_parts _ _ keeps.early in
-    let may : MaySub d (sub_decl s) = record {
+    grown_sub (regions_of t) s grown (record {
       part = known_part t part named.0;
       space = known_space t space (and_parts _ _ named.1).0;
-      step = all_map (λ (u : SubDecl). step_of u ≢ step_of (sub_decl s)) sub_decl t.subs (none_like (λ (x : subs.Sub). step_of (sub_decl x) ≡ step_of (sub_decl s)) (λ (x : subs.Sub). (x.part == part) && (x.colour == colour)) t.subs (λ x same. and_from (x.part == part) (x.colour == colour) (eq-eqb x.part part (ap (λ (u : Step). u.part) same)) (eq-eqb x.colour colour (ap (λ (u : Step). u.colour) same))) keeps.new);
-      sub = all_map (λ (u : SubDecl). u.space ≢ space) sub_decl t.subs (none_like (λ (x : subs.Sub). x.space ≡ space) (λ (x : subs.Sub). x.space == space) t.subs (λ x same. eq-eqb x.space space same) keeps.once);
-      whole = all_map (λ (p : PartDecl). p.space ≢ space) part_decl t.parts (none_like (λ (p : parts.Part). p.space ≡ space) (λ (p : parts.Part). p.space == space) t.parts (λ p same. eq-eqb p.space space same) late.0);
+      step = none_like (λ (x : subs.Sub). step_of x ≡ step_of s) (λ (x : subs.Sub). (x.part == part) && (x.colour == colour)) t.subs (λ x same. and_from (x.part == part) (x.colour == colour) (eq-eqb x.part part (ap (λ (u : Step). u.part) same)) (eq-eqb x.colour colour (ap (λ (u : Step). u.colour) same))) keeps.new;
+      sub = none_like (λ (x : subs.Sub). x.space ≡ space) (λ (x : subs.Sub). x.space == space) t.subs (λ x same. eq-eqb x.space space same) keeps.once;
+      whole = none_like (λ (p : parts.Part). p.space ≡ space) (λ (p : parts.Part). p.space == space) t.parts (λ p same. eq-eqb p.space space same) late.0;
       depth = depth_told t part colour space grown keeps.shallow;
-    } in
-    subst IsGrown (sym e) (grown_sub d (sub_decl s) grown may)
+    })
 
-pub grown_with : (t : Tables) (line : ℕ) (r : Record) → IsGrown (decls_of t) → Keeps t r → IsGrown (decls_of (with_record t line r))
+pub grown_with : (t : Tables) (line : ℕ) (r : Record) → IsGrown (regions_of t) → Keeps t r → IsGrown (regions_of (with_record t line r))
 grown_with t line (Ispace id set) grown keeps = space_step t line id set grown keeps
 grown_with t line (Part id space disjoint) grown keeps = part_step t line id space disjoint grown keeps
 grown_with t line (Sub part colour space) grown keeps = sub_step t line part colour space grown keeps

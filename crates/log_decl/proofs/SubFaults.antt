@@ -1,36 +1,25 @@
 -- What is wrong with a subspace, by the tables before it and by all declarations.
-use Rattle.std.proofs.Common.{◌≡◌, ℕ, zero, suc, ◌<◌, ◌==◌, Bool, true, false, ◌&&◌, List, [], ◌∷◌, ◌++◌, map, find, length, Contains, IsSome, slice_get, Option, Some, None, subst, refl, sym, ap, ◌∙◌, inl, inr, eq-eqb, arith}
+use Rattle.std.proofs.Common.{◌≡◌, ℕ, zero, suc, ◌<◌, ◌==◌, Bool, true, false, ◌&&◌, List, [], ◌∷◌, ◌++◌, find, length, Contains, IsSome, slice_get, Option, Some, subst, refl, sym, ap, ◌∙◌, inl, inr, eq-eqb, arith}
 use Rattle.std.specs.Bool.{Decides}
 use Rattle.std.specs.List.{list_any}
 use Rattle.std.specs.Option.{option_map, option_map_or}
 use Rattle.std.proofs.lemmas.Bool.{and_parts, cases_Bool, eqb-true, false≢true, and_from}
-use Rattle.std.proofs.lemmas.Option.{none-some, same_Some, slice_get_within}
+use Rattle.std.proofs.lemmas.Option.{same_Some, slice_get_within}
 use Rattle.std.proofs.lemmas.Map.Keys.{any_passes_from_place}
 use Rattle.spy_grammar.specs.declared.record.Record.TheVariants.{Sub}
-use Rattle.region_tree.specs.declared.decls.PartDecl.{PartDecl}
-use Rattle.region_tree.specs.declared.decls.SubDecl.{SubDecl}
-use Rattle.region_tree.specs.Regions as regions
-use Rattle.region_tree.specs.Regions.{space_of, part_of, space_points}
+use Rattle.log_tables.specs.Regions.{regions_of, space_of, space_points}
 use Rattle.region_tree.specs.Faults.{IsOutside, MeetsEarlier, points_cut, is_disjoint}
 use Rattle.region_tree.specs.Shape.{IsForest}
-use Rattle.list_lemmas.proofs.lemmas.Firsts.{find_some, all_at, seen_back}
+use Rattle.list_lemmas.proofs.lemmas.Firsts.{find_some, all_at}
 use Rattle.semantics.specs.declared.tables.Part as parts
 use Rattle.semantics.specs.declared.tables.Sub as subs
 use Rattle.semantics.specs.Tables.{Tables, Space}
 use Rattle.semantics.specs.Points.{points_in, part_at, meets}
 use Rattle.semantics.specs.Rules.{is_outside, is_not_disjoint}
-use Rattle.logs.specs.Decls.{decls_of, space_decl, part_decl, sub_decl}
-use Rattle.log_tables.proofs.lemmas.Members.{eq_turned}
-use Rattle.log_decl.proofs.Depth.{find_seen, whole_is}
 use Rattle.log_decl.proofs.Growing.{Extends, points_kept, part_kept}
 use Rattle.log_decl.proofs.Members.{Decides-outside, Decides-meets, passing}
 
 -- Elements by place.
-at_map : {X Y : Type 0} (f : X → Y) (xs : List X) (i : ℕ) (x : X) → slice_get xs i ≡ Some x → slice_get (map f xs) i ≡ Some (f x)
-at_map f [] i x e = absurd (none-some x e)
-at_map f (y ∷ ys) zero x e = ap (λ z. Some (f z)) (same_Some y x e)
-at_map f (y ∷ ys) (suc i) x e = at_map f ys i x e
-
 at_left : {X : Type 0} (xs ys : List X) (i : ℕ) → i < length xs → slice_get (xs ++ ys) i ≡ slice_get xs i
 at_left [] ys i lt = absurd (omega arith)
 at_left (x ∷ xs) ys zero lt = refl
@@ -44,86 +33,60 @@ pub found_any : {X : Type 0} (p : X → Bool) (xs : List X) → list_any p xs �
 found_any p [] h = absurd (false≢true h)
 found_any p (x ∷ xs) h = elim (cases_Bool (p x)) [ inl hit ↦ (x, rw hit refl) | inr miss ↦ let r = found_any p xs (rw miss at h) in (r.0, rw miss r.1) ]
 
--- Spaces and partitions in tables and in their declarations.
-pub space_is : (t : Tables) (id : ℕ) → space_of (decls_of t) id ≡ option_map space_decl (find (λ (s : Space). s.id == id) t.spaces)
-space_is t id = find_seen (λ (s : regions.Space). id == s.id) (λ (s : Space). s.id == id) space_decl t.spaces (λ s. eq_turned id s.id)
-
-points_seen : (o : Option Space) → option_map_or (λ (s : regions.Space). s.points) (option_map space_decl o) [] ≡ option_map_or (λ (s : Space). s.points) o []
-points_seen None = refl
-points_seen (Some s) = refl
-
-pub points_is : (t : Tables) (id : ℕ) → space_points (decls_of t) id ≡ points_in t id
-points_is t id = ap (λ (o : Option regions.Space). option_map_or (λ (s : regions.Space). s.points) o []) (space_is t id) ∙ points_seen (find (λ (s : Space). s.id == id) t.spaces)
-
-some_map : {X Y : Type 0} (f : X → Y) (o : Option X) → IsSome (option_map f o) → IsSome o
-some_map f None h = absurd (false≢true h)
-some_map f (Some x) h = refl
-
-pub declared_is : (t : Tables) (id : ℕ) → IsSome (space_of (decls_of t) id) → list_any (λ (s : Space). s.id == id) t.spaces ≡ true
-declared_is t id h = any_found (λ (s : Space). s.id == id) t.spaces (some_map space_decl (find (λ (s : Space). s.id == id) t.spaces) (subst IsSome (space_is t id) h))
-
-pub part_is : (t : Tables) (id : ℕ) → part_of (decls_of t) id ≡ option_map part_decl (part_at t id)
-part_is t id = find_seen (λ (p : PartDecl). id == p.id) (λ (p : parts.Part). p.id == id) part_decl t.parts (λ p. eq_turned id p.id)
-
-disjoint_seen : (o : Option parts.Part) → option_map_or (λ (p : PartDecl). p.disjoint) (option_map part_decl o) false ≡ option_map_or (λ (p : parts.Part). p.disjoint) o false
-disjoint_seen None = refl
-disjoint_seen (Some p) = refl
+pub declared_is : (t : Tables) (id : ℕ) → IsSome (space_of (regions_of t) id) → list_any (λ (s : Space). s.id == id) t.spaces ≡ true
+declared_is t id h = any_found (λ (s : Space). s.id == id) t.spaces h
 
 -- A subspace is declared after what `t` declares, and `u` declares all.
 pub record IsNext (t u : Tables) (s : subs.Sub) : Type 0 where
   pub extends : Extends t u
-  pub forest : IsForest (decls_of t)
+  pub forest : IsForest (regions_of t)
   pub has_part : list_any (λ (p : parts.Part). p.id == s.part) t.parts ≡ true
   pub has_space : list_any (λ (x : Space). x.id == s.space) t.spaces ≡ true
   pub at : slice_get u.subs (length t.subs) ≡ Some s
 
-points_then : (t u : Tables) (s : subs.Sub) → IsNext t u s → (id : ℕ) → list_any (λ (x : Space). x.id == id) t.spaces ≡ true → space_points (decls_of u) id ≡ points_in t id
-points_then t u s next id has = points_is u id ∙ points_kept t u next.extends id has
+points_then : (t u : Tables) (s : subs.Sub) → IsNext t u s → (id : ℕ) → list_any (λ (x : Space). x.id == id) t.spaces ≡ true → space_points (regions_of u) id ≡ points_in t id
+points_then t u s next id has = points_kept t u next.extends id has
 
 -- The partition, and the space that it splits.
-whole_then : (t u : Tables) (s : subs.Sub) (next : IsNext t u s) → points_cut (decls_of u) s.part ≡ option_map_or (λ (p : parts.Part). points_in t p.space) (part_at t s.part) []
+whole_then : (t u : Tables) (s : subs.Sub) (next : IsNext t u s) → points_cut (regions_of u) s.part ≡ option_map_or (λ (p : parts.Part). points_in t p.space) (part_at t s.part) []
 whole_then t u s next =
     let found = found_any (λ (p : parts.Part). p.id == s.part) t.parts next.has_part in
     let here = find_some (λ (p : parts.Part). p.id == s.part) t.parts found.0 found.1 in
-    let declared = declared_is t (found.0).space (all_at (λ (p : PartDecl). IsSome (space_of (decls_of t) p.space)) (decls_of t).parts here.0 (part_decl found.0) next.forest.wholes_declared (at_map part_decl t.parts here.0 found.0 here.1)) in
-    ap (λ (o : Option ℕ). option_map_or (space_points (decls_of u)) o []) (whole_is u s.part ∙ ap (option_map (λ (p : parts.Part). p.space)) (part_kept t u next.extends s.part next.has_part ∙ found.1))
+    let declared = declared_is t (found.0).space (all_at (λ (p : parts.Part). IsSome (space_of (regions_of t) p.space)) t.parts here.0 found.0 next.forest.wholes_declared here.1) in
+    ap (λ (o : Option ℕ). option_map_or (space_points (regions_of u)) o []) (ap (option_map (λ (p : parts.Part). p.space)) (part_kept t u next.extends s.part next.has_part ∙ found.1))
     ∙ points_then t u s next (found.0).space declared
     ∙ sym (ap (λ (o : Option parts.Part). option_map_or (λ (p : parts.Part). points_in t p.space) o []) found.1)
 
-disjoint_then : (t u : Tables) (s : subs.Sub) (next : IsNext t u s) → is_disjoint (decls_of u) s.part ≡ option_map_or (λ (p : parts.Part). p.disjoint) (part_at t s.part) false
+disjoint_then : (t u : Tables) (s : subs.Sub) (next : IsNext t u s) → is_disjoint (regions_of u) s.part ≡ option_map_or (λ (p : parts.Part). p.disjoint) (part_at t s.part) false
 disjoint_then t u s next =
-    ap (λ (o : Option PartDecl). option_map_or (λ (p : PartDecl). p.disjoint) o false) (part_is u s.part)
-    ∙ disjoint_seen (part_at u s.part)
-    ∙ ap (λ (o : Option parts.Part). option_map_or (λ (p : parts.Part). p.disjoint) o false) (part_kept t u next.extends s.part next.has_part)
+    ap (λ (o : Option parts.Part). option_map_or (λ (p : parts.Part). p.disjoint) o false) (part_kept t u next.extends s.part next.has_part)
 
 -- The subspace has a point outside: both ways of saying so agree.
-pub Decides-is_outside : (t u : Tables) (s : subs.Sub) → IsNext t u s → Decides (is_outside t (Sub s.part s.colour s.space)) ((point : ℕ) × IsOutside (decls_of u) (length t.subs) point)
+pub Decides-is_outside : (t u : Tables) (s : subs.Sub) → IsNext t u s → Decides (is_outside t (Sub s.part s.colour s.space)) ((point : ℕ) × IsOutside (regions_of u) (length t.subs) point)
 Decides-is_outside t u s next =
     let P = points_in t s.space in
     let Q = option_map_or (λ (p : parts.Part). points_in t p.space) (part_at t s.part) [] in
-    let here = at_map sub_decl u.subs (length t.subs) s next.at in
-    let is_P : space_points (decls_of u) s.space ≡ P = points_then t u s next s.space next.has_space in
-    let is_Q : points_cut (decls_of u) s.part ≡ Q = whole_then t u s next in (
-      λ e. let h = (Decides-outside P Q).0 e in (h.0, (sub_decl s, here, subst (λ (xs : List ℕ). Contains xs h.0) (sym is_P) h.1, λ has. h.2 (subst (λ (xs : List ℕ). Contains xs h.0) is_Q has))),
+    let is_P : space_points (regions_of u) s.space ≡ P = points_then t u s next s.space next.has_space in
+    let is_Q : points_cut (regions_of u) s.part ≡ Q = whole_then t u s next in (
+      λ e. let h = (Decides-outside P Q).0 e in (h.0, (s, next.at, subst (λ (xs : List ℕ). Contains xs h.0) (sym is_P) h.1, λ has. h.2 (subst (λ (xs : List ℕ). Contains xs h.0) is_Q has))),
       λ h.
           let out = h.1 in
-          let same : out.0 ≡ sub_decl s = same_Some out.0 (sub_decl s) (sym out.1 ∙ here) in
-          let has = subst (λ (x : SubDecl). Contains (space_points (decls_of u) x.space) h.0) same out.2 in
-          let not = subst (λ (x : SubDecl). ¬ Contains (points_cut (decls_of u) x.part) h.0) same out.3 in
+          let same : out.0 ≡ s = same_Some out.0 s (sym out.1 ∙ next.at) in
+          let has = subst (λ (x : subs.Sub). Contains (space_points (regions_of u) x.space) h.0) same out.2 in
+          let not = subst (λ (x : subs.Sub). ¬ Contains (points_cut (regions_of u) x.part) h.0) same out.3 in
           (Decides-outside P Q).1 (h.0, subst (λ (xs : List ℕ). Contains xs h.0) is_P has, λ q. not (subst (λ (xs : List ℕ). Contains xs h.0) (sym is_Q) q)),
     )
 
 -- The subspace meets an earlier one of its disjoint partition: both ways of saying so agree.
-pub Decides-is_not_disjoint : (t u : Tables) (s : subs.Sub) → IsNext t u s → Decides (is_not_disjoint t (Sub s.part s.colour s.space)) ((j : ℕ) × MeetsEarlier (decls_of u) (length t.subs) j)
+pub Decides-is_not_disjoint : (t u : Tables) (s : subs.Sub) → IsNext t u s → Decides (is_not_disjoint t (Sub s.part s.colour s.space)) ((j : ℕ) × MeetsEarlier (regions_of u) (length t.subs) j)
 Decides-is_not_disjoint t u s next =
     let n = length t.subs in
     let P = points_in t s.space in
     let dis = option_map_or (λ (p : parts.Part). p.disjoint) (part_at t s.part) false in
     let test : subs.Sub → Bool = λ (x : subs.Sub). (x.part == s.part) && meets P (points_in t x.space) in
-    let here = at_map sub_decl u.subs n s next.at in
-    let is_P : space_points (decls_of u) s.space ≡ P = points_then t u s next s.space next.has_space in
-    let points_at : (j : ℕ) (x : subs.Sub) → slice_get t.subs j ≡ Some x → space_points (decls_of u) x.space ≡ points_in t x.space =
-    λ j x at. points_then t u s next x.space (declared_is t x.space (all_at (λ (y : SubDecl). IsSome (space_of (decls_of t) y.space)) (decls_of t).subs j (sub_decl x) next.forest.spaces_declared (at_map sub_decl t.subs j x at)))
+    let is_P : space_points (regions_of u) s.space ≡ P = points_then t u s next s.space next.has_space in
+    let points_at : (j : ℕ) (x : subs.Sub) → slice_get t.subs j ≡ Some x → space_points (regions_of u) x.space ≡ points_in t x.space =
+    λ j x at. points_then t u s next x.space (declared_is t x.space (all_at (λ (y : subs.Sub). IsSome (space_of (regions_of t) y.space)) t.subs j x next.forest.spaces_declared at))
     in
     let among : (j : ℕ) → j < n → slice_get u.subs j ≡ slice_get t.subs j = λ j lt. ap (λ (xs : List subs.Sub). slice_get xs j) next.extends.subs ∙ at_left t.subs next.extends.more_subs j lt in (
       λ e.
@@ -137,11 +100,11 @@ Decides-is_not_disjoint t u s next =
             (
               shared.0,
               (
-                sub_decl s,
-                sub_decl x,
+                s,
+                x,
                 lt,
-                here,
-                at_map sub_decl u.subs h.0 x (among h.0 lt ∙ h.2),
+                next.at,
+                among h.0 lt ∙ h.2,
                 (
                   sym (eqb-true x.part s.part tests.0),
                   disjoint_then t u s next ∙ both.0,
@@ -155,18 +118,12 @@ Decides-is_not_disjoint t u s next =
           let m = h.1.1 in
           let c = m.5 in
           let point = h.1.0 in
-          let same : m.0 ≡ sub_decl s = same_Some m.0 (sub_decl s) (sym m.3 ∙ here) in
-          let other = seen_back sub_decl t.subs h.0 m.1 (seen_among h.0 m.1 m.2 m.4) in
-          let x = other.0 in
-          let is_x : sub_decl x ≡ m.1 = other.2 in
-          let one_part : x.part ≡ s.part = ap (λ (y : SubDecl). y.part) is_x ∙ sym c.0 ∙ ap (λ (y : SubDecl). y.part) same in
-          let is_dis : dis ≡ true = sym (disjoint_then t u s next) ∙ ap (λ (y : SubDecl). is_disjoint (decls_of u) y.part) (sym same) ∙ c.1 in
-          let in_P : Contains P point = subst (λ (xs : List ℕ). Contains xs point) (ap (λ (y : SubDecl). space_points (decls_of u) y.space) same ∙ is_P) c.2 in
-          let in_x : Contains (points_in t x.space) point = subst (λ (xs : List ℕ). Contains xs point) (ap (λ (y : SubDecl). space_points (decls_of u) y.space) (sym is_x) ∙ points_at h.0 x other.1) c.3 in
-          and_from dis (list_any test t.subs) is_dis (any_passes_from_place test t.subs h.0 x other.1 (and_from (x.part == s.part) (meets P (points_in t x.space)) (eq-eqb x.part s.part one_part) ((Decides-meets P (points_in t x.space)).1 (point, in_P, in_x)))),
+          let x = m.1 in
+          let same : m.0 ≡ s = same_Some m.0 s (sym m.3 ∙ next.at) in
+          let at : slice_get t.subs h.0 ≡ Some x = sym (among h.0 m.2) ∙ m.4 in
+          let one_part : x.part ≡ s.part = sym c.0 ∙ ap (λ (y : subs.Sub). y.part) same in
+          let is_dis : dis ≡ true = sym (disjoint_then t u s next) ∙ ap (λ (y : subs.Sub). is_disjoint (regions_of u) y.part) (sym same) ∙ c.1 in
+          let in_P : Contains P point = subst (λ (xs : List ℕ). Contains xs point) (ap (λ (y : subs.Sub). space_points (regions_of u) y.space) same ∙ is_P) c.2 in
+          let in_x : Contains (points_in t x.space) point = subst (λ (xs : List ℕ). Contains xs point) (points_at h.0 x at) c.3 in
+          and_from dis (list_any test t.subs) is_dis (any_passes_from_place test t.subs h.0 x at (and_from (x.part == s.part) (meets P (points_in t x.space)) (eq-eqb x.part s.part one_part) ((Decides-meets P (points_in t x.space)).1 (point, in_P, in_x)))),
     )
-  where
-    seen_among : (j : ℕ) (y : SubDecl) → j < length t.subs → slice_get (decls_of u).subs j ≡ Some y → slice_get (decls_of t).subs j ≡ Some y
-    seen_among j y lt at =
-        let h = seen_back sub_decl u.subs j y at in
-        at_map sub_decl t.subs j h.0 (sym (ap (λ (xs : List subs.Sub). slice_get xs j) next.extends.subs ∙ at_left t.subs next.extends.more_subs j lt) ∙ h.1) ∙ ap (λ z. Some z) h.2

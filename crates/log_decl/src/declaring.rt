@@ -7,19 +7,19 @@ ghost use Rattle.semantics.specs.Records.{records_of, AreLines};
 ghost use Rattle.semantics.specs.Tables.{no_tables, tables_of};
 ghost use Rattle.semantics.specs.Faults.{at_line, declaration_fault, records_fault};
 ghost use Rattle.log_tables.specs.Views.{Ascends};
-ghost use Rattle.logs.specs.Decls.{decls_of};
+ghost use Rattle.log_tables.specs.Regions.{regions_of};
+ghost use Rattle.region_tree.specs.Sound.{IsSound};
 ghost use Rattle.log_decl.specs.Ends.{IsFaultOf};
 ghost use Rattle.log_decl.specs.Walk.{StandsAt};
 
 use crate::decl_end::DeclEnd;
 use crate::frame::frame_fault;
-use crate::regions::placed_forest;
+use crate::regions::judge_forest;
 use crate::walk::{Walked, walk};
 use bumpalo::Bump;
 use log_rules::{Tally, WholeLog};
 use log_tables::Draft;
-use logs::Declarations;
-use region_tree::{ArenaSet, Forest, Memory as ForestMemory};
+use region_tree::{ArenaSet, Memory as ForestMemory};
 use spy_grammar::Lined;
 use std::alloc::Global;
 
@@ -39,38 +39,35 @@ fn walked<'a, P: ArenaSet<'a>>(
     walk(draft, Tally::new(alloc), alloc, bump, &whole, records)
 }
 
-/// Adds the records of a log to a draft in which nothing is declared, and gives their forest; or the fault of the first that breaks a rule.
+/// Adds the records of a log to a draft in which nothing is declared, and judges their forest; or the fault of the first that breaks a rule.
 ///
 /// Where the walk ends at a record that breaks a rule, a subspace before it may still be refused by the forest.
-fn grown_forest<'a, P: ArenaSet<'a>>(
+fn grow<'a, P: ArenaSet<'a>>(
     draft: &mut Draft<P>,
     alloc: Global,
     bump: &'a Bump,
     records: &[Lined],
-) -> Result<Forest<'a, P>, DeclEnd>
+) -> Result<(), DeclEnd>
     requires none { draft.old ≡ no_tables }
     requires ascends { All (λ l. Ascends l.rec) records.now }
     requires few { length records.now < 2 ^ 32 - 1 }
     ensures tables { OnOk result (draft.new ≡ tables_of records.now) }
-    ensures forest { IfOk result (λ forest. forest ≡ decls_of (tables_of records.now)) }
+    ensures sound { OnOk result (IsSound (regions_of draft.new)) }
     ensures faultless { OnOk result (records_fault (records_of records.now) [] records.now ≡ None) }
     ensures fault { IsFaultOf result (records_fault (records_of records.now) [] records.now) }
 {
     let walked = walked(draft, alloc, bump, records)?;
-    let forest = placed_forest(alloc, bump, draft, &records[..walked.kept])?;
+    judge_forest(alloc, draft, &records[..walked.kept])?;
     match walked.code {
-        Some(code) => {
-            drop(forest);
-            Err(DeclEnd::Fault {
-                line: records[walked.kept].line,
-                code,
-            })
-        }
-        None => Ok(forest),
+        Some(code) => Err(DeclEnd::Fault {
+            line: records[walked.kept].line,
+            code,
+        }),
+        None => Ok(()),
     }
 }
 
-/// What the records of a log declare, or the fault of its frame and records that is shown. `lines` is the number of lines.
+/// The tables of a log, or the fault of its frame and records that is shown. `lines` is the number of lines.
 ///
 /// Each record has a spelling, and the lines on which the records stand ascend. That memory ran out is the only other answer.
 pub(crate) fn declarations<'a, P: ArenaSet<'a>>(
@@ -78,11 +75,11 @@ pub(crate) fn declarations<'a, P: ArenaSet<'a>>(
     bump: &'a Bump,
     records: &[Lined],
     lines: u32,
-) -> Result<Declarations<'a, P>, DeclEnd>
+) -> Result<Draft<P>, DeclEnd>
     requires good { All (λ l. Good l.rec) records.now }
     requires lines { AreLines lines records.now }
-    ensures tables { IfOk result (λ d. d.draft ≡ tables_of records.now) }
-    ensures forest { IfOk result (λ d. d.forest ≡ decls_of (tables_of records.now)) }
+    ensures tables { IfOk result (λ draft. draft ≡ tables_of records.now) }
+    ensures sound { IfOk result (λ draft. IsSound (regions_of draft)) }
     ensures faultless { OnOk result (declaration_fault lines records.now ≡ None) }
     ensures fault { (line : ℕ) (code : Code) → result ≡ Err (DeclEnd.Fault line code)
         → declaration_fault lines records.now ≡ Some (at_line code line) }
@@ -94,8 +91,8 @@ pub(crate) fn declarations<'a, P: ArenaSet<'a>>(
         });
     }
     let mut draft = Draft::new(alloc);
-    match grown_forest(&mut draft, alloc, bump, records) {
-        Ok(forest) => Ok(Declarations { draft, forest }),
+    match grow(&mut draft, alloc, bump, records) {
+        Ok(()) => Ok(draft),
         Err(end) => {
             // Dropped by a call, so that its many fields are no steps of this proof.
             drop(draft);

@@ -19,7 +19,7 @@ use std::alloc::{AllocError, Global};
 
 /// The log that some records declare, or the fault that is shown of its frame and its records. The lines are as many as the input has.
 ///
-/// The sets of its spaces, and its forest, lie in the arena.
+/// The sets of its spaces lie in the arena.
 pub fn declare<'a, P: ArenaSet<'a>>(
     alloc: Global,
     bump: &'a Bump,
@@ -34,7 +34,7 @@ pub fn declare<'a, P: ArenaSet<'a>>(
         → declaration_fault lines records.now.items ≡ Some (at_line code line) }
 {
     match declarations(alloc, bump, records, lines) {
-        Ok(declared) => match Log::of(alloc, bump, declared) {
+        Ok(draft) => match Log::of(alloc, bump, draft) {
             Ok(log) => Ok(log),
             Err(_) => Err(DeclEnd::Memory),
         },

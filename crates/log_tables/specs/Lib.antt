@@ -1,6 +1,7 @@
 pub mod Ascending
 pub mod Mapped
 pub mod Noted
+pub mod Regions
 pub mod Runs
 pub mod Views
 pub use Rattle.semantics.specs.Points

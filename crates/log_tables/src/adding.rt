@@ -8,10 +8,11 @@ ghost use Rattle.std.specs.List.Sorted.{IsStrictlyIncreasing};
 ghost use Rattle.point_set.specs.Runs.{AreRuns};
 
 use crate::draft::Draft;
+use crate::entries::Space;
 use arena_sets::{ArenaSet, Memory};
 use bumpalo::Bump;
 use privilege::{Coherence, Priv};
-use semantics::{Inst, ItemBody, Op, Req};
+use semantics::{Inst, ItemBody, Op, Part, Req, Sub};
 use spy_grammar::Record;
 use spy_words::{InstKind, Nums, PrivWord, Set};
 use std::alloc::{AllocError, Global};
@@ -63,7 +64,7 @@ impl<'a, P: ArenaSet<'a>> Draft<P> {
         ensures err { OnErr result (self.new ≡ self.old) }
     {
         let set = placed(bump, set.as_slice())?;
-        Ok(self.add_space(id, set)?)
+        Ok(self.regions.add_space(Space { id, set })?)
     }
 
     /// One field space more.
@@ -101,12 +102,20 @@ impl<'a, P: ArenaSet<'a>> Draft<P> {
                 id,
                 space,
                 disjoint,
-            } => self.add_part(*id, *space, *disjoint)?,
+            } => self.regions.add_part(Part {
+                id: *id,
+                space: *space,
+                disjoint: *disjoint,
+            })?,
             Record::Sub {
                 part,
                 colour,
                 space,
-            } => self.add_sub(*part, *colour, *space)?,
+            } => self.regions.add_sub(Sub {
+                part: *part,
+                colour: *colour,
+                space: *space,
+            })?,
             Record::Fields { id, fields } => self.add_field_space_of(alloc, line, *id, fields)?,
             Record::Tree { id, space, fspace } => self.add_tree(*id, *space, *fspace)?,
             Record::Redop { id } => self.add_operator(*id)?,

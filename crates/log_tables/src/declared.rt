@@ -7,7 +7,7 @@ ghost use Rattle.semantics.specs.Points.{fields_in, points_in, space_above};
 ghost use Rattle.semantics.specs.Rules.{is_declared, runs_item, space_id, part_id, field_space_id, tree_id, operator_id, item_id, task_id, inst_id};
 
 use crate::draft::Draft;
-use crate::entries::SubKey;
+use crate::entries::Step;
 use point_set::PointSet;
 use semantics::ItemBody;
 
@@ -17,14 +17,14 @@ impl<P: PointSet> Draft<P> {
     pub fn has_space(&self, id: u32) -> bool
         ensures { result ≡ is_declared self.now (space_id id) }
     {
-        self.spaces.has(id)
+        self.regions.spaces().has(id)
     }
 
     /// Whether a partition is declared.
     pub fn has_part(&self, id: u32) -> bool
         ensures { result ≡ is_declared self.now (part_id id) }
     {
-        self.parts.rows().has(id)
+        self.regions.parts().rows().has(id)
     }
 
     /// Whether a field space is declared.
@@ -73,14 +73,14 @@ impl<P: PointSet> Draft<P> {
     pub fn has_colour(&self, part: u32, colour: u32) -> bool
         ensures { result ≡ list_any (λ s. (s.part == part) && (s.colour == colour)) self.now.subs }
     {
-        self.subs.rows().has(SubKey { part, colour })
+        self.regions.subs().rows().has(Step { part, colour })
     }
 
     /// Whether a partition splits the space.
     pub fn is_split(&self, space: u32) -> bool
         ensures { result ≡ list_any (λ p. p.space == space) self.now.parts }
     {
-        self.parts.also_has(space)
+        self.regions.parts().also_has(space)
     }
 
     /// Whether the space is the root space of a tree.
@@ -112,10 +112,7 @@ impl<P: PointSet> Draft<P> {
         ensures { MatchOption result (points_in self.now id ≡ []) (λ s. points_in self.now id
             ≡ P.points s.now) }
     {
-        match self.spaces.get(id) {
-            Some(space) => Some(&space.set),
-            None => None,
-        }
+        self.regions.set(id)
     }
 
     /// The fields of a field space: none where it is not declared.
@@ -133,8 +130,6 @@ impl<P: PointSet> Draft<P> {
     pub fn above(&self, space: u32) -> Option<u32>
         ensures { result ≡ space_above self.now space }
     {
-        let sub = self.subs.also_get(space)?;
-        let part = self.part(sub.part)?;
-        Some(part.space)
+        self.regions.parent(space)
     }
 }

@@ -7,13 +7,13 @@ ghost use Rattle.log_tables.specs.Ascending.{body_fields};
 ghost use Rattle.log_tables.specs.Views.{Declares};
 ghost use Rattle.spy_grammar.specs.declared.record.Record.TheVariants as records;
 
-use crate::entries::{Space, SubKey};
 use crate::maps::Maps;
+use crate::regions::Decls;
 use crate::reqs::Reqs;
 use crate::rows::Rows;
 use crate::two_rows::TwoRows;
 use point_set::PointSet;
-use semantics::{FieldSpace, Inst, Item, ItemBody, LogNode, Map, Op, Part, Req, Serial, Sub, Tree};
+use semantics::{FieldSpace, Inst, Item, ItemBody, LogNode, Map, Op, Req, Serial, Tree};
 use spy_words::Nums;
 use std::alloc::{AllocError, Global};
 use std::marker::Model;
@@ -21,9 +21,7 @@ use std::marker::Model;
 /// What the records of a log declare so far.
 #[derive(Drop)]
 pub struct Draft<P: PointSet> {
-    pub(crate) spaces: Rows<u32, Space<P>>,
-    pub(crate) parts: TwoRows<u32, u32, Part>,
-    pub(crate) subs: TwoRows<SubKey, u32, Sub>,
+    pub(crate) regions: Decls<P>,
     pub(crate) field_spaces: Rows<u32, FieldSpace>,
     pub(crate) trees: TwoRows<u32, u32, Tree>,
     pub(crate) operators: Rows<u32, u32>,
@@ -36,17 +34,15 @@ pub struct Draft<P: PointSet> {
 }
 
 impl<P: PointSet> Model for Draft<P> {
-    ghost use Rattle.std.specs.Prelude.{map};
     ghost use Rattle.semantics.specs.Tables.{Tables};
     ghost use Rattle.log_tables.specs.Ascending.{FieldsAscend};
-    ghost use Rattle.log_tables.specs.Views.{space_seen};
 
     ghost Value = { Tables };
 
     ghost view = { λ d. record {
-      spaces = map (space_seen P.points) d.spaces;
-      parts = d.parts;
-      subs = d.subs;
+      spaces = d.regions.spaces;
+      parts = d.regions.parts;
+      subs = d.regions.subs;
       field_spaces = d.field_spaces;
       trees = d.trees;
       operators = d.operators;
@@ -68,9 +64,7 @@ impl<P: PointSet> Draft<P> {
         ensures { result ≡ no_tables }
     {
         Draft {
-            spaces: Rows::new(alloc),
-            parts: TwoRows::new(alloc),
-            subs: TwoRows::new(alloc),
+            regions: Decls::new(alloc),
             field_spaces: Rows::new(alloc),
             trees: TwoRows::new(alloc),
             operators: Rows::new(alloc),
@@ -81,40 +75,6 @@ impl<P: PointSet> Draft<P> {
             maps: Maps::new(alloc),
             nodes: TwoRows::new(alloc),
         }
-    }
-
-    pub(crate) fn add_space(&mut self, id: u32, set: P) -> Result<(), AllocError>
-    where
-        P: Drop,
-        ensures ok { OnOk result (self.new ≡ record self.old {
-          spaces = self.old.spaces
-              ++ record { id = id; points = P.points set } ∷ [];
-        }) }
-        ensures err { OnErr result (self.new ≡ self.old) }
-    {
-        self.spaces.push(Space { id, set })
-    }
-
-    pub(crate) fn add_part(&mut self, id: u32, space: u32, disjoint: bool) -> Result<(), AllocError>
-        ensures ok { OnOk result (Declares self.old self.new (records.Part id space disjoint)) }
-        ensures err { OnErr result (self.new ≡ self.old) }
-    {
-        self.parts.push(Part {
-            id,
-            space,
-            disjoint,
-        })
-    }
-
-    pub(crate) fn add_sub(&mut self, part: u32, colour: u32, space: u32) -> Result<(), AllocError>
-        ensures ok { OnOk result (Declares self.old self.new (records.Sub part colour space)) }
-        ensures err { OnErr result (self.new ≡ self.old) }
-    {
-        self.subs.push(Sub {
-            part,
-            colour,
-            space,
-        })
     }
 
     pub(crate) fn add_field_space(&mut self, id: u32, fields: Nums) -> Result<(), AllocError>

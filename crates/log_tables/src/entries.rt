@@ -2,6 +2,7 @@
 
 ghost use Rattle.std.specs.Prelude.{◌≡◌};
 ghost use Rattle.std.specs.List.Sorted.{IsStrictlyIncreasing};
+ghost use Rattle.log_tables.specs.Regions.{step_of};
 ghost use Rattle.log_tables.specs.Runs.{item_run, task_named};
 
 use crate::rows::Keyed;
@@ -16,9 +17,9 @@ pub struct Space<P> {
     pub set: P,
 }
 
-/// A partition and a colour.
-#[derive(Clone, Copy, PartialEq, Eq, Hash)]
-pub struct SubKey {
+/// One step down: from a space to the subspace that a partition of it has under a colour.
+#[derive(Clone, Copy, Default, PartialEq, Eq, Hash)]
+pub struct Step {
     pub part: u32,
     pub colour: u32,
 }
@@ -54,11 +55,11 @@ impl Keyed<u32> for Part {
     }
 }
 
-impl Keyed<SubKey> for Sub {
-    ghost key_of = { λ s. record { part = s.part; colour = s.colour } };
+impl Keyed<Step> for Sub {
+    ghost key_of = { step_of };
 
-    fn key(&self) -> SubKey {
-        SubKey {
+    fn key(&self) -> Step {
+        Step {
             part: self.part,
             colour: self.colour,
         }

@@ -11,14 +11,16 @@ ghost use Rattle.std.specs.Prelude.{IfSome, find};
 ghost use Rattle.std.specs.List.Sorted.{IsStrictlyIncreasing};
 ghost use Rattle.log_tables.specs.Ascending.{body_fields};
 ghost use Rattle.log_tables.specs.Mapped.{inst_mapped};
+ghost use Rattle.log_tables.specs.Regions.{regions_of};
 ghost use Rattle.log_tables.specs.Views.{space_seen};
 
 use crate::draft::Draft;
 use crate::entries::Space;
 use crate::maps::FieldKey;
+use crate::regions::Decls;
 use crate::rows::Rows;
 use point_set::PointSet;
-use semantics::{FieldSpace, Inst, Item, LogNode, Map, Part, Req, Serial, Sub, Tree};
+use semantics::{FieldSpace, Inst, Item, LogNode, Map, Part, Req, Serial, Tree};
 
 fn place_in(items: &Rows<u32, Item>, id: u32) -> usize
     ensures { result ≡ place_of items.now id }
@@ -30,6 +32,13 @@ fn place_in(items: &Rows<u32, Item>, id: u32) -> usize
 }
 
 impl<P: PointSet> Draft<P> {
+    /// What is declared of regions.
+    pub fn regions(&self) -> &Decls<P>
+        ensures { result.now ≡ regions_of self.now }
+    {
+        &self.regions
+    }
+
     /// The position of the item with this id, and the number of items where there is none.
     pub fn place(&self, id: u32) -> usize
         ensures { result ≡ place_of self.now.items id }
@@ -49,7 +58,7 @@ impl<P: PointSet> Draft<P> {
     pub fn sub_count(&self) -> usize
         ensures { result ≡ length self.now.subs }
     {
-        self.subs.rows().len()
+        self.regions.subs().rows().len()
     }
 
     /// The tree with this id.
@@ -63,7 +72,7 @@ impl<P: PointSet> Draft<P> {
     pub fn part(&self, id: u32) -> Option<Part>
         ensures { result ≡ part_at self.now id }
     {
-        self.parts.rows().get(id).copied()
+        self.regions.part(id)
     }
 
     /// The field space with this id.
@@ -102,7 +111,7 @@ impl<P: PointSet> Draft<P> {
     pub fn is_sub(&self, space: u32) -> bool
         ensures { result ≡ is_sub self.now space }
     {
-        self.subs.also_has(space)
+        self.regions.subs().also_has(space)
     }
 
     /// The instance to which a field of a requirement is mapped. The requirement is named by the position of its item, and by its number there.
@@ -120,21 +129,7 @@ impl<P: PointSet> Draft<P> {
     pub fn spaces(&self) -> &[Space<P>]
         ensures { map (space_seen P.points) result.now ≡ self.now.spaces }
     {
-        self.spaces.as_slice()
-    }
-
-    /// The partitions, in the order of their lines.
-    pub fn parts(&self) -> &[Part]
-        ensures { result.now ≡ self.now.parts }
-    {
-        self.parts.rows().as_slice()
-    }
-
-    /// The subspaces, in the order of their lines.
-    pub fn subs(&self) -> &[Sub]
-        ensures { result.now ≡ self.now.subs }
-    {
-        self.subs.rows().as_slice()
+        self.regions.spaces().as_slice()
     }
 
     /// The items, in program order.

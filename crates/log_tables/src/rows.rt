@@ -87,13 +87,6 @@ impl<K: Copy + Eq + Hash, T: Keyed<K>> Rows<K, T> {
         self.rows.len()
     }
 
-    /// The rows, handed back.
-    pub fn into_vec(self) -> Vec<T>
-        ensures { result.items ≡ self }
-    {
-        self.rows
-    }
-
     /// The place of the first row with this key.
     pub fn place(&self, key: K) -> Option<usize>
         ensures { result ≡ position_from (λ x. K.eq (T.key_of x) key) 0 self.now }

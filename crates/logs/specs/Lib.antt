@@ -1,4 +1,3 @@
-pub mod Decls
 pub mod Faultless
 pub mod Listing
 pub mod Looked
@@ -10,9 +9,10 @@ pub use Rattle.log_tables.specs.Mapped
 pub use Rattle.region_tree.specs.Paths
 pub use Rattle.semantics.specs.Points
 pub use Rattle.semantics.specs.Reads
-pub use Rattle.region_tree.specs.Regions
+pub use Rattle.log_tables.specs.Regions
 pub use Rattle.item_uses.specs.Representatives
 pub use Rattle.semantics.specs.SerialOrder
+pub use Rattle.region_tree.specs.Sound
 pub use Rattle.semantics.specs.Steps
 pub use Rattle.semantics.specs.Tables
 pub use Rattle.item_uses.specs.Usages

@@ -3,12 +3,10 @@
 //! `log_decl` makes logs of records that have no fault. What a log says of its tables is in `log.rt`; begin there.
 #![tactic(auto)]
 
-mod declared;
 mod found;
 mod log;
 mod mapping;
 mod serial_order;
 
-pub use declared::Declarations;
 pub use log::Log;
 pub use mapping::Unmapped;

@@ -3,8 +3,9 @@
 ghost use Rattle.std.specs.Prelude.{◌≡◌, ◌<◌, ◌==◌, ◌&&◌, ◌↔◌, map, length, position, slice_get, Some, None, [], IfOk, OnOk, IfErr, IsSome, IfSome, IsTrue, All, MatchOption};
 ghost use Rattle.std.specs.List.Sorted.{IsStrictlyIncreasing};
 ghost use Rattle.std.specs.Option.{option_and_then, option_copied};
-ghost use Rattle.region_tree.specs.Regions.{space_of};
+ghost use Rattle.log_tables.specs.Regions.{regions_of, space_of};
 ghost use Rattle.region_tree.specs.Paths.{IsPath};
+ghost use Rattle.region_tree.specs.Sound.{IsSound};
 ghost use Rattle.semantics.specs.SerialOrder.{serial, serial_place};
 ghost use Rattle.semantics.specs.Steps.{inst_at, mapped};
 ghost use Rattle.semantics.specs.Tables.{reqs_before};
@@ -12,7 +13,6 @@ ghost use Rattle.semantics.specs.Points.{points_in};
 ghost use Rattle.semantics.specs.Reads.{req_at};
 ghost use Rattle.semantics.specs.Faults.{at_line, unmapped_fault};
 ghost use Rattle.spy_grammar.specs.declared.code.Code.TheVariants as codes;
-ghost use Rattle.logs.specs.Decls.{decls_of};
 ghost use Rattle.logs.specs.Faultless.{AreDeclared};
 ghost use Rattle.logs.specs.Listing.{item_line, ArePlacesIn};
 ghost use Rattle.log_tables.specs.Ascending.{body_fields};
@@ -22,7 +22,6 @@ ghost use Rattle.item_uses.specs.Blocks.{AreBlocks};
 ghost use Rattle.item_uses.specs.Representatives.{AreRepresentatives};
 ghost use Rattle.item_uses.specs.Usages.{usages};
 
-use crate::declared::Declarations;
 use crate::found::{Found, found_in};
 use crate::mapping::{Unmapped, first_unmapped, inst_mapped};
 use bumpalo::Bump;
@@ -38,7 +37,6 @@ use std::marker::Model;
 #[derive(Drop)]
 pub struct Log<'a, P: PointSet + Copy> {
     draft: Draft<P>,
-    forest: Forest<'a, P>,
     found: Found<'a, P>,
 }
 
@@ -46,7 +44,8 @@ impl<'a, P: PointSet + Copy> Model for Log<'a, P> {
     ghost use Rattle.std.specs.Prelude.{◌≡◌, nat_eq};
     ghost use Rattle.std.specs.HashMap.{get};
     ghost use Rattle.semantics.specs.Tables.{Tables};
-    ghost use Rattle.logs.specs.Decls.{decls_of};
+    ghost use Rattle.log_tables.specs.Regions.{regions_of};
+    ghost use Rattle.region_tree.specs.Sound.{IsSound};
     ghost use Rattle.logs.specs.Faultless.{AreDeclared};
     ghost use Rattle.logs.specs.Looked.{AreFound};
     ghost use Rattle.item_uses.specs.Blocks.{AreBlocks};
@@ -57,31 +56,23 @@ impl<'a, P: PointSet + Copy> Model for Log<'a, P> {
 
     ghost view = { λ l. l.draft };
 
-    ghost invariant = { λ l. AreDeclared l.draft × (l.forest ≡ decls_of l.draft)
+    ghost invariant = { λ l. AreDeclared l.draft × IsSound (regions_of l.draft)
         × (l.found.uses.items ≡ usages l.draft) × AreBlocks l.found.blocks.items l.found.uses.items
         × AreRepresentatives l.found.representatives.items l.found.uses.items
         × AreFound l.draft l.found.space_ids.items l.found.order.items l.found.places.items (get nat_eq l.found.lines) };
 }
 
 impl<'a, P: ArenaSet<'a>> Log<'a, P> {
-    /// The log that declares this.
-    pub fn of(
-        alloc: Global,
-        bump: &'a Bump,
-        declared: Declarations<'a, P>,
-    ) -> Result<Log<'a, P>, Memory>
-        requires declared { AreDeclared declared.draft }
-        requires forest { declared.forest ≡ decls_of declared.draft }
-        ensures { IfOk result (λ log. log ≡ declared.entry.draft) }
+    /// The log whose tables these are.
+    pub fn of(alloc: Global, bump: &'a Bump, draft: Draft<P>) -> Result<Log<'a, P>, Memory>
+        requires declared { AreDeclared draft }
+        requires sound { IsSound (regions_of draft) }
+        ensures { IfOk result (λ log. log ≡ draft) }
     {
-        match found_in(alloc, bump, &declared.draft) {
-            Ok(found) => Ok(Log {
-                draft: declared.draft,
-                forest: declared.forest,
-                found,
-            }),
+        match found_in(alloc, bump, &draft) {
+            Ok(found) => Ok(Log { draft, found }),
             Err(memory) => {
-                declared.let_go();
+                drop(draft);
                 Err(memory)
             }
         }
@@ -89,11 +80,7 @@ impl<'a, P: ArenaSet<'a>> Log<'a, P> {
 
     /// Lets the log go: who owns one then proves no drop of its parts.
     pub fn let_go(self) {
-        Declarations {
-            draft: self.draft,
-            forest: self.forest,
-        }
-        .let_go();
+        drop(self.draft);
         drop(self.found);
     }
 }
@@ -224,18 +211,19 @@ impl<'a, P: PointSet + Copy> Log<'a, P> {
     }
 
     /// The forest of the spaces, partitions and subspaces.
-    pub fn forest(&self) -> &Forest<'a, P>
-        ensures { result.now ≡ decls_of self.now }
+    pub fn forest(&self) -> Forest<'_, P>
+        ensures { result ≡ regions_of self.now }
     {
-        &self.forest
+        Forest::of(self.draft.regions())
     }
 
     /// The path of a space in the forest, or `None` where the space is not declared. The only error is that memory ran out.
     pub fn path(&self, alloc: Global, space: u32) -> Result<Option<Path>, Memory>
-        ensures declared { IfOk result (λ path. IsSome path ↔ IsSome (space_of (decls_of self.now) space)) }
-        ensures path { IfOk result (λ path. IfSome path (λ way. IsPath (decls_of self.now) way space)) }
+        ensures declared { IfOk result (λ path. IsSome path ↔ IsSome (space_of (regions_of self.now) space)) }
+        ensures path { IfOk result (λ path. IfSome path (λ way. IsPath (regions_of self.now) way space)) }
     {
-        self.forest.path_of(alloc, space)
+        let forest = self.forest();
+        forest.path_of(alloc, space)
     }
 
     /// The set of a space: none of a space that is not declared, which has no points.

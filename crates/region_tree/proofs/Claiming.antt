@@ -13,8 +13,8 @@ use Rattle.std.proofs.lemmas.Option.{same_Some, none-some, slice_get_within}
 use Rattle.point_set.specs.Least.{IsLeastOf, IsLeastFrom, IsLeastGap}
 use Rattle.point_set.proofs.lemmas.Ahead.{in_or_not}
 use Rattle.region_tree.specs.declared.claims.Claim.{Claim}
-use Rattle.region_tree.specs.declared.decls.SubDecl.{SubDecl}
-use Rattle.region_tree.specs.Regions.{Regions, space_points}
+use Rattle.semantics.specs.declared.tables.Sub.{Sub}
+use Rattle.log_tables.specs.Regions.{Regions, space_points}
 use Rattle.region_tree.specs.Faults.{is_disjoint, IsFaulty}
 use Rattle.region_tree.specs.Claims.{IsRunEnd, IsRun, IsIn, Claims, ClaimsNothing, ClaimsAll, AreClaims, AddsRuns, IsBefore, AreInOrder, AreOwn, Clash, Overlap, AreApart, SomeOverlap, IsFirstOverlap, MeetsSome, IsFirstMeeting}
 
@@ -94,7 +94,7 @@ claims_more d i part points old new before all added = record {
   whole = λ j of p lt claim. elim (cases_eq j i) [
     | inl e ↦
         let same : claim.0 ≡ all.0 = same_Some claim.0 all.0 (sym claim.1 ∙ ap (slice_get d.subs) e ∙ all.1) in
-        let has : Contains points p = subst (λ ps. Contains ps p) (ap (λ (s : SubDecl). space_points d s.space) same ∙ all.4) claim.4 in
+        let has : Contains points p = subst (λ ps. Contains ps p) (ap (λ (s : Sub). space_points d s.space) same ∙ all.4) claim.4 in
         let w = added.whole p has in
         (w.0, w.1, w.2 ∙ sym e, w.3)
     | inr ne ↦ let w = before.whole j of p (omega (arith, lt)) claim in (w.0, added.kept w.0 w.1, w.2, w.3)
@@ -138,8 +138,8 @@ are_own d n claims are = record {
       let same : x.0 ≡ y.0 = same_Some x.0 y.0 (sym x.1 ∙ ap (slice_get d.subs) sub ∙ y.1) in
       let points = space_points d x.0.space in
       let ours : IsRun points a.first a.last = x.4 in
-      let theirs : IsRun points b.first b.last = subst (λ (s : SubDecl). IsRun (space_points d s.space) b.first b.last) (sym same) y.4 in
-      let part : a.part ≡ b.part = sym x.2 ∙ ap (λ (s : SubDecl). s.part) same ∙ y.2 in
+      let theirs : IsRun points b.first b.last = subst (λ (s : Sub). IsRun (space_points d s.space) b.first b.last) (sym same) y.4 in
+      let part : a.part ≡ b.part = sym x.2 ∙ ap (λ (s : Sub). s.part) same ∙ y.2 in
       let first : a.first ≡ b.first = omega (arith, same_first points a.first a.last b.first b.last p ours theirs at.0 at.1 bt.0 bt.1, same_first points b.first b.last a.first a.last p theirs ours bt.0 bt.1 at.0 at.1) in
       let last : a.last ≡ b.last = omega (arith, same_last points a.first a.last b.first b.last p ours theirs at.0 at.1 bt.0 bt.1, same_last points b.first b.last a.first a.last p theirs ours bt.0 bt.1 at.0 at.1) in
       λ i. record { part = part i; first = first i; last = last i; sub = sub i };
@@ -284,7 +284,7 @@ met_not d n limit claims are all apart i lt h =
     let y = (are.sound b.0 b.1).1 in
     let same_a : x.0 ≡ s = same_Some x.0 s (sym x.1 ∙ ap (slice_get d.subs) a.2 ∙ m.3) in
     let same_b : y.0 ≡ t = same_Some y.0 t (sym y.1 ∙ ap (slice_get d.subs) b.2 ∙ m.4) in
-    let part : a.0.part ≡ b.0.part = sym x.2 ∙ ap (λ (u : SubDecl). u.part) same_a ∙ m.5.0 ∙ ap (λ (u : SubDecl). u.part) (sym same_b) ∙ y.2 in
+    let part : a.0.part ≡ b.0.part = sym x.2 ∙ ap (λ (u : Sub). u.part) same_a ∙ m.5.0 ∙ ap (λ (u : Sub). u.part) (sym same_b) ∙ y.2 in
     apart a.0 b.0 a.1 b.1 (omega (arith, a.2, lt)) (omega (arith, b.2, lt, m.2)) (part, λ e. omega (arith, e, a.2, b.2, m.2), (p, a.3, b.3))
 
 met_by : (d : Regions) (n : ℕ) (claims : List Claim) (a b : Claim) → AreClaims d n claims → Contains claims a → Contains claims b → Overlap a b → b.sub < a.sub → MeetsSome d a.sub

@@ -4,9 +4,9 @@ use Rattle.std.specs.Fn.{Shared}
 use Rattle.std.specs.List.{position_from}
 use Rattle.std.specs.Option.{option_eq, option_map}
 use Rattle.std.specs.Cmp.Derive.{both_true}
-use Rattle.region_tree.specs.declared.path.Step.{Step}
+use Rattle.log_tables.specs.declared.entries.Step.{Step}
 use Rattle.std.proofs.lemmas.Bool.{cases_Bool, cases_eq, eqb-true, and_parts}
-use Rattle.region_tree.specs.Index.{AllFirst, SomeLater}
+use Rattle.region_tree.specs.Firsts.{AllFirst, SomeLater}
 use Rattle.list_lemmas.proofs.lemmas.Firsts.{seen_back}
 use Rattle.std.proofs.lemmas.Option.{none-some, same_Some, slice_get-get_or, slice_get-map, get_or_from_slice_get, slice_get_within}
 
@@ -76,15 +76,15 @@ other_told o i ne is on same =
     let no : ⊥ = let e : true ≡ false = sym on ∙ is ∙ ap (λ p. not (option_eq nat_eq p (Some i))) same ∙ ap not (eq-eqb i i refl) in cc in no
 
 -- whether no two elements have one key, as the first places of their keys tell; the elements are items as they are seen
-pub distinct_told : {T X K F : Type 0} (g : Shared F (Bor T × Unit {0}) (Option ℕ)) (f : F) (show : T → X) (key : X → K) (same : K → K → Bool) → ((a b : K) → same a b ≡ true ↔ a ≡ b) → (items : List T) (xs : List X) (r : Bool) → map show items ≡ xs → ((p : Bor T) (o : Option ℕ) → g.post f (p, tt) o → o ≡ position_from (λ x. same (key (show p.now)) (key x)) 0 xs) → MatchBool r (AllFirst g f items) (SomeLater g f items) → IsTrue r ↔ AllPairs (λ x y. key x ≢ key y) xs
+pub distinct_told : {T X K F : Type 0} (g : Shared F (Bor T × Unit {0}) (Option ℕ)) (f : F) (show : T → X) (key : X → K) (same : K → K → Bool) → ((a b : K) → same a b ≡ true ↔ a ≡ b) → (items : List T) (xs : List X) (r : Bool) → map show items ≡ xs → ((p : Bor T) (o : Option ℕ) → g.post f (p, tt) o → o ≡ position_from (λ x. same (key x) (key (show p.now))) 0 xs) → MatchBool r (AllFirst g f items) (SomeLater g f items) → IsTrue r ↔ AllPairs (λ x y. key x ≢ key y) xs
 distinct_told {T} {X} g f show key same is items xs true seen finds told = (
-  λ _. all_apart (λ x y. same (key x) (key y)) (λ x y. key x ≢ key y) xs
-      (λ x y e one. let no : ⊥ = let t : true ≡ false = sym ((is (key y) (key x)).1 (sym one)) ∙ e in cc in no)
+  λ _. all_apart (λ x y. same (key y) (key x)) (λ x y. key x ≢ key y) xs
+      (λ x y e one. let no : ⊥ = let t : true ≡ false = sym ((is (key x) (key y)).1 one) ∙ e in cc in no)
       (λ k lt x at.
       let h = seen_back show items k x (ap (λ (ys : List X). slice_get ys k) seen ∙ at) in
       let t = told k h.0 h.1 in
       let e : show t.shown.now ≡ x = ap show t.shows ∙ h.2 in
-      subst (λ (y : X). position_from (λ z. same (key y) (key z)) 0 xs ≡ Some k) e (sym (finds t.shown (Some k) t.says.met))),
+      subst (λ (y : X). position_from (λ z. same (key z) (key y)) 0 xs ≡ Some k) e (sym (finds t.shown (Some k) t.says.met))),
   λ _. refl,
 )
 distinct_told {T} {X} g f show key same is items xs false seen finds told = (
@@ -92,7 +92,7 @@ distinct_told {T} {X} g f show key same is items xs false seen finds told = (
   λ pairs.
       let t = told.4 in
       let at : slice_get xs told.0 ≡ Some (show t.shown.now) = ap (λ (ys : List X). slice_get ys told.0) (sym seen) ∙ slice_get-map show items told.0 ∙ ap (option_map show) told.3 ∙ ap (λ (y : T). Some (show y)) (sym t.shows) in
-      let first = first_from_apart (λ x y. same (key x) (key y)) (λ x y. key x ≢ key y) xs told.0 (λ x y e ne. ne (sym ((is (key y) (key x)).0 e))) (λ x. (is (key x) (key x)).1 refl) pairs in
+      let first = first_from_apart (λ x y. same (key y) (key x)) (λ x y. key x ≢ key y) xs told.0 (λ x y e ne. ne ((is (key x) (key y)).0 e)) (λ x. (is (key x) (key x)).1 refl) pairs in
       absurd (told.5 (finds t.shown told.2 t.says.met ∙ first (show t.shown.now) at)),
 )
 

@@ -1,6 +1,6 @@
 -- Spaces above and below one another.
 use Rattle.std.specs.Prelude.{◌≡◌, ℕ, suc, zero, ◌≤◌, Option, Some, IsSome, option_and_then}
-use Rattle.region_tree.specs.Regions.{Regions, space_of, parent_of}
+use Rattle.log_tables.specs.Regions.{Regions, space_of, parent_of}
 
 -- The space that lies so many steps above this one.
 abbrev pub ancestor_of : Regions → ℕ → ℕ → Option ℕ

@@ -2,13 +2,13 @@
 use Rattle.std.specs.Prelude.{◌≡◌, ◌≢◌, ℕ, ◌+◌, ◌<◌, ◌≤◌, ◌⊎◌, List, slice_get, AllPairs, Contains, Option, Some, IsTrue, MatchOption}
 use Rattle.std.specs.Borrow.{Bor}
 use Rattle.region_tree.specs.declared.claims.Claim.{Claim}
-use Rattle.region_tree.specs.declared.decls.SubDecl.{SubDecl}
-use Rattle.region_tree.specs.Regions.{Regions, space_points}
+use Rattle.semantics.specs.declared.tables.Sub.{Sub}
+use Rattle.log_tables.specs.Regions.{Regions, space_points}
 use Rattle.region_tree.specs.Faults.{is_disjoint, MeetsEarlier}
 
 -- Subspace `i` has the point, and is one of this disjoint partition.
 abbrev pub Claims : Regions → ℕ → ℕ → ℕ → Type 0
-Claims d i part p = (s : SubDecl) × (slice_get d.subs i ≡ Some s) × (s.part ≡ part) × IsTrue (is_disjoint d part) × Contains (space_points d s.space) p
+Claims d i part p = (s : Sub) × (slice_get d.subs i ≡ Some s) × (s.part ≡ part) × IsTrue (is_disjoint d part) × Contains (space_points d s.space) p
 
 -- Subspace `i` claims nothing.
 abbrev pub ClaimsNothing : Regions → ℕ → Type 0
@@ -16,7 +16,7 @@ ClaimsNothing d i = (part p : ℕ) → ¬ Claims d i part p
 
 -- Subspace `i` claims just these points, for this partition.
 abbrev pub ClaimsAll : Regions → ℕ → ℕ → List ℕ → Type 0
-ClaimsAll d i part points = (s : SubDecl) × (slice_get d.subs i ≡ Some s) × (s.part ≡ part) × IsTrue (is_disjoint d part) × (space_points d s.space ≡ points)
+ClaimsAll d i part points = (s : Sub) × (slice_get d.subs i ≡ Some s) × (s.part ≡ part) × IsTrue (is_disjoint d part) × (space_points d s.space ≡ points)
 
 -- What subspace `i` claims, if anything: a partition, with a set of just the points.
 abbrev pub IsClaimOf : {P : Type 0} → (P → List ℕ) → Regions → ℕ → Option (ℕ × Bor P) → Type 0
@@ -39,7 +39,7 @@ IsIn c p = (c.first ≤ p) × (p ≤ c.last)
 
 -- A longest run of the points that the subspace claims for its partition.
 abbrev pub IsClaim : Regions → Claim → Type 0
-IsClaim d c = (s : SubDecl) × (slice_get d.subs c.sub ≡ Some s) × (s.part ≡ c.part) × IsTrue (is_disjoint d c.part) × IsRun (space_points d s.space) c.first c.last
+IsClaim d c = (s : Sub) × (slice_get d.subs c.sub ≡ Some s) × (s.part ≡ c.part) × IsTrue (is_disjoint d c.part) × IsRun (space_points d s.space) c.first c.last
 
 -- The claims of the subspaces before `n`.
 pub record AreClaims (d : Regions) (n : ℕ) (claims : List Claim) : Type 0 where

@@ -1,8 +1,9 @@
 -- Declarations as they grow, one by one.
 use Rattle.std.specs.Prelude.{◌≡◌, ◌≢◌, ℕ, ◌≤◌, ◌++◌, [], ◌∷◌, All, Some, IsSome, length}
-use Rattle.region_tree.specs.declared.decls.PartDecl.{PartDecl}
-use Rattle.region_tree.specs.declared.decls.SubDecl.{SubDecl}
-use Rattle.region_tree.specs.Regions.{Regions, Space, space_of, part_of, whole_of, step_of}
+use Rattle.semantics.specs.declared.tables.Part.{Part}
+use Rattle.semantics.specs.declared.tables.Sub.{Sub}
+use Rattle.log_tables.specs.Regions.{Regions, space_of, part_of, whole_of, step_of}
+use Rattle.semantics.specs.Tables.{Space}
 use Rattle.region_tree.specs.Ancestors.{ancestor_of}
 use Rattle.region_tree.specs.Shape.{IsForest}
 
@@ -15,14 +16,14 @@ pub record IsGrown (d : Regions) : Type 0 where
 abbrev pub with_space : Regions → Space → Regions
 with_space d s = record d { spaces = d.spaces ++ s ∷ [] }
 
-abbrev pub with_part : Regions → PartDecl → Regions
+abbrev pub with_part : Regions → Part → Regions
 with_part d p = record d { parts = d.parts ++ p ∷ [] }
 
-abbrev pub with_sub : Regions → SubDecl → Regions
+abbrev pub with_sub : Regions → Sub → Regions
 with_sub d s = record d { subs = d.subs ++ s ∷ [] }
 
 -- The subspace may be declared: its partition and its space are, its step is new, its space is no subspace yet and is not split, and the space of its partition lies at most 63 steps below another.
-pub record MaySub (d : Regions) (s : SubDecl) : Type 0 where
+pub record MaySub (d : Regions) (s : Sub) : Type 0 where
   pub part : IsSome (part_of d s.part)
   pub space : IsSome (space_of d s.space)
   pub step : All (λ u. step_of u ≢ step_of s) d.subs

@@ -1,11 +1,13 @@
-pub mod Regions
-pub mod Index
+pub mod Firsts
 pub mod Shape
 pub mod Ancestors
 pub mod Faults
 pub mod Claims
 pub mod Paths
 pub mod Sharing
+pub mod Sound
 pub mod Growing
 pub use Rattle.point_set.specs.Least
+pub use Rattle.log_tables.specs.Regions
 pub use Rattle.point_set.specs.Runs
+pub use Rattle.log_tables.specs.Views

@@ -1,6 +1,6 @@
 -- Declarations that make a forest.
 use Rattle.std.specs.Prelude.{◌≡◌, ◌≢◌, ℕ, ◌≤◌, All, AllPairs, Some, IsSome}
-use Rattle.region_tree.specs.Regions.{Regions, space_of, part_of, step_of}
+use Rattle.log_tables.specs.Regions.{Regions, space_of, part_of, step_of}
 use Rattle.region_tree.specs.Ancestors.{ancestor_of, IsBelow}
 
 -- No two spaces have one id, and no two partitions.

@@ -1,8 +1,8 @@
 -- What two paths tell of the points that their spaces share.
 use Rattle.std.specs.Prelude.{◌≡◌, ◌≢◌, ℕ, List, Contains, Option, IsTrue}
 use Rattle.point_set.specs.Least.{IsLeastCommon}
-use Rattle.region_tree.specs.declared.path.Step.{Step}
-use Rattle.region_tree.specs.Regions.{Regions, space_points}
+use Rattle.log_tables.specs.declared.entries.Step.{Step}
+use Rattle.log_tables.specs.Regions.{Regions, space_points}
 use Rattle.region_tree.specs.Faults.{is_disjoint}
 use Rattle.region_tree.specs.Paths.{Way, IsPath}
 

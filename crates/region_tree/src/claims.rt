@@ -7,7 +7,8 @@ ghost use Rattle.point_set.specs.Least.{IsLeastFrom};
 ghost use Rattle.region_tree.specs.Claims.{IsRunEnd, AddsRuns, IsClaimOf, AreClaims, AreInOrder, AreOwn};
 ghost use Rattle.region_tree.specs.Claims.{Clash, AreApart, SomeOverlap, IsFirstOverlap, IsFirstMeeting};
 
-use crate::finder::Finder;
+use crate::lookups::{is_disjoint, sub_at, subs};
+use log_tables::Decls;
 use point_set::PointSet;
 use std::alloc::{AllocError, Global};
 
@@ -65,39 +66,39 @@ fn push_runs<P: PointSet>(
 }
 
 /// What subspace `i` claims: the points of its set, for its partition, where that is disjoint.
-fn claims_of<'t, P: PointSet>(finder: &Finder<'t, P>, i: usize) -> Option<(u32, &'t P)>
-    ensures { IsClaimOf P.points finder.now i result }
+fn claims_of<'t, P: PointSet>(decls: &'t Decls<P>, i: usize) -> Option<(u32, &'t P)>
+    ensures { IsClaimOf P.points decls.now i result }
 {
-    let sub = finder.sub_at(i)?;
-    if !finder.is_disjoint(sub.part) {
+    let sub = sub_at(decls, i)?;
+    if !is_disjoint(decls, sub.part) {
         return None;
     }
-    let set = finder.set(sub.space)?;
+    let set = decls.set(sub.space)?;
     Some((sub.part, set))
 }
 
 /// Adds what subspace `i` claims to what those before it claim.
 fn claim_sub<P: PointSet>(
-    finder: &Finder<P>,
+    decls: &Decls<P>,
     i: usize,
     claims: &mut Vec<Claim>,
 ) -> Result<(), AllocError>
-    requires { AreClaims finder.now i claims.old.items }
-    ensures { OnOk result (AreClaims finder.now (i + 1) claims.new.items) }
+    requires { AreClaims decls.now i claims.old.items }
+    ensures { OnOk result (AreClaims decls.now (i + 1) claims.new.items) }
 {
-    match claims_of(finder, i) {
+    match claims_of(decls, i) {
         Some((part, set)) => push_runs(claims, part, i, set),
         None => Ok(()),
     }
 }
 
 /// What all subspaces claim, one after the other.
-fn all_claims<P: PointSet>(alloc: Global, finder: &Finder<P>) -> Result<Vec<Claim>, AllocError>
-    ensures { IfOk result (λ v. AreClaims finder.now (length finder.now.subs) v.items) }
+fn all_claims<P: PointSet>(alloc: Global, decls: &Decls<P>) -> Result<Vec<Claim>, AllocError>
+    ensures { IfOk result (λ v. AreClaims decls.now (length decls.now.subs) v.items) }
 {
     let mut claims = Vec::new(alloc);
-    for i in 0..finder.subs().len() {
-        claim_sub(finder, i, &mut claims)?;
+    for i in 0..subs(decls).len() {
+        claim_sub(decls, i, &mut claims)?;
     }
     Ok(claims)
 }
@@ -166,11 +167,11 @@ fn first_overlap(claims: &[Claim], count: usize) -> Option<usize>
 /// The first subspace that meets an earlier one of its disjoint partition. It sorts the runs of all such subspaces, and goes over them once where none meets another.
 pub(crate) fn first_meeting<P: PointSet>(
     alloc: Global,
-    finder: &Finder<P>,
+    decls: &Decls<P>,
 ) -> Result<Option<usize>, AllocError>
-    ensures { IfOk result (IsFirstMeeting finder.now) }
+    ensures { IfOk result (IsFirstMeeting decls.now) }
 {
-    let mut claims = all_claims(alloc, finder)?;
+    let mut claims = all_claims(alloc, decls)?;
     sort(&mut claims);
-    Ok(first_overlap(claims.as_slice(), finder.subs().len()))
+    Ok(first_overlap(claims.as_slice(), subs(decls).len()))
 }

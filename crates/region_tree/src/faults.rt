@@ -6,42 +6,43 @@ ghost use Rattle.region_tree.specs.Claims.{MeetsSome};
 ghost use Rattle.region_tree.specs.Faults.{IsOutside, Meets, IsFirstMet, IsFaulty, Shows, ShowsFirst};
 
 use crate::claims::first_meeting;
-use crate::finder::Finder;
-use crate::place_fault::PlaceFault;
+use crate::forest_fault::ForestFault;
+use crate::lookups::{first_common, is_disjoint, sub_at, subs, whole_set};
+use log_tables::Decls;
 use point_set::PointSet;
 use std::alloc::Global;
 
 /// The least point of subspace `i` that the space which its partition cuts has not.
-fn outside<P: PointSet>(finder: &Finder<P>, i: usize) -> Option<u64>
-    ensures { IsLeast (IsOutside finder.now i) result }
+fn outside<P: PointSet>(decls: &Decls<P>, i: usize) -> Option<u64>
+    ensures { IsLeast (IsOutside decls.now i) result }
 {
-    let sub = finder.sub_at(i)?;
-    let ours = finder.set(sub.space)?;
-    match finder.whole_set(sub.part) {
+    let sub = sub_at(decls, i)?;
+    let ours = decls.set(sub.space)?;
+    match whole_set(decls, sub.part) {
         Some(whole) => ours.outside(whole),
         None => ours.first(),
     }
 }
 
 /// The least point at which subspace `i` clashes with the earlier one `j`.
-fn shared<P: PointSet>(finder: &Finder<P>, i: usize, j: usize) -> Option<u64>
+fn shared<P: PointSet>(decls: &Decls<P>, i: usize, j: usize) -> Option<u64>
     requires { j < i }
-    ensures { IsLeast (Meets finder.now i j) result }
+    ensures { IsLeast (Meets decls.now i j) result }
 {
-    let ours = finder.sub_at(i)?;
-    let theirs = finder.sub_at(j)?;
-    if ours.part != theirs.part || !finder.is_disjoint(ours.part) {
+    let ours = sub_at(decls, i)?;
+    let theirs = sub_at(decls, j)?;
+    if ours.part != theirs.part || !is_disjoint(decls, ours.part) {
         return None;
     }
-    finder.first_common(ours.space, theirs.space)
+    first_common(decls, ours.space, theirs.space)
 }
 
 /// The least earlier subspace that subspace `i` meets, with the least point that they share.
-fn first_met<P: PointSet>(finder: &Finder<P>, i: usize) -> Option<(usize, u64)>
-    ensures { IsFirstMet finder.now i result }
+fn first_met<P: PointSet>(decls: &Decls<P>, i: usize) -> Option<(usize, u64)>
+    ensures { IsFirstMet decls.now i result }
 {
     for j in 0..i {
-        match shared(finder, i, j) {
+        match shared(decls, i, j) {
             Some(point) => return Some((j, point)),
             None => {}
         }
@@ -50,19 +51,19 @@ fn first_met<P: PointSet>(finder: &Finder<P>, i: usize) -> Option<(usize, u64)>
 }
 
 /// Refuses subspace `i` if it is faulty, where `meets` says whether it meets an earlier one.
-fn judge_sub<P: PointSet>(finder: &Finder<P>, i: usize, meets: bool) -> Result<(), PlaceFault>
-    requires { IsTrue meets ↔ MeetsSome finder.now i }
-    ensures ok { OnOk result (¬ IsFaulty finder.now i) }
-    ensures shown { IfErr result (Shows finder.now i) }
+fn judge_sub<P: PointSet>(decls: &Decls<P>, i: usize, meets: bool) -> Result<(), ForestFault>
+    requires { IsTrue meets ↔ MeetsSome decls.now i }
+    ensures ok { OnOk result (¬ IsFaulty decls.now i) }
+    ensures shown { IfErr result (Shows decls.now i) }
 {
-    if let Some(point) = outside(finder, i) {
-        return Err(PlaceFault::NotWithin { sub: i, point });
+    if let Some(point) = outside(decls, i) {
+        return Err(ForestFault::NotWithin { sub: i, point });
     }
     if !meets {
         return Ok(());
     }
-    match first_met(finder, i) {
-        Some((other, point)) => Err(PlaceFault::NotDisjoint {
+    match first_met(decls, i) {
+        Some((other, point)) => Err(ForestFault::NotDisjoint {
             sub: i,
             other,
             point,
@@ -72,13 +73,13 @@ fn judge_sub<P: PointSet>(finder: &Finder<P>, i: usize, meets: bool) -> Result<(
 }
 
 /// Refuses the least faulty subspace, if there is one.
-pub(crate) fn judge<P: PointSet>(alloc: Global, finder: &Finder<P>) -> Result<(), PlaceFault>
-    ensures ok { OnOk result ((i : ℕ) → ¬ IsFaulty finder.now i) }
-    ensures shown { IfErr result (ShowsFirst finder.now) }
+pub(crate) fn judge<P: PointSet>(alloc: Global, decls: &Decls<P>) -> Result<(), ForestFault>
+    ensures ok { OnOk result ((i : ℕ) → ¬ IsFaulty decls.now i) }
+    ensures shown { IfErr result (ShowsFirst decls.now) }
 {
-    let meeting = first_meeting(alloc, finder)?;
-    for i in 0..finder.subs().len() {
-        judge_sub(finder, i, meeting == Some(i))?;
+    let meeting = first_meeting(alloc, decls)?;
+    for i in 0..subs(decls).len() {
+        judge_sub(decls, i, meeting == Some(i))?;
     }
     Ok(())
 }

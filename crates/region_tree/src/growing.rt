@@ -1,9 +1,10 @@
 //! Declarations that make a forest, one by one.
 
 ghost use Rattle.std.specs.Prelude.{◌≢◌, All, IsSome, []};
-ghost use Rattle.region_tree.specs.declared.decls.PartDecl.{PartDecl};
-ghost use Rattle.region_tree.specs.declared.decls.SubDecl.{SubDecl};
-ghost use Rattle.region_tree.specs.Regions.{Regions, Space, space_of};
+ghost use Rattle.semantics.specs.declared.tables.Part.{Part};
+ghost use Rattle.semantics.specs.declared.tables.Sub.{Sub};
+ghost use Rattle.log_tables.specs.Regions.{Regions, space_of};
+ghost use Rattle.semantics.specs.Tables.{Space};
 ghost use Rattle.region_tree.specs.Growing.{IsGrown, MaySub, with_space, with_part, with_sub};
 
 /// What keeps declarations a forest: a space with a new id, a partition with a new id of a declared space, and a subspace that may be declared.
@@ -13,7 +14,7 @@ pub fn declarations_grow()
     ensures none { IsGrown (record { spaces = []; parts = []; subs = [] }) }
     ensures space { (d : Regions) (s : Space) → IsGrown d → All (λ t. t.id ≢ s.id) d.spaces
         → IsGrown (with_space d s) }
-    ensures part { (d : Regions) (p : PartDecl) → IsGrown d → All (λ q. q.id ≢ p.id) d.parts
+    ensures part { (d : Regions) (p : Part) → IsGrown d → All (λ q. q.id ≢ p.id) d.parts
         → IsSome (space_of d p.space) → IsGrown (with_part d p) }
-    ensures sub { (d : Regions) (s : SubDecl) → IsGrown d → MaySub d s → IsGrown (with_sub d s) }
+    ensures sub { (d : Regions) (s : Sub) → IsGrown d → MaySub d s → IsGrown (with_sub d s) }
 {}

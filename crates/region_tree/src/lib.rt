@@ -3,22 +3,23 @@
 
 mod claims;
 mod climb;
-mod decls;
 mod faults;
-mod finder;
 mod forest;
+mod forest_fault;
 mod growing;
-mod index;
+mod lists;
+mod lookups;
 mod path;
-mod place_fault;
 mod shape;
 mod sharing;
 
 pub use arena_sets::ArenaSet;
-pub use decls::{Decls, PartDecl, SpaceDecl, SubDecl};
 pub use forest::Forest;
+pub use forest_fault::ForestFault;
 pub use growing::declarations_grow;
+pub use lists::from_vecs;
+pub use log_tables::{Decls, Space, Step};
 pub use memory::Memory;
-pub use path::{Path, Step};
-pub use place_fault::PlaceFault;
+pub use path::Path;
+pub use semantics::{Part, Sub};
 pub use shape::is_forest;

@@ -2,15 +2,9 @@
 
 ghost use Rattle.std.specs.Prelude.{◌≡◌};
 
+use log_tables::Step;
 use smallvec::SmallVec;
 use std::marker::Model;
-
-/// One step down: from a space to the subspace that a partition of it has under a colour.
-#[derive(Clone, Copy, Default, PartialEq, Eq, Hash)]
-pub struct Step {
-    pub part: u32,
-    pub colour: u32,
-}
 
 /// The way to a space, which contracts see as its topmost space and the steps down. Eight steps take no memory.
 #[derive(Drop)]

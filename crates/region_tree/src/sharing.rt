@@ -6,8 +6,9 @@ ghost use Rattle.region_tree.specs.Paths.{IsPath};
 ghost use Rattle.region_tree.specs.Sharing.{PartDisjoint, IsLeastShared};
 ghost use Rattle.region_tree.specs.Shape.{IsForest};
 
-use crate::finder::Finder;
-use crate::path::{Path, Step};
+use crate::lookups::{child, first_common, is_disjoint};
+use crate::path::Path;
+use log_tables::{Decls, Step};
 use point_set::PointSet;
 
 /// The first steps at which two paths differ: those below their last common space.
@@ -23,40 +24,40 @@ fn parting(a: &[Step], b: &[Step]) -> Option<(Step, Step)>
 }
 
 /// Whether the paths part under two colours of one disjoint partition.
-fn are_apart<P: PointSet>(finder: &Finder<P>, a: &Path, b: &Path) -> bool
-    ensures { IsTrue result → PartDisjoint finder.now a.now.steps b.now.steps }
+fn are_apart<P: PointSet>(decls: &Decls<P>, a: &Path, b: &Path) -> bool
+    ensures { IsTrue result → PartDisjoint decls.now a.now.steps b.now.steps }
 {
     if a.top() != b.top() {
         return false;
     }
     match parting(a.steps(), b.steps()) {
-        Some((x, y)) => x.part == y.part && finder.is_disjoint(x.part),
+        Some((x, y)) => x.part == y.part && is_disjoint(decls, x.part),
         None => false,
     }
 }
 
 /// The space that a path leads to.
-fn end_of<P: PointSet>(finder: &Finder<P>, path: &Path) -> Option<u32>
-    requires { IsForest finder.now }
-    ensures { (space : ℕ) → IsPath finder.now path.now space → result ≡ Some space }
+fn end_of<P: PointSet>(decls: &Decls<P>, path: &Path) -> Option<u32>
+    requires { IsForest decls.now }
+    ensures { (space : ℕ) → IsPath decls.now path.now space → result ≡ Some space }
 {
     match path.steps().last() {
-        Some(step) => Some(finder.child(*step)?.space),
+        Some(step) => Some(child(decls, *step)?.space),
         None => Some(path.top()),
     }
 }
 
 /// The least point that the spaces of two paths share.
-pub(crate) fn alias_of<P: PointSet>(finder: &Finder<P>, a: &Path, b: &Path) -> Option<u64>
-    requires forest { IsForest finder.now }
-    requires faultless { (i : ℕ) → ¬ IsFaulty finder.now i }
-    ensures { IsLeastShared finder.now a.now b.now result }
+pub(crate) fn alias_of<P: PointSet>(decls: &Decls<P>, a: &Path, b: &Path) -> Option<u64>
+    requires forest { IsForest decls.now }
+    requires faultless { (i : ℕ) → ¬ IsFaulty decls.now i }
+    ensures { IsLeastShared decls.now a.now b.now result }
 {
-    if are_apart(finder, a, b) {
+    if are_apart(decls, a, b) {
         return None;
     }
-    match (end_of(finder, a), end_of(finder, b)) {
-        (Some(s), Some(t)) => finder.first_common(s, t),
+    match (end_of(decls, a), end_of(decls, b)) {
+        (Some(s), Some(t)) => first_common(decls, s, t),
         _ => None,
     }
 }

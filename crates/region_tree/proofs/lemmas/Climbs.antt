@@ -2,8 +2,8 @@
 use Rattle.std.proofs.Common.{◌≡◌, ℕ, zero, suc, ◌+◌, ◌-◌, ◌<◌, ◌≤◌, ◌==◌, Some, None, All, slice_get, subst, refl, sym, ap, ◌∙◌, inl, inr, arith}
 use Rattle.std.proofs.lemmas.Bool.{cases_lt, eqb-true}
 use Rattle.std.proofs.lemmas.Option.{none-some, option_and_then_some}
-use Rattle.region_tree.specs.declared.decls.SubDecl.{SubDecl}
-use Rattle.region_tree.specs.Regions.{Regions, sub_of, whole_of, parent_of}
+use Rattle.semantics.specs.declared.tables.Sub.{Sub}
+use Rattle.log_tables.specs.Regions.{Regions, sub_of, whole_of, parent_of}
 use Rattle.list_lemmas.proofs.lemmas.Firsts.{cases_option, find_some, all_at}
 use Rattle.region_tree.specs.Ancestors.{ancestor_of, IsBelow, IsShallow}
 
@@ -32,10 +32,10 @@ at_most d n space e root m h =
     ]
 
 -- what has a parent is a declared subspace
-pub sub_from_parent : (d : Regions) (space up : ℕ) → parent_of d space ≡ Some up → (s : SubDecl) × (i : ℕ) × (sub_of d space ≡ Some s) × (slice_get d.subs i ≡ Some s) × (s.space ≡ space) × (whole_of d s.part ≡ Some up)
+pub sub_from_parent : (d : Regions) (space up : ℕ) → parent_of d space ≡ Some up → (s : Sub) × (i : ℕ) × (sub_of d space ≡ Some s) × (slice_get d.subs i ≡ Some s) × (s.space ≡ space) × (whole_of d s.part ≡ Some up)
 sub_from_parent d space up e =
-    option_and_then_some (λ (s : SubDecl). whole_of d s.part) (sub_of d space) up e
-    (λ s at whole. let h = find_some (λ (s : SubDecl). space == s.space) d.subs s at in (s, h.0, at, h.1, sym (eqb-true space s.space h.2), whole))
+    option_and_then_some (λ (s : Sub). whole_of d s.part) (sub_of d space) up e
+    (λ s at whole. let h = find_some (λ (s : Sub). s.space == space) d.subs s at in (s, h.0, at, h.1, eqb-true s.space space h.2, whole))
 
 parent_within : (d : Regions) (n space root : ℕ) → ancestor_of d (suc n) space ≡ Some root → (up : ℕ) × (parent_of d space ≡ Some up)
 parent_within d n space root e =
@@ -46,12 +46,12 @@ parent_within d n space root e =
     ]
 
 -- where no subspace lies too deep, no space does
-pub every_shallow : (d : Regions) → All (λ (s : SubDecl). IsShallow d s.space) d.subs → (space : ℕ) → IsShallow d space
+pub every_shallow : (d : Regions) → All (λ (s : Sub). IsShallow d s.space) d.subs → (space : ℕ) → IsShallow d space
 every_shallow d all space root zero e = omega arith
 every_shallow d all space root (suc n) e =
     let up = parent_within d n space root e in
     let h = sub_from_parent d space up.0 up.1 in
-    subst (IsShallow d) h.4 (all_at (λ (s : SubDecl). IsShallow d s.space) d.subs h.1 h.0 all h.3) root (suc n) e
+    subst (IsShallow d) h.4 (all_at (λ (s : Sub). IsShallow d s.space) d.subs h.1 h.0 all h.3) root (suc n) e
 
 round : (d : Regions) (space n k : ℕ) → ancestor_of d (suc n) space ≡ Some space → (m : ℕ) × (k ≤ m) × (ancestor_of d m space ≡ Some space)
 round d space n zero e = (0, omega arith, refl)

@@ -6,51 +6,52 @@ use Rattle.std.proofs.lemmas.Option.{none-some, same_Some, option_and_then_some}
 use Rattle.std.proofs.lemmas.List.Folds.{find-append}
 use Rattle.std.proofs.lemmas.List.Elements.{All-nil, All-push}
 use Rattle.std.proofs.lemmas.List.Quantifiers.{all_pairs_push}
-use Rattle.region_tree.specs.declared.decls.PartDecl.{PartDecl}
-use Rattle.region_tree.specs.declared.decls.SubDecl.{SubDecl}
-use Rattle.region_tree.specs.Regions.{Regions, Space, space_of, part_of, sub_of, whole_of, parent_of, step_of}
+use Rattle.semantics.specs.declared.tables.Part.{Part}
+use Rattle.semantics.specs.declared.tables.Sub.{Sub}
+use Rattle.log_tables.specs.Regions.{Regions, space_of, part_of, sub_of, whole_of, parent_of, step_of}
+use Rattle.semantics.specs.Tables.{Space}
 use Rattle.region_tree.specs.Ancestors.{ancestor_of}
 use Rattle.list_lemmas.proofs.lemmas.Firsts.{cases_option, or_none, find_some, all_at}
 use Rattle.region_tree.proofs.lemmas.Climbs.{acyclic_from, ancestor-sum}
 use Rattle.region_tree.specs.Growing.{IsGrown, MaySub, with_space, with_part, with_sub}
 
 -- The subspace that a space is, after one more is declared.
-sub_after : (d : Regions) (s : SubDecl) (x : ℕ) → sub_of (with_sub d s) x ≡ option_or (sub_of d x) (cond (x == s.space) (Some s) None)
-sub_after d s x = find-append (λ (u : SubDecl). x == u.space) d.subs (s ∷ [])
+sub_after : (d : Regions) (s : Sub) (x : ℕ) → sub_of (with_sub d s) x ≡ option_or (sub_of d x) (cond (s.space == x) (Some s) None)
+sub_after d s x = find-append (λ (u : Sub). u.space == x) d.subs (s ∷ [])
 
-parent_other : (d : Regions) (s : SubDecl) (x : ℕ) → (x ≡ s.space → ⊥) → parent_of (with_sub d s) x ≡ parent_of d x
+parent_other : (d : Regions) (s : Sub) (x : ℕ) → (x ≡ s.space → ⊥) → parent_of (with_sub d s) x ≡ parent_of d x
 parent_other d s x ne =
-    ap (option_and_then (λ (u : SubDecl). whole_of d u.part)) (sub_after d s x ∙ ap (λ b. option_or (sub_of d x) (cond b (Some s) None)) (ne_eqb x s.space ne) ∙ or_none (sub_of d x))
+    ap (option_and_then (λ (u : Sub). whole_of d u.part)) (sub_after d s x ∙ ap (λ b. option_or (sub_of d x) (cond b (Some s) None)) (ne_eqb s.space x (λ e. ne (sym e))) ∙ or_none (sub_of d x))
 
-no_sub : (d : Regions) (s : SubDecl) → All (λ (u : SubDecl). u.space ≢ s.space) d.subs → sub_of d s.space ≡ None
+no_sub : (d : Regions) (s : Sub) → All (λ (u : Sub). u.space ≢ s.space) d.subs → sub_of d s.space ≡ None
 no_sub d s all = elim (cases_option (sub_of d s.space)) [
   | inl none ↦ none
-  | inr some ↦ let h = find_some (λ (u : SubDecl). s.space == u.space) d.subs some.0 some.1 in absurd (all_at (λ (u : SubDecl). u.space ≢ s.space) d.subs h.0 some.0 all h.1 (sym (eqb-true s.space (some.0).space h.2)))
+  | inr some ↦ let h = find_some (λ (u : Sub). u.space == s.space) d.subs some.0 some.1 in absurd (all_at (λ (u : Sub). u.space ≢ s.space) d.subs h.0 some.0 all h.1 (eqb-true (some.0).space s.space h.2))
 ]
 
-parent_new : (d : Regions) (s : SubDecl) → All (λ (u : SubDecl). u.space ≢ s.space) d.subs → parent_of (with_sub d s) s.space ≡ whole_of d s.part
+parent_new : (d : Regions) (s : Sub) → All (λ (u : Sub). u.space ≢ s.space) d.subs → parent_of (with_sub d s) s.space ≡ whole_of d s.part
 parent_new d s all =
-    ap (option_and_then (λ (u : SubDecl). whole_of d u.part)) (sub_after d s s.space ∙ ap (λ (o : Option SubDecl). option_or o (cond (s.space == s.space) (Some s) None)) (no_sub d s all) ∙ ap (λ b. cond b (Some s) None) (eq-eqb s.space s.space refl))
+    ap (option_and_then (λ (u : Sub). whole_of d u.part)) (sub_after d s s.space ∙ ap (λ (o : Option Sub). option_or o (cond (s.space == s.space) (Some s) None)) (no_sub d s all) ∙ ap (λ b. cond b (Some s) None) (eq-eqb s.space s.space refl))
 
 -- No space lies right below a space that is not split.
-not_split : (d : Regions) (space x : ℕ) → All (λ (p : PartDecl). p.space ≢ space) d.parts → parent_of d x ≡ Some space → ⊥
+not_split : (d : Regions) (space x : ℕ) → All (λ (p : Part). p.space ≢ space) d.parts → parent_of d x ≡ Some space → ⊥
 not_split d space x all e =
-    option_and_then_some (λ (u : SubDecl). whole_of d u.part) (sub_of d x) space e
+    option_and_then_some (λ (u : Sub). whole_of d u.part) (sub_of d x) space e
     (λ u at whole. elim (cases_option (part_of d u.part)) [
-      | inl none ↦ none-some space (sym (ap (option_map (λ (p : PartDecl). p.space)) none) ∙ whole)
+      | inl none ↦ none-some space (sym (ap (option_map (λ (p : Part). p.space)) none) ∙ whole)
       | inr some ↦
-          let h = find_some (λ (p : PartDecl). u.part == p.id) d.parts some.0 some.1 in
-          let is : (some.0).space ≡ space = same_Some (some.0).space space (sym (ap (option_map (λ (p : PartDecl). p.space)) some.1) ∙ whole) in
-          all_at (λ (p : PartDecl). p.space ≢ space) d.parts h.0 some.0 all h.1 is
+          let h = find_some (λ (p : Part). p.id == u.part) d.parts some.0 some.1 in
+          let is : (some.0).space ≡ space = same_Some (some.0).space space (sym (ap (option_map (λ (p : Part). p.space)) some.1) ∙ whole) in
+          all_at (λ (p : Part). p.space ≢ space) d.parts h.0 some.0 all h.1 is
     ])
 
 -- What lies above another space is not the new subspace.
-above_other : (d : Regions) (s : SubDecl) (x : ℕ) → All (λ (p : PartDecl). p.space ≢ s.space) d.parts → (x ≡ s.space → ⊥) → (n y : ℕ) → ancestor_of d n x ≡ Some y → y ≡ s.space → ⊥
+above_other : (d : Regions) (s : Sub) (x : ℕ) → All (λ (p : Part). p.space ≢ s.space) d.parts → (x ≡ s.space → ⊥) → (n y : ℕ) → ancestor_of d n x ≡ Some y → y ≡ s.space → ⊥
 above_other d s x all ne zero y e is = ne (same_Some x y e ∙ is)
 above_other d s x all ne (suc n) y e is =
     option_and_then_some (parent_of d) (ancestor_of d n x) y e (λ z at up. not_split d s.space z all (up ∙ ap (λ k. Some k) is))
 
-ancestors_other : (d : Regions) (s : SubDecl) (x : ℕ) → All (λ (p : PartDecl). p.space ≢ s.space) d.parts → (x ≡ s.space → ⊥) → (n : ℕ) → ancestor_of (with_sub d s) n x ≡ ancestor_of d n x
+ancestors_other : (d : Regions) (s : Sub) (x : ℕ) → All (λ (p : Part). p.space ≢ s.space) d.parts → (x ≡ s.space → ⊥) → (n : ℕ) → ancestor_of (with_sub d s) n x ≡ ancestor_of d n x
 ancestors_other d s x all ne zero = refl
 ancestors_other d s x all ne (suc n) =
     ap (option_and_then (parent_of (with_sub d s))) (ancestors_other d s x all ne n)
@@ -63,7 +64,7 @@ ancestors_other d s x all ne (suc n) =
     ]
 
 -- The new subspace is one step further down than the space that its partition splits.
-ancestors_new : (d : Regions) (s : SubDecl) (may : MaySub d s) (root n : ℕ) → ancestor_of (with_sub d s) (suc n) s.space ≡ Some root → (whole : ℕ) × (whole_of d s.part ≡ Some whole) × (ancestor_of d n whole ≡ Some root)
+ancestors_new : (d : Regions) (s : Sub) (may : MaySub d s) (root n : ℕ) → ancestor_of (with_sub d s) (suc n) s.space ≡ Some root → (whole : ℕ) × (whole_of d s.part ≡ Some whole) × (ancestor_of d n whole ≡ Some root)
 ancestors_new d s may root n e =
     let z : n + 1 ≡ suc n = omega arith in
     elim (cases_option (whole_of d s.part)) [
@@ -83,15 +84,15 @@ ancestors_new d s may root n e =
 
     not_whole : (whole : ℕ) → whole_of d s.part ≡ Some whole → whole ≡ s.space → ⊥
     not_whole whole e is = elim (cases_option (part_of d s.part)) [
-      | inl none ↦ none-some whole (sym (ap (option_map (λ (p : PartDecl). p.space)) none) ∙ e)
+      | inl none ↦ none-some whole (sym (ap (option_map (λ (p : Part). p.space)) none) ∙ e)
       | inr some ↦
-          let h = find_some (λ (p : PartDecl). s.part == p.id) d.parts some.0 some.1 in
-          let here : (some.0).space ≡ whole = same_Some (some.0).space whole (sym (ap (option_map (λ (p : PartDecl). p.space)) some.1) ∙ e) in
-          all_at (λ (p : PartDecl). p.space ≢ s.space) d.parts h.0 some.0 may.whole h.1 (here ∙ is)
+          let h = find_some (λ (p : Part). p.id == s.part) d.parts some.0 some.1 in
+          let here : (some.0).space ≡ whole = same_Some (some.0).space whole (sym (ap (option_map (λ (p : Part). p.space)) some.1) ∙ e) in
+          all_at (λ (p : Part). p.space ≢ s.space) d.parts h.0 some.0 may.whole h.1 (here ∙ is)
     ]
 
 -- so no space lies too deep
-pub shallow_sub : (d : Regions) (s : SubDecl) → IsGrown d → MaySub d s → (space root n : ℕ) → ancestor_of (with_sub d s) n space ≡ Some root → n ≤ 64
+pub shallow_sub : (d : Regions) (s : Sub) → IsGrown d → MaySub d s → (space root n : ℕ) → ancestor_of (with_sub d s) n space ≡ Some root → n ≤ 64
 shallow_sub d s grown may space root zero e = omega arith
 shallow_sub d s grown may space root (suc n) e = elim (cases_eq space s.space) [
   | inl is ↦
@@ -101,7 +102,7 @@ shallow_sub d s grown may space root (suc n) e = elim (cases_eq space s.space) [
   | inr ne ↦ grown.forest.shallow space root (suc n) (sym (ancestors_other d s space may.whole ne (suc n)) ∙ e)
 ]
 
-pub counted_sub : (d : Regions) (s : SubDecl) → IsGrown d → MaySub d s → (space root n : ℕ) → ancestor_of (with_sub d s) n space ≡ Some root → n ≤ length (with_sub d s).subs
+pub counted_sub : (d : Regions) (s : Sub) → IsGrown d → MaySub d s → (space root n : ℕ) → ancestor_of (with_sub d s) n space ≡ Some root → n ≤ length (with_sub d s).subs
 counted_sub d s grown may space root zero e = omega arith
 counted_sub d s grown may space root (suc n) e = elim (cases_eq space s.space) [
   | inl is ↦
@@ -113,18 +114,18 @@ counted_sub d s grown may space root (suc n) e = elim (cases_eq space s.space) [
       omega (arith, length-append d.subs (s ∷ []))
 ]
 
-pub grown_sub : (d : Regions) (s : SubDecl) → IsGrown d → MaySub d s → IsGrown (with_sub d s)
+pub grown_sub : (d : Regions) (s : Sub) → IsGrown d → MaySub d s → IsGrown (with_sub d s)
 grown_sub d s grown may =
     let forest = grown.forest in
     record {
       forest = record {
         space_ids = forest.space_ids;
         part_ids = forest.part_ids;
-        steps = all_pairs_push (λ (u t : SubDecl). step_of u ≢ step_of t) d.subs s forest.steps may.step;
-        sub_spaces = all_pairs_push (λ (u t : SubDecl). u.space ≢ t.space) d.subs s forest.sub_spaces may.sub;
+        steps = all_pairs_push (λ (u t : Sub). step_of u ≢ step_of t) d.subs s forest.steps may.step;
+        sub_spaces = all_pairs_push (λ (u t : Sub). u.space ≢ t.space) d.subs s forest.sub_spaces may.sub;
         wholes_declared = forest.wholes_declared;
-        parts_declared = All-push (λ (u : SubDecl). IsSome (part_of d u.part)) d.subs s forest.parts_declared may.part;
-        spaces_declared = All-push (λ (u : SubDecl). IsSome (space_of d u.space)) d.subs s forest.spaces_declared may.space;
+        parts_declared = All-push (λ (u : Sub). IsSome (part_of d u.part)) d.subs s forest.parts_declared may.part;
+        spaces_declared = All-push (λ (u : Sub). IsSome (space_of d u.space)) d.subs s forest.spaces_declared may.space;
         acyclic = acyclic_from (with_sub d s) (λ space. shallow_sub d s grown may space);
         shallow = shallow_sub d s grown may;
       };
@@ -151,7 +152,7 @@ stays {X} o p q e h = subst (λ (r : Option X). IsSome r) (sym (e ∙ kept o p h
 pub grown_space : (d : Regions) (s : Space) → IsGrown d → All (λ (t : Space). t.id ≢ s.id) d.spaces → IsGrown (with_space d s)
 grown_space d s grown new =
     let forest = grown.forest in
-    let declared : (x : ℕ) → IsSome (space_of d x) → IsSome (space_of (with_space d s) x) = λ x h. stays (space_of d x) _ _ (find-append (λ (t : Space). x == t.id) d.spaces (s ∷ [])) h in
+    let declared : (x : ℕ) → IsSome (space_of d x) → IsSome (space_of (with_space d s) x) = λ x h. stays (space_of d x) _ _ (find-append (λ (t : Space). t.id == x) d.spaces (s ∷ [])) h in
     let shallow : (space root n : ℕ) → ancestor_of (with_space d s) n space ≡ Some root → n ≤ 64 = λ space root n e. forest.shallow space root n (sym (ancestors_same (with_space d s) d (λ x. refl) n space) ∙ e) in
     record {
       forest = record {
@@ -168,21 +169,21 @@ grown_space d s grown new =
       counted = λ space root n e. grown.counted space root n (sym (ancestors_same (with_space d s) d (λ x. refl) n space) ∙ e);
     }
 
-part_kept : (d : Regions) (p : PartDecl) (x : ℕ) → IsSome (part_of d x) → part_of (with_part d p) x ≡ part_of d x
-part_kept d p x h = find-append (λ (q : PartDecl). x == q.id) d.parts (p ∷ []) ∙ kept (part_of d x) _ h
+part_kept : (d : Regions) (p : Part) (x : ℕ) → IsSome (part_of d x) → part_of (with_part d p) x ≡ part_of d x
+part_kept d p x h = find-append (λ (q : Part). q.id == x) d.parts (p ∷ []) ∙ kept (part_of d x) _ h
 
-parent_kept : (d : Regions) (p : PartDecl) → All (λ (u : SubDecl). IsSome (part_of d u.part)) d.subs → (x : ℕ) → parent_of (with_part d p) x ≡ parent_of d x
+parent_kept : (d : Regions) (p : Part) → All (λ (u : Sub). IsSome (part_of d u.part)) d.subs → (x : ℕ) → parent_of (with_part d p) x ≡ parent_of d x
 parent_kept d p all x = elim (cases_option (sub_of d x)) [
-  | inl none ↦ ap (option_and_then (λ (u : SubDecl). whole_of (with_part d p) u.part)) none ∙ sym (ap (option_and_then (λ (u : SubDecl). whole_of d u.part)) none)
+  | inl none ↦ ap (option_and_then (λ (u : Sub). whole_of (with_part d p) u.part)) none ∙ sym (ap (option_and_then (λ (u : Sub). whole_of d u.part)) none)
   | inr some ↦
-      let h = find_some (λ (u : SubDecl). x == u.space) d.subs some.0 some.1 in
-      let has : IsSome (part_of d (some.0).part) = all_at (λ (u : SubDecl). IsSome (part_of d u.part)) d.subs h.0 some.0 all h.1 in
-      ap (option_and_then (λ (u : SubDecl). whole_of (with_part d p) u.part)) some.1
-      ∙ ap (option_map (λ (q : PartDecl). q.space)) (part_kept d p (some.0).part has)
-      ∙ sym (ap (option_and_then (λ (u : SubDecl). whole_of d u.part)) some.1)
+      let h = find_some (λ (u : Sub). u.space == x) d.subs some.0 some.1 in
+      let has : IsSome (part_of d (some.0).part) = all_at (λ (u : Sub). IsSome (part_of d u.part)) d.subs h.0 some.0 all h.1 in
+      ap (option_and_then (λ (u : Sub). whole_of (with_part d p) u.part)) some.1
+      ∙ ap (option_map (λ (q : Part). q.space)) (part_kept d p (some.0).part has)
+      ∙ sym (ap (option_and_then (λ (u : Sub). whole_of d u.part)) some.1)
 ]
 
-pub grown_part : (d : Regions) (p : PartDecl) → IsGrown d → All (λ (q : PartDecl). q.id ≢ p.id) d.parts → IsSome (space_of d p.space) → IsGrown (with_part d p)
+pub grown_part : (d : Regions) (p : Part) → IsGrown d → All (λ (q : Part). q.id ≢ p.id) d.parts → IsSome (space_of d p.space) → IsGrown (with_part d p)
 grown_part d p grown new has =
     let forest = grown.forest in
     let same = ancestors_same (with_part d p) d (parent_kept d p forest.parts_declared) in
@@ -190,11 +191,11 @@ grown_part d p grown new has =
     record {
       forest = record {
         space_ids = forest.space_ids;
-        part_ids = all_pairs_push (λ (q r : PartDecl). q.id ≢ r.id) d.parts p forest.part_ids new;
+        part_ids = all_pairs_push (λ (q r : Part). q.id ≢ r.id) d.parts p forest.part_ids new;
         steps = forest.steps;
         sub_spaces = forest.sub_spaces;
-        wholes_declared = All-push (λ (q : PartDecl). IsSome (space_of d q.space)) d.parts p forest.wholes_declared has;
-        parts_declared = λ k u lt. let h = forest.parts_declared k u lt in subst (λ (o : Option PartDecl). IsSome o) (sym (part_kept d p _ h)) h;
+        wholes_declared = All-push (λ (q : Part). IsSome (space_of d q.space)) d.parts p forest.wholes_declared has;
+        parts_declared = λ k u lt. let h = forest.parts_declared k u lt in subst (λ (o : Option Part). IsSome o) (sym (part_kept d p _ h)) h;
         spaces_declared = forest.spaces_declared;
         acyclic = acyclic_from (with_part d p) shallow;
         shallow = shallow;
@@ -219,9 +220,9 @@ grown_none =
         part_ids = λ i j d above within. absurd (omega (arith, within));
         steps = λ i j d above within. absurd (omega (arith, within));
         sub_spaces = λ i j d above within. absurd (omega (arith, within));
-        wholes_declared = All-nil (λ (p : PartDecl). IsSome (space_of nothing p.space));
-        parts_declared = All-nil (λ (s : SubDecl). IsSome (part_of nothing s.part));
-        spaces_declared = All-nil (λ (s : SubDecl). IsSome (space_of nothing s.space));
+        wholes_declared = All-nil (λ (p : Part). IsSome (space_of nothing p.space));
+        parts_declared = All-nil (λ (s : Sub). IsSome (part_of nothing s.part));
+        spaces_declared = All-nil (λ (s : Sub). IsSome (space_of nothing s.space));
         acyclic = acyclic_from nothing (λ space. shallow space);
         shallow = shallow;
       };

@@ -5,8 +5,8 @@ use Rattle.log_decl.proofs.lemmas.Ascending.{good_ascends, few_records}
 use Rattle.log_decl.proofs.Ending.{after_frame}
 use Rattle.log_decl.proofs.declaring.declarations.Goals as goal
 
-pub grown_forest-requires : goal.grown_forest-requires
-grown_forest-requires g c κs = ((refl, tt), (c.new-draft.ensures, ((λ k d lt. good_ascends _ (c.requires.good k d lt)), few_records c.args.lines c.args.records.now c.requires.lines)))
+pub grow-requires : goal.grow-requires
+grow-requires g c κs = ((refl, tt), (c.new-draft.ensures, ((λ k d lt. good_ascends _ (c.requires.good k d lt)), few_records c.args.lines c.args.records.now c.requires.lines)))
 
 pub returns-in-Ok-clause-faultless : goal.returns-in-Ok-clause-faultless
 returns-in-Ok-clause-faultless g c =

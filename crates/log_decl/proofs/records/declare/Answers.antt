@@ -2,7 +2,6 @@ use Rattle.std.proofs.Common.{◌∙◌, ap, sym, refl, List, arith}
 use Rattle.spy_grammar.specs.declared.record.Lined.{Lined}
 use Rattle.semantics.specs.Tables.{tables_of}
 use Rattle.semantics.specs.Faults.{declaration_fault}
-use Rattle.logs.specs.Decls.{decls_of}
 use Rattle.log_reading.proofs.lemmas.Numbered.{good_records}
 use Rattle.log_decl.proofs.records.declare.Goals as goal
 
@@ -21,7 +20,7 @@ of-requires g c κs =
           faultless = ap (λ (log : List Lined). declaration_fault c.args.lines log) (sym is) ∙ c.in-Ok.ensures.faultless;
           tables = tables ∙ ap tables_of is;
         },
-        c.in-Ok.ensures.forest ∙ ap decls_of (sym tables),
+        c.in-Ok.ensures.sound,
       ),
     )
 

@@ -4,7 +4,7 @@ use Rattle.region_tree.proofs.claims.claim_sub.Goals as goal
 
 pub returns-in-Some : goal.returns-in-Some
 returns-in-Some g c =
-    let d = c.args.finder.now in
+    let d = c.args.decls.now in
     let i = c.args.i in
     let points = g.P.PointSet.points c.in-Some.set.now in
     let old = c.args.claims.now.items in
@@ -12,4 +12,4 @@ returns-in-Some g c =
     on_ok_weaker c.push_runs.result (claims_more d i c.in-Some.part points old new c.requires c.in-Some.ensures) c.push_runs.ensures
 
 pub returns-in-None : goal.returns-in-None
-returns-in-None g c = claims_same c.args.finder.now c.args.i c.args.claims.now.items c.requires c.in-None.ensures
+returns-in-None g c = claims_same c.args.decls.now c.args.i c.args.claims.now.items c.requires c.in-None.ensures

@@ -6,14 +6,14 @@ use Rattle.region_tree.proofs.claims.first_meeting.Goals as goal
 
 pub first_overlap-requires-clause-own : goal.first_overlap-requires-clause-own
 first_overlap-requires-clause-own g c =
-    let d = c.args.finder.now in
+    let d = c.args.decls.now in
     let claims = c.sort.new.claims.items in
     let are = claims_permuted d (length d.subs) c.in_ok-claims.claims.items claims c.sort.ensures.claims c.in_ok-claims.ensures in
     subst AreOwn (sym c.as_slice.ensures.value) (are_own d (length d.subs) claims are)
 
 pub returns : goal.returns
 returns g c =
-    let d = c.args.finder.now in
+    let d = c.args.decls.now in
     let claims = c.sort.new.claims.items in
     let are = claims_permuted d (length d.subs) c.in_ok-claims.claims.items claims c.sort.ensures.claims c.in_ok-claims.ensures in
     let found = c.first_overlap.result in

@@ -5,7 +5,7 @@ use Rattle.region_tree.proofs.climb.path_to.Goals as goal
 
 pub loop-up-preserved : goal.loop-up-preserved
 loop-up-preserved g c =
-    let d = c.args.finder.now in
+    let d = c.args.decls.now in
     let up = sym c.step_to.ensures ∙ c.in-Some.is in
     let h = step_up d c.loop-up.top c.in-Some.whole c.in-Some.step up in
     record {

@@ -5,15 +5,15 @@ use Rattle.region_tree.proofs.Finding.{first_shown, none_past_end, handed_on}
 use Rattle.region_tree.proofs.faults.judge.Goals as goal
 
 pub judge_sub-requires : goal.judge_sub-requires
-judge_sub-requires g c = rw c.eq.ensures (meets_here c.args.finder.now c.loop-i.i c.in_ok-meeting.meeting c.in_ok-meeting.ensures c.loop-i.invariant)
+judge_sub-requires g c = rw c.eq.ensures (meets_here c.args.decls.now c.loop-i.i c.in_ok-meeting.meeting c.in_ok-meeting.ensures c.loop-i.invariant)
 
 pub loop-i-preserved : goal.loop-i-preserved
 loop-i-preserved g c = below_more _ _ c.loop-i.invariant c.in_ok-judge_sub.ensures.ok
 
 pub returns-in_err-judge_sub-clause-shown : goal.returns-in_err-judge_sub-clause-shown
 returns-in_err-judge_sub-clause-shown g c =
-    handed_on (ShowsFirst c.args.finder.now) c.from_residual-in_err-judge_sub.result c.in_err-judge_sub.field-0.0 c.from_residual-in_err-judge_sub.ensures.1
-    (first_shown c.args.finder.now c.loop-i.i c.in_err-judge_sub.field-0.0 c.loop-i.invariant c.in_err-judge_sub.ensures.shown)
+    handed_on (ShowsFirst c.args.decls.now) c.from_residual-in_err-judge_sub.result c.in_err-judge_sub.field-0.0 c.from_residual-in_err-judge_sub.ensures.1
+    (first_shown c.args.decls.now c.loop-i.i c.in_err-judge_sub.field-0.0 c.loop-i.invariant c.in_err-judge_sub.ensures.shown)
 
 pub returns-clause-ok : goal.returns-clause-ok
-returns-clause-ok g c = none_past_end c.args.finder.now c.loop-i.i (omega (arith, ap length c.subs-i-end.ensures, c.loop-i-test.false)) c.loop-i.invariant
+returns-clause-ok g c = none_past_end c.args.decls.now c.loop-i.i (omega (arith, ap length c.subs-i-end.ensures, c.loop-i-test.false)) c.loop-i.invariant

@@ -1,10 +1,10 @@
 use Rattle.std.proofs.Common.{rules, ◌∙◌}
 use Rattle.std.proofs.lemmas.List.{map-id}
-use Rattle.region_tree.specs.declared.decls.SubDecl.{SubDecl}
-use Rattle.region_tree.specs.Index.{same_step}
-use Rattle.region_tree.specs.Regions.{step_of}
+use Rattle.semantics.specs.declared.tables.Sub.{Sub}
+use Rattle.region_tree.specs.Firsts.{same_step}
+use Rattle.log_tables.specs.Regions.{step_of}
 use Rattle.region_tree.proofs.Distinct.{distinct_told, steps_told}
 use Rattle.region_tree.proofs.shape.are_steps_distinct.Goals as goal
 
 pub returns : goal.returns
-returns g c = distinct_told _ _ (λ (s : SubDecl). s) step_of same_step steps_told _ _ c.stand_first.result (map-id c.subs.result.now ∙ c.subs.ensures) (λ p o found. search rules) c.stand_first.ensures
+returns g c = distinct_told _ _ (λ (s : Sub). s) step_of same_step steps_told _ _ c.stand_first.result (map-id c.subs.result.now ∙ c.subs.ensures) (λ p o found. search rules) c.stand_first.ensures

@@ -6,7 +6,7 @@ use Rattle.region_tree.proofs.sharing.alias_of.Goals as goal
 pub returns-then-are_apart : goal.returns-then-are_apart
 returns-then-are_apart g c = λ s t path_a path_b.
     let h = c.are_apart.ensures c.if-are_apart.true in
-    none_shared c.args.finder.now c.requires.faultless c.args.a.now c.args.b.now s t h.0 h.1 path_a path_b h.2 h.3 h.4 h.5 h.6
+    none_shared c.args.decls.now c.requires.faultless c.args.a.now c.args.b.now s t h.0 h.1 path_a path_b h.2 h.3 h.4 h.5 h.6
 
 pub returns-in-Some-Some : goal.returns-in-Some-Some
 returns-in-Some-Some g c = λ s t path_a path_b.

@@ -1,5 +1,5 @@
 use Rattle.std.proofs.Common.{subst}
-use Rattle.region_tree.specs.Regions.{Regions}
+use Rattle.log_tables.specs.Regions.{Regions}
 use Rattle.region_tree.specs.Sharing.{IsLeastShared}
 use Rattle.region_tree.proofs.forest.Forest.alias.Goals as goal
 

@@ -1,9 +1,0 @@
-use Rattle.std.proofs.Common.{◌==◌, ap, ◌∙◌}
-use Rattle.std.specs.List.{position_from}
-use Rattle.region_tree.specs.Regions.{Regions}
-use Rattle.region_tree.proofs.finder.Finder.part_place.Goals as goal
-
-pub returns-in-Some : goal.returns-in-Some
-returns-in-Some g c =
-    c.copied.ensures ∙ c.get.ensures.value ∙ (c.self.invariant c.in-Some.index c.in-Some.is).parts_at c.args.id
-    ∙ ap (λ (d : Regions). position_from (λ p. c.args.id == p.id) 0 d.parts) c.self.view_is
