@@ -1,5 +1,5 @@
 -- How deep spaces lie.
-use Rattle.std.proofs.Common.{◌≡◌, ℕ, zero, suc, ◌+◌, ◌≤◌, false, nat_lt, length, Option, Some, None, sym, ap, ◌∙◌, inl, inr, arith}
+use Rattle.std.proofs.Common.{◌≡◌, ℕ, zero, suc, ◌+◌, ◌<◌, ◌≤◌, false, nat_lt, length, Option, Some, None, sym, ap, ◌∙◌, inl, inr, arith}
 use Rattle.std.specs.Option.{option_map, option_map_or}
 use Rattle.std.proofs.lemmas.Bool.{cases_lt}
 use Rattle.std.proofs.lemmas.Bool.Decides.{nat_tests}
@@ -9,6 +9,7 @@ use Rattle.log_tables.specs.Regions.{regions_of, whole_of}
 use Rattle.region_tree.specs.Ancestors.{ancestor_of}
 use Rattle.list_lemmas.proofs.lemmas.Firsts.{cases_option}
 use Rattle.region_tree.proofs.lemmas.Climbs.{ancestor-sum, ends}
+use Rattle.semantics.specs.declared.limits.TheConstants.{DEEPEST}
 use Rattle.semantics.specs.Tables.{Tables}
 use Rattle.semantics.specs.declared.tables.Part as parts
 use Rattle.semantics.specs.Points.{part_at, space_above, upward, spaces_above}
@@ -34,17 +35,17 @@ counted t (suc k) (suc m) w root e le =
           omega arith
     ]
 
-not_deep : (l : ℕ) → nat_lt 64 (1 + l) ≡ false → l ≤ 63
-not_deep l e = elim (cases_lt 63 l) [ inl lt ↦ grind (arith, nat_tests) | inr le ↦ le ]
+not_deep : (l : ℕ) → nat_lt 64 (1 + l) ≡ false → l < 64
+not_deep l e = elim (cases_lt 63 l) [ inl lt ↦ grind (arith, nat_tests) | inr le ↦ omega (arith, le) ]
 
 -- A subspace that is not too deep.
-pub depth_told : (t : Tables) (part colour space : ℕ) → IsGrown (regions_of t) → is_too_deep t (Sub part colour space) ≡ false → (whole root n : ℕ) → whole_of (regions_of t) part ≡ Some whole → ancestor_of (regions_of t) n whole ≡ Some root → n ≤ 63
+pub depth_told : (t : Tables) (part colour space : ℕ) → IsGrown (regions_of t) → is_too_deep t (Sub part colour space) ≡ false → (whole root n : ℕ) → whole_of (regions_of t) part ≡ Some whole → ancestor_of (regions_of t) n whole ≡ Some root → n < DEEPEST
 depth_told t part colour space grown deep whole root n is e =
     let most : n ≤ length t.subs = grown.counted whole root n e in
     let high : n ≤ length (spaces_above t whole) = counted t (length t.subs) n whole root e most in
-    let low : length (spaces_above t whole) ≤ 63 = at_part (part_at t part) is deep in
+    let low : length (spaces_above t whole) < 64 = at_part (part_at t part) is deep in
     omega arith
   where
-    at_part : (o : Option parts.Part) → option_map (λ (p : parts.Part). p.space) o ≡ Some whole → nat_lt 64 (1 + option_map_or (λ (p : parts.Part). length (spaces_above t p.space)) o 0) ≡ false → length (spaces_above t whole) ≤ 63
+    at_part : (o : Option parts.Part) → option_map (λ (p : parts.Part). p.space) o ≡ Some whole → nat_lt 64 (1 + option_map_or (λ (p : parts.Part). length (spaces_above t p.space)) o 0) ≡ false → length (spaces_above t whole) < 64
     at_part None none shallow = absurd (none-some whole none)
     at_part (Some p) here shallow = not_deep (length (spaces_above t whole)) (ap (λ s. nat_lt 64 (1 + length (spaces_above t s))) (sym (same_Some p.space whole here)) ∙ shallow)

@@ -1,5 +1,6 @@
 -- Spaces above and below one another.
 use Rattle.std.specs.Prelude.{◌≡◌, ℕ, suc, zero, ◌≤◌, Option, Some, IsSome, option_and_then}
+use Rattle.semantics.specs.declared.limits.TheConstants.{DEEPEST}
 use Rattle.log_tables.specs.Regions.{Regions, space_of, parent_of}
 
 -- The space that lies so many steps above this one.
@@ -7,9 +8,9 @@ abbrev pub ancestor_of : Regions → ℕ → ℕ → Option ℕ
 ancestor_of d zero space = Some space
 ancestor_of d (suc n) space = option_and_then (parent_of d) (ancestor_of d n space)
 
--- No space lies more than 64 steps above this one.
+-- No space lies more than `DEEPEST` steps above this one.
 abbrev pub IsShallow : Regions → ℕ → Type 0
-IsShallow d space = (root n : ℕ) → ancestor_of d n space ≡ Some root → n ≤ 64
+IsShallow d space = (root n : ℕ) → ancestor_of d n space ≡ Some root → n ≤ DEEPEST
 
 -- The space lies below the root.
 abbrev pub IsBelow : Regions → ℕ → ℕ → Type 0

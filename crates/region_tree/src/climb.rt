@@ -8,10 +8,10 @@ ghost use Rattle.region_tree.specs.Shape.{IsForest};
 
 use crate::lookups::{has_space, step_to};
 use crate::path::Path;
-use crate::shape::DEPTH_LIMIT;
 use log_tables::Decls;
 use memory::Memory;
 use point_set::PointSet;
+use semantics::DEEPEST;
 use smallvec::SmallVec;
 use std::alloc::Global;
 
@@ -24,7 +24,7 @@ pub(crate) fn is_under<P: PointSet>(decls: &Decls<P>, space: u32, root: u32) -> 
         return false;
     }
     let mut at = space;
-    for _up in 0..DEPTH_LIMIT + 1 {
+    for _up in 0..DEEPEST + 1 {
         if at == root {
             return true;
         }
@@ -48,7 +48,7 @@ pub(crate) fn path_to<P: PointSet>(
 {
     let mut steps = SmallVec::new(alloc);
     let mut top = space;
-    for _up in 0..DEPTH_LIMIT + 1 {
+    for _up in 0..DEEPEST + 1 {
         match step_to(decls, top) {
             Some((step, whole)) => {
                 steps.insert(0, step)?;

@@ -9,9 +9,7 @@ ghost use Rattle.region_tree.specs.Shape.{IsForest};
 use crate::lookups::{child_place, has_space, part_place, space_place, step_of, sub_place, subs};
 use log_tables::Decls;
 use point_set::PointSet;
-
-/// How many steps a path has at most.
-pub(crate) const DEPTH_LIMIT: usize = 64;
+use semantics::DEEPEST;
 
 /// Whether each item stands at the place that `first_place` finds for it.
 fn stand_first<T, F: Fn(&T) -> Option<usize>>(items: &[T], first_place: F) -> bool
@@ -76,12 +74,12 @@ fn are_spaces_declared<P: PointSet>(decls: &Decls<P>) -> bool
     subs(decls).iter().all(|s| has_space(decls, s.space))
 }
 
-/// Whether no space lies more than `DEPTH_LIMIT` steps above this one.
+/// Whether no space lies more than `DEEPEST` steps above this one.
 fn is_shallow<P: PointSet>(decls: &Decls<P>, space: u32) -> bool
     ensures { IsTrue result ↔ IsShallow decls.now space }
 {
     let mut at = space;
-    for _up in 0..DEPTH_LIMIT + 1 {
+    for _up in 0..DEEPEST + 1 {
         match decls.parent(at) {
             Some(parent) => at = parent,
             None => return true,
@@ -90,7 +88,7 @@ fn is_shallow<P: PointSet>(decls: &Decls<P>, space: u32) -> bool
     false
 }
 
-/// Whether no space lies more than `DEPTH_LIMIT` steps above a subspace.
+/// Whether no space lies more than `DEEPEST` steps above a subspace.
 fn are_subs_shallow<P: PointSet>(decls: &Decls<P>) -> bool
     ensures { IsTrue result ↔ All (λ s. IsShallow decls.now s.space) decls.now.subs }
 {

@@ -1,5 +1,5 @@
 -- A forest, one declaration later.
-use Rattle.std.proofs.Common.{◌≡◌, ◌≢◌, ℕ, zero, suc, ◌+◌, ◌≤◌, ◌==◌, [], ◌∷◌, length, Option, Some, None, IsSome, cond, All, subst, refl, sym, ap, ◌∙◌, inl, inr, arith, eq-eqb, length-append}
+use Rattle.std.proofs.Common.{◌≡◌, ◌≢◌, ℕ, zero, suc, ◌+◌, ◌≤◌, ◌<◌, ◌==◌, [], ◌∷◌, length, Option, Some, None, IsSome, cond, All, subst, refl, sym, ap, ◌∙◌, inl, inr, arith, eq-eqb, length-append}
 use Rattle.std.specs.Option.{option_and_then, option_or, option_map}
 use Rattle.std.proofs.lemmas.Bool.{cases_eq, eqb-true, ne_eqb}
 use Rattle.std.proofs.lemmas.Option.{none-some, same_Some, option_and_then_some}
@@ -97,7 +97,7 @@ shallow_sub d s grown may space root zero e = omega arith
 shallow_sub d s grown may space root (suc n) e = elim (cases_eq space s.space) [
   | inl is ↦
       let h = ancestors_new d s may root n (ap (λ x. ancestor_of (with_sub d s) (suc n) x) (sym is) ∙ e) in
-      let k : n ≤ 63 = may.depth h.0 root n h.1 h.2 in
+      let k : n < 64 = may.depth h.0 root n h.1 h.2 in
       omega arith
   | inr ne ↦ grown.forest.shallow space root (suc n) (sym (ancestors_other d s space may.whole ne (suc n)) ∙ e)
 ]
