@@ -19,7 +19,6 @@ ghost use Rattle.semantics.specs.declared.command.Command.TheVariants.{Check};
 ghost use Rattle.semantics.specs.Faults.{log_fault};
 
 /// The nodes have different events, and wait on events of nodes alone.
-#[tactic(auto, using(crate::proofs::lemmas::Laws::faultless_linked))]
 pub fn faultless_logs_are_linked()
     ensures { (command : Command) (lines : ℕ) (log : List Lined) → AllByRecursion Good (records_of log)
         → log_fault command lines log ≡ None
@@ -32,7 +31,6 @@ pub fn faultless_logs_are_tidy()
 {}
 
 /// Where there is no cycle, the steps in replay order are an interleaving: so there is one.
-#[tactic(auto, using(crate::proofs::lemmas::Laws::replay_interleaves))]
 pub fn replay_is_an_interleaving()
     ensures { (lines : ℕ) (log : List Lined) → AllByRecursion Good (records_of log)
         → log_fault Check lines log ≡ None

@@ -27,6 +27,7 @@ use Rattle.semantics.specs.Races.{IsRaceFree}
 use Rattle.semantics.specs.Reads.{Seen, Differs, IsRight, shown_difference, want_of}
 use Rattle.semantics.specs.Shown.{event_of, IsKept, is_task_at, run_of, task_pairs}
 use Rattle.semantics.specs.Faults.{log_fault}
+use Rattle.log_laws.proofs.lemmas.Admitted.{faultless}
 use Rattle.log_laws.proofs.lemmas.Members.{Member, member_of, contains_of, member_filter, member_flat, member_map, member_right, none_or_some}
 use Rattle.log_laws.proofs.lemmas.Cycles.{cycle_is_stuck, none_shown, shown_is_cycle}
 use Rattle.log_laws.proofs.lemmas.Rounds.{before_met}
@@ -236,7 +237,7 @@ found_in command lines log good =
     let nodes = graph_of t.nodes in
     some_found command lines log
     (λ none.
-    let linked = faultless_linked command lines log good none in
+    let linked = faultless_linked command log good (faultless command lines log none) in
     record {
       linked = linked;
       behind = λ front k back is j waits. before_met nodes linked front k back is j ([], waits);
@@ -248,5 +249,5 @@ found_in command lines log good =
     (λ clear. record {
       right = right_everywhere lines log good clear;
       differs = differs_everywhere lines log good clear;
-      links = λ ask acyclic free. some_list lines log good clear acyclic free ask;
+      links = λ ask acyclic free. some_list log good (faultless commands.Check lines log clear) acyclic free ask;
     })

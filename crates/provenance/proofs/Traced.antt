@@ -1,7 +1,6 @@
 -- What is traced back from a read is where it came from.
 use Rattle.std.proofs.Common.{◌≡◌, ◌↔◌, ℕ, ◌==◌, ◌&&◌, ◌<◌, ◌≤◌, ◌+◌, inl, inr, Bool, true, false, cond, List, [], ◌∷◌, ◌++◌, map, filter, reverse, length, take, drop, get_or, position, refl, sym, ap, ◌∙◌, subst, Some, None, arith, nat_lt, take-append-drop, Contains}
 use Rattle.std.specs.List.{position_or_len}
-use Rattle.std.specs.Option.{option_or}
 use Rattle.std.proofs.lemmas.Bool.{true≢false, cases_Bool, and_parts, eqb-true, eq-eqb, ltb-false, false_from_ne_true}
 use Rattle.std.proofs.lemmas.List.{reverse-append, map-append, drop_more}
 use Rattle.std.proofs.lemmas.List.Quantifiers.{position-Some}
@@ -16,14 +15,14 @@ use Rattle.semantics.specs.declared.moves.Move.TheVariants.{Read}
 use Rattle.semantics.specs.Tables.{Tables, tables_of}
 use Rattle.semantics.specs.Events.{HasNoCycle}
 use Rattle.semantics.specs.Steps.{Step, steps}
-use Rattle.semantics.specs.Faults.{serial_fault, unmapped_fault, log_fault}
+use Rattle.semantics.specs.Faults.{unmapped_fault}
 use Rattle.semantics.specs.Interleavings.{IsInterleaving}
 use Rattle.semantics.specs.Races.{IsRaceFree}
 use Rattle.semantics.specs.Reads.{replay_steps}
 use Rattle.semantics.specs.Links.{Source, sources_of, cell_read, ComesFrom, IsTrail, is_asked, IsNoRead, AreLinksOf, TellValue, EndsInOrigin}
 use Rattle.logs.specs.Faultless.{AreDeclared}
 use Rattle.log_laws.proofs.lemmas.Members.{Member, member_of, contains_of, member_left, member_right, member_map, filter_member}
-use Rattle.log_laws.proofs.lemmas.Admitted.{faultless}
+use Rattle.log_laws.proofs.lemmas.Admitted.{IsFaultless, no_broken_rule}
 use Rattle.log_laws.proofs.lemmas.Laws.{replay_interleaves}
 use Rattle.point_laws.specs.Alike.{is_at}
 use Rattle.trail_laws.proofs.lemmas.CopiedCells.{CopyStays, copies_stay}
@@ -35,7 +34,7 @@ use Rattle.provenance.proofs.Back.{comes_back}
 
 -- ---- the laws
 
--- What a log without a fault, a cycle and a race keeps.
+-- What a log that maps each field keeps, where it has no cycle and no race.
 pub record Keeps (t : Tables) : Type 0 where
   pub replay : IsInterleaving t (replay_steps t)
   pub stays : (x : Step) → Contains (steps t) x → CopyStays x.move
@@ -44,26 +43,21 @@ pub record Keeps (t : Tables) : Type 0 where
   pub ends : (ask : Ask) (ls : List Link) → AreLinksOf t ask ls → EndsInOrigin ls
   pub starts : (ask : Ask) (ls : List Link) → AreLinksOf t ask ls → (l : Link) → Contains ls l → (l.done ≡ 0) ↔ (l.kind ≡ kinds.Start)
 
--- A log whose tables have no fault has none.
-admitted : (t : Tables) (d : AreDeclared t) → serial_fault t ≡ None → unmapped_fault t ≡ None → log_fault Check d.lines d.log ≡ None
-unfolding log_fault
-admitted t d serial mapped =
-    let u = tables_of d.log in
-    ap (λ o. option_or o (option_or (serial_fault u) (unmapped_fault u))) d.faultless
-    ∙ ap (λ o. option_or o (unmapped_fault u)) (subst (λ u. serial_fault u ≡ None) d.tables serial)
-    ∙ subst (λ u. unmapped_fault u ≡ None) d.tables mapped
+-- The laws ask for no more of a log than that its fields are mapped.
+admitted : (t : Tables) (d : AreDeclared t) → unmapped_fault t ≡ None → IsFaultless Check d.log
+admitted t d mapped = record { records = no_broken_rule d.lines d.log d.faultless; maps = subst (λ u. unmapped_fault u ≡ None) d.tables mapped }
 
-pub keeps : (t : Tables) → AreDeclared t → serial_fault t ≡ None → unmapped_fault t ≡ None → HasNoCycle t → IsRaceFree t → Keeps t
-keeps t d serial mapped no_cycle free =
-    let none = admitted t d serial mapped in
+pub keeps : (t : Tables) → AreDeclared t → unmapped_fault t ≡ None → HasNoCycle t → IsRaceFree t → Keeps t
+keeps t d mapped no_cycle free =
+    let f = admitted t d mapped in
     let acyclic : HasNoCycle (tables_of d.log) = subst HasNoCycle d.tables no_cycle in
     subst Keeps (sym d.tables) (record {
-      replay = replay_interleaves d.lines d.log d.good none acyclic;
-      stays = copies_stay d.log (faultless Check d.lines d.log none);
-      trails = trails.trail_of_replay d.lines d.log d.good none acyclic (subst IsRaceFree d.tables free);
-      value = trails.tell_value d.lines d.log d.good none acyclic;
-      ends = trails.ends d.lines d.log d.good none acyclic;
-      starts = trails.starts d.lines d.log d.good none acyclic;
+      replay = replay_interleaves d.log d.good f acyclic;
+      stays = copies_stay d.log f;
+      trails = trails.trail_of_replay d.log d.good f acyclic (subst IsRaceFree d.tables free);
+      value = trails.tell_value d.log d.good f acyclic;
+      ends = trails.ends d.log d.good f acyclic;
+      starts = trails.starts d.log d.good f acyclic;
     })
 
 -- ---- the read that is asked for

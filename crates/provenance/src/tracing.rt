@@ -4,7 +4,7 @@ ghost use Rattle.std.specs.Prelude.{◌≡◌, ◌↔◌, ◌∷◌, [], ◌<◌
 ghost use Rattle.semantics.specs.declared.links.Link.{Link};
 ghost use Rattle.semantics.specs.declared.links.LinkKind.TheVariants as kinds;
 ghost use Rattle.semantics.specs.Events.{graph_of};
-ghost use Rattle.semantics.specs.Faults.{serial_fault, unmapped_fault};
+ghost use Rattle.semantics.specs.Faults.{unmapped_fault};
 ghost use Rattle.semantics.specs.Links.{AreLinksOf, EndsInOrigin, IsNoRead, TellValue};
 ghost use Rattle.semantics.specs.Races.{IsRaceFree};
 ghost use Rattle.semantics.specs.Reads.{replay_steps};
@@ -49,7 +49,6 @@ pub fn trace<'a, P: ArenaSet<'a>>(
     order: &Order,
     ask: &Ask,
 ) -> Result<Vec<Link>, TraceEnd>
-    requires serial { serial_fault log.now ≡ None }
     requires mapped { unmapped_fault log.now ≡ None }
     requires order { IsOrderOf (graph_of log.now.nodes) order.now }
     requires free { IsRaceFree log.now }

@@ -6,7 +6,7 @@ ghost use Rattle.findings.specs.Texts as texts;
 ghost use Rattle.semantics.specs.declared.links.Link.{Link};
 ghost use Rattle.semantics.specs.declared.links.LinkKind.TheVariants as kinds;
 ghost use Rattle.semantics.specs.Events.{graph_of};
-ghost use Rattle.semantics.specs.Faults.{serial_fault, unmapped_fault};
+ghost use Rattle.semantics.specs.Faults.{unmapped_fault};
 ghost use Rattle.semantics.specs.Links.{AreLinksOf, EndsInOrigin};
 ghost use Rattle.semantics.specs.Races.{IsRaceFree};
 ghost use Rattle.event_graph.specs.Orders.{IsOrderOf};
@@ -75,7 +75,6 @@ pub fn read_finding<'a, P: ArenaSet<'a>>(
     order: &Order,
     ask: &Ask,
 ) -> Result<Finding, Memory>
-    requires serial { serial_fault log.now ≡ None }
     requires mapped { unmapped_fault log.now ≡ None }
     requires order { IsOrderOf (graph_of log.now.nodes) order.now }
     requires free { IsRaceFree log.now }

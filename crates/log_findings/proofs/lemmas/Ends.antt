@@ -1,7 +1,6 @@
 -- What is found in tables is found in the log.
 use Rattle.std.proofs.Common.{◌≡◌, ℕ, ◌+◌, ◌<◌, ◌≤◌, ◌^◌, List, [], ◌∷◌, ◌++◌, length, fold, refl, sym, ap, ◌∙◌, subst, arith, Some, None, false, nat_lt}
 use Rattle.std.specs.List.{AllByRecursion}
-use Rattle.std.specs.Option.{option_or}
 use Rattle.std.proofs.lemmas.Bool.Decides.{nat_tests}
 use Rattle.std.proofs.lemmas.List.{length-map, length_push}
 use Rattle.std.proofs.lemmas.List.Elements.{recursion_from_All}
@@ -22,7 +21,7 @@ use Rattle.semantics.specs.Faults.{at_line, declaration_fault, serial_fault, unm
 use Rattle.semantics.specs.declared.links.Ask.{Ask}
 use Rattle.outcomes.specs.Outcome.{IsFound, CheckFinds, WhyFinds}
 use Rattle.semantics.specs.Rules.{is_late}
-use Rattle.log_laws.proofs.lemmas.Admitted.{rule_kept, by_records, no_broken_rule}
+use Rattle.log_laws.proofs.lemmas.Admitted.{IsFaultless, rule_kept, by_records, no_broken_rule}
 use Rattle.log_laws.proofs.lemmas.Members.{both_none}
 use Rattle.logs.specs.Faultless.{AreDeclared}
 use Rattle.log_findings.specs.Findings.{table_fault, IsFoundOf}
@@ -76,12 +75,11 @@ found_in_log command lines log e _ h = (past command lines log e ∙ h.0, h.1)
 
 -- ---- order
 
-pub linked_in : ((command : Command) (lines : ℕ) (log : List Lined) → AllByRecursion Good (records_of log) → log_fault command lines log ≡ None → AreLinked (graph_of (tables_of log).nodes))
-    → (t : Tables) → AreDeclared t → serial_fault t ≡ None → AreLinked (graph_of t.nodes)
-linked_in linked t are serial =
-    let same : serial_fault (tables_of are.log) ≡ None = subst (λ (s : Tables). serial_fault s ≡ None) are.tables serial in
-    let clear : log_fault commands.Ordered are.lines are.log ≡ None = past commands.Ordered are.lines are.log are.faultless ∙ ap (λ o. option_or o None) same in
-    subst (λ (s : Tables). AreLinked (graph_of s.nodes)) (sym are.tables) (linked commands.Ordered are.lines are.log are.good clear)
+pub linked_in : ((command : Command) (log : List Lined) → AllByRecursion Good (records_of log) → IsFaultless command log → AreLinked (graph_of (tables_of log).nodes))
+    → (t : Tables) → AreDeclared t → AreLinked (graph_of t.nodes)
+linked_in linked t are =
+    let f : IsFaultless commands.Ordered are.log = record { records = no_broken_rule are.lines are.log are.faultless; maps = refl } in
+    subst (λ (s : Tables). AreLinked (graph_of s.nodes)) (sym are.tables) (linked commands.Ordered are.log are.good f)
 
 -- ---- a log without a fault of its records has few items and nodes
 

@@ -57,7 +57,7 @@ keeps_of log earlier r u =
     let known = or_parts (not (list_all (is_declared (tables_of earlier)) (names r))) _ (rule_kept codes.UnknownId refl u) in
     record { declared = not-false _ known.0; named = known.1; own = rule_kept codes.SelfInterference refl u; tree = rule_kept codes.WrongTree refl u }
 
--- What it means, part by part, that a command shows no fault of a log.
+-- What the laws use of a log of which a command shows no fault. Nothing of it is about the serial order.
 pub record IsFaultless (command : Command) (log : List Lined) : Type 0 where
   pub records : records_fault (records_of log) [] log ≡ None
   pub maps : map_fault command (tables_of log) ≡ None

@@ -1,5 +1,5 @@
 -- What a log without a fault keeps, as its laws say it.
-use Rattle.std.proofs.Common.{◌≡◌, ℕ, List, None}
+use Rattle.std.proofs.Common.{List}
 use Rattle.std.specs.List.{AllByRecursion}
 use Rattle.spy_grammar.specs.declared.record.Lined.{Lined}
 use Rattle.spy_grammar.specs.Spelling.{Good}
@@ -11,24 +11,22 @@ use Rattle.semantics.specs.Events.{AreLinked, graph_of, HasNoCycle}
 use Rattle.semantics.specs.Interleavings.{IsInterleaving}
 use Rattle.semantics.specs.Races.{IsTidy}
 use Rattle.semantics.specs.Reads.{replay_steps}
-use Rattle.semantics.specs.Faults.{log_fault}
 use Rattle.log_laws.proofs.lemmas.Apart.{Apart}
-use Rattle.log_laws.proofs.lemmas.Admitted.{faultless, sane, all_mapped}
+use Rattle.log_laws.proofs.lemmas.Admitted.{IsFaultless, sane, all_mapped}
 use Rattle.log_laws.proofs.lemmas.Tidy.{tidy, moves_once}
 use Rattle.log_laws.proofs.Strict.{strict}
 use Rattle.log_laws.proofs.Linked.{linked}
 use Rattle.log_laws.proofs.Replay.{at_position, interleaves}
 
-pub faultless_linked : (command : Command) (lines : ℕ) (log : List Lined) → AllByRecursion Good (records_of log) → log_fault command lines log ≡ None → AreLinked (graph_of (tables_of log).nodes)
-faultless_linked command lines log good none = let f = faultless command lines log none in linked command log f (strict command log good f)
+pub faultless_linked : (command : Command) (log : List Lined) → AllByRecursion Good (records_of log) → IsFaultless command log → AreLinked (graph_of (tables_of log).nodes)
+faultless_linked command log good f = linked command log f (strict command log good f)
 
-pub faultless_tidy : (lines : ℕ) (log : List Lined) → log_fault Check lines log ≡ None → IsTidy (tables_of log)
-faultless_tidy lines log none = let f = faultless Check lines log none in tidy (tables_of log) (sane Check log f) (all_mapped log f)
+pub faultless_tidy : (log : List Lined) → IsFaultless Check log → IsTidy (tables_of log)
+faultless_tidy log f = tidy (tables_of log) (sane Check log f) (all_mapped log f)
 
-pub replay_interleaves : (lines : ℕ) (log : List Lined) → AllByRecursion Good (records_of log) → log_fault Check lines log ≡ None → HasNoCycle (tables_of log) → IsInterleaving (tables_of log) (replay_steps (tables_of log))
-replay_interleaves lines log good none no_cycle =
+pub replay_interleaves : (log : List Lined) → AllByRecursion Good (records_of log) → IsFaultless Check log → HasNoCycle (tables_of log) → IsInterleaving (tables_of log) (replay_steps (tables_of log))
+replay_interleaves log good f no_cycle =
     let t = tables_of log in
-    let f = faultless Check lines log none in
     let clear = strict Check log good f in
     let apart = at_position t Apart tt (λ n m. moves_once t (sane Check log f) (all_mapped log f) clear n.op (clear.operations n m)) in
     interleaves t (linked Check log f clear) apart no_cycle

@@ -25,6 +25,7 @@ use Rattle.semantics.specs.Interleavings.{IsInterleaving}
 use Rattle.semantics.specs.Reads.{Seen, replay_steps, want_of, IsRight}
 use Rattle.semantics.specs.Shown.{event_of, IsKept, AreKept, IsShownPair}
 use Rattle.semantics.specs.Faults.{log_fault}
+use Rattle.log_laws.proofs.lemmas.Admitted.{IsFaultless, faultless}
 use Rattle.log_laws.proofs.lemmas.Cycles.{has_cycle}
 use Rattle.log_laws.proofs.lemmas.Rounds.{listed_decides}
 use Rattle.log_laws.proofs.lemmas.Laws.{faultless_linked, replay_interleaves}
@@ -94,8 +95,8 @@ all_replayed t linked none k lt =
     let within : k < length nodes = subst (λ n. k < n) (sym (graph_length t.nodes)) lt in
     (listed_decides nodes k).1 (within, false_from_ne_true (is_stuck nodes k) (λ is. let cycle = has_cycle nodes linked k within is in none cycle.0 cycle.1))
 
-orderly : (lines : ℕ) (log : List Lined) → AllByRecursion Good (records_of log) → log_fault commands.Check lines log ≡ None → AreOrderly (tables_of log)
-orderly lines log good clear = record { replayed = all_replayed (tables_of log) (faultless_linked commands.Check lines log good clear); interleaved = replay_interleaves lines log good clear }
+orderly : (log : List Lined) → AllByRecursion Good (records_of log) → IsFaultless commands.Check log → AreOrderly (tables_of log)
+orderly log good f = record { replayed = all_replayed (tables_of log) (faultless_linked commands.Check log good f); interleaved = replay_interleaves log good f }
 
 -- A read has one list of links.
 abbrev IsOneTrail : Tables → Ask → Type 0
@@ -219,8 +220,10 @@ Known (commands.Why ask) t = AreOrderly t × IsOneTrail t ask
 Known command t = Unit {0}
 
 known : (command : Command) (lines : ℕ) (log : List Lined) → AllByRecursion Good (records_of log) → log_fault command lines log ≡ None → Known command (tables_of log)
-known commands.Check lines log good clear = orderly lines log good clear
-known (commands.Why ask) lines log good none = let clear = sym (why_faults ask lines log) ∙ none in (orderly lines log good clear, λ acyclic. one_trail lines log good clear acyclic ask)
+known commands.Check lines log good clear = orderly log good (faultless commands.Check lines log clear)
+known (commands.Why ask) lines log good none =
+    let f = faultless commands.Check lines log (sym (why_faults ask lines log) ∙ none) in
+    (orderly log good f, λ acyclic. one_trail log good f acyclic ask)
 known command lines log good clear = tt
 
 one_of : (command : Command) (t : Tables) → Known command t → (f g : Finding) → Finds command t f → Finds command t g → f ≡ g

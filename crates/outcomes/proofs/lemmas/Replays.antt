@@ -15,6 +15,7 @@ use Rattle.semantics.specs.Tables.{Tables, tables_of}
 use Rattle.semantics.specs.Events.{HasNoCycle}
 use Rattle.semantics.specs.Races.{IsRaceFree}
 use Rattle.semantics.specs.Faults.{log_fault}
+use Rattle.log_laws.proofs.lemmas.Admitted.{IsFaultless, faultless}
 use Rattle.log_laws.proofs.lemmas.Answers.{one_sight}
 use Rattle.log_laws.proofs.lemmas.Laws.{faultless_tidy, replay_interleaves}
 use Rattle.semantics.specs.Steps.{Step}
@@ -113,8 +114,11 @@ module _ (t : Tables) where
 -- ---- in a log without a fault, a cycle and a race
 
 module _ (lines : ℕ) (log : List Lined) (good : AllByRecursion Good (records_of log)) (none : log_fault Check lines log ≡ None) (no_cycle : HasNoCycle (tables_of log)) (no_race : IsRaceFree (tables_of log)) where
+  admitted : IsFaultless Check log
+  admitted = faultless Check lines log none
+
   pub right_everywhere : shown_difference (tables_of log) ≡ None → IsRight (tables_of log)
-  right_everywhere = right_in_all (tables_of log) (one_sight (tables_of log) (faultless_tidy lines log none) no_race) (replay_interleaves lines log good none no_cycle)
+  right_everywhere = right_in_all (tables_of log) (one_sight (tables_of log) (faultless_tidy log admitted) no_race) (replay_interleaves log good admitted no_cycle)
 
   pub differs_everywhere : (r : Seen) → shown_difference (tables_of log) ≡ Some r → Differs (tables_of log) r
-  differs_everywhere = differs_in_all (tables_of log) (one_sight (tables_of log) (faultless_tidy lines log none) no_race) (replay_interleaves lines log good none no_cycle)
+  differs_everywhere = differs_in_all (tables_of log) (one_sight (tables_of log) (faultless_tidy log admitted) no_race) (replay_interleaves log good admitted no_cycle)

@@ -33,7 +33,7 @@ use Rattle.semantics.specs.Shown.{event_of}
 use Rattle.semantics.specs.Faults.{log_fault}
 use Rattle.semantics.specs.Links.{Source, cell_read, ComesFrom, IsTrail, is_asked, IsNoRead, kind_of, link_of, AreLinksOf, put_by, put_at, value_put, last_put, TellValue, EndsInOrigin}
 use Rattle.log_laws.proofs.lemmas.Members.{Member, member_of, contains_of, member_append, member_map, any_found, none_at}
-use Rattle.log_laws.proofs.lemmas.Admitted.{IsFaultless, faultless}
+use Rattle.log_laws.proofs.lemmas.Admitted.{IsFaultless}
 use Rattle.log_laws.proofs.lemmas.StepLists.{of_node}
 use Rattle.log_laws.proofs.lemmas.Tidy.{place, is_of, read_is, change_of, change_tells, reads, changes}
 use Rattle.log_laws.proofs.lemmas.Laws.{faultless_linked, faultless_tidy, replay_interleaves}
@@ -133,21 +133,18 @@ pub why_faults : (ask : Ask) (lines : ℕ) (log : List Lined) → log_fault (Why
 unfolding log_fault
 why_faults ask lines log = refl
 
-module _ (lines : ℕ) (log : List Lined) (good : AllByRecursion Good (records_of log)) (none : log_fault Check lines log ≡ None) (no_cycle : HasNoCycle (tables_of log)) where
+module _ (log : List Lined) (good : AllByRecursion Good (records_of log)) (f : IsFaultless Check log) (no_cycle : HasNoCycle (tables_of log)) where
   abbrev t : Tables
   t = tables_of log
 
   replay : IsInterleaving t (replay_steps t)
-  replay = replay_interleaves lines log good none no_cycle
-
-  admitted : IsFaultless Check log
-  admitted = faultless Check lines log none
+  replay = replay_interleaves log good f no_cycle
 
   -- No read has two lists of links.
   pub one_list : (ask : Ask) (ls ms : List Link) → AreLinksOf t ask ls → AreLinksOf t ask ms → ls ≡ ms
   one_list ask ls ms a b =
       let xs = replay_steps t in
-      let same : a.read ≡ b.read = one_asked log admitted ask a.read b.read a.is_step b.is_step a.asked b.asked in
+      let same : a.read ≡ b.read = one_asked log f ask a.read b.read a.is_step b.is_step a.asked b.asked in
       let mine : ComesFrom [] xs b.read a.sources = subst (λ x. ComesFrom [] xs x a.sources) same (a.trail xs replay) in
       let sources : a.sources ≡ b.sources = seen_once follow looks xs (held []) b.read a.sources b.sources (once t xs replay) (seen_from [] xs b.read a.sources mine) (seen_from [] xs b.read b.sources (b.trail xs replay)) in
       a.links_are ∙ ap (map (link_of t)) sources ∙ sym b.links_are
@@ -170,12 +167,11 @@ module _ (lines : ℕ) (log : List Lined) (good : AllByRecursion Good (records_o
   starts ask ls a l is =
       let s = member_map (link_of t) a.sources l (subst (λ ls. Member ls l) a.links_are (member_of ls l is)) in
       subst (λ (l : Link). (l.done ≡ 0) ↔ (l.kind ≡ kinds.Start)) (sym s.2) (start_link t s.0.by s.0.cell s.0.adds (λ x e.
-      let of = of_node t _ x (taken ask ls a s.0 x s.1 e) in event_positive Check log good admitted x.node of.node of.is_node))
+      let of = of_node t _ x (taken ask ls a s.0 x s.1 e) in event_positive Check log good f x.node of.node of.is_node))
 
   -- Where nothing was added on the way, what is read is what the last link puts.
   pub tell_value : (ask : Ask) (ls : List Link) → AreLinksOf t ask ls → TellValue t ask ls
   tell_value ask ls a no_add xs il x asked v r =
-      let f = admitted in
       let in_log : Contains (steps t) x = il.in_log x (contains_of xs x (reads_member xs (start t) x v r)) in
       let same : x ≡ a.read = one_asked log f ask x a.read in_log a.is_step asked a.asked in
       let kept : (y : Step) → Member xs y → KeepsAway t y.move = λ y m. steps_kept log f y (member_of (steps t) y (il.in_log y (contains_of xs y m))) in
@@ -186,12 +182,12 @@ module _ (lines : ℕ) (log : List Lined) (good : AllByRecursion Good (records_o
       let there : AreThere tells.cell a.sources = comes_there t [] xs (λ y m. absurd m) kept a.read a.sources comes_so tells.cell (ap cell_read tells.is) in
       let at : place tells.cell ≡ (ask.point, ask.field) = λ i. (tells.at_point i, tells.at_field i) in
       subst (λ ls. last_put t ask ls ≡ Some v) (sym a.links_are)
-      (last_puts t (faultless_linked Check lines log good none) ask a.sources (taken ask ls a) (λ s m. there s m ∙ at) v value)
+      (last_puts t (faultless_linked Check log good f) ask a.sources (taken ask ls a) (λ s m. there s m ∙ at) v value)
 
   module _ (free : IsRaceFree (tables_of log)) where
     -- What a read came from in one interleaving it came from in every other.
     pub alike : (xs ys : List Step) → IsInterleaving t xs → IsInterleaving t ys → (x : Step) (ls : List Source) → ComesFrom [] xs x ls → ComesFrom [] ys x ls
-    alike xs ys a b x ls h = from_seen [] ys x ls ((all_agree Origins (List Source) follow looks turn keep t (faultless_tidy lines log none) free ys xs b a).sights (held []) x ls (seen_from [] xs x ls h))
+    alike xs ys a b x ls h = from_seen [] ys x ls ((all_agree Origins (List Source) follow looks turn keep t (faultless_tidy log f) free ys xs b a).sights (held []) x ls (seen_from [] xs x ls h))
 
     -- So what it came from in the replay is its trail.
     pub trail_of_replay : (x : Step) (ls : List Source) → ComesFrom [] (replay_steps t) x ls → IsTrail t x ls

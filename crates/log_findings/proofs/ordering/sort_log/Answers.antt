@@ -11,4 +11,4 @@ sorting_of-requires-clause-few g c =
 
 pub sorting_of-requires-clause-linked : goal.sorting_of-requires-clause-linked
 sorting_of-requires-clause-linked g c =
-    subst (λ ns. AreLinked (graph_of ns)) (sym c.nodes.ensures) (linked_in faultless_linked c.args.log.now c.is_declared.ensures c.requires)
+    subst (λ ns. AreLinked (graph_of ns)) (sym c.nodes.ensures) (linked_in faultless_linked c.args.log.now c.is_declared.ensures)

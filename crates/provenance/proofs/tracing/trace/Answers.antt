@@ -13,7 +13,7 @@ use Rattle.provenance.proofs.tracing.trace.Goals as goal
 pub returns-in-None-clause-none : goal.returns-in-None-clause-none
 returns-in-None-clause-none g c =
     let t = c.args.log.now in
-    let k : Keeps t = keeps t c.is_declared.ensures c.requires.serial c.requires.mapped c.requires.order.free c.requires.free in
+    let k : Keeps t = keeps t c.is_declared.ensures c.requires.mapped c.requires.order.free c.requires.free in
     λ _. none_asked t c.args.ask.now c.in_ok-taken.taken.items k.replay c.in_ok-taken.ensures.steps
     (subst (λ xs. position (λ (x : Taken). is_asked c.args.ask.now x.step) xs ≡ None) c.as_slice.ensures.value (sym c.in-None.ensures))
 
@@ -27,7 +27,7 @@ unreachable-requires g c =
 pub returns-clause-links : goal.returns-clause-links
 returns-clause-links g c =
     let t = c.args.log.now in
-    let k : Keeps t = keeps t c.is_declared.ensures c.requires.serial c.requires.mapped c.requires.order.free c.requires.free in
+    let k : Keeps t = keeps t c.is_declared.ensures c.requires.mapped c.requires.order.free c.requires.free in
     let rest = take_rest c.deref.result.now (c.in-Some.place + 1) ∙ ap (drop (c.in-Some.place + 1)) c.deref.ensures.value in
     traced t k c.args.ask.now c.in_ok-taken.taken.items c.in-Some.place c.index.result.now c.in-Read.task c.in-Read.req c.in-Read.cell c.in_ok-links.links.items c.in_ok-taken.ensures.steps
     (subst (λ xs. position (λ (x : Taken). is_asked c.args.ask.now x.step) xs ≡ Some c.in-Some.place) c.as_slice.ensures.value (sym c.in-Some.ensures))
@@ -36,19 +36,19 @@ returns-clause-links g c =
 pub returns-clause-value : goal.returns-clause-value
 returns-clause-value g c =
     let t = c.args.log.now in
-    let k : Keeps t = keeps t c.is_declared.ensures c.requires.serial c.requires.mapped c.requires.order.free c.requires.free in
+    let k : Keeps t = keeps t c.is_declared.ensures c.requires.mapped c.requires.order.free c.requires.free in
     k.value c.args.ask.now c.in_ok-links.links.items (returns-clause-links g c)
 
 pub returns-clause-ends : goal.returns-clause-ends
 returns-clause-ends g c =
     let t = c.args.log.now in
-    let k : Keeps t = keeps t c.is_declared.ensures c.requires.serial c.requires.mapped c.requires.order.free c.requires.free in
+    let k : Keeps t = keeps t c.is_declared.ensures c.requires.mapped c.requires.order.free c.requires.free in
     k.ends c.args.ask.now c.in_ok-links.links.items (returns-clause-links g c)
 
 pub returns-clause-starts : goal.returns-clause-starts
 returns-clause-starts g c =
     let t = c.args.log.now in
-    let k : Keeps t = keeps t c.is_declared.ensures c.requires.serial c.requires.mapped c.requires.order.free c.requires.free in
+    let k : Keeps t = keeps t c.is_declared.ensures c.requires.mapped c.requires.order.free c.requires.free in
     k.starts c.args.ask.now c.in_ok-links.links.items (returns-clause-links g c)
 
 pub returns-clause-read : goal.returns-clause-read

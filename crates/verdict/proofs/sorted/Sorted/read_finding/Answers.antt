@@ -1,11 +1,11 @@
 use Rattle.std.proofs.Common.{refl, sym, subst}
 use Rattle.semantics.specs.Races.{IsRaceFree}
 use Rattle.semantics.specs.Tables.{Tables}
-use Rattle.log_findings.proofs.lemmas.Ends.{mapped_of, serial_of}
+use Rattle.log_findings.proofs.lemmas.Ends.{mapped_of}
 use Rattle.verdict.proofs.sorted.Sorted.read_finding.Goals as goal
 
 pub read_finding-requires : goal.read_finding-requires
 read_finding-requires g c =
     let t = c.self.inside.log in
     let free = subst (λ (t : Tables). IsRaceFree t) (sym c.self.view_is) c.requires in
-    λ k. ((refl, tt), (serial_of t c.self.invariant.0, (mapped_of t c.self.invariant.0, (c.self.invariant.1.order, free))))
+    λ k. ((refl, tt), (mapped_of t c.self.invariant.0, (c.self.invariant.1.order, free)))
