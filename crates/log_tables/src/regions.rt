@@ -43,6 +43,21 @@ impl<P: PointSet> Decls<P> {
         }
     }
 
+    /// The declarations in these three lists. It cannot fail: without memory for the places of ids, each look-up goes through a list.
+    pub fn from_vecs(spaces: Vec<Space<P>>, parts: Vec<Part>, subs: Vec<Sub>) -> Decls<P>
+        ensures { result ≡ record {
+          spaces = map (space_seen P.points) spaces.items;
+          parts = parts.items;
+          subs = subs.items;
+        } }
+    {
+        Decls {
+            spaces: Rows::from_vec(spaces),
+            parts: TwoRows::from_vec(parts),
+            subs: TwoRows::from_vec(subs),
+        }
+    }
+
     /// One space more.
     pub fn add_space(&mut self, space: Space<P>) -> Result<(), AllocError>
     where

@@ -1,10 +1,10 @@
 //! Rows that are looked up by a key.
 
-ghost use Rattle.std.specs.Prelude.{◌≡◌, ◌++◌, ◌∷◌, [], OnOk, OnErr, IsOk, ◌<◌, ◌≤◌, ◌+◌, find, length, slice_get, option_and_then};
+ghost use Rattle.std.specs.Prelude.{◌≡◌, ◌++◌, ◌∷◌, [], OnOk, OnErr, IfOk, IfSome, IsOk, ◌<◌, ◌≤◌, ◌+◌, find, length, slice_get, option_and_then};
 ghost use Rattle.std.specs.List.{list_any, position_from};
 ghost use Rattle.std.specs.Option.{option_copied};
 ghost use Rattle.indexmap.specs.IndexMap.{get, spare};
-ghost use Rattle.log_tables.specs.Noted.{NotesFirst};
+ghost use Rattle.log_tables.specs.Noted.{NotesFirst, HoldsPlaces, AreBoth};
 
 use indexmap::IndexMap;
 use std::alloc::{AllocError, Global};
@@ -20,14 +20,16 @@ pub trait Keyed<K> {
 }
 
 /// Rows in the order in which they were added, which contracts see as a list. A row is looked up by its key in constant time: of rows with one key, the first.
+///
+/// Rows that were made of a list when there was no memory for their places are looked through one by one.
 #[derive(Drop)]
 pub struct Rows<K: Copy + Eq + Hash, T: Keyed<K>> {
     rows: Vec<T>,
-    places: IndexMap<K, usize>,
+    places: Option<IndexMap<K, usize>>,
 }
 
 impl<K: Copy + Eq + Hash, T: Keyed<K>> Model for Rows<K, T> {
-    ghost use Rattle.std.specs.Prelude.{List};
+    ghost use Rattle.std.specs.Prelude.{List, IfSome};
     ghost use Rattle.indexmap.specs.IndexMap.{get};
     ghost use Rattle.log_tables.specs.Noted.{HoldsPlaces};
 
@@ -35,7 +37,7 @@ impl<K: Copy + Eq + Hash, T: Keyed<K>> Model for Rows<K, T> {
 
     ghost view = { λ r. r.rows.items };
 
-    ghost invariant = { λ r. HoldsPlaces K.eq T.key_of (get K.eq r.places) r.rows.items };
+    ghost invariant = { λ r. IfSome r.places (λ m. HoldsPlaces K.eq T.key_of (get K.eq m) r.rows.items) };
 }
 
 /// Notes a value of a key, if the key has none yet.
@@ -55,6 +57,37 @@ pub(crate) fn note_first<K: Copy + Eq + Hash, V: Copy>(
     Ok(())
 }
 
+/// Notes the place of a key, if places are noted at all.
+pub(crate) fn note_place<K: Copy + Eq + Hash>(
+    places: &mut Option<IndexMap<K, usize>>,
+    key: K,
+    place: usize,
+) -> Result<(), AllocError>
+    ensures ok { OnOk result (AreBoth places.old places.new
+        (λ old new. NotesFirst (get K.eq old) (get K.eq new) (K.eq key) place)) }
+    ensures err { OnErr result (AreBoth places.old places.new (λ old new. (q : K) → get K.eq new q ≡ get K.eq old q)) }
+    ensures room { IfSome places.old (λ m. 0 < spare m) → IsOk result }
+{
+    match places {
+        Some(noted) => note_first(noted, key, place),
+        None => Ok(()),
+    }
+}
+
+/// The place of each row's key.
+fn places_of<K: Copy + Eq + Hash, T: Keyed<K>>(
+    alloc: Global,
+    rows: &[T],
+) -> Result<IndexMap<K, usize>, AllocError>
+    ensures { IfOk result (λ m. HoldsPlaces K.eq T.key_of (get K.eq m) rows.now) }
+{
+    let mut places = IndexMap::new(alloc);
+    for i in 0..rows.len() {
+        note_first(&mut places, rows[i].key(), i)?;
+    }
+    Ok(places)
+}
+
 /// The row at a place.
 pub(crate) fn row_at<T>(rows: &[T], place: Option<usize>) -> Option<&T>
     ensures { option_copied result ≡ option_and_then (slice_get rows.now) place }
@@ -69,8 +102,16 @@ impl<K: Copy + Eq + Hash, T: Keyed<K>> Rows<K, T> {
     {
         Rows {
             rows: Vec::new(alloc),
-            places: IndexMap::new(alloc),
+            places: Some(IndexMap::new(alloc)),
         }
+    }
+
+    /// These rows. It cannot fail: without memory for their places, they are looked through.
+    pub fn from_vec(rows: Vec<T>) -> Rows<K, T>
+        ensures { result ≡ rows.items }
+    {
+        let places = places_of(*rows.allocator(), &rows).ok();
+        Rows { rows, places }
     }
 
     /// The rows.
@@ -91,14 +132,17 @@ impl<K: Copy + Eq + Hash, T: Keyed<K>> Rows<K, T> {
     pub fn place(&self, key: K) -> Option<usize>
         ensures { result ≡ position_from (λ x. K.eq (T.key_of x) key) 0 self.now }
     {
-        self.places.get(&key).copied()
+        match &self.places {
+            Some(places) => places.get(&key).copied(),
+            None => self.rows.iter().position(|row| row.key() == key),
+        }
     }
 
     /// Whether a row has this key.
     pub fn has(&self, key: K) -> bool
         ensures { result ≡ list_any (λ x. K.eq (T.key_of x) key) self.now }
     {
-        self.places.contains_key(&key)
+        self.place(key).is_some()
     }
 
     /// The first row with this key.
@@ -116,7 +160,7 @@ impl<K: Copy + Eq + Hash, T: Keyed<K>> Rows<K, T> {
         ensures err { OnErr result (self.new ≡ self.old) }
     {
         self.rows.reserve(1)?;
-        note_first(&mut self.places, row.key(), self.rows.len())?;
+        note_place(&mut self.places, row.key(), self.rows.len())?;
         self.rows.push(row)?;
         Ok(())
     }

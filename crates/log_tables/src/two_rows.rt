@@ -1,10 +1,12 @@
 //! Rows that are looked up by either of two keys.
 
-ghost use Rattle.std.specs.Prelude.{◌≡◌, ◌++◌, ◌∷◌, [], OnOk, OnErr, find};
+ghost use Rattle.std.specs.Prelude.{◌≡◌, ◌++◌, ◌∷◌, [], ◌<◌, IfOk, IfSome, OnOk, OnErr, find};
 ghost use Rattle.std.specs.List.{list_any, position_from};
 ghost use Rattle.std.specs.Option.{option_copied};
+ghost use Rattle.indexmap.specs.IndexMap.{get, spare};
+ghost use Rattle.log_tables.specs.Noted.{HoldsPlaces, AreBoth};
 
-use crate::rows::{Keyed, Rows, note_first, row_at};
+use crate::rows::{Keyed, Rows, note_first, note_place, row_at};
 use indexmap::IndexMap;
 use std::alloc::{AllocError, Global};
 use std::hash::Hash;
@@ -22,12 +24,12 @@ pub trait AlsoKeyed<L> {
 #[derive(Drop)]
 pub struct TwoRows<K: Copy + Eq + Hash, L: Copy + Eq + Hash, T: Keyed<K> + AlsoKeyed<L>> {
     rows: Rows<K, T>,
-    places: IndexMap<L, usize>,
+    places: Option<IndexMap<L, usize>>,
 }
 
 impl<K: Copy + Eq + Hash, L: Copy + Eq + Hash, T: Keyed<K> + AlsoKeyed<L>> Model
     for TwoRows<K, L, T> {
-    ghost use Rattle.std.specs.Prelude.{List};
+    ghost use Rattle.std.specs.Prelude.{List, IfSome};
     ghost use Rattle.indexmap.specs.IndexMap.{get};
     ghost use Rattle.log_tables.specs.Noted.{HoldsPlaces};
 
@@ -35,7 +37,32 @@ impl<K: Copy + Eq + Hash, L: Copy + Eq + Hash, T: Keyed<K> + AlsoKeyed<L>> Model
 
     ghost view = { λ r. r.rows };
 
-    ghost invariant = { λ r. HoldsPlaces L.eq T.also_of (get L.eq r.places) r.rows };
+    ghost invariant = { λ r. IfSome r.places (λ m. HoldsPlaces L.eq T.also_of (get L.eq m) r.rows) };
+}
+
+/// The place of each row's second key.
+fn also_places_of<L: Copy + Eq + Hash, T: AlsoKeyed<L>>(
+    alloc: Global,
+    rows: &[T],
+) -> Result<IndexMap<L, usize>, AllocError>
+    ensures { IfOk result (λ m. HoldsPlaces L.eq T.also_of (get L.eq m) rows.now) }
+{
+    let mut places = IndexMap::new(alloc);
+    for i in 0..rows.len() {
+        note_first(&mut places, rows[i].also(), i)?;
+    }
+    Ok(places)
+}
+
+/// Makes room for one key more, if places are noted at all.
+fn make_room<L: Copy + Eq + Hash>(places: &mut Option<IndexMap<L, usize>>) -> Result<(), AllocError>
+    ensures same { AreBoth places.old places.new (λ old new. (q : L) → get L.eq new q ≡ get L.eq old q) }
+    ensures room { OnOk result (IfSome places.new (λ m. 0 < spare m)) }
+{
+    match places {
+        Some(noted) => noted.reserve(1),
+        None => Ok(()),
+    }
 }
 
 impl<K: Copy + Eq + Hash, L: Copy + Eq + Hash, T: Keyed<K> + AlsoKeyed<L>> TwoRows<K, L, T> {
@@ -45,7 +72,18 @@ impl<K: Copy + Eq + Hash, L: Copy + Eq + Hash, T: Keyed<K> + AlsoKeyed<L>> TwoRo
     {
         TwoRows {
             rows: Rows::new(alloc),
-            places: IndexMap::new(alloc),
+            places: Some(IndexMap::new(alloc)),
+        }
+    }
+
+    /// These rows. It cannot fail, as `Rows::from_vec`.
+    pub fn from_vec(rows: Vec<T>) -> TwoRows<K, L, T>
+        ensures { result ≡ rows.items }
+    {
+        let places = also_places_of(*rows.allocator(), &rows).ok();
+        TwoRows {
+            rows: Rows::from_vec(rows),
+            places,
         }
     }
 
@@ -60,14 +98,21 @@ impl<K: Copy + Eq + Hash, L: Copy + Eq + Hash, T: Keyed<K> + AlsoKeyed<L>> TwoRo
     pub fn also_place(&self, key: L) -> Option<usize>
         ensures { result ≡ position_from (λ x. L.eq (T.also_of x) key) 0 self.now }
     {
-        self.places.get(&key).copied()
+        match &self.places {
+            Some(places) => places.get(&key).copied(),
+            None => self
+                .rows
+                .as_slice()
+                .iter()
+                .position(|row| row.also() == key),
+        }
     }
 
     /// Whether a row has this second key.
     pub fn also_has(&self, key: L) -> bool
         ensures { result ≡ list_any (λ x. L.eq (T.also_of x) key) self.now }
     {
-        self.places.contains_key(&key)
+        self.also_place(key).is_some()
     }
 
     /// The first row with this second key.
@@ -84,11 +129,11 @@ impl<K: Copy + Eq + Hash, L: Copy + Eq + Hash, T: Keyed<K> + AlsoKeyed<L>> TwoRo
         ensures ok { OnOk result (self.new ≡ self.old ++ row ∷ []) }
         ensures err { OnErr result (self.new ≡ self.old) }
     {
-        self.places.reserve(1)?;
+        make_room(&mut self.places)?;
         let place = self.rows.len();
         let key = row.also();
         self.rows.push(row)?;
-        note_first(&mut self.places, key, place)?;
+        note_place(&mut self.places, key, place)?;
         Ok(())
     }
 }

@@ -3,7 +3,7 @@
 use crate::framed_logs::log_of;
 use bumpalo::Bump;
 use point_set::{PointList, PointSet, RunSet};
-use region_tree::{Decls, Forest, ForestFault, Part, Space, Step, Sub, from_vecs, is_forest};
+use region_tree::{Decls, Forest, ForestFault, Part, Space, Step, Sub, is_forest};
 use std::alloc::Global;
 use std::process::Abort;
 use std::test::Fail;
@@ -88,7 +88,7 @@ fn halves<'a>(alloc: Global, arena: &'a Bump, first: u64) -> Option<Decls<RunSet
         })
         .ok()?;
     }
-    from_vecs(alloc, spaces, parts, subs).ok()
+    Some(Decls::from_vecs(spaces, parts, subs))
 }
 
 /// Whether the forest of two halves answers, or else the subspace that is refused, and its least point at fault.
