@@ -8,7 +8,7 @@ use Rattle.spy_grammar.specs.declared.cells.WordCell.{WordCell}
 use Rattle.spy_grammar.specs.declared.cells.WordCell.TheVariants as cells
 use Rattle.spy_grammar.specs.declared.kinds.RecordKind.{RecordKind}
 use Rattle.spy_grammar.specs.declared.record.Record.{Record}
-use Rattle.spy_grammar.specs.Rows.{Row, RowMeaning, Makes, entry, applied, parts_of}
+use Rattle.spy_grammar.specs.Rows.{Row, RowMeaning, Makes, entry, plain_log, applied, parts_of}
 use Rattle.spy_grammar.specs.Reading.{Left, read_row, read_record}
 use Rattle.spy_grammar.specs.Spelling.{Item, row_items, items_of, words_in, spelling}
 use Rattle.spy_grammar.specs.Cells.{with_cell, items_in, parts_items}
@@ -17,14 +17,14 @@ pub parts_told : (k : RecordKind) (m : RowMeaning (entry k).row) → parts_items
 unfolding parts_items
 parts_told k m = refl
 
-pub record_told : (name : List ℕ) (r : Row) (make : Makes r) (s : Left) → read_record (record { name = name; row = r; record_of = make }) s ≡ (applied r make (read_row r s).0, (read_row r s).1)
+pub record_told : {R : Type 0} (name : List ℕ) (r : Row) (make : Makes R r) (s : Left) → read_record (record { name = name; row = r; record_of = make }) s ≡ (applied r make (read_row r s).0, (read_row r s).1)
 unfolding read_record
 record_told name r make s = refl
 
 -- a record's line: its name, and each other word after a space
 pub spelled : (r : Record) → spelling r ≡ (entry (parts_of r).0).name ++ follow 32 (words_in (parts_items (parts_of r)))
 unfolding spelling parts_items
-spelled r = join_follow 32 (entry (parts_of r).0).name (words_in (items_of r))
+spelled r = join_follow 32 (entry (parts_of r).0).name (words_in (items_of plain_log r))
 
 follow-append : (c : ℕ) (ws vs : List (List ℕ)) → follow c (ws ++ vs) ≡ follow c ws ++ follow c vs
 follow-append c [] vs = refl

@@ -14,12 +14,10 @@ use Rattle.spy_words.specs.Classes.{Class, number, points, fields, waits, split,
 use Rattle.spy_words.specs.Faults.{met_with, unless_met, kept, with_part, each_after, both, map_ok, tested}
 use Rattle.spy_words.specs.Reading.{parts, is_digits, number_from, goes_up, span_among, span_from, list_at, has_some, text_at, operator_at, meaning_at, ids_at}
 use Rattle.spy_words.proofs.lemmas.Joins.{parts_some}
-use Rattle.spy_grammar.specs.declared.kinds.TheConstants.{KINDS}
-use Rattle.spy_grammar.specs.declared.kinds.RecordKind.{RecordKind}
-use Rattle.spy_grammar.specs.LineFaults.{Names, row_of, words_after, is_dash, is_span_shaped, is_operator, is_plain_access, is_plain_layout, has_shape, is_number_from, has_numbers, span_of, is_upward, is_in_order, have_shape, have_numbers, are_in_order}
-use Rattle.spy_grammar.specs.Rows.{Row, no_more, some_ids, ◌&◌, entry, kind_at}
-use Rattle.spy_grammar.specs.Reading.{next_word, read_word, read_ids, read_row, read_record, met_at_end, named_record, record_at, is_passed_over, line_at}
-use Rattle.spy_grammar.proofs.lemmas.RowLaws.{found_by_name, named_so}
+use Rattle.spy_grammar.specs.LineFaults.{NamesIn, NamesNone, LacksShape, LacksNumbers, LacksOrder, words_after, is_dash, is_span_shaped, is_operator, is_plain_access, is_plain_layout, has_shape, is_number_from, has_numbers, span_of, is_upward, is_in_order, have_shape, have_numbers, are_in_order}
+use Rattle.spy_grammar.specs.Rows.{Row, no_more, some_ids, ◌&◌, Grammar, kind_in}
+use Rattle.spy_grammar.specs.Reading.{next_word, read_word, read_ids, read_row, read_record, met_at_end, named_record, record_in, is_passed_over, line_in}
+use Rattle.spy_grammar.proofs.lemmas.GrammarLaws.{IsTable, named_so}
 
 -- The fault that is reported, by whether all have their shape, their numbers and their order.
 abbrev pub by_tests : Bool → Bool → Bool → Option LineFault
@@ -361,59 +359,60 @@ only_word spell (x ∷ xs) w f e = by (bytes_eq w (spell x)) (text_at spell xs w
     by true rest later e = absurd (none-some f (ap fault_in e))
     by false rest later e = later e
 
-module _ (line : List ℕ) (kept : is_passed_over line ≡ false) where
+module _ {K R : Type 0} (g : Grammar K R) (table : IsTable K R g) (line : List ℕ) (kept : is_passed_over line ≡ false) where
   -- The first word names a kind, or none.
-  kind_or_none : ((k : RecordKind) × Names line k) ⊎ (kind_at (next_word (parts 32 line)) ≡ Err Word)
-  unfolding kind_at
-  kind_or_none = by (kind_at (next_word (parts 32 line))) refl
+  kind_or_none : ((k : K) × NamesIn g line k) ⊎ (kind_in g (next_word (parts 32 line)) ≡ Err Word)
+  unfolding kind_in
+  kind_or_none = by (kind_in g (next_word (parts 32 line))) refl
     where
-      by : (o : Result RecordKind LineFault) → kind_at (next_word (parts 32 line)) ≡ o → ((k : RecordKind) × Names line k) ⊎ (kind_at (next_word (parts 32 line)) ≡ Err Word)
-      by (Ok k) is = inl (k, named_so _ k is)
-      by (Err f) is = inr (is ∙ ap Err (only_word (λ k. (entry k).name) KINDS (next_word (parts 32 line)) f is))
+      by : (o : Result K LineFault) → kind_in g (next_word (parts 32 line)) ≡ o → ((k : K) × NamesIn g line k) ⊎ (kind_in g (next_word (parts 32 line)) ≡ Err Word)
+      by (Ok k) is = inl (k, named_so g _ k is)
+      by (Err f) is = inr (is ∙ ap Err (only_word (λ k. (g.entry k).name) g.kinds (next_word (parts 32 line)) f is))
 
-  line_is : line_at line ≡ map_ok (λ r. Some r) (named_record (kind_at (next_word (parts 32 line))) (words_after line))
-  unfolding line_at record_at
+  line_is : line_in g line ≡ map_ok (λ r. Some r) (named_record g (kind_in g (next_word (parts 32 line))) (words_after line))
+  unfolding line_in record_in
   line_is = rw kept refl
 
-  unnamed : kind_at (next_word (parts 32 line)) ≡ Err Word → line_at line ≡ Err Word
-  unnamed none = line_is ∙ ap (λ o. map_ok (λ r. Some r) (named_record o (words_after line))) none
+  unnamed : kind_in g (next_word (parts 32 line)) ≡ Err Word → line_in g line ≡ Err Word
+  unnamed none = line_is ∙ ap (λ o. map_ok (λ r. Some r) (named_record g o (words_after line))) none
 
-  line_fault : (k : RecordKind) → Names line k → fault_in (line_at line) ≡ by_tests (have_shape (row_of k) (words_after line)) (have_numbers (row_of k) (words_after line)) (are_in_order (row_of k) (words_after line))
+  line_fault : (k : K) → NamesIn g line k → let r = (g.entry k).row in
+      fault_in (line_in g line) ≡ by_tests (have_shape r (words_after line)) (have_numbers r (words_after line)) (are_in_order r (words_after line))
   unfolding read_record
   line_fault k names =
-      let out = read_row (row_of k) (record { words = words_after line; met = None }) in
-      ap fault_in (line_is ∙ ap (λ o. map_ok (λ r. Some r) (named_record o (words_after line))) (ap kind_at names ∙ found_by_name k))
-      ∙ mapped_fault (λ r. Some r) (named_record (Ok k) (words_after line)) ∙ fault_unless (met_at_end out.1.words out.1.met) _
-      ∙ row_fault (row_of k) (words_after line) true true true
+      let r = (g.entry k).row in
+      let out = read_row r (record { words = words_after line; met = None }) in
+      ap fault_in (line_is ∙ ap (λ o. map_ok (λ r. Some r) (named_record g o (words_after line))) (ap (kind_in g) names ∙ (table.in_table k).named))
+      ∙ mapped_fault (λ r. Some r) (named_record g (Ok k) (words_after line)) ∙ fault_unless (met_at_end out.1.words out.1.met) _
+      ∙ row_fault r (words_after line) true true true
 
   -- With a fault other than that of its first word, the line has a kind.
-  kind_of_fault : (f : LineFault) → (Word ≡ f → ⊥) → line_at line ≡ Err f → (k : RecordKind) × Names line k
+  kind_of_fault : (f : LineFault) → (Word ≡ f → ⊥) → line_in g line ≡ Err f → (k : K) × NamesIn g line k
   kind_of_fault f other e = elim kind_or_none [
     | inl named ↦ named
     | inr none ↦ absurd (other (same_Some Word f (ap fault_in (sym (unnamed none) ∙ e))))
   ]
 
-  pub word_faults : (line_at line ≡ Err Word) ↔ ((k : RecordKind) → Names line k → ⊥)
+  pub word_faults : (line_in g line ≡ Err Word) ↔ NamesNone g line
   word_faults = (
     λ e k names. never_word _ _ _ (sym (line_fault k names) ∙ ap fault_in e),
     λ none. elim kind_or_none [ inl named ↦ absurd (none named.0 named.1) | inr unknown ↦ unnamed unknown ],
   )
 
-  pub form_faults : (line_at line ≡ Err Form) ↔ ((k : RecordKind) × Names line k × (have_shape (row_of k) (words_after line) ≡ false))
+  pub form_faults : (line_in g line ≡ Err Form) ↔ LacksShape g line
   form_faults = (
     λ e. let k = kind_of_fault Form (λ e. absurd cc) e in (k.0, k.1, (tests_form _ _ _).0 (sym (line_fault k.0 k.1) ∙ ap fault_in e)),
-    λ k. fails_so (line_at line) Form (line_fault k.0 k.1 ∙ (tests_form _ _ _).1 k.2),
+    λ k. fails_so (line_in g line) Form (line_fault k.0 k.1 ∙ (tests_form _ _ _).1 k.2),
   )
 
-  pub number_faults : (line_at line ≡ Err Number) ↔ ((k : RecordKind) × Names line k × (have_shape (row_of k) (words_after line) ≡ true) × (have_numbers (row_of k) (words_after line) ≡ false))
+  pub number_faults : (line_in g line ≡ Err Number) ↔ LacksNumbers g line
   number_faults = (
     λ e. let k = kind_of_fault Number (λ e. absurd cc) e in let t = (tests_number_fault _ _ _).0 (sym (line_fault k.0 k.1) ∙ ap fault_in e) in (k.0, k.1, t.0, t.1),
-    λ k. fails_so (line_at line) Number (line_fault k.0 k.1 ∙ (tests_number_fault _ _ _).1 (k.2, k.3)),
+    λ k. fails_so (line_in g line) Number (line_fault k.0 k.1 ∙ (tests_number_fault _ _ _).1 (k.2, k.3)),
   )
 
-  pub order_faults : (line_at line ≡ Err Order)
-      ↔ ((k : RecordKind) × Names line k × (have_shape (row_of k) (words_after line) ≡ true) × (have_numbers (row_of k) (words_after line) ≡ true) × (are_in_order (row_of k) (words_after line) ≡ false))
+  pub order_faults : (line_in g line ≡ Err Order) ↔ LacksOrder g line
   order_faults = (
     λ e. let k = kind_of_fault Order (λ e. absurd cc) e in let t = (tests_order _ _ _).0 (sym (line_fault k.0 k.1) ∙ ap fault_in e) in (k.0, k.1, t.0, t.1, t.2),
-    λ k. fails_so (line_at line) Order (line_fault k.0 k.1 ∙ (tests_order _ _ _).1 (k.2, k.3, k.4)),
+    λ k. fails_so (line_in g line) Order (line_fault k.0 k.1 ∙ (tests_order _ _ _).1 (k.2, k.3, k.4)),
   )

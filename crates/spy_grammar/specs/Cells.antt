@@ -3,7 +3,7 @@ use Rattle.std.specs.Prelude.{List, [], ◌∷◌}
 use Rattle.spy_words.specs.Classes.{any_number, id, points, fields, waits, split, access, coherence, layout}
 use Rattle.spy_grammar.specs.declared.cells.WordCell.{WordCell}
 use Rattle.spy_grammar.specs.declared.cells.WordCell.TheVariants as cells
-use Rattle.spy_grammar.specs.Rows.{Parts, entry}
+use Rattle.spy_grammar.specs.Rows.{Parts, entry, plain_log}
 use Rattle.spy_grammar.specs.Spelling.{Item, word, ids, row_items}
 
 -- What a cell holds, before further items.
@@ -26,5 +26,5 @@ items_in [] = []
 items_in (c ∷ cs) = with_cell c (items_in cs)
 
 -- The items of a record that was taken apart.
-unfoldable pub parts_items : Parts → List Item
+unfoldable pub parts_items : Parts plain_log → List Item
 parts_items p = row_items (entry p.0).row p.1

@@ -8,7 +8,7 @@ use Rattle.spy_words.specs.declared.access.InstKind.TheVariants as instances
 use Rattle.spy_words.specs.Classes.{Class, number, points, fields, waits, split, access, coherence, layout, split_word, access_word, coherence_word, layout_word, ascends, span_before}
 use Rattle.spy_words.specs.Reading.{parts, is_digits, has_leading_zero, has_some}
 use Rattle.spy_grammar.specs.declared.kinds.RecordKind.{RecordKind}
-use Rattle.spy_grammar.specs.Rows.{Row, no_more, some_ids, ◌&◌, entry}
+use Rattle.spy_grammar.specs.Rows.{Row, no_more, some_ids, ◌&◌, Grammar, plain_log}
 use Rattle.spy_grammar.specs.Reading.{next_word}
 
 -- ---- the shape of a word
@@ -101,13 +101,40 @@ abbrev pub are_in_order : Row → List (List ℕ) → Bool
 are_in_order (c & r) (w ∷ ws) = is_in_order c w && are_in_order r ws
 are_in_order r ws = true
 
--- The first word of a line is the name of a kind.
-abbrev pub Names : List ℕ → RecordKind → Type 0
-Names line k = next_word (parts 32 line) ≡ (entry k).name
-
--- The row that the words after it should keep to, and these words.
-abbrev pub row_of : RecordKind → Row
-row_of k = (entry k).row
-
+-- The words of a line after the first.
 abbrev pub words_after : List ℕ → List (List ℕ)
 words_after line = drop 1 (parts 32 line)
+
+-- ---- the faults of a line, by the words of a grammar
+
+-- The first word of a line is the name of a kind.
+abbrev pub NamesIn : {K R : Type 0} → Grammar K R → List ℕ → K → Type 0
+NamesIn g line k = next_word (parts 32 line) ≡ (g.entry k).name
+
+-- The first word is the name of no kind.
+abbrev pub NamesNone : {K R : Type 0} → Grammar K R → List ℕ → Type 0
+NamesNone {K} g line = (k : K) → NamesIn g line k → ⊥
+
+-- It names a kind, and the words after it are too few or too many, or one lacks the shape of its class.
+abbrev pub LacksShape : {K R : Type 0} → Grammar K R → List ℕ → Type 0
+LacksShape {K} g line = (k : K) × NamesIn g line k × (have_shape (g.entry k).row (words_after line) ≡ false)
+
+-- They have their shape, and some number has a zero before further digits, or is too small or too large.
+abbrev pub LacksNumbers : {K R : Type 0} → Grammar K R → List ℕ → Type 0
+LacksNumbers {K} g line = (k : K) × NamesIn g line k × (have_shape (g.entry k).row (words_after line) ≡ true)
+    × (have_numbers (g.entry k).row (words_after line) ≡ false)
+
+-- Their numbers are right too, and some list or run does not ascend.
+abbrev pub LacksOrder : {K R : Type 0} → Grammar K R → List ℕ → Type 0
+LacksOrder {K} g line = (k : K) × NamesIn g line k × (have_shape (g.entry k).row (words_after line) ≡ true)
+    × (have_numbers (g.entry k).row (words_after line) ≡ true) × (are_in_order (g.entry k).row (words_after line) ≡ false)
+
+-- ---- the words of a log
+
+-- The first word of a line is the name of a kind.
+abbrev pub Names : List ℕ → RecordKind → Type 0
+Names line k = NamesIn plain_log line k
+
+-- The row that the words after it should keep to.
+abbrev pub row_of : RecordKind → Row
+row_of k = (plain_log.entry k).row

@@ -1,4 +1,4 @@
--- The table of the format: for each kind of record its first word, the classes of the words after it, and the record that they mean.
+-- The table of the format: for each kind of record its first word, the classes of the words after it, and the record that they mean. A log of another kind has a table of its own, of the same shape.
 use Rattle.std.specs.Prelude.{ℕ, List, codes, Result, Err}
 use Rattle.spy_words.specs.declared.fault.LineFault.{LineFault}
 use Rattle.spy_words.specs.declared.fault.LineFault.TheVariants.{Word}
@@ -24,19 +24,25 @@ RowMeaning some_ids = List ℕ
 RowMeaning (c & r) = Meaning c × RowMeaning r
 
 -- What makes a record of their meanings, taken one after the other.
-abbrev pub Makes : Row → Type 0
-Makes no_more = Record
-Makes some_ids = List ℕ → Record
-Makes (c & r) = Meaning c → Makes r
+abbrev pub Makes : Type 0 → Row → Type 0
+Makes R no_more = R
+Makes R some_ids = List ℕ → R
+Makes R (c & r) = Meaning c → Makes R r
 
--- A line of the table.
-pub record Entry : Type 0 where
+-- A line of a table.
+pub record Entry (R : Type 0) : Type 0 where
   pub name : List ℕ
   pub row : Row
-  pub record_of : Makes row
+  pub record_of : Makes R row
+
+-- A grammar of lines: the kinds of record in order, a line of the table for each, and what the words of a record are, by its kind.
+pub record Grammar (K R : Type 0) : Type 0 where
+  pub kinds : List K
+  pub entry : K → Entry R
+  pub parts_of : R → (k : K) × RowMeaning (entry k).row
 
 -- The table: the first word of each kind, the classes of the words after it, and the record that they mean.
-abbrev pub entry : RecordKind → Entry
+abbrev pub entry : RecordKind → Entry Record
 entry kinds.Header = record { name = codes "legion-spy"; row = any_number & no_more; record_of = records.Header }
 entry kinds.Ispace = record { name = codes "ispace"; row = id & points & no_more; record_of = records.Ispace }
 entry kinds.Part = record { name = codes "part"; row = id & id & split & no_more; record_of = records.Part }
@@ -58,22 +64,8 @@ entry kinds.Fold = record { name = codes "fold"; row = id & id & id & fields & e
 entry kinds.Merge = record { name = codes "merge"; row = event & waits & no_more; record_of = records.Merge }
 entry kinds.End = record { name = codes "end"; row = any_number & no_more; record_of = records.End }
 
--- The record that the words of a row mean.
-abbrev pub applied : (r : Row) → Makes r → RowMeaning r → Record
-applied no_more rec m = rec
-applied some_ids make ns = make ns
-applied (c & r) make m = applied r (make m.0) m.1
-
--- The record of a kind that these words mean.
-abbrev pub made : (k : RecordKind) → RowMeaning (entry k).row → Record
-made k m = applied (entry k).row (entry k).record_of m
-
--- A record, taken apart: its kind, and what its words mean.
-abbrev pub Parts : Type 0
-Parts = (k : RecordKind) × RowMeaning (entry k).row
-
 -- The parts of a record, in the order of its words.
-abbrev pub parts_of : Record → Parts
+abbrev pub parts_of : Record → (k : RecordKind) × RowMeaning (entry k).row
 parts_of (records.Header version) = (kinds.Header, (version, tt))
 parts_of (records.Ispace i set) = (kinds.Ispace, (i, (set, tt)))
 parts_of (records.Part i space disjoint) = (kinds.Part, (i, (space, (disjoint, tt))))
@@ -95,6 +87,34 @@ parts_of (records.Fold src dst space fs done ws) = (kinds.Fold, (src, (dst, (spa
 parts_of (records.Merge done ws) = (kinds.Merge, (done, (ws, tt)))
 parts_of (records.End n) = (kinds.End, (n, tt))
 
+-- The grammar of a log.
+abbrev pub plain_log : Grammar RecordKind Record
+plain_log = record { kinds = KINDS; entry = entry; parts_of = parts_of }
+
+-- The record that the words of a row mean.
+abbrev pub applied : {R : Type 0} → (r : Row) → Makes R r → RowMeaning r → R
+applied no_more rec m = rec
+applied some_ids make ns = make ns
+applied (c & r) make m = applied r (make m.0) m.1
+
+-- The record of a kind that these words mean.
+abbrev pub made : {K R : Type 0} → (g : Grammar K R) → (k : K) → RowMeaning (g.entry k).row → R
+made g k m = applied (g.entry k).row (g.entry k).record_of m
+
+-- A record, taken apart: its kind, and what its words mean.
+abbrev pub Parts : {K R : Type 0} → Grammar K R → Type 0
+Parts {K} g = (k : K) × RowMeaning (g.entry k).row
+
 -- The kind with this first word.
-unfoldable pub kind_at : List ℕ → Result RecordKind LineFault
-kind_at word = text_at (λ k. (entry k).name) KINDS word (Err Word)
+unfoldable pub kind_in : {K R : Type 0} → Grammar K R → List ℕ → Result K LineFault
+kind_in g word = text_at (λ k. (g.entry k).name) g.kinds word (Err Word)
+
+-- What makes a record that includes one of another grammar.
+abbrev pub makes_then : {R S : Type 0} → (R → S) → (r : Row) → Makes R r → Makes S r
+makes_then f no_more rec = f rec
+makes_then f some_ids make = λ ns. f (make ns)
+makes_then f (c & r) make = λ m. makes_then f r (make m)
+
+-- A line of the table of another grammar, whose records this one includes.
+abbrev pub included : {R S : Type 0} → (R → S) → Entry R → Entry S
+included f e = record { name = e.name; row = e.row; record_of = makes_then f e.row e.record_of }

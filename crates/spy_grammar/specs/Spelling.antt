@@ -3,7 +3,7 @@ use Rattle.std.specs.Prelude.{◌≢◌, ℕ, List, [], ◌∷◌, ◌++◌, map
 use Rattle.std.specs.List.{join_with_byte, AllByRecursion}
 use Rattle.spy_words.specs.Classes.{Class, Meaning, word_of, IsGood, IsNumberFrom}
 use Rattle.spy_grammar.specs.declared.record.Record.{Record}
-use Rattle.spy_grammar.specs.Rows.{Row, no_more, some_ids, ◌&◌, RowMeaning, entry, parts_of}
+use Rattle.spy_grammar.specs.Rows.{Row, no_more, some_ids, ◌&◌, RowMeaning, Grammar, plain_log}
 
 -- What stands after the first word: a word of a class, or ids, each a word.
 pub data Item : Type 0 where
@@ -17,8 +17,8 @@ row_items some_ids ns = ids ns ∷ []
 row_items (c & r) m = word c m.0 ∷ row_items r m.1
 
 -- The items of a record.
-abbrev pub items_of : Record → List Item
-items_of r = row_items (entry (parts_of r).0).row (parts_of r).1
+abbrev pub items_of : {K R : Type 0} → Grammar K R → R → List Item
+items_of g r = row_items (g.entry (g.parts_of r).0).row (g.parts_of r).1
 
 -- The words of items.
 abbrev pub words_in : List Item → List (List ℕ)
@@ -27,8 +27,13 @@ words_in (word c m ∷ is) = word_of c m ∷ words_in is
 words_in (ids ns ∷ is) = map decimal ns ++ words_in is
 
 -- A record's line, without its line feed: its words, with one space between every two.
+unfoldable pub spelling_in : {K R : Type 0} → Grammar K R → R → List ℕ
+spelling_in g r = join_with_byte 32 ((g.entry (g.parts_of r).0).name ∷ words_in (items_of g r))
+
+-- The line of a record of a log.
 unfoldable pub spelling : Record → List ℕ
-spelling r = join_with_byte 32 ((entry (parts_of r).0).name ∷ words_in (items_of r))
+unfolding spelling_in
+spelling r = spelling_in plain_log r
 
 -- An item has a spelling.
 abbrev pub IsGoodItem : Item → Type 0
@@ -36,5 +41,9 @@ IsGoodItem (word c m) = IsGood c m
 IsGoodItem (ids ns) = AllByRecursion (IsNumberFrom 1) ns × (ns ≢ [])
 
 -- The record has a spelling.
+abbrev pub GoodIn : {K R : Type 0} → Grammar K R → R → Type 0
+GoodIn g r = AllByRecursion IsGoodItem (items_of g r)
+
+-- The record of a log has a spelling.
 abbrev pub Good : Record → Type 0
-Good r = AllByRecursion IsGoodItem (items_of r)
+Good r = GoodIn plain_log r

@@ -1,13 +1,13 @@
 //! The first word of each kind of record.
 
 ghost use Rattle.std.specs.Prelude.{◌≡◌};
-ghost use Rattle.spy_grammar.specs.Rows.{entry, kind_at};
+ghost use Rattle.spy_grammar.specs.Rows.{entry, kind_in, plain_log};
 
 use crate::kinds::RecordKind::*;
 use spy_words::LineFault;
 
 /// The kinds of record.
-#[derive(Clone, Copy, PartialEq, Eq)]
+#[derive(Clone, Copy)]
 pub enum RecordKind {
     Header,
     Ispace,
@@ -67,9 +67,9 @@ pub fn name_text(kind: RecordKind) -> &'static [u8]
 }
 
 /// The kind with this first word.
-#[tactic(auto, unfolding(crate::specs::Rows::kind_at))]
+#[tactic(auto, unfolding(crate::specs::Rows::kind_in))]
 pub fn kind_of(word: &[u8]) -> Result<RecordKind, LineFault>
-    ensures { result ≡ kind_at word.now }
+    ensures { result ≡ kind_in plain_log word.now }
 {
     let mut rest = KINDS.as_slice();
     while let [kind, more @ ..] = rest {

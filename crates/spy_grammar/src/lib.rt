@@ -5,6 +5,7 @@ mod cells;
 mod code;
 mod kinds;
 mod law;
+mod line;
 mod reading;
 mod record;
 mod row;

@@ -5,14 +5,15 @@ ghost use Rattle.spy_words.specs.declared.fault.LineFault.TheVariants.{Memory};
 ghost use Rattle.spy_words.specs.Faults.{Gives};
 ghost use Rattle.spy_grammar.specs.declared.record.Record.{Record};
 ghost use Rattle.spy_grammar.specs.declared.kinds.RecordKind.TheVariants as kinds;
-ghost use Rattle.spy_grammar.specs.Rows.{entry};
-ghost use Rattle.spy_grammar.specs.Reading.{is_passed_over, line_at, record_at, read_record};
+ghost use Rattle.spy_grammar.specs.Rows.{entry, plain_log};
+ghost use Rattle.spy_grammar.specs.Reading.{is_passed_over, line_at, read_record};
 ghost use Rattle.spy_grammar.specs.Spelling.{spelling, Good};
 
 use crate::kinds::{RecordKind, kind_of};
+use crate::line::{LineKind, any_line};
 use crate::record::Record;
 use crate::row::RowReader;
-use spy_words::{LineFault, Pieces, Read};
+use spy_words::LineFault;
 use std::alloc::{AllocError, Global};
 
 #[tactic(auto, using(crate::proofs::CellLaws::record_told))]
@@ -149,33 +150,22 @@ fn read_words(kind: RecordKind, row: &mut RowReader<'_>) -> Result<Record, Alloc
     }
 }
 
-#[tactic(auto, unfolding(crate::specs::Reading::record_at))]
-fn read_record(alloc: Global, words: Pieces<'_>) -> Read<Record>
-    ensures { IfOk result (λ read. read ≡ record_at words.entry) }
-{
-    let mut row = RowReader::new(alloc, words);
-    match kind_of(row.next()) {
-        Ok(kind) => {
-            let rec = read_words(kind, &mut row)?;
-            Ok(row.end(rec))
-        }
-        Err(fault) => Ok(Err(fault)),
-    }
-}
+impl LineKind for RecordKind {
+    type Rec = Record;
 
-#[tactic(auto, unfolding(crate::specs::Reading::line_at))]
-fn any_line(alloc: Global, line: &[u8]) -> Read<Option<Record>>
-    ensures exact { IfOk result (λ read. read ≡ line_at line.now) }
-    ensures blank { is_passed_over line.now ≡ true → result ≡ Ok (Ok None) }
-{
-    if let [] | [b'#', ..] = line {
-        return Ok(Ok(None));
+    ghost grammar = { plain_log };
+
+    fn named(word: &[u8]) -> Result<RecordKind, LineFault> {
+        kind_of(word)
     }
-    Ok(read_record(alloc, Pieces::of(line, b' '))?.map(Some))
+
+    fn read(self, row: &mut RowReader<'_>) -> Result<Record, AllocError> {
+        read_words(self, row)
+    }
 }
 
 /// What a line, without its line feed, says: nothing if it is blank or a comment.
-#[tactic(auto, using(crate::proofs::lemmas::RowLaws::line_blank, crate::proofs::lemmas::RowLaws::line_spelled, crate::proofs::lemmas::RowLaws::line_good, crate::proofs::lemmas::RowLaws::line_again))]
+#[tactic(auto, unfolding(crate::specs::Reading::line_at), using(crate::proofs::lemmas::RowLaws::line_blank, crate::proofs::lemmas::RowLaws::line_spelled, crate::proofs::lemmas::RowLaws::line_good, crate::proofs::lemmas::RowLaws::line_again))]
 pub fn read_line(alloc: Global, line: &[u8]) -> Result<Option<Record>, LineFault>
     // Of several faults the one that is reported is the one that the definitions report.
     ensures exact { Gives (λ o. o) result (line_at line.now) }
@@ -187,5 +177,5 @@ pub fn read_line(alloc: Global, line: &[u8]) -> Result<Option<Record>, LineFault
     ensures only { (r : Record) → Good r → line.now ≡ spelling r → (result ≡ Ok (Some r))
         ⊎ (result ≡ Err Memory) }
 {
-    any_line(alloc, line)?
+    any_line::<RecordKind>(alloc, line)?
 }
