@@ -1,3 +1,4 @@
 -- Lemmas for the proofs of other crates.
 pub mod GrammarLaws
 pub mod RowLaws
+pub mod LaunchLaws

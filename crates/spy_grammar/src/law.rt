@@ -5,7 +5,8 @@ ghost use Rattle.std.specs.List.{All};
 ghost use Rattle.spy_words.specs.declared.fault.LineFault.TheVariants as faults;
 ghost use Rattle.spy_grammar.specs.declared.kinds.RecordKind.{RecordKind};
 ghost use Rattle.spy_grammar.specs.declared.record.Record.{Record};
-ghost use Rattle.spy_grammar.specs.LineFaults.{Names, are_in_order, have_numbers, have_shape, row_of, words_after};
+ghost use Rattle.spy_grammar.specs.LineFaults.{LacksNumbers, LacksOrder, LacksShape, Names, NamesNone, are_in_order, have_numbers, have_shape, row_of, words_after};
+ghost use Rattle.spy_grammar.specs.Launches.{launch_line_at, launch_log};
 ghost use Rattle.spy_grammar.specs.Reading.{is_passed_over, line_at};
 ghost use Rattle.spy_grammar.specs.Spelling.{spelling, Good};
 
@@ -49,4 +50,16 @@ pub fn faults_in_words()
         ↔ ((k : RecordKind) × Names line k × (have_shape (row_of k) (words_after line) ≡ true)
         × (have_numbers (row_of k) (words_after line) ≡ true)
         × (are_in_order (row_of k) (words_after line) ≡ false)) }
+{}
+
+/// The fault of a line of a launch log that is no blank line and no comment, told as that of a line of a log is, by the words of 22 kinds.
+pub fn launch_faults_in_words()
+    ensures word { (line : List ℕ) → is_passed_over line ≡ false → (launch_line_at line ≡ Err faults.Word)
+        ↔ NamesNone launch_log line }
+    ensures form { (line : List ℕ) → is_passed_over line ≡ false → (launch_line_at line ≡ Err faults.Form)
+        ↔ LacksShape launch_log line }
+    ensures number { (line : List ℕ) → is_passed_over line ≡ false → (launch_line_at line ≡ Err faults.Number)
+        ↔ LacksNumbers launch_log line }
+    ensures order { (line : List ℕ) → is_passed_over line ≡ false → (launch_line_at line ≡ Err faults.Order)
+        ↔ LacksOrder launch_log line }
 {}

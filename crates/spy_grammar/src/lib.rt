@@ -4,6 +4,7 @@
 mod cells;
 mod code;
 mod kinds;
+mod launches;
 mod law;
 mod line;
 mod reading;
@@ -12,8 +13,10 @@ mod row;
 mod writing;
 
 pub use code::Code;
+pub use launches::{LLined, LRecord, read_launch_line};
 pub use law::{
-    faults_in_words, one_spelling, reading_is_of_spellings, spelling_is_one_line, spelling_is_read,
+    faults_in_words, launch_faults_in_words, one_spelling, reading_is_of_spellings,
+    spelling_is_one_line, spelling_is_read,
 };
 pub use memory::Memory;
 pub use reading::read_line;

@@ -120,36 +120,6 @@ fn read_merge(row: &mut RowReader<'_>) -> Result<Record, AllocError>
     Ok(Record::Merge { done: row.id(), waits: row.waits()? })
 }
 
-/// The record of a kind, from the words after the first: the format's table.
-#[tactic(auto, using(crate::proofs::CellLaws::record_told))]
-#[rattlefmt::skip]
-fn read_words(kind: RecordKind, row: &mut RowReader<'_>) -> Result<Record, AllocError>
-    ensures { IfOk result (λ rec. read_record (entry kind) row.old ≡ (rec, row.new)) }
-{
-    match kind {
-        RecordKind::Header => Ok(Record::Header { version: row.number() }),
-        RecordKind::Ispace => read_ispace(row),
-        RecordKind::Part => Ok(Record::Part { id: row.id(), space: row.id(), disjoint: row.split() }),
-        RecordKind::Sub => Ok(Record::Sub { part: row.id(), colour: row.number(), space: row.id() }),
-        RecordKind::Fields => read_fields(row),
-        RecordKind::Tree => Ok(Record::Tree { id: row.id(), space: row.id(), fspace: row.id() }),
-        RecordKind::Redop => Ok(Record::Redop { id: row.id() }),
-        RecordKind::Task => Ok(Record::Task { id: row.id() }),
-        RecordKind::Req => read_req(row),
-        RecordKind::Fill => read_fill(row),
-        RecordKind::Serial => read_serial(row),
-        RecordKind::Inst => read_inst(row),
-        RecordKind::Map => read_map(row),
-        RecordKind::Run => read_run(row),
-        RecordKind::Copy => read_copy(row),
-        RecordKind::Put => read_put(row),
-        RecordKind::Reset => read_reset(row),
-        RecordKind::Fold => read_fold(row),
-        RecordKind::Merge => read_merge(row),
-        RecordKind::End => Ok(Record::End { n: row.number() }),
-    }
-}
-
 impl LineKind for RecordKind {
     type Rec = Record;
 
@@ -159,8 +129,32 @@ impl LineKind for RecordKind {
         kind_of(word)
     }
 
+    /// The format's table.
+    #[tactic(auto, using(crate::proofs::CellLaws::record_told))]
+    #[rattlefmt::skip]
     fn read(self, row: &mut RowReader<'_>) -> Result<Record, AllocError> {
-        read_words(self, row)
+        match self {
+            RecordKind::Header => Ok(Record::Header { version: row.number() }),
+            RecordKind::Ispace => read_ispace(row),
+            RecordKind::Part => Ok(Record::Part { id: row.id(), space: row.id(), disjoint: row.split() }),
+            RecordKind::Sub => Ok(Record::Sub { part: row.id(), colour: row.number(), space: row.id() }),
+            RecordKind::Fields => read_fields(row),
+            RecordKind::Tree => Ok(Record::Tree { id: row.id(), space: row.id(), fspace: row.id() }),
+            RecordKind::Redop => Ok(Record::Redop { id: row.id() }),
+            RecordKind::Task => Ok(Record::Task { id: row.id() }),
+            RecordKind::Req => read_req(row),
+            RecordKind::Fill => read_fill(row),
+            RecordKind::Serial => read_serial(row),
+            RecordKind::Inst => read_inst(row),
+            RecordKind::Map => read_map(row),
+            RecordKind::Run => read_run(row),
+            RecordKind::Copy => read_copy(row),
+            RecordKind::Put => read_put(row),
+            RecordKind::Reset => read_reset(row),
+            RecordKind::Fold => read_fold(row),
+            RecordKind::Merge => read_merge(row),
+            RecordKind::End => Ok(Record::End { n: row.number() }),
+        }
     }
 }
 

@@ -1,16 +1,17 @@
 -- For each row of a table, and for a line of its grammar: what is read has that spelling, and what has a spelling is read from it.
-use Rattle.std.proofs.Common.{◌≡◌, ◌≢◌, ℕ, true, false, ltb, List, [], ◌∷◌, map, Option, Some, None, Result, Ok, Err, refl, sym, ap, subst, ◌∙◌, arith, append-nil}
+use Rattle.std.proofs.Common.{◌≡◌, ◌≢◌, ℕ, Bool, true, false, cond, ltb, List, [], ◌∷◌, map, Option, Some, None, Result, Ok, Err, refl, sym, ap, subst, ◌∙◌, arith, append-nil}
 use Rattle.std.specs.Prelude.{decimal}
+use Rattle.std.specs.Str.{bytes_eq}
 use Rattle.std.specs.List.{All, AllByRecursion, join_with_byte, list_all}
 use Rattle.std.proofs.lemmas.List.Elements.{All-from_recursion}
 use Rattle.spy_words.specs.declared.fault.LineFault.{LineFault}
 use Rattle.spy_words.specs.declared.fault.LineFault.TheVariants.{Word, Form}
 use Rattle.spy_words.specs.Classes.{Class, points, Meaning, about, IsNumberFrom}
-use Rattle.spy_words.specs.Faults.{tested, kept}
-use Rattle.spy_words.specs.Reading.{number_from, parts, each, has_some, list_at, span_from, operator_at, meaning_at, ids_at}
+use Rattle.spy_words.specs.Faults.{map_ok, tested, kept}
+use Rattle.spy_words.specs.Reading.{number_from, parts, each, has_some, list_at, text_at, span_from, operator_at, meaning_at, ids_at}
 use Rattle.spy_words.proofs.lemmas.Joins.{Above, all_lower, above_all, above_join, parts_join, join_parts}
 use Rattle.spy_words.proofs.lemmas.ClassLaws.{tested_ok, kept_ok, unmet, some_tested, number_agrees, each_takes, each_again, text_takes, class_takes, class_again}
-use Rattle.spy_grammar.specs.Rows.{Row, no_more, some_ids, ◌&◌, RowMeaning, Grammar, made, Parts, kind_in}
+use Rattle.spy_grammar.specs.Rows.{Row, no_more, some_ids, ◌&◌, RowMeaning, Makes, Entry, Grammar, applied, made, Parts, kind_in, makes_then, included}
 use Rattle.spy_grammar.specs.Spelling.{row_items, items_of, words_in, spelling_in, IsGoodItem, GoodIn}
 use Rattle.spy_grammar.specs.Reading.{Left, next, read_word, read_ids, read_row, read_record, met_at_end, ended, named_record, record_in, is_passed_over, line_in}
 
@@ -84,6 +85,29 @@ pub named_so : {K R : Type 0} (g : Grammar K R) (w : List ℕ) (k : K) → kind_
 unfolding kind_in
 named_so {K} g w k e = (text_takes K (λ k. (g.entry k).name) (λ k. Unit {0}) g.kinds w (Err Word) k (is_kind g.kinds) (λ e. absurd cc) e).0
 
+-- ---- tables that include another
+
+-- one of some values of another kind is found where that value is
+pub named_along : {A B : Type 0} (f : A → B) (spell : B → List ℕ) (xs : List A) (w : List ℕ) → text_at spell (map f xs) w (Err Word) ≡ map_ok f (text_at (λ x. spell (f x)) xs w (Err Word))
+named_along f spell [] w = refl
+named_along {A} {B} f spell (x ∷ xs) w = ap (cond (bytes_eq w (spell (f x))) (Ok (f x))) (named_along f spell xs w) ∙ by (bytes_eq w (spell (f x))) (text_at (λ x. spell (f x)) xs w (Err Word))
+  where
+    by : (t : Bool) (rest : Result A LineFault) → ◌≡◌ {A = Result B LineFault} (cond t (Ok (f x)) (map_ok f rest)) (map_ok f (cond t (Ok x) rest))
+    by true rest = refl
+    by false rest = refl
+
+applied_then : {R S : Type 0} (f : R → S) (r : Row) (make : Makes R r) (m : RowMeaning r) → applied r (makes_then f r make) m ≡ f (applied r make m)
+applied_then f no_more rec m = refl
+applied_then f some_ids make ns = refl
+applied_then f (c & r) make m = applied_then f r (make m.0) m.1
+
+-- what is read of a line of a table that another includes
+pub read_included : {R S : Type 0} (f : R → S) (e : Entry R) (s : Left) → read_record (included f e) s ≡ (f (read_record e s).0, (read_record e s).1)
+unfolding read_record
+read_included {R} {S} f e s = ap (λ (x : S). (x, (read_row e.row s).1)) (applied_then f e.row e.record_of (read_row e.row s).0)
+
+-- ---- what a grammar reads
+
 passed_by_name : (w : List ℕ) (ws : List (List ℕ)) → is_passed_over w ≡ false → is_passed_over (join_with_byte 32 (w ∷ ws)) ≡ false
 passed_by_name [] ws e = absurd cc
 passed_by_name (b ∷ w) [] e = e
@@ -136,18 +160,12 @@ module _ {K R : Type 0} (g : Grammar K R) (table : IsTable K R g) where
   unfolding line_in
   blank line e = grind arith
 
-  takes : (line : List ℕ) (r : R) → line_in g line ≡ Ok (Some r) → (line ≡ spelling_in g r) × GoodIn g r
+  pub takes : (line : List ℕ) (r : R) → line_in g line ≡ Ok (Some r) → (line ≡ spelling_in g r) × GoodIn g r
   unfolding line_in spelling_in
   takes line r e =
       let read : record_in g (parts 32 line) ≡ Ok r = grind arith in
       let t = record_takes (parts 32 line) r read in
       (join_parts 32 line _ t.0, t.1)
-
-  pub spelled : (line : List ℕ) (r : R) → line_in g line ≡ Ok (Some r) → line ≡ spelling_in g r
-  spelled line r e = (takes line r e).0
-
-  pub is_good : (line : List ℕ) (r : R) → line_in g line ≡ Ok (Some r) → GoodIn g r
-  is_good line r e = (takes line r e).1
 
   pub again : (r : R) → GoodIn g r → line_in g (spelling_in g r) ≡ Ok (Some r)
   unfolding line_in spelling_in

@@ -8,7 +8,7 @@ use Rattle.spy_grammar.specs.declared.record.Record.TheVariants as records
 use Rattle.spy_grammar.specs.Rows.{plain_log, made, parts_of, kind_in}
 use Rattle.spy_grammar.specs.Spelling.{spelling, Good}
 use Rattle.spy_grammar.specs.Reading.{is_passed_over, line_at}
-use Rattle.spy_grammar.proofs.lemmas.GrammarLaws.{InTable, IsTable, again, apart, blank, is_good, no_feed, some, spelled}
+use Rattle.spy_grammar.proofs.lemmas.GrammarLaws.{InTable, IsTable, again, apart, blank, no_feed, some, takes}
 
 in_table : (k : RecordKind) → InTable RecordKind Record plain_log k
 unfolding kind_in
@@ -28,11 +28,11 @@ line_blank = blank plain_log plain_table
 
 pub line_spelled : (line : List ℕ) (r : Record) → line_at line ≡ Ok (Some r) → line ≡ spelling r
 unfolding line_at spelling
-line_spelled = spelled plain_log plain_table
+line_spelled line r e = (takes plain_log plain_table line r e).0
 
 pub line_good : (line : List ℕ) (r : Record) → line_at line ≡ Ok (Some r) → Good r
 unfolding line_at
-line_good = is_good plain_log plain_table
+line_good line r e = (takes plain_log plain_table line r e).1
 
 pub line_again : (r : Record) → Good r → line_at (spelling r) ≡ Ok (Some r)
 unfolding line_at spelling
