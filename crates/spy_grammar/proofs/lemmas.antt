@@ -2,3 +2,4 @@
 pub mod GrammarLaws
 pub mod RowLaws
 pub mod LaunchLaws
+pub mod NestedLaws

@@ -2,6 +2,7 @@ pub mod Rows
 pub mod Spelling
 pub mod Reading
 pub mod Launches
+pub mod Nested
 pub mod LineFaults
 pub mod Cells
 pub use Rattle.spy_words.specs.Classes

@@ -7,6 +7,7 @@ ghost use Rattle.spy_grammar.specs.declared.kinds.RecordKind.{RecordKind};
 ghost use Rattle.spy_grammar.specs.declared.record.Record.{Record};
 ghost use Rattle.spy_grammar.specs.LineFaults.{LacksNumbers, LacksOrder, LacksShape, Names, NamesNone, are_in_order, have_numbers, have_shape, row_of, words_after};
 ghost use Rattle.spy_grammar.specs.Launches.{launch_line_at, launch_log};
+ghost use Rattle.spy_grammar.specs.Nested.{nested_line_at, nested_log};
 ghost use Rattle.spy_grammar.specs.Reading.{is_passed_over, line_at};
 ghost use Rattle.spy_grammar.specs.Spelling.{spelling, Good};
 
@@ -62,4 +63,16 @@ pub fn launch_faults_in_words()
         ↔ LacksNumbers launch_log line }
     ensures order { (line : List ℕ) → is_passed_over line ≡ false → (launch_line_at line ≡ Err faults.Order)
         ↔ LacksOrder launch_log line }
+{}
+
+/// The fault of a line of a nested log that is no blank line and no comment, told as that of a line of a log is, by the words of 23 kinds.
+pub fn nested_faults_in_words()
+    ensures word { (line : List ℕ) → is_passed_over line ≡ false → (nested_line_at line ≡ Err faults.Word)
+        ↔ NamesNone nested_log line }
+    ensures form { (line : List ℕ) → is_passed_over line ≡ false → (nested_line_at line ≡ Err faults.Form)
+        ↔ LacksShape nested_log line }
+    ensures number { (line : List ℕ) → is_passed_over line ≡ false → (nested_line_at line ≡ Err faults.Number)
+        ↔ LacksNumbers nested_log line }
+    ensures order { (line : List ℕ) → is_passed_over line ≡ false → (nested_line_at line ≡ Err faults.Order)
+        ↔ LacksOrder nested_log line }
 {}

@@ -1,8 +1,7 @@
 -- The table of a launch log: what is read of a line has that spelling, and what has a spelling is read from it.
-use Rattle.std.proofs.Common.{◌≡◌, ◌≢◌, ℕ, true, cond, List, [], ◌∷◌, map, codes, Some, None, Result, Ok, Err, refl, sym, ap, ◌∙◌}
+use Rattle.std.proofs.Common.{◌≡◌, ℕ, true, cond, List, codes, Some, None, Result, Ok, refl, ap, ◌∙◌}
 use Rattle.std.specs.Str.{bytes_eq}
 use Rattle.spy_words.specs.declared.fault.LineFault.{LineFault}
-use Rattle.spy_words.specs.declared.fault.LineFault.TheVariants.{Word}
 use Rattle.spy_words.specs.Faults.{map_ok}
 use Rattle.spy_grammar.specs.declared.kinds.TheConstants.{KINDS}
 use Rattle.spy_grammar.specs.declared.kinds.RecordKind.{RecordKind}
