@@ -66,14 +66,14 @@ impl LineKind for LaunchKind {
     ghost grammar = { launch_log };
 
     #[tactic(auto, using(crate::proofs::lemmas::LaunchLaws::launch_named))]
-    fn named(word: &[u8]) -> Result<LaunchKind, LineFault> {
+    fn of_name(word: &[u8]) -> Result<LaunchKind, LineFault> {
         if word == b"launch".as_slice() {
             return Ok(LaunchKind::Launch);
         }
         if word == b"lreq".as_slice() {
             return Ok(LaunchKind::Lreq);
         }
-        Ok(LaunchKind::Plain(RecordKind::named(word)?))
+        Ok(LaunchKind::Plain(RecordKind::of_name(word)?))
     }
 
     fn read(self, row: &mut RowReader<'_>) -> Result<LRecord, AllocError> {

@@ -17,7 +17,7 @@ pub trait LineKind: Copy + Drop {
     ghost grammar: { Grammar Self Self.Rec };
 
     /// The kind with this first word.
-    fn named(word: &[u8]) -> Result<Self, LineFault>
+    fn of_name(word: &[u8]) -> Result<Self, LineFault>
         ensures { result ≡ kind_in grammar word.now };
 
     /// The record of the kind, from the words after the first.
@@ -31,7 +31,7 @@ fn record_of<K: LineKind>(alloc: Global, words: Pieces<'_>) -> Read<K::Rec>
     ensures { IfOk result (λ read. read ≡ record_in K.grammar words.entry) }
 {
     let mut row = RowReader::new(alloc, words);
-    match K::named(row.next()) {
+    match K::of_name(row.next()) {
         Ok(kind) => {
             let rec = kind.read(&mut row)?;
             Ok(row.end(rec))

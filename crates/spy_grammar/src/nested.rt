@@ -60,7 +60,7 @@ impl LineKind for NestedKind {
     ghost grammar = { nested_log };
 
     #[tactic(auto, using(crate::proofs::lemmas::NestedLaws::nested_named))]
-    fn named(word: &[u8]) -> Result<NestedKind, LineFault> {
+    fn of_name(word: &[u8]) -> Result<NestedKind, LineFault> {
         if word == b"group".as_slice() {
             return Ok(NestedKind::Group);
         }
@@ -70,7 +70,7 @@ impl LineKind for NestedKind {
         if word == b"member".as_slice() {
             return Ok(NestedKind::Member);
         }
-        Ok(NestedKind::Plain(RecordKind::named(word)?))
+        Ok(NestedKind::Plain(RecordKind::of_name(word)?))
     }
 
     #[tactic(auto, using(crate::proofs::CellLaws::record_told))]

@@ -125,7 +125,7 @@ impl LineKind for RecordKind {
 
     ghost grammar = { plain_log };
 
-    fn named(word: &[u8]) -> Result<RecordKind, LineFault> {
+    fn of_name(word: &[u8]) -> Result<RecordKind, LineFault> {
         kind_of(word)
     }
 

@@ -12,6 +12,8 @@ mod example_logs;
 #[cfg(test)]
 mod examples;
 #[cfg(test)]
+mod further_lines;
+#[cfg(test)]
 mod hostile;
 #[cfg(test)]
 mod lines;

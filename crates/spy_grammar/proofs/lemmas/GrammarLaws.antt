@@ -156,31 +156,31 @@ module _ {K R : Type 0} (g : Grammar K R) (table : IsTable K R g) where
   unfolding spelling_in
   not_passed r = passed_by_name (g.entry (g.parts_of r).0).name (words_in (items_of g r)) (table.in_table (g.parts_of r).0).kept
 
-  pub blank : (line : List ℕ) → line_in g line ≡ Ok None → is_passed_over line ≡ true
+  pub line_blank : (line : List ℕ) → line_in g line ≡ Ok None → is_passed_over line ≡ true
   unfolding line_in
-  blank line e = grind arith
+  line_blank line e = grind arith
 
-  pub takes : (line : List ℕ) (r : R) → line_in g line ≡ Ok (Some r) → (line ≡ spelling_in g r) × GoodIn g r
+  pub line_takes : (line : List ℕ) (r : R) → line_in g line ≡ Ok (Some r) → (line ≡ spelling_in g r) × GoodIn g r
   unfolding line_in spelling_in
-  takes line r e =
+  line_takes line r e =
       let read : record_in g (parts 32 line) ≡ Ok r = grind arith in
       let t = record_takes (parts 32 line) r read in
       (join_parts 32 line _ t.0, t.1)
 
-  pub again : (r : R) → GoodIn g r → line_in g (spelling_in g r) ≡ Ok (Some r)
+  pub line_again : (r : R) → GoodIn g r → line_in g (spelling_in g r) ≡ Ok (Some r)
   unfolding line_in spelling_in
-  again r good = rw (not_passed r, parts_join 32 (g.entry (g.parts_of r).0).name (words_in (items_of g r)) (words_above r good), record_again r good) refl
+  line_again r good = rw (not_passed r, parts_join 32 (g.entry (g.parts_of r).0).name (words_in (items_of g r)) (words_above r good), record_again r good) refl
 
   -- no two good records are spelled alike
-  pub apart : (r s : R) → GoodIn g r → GoodIn g s → spelling_in g r ≡ spelling_in g s → r ≡ s
-  apart r s good fine e = let t : ◌≡◌ {A = Result (Option R) LineFault} (Ok (Some r)) (Ok (Some s)) = sym (again r good) ∙ ap (line_in g) e ∙ again s fine in cc
+  pub spelled_apart : (r s : R) → GoodIn g r → GoodIn g s → spelling_in g r ≡ spelling_in g s → r ≡ s
+  spelled_apart r s good fine e = let t : ◌≡◌ {A = Result (Option R) LineFault} (Ok (Some r)) (Ok (Some s)) = sym (line_again r good) ∙ ap (line_in g) e ∙ line_again s fine in cc
 
-  pub some : (r : R) → GoodIn g r → spelling_in g r ≢ []
-  some r good e = let t = ap is_passed_over e in let f = not_passed r in absurd cc
+  pub spelling_some : (r : R) → GoodIn g r → spelling_in g r ≢ []
+  spelling_some r good e = let t = ap is_passed_over e in let f = not_passed r in absurd cc
 
-  pub no_feed : (r : R) → GoodIn g r → All (λ b. b ≢ 10) (spelling_in g r)
+  pub no_line_feed : (r : R) → GoodIn g r → All (λ b. b ≢ 10) (spelling_in g r)
   unfolding spelling_in
-  no_feed r good =
+  no_line_feed r good =
       let words = (g.entry (g.parts_of r).0).name ∷ words_in (items_of g r) in
       All-from_recursion _ _ (other (spelling_in g r) (above_join 31 32 words (omega arith) (all_lower 31 32 words (omega arith) (words_above r good))))
     where

@@ -15,7 +15,8 @@ use Rattle.spy_grammar.specs.declared.launches.LRecord.TheVariants as records
 use Rattle.spy_grammar.specs.Rows.{plain_log, entry, made, kind_in}
 use Rattle.spy_grammar.specs.Reading.{Left, is_passed_over, read_record}
 use Rattle.spy_grammar.specs.Launches.{launch_log, launch_entry, launch_parts, launch_line_at, launch_spelling, GoodLaunch}
-use Rattle.spy_grammar.proofs.lemmas.GrammarLaws.{InTable, IsTable, again, blank, named_along, read_included, takes}
+use Rattle.spy_grammar.proofs.lemmas.GrammarLaws
+use Rattle.spy_grammar.proofs.lemmas.GrammarLaws.{InTable, IsTable}
 
 in_table : (k : LaunchKind) → InTable LaunchKind LRecord launch_log k
 unfolding kind_in
@@ -31,21 +32,21 @@ launch_table = record { in_table = in_table; again = made_again }
 
 pub launch_blank : (line : List ℕ) → launch_line_at line ≡ Ok None → is_passed_over line ≡ true
 unfolding launch_line_at
-launch_blank = blank launch_log launch_table
+launch_blank = GrammarLaws.line_blank launch_log launch_table
 
 pub launch_takes : (line : List ℕ) (r : LRecord) → launch_line_at line ≡ Ok (Some r) → (line ≡ launch_spelling r) × GoodLaunch r
 unfolding launch_line_at launch_spelling
-launch_takes = takes launch_log launch_table
+launch_takes = GrammarLaws.line_takes launch_log launch_table
 
 pub launch_again : (r : LRecord) → GoodLaunch r → launch_line_at (launch_spelling r) ≡ Ok (Some r)
 unfolding launch_line_at launch_spelling
-launch_again = again launch_log launch_table
+launch_again = GrammarLaws.line_again launch_log launch_table
 
 -- the kinds of a log are found after the further ones
 pub launch_named : (word : List ℕ) → kind_in launch_log word ≡ cond (bytes_eq word (codes "launch")) (Ok kinds.Launch) (cond (bytes_eq word (codes "lreq")) (Ok kinds.Lreq) (map_ok (λ k. kinds.Plain k) (kind_in plain_log word)))
 unfolding kind_in
-launch_named word = ap (λ (rest : Result LaunchKind LineFault). cond (bytes_eq word (codes "launch")) (Ok kinds.Launch) (cond (bytes_eq word (codes "lreq")) (Ok kinds.Lreq) rest)) (named_along (λ k. kinds.Plain k) (λ k. (launch_entry k).name) KINDS word)
+launch_named word = ap (λ (rest : Result LaunchKind LineFault). cond (bytes_eq word (codes "launch")) (Ok kinds.Launch) (cond (bytes_eq word (codes "lreq")) (Ok kinds.Lreq) rest)) (GrammarLaws.named_along (λ k. kinds.Plain k) (λ k. (launch_entry k).name) KINDS word)
 
 -- a record of a log is read by its own line of the table
 pub plain_launch : (k : RecordKind) (s t : Left) (r : Record) → read_record (entry k) s ≡ (r, t) → read_record (launch_entry (kinds.Plain k)) s ≡ (records.Plain r, t)
-plain_launch k s t r e = read_included (λ r. records.Plain r) (entry k) s ∙ ap (λ (p : Record × Left). (records.Plain p.0, p.1)) e
+plain_launch k s t r e = GrammarLaws.read_included (λ r. records.Plain r) (entry k) s ∙ ap (λ (p : Record × Left). (records.Plain p.0, p.1)) e

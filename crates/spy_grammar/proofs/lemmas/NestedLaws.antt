@@ -15,7 +15,8 @@ use Rattle.spy_grammar.specs.declared.nested.NRecord.TheVariants as records
 use Rattle.spy_grammar.specs.Rows.{plain_log, entry, made, kind_in}
 use Rattle.spy_grammar.specs.Reading.{Left, is_passed_over, read_record}
 use Rattle.spy_grammar.specs.Nested.{nested_log, nested_entry, nested_parts, nested_line_at, nested_spelling, GoodNested}
-use Rattle.spy_grammar.proofs.lemmas.GrammarLaws.{InTable, IsTable, again, blank, named_along, read_included, takes}
+use Rattle.spy_grammar.proofs.lemmas.GrammarLaws
+use Rattle.spy_grammar.proofs.lemmas.GrammarLaws.{InTable, IsTable}
 
 in_table : (k : NestedKind) → InTable NestedKind NRecord nested_log k
 unfolding kind_in
@@ -31,21 +32,21 @@ nested_table = record { in_table = in_table; again = made_again }
 
 pub nested_blank : (line : List ℕ) → nested_line_at line ≡ Ok None → is_passed_over line ≡ true
 unfolding nested_line_at
-nested_blank = blank nested_log nested_table
+nested_blank = GrammarLaws.line_blank nested_log nested_table
 
 pub nested_takes : (line : List ℕ) (r : NRecord) → nested_line_at line ≡ Ok (Some r) → (line ≡ nested_spelling r) × GoodNested r
 unfolding nested_line_at nested_spelling
-nested_takes = takes nested_log nested_table
+nested_takes = GrammarLaws.line_takes nested_log nested_table
 
 pub nested_again : (r : NRecord) → GoodNested r → nested_line_at (nested_spelling r) ≡ Ok (Some r)
 unfolding nested_line_at nested_spelling
-nested_again = again nested_log nested_table
+nested_again = GrammarLaws.line_again nested_log nested_table
 
 -- the kinds of a log are found after the further ones
 pub nested_named : (word : List ℕ) → kind_in nested_log word ≡ cond (bytes_eq word (codes "group")) (Ok kinds.Group) (cond (bytes_eq word (codes "greq")) (Ok kinds.Greq) (cond (bytes_eq word (codes "member")) (Ok kinds.Member) (map_ok (λ k. kinds.Plain k) (kind_in plain_log word))))
 unfolding kind_in
-nested_named word = ap (λ (rest : Result NestedKind LineFault). cond (bytes_eq word (codes "group")) (Ok kinds.Group) (cond (bytes_eq word (codes "greq")) (Ok kinds.Greq) (cond (bytes_eq word (codes "member")) (Ok kinds.Member) rest))) (named_along (λ k. kinds.Plain k) (λ k. (nested_entry k).name) KINDS word)
+nested_named word = ap (λ (rest : Result NestedKind LineFault). cond (bytes_eq word (codes "group")) (Ok kinds.Group) (cond (bytes_eq word (codes "greq")) (Ok kinds.Greq) (cond (bytes_eq word (codes "member")) (Ok kinds.Member) rest))) (GrammarLaws.named_along (λ k. kinds.Plain k) (λ k. (nested_entry k).name) KINDS word)
 
 -- a record of a log is read by its own line of the table
 pub plain_nested : (k : RecordKind) (s t : Left) (r : Record) → read_record (entry k) s ≡ (r, t) → read_record (nested_entry (kinds.Plain k)) s ≡ (records.Plain r, t)
-plain_nested k s t r e = read_included (λ r. records.Plain r) (entry k) s ∙ ap (λ (p : Record × Left). (records.Plain p.0, p.1)) e
+plain_nested k s t r e = GrammarLaws.read_included (λ r. records.Plain r) (entry k) s ∙ ap (λ (p : Record × Left). (records.Plain p.0, p.1)) e

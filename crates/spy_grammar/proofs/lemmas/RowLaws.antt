@@ -8,7 +8,8 @@ use Rattle.spy_grammar.specs.declared.record.Record.TheVariants as records
 use Rattle.spy_grammar.specs.Rows.{plain_log, made, parts_of, kind_in}
 use Rattle.spy_grammar.specs.Spelling.{spelling, Good}
 use Rattle.spy_grammar.specs.Reading.{is_passed_over, line_at}
-use Rattle.spy_grammar.proofs.lemmas.GrammarLaws.{InTable, IsTable, again, apart, blank, no_feed, some, takes}
+use Rattle.spy_grammar.proofs.lemmas.GrammarLaws
+use Rattle.spy_grammar.proofs.lemmas.GrammarLaws.{InTable, IsTable}
 
 in_table : (k : RecordKind) → InTable RecordKind Record plain_log k
 unfolding kind_in
@@ -24,29 +25,29 @@ plain_table = record { in_table = in_table; again = made_again }
 
 pub line_blank : (line : List ℕ) → line_at line ≡ Ok None → is_passed_over line ≡ true
 unfolding line_at
-line_blank = blank plain_log plain_table
+line_blank = GrammarLaws.line_blank plain_log plain_table
 
 pub line_spelled : (line : List ℕ) (r : Record) → line_at line ≡ Ok (Some r) → line ≡ spelling r
 unfolding line_at spelling
-line_spelled line r e = (takes plain_log plain_table line r e).0
+line_spelled line r e = (GrammarLaws.line_takes plain_log plain_table line r e).0
 
 pub line_good : (line : List ℕ) (r : Record) → line_at line ≡ Ok (Some r) → Good r
 unfolding line_at
-line_good line r e = (takes plain_log plain_table line r e).1
+line_good line r e = (GrammarLaws.line_takes plain_log plain_table line r e).1
 
 pub line_again : (r : Record) → Good r → line_at (spelling r) ≡ Ok (Some r)
 unfolding line_at spelling
-line_again = again plain_log plain_table
+line_again = GrammarLaws.line_again plain_log plain_table
 
 -- no two good records are spelled alike
 pub spelled_apart : (r s : Record) → Good r → Good s → spelling r ≡ spelling s → r ≡ s
 unfolding spelling
-spelled_apart = apart plain_log plain_table
+spelled_apart = GrammarLaws.spelled_apart plain_log plain_table
 
 pub spelling_some : (r : Record) → Good r → spelling r ≢ []
 unfolding spelling
-spelling_some = some plain_log plain_table
+spelling_some = GrammarLaws.spelling_some plain_log plain_table
 
 pub no_line_feed : (r : Record) → Good r → All (λ b. b ≢ 10) (spelling r)
 unfolding spelling
-no_line_feed = no_feed plain_log plain_table
+no_line_feed = GrammarLaws.no_line_feed plain_log plain_table
