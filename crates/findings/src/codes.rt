@@ -47,5 +47,7 @@ pub fn code_text(code: Code) -> &'static [u8]
         TooMuchLoad => b"too-much-load",
         SerialOrder => b"serial-order",
         Unmapped => b"unmapped",
+        LaunchRange => b"launch-range",
+        LaunchInterference => b"launch-interference",
     }
 }

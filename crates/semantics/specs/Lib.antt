@@ -18,5 +18,6 @@ pub mod Rules
 pub mod Faults
 pub mod Shown
 pub mod Links
+pub mod Launches
 pub mod Counts
 pub mod Computed

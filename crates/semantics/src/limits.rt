@@ -20,3 +20,6 @@ pub const MOST_ACCESSES: u128 = 4_194_304;
 
 /// How much load the instances of a log have together, at most.
 pub const MOST_LOAD: u128 = 67_108_864;
+
+/// How many colours a launch has at most.
+pub const MOST_COLOURS: usize = 4_096;

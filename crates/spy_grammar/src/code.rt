@@ -39,4 +39,6 @@ pub enum Code {
     TooMuchLoad,
     SerialOrder,
     Unmapped,
+    LaunchRange,
+    LaunchInterference,
 }
