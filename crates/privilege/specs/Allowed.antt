@@ -1,5 +1,5 @@
 -- What a privilege allows.
-use Rattle.std.specs.Prelude.{Bool, true, false}
+use Rattle.std.specs.Prelude.{Bool, true, false, ◌==◌}
 use Rattle.privilege.specs.declared.kinds.Priv.{Priv}
 use Rattle.privilege.specs.declared.kinds.Priv.TheVariants.{Ro, Rw, Wd, Red}
 
@@ -16,3 +16,11 @@ may_write Ro = false
 may_write Rw = true
 may_write Wd = true
 may_write (Red op) = false
+
+-- Whether the first privilege allows all that the second does. Who may read and write may do anything.
+abbrev pub contains : Priv → Priv → Bool
+contains Rw inner = true
+contains Ro Ro = true
+contains Wd Wd = true
+contains (Red one) (Red other) = one == other
+contains _ _ = false

@@ -7,6 +7,6 @@ mod markers;
 mod table;
 
 pub use kinds::{Coherence, Kind, Priv};
-pub use laws::kind_laws;
+pub use laws::{contained_kinds, kind_laws};
 pub use markers::{Folds, Privilege, Reads, Red, Ro, Rw, Wd, Writes};
-pub use table::{agree, kind};
+pub use table::{agree, contains, kind};

@@ -1,6 +1,7 @@
 //! The table of interference.
 
 ghost use Rattle.std.specs.Prelude.{◌≡◌};
+ghost use Rattle.privilege.specs.Allowed.{contains};
 ghost use Rattle.privilege.specs.Interference.{agree, kind_of};
 
 use crate::kinds::{Coherence, Kind, Priv};
@@ -12,6 +13,17 @@ pub fn agree(p: Priv, q: Priv) -> bool
     match (p, q) {
         (Priv::Ro, Priv::Ro) => true,
         (Priv::Red(one), Priv::Red(other)) => one == other,
+        _ => false,
+    }
+}
+
+/// Whether a privilege allows all that another does.
+pub fn contains(outer: Priv, inner: Priv) -> bool
+    ensures { result ≡ contains outer inner }
+{
+    match (outer, inner) {
+        (Priv::Rw, _) | (Priv::Ro, Priv::Ro) | (Priv::Wd, Priv::Wd) => true,
+        (Priv::Red(outer), Priv::Red(inner)) => outer == inner,
         _ => false,
     }
 }
