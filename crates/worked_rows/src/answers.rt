@@ -5,11 +5,14 @@ use spy_io::{MemSink, MemSource};
 use std::alloc::Global;
 use std::test::Fail;
 
-/// Words of a command line.
-pub fn words_of(alloc: Global, texts: &[&str]) -> Result<Vec<String>, Fail> {
+/// The words of a command line, which is cut at each space. Where two spaces follow one another there is an empty word between, and an empty line has no words.
+pub fn words_of(alloc: Global, line: &str) -> Result<Vec<String>, Fail> {
     let mut words = Vec::new(alloc);
-    for text in texts {
-        words.push(String::from_str(alloc, text)?)?;
+    if line.is_empty() {
+        return Ok(words);
+    }
+    for word in line.split(' ') {
+        words.push(String::from_str(alloc, word)?)?;
     }
     Ok(words)
 }
@@ -29,14 +32,9 @@ pub fn framed(alloc: Global, lines: &[u8]) -> Result<Vec<u8>, Fail> {
     Ok(log)
 }
 
-/// The status of a command over an input, and what it writes.
-pub fn answer(alloc: Global, command: &str, log: &[u8]) -> Result<(Status, Vec<u8>), Fail> {
-    answer_to(alloc, &[command], log)
-}
-
-/// The same of a command line.
-pub fn answer_to(alloc: Global, texts: &[&str], log: &[u8]) -> Result<(Status, Vec<u8>), Fail> {
-    let words = words_of(alloc, texts)?;
+/// The status of a command line over an input, and what it writes.
+pub fn answer(alloc: Global, line: &str, log: &[u8]) -> Result<(Status, Vec<u8>), Fail> {
+    let words = words_of(alloc, line)?;
     let mut source = MemSource::new(log.to_vec(alloc)?, 1000, Vec::new(alloc));
     let mut sink = MemSink::with_room(alloc, 65_536, 1000, Vec::new(alloc))
         .ok()
@@ -48,10 +46,8 @@ pub fn answer_to(alloc: Global, texts: &[&str], log: &[u8]) -> Result<(Status, V
 /// The status of `why` over an input, and what it writes: the read is told by the task, the requirement, the point and the field.
 pub fn answer_why(alloc: Global, read: [&str; 4], log: &[u8]) -> Result<(Status, Vec<u8>), Fail> {
     let [task, req, point, field] = read;
-    let words = [
-        "why", "--task", task, "--req", req, "--point", point, "--field", field,
-    ];
-    answer_to(alloc, &words, log)
+    let line = format!(in alloc; "why --task {task} --req {req} --point {point} --field {field}")?;
+    answer(alloc, &line, log)
 }
 
 /// The log with another text in the place of one line, counted from 1.

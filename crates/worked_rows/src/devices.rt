@@ -36,7 +36,7 @@ fn failing_calls(alloc: Global, device: Device) -> Result<Vec<u64>, Fail> {
 
 /// The status of `check` over the log, and what the sink then holds.
 fn checked(alloc: Global, source: Device, sink: Device) -> Result<(Status, Vec<u8>), Fail> {
-    let words = words_of(alloc, &["check"])?;
+    let words = words_of(alloc, "check")?;
     let log = WRITE_THEN_READ.to_vec(alloc)?;
     let mut source = MemSource::new(log, source.cut.max(1), failing_calls(alloc, source)?);
     let calls = failing_calls(alloc, sink)?;

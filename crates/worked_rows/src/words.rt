@@ -1,6 +1,6 @@
 //! Words of the command line, and `demo`.
 
-use crate::answers::{answer, answer_to, words_of};
+use crate::answers::{answer, words_of};
 use crate::example_logs::WRITE_THEN_READ;
 use log_gen::stencil;
 use spy_cli::{Status, run};
@@ -9,93 +9,122 @@ use spy_io::{MemSink, MemSource};
 use std::alloc::Global;
 use std::test::Fail;
 
+/// The status of a command line that reads no source, and what it writes.
+fn answer_unread(alloc: Global, line: &str) -> Result<(Status, Vec<u8>), Fail> {
+    let words = words_of(alloc, line)?;
+    // A call of the source would fail.
+    let mut source = MemSource::new(WRITE_THEN_READ.to_vec(alloc)?, 1000, [1].to_vec(alloc)?);
+    let mut sink = MemSink::with_room(alloc, 1000, 1000, Vec::new(alloc))
+        .ok()
+        .ok_or("no memory")?;
+    let status = run(alloc, &words, &mut source, &mut sink);
+    if source.left() != WRITE_THEN_READ {
+        return Err("the source was read".into());
+    }
+    Ok((status, sink.held().to_vec(alloc)?))
+}
+
+#[test]
+fn words_that_are_no_command(rt: HostRuntime) -> Result<(), Fail> {
+    for line in [
+        "",
+        " ",
+        "orderd",
+        "ordered ordered",
+        "--help",
+        "check --size 4",
+        "spare --size 4",
+        "spare x",
+        "demo",
+        "demo --size",
+        "demo --size 0",
+        "demo --size 501",
+        "demo --size 016",
+        "demo --size 4 --size 4",
+        "demo --size 4 --task 1",
+        "why --size 4",
+    ] {
+        let (status, said) = answer_unread(rt.alloc(), line)?;
+        assert!(rt; status == Status::Usage, "at {line}");
+        assert_eq!(rt; said.as_slice(), b"usage\n".as_slice());
+    }
+    Ok(())
+}
+
+/// The stencil log, of a row of pieces with halos, over ten steps.
 #[rattlefmt::skip]
 #[test]
-fn words_that_read_nothing(rt: HostRuntime) -> Result<(), Fail> {
-    let alloc = rt.alloc();
-    let rows: [(&[&str], Status, &[u8]); 24] = [
-        (&[], Status::Usage, b"usage\n"),
-        (&[""], Status::Usage, b"usage\n"),
-        (&["orderd"], Status::Usage, b"usage\n"),
-        (&["ordered", "ordered"], Status::Usage, b"usage\n"),
-        (&["--help"], Status::Usage, b"usage\n"),
-        (&["check", "--size", "4"], Status::Usage, b"usage\n"),
-        (&["spare", "--size", "4"], Status::Usage, b"usage\n"),
-        (&["spare", "x"], Status::Usage, b"usage\n"),
-        (&["demo"], Status::Usage, b"usage\n"),
-        (&["demo", "--size"], Status::Usage, b"usage\n"),
-        (&["demo", "--size", "0"], Status::Usage, b"usage\n"),
-        (&["demo", "--size", "501"], Status::Usage, b"usage\n"),
-        (&["demo", "--size", "016"], Status::Usage, b"usage\n"),
-        (&["demo", "--size", "4", "--size", "4"], Status::Usage, b"usage\n"),
-        (&["demo", "--size", "4", "--task", "1"], Status::Usage, b"usage\n"),
-        (&["why", "--size", "4"], Status::Usage, b"usage\n"),
-        // The stencil log, of a row of pieces with halos, over ten steps.
-        (&["demo", "--size", "1"], Status::Yes, b"accepted tasks 20 operations 21 reads 300\n"),
-        (&["demo", "--size", "2"], Status::Yes, b"accepted tasks 40 operations 62 reads 620\n"),
-        (&["demo", "--size=4"], Status::Yes, b"accepted tasks 80 operations 144 reads 1260\n"),
-        (&["--size=4", "demo"], Status::Yes, b"accepted tasks 80 operations 144 reads 1260\n"),
-        (&["--size", "4", "demo"], Status::Yes, b"accepted tasks 80 operations 144 reads 1260\n"),
-        (&["demo", "--size", "4", "--"], Status::Yes, b"accepted tasks 80 operations 144 reads 1260\n"),
-        (&["demo", "--size", "16"], Status::Yes, b"accepted tasks 320 operations 636 reads 5100\n"),
-        (&["demo", "--size", "500"], Status::Yes, b"accepted tasks 10000 operations 20480 reads 159980\n"),
+fn words_that_make_a_log(rt: HostRuntime) -> Result<(), Fail> {
+    let rows: [(&str, &[u8]); 8] = [
+        ("demo --size 1", b"accepted tasks 20 operations 21 reads 300\n"),
+        ("demo --size 2", b"accepted tasks 40 operations 62 reads 620\n"),
+        ("demo --size=4", b"accepted tasks 80 operations 144 reads 1260\n"),
+        ("--size=4 demo", b"accepted tasks 80 operations 144 reads 1260\n"),
+        ("--size 4 demo", b"accepted tasks 80 operations 144 reads 1260\n"),
+        ("demo --size 4 --", b"accepted tasks 80 operations 144 reads 1260\n"),
+        ("demo --size 16", b"accepted tasks 320 operations 636 reads 5100\n"),
+        ("demo --size 500", b"accepted tasks 10000 operations 20480 reads 159980\n"),
     ];
-    for (texts, status, report) in rows {
-        let words = words_of(alloc, texts)?;
-        // A call of the source would fail.
-        let mut source = MemSource::new(WRITE_THEN_READ.to_vec(alloc)?, 1000, [1].to_vec(alloc)?);
-        let mut sink = MemSink::with_room(alloc, 1000, 1000, Vec::new(alloc)).ok().ok_or("no memory")?;
-        let ended = run(alloc, &words, &mut source, &mut sink);
-        assert!(rt; ended == status);
-        assert_eq!(rt; sink.held(), report);
-        assert_eq!(rt; source.left(), WRITE_THEN_READ);
+    for (line, report) in rows {
+        let (status, said) = answer_unread(rt.alloc(), line)?;
+        assert!(rt; status == Status::Yes, "at {line}");
+        assert_eq!(rt; said.as_slice(), report);
     }
     Ok(())
 }
 
 /// Options of `why`: each has to be there once, with a number and no zero before it, and no other command has them.
-#[rattlefmt::skip]
 #[test]
-fn words_of_a_read(rt: HostRuntime) -> Result<(), Fail> {
-    let alloc = rt.alloc();
-    let rows: [(&[&str], Status, &[u8]); 22] = [
-        (&["why", "--task", "2", "--req", "1", "--point", "0", "--field", "1"], Status::Yes, b"why task 2 req 1 point 0 field 1\nwrite 1 inst 1 adds 0\n"),
-        (&["--field=1", "why", "--point=0", "--req=1", "--task=2"], Status::Yes, b"why task 2 req 1 point 0 field 1\nwrite 1 inst 1 adds 0\n"),
-        (&["why"], Status::Usage, b"usage\n"),
-        (&["why", "2", "1", "0", "1"], Status::Usage, b"usage\n"),
-        (&["why", "--req", "1", "--point", "0", "--field", "1"], Status::Usage, b"usage\n"),
-        (&["why", "--task", "2", "--point", "0", "--field", "1"], Status::Usage, b"usage\n"),
-        (&["why", "--task", "2", "--req", "1", "--field", "1"], Status::Usage, b"usage\n"),
-        (&["why", "--task", "2", "--req", "1", "--point", "0"], Status::Usage, b"usage\n"),
-        (&["why", "--task", "2", "--req", "1", "--point", "0", "--field"], Status::Usage, b"usage\n"),
-        (&["why", "--task", "2", "--req", "1", "--point", "0", "--field", "1", "--field", "1"], Status::Usage, b"usage\n"),
-        (&["why", "--task", "2", "--req", "1", "--point", "0", "--field", "1", "--size", "4"], Status::Usage, b"usage\n"),
-        (&["why", "--task", "2", "--req", "1", "--point", "0", "--field", "1", "x"], Status::Usage, b"usage\n"),
-        (&["why", "--task", "02", "--req", "1", "--point", "0", "--field", "1"], Status::Usage, b"usage\n"),
-        (&["why", "--task", "2", "--req", "1", "--point", "00", "--field", "1"], Status::Usage, b"usage\n"),
-        (&["why", "--task", "2", "--req", "+1", "--point", "0", "--field", "1"], Status::Usage, b"usage\n"),
-        (&["why", "--task", "2", "--req", "1", "--point", "-1", "--field", "1"], Status::Usage, b"usage\n"),
-        (&["why", "--task", "2", "--req", "1", "--point", "", "--field", "1"], Status::Usage, b"usage\n"),
-        (&["why", "--task", "4294967296", "--req", "1", "--point", "0", "--field", "1"], Status::Usage, b"usage\n"),
-        (&["why", "--task", "2", "--req", "4294967296", "--point", "0", "--field", "1"], Status::Usage, b"usage\n"),
-        (&["why", "--task", "2", "--req", "1", "--point", "18446744073709551616", "--field", "1"], Status::Usage, b"usage\n"),
-        (&["why", "--task", "2", "--req", "1", "--point", "0", "--field", "4294967296"], Status::Usage, b"usage\n"),
-        (&["check", "--task", "2", "--req", "1", "--point", "0", "--field", "1"], Status::Usage, b"usage\n"),
-    ];
-    for (texts, status, report) in rows {
-        let (ended, said) = answer_to(alloc, texts, WRITE_THEN_READ)?;
-        assert_eq!(rt; said.as_slice(), report);
-        assert!(rt; ended == status);
+fn words_that_ask_for_no_read(rt: HostRuntime) -> Result<(), Fail> {
+    for line in [
+        "why",
+        "why 2 1 0 1",
+        "why --req 1 --point 0 --field 1",
+        "why --task 2 --point 0 --field 1",
+        "why --task 2 --req 1 --field 1",
+        "why --task 2 --req 1 --point 0",
+        "why --task 2 --req 1 --point 0 --field",
+        "why --task 2 --req 1 --point 0 --field 1 --field 1",
+        "why --task 2 --req 1 --point 0 --field 1 --size 4",
+        "why --task 2 --req 1 --point 0 --field 1 x",
+        "why --task 02 --req 1 --point 0 --field 1",
+        "why --task 2 --req 1 --point 00 --field 1",
+        "why --task 2 --req +1 --point 0 --field 1",
+        "why --task 2 --req 1 --point -1 --field 1",
+        "why --task 2 --req 1 --point  --field 1",
+        "why --task 4294967296 --req 1 --point 0 --field 1",
+        "why --task 2 --req 4294967296 --point 0 --field 1",
+        "why --task 2 --req 1 --point 18446744073709551616 --field 1",
+        "why --task 2 --req 1 --point 0 --field 4294967296",
+        "check --task 2 --req 1 --point 0 --field 1",
+    ] {
+        let (status, said) = answer_unread(rt.alloc(), line)?;
+        assert!(rt; status == Status::Usage, "at {line}");
+        assert_eq!(rt; said.as_slice(), b"usage\n".as_slice());
+    }
+    Ok(())
+}
+
+#[test]
+fn words_that_ask_for_a_read(rt: HostRuntime) -> Result<(), Fail> {
+    for line in [
+        "why --task 2 --req 1 --point 0 --field 1",
+        "--field=1 why --point=0 --req=1 --task=2",
+    ] {
+        let (status, said) = answer(rt.alloc(), line, WRITE_THEN_READ)?;
+        assert!(rt; status == Status::Yes, "at {line}");
+        assert_eq!(rt;
+            said.as_slice(),
+            b"why task 2 req 1 point 0 field 1\nwrite 1 inst 1 adds 0\n".as_slice()
+        );
     }
     Ok(())
 }
 
 #[test]
 fn the_command_may_stand_behind_dashes(rt: HostRuntime) -> Result<(), Fail> {
-    let alloc = rt.alloc();
-    let rows: [&[&str]; 3] = [&["check"], &["check", "--"], &["--", "check"]];
-    for texts in rows {
-        let (status, said) = answer_to(alloc, texts, WRITE_THEN_READ)?;
+    for line in ["check", "check --", "-- check"] {
+        let (status, said) = answer(rt.alloc(), line, WRITE_THEN_READ)?;
         assert!(rt; status == Status::Yes);
         assert_eq!(rt;
             said.as_slice(),
