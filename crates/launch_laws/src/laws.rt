@@ -1,14 +1,37 @@
 //! Laws of the order of items. A function has nothing to do: its contract is the law.
 
-ghost use Rattle.std.specs.Prelude.{◌≡◌, ℕ, true, List, Contains};
+ghost use Rattle.std.specs.Prelude.{◌≡◌, ℕ, true, List, None, Contains};
 ghost use Rattle.privilege.specs.Allowed.{may_read};
 ghost use Rattle.value_terms.specs.Values.{Value};
+ghost use Rattle.spy_grammar.specs.declared.launches.LLined.{LLined};
 ghost use Rattle.semantics.specs.declared.places.Place.{Place};
 ghost use Rattle.semantics.specs.declared.tables.Req.{Req};
+ghost use Rattle.semantics.specs.Records.{lined};
 ghost use Rattle.semantics.specs.Tables.{Tables};
 ghost use Rattle.semantics.specs.Kinds.{covers, uses_of};
-ghost use Rattle.semantics.specs.Sequential.{after_items};
+ghost use Rattle.semantics.specs.SerialOrder.{serial};
+ghost use Rattle.semantics.specs.Sequential.{after_items, wanted};
+ghost use Rattle.semantics.specs.Faults.{declaration_fault};
+ghost use Rattle.semantics.specs.Launches.{TaskLaunch, launch_fault, written_log};
 ghost use Rattle.launch_laws.specs.Stretches.{AreTurned, joined, wanted_in};
+ghost use Rattle.launch_laws.specs.LaunchOrders.{AgreeButFor, launch_tables, launches_of};
+
+/// The tasks of a launch may be run in any order, where no fault is shown of the launch log and what it writes has tables: each place has the same value after all items, and each read of an item wants the same value. And what a read is said to want is what it wants where the items are run in serial order.
+pub fn launches_in_any_order()
+    ensures after { (lines count : ℕ) (log : List LLined) → launch_fault lines log ≡ None
+        → declaration_fault count (lined (written_log log)) ≡ None
+        → (l : TaskLaunch) → Contains (launches_of log) l
+        → (order other : List ℕ) → AgreeButFor (launch_tables log) l order other → (p : Place) (v : Value)
+        → after_items (launch_tables log) order p v ≡ after_items (launch_tables log) other p v }
+    ensures wanted { (lines count : ℕ) (log : List LLined) → launch_fault lines log ≡ None
+        → declaration_fault count (lined (written_log log)) ≡ None
+        → (l : TaskLaunch) → Contains (launches_of log) l
+        → (order other : List ℕ) → AgreeButFor (launch_tables log) l order other
+        → (item : ℕ) (r : Req) → Contains (uses_of (launch_tables log) item) r → may_read r.access ≡ true
+        → (p : Place) → covers (launch_tables log) p r ≡ true
+        → wanted_in (launch_tables log) order item p ≡ wanted_in (launch_tables log) other item p }
+    ensures serial { (t : Tables) (item : ℕ) (p : Place) → wanted t item p ≡ wanted_in t (serial t) item p }
+{}
 
 /// Items that stand next to each other and do not interfere may be run in any order: each place has the same value after all items, and each read of an item wants the same value.
 pub fn neighbours_in_any_order()

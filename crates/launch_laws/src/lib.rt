@@ -1,6 +1,8 @@
-//! Laws of the order of items.
+//! Laws of launches, and of the order of items that do not interfere.
 #![tactic(auto)]
 
 mod laws;
+mod meanings;
 
-pub use laws::neighbours_in_any_order;
+pub use laws::{launches_in_any_order, neighbours_in_any_order};
+pub use meanings::worked_launches;

@@ -16,7 +16,7 @@ use Rattle.log_laws.proofs.lemmas.Members.{Member, only, member_of, contains_of,
 use Rattle.log_laws.proofs.lemmas.Apart.{Apart, pairs_from, all_pairs, pairs_append}
 use Rattle.log_laws.proofs.lemmas.Lists.{split_at, pairs_parts, left_out_same, place_len}
 use Rattle.launch_laws.specs.Stretches.{IsTurned, AreTurned, joined, wanted_in}
-use Rattle.launch_laws.proofs.Turning.{after_one, items_turn, item_keeps}
+use Rattle.launch_laws.proofs.FreeItems.{after_one, items_turn, item_keeps}
 
 module _ (t : Tables) (p : Place) where
   after_append : (xs ys : List ℕ) (v : Value) → after_items t (xs ++ ys) p v ≡ after_items t ys p (after_items t xs p v)
