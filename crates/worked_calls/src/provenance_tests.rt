@@ -4,7 +4,6 @@ ghost use Rattle.std.specs.Prelude.{◌≡◌, None};
 ghost use Rattle.semantics.specs.Events.{graph_of};
 ghost use Rattle.semantics.specs.Faults.{unmapped_fault};
 ghost use Rattle.semantics.specs.Races.{IsRaceFree};
-ghost use Rattle.semantics.specs.SerialOrder.{turned_pair};
 ghost use Rattle.event_graph.specs.Orders.{IsOrderOf};
 
 use crate::framed_logs::log_of;
@@ -12,7 +11,6 @@ use crate::graph_tests::graph_of;
 use atoms::Atoms;
 use bumpalo::Bump;
 use event_graph::{Order, nodes_in};
-use interference::serial_ok;
 use log_decl::Log;
 use point_set::RunSet;
 use provenance::{TraceEnd, trace};
@@ -30,7 +28,7 @@ type Read = (u32, u32, u64, u32);
 type Links<'f> = &'f [(LinkKind, u32, u32, u32)];
 
 /// Logs, a read of each, and its links, or `None` where there is no such read.
-const CASES: [(&[u8], Read, Option<Links<'static>>); 12] = [
+const CASES: [(&[u8], Read, Option<Links<'static>>); 13] = [
     // The copy is older than the second write; and it is newer.
     (
         b"task 1\nreq 1 1 1 1 wd ex\ntask 2\nreq 2 1 1 1 rw ex\ntask 3\nreq 3 1 1 1 ro ex\ninst 1 1 1 1 plain\ninst 2 1 1 1 plain\nmap 1 1 1 1\nmap 2 1 1 1\nmap 3 1 1 2\nrun 1 1 -\ncopy 1 2 1 1 2 1\nrun 2 3 2\nrun 3 4 3\n",
@@ -84,6 +82,12 @@ const CASES: [(&[u8], Read, Option<Links<'static>>); 12] = [
         (1, 1, 4, 1),
         Some(&[(LinkKind::Start, 0, 1, 0)]),
     ),
+    // The serial order turns two tasks that program order fixes.
+    (
+        b"task 1\nreq 1 1 1 1 wd ex\ntask 2\nreq 2 1 1 1 ro ex\nserial 2 1\ninst 1 1 1 1 plain\nmap 1 1 1 1\nmap 2 1 1 1\nrun 1 1 -\nrun 2 2 1\n",
+        (2, 1, 0, 1),
+        Some(&[(LinkKind::Write, 1, 1, 0)]),
+    ),
     // A requirement is asked for at a point and at a field that it does not have; it writes alone; and there is none.
     (
         b"task 1\nreq 1 1 2 1 ro ex\ninst 1 1 1 1 home\nmap 1 1 1 1\nrun 1 1 -\n",
@@ -107,14 +111,13 @@ const CASES: [(&[u8], Read, Option<Links<'static>>); 12] = [
     ),
 ];
 
-/// Traces a read of a log whose serial order is kept.
+/// Traces a read of a log.
 fn traced<'a, P: ArenaSet<'a>>(
     alloc: Global,
     log: &Log<'a, P>,
     order: &Order,
     read: Read,
 ) -> Result<Vec<Link>, TraceEnd>
-    requires serial { turned_pair log.now ≡ None }
     requires mapped { unmapped_fault log.now ≡ None }
     requires order { IsOrderOf (graph_of log.now.nodes) order.now }
     requires free { IsRaceFree log.now }
@@ -160,9 +163,6 @@ fn ask<'a, P: ArenaSet<'a>>(
     if log.mapped().is_err() {
         return Err("a requirement that is not mapped".into());
     }
-    let Ok(()) = serial_ok(log) else {
-        return Err("items that stand against program order".into());
-    };
     let nodes = nodes_in(alloc, log.nodes())?;
     let graph = graph_of(alloc, nodes)?;
     let Ok(order) = graph.order(alloc) else {
