@@ -4,7 +4,6 @@ ghost use Rattle.std.specs.Prelude.{◌≡◌, IfOk, None, map, sum_by, length};
 ghost use Rattle.findings.specs.Texts as texts;
 ghost use Rattle.semantics.specs.declared.command.Command.TheVariants.{Spare};
 ghost use Rattle.semantics.specs.Events.{graph_of, HasNoCycle};
-ghost use Rattle.semantics.specs.Faults as faults;
 ghost use Rattle.outcomes.specs.Outcome.{SpareFinds, events_of_wait};
 ghost use Rattle.log_findings.specs.Findings.{IsFoundOf};
 ghost use Rattle.log_findings.specs.Sorted.{AreSorted};
@@ -82,9 +81,8 @@ fn waits_found<'a, P: ArenaSet<'a>>(
     Ok(spare_found(PairList::from_vec(pairs), waits))
 }
 
-/// What `spare` finds in a log whose serial order has no fault.
+/// What `spare` finds in a log, but for a fault of its serial order.
 fn implied_found<'a, P: ArenaSet<'a>>(alloc: Global, log: &Log<'a, P>) -> Result<Finding, Memory>
-    requires { faults.serial_fault log.now ≡ None }
     ensures found { IfOk result (SpareFinds log.now) }
     ensures text { IfOk result texts.Good }
 {

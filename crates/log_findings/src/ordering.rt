@@ -4,7 +4,6 @@ ghost use Rattle.std.specs.Prelude.{◌≡◌, IfOk, IfErr, None};
 ghost use Rattle.findings.specs.Texts as texts;
 ghost use Rattle.semantics.specs.declared.command.Command.TheVariants.{Ordered};
 ghost use Rattle.semantics.specs.Events.{graph_of, HasNoCycle};
-ghost use Rattle.semantics.specs.Faults as faults;
 ghost use Rattle.outcomes.specs.Outcome.{OrderedFinds};
 ghost use Rattle.reach_marks.specs.Reached.{AreMarksOf};
 ghost use Rattle.log_findings.specs.Findings.{IsFoundOf};
@@ -46,7 +45,6 @@ fn tasks_found<'a, P: ArenaSet<'a>>(
 
 /// The nodes of a log sorted, or the cycle that is shown.
 pub fn sort_log<'a, P: ArenaSet<'a>>(alloc: Global, log: &Log<'a, P>) -> Result<Sorting, Unsorted>
-    requires { faults.serial_fault log.now ≡ None }
     ensures sorted { IfOk result (AreSorted (graph_of log.now.nodes)) }
     ensures unsorted { IfErr result (IsUnsorted (graph_of log.now.nodes)) }
 {
@@ -54,9 +52,8 @@ pub fn sort_log<'a, P: ArenaSet<'a>>(alloc: Global, log: &Log<'a, P>) -> Result<
     sorting_of(alloc, log.nodes())
 }
 
-/// What `ordered` finds in a log whose serial order has no fault.
+/// What `ordered` finds in a log, but for a fault of its serial order.
 fn order_found<'a, P: ArenaSet<'a>>(alloc: Global, log: &Log<'a, P>) -> Result<Finding, Memory>
-    requires { faults.serial_fault log.now ≡ None }
     ensures found { IfOk result (OrderedFinds log.now) }
     ensures text { IfOk result texts.Good }
 {

@@ -109,11 +109,7 @@ capped lines log e = by_records (λ r. Unit {0}) IsCapped (records_of log) (λ e
 pub few_declared_nodes : (t : Tables) → AreDeclared t → length t.nodes < 2 ^ 32
 few_declared_nodes t are = let few = capped are.lines are.log are.faultless in omega (arith, few.nodes, ap (λ (s : Tables). length s.nodes) are.tables)
 
--- Tables that keep each rule of `check` keep the serial order.
-pub serial_of : (t : Tables) → table_fault commands.Check t ≡ None → serial_fault t ≡ None
-serial_of t none = (both_none (serial_fault t) _ none).0
-
--- And each field of a requirement is mapped there.
+-- In tables that keep each rule of `check` each field of a requirement is mapped.
 pub mapped_of : (t : Tables) → table_fault commands.Check t ≡ None → unmapped_fault t ≡ None
 mapped_of t none = (both_none (serial_fault t) _ none).1
 
