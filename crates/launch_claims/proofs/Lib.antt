@@ -1,0 +1,4 @@
+mod Clashing
+mod Reaching
+mod Ordered
+mod Passing
