@@ -14,6 +14,8 @@ mod inst_steps_tests;
 #[cfg(test)]
 mod interference_tests;
 #[cfg(test)]
+mod launch_claims_tests;
+#[cfg(test)]
 mod listed_points_tests;
 #[cfg(test)]
 mod log_gen_tests;
