@@ -101,10 +101,11 @@ applied_then f no_more rec m = refl
 applied_then f some_ids make ns = refl
 applied_then f (c & r) make m = applied_then f r (make m.0) m.1
 
--- what is read of a line of a table that another includes
-pub read_included : {R S : Type 0} (f : R → S) (e : Entry R) (s : Left) → read_record (included f e) s ≡ (f (read_record e s).0, (read_record e s).1)
+-- what a line of another table reads, the line that includes it reads too
+pub read_included : {R S : Type 0} (f : R → S) (e : Entry R) (s t : Left) (r : R) → read_record e s ≡ (r, t) → read_record (included f e) s ≡ (f r, t)
 unfolding read_record
-read_included {R} {S} f e s = ap (λ (x : S). (x, (read_row e.row s).1)) (applied_then f e.row e.record_of (read_row e.row s).0)
+read_included {R} {S} f e s t r is =
+    ap (λ (x : S). (x, (read_row e.row s).1)) (applied_then f e.row e.record_of (read_row e.row s).0) ∙ ap (λ (p : R × Left). (f p.0, p.1)) is
 
 -- ---- what a grammar reads
 

@@ -1,19 +1,17 @@
 -- The table of a launch log: what is read of a line has that spelling, and what has a spelling is read from it.
-use Rattle.std.proofs.Common.{◌≡◌, ℕ, true, cond, List, codes, Some, None, Result, Ok, refl, ap, ◌∙◌}
+use Rattle.std.proofs.Common.{◌≡◌, ℕ, true, cond, List, codes, Some, None, Result, Ok, refl, ap}
 use Rattle.std.specs.Str.{bytes_eq}
 use Rattle.spy_words.specs.declared.fault.LineFault.{LineFault}
 use Rattle.spy_words.specs.Faults.{map_ok}
 use Rattle.spy_grammar.specs.declared.kinds.TheConstants.{KINDS}
-use Rattle.spy_grammar.specs.declared.kinds.RecordKind.{RecordKind}
 use Rattle.spy_grammar.specs.declared.kinds.RecordKind.TheVariants as plain
-use Rattle.spy_grammar.specs.declared.record.Record.{Record}
 use Rattle.spy_grammar.specs.declared.record.Record.TheVariants as plain_records
 use Rattle.spy_grammar.specs.declared.launches.LaunchKind.{LaunchKind}
 use Rattle.spy_grammar.specs.declared.launches.LaunchKind.TheVariants as kinds
 use Rattle.spy_grammar.specs.declared.launches.LRecord.{LRecord}
 use Rattle.spy_grammar.specs.declared.launches.LRecord.TheVariants as records
-use Rattle.spy_grammar.specs.Rows.{plain_log, entry, made, kind_in}
-use Rattle.spy_grammar.specs.Reading.{Left, is_passed_over, read_record}
+use Rattle.spy_grammar.specs.Rows.{plain_log, made, kind_in}
+use Rattle.spy_grammar.specs.Reading.{is_passed_over}
 use Rattle.spy_grammar.specs.Launches.{launch_log, launch_entry, launch_parts, launch_line_at, launch_spelling, GoodLaunch}
 use Rattle.spy_grammar.proofs.lemmas.GrammarLaws
 use Rattle.spy_grammar.proofs.lemmas.GrammarLaws.{InTable, IsTable}
@@ -46,7 +44,3 @@ launch_again = GrammarLaws.line_again launch_log launch_table
 pub launch_named : (word : List ℕ) → kind_in launch_log word ≡ cond (bytes_eq word (codes "launch")) (Ok kinds.Launch) (cond (bytes_eq word (codes "lreq")) (Ok kinds.Lreq) (map_ok (λ k. kinds.Plain k) (kind_in plain_log word)))
 unfolding kind_in
 launch_named word = ap (λ (rest : Result LaunchKind LineFault). cond (bytes_eq word (codes "launch")) (Ok kinds.Launch) (cond (bytes_eq word (codes "lreq")) (Ok kinds.Lreq) rest)) (GrammarLaws.named_along (λ k. kinds.Plain k) (λ k. (launch_entry k).name) KINDS word)
-
--- a record of a log is read by its own line of the table
-pub plain_launch : (k : RecordKind) (s t : Left) (r : Record) → read_record (entry k) s ≡ (r, t) → read_record (launch_entry (kinds.Plain k)) s ≡ (records.Plain r, t)
-plain_launch k s t r e = GrammarLaws.read_included (λ r. records.Plain r) (entry k) s ∙ ap (λ (p : Record × Left). (records.Plain p.0, p.1)) e

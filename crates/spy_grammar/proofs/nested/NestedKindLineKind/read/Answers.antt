@@ -1,5 +1,7 @@
-use Rattle.spy_grammar.proofs.lemmas.NestedLaws.{plain_nested}
+use Rattle.spy_grammar.specs.declared.nested.NRecord.TheVariants.{Plain}
+use Rattle.spy_grammar.specs.Rows.{entry}
+use Rattle.spy_grammar.proofs.lemmas.GrammarLaws.{read_included}
 use Rattle.spy_grammar.proofs.nested.NestedKindLineKind.read.Goals as goal
 
 pub returns-in_ok-read-in-Plain : goal.returns-in_ok-read-in-Plain
-returns-in_ok-read-in-Plain c = rw c.in-Plain.is (plain_nested c.in-Plain.kind _ _ _ c.in_ok-read-in-Plain.ensures)
+returns-in_ok-read-in-Plain c = rw c.in-Plain.is (read_included (λ r. Plain r) (entry c.in-Plain.kind) _ _ _ c.in_ok-read-in-Plain.ensures)
