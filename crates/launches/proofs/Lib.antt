@@ -1,0 +1,4 @@
+mod Goodness
+mod Stepping
+mod TaskLists
+mod Writings

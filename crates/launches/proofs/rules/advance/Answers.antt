@@ -1,0 +1,34 @@
+use Rattle.std.proofs.Common.{◌≡◌, true, false, Some, None, is_some, refl, sym, ap, ◌∙◌, subst}
+use Rattle.std.proofs.lemmas.Bool.{false≢true}
+use Rattle.semantics.specs.Launches.{Expanded}
+use Rattle.launches.specs.Steps.{expanded_as}
+use Rattle.launches.proofs.Stepping.{none_where, early_told, late_told, none_early}
+use Rattle.launches.proofs.rules.advance.Goals as goal
+
+pub write-requires : goal.write-requires
+write-requires g c κs =
+    let e = expanded_as c.args.launches.now c.args.writing.now in
+    let none = none_where c.early_broken-early.result (sym c.is_some.ensures ∙ c.if-is_some.false) in
+    let kept = none_early e c.args.rec (sym c.early_broken-early.ensures ∙ none) in
+    ((refl, tt), (c.requires.good, (kept.0, (kept.1, (c.requires.few, c.requires.fit)))))
+
+pub returns-then-is_some : goal.returns-then-is_some
+returns-then-is_some g c =
+    let e = expanded_as c.args.launches.now c.args.writing.now in
+    let some = sym c.is_some.ensures ∙ c.if-is_some.true in
+    record {
+      code = early_told e c.args.rec c.early_broken-early.result some c.early_broken-early.ensures;
+      step = λ none. absurd (false≢true (ap is_some (sym none) ∙ some));
+      fit = λ none. absurd (false≢true (ap is_some (sym none) ∙ some));
+    }
+
+pub returns : goal.returns
+returns g c =
+    let e = expanded_as c.args.launches.now c.args.writing.now in
+    let none = none_where c.early_broken-early.result (sym c.is_some.ensures ∙ c.if-is_some.false) in
+    let step = c.in_ok-write.ensures.step in
+    record {
+      code = late_told e c.args.rec _ c.late_broken.result (sym c.early_broken-early.ensures ∙ none) (ap (λ (x : Expanded). x.written) step) c.late_broken.ensures;
+      step = λ kept. step;
+      fit = λ kept. c.in_ok-write.ensures.fit;
+    }

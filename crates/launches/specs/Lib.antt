@@ -1,0 +1,3 @@
+pub mod Steps
+pub mod Written
+pub use Rattle.semantics.specs.Launches

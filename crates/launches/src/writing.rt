@@ -1,0 +1,138 @@
+//! The records that are written, as they grow.
+
+ghost use Rattle.std.specs.Prelude.{◌≡◌, ◌+◌, ◌++◌, ◌∷◌, [], ◌||◌, not, All, filter, length, nat_lt, OnOk, IfOk, IfSome, if◌then◌else◌};
+ghost use Rattle.spy_words.specs.Classes.{IsNumberFrom};
+ghost use Rattle.spy_grammar.specs.Spelling.{Good, spelling};
+ghost use Rattle.semantics.specs.Faults.{is_header, is_end};
+ghost use Rattle.semantics.specs.Records.{lined, text_of};
+ghost use Rattle.semantics.specs.Tables.{tables_of};
+ghost use Rattle.semantics.specs.Launches.{space_under};
+ghost use Rattle.launches.specs.Written.{Tells, is_inner};
+
+use crate::declaring::{declare, space_of_step};
+use arena_sets::ArenaSet;
+use bumpalo::Bump;
+use log_tables::Decls;
+use memory::Memory;
+use point_set::PointSet;
+use semantics::{MOST_BYTES, MOST_RECORDS};
+use spy_grammar::{Record, write_record};
+use std::alloc::Global;
+use std::marker::Model;
+
+/// The records that a launch log has written so far, which contracts see as a list. Each has a spelling.
+///
+/// What they declare of regions is looked up, and not gone through. The two counts stay at the greatest `u64` where they would pass it.
+#[derive(Drop)]
+pub(crate) struct Writing<P: PointSet> {
+    regions: Decls<P>,
+    written: Vec<Record>,
+    /// How many are neither header nor end.
+    inner: u64,
+    /// How many bytes their text has.
+    bytes: u64,
+}
+
+impl<P: PointSet> Model for Writing<P> {
+    ghost use Rattle.std.specs.Prelude.{List};
+    ghost use Rattle.spy_grammar.specs.declared.record.Record.{Record};
+    ghost use Rattle.launches.specs.Written.{Tells};
+
+    ghost Value = { List Record };
+
+    ghost view = { λ w. w.written.items };
+
+    ghost invariant = { λ w. Tells w.written.items w.regions w.inner w.bytes };
+}
+
+/// How many of one record are neither header nor end.
+fn inner_of(rec: &Record) -> u64
+    ensures { result ≡ (if is_inner rec.now then 1 else 0) }
+{
+    match rec {
+        Record::Header { .. } | Record::End { .. } => 0,
+        _ => 1,
+    }
+}
+
+/// How many bytes the line of a record has, with its line feed.
+fn line_length(alloc: Global, rec: &Record) -> Result<usize, Memory>
+    requires { Good rec.now }
+    ensures { IfOk result (λ n. n ≡ length (spelling rec.now ++ 10 ∷ [])) }
+{
+    let line = write_record(alloc, rec)?;
+    Ok(line.len())
+}
+
+impl<P: PointSet> Writing<P> {
+    /// Nothing is written.
+    #[tactic(auto, using(crate::proofs::Writings::none_written))]
+    pub(crate) fn new(alloc: Global) -> Writing<P>
+        ensures { result ≡ [] }
+    {
+        Writing {
+            regions: Decls::new(alloc),
+            written: Vec::new(alloc),
+            inner: 0,
+            bytes: 0,
+        }
+    }
+
+    /// The records, handed back.
+    pub(crate) fn into_records(self) -> Vec<Record>
+    where
+        P: Drop,
+        ensures same { result.items ≡ self }
+        ensures good { All Good result.items }
+    {
+        self.written
+    }
+
+    /// How many records are written.
+    pub(crate) fn len(&self) -> usize
+        ensures { result ≡ length self.now }
+    {
+        self.written.len()
+    }
+
+    /// Whether there are too many records, without header and end.
+    #[tactic(auto, using(crate::proofs::Writings::many_where))]
+    pub(crate) fn is_many(&self) -> bool
+        ensures { result ≡ nat_lt MOST_RECORDS (length (filter (λ w. not (is_header w || is_end w)) self.now)) }
+    {
+        self.inner > MOST_RECORDS as u64
+    }
+
+    /// Whether the text is too long.
+    #[tactic(auto, using(crate::proofs::Writings::long_where))]
+    pub(crate) fn is_long(&self) -> bool
+        ensures { result ≡ nat_lt MOST_BYTES (length (text_of self.now)) }
+    {
+        self.bytes > MOST_BYTES
+    }
+
+    /// The first space that a partition has under a colour.
+    pub(crate) fn space_under(&self, part: u32, colour: u32) -> Option<u32>
+        ensures space { result ≡ space_under (tables_of (lined self.now)) part colour }
+        ensures id { IfSome result (IsNumberFrom 1) }
+    {
+        space_of_step(&self.regions, part, colour)
+    }
+}
+
+impl<'a, P: ArenaSet<'a>> Writing<P> {
+    /// One record more.
+    pub(crate) fn push(&mut self, alloc: Global, bump: &'a Bump, rec: Record) -> Result<(), Memory>
+        requires { Good rec }
+        ensures { OnOk result (self.new ≡ self.old ++ rec ∷ []) }
+    {
+        let length = line_length(alloc, &rec)? as u64;
+        let inner = self.inner.saturating_add(inner_of(&rec));
+        self.written.reserve(1)?;
+        declare(&mut self.regions, bump, &rec)?;
+        self.inner = inner;
+        self.bytes = self.bytes.saturating_add(length);
+        self.written.push(rec)?;
+        Ok(())
+    }
+}
