@@ -1,4 +1,8 @@
+mod Clashing
+mod Framing
 mod Goodness
+mod Judging
 mod Stepping
 mod TaskLists
+mod Walking
 mod Writings

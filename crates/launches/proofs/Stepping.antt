@@ -1,5 +1,5 @@
 -- One record more.
-use Rattle.std.proofs.Common.{◌≡◌, ℕ, ◌+◌, ◌-◌, ◌^◌, ◌≤◌, ◌==◌, Bool, true, false, List, [], ◌∷◌, ◌++◌, Option, Some, None, is_some, is_none, not, ◌||◌, nat_lt, ◌⊎◌, inl, inr, cond, if◌then◌else◌, IfSome, Bor, All, filter, find, map, length, refl, sym, ap, ◌∙◌, subst, arith, append-nil}
+use Rattle.std.proofs.Common.{◌≡◌, ℕ, ◌+◌, ◌-◌, ◌^◌, ◌≤◌, ◌==◌, Bool, true, false, List, [], ◌∷◌, ◌++◌, Option, Some, None, is_some, is_none, nat_lt, inl, inr, if◌then◌else◌, IfSome, Bor, All, filter, find, map, length, refl, sym, ap, ◌∙◌, subst, arith, append-nil, length-append, ◌<◌}
 use Rattle.std.specs.List.{list_any}
 use Rattle.std.specs.Option.{option_map, option_copied}
 use Rattle.std.proofs.lemmas.Bool.{eqb-true, ltb-false, or_parts, cases_Bool, false≢true}
@@ -14,7 +14,7 @@ use Rattle.spy_grammar.specs.declared.launches.LRecord.TheVariants.{Plain, Launc
 use Rattle.spy_grammar.specs.declared.code.Code.{Code}
 use Rattle.spy_grammar.specs.declared.code.Code.TheVariants as codes
 use Rattle.spy_grammar.specs.Launches.{GoodLaunch}
-use Rattle.spy_grammar.specs.Spelling.{Good}
+use Rattle.spy_grammar.specs.Spelling.{Good, spelling}
 use Rattle.spy_words.specs.declared.access.PrivWord.{PrivWord}
 use Rattle.semantics.specs.declared.limits.TheConstants.{MOST_BYTES, MOST_COLOURS, MOST_RECORDS}
 use Rattle.semantics.specs.Records.{text_of}
@@ -129,3 +129,18 @@ late_told e r ws o none more is =
     is
     ∙ ap (λ (xs : List Record). if nat_lt MOST_RECORDS (length (filter is_inner xs)) then Some codes.TooManyRecords else if nat_lt MOST_BYTES (length (text_of xs)) then Some codes.TooLong else None) more
     ∙ sym (early_or_late e r none)
+
+-- ---- how many records there are
+
+length_text : (rs : List Record) → length rs ≤ length (text_of rs)
+length_text [] = omega arith
+length_text (r ∷ rs) = omega (arith, length-append (spelling r) (10 ∷ text_of rs), length_text rs)
+
+pub late_short : (rs : List Record) (o : Option Code) → o ≡ (if nat_lt MOST_RECORDS (length (filter is_inner rs)) then Some codes.TooManyRecords else if nat_lt MOST_BYTES (length (text_of rs)) then Some codes.TooLong else None) → o ≡ None → length rs < 2 ^ 32
+late_short rs o is none = elim (cases_Bool (nat_lt MOST_RECORDS (length (filter is_inner rs)))) [
+  | inl many ↦ absurd (none-some codes.TooManyRecords (sym none ∙ rw many at is))
+  | inr few ↦ elim (cases_Bool (nat_lt MOST_BYTES (length (text_of rs)))) [
+    | inl long ↦ absurd (none-some codes.TooLong (sym none ∙ rw (few, long) at is))
+    | inr short ↦ omega (arith, ltb-false MOST_BYTES (length (text_of rs)) short, length_text rs)
+  ]
+]

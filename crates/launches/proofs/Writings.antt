@@ -1,6 +1,5 @@
 -- What is known of written records, and of one more.
-use Rattle.std.proofs.Common.{◌≡◌, ℕ, ◌+◌, ◌-◌, ◌^◌, ◌<◌, ◌==◌, ◌&&◌, nat_lt, min, Bool, true, false, cond, List, [], ◌∷◌, ◌++◌, fold, find, filter, length, All, Option, Some, None, IfSome, option_map, refl, sym, ap, ◌∙◌, subst, arith, append_assoc, length-append, ◌⊎◌, inl, inr}
-use Rattle.std.proofs.lemmas.Bool.{cases_Bool}
+use Rattle.std.proofs.Common.{◌≡◌, ℕ, ◌+◌, ◌-◌, ◌^◌, ◌<◌, ◌==◌, ◌&&◌, nat_lt, Bool, true, false, cond, List, [], ◌∷◌, ◌++◌, fold, find, filter, length, All, Option, Some, None, IfSome, option_map, refl, sym, ap, ◌∙◌, subst, arith, append_assoc, length-append}
 use Rattle.std.proofs.lemmas.Bool.Decides.{nat_tests}
 use Rattle.std.proofs.lemmas.List.Elements.{filter-append, All-push, All-head, All-tail, All-nil}
 use Rattle.std.proofs.lemmas.List.Sums.{fold-append}
@@ -16,7 +15,8 @@ use Rattle.semantics.specs.declared.tables.Sub.{Sub}
 use Rattle.semantics.specs.Records.{lined, lined_from, text_of}
 use Rattle.semantics.specs.Tables.{Tables, tables_of, with_record, no_tables}
 use Rattle.semantics.specs.Launches.{space_under}
-use Rattle.log_tables.specs.Regions.{Regions, regions_of}
+use Rattle.semantics.specs.Points.{meets, points_in}
+use Rattle.log_tables.specs.Regions.{Regions, regions_of, space_points}
 use Rattle.launches.specs.Steps.{space_by}
 use Rattle.spy_words.specs.declared.access.PrivWord.{PrivWord}
 use Rattle.launches.specs.Written.{regions_by, with_region, is_inner, capped, Tells}
@@ -60,12 +60,12 @@ pub tells_more : (rs ss : List Record) (r : Record) (d e : Regions) (n m p q one
 tells_more rs ss r d e n m p q one many told good is_one is_many more regions inner bytes = subst (λ xs. Tells xs e p q) (sym more) (record {
   regions = regions ∙ ap (λ f. with_region f r) told.regions ∙ sym (regions_more rs r);
   inner =
-    inner ∙ ap (λ k. capped (k + one)) told.inner ∙ capped_more (length (filter is_inner rs)) one
-    ∙ ap (λ k. capped (length (filter is_inner rs) + k)) is_one ∙ ap capped (sym (inner_more rs r));
+      inner ∙ ap (λ k. capped (k + one)) told.inner ∙ capped_more (length (filter is_inner rs)) one
+      ∙ ap (λ k. capped (length (filter is_inner rs) + k)) is_one ∙ ap capped (sym (inner_more rs r));
   bytes =
-    bytes ∙ ap (λ k. capped (k + many)) told.bytes ∙ capped_more (length (text_of rs)) many
-    ∙ ap (λ k. capped (length (text_of rs) + k)) is_many
-    ∙ ap capped (sym (ap length (text_more rs r) ∙ length-append (text_of rs) (spelling r ++ 10 ∷ [])));
+      bytes ∙ ap (λ k. capped (k + many)) told.bytes ∙ capped_more (length (text_of rs)) many
+      ∙ ap (λ k. capped (length (text_of rs) + k)) is_many
+      ∙ ap capped (sym (ap length (text_more rs r) ∙ length-append (text_of rs) (spelling r ++ 10 ∷ [])));
   good = All-push Good rs r told.good good;
 })
 
@@ -86,6 +86,11 @@ long_where rs regions inner bytes told = ap (nat_lt MOST_BYTES) told.bytes ∙ m
 pub space_found : (rs : List Record) (regions : Regions) (inner bytes part colour : ℕ) → Tells rs regions inner bytes → option_map (λ (s : Sub). s.space) (find (λ (s : Sub). (s.part == part) && (s.colour == colour)) regions.subs) ≡ space_under (tables_of (lined rs)) part colour
 unfolding regions_by
 space_found rs regions inner bytes part colour told = ap (λ (d : Regions). option_map (λ (s : Sub). s.space) (find (λ (s : Sub). (s.part == part) && (s.colour == colour)) d.subs)) told.regions
+
+-- Whether two spaces meet.
+pub meets_by : (rs : List Record) (d : Regions) (n m ours theirs : ℕ) → Tells rs d n m → meets (space_points d ours) (space_points d theirs) ≡ meets (points_in (tables_of (lined rs)) ours) (points_in (tables_of (lined rs)) theirs)
+unfolding regions_by
+meets_by rs d n m ours theirs told = ap (λ (x : Regions). meets (space_points x ours) (space_points x theirs)) told.regions
 
 -- A requirement declares no subspace.
 pub space_stays : (rs : List Record) (id tree space : ℕ) (fields : List ℕ) (access : PrivWord) (atomic : Bool) (part colour : ℕ) → space_by (rs ++ records.Req id tree space fields access atomic ∷ []) part colour ≡ space_by rs part colour

@@ -1,3 +1,5 @@
+pub mod Interfering
+pub mod LaunchLines
 pub mod Steps
 pub mod Written
 pub use Rattle.semantics.specs.Launches

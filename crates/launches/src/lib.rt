@@ -1,11 +1,19 @@
 //! The log that a launch log stands for, or the fault that is shown of it.
 //!
-//! `writing.rt` has the records that are written, as they grow, `step.rt` what one record more writes, `rules.rt` the rules that are tried of it by itself.
+//! `expanding.rt` has the call, `walk.rt` the walk over the records, `writing.rt` the records that are written, as they grow, `step.rt` what one record more writes, `rules.rt` the rules that are tried of it by itself, `clashes.rt` the one on interference, and `judge.rt` all of them in their order.
 #![tactic(auto)]
 
+mod clashes;
 mod declaring;
+mod expand_end;
+mod expanding;
+mod judge;
 mod launched;
 mod rules;
 mod step;
 mod tasks;
+mod walk;
 mod writing;
+
+pub use expand_end::ExpandEnd;
+pub use expanding::expand;

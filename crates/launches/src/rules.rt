@@ -140,6 +140,7 @@ pub(crate) fn advance<'a, P: ArenaSet<'a>>(
     ensures step { IfOk result (λ code. code ≡ None → expanded_as launches.new writing.new
         ≡ with_launching (expanded_as launches.old writing.old) rec) }
     ensures fit { IfOk result (λ code. code ≡ None → All HasTaskIds launches.new) }
+    ensures few { IfOk result (λ code. code ≡ None → length writing.new < 2 ^ 32) }
 {
     let early = early_broken(launches, writing, &rec);
     if early.is_some() {

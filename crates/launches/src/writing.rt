@@ -4,12 +4,13 @@ ghost use Rattle.std.specs.Prelude.{◌≡◌, ◌+◌, ◌++◌, ◌∷◌, [],
 ghost use Rattle.spy_words.specs.Classes.{IsNumberFrom};
 ghost use Rattle.spy_grammar.specs.Spelling.{Good, spelling};
 ghost use Rattle.semantics.specs.Faults.{is_header, is_end};
+ghost use Rattle.semantics.specs.Points.{meets, points_in};
 ghost use Rattle.semantics.specs.Records.{lined, text_of};
 ghost use Rattle.semantics.specs.Tables.{tables_of};
 ghost use Rattle.semantics.specs.Launches.{space_under};
 ghost use Rattle.launches.specs.Written.{Tells, is_inner};
 
-use crate::declaring::{declare, space_of_step};
+use crate::declaring::{declare, space_of_step, spaces_meet};
 use arena_sets::ArenaSet;
 use bumpalo::Bump;
 use log_tables::Decls;
@@ -117,6 +118,20 @@ impl<P: PointSet> Writing<P> {
         ensures id { IfSome result (IsNumberFrom 1) }
     {
         space_of_step(&self.regions, part, colour)
+    }
+
+    /// The records.
+    pub(crate) fn as_slice(&self) -> &[Record]
+        ensures { result.now ≡ self.now }
+    {
+        &self.written
+    }
+
+    /// Whether two spaces have a point in common.
+    pub(crate) fn spaces_meet(&self, ours: u32, theirs: u32) -> bool
+        ensures { result ≡ meets (points_in (tables_of (lined self.now)) ours) (points_in (tables_of (lined self.now)) theirs) }
+    {
+        spaces_meet(&self.regions, ours, theirs)
     }
 }
 

@@ -1,8 +1,8 @@
-use Rattle.std.proofs.Common.{◌≡◌, true, false, Some, None, is_some, refl, sym, ap, ◌∙◌, subst}
+use Rattle.std.proofs.Common.{is_some, refl, sym, ap, ◌∙◌}
 use Rattle.std.proofs.lemmas.Bool.{false≢true}
 use Rattle.semantics.specs.Launches.{Expanded}
 use Rattle.launches.specs.Steps.{expanded_as}
-use Rattle.launches.proofs.Stepping.{none_where, early_told, late_told, none_early}
+use Rattle.launches.proofs.Stepping.{none_where, early_told, late_short, late_told, none_early}
 use Rattle.launches.proofs.rules.advance.Goals as goal
 
 pub write-requires : goal.write-requires
@@ -20,6 +20,7 @@ returns-then-is_some g c =
       code = early_told e c.args.rec c.early_broken-early.result some c.early_broken-early.ensures;
       step = λ none. absurd (false≢true (ap is_some (sym none) ∙ some));
       fit = λ none. absurd (false≢true (ap is_some (sym none) ∙ some));
+      few = λ none. absurd (false≢true (ap is_some (sym none) ∙ some));
     }
 
 pub returns : goal.returns
@@ -31,4 +32,5 @@ returns g c =
       code = late_told e c.args.rec _ c.late_broken.result (sym c.early_broken-early.ensures ∙ none) (ap (λ (x : Expanded). x.written) step) c.late_broken.ensures;
       step = λ kept. step;
       fit = λ kept. c.in_ok-write.ensures.fit;
+      few = λ kept. late_short _ c.late_broken.result c.late_broken.ensures kept;
     }

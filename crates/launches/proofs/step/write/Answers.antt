@@ -7,19 +7,25 @@ use Rattle.launches.proofs.step.write.Goals as goal
 
 pub write_launch-requires : goal.write_launch-requires
 write_launch-requires g c κs =
-    let a = c.in-Launch in
-    ((refl, tt), (
-      good_tasks a.base a.colours (subst GoodLaunch a.is c.requires.good),
-      ids_fit a.base a.colours (subst (λ r. exceeds_ids r ≡ false) a.is c.requires.ids),
-    ))
+    let a = c.in-Launch in (
+      (refl, tt),
+      (
+        good_tasks a.base a.colours (subst GoodLaunch a.is c.requires.good),
+        ids_fit a.base a.colours (subst (λ r. exceeds_ids r ≡ false) a.is c.requires.ids),
+      ),
+    )
 
 pub write_reqs-requires : goal.write_reqs-requires
 write_reqs-requires g c κs =
     let a = c.in-Lreq in
     let e = expanded_as c.args.launches.now c.args.writing.now in
-    let good = subst GoodLaunch a.is c.requires.good in
-    ((refl, tt), (
-      good_base a.base a.tree a.part a.fields a.access a.atomic good,
-      (good_reqs a.base a.tree a.part a.fields a.access a.atomic good,
-      (c.requires.fit, none_lacking e a.base a.tree a.part a.fields a.access a.atomic (subst (λ r. names_no_launch e r ≡ false) a.is c.requires.known))),
-    ))
+    let good = subst GoodLaunch a.is c.requires.good in (
+      (refl, tt),
+      (
+        good_base a.base a.tree a.part a.fields a.access a.atomic good,
+        (
+          good_reqs a.base a.tree a.part a.fields a.access a.atomic good,
+          (c.requires.fit, none_lacking e a.base a.tree a.part a.fields a.access a.atomic (subst (λ r. names_no_launch e r ≡ false) a.is c.requires.known)),
+        ),
+      ),
+    )

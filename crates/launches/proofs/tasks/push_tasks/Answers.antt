@@ -1,4 +1,4 @@
-use Rattle.std.proofs.Common.{ap, arith}
+use Rattle.std.proofs.Common.{arith}
 use Rattle.spy_grammar.specs.declared.record.Record.TheVariants as records
 use Rattle.launches.proofs.TaskLists.{one_task_more}
 use Rattle.launches.proofs.tasks.push_tasks.Goals as goal

@@ -1,4 +1,4 @@
-use Rattle.std.proofs.Common.{◌≡◌, List, [], ◌∷◌, ◌++◌, ap, ◌∙◌}
+use Rattle.std.proofs.Common.{List, [], ◌∷◌, ◌++◌, ap, ◌∙◌}
 use Rattle.spy_grammar.specs.declared.record.Record.{Record}
 use Rattle.launches.proofs.Writings.{tells_more}
 use Rattle.launches.proofs.writing.Writing.push.Goals as goal

@@ -1,4 +1,4 @@
-use Rattle.std.proofs.Common.{◌≡◌, List, ap, ◌∙◌}
+use Rattle.std.proofs.Common.{List, ap, ◌∙◌}
 use Rattle.spy_grammar.specs.declared.record.Record.{Record}
 use Rattle.launches.specs.Steps.{space_by}
 use Rattle.launches.proofs.Writings.{space_found, space_good}
