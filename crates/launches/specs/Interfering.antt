@@ -10,6 +10,7 @@ use Rattle.semantics.specs.Tables.{tables_of}
 use Rattle.semantics.specs.Launches.{TaskLaunch, clash}
 use Rattle.launches.specs.declared.clashes.Asked.{Asked}
 
+-- Whether a record states a requirement.
 abbrev pub is_req : Record → Bool
 is_req (records.Req task tree space fields access atomic) = true
 is_req _ = false

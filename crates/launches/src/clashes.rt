@@ -1,4 +1,4 @@
-//! Requirements of tasks of a launch that clash.
+//! Requirements of tasks of a launch that clash. Each requirement that a record writes is compared with all that are written.
 
 ghost use Rattle.std.specs.Prelude.{◌≡◌, ◌≤◌, ◌&&◌, ◌==◌, IfSome, IfNone, drop, false, length, map};
 ghost use Rattle.std.specs.List.{list_any};
@@ -54,6 +54,7 @@ fn requirement_in(rec: &Record) -> Option<Asked<'_>>
     }
 }
 
+/// Whether a record states a requirement.
 fn is_req(rec: &Record) -> bool
     ensures { result ≡ is_req rec.now }
 {
@@ -82,6 +83,7 @@ fn holds(launch: &Launched, id: u32) -> bool
     id >= launch.base && ((id - launch.base) as usize) < launch.colours.len()
 }
 
+/// Whether a number is in a list.
 fn has(numbers: &[u32], number: u32) -> bool
     ensures { result ≡ list_any (λ n. n == number) numbers.now }
 {

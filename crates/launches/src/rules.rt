@@ -68,6 +68,7 @@ fn repeats_launch(launches: &Rows<u32, Launched>, rec: &LRecord) -> bool
     }
 }
 
+/// Whether an `lreq` names no launch, or has no subspace for some task.
 fn names_no_launch<P: PointSet>(
     launches: &Rows<u32, Launched>,
     writing: &Writing<P>,
@@ -82,6 +83,7 @@ fn names_no_launch<P: PointSet>(
     }
 }
 
+/// Whether a launch has too many colours, or the id of some task would be no id.
 fn exceeds_ids(rec: &LRecord) -> bool
     ensures { result ≡ exceeds_ids rec.now }
 {
