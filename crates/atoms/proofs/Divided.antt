@@ -5,8 +5,7 @@ use Rattle.std.proofs.lemmas.Bool.{cases_Bool, cases_lt, true≢false}
 use Rattle.std.proofs.lemmas.List.{length-map, get_or-map, get_or_default}
 use Rattle.std.proofs.lemmas.List.Elements.{Contains-get_or}
 use Rattle.log_laws.proofs.lemmas.Members.{member_of, contains_of}
-use Rattle.semantics.specs.Tables.{Tables, Space}
-use Rattle.semantics.specs.Points.{is_in}
+use Rattle.vocabulary.specs.Prelude.{Tables, Space, is_in}
 use Rattle.point_set.specs.Runs.{AreRuns, points_of}
 use Rattle.point_set.proofs.lemmas.InRuns.{Holds, in_run, of_run, ends_before}
 use Rattle.point_laws.specs.Alike.{AreFirsts}

@@ -7,7 +7,7 @@ use Rattle.std.proofs.lemmas.List.Sorted.{Contains-permutation, IsPermutation-sy
 use Rattle.std.specs.List.{Any}
 use Rattle.std.specs.List.Sorted.{IsPermutation}
 use Rattle.log_laws.proofs.lemmas.Members.{member_of, contains_of, member_map}
-use Rattle.semantics.specs.Tables.{Space}
+use Rattle.vocabulary.specs.Prelude.{Space}
 use Rattle.atoms.specs.declared.edges.Edge.{Edge}
 use Rattle.atoms.specs.Edges.{IsRunOf, IsFirstRun, IsEdgeOf, HasEdges, AddsEdges, AreEdgesOf}
 

@@ -1,8 +1,7 @@
 -- The runs of points that no declared space divides.
 use Rattle.std.specs.Prelude.{◌≡◌, ◌≢◌, ◌↔◌, ℕ, ◌+◌, ◌≤◌, true, List, map, Contains, Option, Some, None, slice_get, IsSomeAnd}
 use Rattle.std.specs.List.{Any}
-use Rattle.semantics.specs.Tables.{Tables, Space}
-use Rattle.semantics.specs.Points.{is_in}
+use Rattle.vocabulary.specs.Prelude.{Tables, Space, is_in}
 use Rattle.point_set.specs.Runs.{AreRuns, points_of}
 use Rattle.point_laws.specs.Alike.{AreAlike}
 

@@ -1,7 +1,7 @@
 -- The maximal runs of sets, and their edges: the numbers at which a run begins, and those that follow one.
 use Rattle.std.specs.Prelude.{◌≡◌, ℕ, ◌+◌, ◌<◌, ◌≤◌, ◌^◌, ◌⊎◌, List, Contains, Option, Some, None}
 use Rattle.std.specs.List.{Any}
-use Rattle.semantics.specs.Tables.{Space}
+use Rattle.vocabulary.specs.Prelude.{Space}
 use Rattle.atoms.specs.declared.edges.Edge.{Edge}
 use Rattle.atoms.specs.Atoms.{HasPoint}
 

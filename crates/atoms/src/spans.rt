@@ -1,7 +1,7 @@
 //! The parts into which sorted edges cut the points.
 
 ghost use Rattle.std.specs.Prelude.{◌≡◌, [], ◌++◌, map, IfOk, OnOk};
-ghost use Rattle.semantics.specs.Tables.{Tables};
+ghost use Rattle.vocabulary.specs.Prelude.{Tables};
 ghost use Rattle.log_tables.specs.Views.{space_seen};
 ghost use Rattle.atoms.specs.Atoms.{AreAtomsOf};
 ghost use Rattle.atoms.specs.Parts.{part_before, parts_from, parts_of};

@@ -3,9 +3,7 @@ use Rattle.std.proofs.Common.{◌≡◌, ℕ, ◌&&◌, ◌<◌, ◌≤◌, ◌�
 use Rattle.std.proofs.lemmas.Bool.{or_parts, ltb-false}
 use Rattle.std.proofs.lemmas.Bool.Decides.{nat_tests}
 use Rattle.std.proofs.lemmas.List.{append-nil}
-use Rattle.semantics.specs.declared.places.Cell.{Cell}
-use Rattle.semantics.specs.Kinds.{comes_first}
-use Rattle.semantics.specs.Execution.{same_cell}
+use Rattle.vocabulary.specs.Prelude.{Cell, comes_first, same_cell}
 use Rattle.cell_races.specs.declared.access.Visit.{Visit}
 use Rattle.cell_races.specs.declared.touches.Touch.{Touch}
 use Rattle.cell_races.specs.Accesses.{conflicts}

@@ -1,6 +1,6 @@
 -- What the order and the marks of a graph say of each other.
 use Rattle.std.proofs.Common.{◌≡◌, ◌<◌, ℕ, List, length, slice_index, sym, subst}
-use Rattle.semantics.specs.Events.{Node}
+use Rattle.vocabulary.specs.Prelude.{Node}
 use Rattle.log_laws.proofs.lemmas.Members.{contains_of}
 use Rattle.event_graph.specs.Orders.{IsOrderOf}
 use Rattle.event_graph.proofs.lemmas.Whole.{order_within}

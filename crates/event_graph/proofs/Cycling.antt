@@ -3,7 +3,7 @@ use Rattle.std.proofs.Common.{◌≡◌, ℕ, ◌<◌, true, false, List, [], �
 use Rattle.std.proofs.lemmas.Bool.{true≢false}
 use Rattle.std.proofs.lemmas.List.Elements.{Contains-get_or}
 use Rattle.std.proofs.lemmas.Option.{slice_get_within}
-use Rattle.semantics.specs.Events.{Node, IsChain, IsCycle}
+use Rattle.vocabulary.specs.Prelude.{Node, IsChain, IsCycle}
 use Rattle.semantics.specs.ReplayOrder.{is_stuck}
 use Rattle.log_laws.proofs.lemmas.Members.{Member, member_of, contains_of}
 

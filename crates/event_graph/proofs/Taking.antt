@@ -7,8 +7,7 @@ use Rattle.std.proofs.lemmas.List.Folds.{list_any-append}
 use Rattle.std.proofs.lemmas.List.{length-map, get_or_past}
 use Rattle.std.proofs.lemmas.Option.{gets, slice_get_cases, slice_get_within, slice_get-map, get_or_from_slice_get}
 use Rattle.std.proofs.Math.Bool.{or-false}
-use Rattle.semantics.specs.Points.{is_in}
-use Rattle.semantics.specs.Events.{Node}
+use Rattle.vocabulary.specs.Prelude.{is_in, Node}
 use Rattle.semantics.specs.ReplayOrder.{positions, waits_at, has_event, is_ready, after_rounds}
 use Rattle.log_laws.proofs.lemmas.Members.{Member, none_or_some, is_in_of, member_in, found_at, any_found, member_append, only}
 use Rattle.log_laws.proofs.lemmas.Apart.{number_within}

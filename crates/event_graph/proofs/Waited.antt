@@ -3,7 +3,7 @@ use Rattle.std.proofs.Common.{◌≡◌, ℕ, ◌<◌, ◌≤◌, arith, true, L
 use Rattle.std.proofs.lemmas.List.{get_or_default}
 use Rattle.std.proofs.lemmas.List.Elements.{Contains-get_or}
 use Rattle.std.proofs.lemmas.Option.{same_Some, slice_get-get_or, slice_get_within, get_or_from_slice_get}
-use Rattle.semantics.specs.Events.{Node, AreLinked, WaitsOn}
+use Rattle.vocabulary.specs.Prelude.{Node, AreLinked, WaitsOn}
 use Rattle.semantics.specs.ReplayOrder.{waits_at}
 use Rattle.log_laws.proofs.lemmas.Members.{none_or_some}
 use Rattle.event_graph.specs.EventPlaces.{IsIndexed}

@@ -4,8 +4,7 @@ use mathlib.Core.Path.{fun_ext}
 use Rattle.std.specs.List.{list_any}
 use Rattle.std.proofs.lemmas.Bool.{true≢false, cases_Bool, eq-eqb, ne_eqb, cases_eq, false_from_ne_true, and_left, and_right, and_from, not_from_false, not-true}
 use Rattle.std.proofs.lemmas.Option.{same_Some}
-use Rattle.semantics.specs.Points.{is_in}
-use Rattle.semantics.specs.Events.{Node}
+use Rattle.vocabulary.specs.Prelude.{is_in, Node}
 use Rattle.semantics.specs.ReplayOrder.{positions, waits_at, done_at, has_event, replay_order, is_stuck, stuck_wait, walk, up_to, cycle_from, from_least, shown_cycle}
 use Rattle.log_laws.proofs.lemmas.Members.{none_or_some, member_of}
 use Rattle.log_laws.proofs.lemmas.Rounds.{replay, taken_within}

@@ -1,6 +1,6 @@
 -- Where the nodes of events stand.
 use Rattle.std.specs.Prelude.{◌≡◌, ◌≢◌, ◌==◌, ◌+◌, ℕ, Bool, true, false, List, [], ◌∷◌, Option, Some, None, is_some, All, AllPairs, if◌then◌else◌}
-use Rattle.semantics.specs.Events.{Node}
+use Rattle.vocabulary.specs.Prelude.{Node}
 use Rattle.semantics.specs.ReplayOrder.{waits_at, done_at}
 
 -- Whether a place is known, and this one.

@@ -1,7 +1,7 @@
 -- Marks on numbers.
 use Rattle.std.specs.Prelude.{◌≡◌, ◌<◌, ℕ, Bool, false, List, length}
 use Rattle.std.specs.List.{slice_index_or}
-use Rattle.semantics.specs.Points.{is_in}
+use Rattle.vocabulary.specs.Prelude.{is_in}
 
 -- So many marks, of which those of these numbers are set.
 pub record AreMarked (marks : List Bool) (count : ℕ) (ks : List ℕ) : Type 0 where

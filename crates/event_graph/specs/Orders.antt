@@ -1,6 +1,6 @@
 -- What a graph answers.
 use Rattle.std.specs.Prelude.{◌≡◌, ℕ, List, map, Some, unwrap_or, slice_get}
-use Rattle.semantics.specs.Events.{Node, IsCycle}
+use Rattle.vocabulary.specs.Prelude.{Node, IsCycle}
 use Rattle.semantics.specs.ReplayOrder.{done_at, waits_at, replay_order, shown_cycle}
 use Rattle.event_graph.specs.declared.stuck.Stuck.{Stuck}
 use Rattle.event_graph.specs.declared.stuck.Stuck.TheVariants.{Cycle, Memory}

@@ -1,7 +1,7 @@
 -- How often nodes wait on a node.
 use Rattle.std.specs.Prelude.{◌≡◌, ◌==◌, ◌+◌, ◌<◌, ℕ, List, [], ◌∷◌, length, Some, slice_get, if◌then◌else◌}
 use Rattle.std.specs.List.{slice_index_or}
-use Rattle.semantics.specs.Events.{Node}
+use Rattle.vocabulary.specs.Prelude.{Node}
 use Rattle.semantics.specs.ReplayOrder.{waits_at}
 
 -- How many times a number is in a list.

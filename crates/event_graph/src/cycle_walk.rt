@@ -4,7 +4,7 @@ ghost use Rattle.std.specs.Prelude.{◌≡◌, ◌==◌, ◌||◌, ℕ, ◌+◌,
 ghost use Rattle.std.specs.List.{slice_index_or, list_any};
 ghost use Rattle.std.specs.HashMap.{get};
 ghost use Rattle.std.specs.Option.{IsSomeAnd};
-ghost use Rattle.semantics.specs.Points.{is_in};
+ghost use Rattle.vocabulary.specs.Prelude.{is_in};
 ghost use Rattle.semantics.specs.ReplayOrder.{is_stuck, stuck_wait, walk, up_to, from_least, least_among, begun_at, waits_at, replay_order};
 ghost use Rattle.event_graph.specs.EventPlaces.{is_place, IsIndexed};
 ghost use Rattle.event_graph.specs.Marked.{AreMarked};

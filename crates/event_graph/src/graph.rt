@@ -1,7 +1,7 @@
 //! The graph of the nodes of a recorded run.
 
 ghost use Rattle.std.specs.Prelude.{◌≡◌, ◌≢◌, ℕ, length, map, ◌<◌, ◌≤◌, ◌^◌, None, option_map, All, Contains, IfOk, IfErr, IfSome, IfNone, Some, slice_get, ◌↔◌};
-ghost use Rattle.semantics.specs.Events.{AreLinked, WaitsOn};
+ghost use Rattle.vocabulary.specs.Prelude.{AreLinked, WaitsOn};
 ghost use Rattle.semantics.specs.ReplayOrder.{done_at, waits_at, replay_order, shown_cycle};
 ghost use Rattle.event_graph.specs.Orders.{IsOrderOf, IsWait, IsWhy, AreCycleEvents, event_at};
 
@@ -28,7 +28,7 @@ pub struct Graph {
 impl Model for Graph {
     ghost use Rattle.std.specs.Prelude.{List, nat_eq, length, ◌<◌, ◌^◌};
     ghost use Rattle.std.specs.HashMap.{get};
-    ghost use Rattle.semantics.specs.Events.{Node};
+    ghost use Rattle.vocabulary.specs.Prelude.{Node};
     ghost use Rattle.event_graph.specs.EventPlaces.{IsIndexed};
 
     ghost Value = { List Node };

@@ -2,7 +2,7 @@
 
 ghost use Rattle.std.specs.Prelude.{◌≡◌, ◌↔◌, ℕ, ◌<◌, true, nat_eq, length, slice_index, All, Some, is_some, IfOk, IsTrue};
 ghost use Rattle.std.specs.HashMap.{get};
-ghost use Rattle.semantics.specs.Events.{AreLinked};
+ghost use Rattle.vocabulary.specs.Prelude.{AreLinked};
 
 use crate::node::NodeIn;
 use crate::places::{events_of, first_places};

@@ -1,7 +1,7 @@
 //! The nodes that a graph is built of.
 
 ghost use Rattle.std.specs.Prelude.{◌≡◌, IfOk};
-ghost use Rattle.semantics.specs.Events.{graph_of};
+ghost use Rattle.vocabulary.specs.Prelude.{graph_of};
 
 use semantics::LogNode;
 use spy_words::Nums;
@@ -19,7 +19,7 @@ pub struct NodeIn {
 }
 
 impl Model for NodeIn {
-    ghost use Rattle.semantics.specs.Events.{Node};
+    ghost use Rattle.vocabulary.specs.Prelude.{Node};
 
     ghost Value = { Node };
 

@@ -3,7 +3,7 @@
 ghost use Rattle.std.specs.Prelude.{◌≡◌, ◌≢◌, ℕ, nat_eq, map, All, AllPairs, IfOk, IsSome, is_some, true, Some, length, ◌<◌, slice_index};
 ghost use Rattle.std.specs.HashMap.{get};
 ghost use Rattle.std.specs.List.{position_from};
-ghost use Rattle.semantics.specs.Events.{Node};
+ghost use Rattle.vocabulary.specs.Prelude.{Node};
 ghost use Rattle.event_graph.specs.EventPlaces.{ArePlaces};
 
 use crate::node::NodeIn;

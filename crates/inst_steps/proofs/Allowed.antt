@@ -6,16 +6,9 @@ use Rattle.std.specs.Option.{option_and_then}
 use Rattle.std.proofs.lemmas.Bool.{and_parts, eqb-true}
 use Rattle.std.proofs.lemmas.Iterator.Adapters.{position_from-zero}
 use Rattle.std.proofs.lemmas.Option.{none-some, slice_get-get_or}
-use Rattle.privilege.specs.declared.kinds.Priv.{Priv}
+use Rattle.vocabulary.specs.Prelude.{Priv, Req, Op, Tables, points_in, reqs_of, grid, req_at, cell_in, id_of, mapped}
 use Rattle.privilege.specs.declared.kinds.Priv.TheVariants as privileges
-use Rattle.semantics.specs.declared.tables.Req.{Req}
-use Rattle.semantics.specs.declared.tables.Op.{Op}
 use Rattle.semantics.specs.declared.tables.Op.TheVariants as operations
-use Rattle.semantics.specs.Tables.{Tables}
-use Rattle.semantics.specs.Points.{points_in}
-use Rattle.semantics.specs.Kinds.{reqs_of, grid}
-use Rattle.semantics.specs.Reads.{req_at}
-use Rattle.semantics.specs.Steps.{cell_in, id_of, mapped}
 use Rattle.log_laws.proofs.lemmas.Members.{Member, Each, contains_of, found_at, member_append, member_filter, member_flat, member_map, none_or_some, only}
 use Rattle.list_lemmas.proofs.lemmas.Firsts.{find_by_place}
 use Rattle.inst_steps.specs.declared.act.Act.{Act}

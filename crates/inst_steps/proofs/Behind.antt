@@ -8,8 +8,7 @@ use Rattle.std.proofs.lemmas.List.Kept.{IsStrictlyIncreasing-filter}
 use Rattle.std.specs.Ordering.{nat_cmp}
 use Rattle.point_set.specs.Least.{IsLeastFrom, points_from}
 use Rattle.point_set.proofs.lemmas.Ahead.{spread}
-use Rattle.semantics.specs.Points.{is_in}
-use Rattle.semantics.specs.Kinds.{grid}
+use Rattle.vocabulary.specs.Prelude.{is_in, grid}
 use Rattle.log_laws.proofs.lemmas.Members.{Member, contains_of, member_of}
 use Rattle.log_laws.proofs.lemmas.Apart.{Rise}
 use Rattle.point_laws.specs.Cut.{kept}

@@ -8,16 +8,8 @@ use Rattle.std.proofs.lemmas.List.Folds.{list_any-append}
 use Rattle.std.proofs.Math.Bool.{or-false, or-true}
 use Rattle.point_set.specs.Least.{IsLeastFrom}
 use Rattle.point_laws.proofs.lemmas.Cuts.{points_cut_to}
-use Rattle.spy_words.specs.declared.access.InstKind.{InstKind}
-use Rattle.value_terms.specs.declared.terms.Base.{Base}
+use Rattle.vocabulary.specs.Prelude.{InstKind, Base, Value, plain, Cell, Inst, Tables, is_in, points_in, inst_at, is_home, start}
 use Rattle.value_terms.specs.declared.terms.Base.TheVariants.{Raw, Init}
-use Rattle.value_terms.specs.Values.{Value, plain}
-use Rattle.semantics.specs.declared.places.Cell.{Cell}
-use Rattle.semantics.specs.declared.tables.Inst.{Inst}
-use Rattle.semantics.specs.Tables.{Tables}
-use Rattle.semantics.specs.Points.{is_in, points_in}
-use Rattle.semantics.specs.Steps.{inst_at}
-use Rattle.semantics.specs.Execution.{is_home, start}
 use Rattle.log_laws.proofs.lemmas.Members.{contains_of, member_in, is_in_of, member_of, find_none}
 use Rattle.point_laws.specs.Cut.{kept, cut_to}
 use Rattle.inst_steps.specs.Stores.{Contents, HoldsMore, IsStart, base_of, is_at_point, is_at_points, is_of, is_of_some}

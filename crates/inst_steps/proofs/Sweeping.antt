@@ -4,16 +4,9 @@ use Rattle.std.specs.Option.{option_map_or}
 use Rattle.std.proofs.Math.Path.{fun_ext}
 use Rattle.std.proofs.lemmas.List.{drop_all, append-nil, map-append}
 use Rattle.std.proofs.lemmas.List.Concat.{flat_map_single, flat_map-append}
-use Rattle.privilege.specs.declared.kinds.Priv.{Priv}
+use Rattle.vocabulary.specs.Prelude.{Priv, Move, Req, Op, Tables, points_in, reqs_of, grid, req_grid, id_of, operator_of, mapped_cell, reads_by, changes_by, moves_of, LogNode}
 use Rattle.privilege.specs.declared.kinds.Priv.TheVariants as privileges
-use Rattle.semantics.specs.declared.moves.Move.{Move}
-use Rattle.semantics.specs.declared.tables.Req.{Req}
-use Rattle.semantics.specs.declared.tables.Op.{Op}
 use Rattle.semantics.specs.declared.tables.Op.TheVariants as operations
-use Rattle.semantics.specs.Tables.{Tables}
-use Rattle.semantics.specs.Points.{points_in}
-use Rattle.semantics.specs.Kinds.{reqs_of, grid, req_grid}
-use Rattle.semantics.specs.Steps.{id_of, operator_of, mapped_cell, reads_by, changes_by, moves_of}
 use Rattle.point_laws.specs.Cut.{cut, kept, cut_to}
 use Rattle.point_laws.proofs.lemmas.Cuts.{points_cut, kept_nothing}
 use Rattle.inst_steps.specs.declared.act.Act.{Act}
@@ -21,7 +14,6 @@ use Rattle.inst_steps.specs.declared.act.Act.TheVariants as acts
 use Rattle.inst_steps.specs.declared.act.Action.{Action}
 use Rattle.inst_steps.specs.Acting.{steps_in}
 use Rattle.inst_steps.specs.Sweeps.{Pass, pass, pass_at, action_at, move_at, req_in, own_place, pass_actions, pass_moves, actions_of_pass, moves_of_pass, reading, changing, pass_for, passes_of}
-use Rattle.semantics.specs.declared.tables.LogNode.{LogNode}
 use Rattle.std.proofs.lemmas.Option.{slice_get-get_or}
 use Rattle.std.specs.Prelude.{IfSome}
 use Rattle.inst_steps.specs.declared.spot.Spot.{Spot}

@@ -1,10 +1,8 @@
 -- Cells of instances, and stores that have them.
 use Rattle.std.specs.Prelude.{◌≡◌, true}
 use Rattle.std.specs.FinMap.{contains_key}
-use Rattle.semantics.specs.declared.places.Cell.{Cell}
-use Rattle.semantics.specs.declared.moves.Move.{Move}
+use Rattle.vocabulary.specs.Prelude.{Cell, Move, Tables}
 use Rattle.semantics.specs.declared.moves.Move.TheVariants as moves
-use Rattle.semantics.specs.Tables.{Tables}
 use Rattle.inst_steps.specs.Stores.{Contents, has_cell}
 
 -- The cells of a move are cells of instances.

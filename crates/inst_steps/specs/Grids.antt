@@ -1,6 +1,6 @@
 -- Points and fields, in the order in which they are gone over.
 use Rattle.std.specs.Prelude.{ℕ, ◌+◌, List, ◌++◌, map, drop, filter, nat_le}
-use Rattle.semantics.specs.Kinds.{grid}
+use Rattle.vocabulary.specs.Prelude.{grid}
 
 -- The points after a point.
 abbrev pub behind : List ℕ → ℕ → List ℕ

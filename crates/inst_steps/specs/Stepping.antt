@@ -1,13 +1,7 @@
 -- What a node does, move by move.
 use Rattle.std.specs.Prelude.{◌≡◌, ℕ, ◌+◌, ◌<◌, ◌^◌, List, [], ◌++◌, map, flat_map, drop, length, slice_get, slice_index, Contains, Option, IfSome}
 use Rattle.std.specs.Option.{option_map_or}
-use Rattle.semantics.specs.declared.moves.Move.{Move}
-use Rattle.semantics.specs.declared.tables.LogNode.{LogNode}
-use Rattle.semantics.specs.declared.tables.Op.{Op}
-use Rattle.semantics.specs.Tables.{Tables}
-use Rattle.semantics.specs.Kinds.{reqs_of}
-use Rattle.semantics.specs.Reads.{req_at}
-use Rattle.semantics.specs.Steps.{moves_of}
+use Rattle.vocabulary.specs.Prelude.{Move, LogNode, Op, Tables, reqs_of, req_at, moves_of}
 use Rattle.inst_steps.specs.declared.act.Action.{Action}
 use Rattle.inst_steps.specs.declared.sweep.Sweep.{Sweep}
 use Rattle.inst_steps.specs.declared.spot.Spot.{Spot}

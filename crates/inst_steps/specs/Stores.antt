@@ -2,24 +2,13 @@
 use Rattle.std.specs.Prelude.{◌≡◌, ℕ, zero, suc, ◌+◌, ◌<◌, ◌^◌, Bool, true, false, ◌-◌, ◌==◌, ◌&&◌, List, refl, Option, Some, None, unwrap_or, if◌then◌else◌}
 use Rattle.std.specs.Option.{option_map_or}
 use Rattle.std.specs.List.{list_any}
-use Rattle.spy_words.specs.declared.access.InstKind.{InstKind}
+use Rattle.vocabulary.specs.Prelude.{InstKind, Base, Contribution, Group, Bag, Value, value_of, plain, add_one, fold_in, weight_of, Cell, Move, Inst, Tables, is_in, points_in, inst_at, State, is_home, start}
 use Rattle.std.specs.Coded.{Coded, code_by, coded×, coded_ℕ, coded_list}
 use Rattle.std.specs.FinMap.{FinMap, get, insert, contains_key}
 use Rattle.std.specs.Ordering.{nat_cmp, ordering_then}
 use Rattle.std.specs.declared.cmp.Ordering.{Ordering}
-use Rattle.value_terms.specs.declared.terms.Base.{Base}
 use Rattle.value_terms.specs.declared.terms.Base.TheVariants.{Raw, Init, Ident, Const, Out}
-use Rattle.value_terms.specs.declared.terms.Contribution.{Contribution}
-use Rattle.value_terms.specs.declared.bag.Group.{Group}
-use Rattle.value_terms.specs.Values.{Bag, Value, value_of, plain, add_one, fold_in, weight_of}
-use Rattle.semantics.specs.declared.places.Cell.{Cell}
-use Rattle.semantics.specs.declared.moves.Move.{Move}
 use Rattle.semantics.specs.declared.moves.Move.TheVariants as moves
-use Rattle.semantics.specs.declared.tables.Inst.{Inst}
-use Rattle.semantics.specs.Tables.{Tables}
-use Rattle.semantics.specs.Points.{is_in, points_in}
-use Rattle.semantics.specs.Steps.{inst_at}
-use Rattle.semantics.specs.Execution.{State, is_home, start}
 
 -- ---- cells in order: by instance, then point, then field
 

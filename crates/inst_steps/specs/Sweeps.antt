@@ -1,20 +1,11 @@
 -- Operations as sweeps, each of which does one thing at each point and field of a space.
 use Rattle.std.specs.Prelude.{ℕ, List, [], ◌∷◌, ◌++◌, ◌==◌, ◌&&◌, map, Option, Some, None, option_map, unwrap_or, position, slice_get, if◌then◌else◌}
 use Rattle.std.specs.Option.{option_map_or}
-use Rattle.privilege.specs.declared.kinds.Priv.{Priv}
+use Rattle.vocabulary.specs.Prelude.{Priv, may_read, may_write, Cell, Move, Req, Op, Tables, points_in, reqs_of, grid, cell_in, id_of, operator_of}
 use Rattle.privilege.specs.declared.kinds.Priv.TheVariants as privileges
-use Rattle.privilege.specs.Allowed.{may_read, may_write}
 use Rattle.log_tables.specs.Mapped.{inst_mapped}
-use Rattle.semantics.specs.declared.places.Cell.{Cell}
-use Rattle.semantics.specs.declared.moves.Move.{Move}
 use Rattle.semantics.specs.declared.moves.Move.TheVariants as moves
-use Rattle.semantics.specs.declared.tables.Req.{Req}
-use Rattle.semantics.specs.declared.tables.Op.{Op}
 use Rattle.semantics.specs.declared.tables.Op.TheVariants as operations
-use Rattle.semantics.specs.Tables.{Tables}
-use Rattle.semantics.specs.Points.{points_in}
-use Rattle.semantics.specs.Kinds.{reqs_of, grid}
-use Rattle.semantics.specs.Steps.{cell_in, id_of, operator_of}
 use Rattle.inst_steps.specs.declared.act.Act.{Act}
 use Rattle.inst_steps.specs.declared.act.Action.{Action}
 use Rattle.inst_steps.specs.declared.act.Act.TheVariants as acts

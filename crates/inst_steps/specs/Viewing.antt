@@ -1,11 +1,7 @@
 -- A store as one requirement sees it.
 use Rattle.std.specs.Prelude.{◌≡◌, ℕ, Some, slice_get, option_map, unwrap_or}
 use Rattle.std.specs.Option.{option_and_then}
-use Rattle.privilege.specs.declared.kinds.Priv.{Priv}
-use Rattle.semantics.specs.declared.places.Cell.{Cell}
-use Rattle.semantics.specs.declared.tables.Req.{Req}
-use Rattle.semantics.specs.Tables.{Tables}
-use Rattle.semantics.specs.Steps.{cell_in, mapped}
+use Rattle.vocabulary.specs.Prelude.{Priv, Cell, Req, Tables, cell_in, mapped}
 
 -- The requirement at a position has a privilege.
 abbrev pub HasPrivilege : Tables → ℕ → Priv → Type 0

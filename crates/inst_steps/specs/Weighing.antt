@@ -1,10 +1,7 @@
 -- What the values of a store weigh.
 use Rattle.std.specs.Prelude.{ℕ, ◌+◌, if◌then◌else◌}
-use Rattle.value_terms.specs.Values.{weight_of}
-use Rattle.semantics.specs.declared.places.Cell.{Cell}
-use Rattle.semantics.specs.declared.moves.Move.{Move}
+use Rattle.vocabulary.specs.Prelude.{weight_of, Cell, Move, same_cell}
 use Rattle.semantics.specs.declared.moves.Move.TheVariants as moves
-use Rattle.semantics.specs.Execution.{same_cell}
 use Rattle.inst_steps.specs.Stores.{Contents, value_in}
 
 abbrev pub weight_at : Contents → Cell → ℕ

@@ -2,7 +2,7 @@
 
 ghost use Rattle.std.specs.Prelude.{◌≡◌, true, Some, OnOk, OnErr, IfOk, IfNone};
 ghost use Rattle.std.specs.FinMap as map;
-ghost use Rattle.value_terms.specs.Values.{plain};
+ghost use Rattle.vocabulary.specs.Prelude.{plain};
 ghost use Rattle.inst_steps.specs.Stores.{HasCells, IsLight, after_move, value_in};
 
 use crate::store::Store;

@@ -4,7 +4,7 @@ ghost use Rattle.std.specs.Prelude.{◌≡◌, ◌<◌, ◌∷◌, Some, None, d
 ghost use Rattle.std.specs.Iterator.{YieldsFirst, item_count};
 ghost use Rattle.std.specs.List.{AllByRecursion};
 ghost use Rattle.std.specs.List.Sorted.{IsStrictlyIncreasing};
-ghost use Rattle.semantics.specs.Points.{points_in};
+ghost use Rattle.vocabulary.specs.Prelude.{points_in};
 ghost use Rattle.inst_steps.specs.Acting.{IsBy, IsOwn, steps_in};
 ghost use Rattle.point_laws.specs.Cut.{cut_to};
 ghost use Rattle.listed_points.specs.Listed.{IsAscending, listed_of};
@@ -57,7 +57,7 @@ pub struct Steps<'l, 'a, 'p, P: PointSet + Copy> {
 
 impl<'l, 'a, 'p, P: PointSet + Copy> Model for Steps<'l, 'a, 'p, P> {
     ghost use Rattle.std.specs.Prelude.{List};
-    ghost use Rattle.semantics.specs.declared.moves.Move.{Move};
+    ghost use Rattle.vocabulary.specs.Prelude.{Move};
     ghost use Rattle.inst_steps.specs.Acting.{steps_in};
 
     ghost Value = { List Move };

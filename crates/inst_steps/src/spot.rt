@@ -1,7 +1,7 @@
 //! Where a sweep stands.
 
 ghost use Rattle.std.specs.Prelude.{◌≡◌, [], ◌∷◌, ◌++◌, IfSome, IfNone};
-ghost use Rattle.semantics.specs.Kinds.{grid};
+ghost use Rattle.vocabulary.specs.Prelude.{grid};
 ghost use Rattle.point_laws.specs.Cut.{kept};
 ghost use Rattle.listed_points.specs.Listed.{IsAscending, listed_of};
 ghost use Rattle.inst_steps.specs.Stepping.{IsSpot, spot_here, spot_grid, spots_left, pass_seen, IsWithin};

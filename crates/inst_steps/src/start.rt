@@ -2,9 +2,8 @@
 
 ghost use Rattle.std.specs.Prelude.{◌≡◌, ◌^◌, ◌<◌, ◌&&◌, nat_lt, IfOk, OnOk};
 ghost use Rattle.std.specs.List.Sorted.{IsStrictlyIncreasing};
-ghost use Rattle.value_terms.specs.Values.{plain};
+ghost use Rattle.vocabulary.specs.Prelude.{plain, is_in};
 ghost use Rattle.semantics.specs.Execution as says;
-ghost use Rattle.semantics.specs.Points.{is_in};
 ghost use Rattle.point_laws.specs.Cut.{cut, cut_to, kept};
 ghost use Rattle.listed_points.specs.Listed.{IsAscending, listed_of};
 ghost use Rattle.inst_steps.specs.Stores.{HoldsMore, IsStart, base_of, is_at_point, is_at_points, is_of, is_of_some};

@@ -3,7 +3,7 @@
 ghost use Rattle.std.specs.Prelude.{◌≡◌, ◌+◌, ◌-◌, ◌<◌, ◌^◌, true, OnOk, OnErr, IfOk};
 ghost use Rattle.std.specs.Option.{option_copied};
 ghost use Rattle.std.specs.FinMap as map;
-ghost use Rattle.value_terms.specs.Values.{fold_in, weight_of};
+ghost use Rattle.vocabulary.specs.Prelude.{fold_in, weight_of};
 ghost use Rattle.inst_steps.specs.Stores.{value_in, with_added};
 
 use indexmap::IndexMap;

@@ -2,8 +2,7 @@
 
 ghost use Rattle.std.specs.Prelude.{◌≡◌, ℕ, ◌<◌, ◌≤◌, ◌+◌, ◌^◌, ◌≢◌, length, slice_get, option_map};
 ghost use Rattle.std.specs.Option.{option_copied};
-ghost use Rattle.semantics.specs.Kinds.{reqs_of};
-ghost use Rattle.semantics.specs.Steps.{id_of, operator_held, operator_of};
+ghost use Rattle.vocabulary.specs.Prelude.{reqs_of, id_of, operator_held, operator_of};
 ghost use Rattle.inst_steps.specs.Stepping.{AreNumbered, pass_seen};
 ghost use Rattle.inst_steps.specs.Sweeps.{reading, changing, pass_for, passes_of, pass_at};
 

@@ -2,8 +2,7 @@
 
 ghost use Rattle.std.specs.Prelude.{◌≡◌, ℕ, ◌-◌, ◌<◌, ◌^◌, true, Some, OnOk, OnErr};
 ghost use Rattle.std.specs.FinMap as map;
-ghost use Rattle.privilege.specs.declared.kinds.Priv.{Priv};
-ghost use Rattle.value_terms.specs.Values.{weight_of};
+ghost use Rattle.vocabulary.specs.Prelude.{Priv, weight_of};
 ghost use Rattle.inst_steps.specs.Stores.{value_in, with_added};
 ghost use Rattle.inst_steps.specs.Viewing.{HasPrivilege, viewed_cell};
 

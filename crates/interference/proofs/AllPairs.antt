@@ -2,8 +2,7 @@
 use Rattle.std.proofs.Common.{◌≡◌, ℕ, ◌+◌, ◌-◌, ◌<◌, inl, inr, not, List, [], ◌∷◌, ◌++◌, length, refl, sym, ap, ◌∙◌, arith, map, filter, flat_map, unwrap_or, None}
 use Rattle.std.specs.List.{range_with_len}
 use Rattle.std.proofs.lemmas.Bool.{cases_Bool}
-use Rattle.semantics.specs.Tables.{Tables}
-use Rattle.semantics.specs.Kinds.{is_free, item_kind, least_place}
+use Rattle.vocabulary.specs.Prelude.{Tables, is_free, item_kind, least_place}
 use Rattle.log_laws.proofs.lemmas.Members.{Member}
 use Rattle.log_laws.proofs.lemmas.Lists.{map_flat}
 use Rattle.log_laws.proofs.lemmas.Apart.{number_between}

@@ -2,8 +2,7 @@
 use Rattle.std.proofs.Common.{◌≡◌, ℕ, ◌<◌, ◌≤◌, true, false, not, List, length, refl, sym, ap, ◌∙◌, Option, Some, None, get_or}
 use Rattle.std.specs.Prelude.{IfNone, IfSome}
 use Rattle.std.proofs.lemmas.Bool.{and_from}
-use Rattle.semantics.specs.declared.places.Place.{Place}
-use Rattle.semantics.specs.Kinds.{is_free}
+use Rattle.vocabulary.specs.Prelude.{Place, is_free}
 use Rattle.item_uses.specs.declared.between.Interference.{Interference}
 use Rattle.item_uses.specs.Usages.{Usage, usages_at}
 use Rattle.item_uses.specs.Sharing.{kind_between, place_between}

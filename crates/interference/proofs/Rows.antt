@@ -5,7 +5,7 @@ use Rattle.std.proofs.Math.Path.{ap₂}
 use Rattle.std.proofs.lemmas.Bool.{cases_lt, and_right, and_parts, and_from}
 use Rattle.std.proofs.lemmas.List.{append_assoc}
 use Rattle.privilege.specs.declared.kinds.Kind.TheVariants.{Free}
-use Rattle.semantics.specs.Kinds.{is_free}
+use Rattle.vocabulary.specs.Prelude.{is_free}
 use Rattle.item_uses.specs.Usages.{Usage, usages_at}
 use Rattle.item_uses.specs.Sharing.{kind_between}
 use Rattle.interference.specs.declared.pair.Pair.{Pair}

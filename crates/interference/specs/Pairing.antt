@@ -2,10 +2,8 @@
 use Rattle.std.specs.Prelude.{◌≡◌, ℕ, IfSome, option_map, ◌+◌, ◌-◌, nat_lt, Bool, true, ◌&&◌, not, ◌<◌, ◌≤◌, List, ◌∷◌, ◌++◌, map, filter, flat_map, length, slice_index, Option, Some, None, unwrap_or}
 use Rattle.std.specs.List.{range_with_len}
 use Rattle.std.specs.Borrow.{Bor}
-use Rattle.semantics.specs.Tables.{Tables}
-use Rattle.semantics.specs.Kinds.{is_free, item_kind, least_place}
+use Rattle.vocabulary.specs.Prelude.{Tables, is_free, item_kind, least_place, Place}
 use Rattle.semantics.specs.Kinds as kinds
-use Rattle.semantics.specs.declared.places.Place.{Place}
 use Rattle.item_uses.specs.Usages.{Usage, usages_at}
 use Rattle.item_uses.specs.Sharing.{kind_between, place_between}
 use Rattle.interference.specs.declared.pair.Pair.{Pair}

@@ -3,7 +3,7 @@ use Rattle.std.specs.Prelude.{◌≡◌, ℕ, List, All, Option, option_map}
 use Rattle.item_uses.specs.declared.between.Interference.{Interference}
 use Rattle.item_uses.specs.Usages.{Usage, usages_at}
 use Rattle.item_uses.specs.Sharing.{kind_between, place_between}
-use Rattle.semantics.specs.declared.places.Place.{Place}
+use Rattle.vocabulary.specs.Prelude.{Place}
 use Rattle.interference.specs.declared.pair.Pair.{Pair}
 use Rattle.interference.specs.declared.recent.Remembered.{Remembered}
 

@@ -2,7 +2,7 @@
 use Rattle.std.specs.Prelude.{Bool, false, ◌&&◌, List, slice_get}
 use Rattle.std.specs.Option.{option_map_or}
 use Rattle.semantics.specs.Rules.{is_task}
-use Rattle.semantics.specs.declared.tables.Item.{Item}
+use Rattle.vocabulary.specs.Prelude.{Item}
 use Rattle.interference.specs.declared.pair.Pair.{Pair}
 
 -- Whether both items of a pair are tasks.

@@ -1,6 +1,6 @@
 -- Pairs that stand against the serial order.
 use Rattle.std.specs.Prelude.{ℕ, nat_lt, Bool, ◌&&◌, List, Option, find, slice_index}
-use Rattle.semantics.specs.Kinds.{is_before}
+use Rattle.vocabulary.specs.Prelude.{is_before}
 use Rattle.interference.specs.declared.pair.Pair.{Pair}
 
 -- Whether a pair is of kind `Before` and stands against the serial order, by the place of each item there.

@@ -1,7 +1,7 @@
 //! Whether the serial order keeps the pairs of items that interfere.
 
 ghost use Rattle.std.specs.Prelude.{◌≡◌, find, Some, None, OnOk, IfErr};
-ghost use Rattle.semantics.specs.Kinds.{is_before, least_place};
+ghost use Rattle.vocabulary.specs.Prelude.{is_before, least_place};
 ghost use Rattle.semantics.specs.SerialOrder.{turned_pair};
 ghost use Rattle.interference.specs.Pairing.{asked_of, left};
 ghost use Rattle.interference.specs.Searching.{IsSearch};

@@ -1,9 +1,8 @@
 -- Privileges that agree.
 use Rattle.std.proofs.Common.{◌≡◌, true, refl, ap, ◌∙◌}
 use Rattle.std.proofs.lemmas.Bool.{eqb-true}
-use Rattle.privilege.specs.declared.kinds.Priv.{Priv}
+use Rattle.vocabulary.specs.Prelude.{Priv, agree}
 use Rattle.privilege.specs.declared.kinds.Priv.TheVariants.{Ro, Rw, Wd, Red}
-use Rattle.privilege.specs.Interference.{agree}
 
 -- Two that agree are one.
 pub agree_same : (p q : Priv) → agree p q ≡ true → p ≡ q

@@ -1,8 +1,7 @@
 -- The least of some places.
 use Rattle.std.proofs.Common.{◌≡◌, ◌≤◌, inl, inr, Bool, true, false, List, [], ◌∷◌, ◌++◌, ap, arith, Option, Some, None, refl}
 use Rattle.std.proofs.lemmas.Bool.Decides.{nat_tests}
-use Rattle.semantics.specs.declared.places.Place.{Place}
-use Rattle.semantics.specs.Kinds.{least_of, lesser, comes_first}
+use Rattle.vocabulary.specs.Prelude.{Place, least_of, lesser, comes_first}
 use Rattle.log_laws.proofs.lemmas.Members.{Member, member_append, member_left, member_right}
 use Rattle.item_uses.specs.Sharing.{lesser_place}
 

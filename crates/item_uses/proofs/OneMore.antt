@@ -4,9 +4,7 @@ use Rattle.std.specs.List.{filter_map, cons_option}
 use Rattle.std.proofs.lemmas.List.{take_more, map-append, append-nil}
 use Rattle.std.proofs.lemmas.List.Concat.{flat_map-append}
 use Rattle.std.proofs.lemmas.List.Elements.{filter_map-append}
-use Rattle.privilege.specs.Interference.{stronger}
-use Rattle.semantics.specs.declared.places.Place.{Place}
-use Rattle.semantics.specs.Kinds.{strongest, least_of}
+use Rattle.vocabulary.specs.Prelude.{stronger, Place, strongest, least_of}
 use Rattle.item_uses.specs.Usages.{Usage}
 use Rattle.item_uses.specs.Sharing.{shared_kind, kind_place, kind_between, place_between, lesser_place}
 use Rattle.item_uses.proofs.Strongest.{strongest_append, last_free}

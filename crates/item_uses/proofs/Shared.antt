@@ -3,7 +3,7 @@ use Rattle.std.proofs.Common.{◌≡◌, ℕ, ◌≤◌, inl, inr, Bool, true, f
 use Rattle.std.specs.List.Sorted.{IsStrictlyIncreasing}
 use Rattle.std.proofs.lemmas.Bool.{cases_Bool, ltb-true, ltb-false, le-ltb}
 use Rattle.std.proofs.lemmas.List.Kept.{IsStrictlyIncreasing-filter}
-use Rattle.semantics.specs.Points.{is_in}
+use Rattle.vocabulary.specs.Prelude.{is_in}
 use Rattle.point_set.specs.Least.{IsLeast, IsLeastCommon}
 use Rattle.log_laws.proofs.lemmas.Members.{Member, member_of, contains_of, member_filter, is_in_of, member_in, filter_member}
 use Rattle.item_uses.specs.Sharing.{least_number, less_or, least_shared}

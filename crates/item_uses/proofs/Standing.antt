@@ -3,9 +3,7 @@ use Rattle.std.proofs.Common.{◌≡◌, ℕ, List, [], length, sym, ap, ◌∙�
 use Rattle.std.proofs.lemmas.Bool.{cases_lt}
 use Rattle.std.proofs.lemmas.List.{get_or_past}
 use Rattle.std.proofs.lemmas.Simd.{map-map}
-use Rattle.semantics.specs.Tables.{Tables}
-use Rattle.semantics.specs.Points.{points_in}
-use Rattle.semantics.specs.Kinds.{uses_of}
+use Rattle.vocabulary.specs.Prelude.{Tables, points_in, uses_of}
 use Rattle.item_uses.specs.Usages.{Usage, usage_of, usages_of, usages, usages_at}
 use Rattle.item_uses.specs.Representatives.{without_points, AreAlike}
 use Rattle.item_uses.proofs.lemmas.Growing.{usages_length, usages_is}

@@ -1,9 +1,7 @@
 -- The strongest of some kinds.
 use Rattle.std.proofs.Common.{◌≡◌, inl, inr, List, [], ◌∷◌, ◌++◌, refl, sym, ap, ◌∙◌, subst}
-use Rattle.privilege.specs.declared.kinds.Kind.{Kind}
+use Rattle.vocabulary.specs.Prelude.{Kind, stronger, strongest}
 use Rattle.privilege.specs.declared.kinds.Kind.TheVariants.{Free, Turn, Before}
-use Rattle.privilege.specs.Interference.{stronger}
-use Rattle.semantics.specs.Kinds.{strongest}
 use Rattle.log_laws.proofs.lemmas.Members.{Member}
 
 abbrev pub AtMost : Kind → Kind → Type 0

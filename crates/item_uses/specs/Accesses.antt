@@ -1,7 +1,6 @@
 -- The privileges of some requirements, as far as they tell whether all agree.
 use Rattle.std.specs.Prelude.{◌≡◌, Bool, true, false}
-use Rattle.privilege.specs.declared.kinds.Priv.{Priv}
-use Rattle.privilege.specs.Interference.{agree}
+use Rattle.vocabulary.specs.Prelude.{Priv, agree}
 use Rattle.item_uses.specs.declared.accesses.Accesses.{Accesses}
 use Rattle.item_uses.specs.declared.accesses.Accesses.TheVariants.{Nothing, Same, Mixed}
 

@@ -2,10 +2,8 @@
 use Rattle.std.specs.Prelude.{ℕ, List, [], ◌∷◌, ◌++◌, slice_set, if◌then◌else◌}
 use Rattle.privilege.specs.declared.kinds.Priv.TheVariants.{Wd}
 use Rattle.privilege.specs.declared.kinds.Coherence.TheVariants.{Exclusive}
-use Rattle.semantics.specs.declared.tables.Item.{Item}
+use Rattle.vocabulary.specs.Prelude.{Item, Tables, points_in}
 use Rattle.semantics.specs.declared.tables.ItemBody.TheVariants.{Task, Fill}
-use Rattle.semantics.specs.Tables.{Tables}
-use Rattle.semantics.specs.Points.{points_in}
 use Rattle.semantics.specs.Shown.{is_task_at}
 use Rattle.item_uses.specs.Usages.{Usage, usage, usages_at}
 

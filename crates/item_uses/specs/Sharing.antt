@@ -1,12 +1,8 @@
 -- What two items share, from their requirements alone.
 use Rattle.std.specs.Prelude.{ℕ, ◌==◌, nat_lt, List, [], ◌∷◌, map, filter, flat_map, Option, Some, None, is_some, if◌then◌else◌}
 use Rattle.std.specs.List.{filter_map}
-use Rattle.privilege.specs.declared.kinds.Kind.{Kind}
+use Rattle.vocabulary.specs.Prelude.{Kind, kind_of, Place, is_in, strongest, is_free, least_of, lesser}
 use Rattle.privilege.specs.declared.kinds.Kind.TheVariants.{Free}
-use Rattle.privilege.specs.Interference.{kind_of}
-use Rattle.semantics.specs.declared.places.Place.{Place}
-use Rattle.semantics.specs.Points.{is_in}
-use Rattle.semantics.specs.Kinds.{strongest, is_free, least_of, lesser}
 use Rattle.item_uses.specs.Usages.{Usage}
 
 -- The least of some numbers.

@@ -1,12 +1,7 @@
 -- What the items of a log ask for.
 use Rattle.std.specs.Prelude.{ℕ, List, [], map, length, slice_index_or}
 use Rattle.std.specs.List.{range_with_len}
-use Rattle.privilege.specs.declared.kinds.Priv.{Priv}
-use Rattle.privilege.specs.declared.kinds.Coherence.{Coherence}
-use Rattle.semantics.specs.declared.tables.Req.{Req}
-use Rattle.semantics.specs.Tables.{Tables}
-use Rattle.semantics.specs.Points.{points_in}
-use Rattle.semantics.specs.Kinds.{uses_of}
+use Rattle.vocabulary.specs.Prelude.{Priv, Coherence, Req, Tables, points_in, uses_of}
 
 -- What a requirement asks for, with the points of its space.
 pub record Usage : Type 0 where

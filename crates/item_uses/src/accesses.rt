@@ -1,8 +1,7 @@
 //! The privileges of some requirements.
 
 ghost use Rattle.std.specs.Prelude.{◌≡◌, true};
-ghost use Rattle.privilege.specs.declared.kinds.Priv.{Priv};
-ghost use Rattle.privilege.specs.Interference.{agree};
+ghost use Rattle.vocabulary.specs.Prelude.{Priv, agree};
 ghost use Rattle.item_uses.specs.Accesses.{IsAmong, all_agree};
 
 use privilege::{Priv, agree};

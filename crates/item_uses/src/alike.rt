@@ -1,7 +1,7 @@
 //! Items that ask for the same.
 
 ghost use Rattle.std.specs.Prelude.{◌≡◌, ◌<◌, true, length, IfOk};
-ghost use Rattle.semantics.specs.Tables.{Tables};
+ghost use Rattle.vocabulary.specs.Prelude.{Tables};
 ghost use Rattle.item_uses.specs.Usages.{usages, usages_at};
 ghost use Rattle.item_uses.specs.Representatives.{AreAlike, AreRepresentatives};
 

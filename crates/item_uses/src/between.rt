@@ -2,8 +2,7 @@
 
 ghost use Rattle.std.specs.Prelude.{◌≡◌, map, None};
 ghost use Rattle.std.specs.List.{filter_map};
-ghost use Rattle.semantics.specs.Kinds.{strongest, least_of, comes_first};
-ghost use Rattle.privilege.specs.Interference.{stronger};
+ghost use Rattle.vocabulary.specs.Prelude.{strongest, least_of, comes_first, stronger};
 ghost use Rattle.privilege.specs.declared.kinds.Kind.TheVariants as kinds;
 ghost use Rattle.item_uses.specs.Sharing.{shared_kind, kind_place, kind_between, place_between, lesser_place};
 

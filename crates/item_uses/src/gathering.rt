@@ -3,7 +3,7 @@
 ghost use Rattle.std.specs.Prelude.{◌≡◌, ◌<◌, [], false, IfOk, OnOk, length, map, slice_get};
 ghost use Rattle.std.specs.List.Sorted.{IsStrictlyIncreasing};
 ghost use Rattle.std.specs.Option.{option_map_or};
-ghost use Rattle.semantics.specs.Points.{points_in};
+ghost use Rattle.vocabulary.specs.Prelude.{points_in};
 ghost use Rattle.semantics.specs.Rules.{is_task};
 ghost use Rattle.log_tables.specs.Ascending.{body_fields};
 ghost use Rattle.item_uses.specs.Usages.{usage, usage_of, usages};

@@ -3,8 +3,7 @@
 ghost use Rattle.std.specs.Prelude.{◌≡◌, true, ℕ, ◌≤◌, Contains, [], is_some, None, if◌then◌else◌};
 ghost use Rattle.std.specs.Option.{option_map_or};
 ghost use Rattle.std.specs.List.Sorted.{IsStrictlyIncreasing};
-ghost use Rattle.semantics.specs.Kinds.{is_free};
-ghost use Rattle.privilege.specs.Interference.{kind_of};
+ghost use Rattle.vocabulary.specs.Prelude.{is_free, kind_of};
 ghost use Rattle.privilege.specs.declared.kinds.Kind.TheVariants as kinds;
 ghost use Rattle.item_uses.specs.Usages.{usage};
 ghost use Rattle.item_uses.specs.Representatives.{without_points};

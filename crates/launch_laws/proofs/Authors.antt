@@ -2,14 +2,8 @@
 use Rattle.std.proofs.Common.{◌≡◌, ℕ, ◌==◌, ◌&&◌, Bool, true, List, [], inl, refl, Some, None, slice_get}
 use Rattle.std.proofs.lemmas.Bool.{and_parts, eqb-true}
 use Rattle.std.proofs.lemmas.List.Elements.{recursion_from_All, Contains-get_or}
-use Rattle.spy_words.specs.declared.access.PrivWord.{PrivWord}
-use Rattle.spy_grammar.specs.declared.record.Record.{Record}
+use Rattle.vocabulary.specs.Prelude.{PrivWord, Record, Lined, Item, Req, records_of, Tables, with_record, tables_of, privilege_of, coherence_of}
 use Rattle.spy_grammar.specs.declared.record.Record.TheVariants as records
-use Rattle.spy_grammar.specs.declared.record.Lined.{Lined}
-use Rattle.semantics.specs.declared.tables.Item.{Item}
-use Rattle.semantics.specs.declared.tables.Req.{Req}
-use Rattle.semantics.specs.Records.{records_of}
-use Rattle.semantics.specs.Tables.{Tables, with_record, tables_of, privilege_of, coherence_of}
 use Rattle.semantics.specs.Rules.{is_declared, item_id, task_id, names, is_task}
 use Rattle.semantics.specs.Faults.{records_fault}
 use Rattle.log_laws.proofs.lemmas.Members.{Member, Each, each_more, member_of, any_found, any_at, all_at}

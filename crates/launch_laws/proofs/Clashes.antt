@@ -1,15 +1,9 @@
 -- What it means that two records do not clash.
 use Rattle.std.proofs.Common.{◌≡◌, ℕ, ◌==◌, Bool, true, false, not, List, refl, Option, Some, None}
 use Rattle.std.proofs.lemmas.Bool.{and_parts}
-use Rattle.privilege.specs.declared.kinds.Kind.{Kind}
+use Rattle.vocabulary.specs.Prelude.{Kind, kind_of, PrivWord, Record, Tables, privilege_of, coherence_of, points_in, meets, is_free}
 use Rattle.privilege.specs.declared.kinds.Kind.TheVariants.{Free, Turn, Before}
-use Rattle.privilege.specs.Interference.{kind_of}
-use Rattle.spy_words.specs.declared.access.PrivWord.{PrivWord}
-use Rattle.spy_grammar.specs.declared.record.Record.{Record}
 use Rattle.spy_grammar.specs.declared.record.Record.TheVariants as records
-use Rattle.semantics.specs.Tables.{Tables, privilege_of, coherence_of}
-use Rattle.semantics.specs.Points.{points_in, meets}
-use Rattle.semantics.specs.Kinds.{is_free}
 use Rattle.semantics.specs.Launches.{TaskLaunch, clash, is_launched}
 
 -- The task and the space of a requirement.

@@ -3,15 +3,8 @@ use Rattle.std.proofs.Common.{◌≡◌, ◌≢◌, ◌↔◌, ℕ, suc, ◌+◌
 use Rattle.std.specs.List.{position_or_len}
 use Rattle.std.proofs.lemmas.Bool.{cases_Bool, cases_eq, eq-eqb, ne_eqb}
 use Rattle.privilege.specs.declared.kinds.Kind.TheVariants.{Free}
-use Rattle.privilege.specs.Allowed.{may_read}
+use Rattle.vocabulary.specs.Prelude.{may_read, Value, plain, Place, Req, Tables, is_in, item_kind, uses_of, covers, after_items}
 use Rattle.value_terms.specs.declared.terms.Base.TheVariants.{Init}
-use Rattle.value_terms.specs.Values.{Value, plain}
-use Rattle.semantics.specs.declared.places.Place.{Place}
-use Rattle.semantics.specs.declared.tables.Req.{Req}
-use Rattle.semantics.specs.Tables.{Tables}
-use Rattle.semantics.specs.Points.{is_in}
-use Rattle.semantics.specs.Kinds.{item_kind, uses_of, covers}
-use Rattle.semantics.specs.Sequential.{after_items}
 use Rattle.log_laws.proofs.lemmas.Members.{Member, only, member_of, contains_of, member_left, is_in_of, member_in}
 use Rattle.log_laws.proofs.lemmas.Apart.{Apart, pairs_from, all_pairs, pairs_append}
 use Rattle.log_laws.proofs.lemmas.Lists.{split_at, pairs_parts, left_out_same, place_len}

@@ -2,22 +2,11 @@
 use Rattle.std.proofs.Common.{◌≡◌, ◌≢◌, ℕ, ◌+◌, ◌==◌, ◌&&◌, true, false, inl, inr, List, [], ◌∷◌, ◌++◌, refl, sym, ap, ◌∙◌, subst, Some, None, slice_get, length, append_assoc}
 use Rattle.std.proofs.lemmas.Bool.{and_parts, eq-eqb, eqb-true, ne_eqb}
 use Rattle.std.proofs.lemmas.Option.{same_Some, slice_get_within}
-use Rattle.privilege.specs.declared.kinds.Priv.{Priv}
+use Rattle.vocabulary.specs.Prelude.{Priv, Coherence, agree, kind_of, Record, LLined, Place, Item, Req, lined, records_of, Tables, tables_of, place_of, privilege_of, coherence_of, is_in, points_in, covers, item_kind, reqs_of, uses_of}
 use Rattle.privilege.specs.declared.kinds.Priv.TheVariants.{Ro, Red}
-use Rattle.privilege.specs.declared.kinds.Coherence.{Coherence}
 use Rattle.privilege.specs.declared.kinds.Kind.TheVariants.{Free}
-use Rattle.privilege.specs.Interference.{agree, kind_of}
-use Rattle.spy_grammar.specs.declared.record.Record.{Record}
 use Rattle.spy_grammar.specs.declared.record.Record.TheVariants as records
-use Rattle.spy_grammar.specs.declared.launches.LLined.{LLined}
-use Rattle.semantics.specs.declared.places.Place.{Place}
-use Rattle.semantics.specs.declared.tables.Item.{Item}
 use Rattle.semantics.specs.declared.tables.ItemBody.TheVariants as bodies
-use Rattle.semantics.specs.declared.tables.Req.{Req}
-use Rattle.semantics.specs.Records.{lined, records_of}
-use Rattle.semantics.specs.Tables.{Tables, tables_of, place_of, privilege_of, coherence_of}
-use Rattle.semantics.specs.Points.{is_in, points_in}
-use Rattle.semantics.specs.Kinds.{covers, item_kind, reqs_of, uses_of}
 use Rattle.semantics.specs.Faults.{records_fault, declaration_fault, header_fault, ended_fault, count_fault}
 use Rattle.semantics.specs.Launches.{TaskLaunch, not_expanded, expanded, launch_records, written_log, is_launched, clash, framed, launches_fault, launch_fault}
 use Rattle.log_laws.proofs.lemmas.Members.{Member, both_none, member_at, member_right, member_filter, member_in, meets_of}

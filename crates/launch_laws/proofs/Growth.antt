@@ -5,13 +5,8 @@ use Rattle.std.specs.Option.{option_map_or}
 use Rattle.std.proofs.lemmas.Bool.{cases_Bool}
 use Rattle.std.proofs.lemmas.List.Sums.{fold-append}
 use Rattle.std.proofs.lemmas.List.Folds.{list_any-append}
-use Rattle.spy_grammar.specs.declared.record.Record.{Record}
+use Rattle.vocabulary.specs.Prelude.{Record, Lined, Item, lined, lined_from, Tables, Space, with_record, no_tables, tables_of, place_of, points_in}
 use Rattle.spy_grammar.specs.declared.record.Record.TheVariants as records
-use Rattle.spy_grammar.specs.declared.record.Lined.{Lined}
-use Rattle.semantics.specs.declared.tables.Item.{Item}
-use Rattle.semantics.specs.Records.{lined, lined_from}
-use Rattle.semantics.specs.Tables.{Tables, Space, with_record, no_tables, tables_of, place_of}
-use Rattle.semantics.specs.Points.{points_in}
 use Rattle.semantics.specs.Rules.{is_declared, space_id, item_id}
 use Rattle.semantics.specs.Faults.{records_fault}
 use Rattle.log_laws.proofs.lemmas.Members.{Member, member_left, find_any, find_still}

@@ -5,14 +5,9 @@ use Rattle.std.proofs.lemmas.Bool.{true≢false, cases_eq, and_parts, ltb-true, 
 use Rattle.std.proofs.lemmas.Bool.Decides.{nat_tests}
 use Rattle.std.proofs.lemmas.Option.{same_Some}
 use Rattle.spy_grammar.specs.declared.code.Code.TheVariants as codes
-use Rattle.spy_grammar.specs.declared.record.Record.{Record}
+use Rattle.vocabulary.specs.Prelude.{Record, LRecord, LLined, lined, lined_from, Tables, Space, with_record, tables_of, points_in}
 use Rattle.spy_grammar.specs.declared.record.Record.TheVariants as records
-use Rattle.spy_grammar.specs.declared.launches.LRecord.{LRecord}
 use Rattle.spy_grammar.specs.declared.launches.LRecord.TheVariants.{Plain, Launch, Lreq}
-use Rattle.spy_grammar.specs.declared.launches.LLined.{LLined}
-use Rattle.semantics.specs.Records.{lined, lined_from}
-use Rattle.semantics.specs.Tables.{Tables, Space, with_record, tables_of}
-use Rattle.semantics.specs.Points.{points_in}
 use Rattle.semantics.specs.Rules.{is_declared, space_id, item_id, task_id, names}
 use Rattle.semantics.specs.Faults.{records_fault}
 use Rattle.semantics.specs.Launches.{TaskLaunch, Expanded, not_expanded, declared_by, for_tasks, writes, launches_by, with_launching, launch_records, is_launched, clash, interferes_in_launch, breaks_launch, launch_rules, launches_fault}

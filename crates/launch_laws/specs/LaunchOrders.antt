@@ -1,9 +1,6 @@
 -- Orders of items that differ in where the tasks of one launch stand. Items are named by position.
 use Rattle.std.specs.Prelude.{◌≡◌, ◌≢◌, ◌↔◌, ℕ, true, List, ◌++◌, Some, Contains, AllPairs, slice_get}
-use Rattle.spy_grammar.specs.declared.launches.LLined.{LLined}
-use Rattle.semantics.specs.declared.tables.Item.{Item}
-use Rattle.semantics.specs.Records.{lined}
-use Rattle.semantics.specs.Tables.{Tables, tables_of}
+use Rattle.vocabulary.specs.Prelude.{LLined, Item, lined, Tables, tables_of}
 use Rattle.semantics.specs.Launches.{TaskLaunch, expanded, is_launched, launch_records, written_log}
 
 -- The launches of a launch log, in the order of its lines.

@@ -2,11 +2,7 @@
 use Rattle.std.specs.Prelude.{◌≡◌, ◌≢◌, ◌↔◌, ℕ, ◌==◌, List, [], ◌∷◌, ◌++◌, Contains, AllPairs, length, position, take, unwrap_or}
 use Rattle.privilege.specs.declared.kinds.Kind.TheVariants.{Free}
 use Rattle.value_terms.specs.declared.terms.Base.TheVariants.{Init}
-use Rattle.value_terms.specs.Values.{Value, plain}
-use Rattle.semantics.specs.declared.places.Place.{Place}
-use Rattle.semantics.specs.Tables.{Tables}
-use Rattle.semantics.specs.Kinds.{item_kind}
-use Rattle.semantics.specs.Sequential.{after_items}
+use Rattle.vocabulary.specs.Prelude.{Value, plain, Place, Tables, item_kind, after_items}
 
 -- Two stretches hold the same items, each once, and no two of these interfere.
 pub record IsTurned (t : Tables) (one other : List ℕ) : Type 0 where

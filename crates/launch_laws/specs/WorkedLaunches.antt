@@ -3,12 +3,9 @@ use Rattle.std.specs.Prelude.{⊤, ℕ, ◌+◌, false, List, [], ◌∷◌, ◌
 use Rattle.std.specs.Fmt.{digits}
 use Rattle.spy_words.specs.declared.access.PrivWord.TheVariants.{Ro, Wd}
 use Rattle.spy_words.specs.declared.access.InstKind.TheVariants as layouts
-use Rattle.spy_grammar.specs.declared.record.Record.{Record}
+use Rattle.vocabulary.specs.Prelude.{Record, LRecord, LLined, spelling, spelling_in}
 use Rattle.spy_grammar.specs.declared.record.Record.TheVariants.{Header, Ispace, Part, Sub, Fields, Tree, Task, Req, Inst, Map, Run, End}
-use Rattle.spy_grammar.specs.declared.launches.LRecord.{LRecord}
 use Rattle.spy_grammar.specs.declared.launches.LRecord.TheVariants.{Plain, Launch, Lreq}
-use Rattle.spy_grammar.specs.declared.launches.LLined.{LLined}
-use Rattle.spy_grammar.specs.Spelling.{spelling, spelling_in}
 use Rattle.semantics.specs.Launches.{TaskLaunch, launch_fault}
 
 abbrev pub plain_records : List Record → List LRecord

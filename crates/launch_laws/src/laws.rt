@@ -1,16 +1,8 @@
 //! Laws of the order of items. A function has nothing to do: its contract is the law.
 
 ghost use Rattle.std.specs.Prelude.{◌≡◌, ℕ, true, List, None, Contains};
-ghost use Rattle.privilege.specs.Allowed.{may_read};
-ghost use Rattle.value_terms.specs.Values.{Value};
-ghost use Rattle.spy_grammar.specs.declared.launches.LLined.{LLined};
-ghost use Rattle.semantics.specs.declared.places.Place.{Place};
-ghost use Rattle.semantics.specs.declared.tables.Req.{Req};
-ghost use Rattle.semantics.specs.Records.{lined};
-ghost use Rattle.semantics.specs.Tables.{Tables};
-ghost use Rattle.semantics.specs.Kinds.{covers, uses_of};
+ghost use Rattle.vocabulary.specs.Prelude.{may_read, Value, LLined, Place, Req, lined, Tables, covers, uses_of, after_items, wanted};
 ghost use Rattle.semantics.specs.SerialOrder.{serial};
-ghost use Rattle.semantics.specs.Sequential.{after_items, wanted};
 ghost use Rattle.semantics.specs.Faults.{declaration_fault};
 ghost use Rattle.semantics.specs.Launches.{TaskLaunch, launch_fault, written_log};
 ghost use Rattle.launch_laws.specs.Stretches.{AreTurned, joined, wanted_in};

@@ -2,7 +2,7 @@
 
 ghost use Rattle.std.specs.Prelude.{◌≡◌, None, Some, [], ◌∷◌};
 ghost use Rattle.spy_grammar.specs.declared.code.Code.TheVariants as codes;
-ghost use Rattle.semantics.specs.Records.{lined};
+ghost use Rattle.vocabulary.specs.Prelude.{lined};
 ghost use Rattle.semantics.specs.Faults.{at_line, declaration_fault};
 ghost use Rattle.semantics.specs.Launches.{launch_fault, written_log};
 ghost use Rattle.launch_laws.specs.LaunchOrders.{AgreeButFor, launch_tables, launches_of};

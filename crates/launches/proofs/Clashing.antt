@@ -5,15 +5,8 @@ use Rattle.std.proofs.lemmas.Bool.{cases_Bool, false≢true}
 use Rattle.std.proofs.lemmas.Bool.Decides.{same_from_decides, nat_tests}
 use Rattle.std.proofs.lemmas.List.Folds.{Any-from_list_any, list_any-from_Any}
 use Rattle.log_tables.proofs.lemmas.Members.{Decides-is_in}
-use Rattle.privilege.specs.declared.kinds.Priv.{Priv}
-use Rattle.privilege.specs.declared.kinds.Coherence.{Coherence}
-use Rattle.privilege.specs.Interference.{agree, both_atomic, kind_of}
-use Rattle.spy_words.specs.declared.access.PrivWord.{PrivWord}
-use Rattle.spy_grammar.specs.declared.record.Record.{Record}
+use Rattle.vocabulary.specs.Prelude.{Priv, Coherence, agree, both_atomic, kind_of, PrivWord, Record, is_free, is_in, meets, points_in, Tables, privilege_of, coherence_of}
 use Rattle.spy_grammar.specs.declared.record.Record.TheVariants as records
-use Rattle.semantics.specs.Kinds.{is_free}
-use Rattle.semantics.specs.Points.{is_in, meets, points_in}
-use Rattle.semantics.specs.Tables.{Tables, privilege_of, coherence_of}
 use Rattle.semantics.specs.Launches.{TaskLaunch, clash, is_launched}
 use Rattle.launches.specs.Interfering.{is_req}
 

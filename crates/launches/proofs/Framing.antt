@@ -2,9 +2,7 @@
 use Rattle.std.proofs.Common.{◌≡◌, ℕ, List, Option, Some, None, refl, sym, ap, ◌∙◌}
 use Rattle.std.specs.Option.{option_or}
 use Rattle.std.proofs.lemmas.Option.{none-some}
-use Rattle.spy_grammar.specs.declared.code.Code.{Code}
-use Rattle.spy_grammar.specs.declared.launches.LLined.{LLined}
-use Rattle.semantics.specs.declared.faults.Fault.{Fault}
+use Rattle.vocabulary.specs.Prelude.{Code, LLined, Fault}
 use Rattle.semantics.specs.Faults.{at_line, header_fault, ended_fault, count_fault}
 use Rattle.semantics.specs.Launches.{framed, launch_fault, launches_fault, not_expanded}
 use Rattle.launches.specs.declared.expand_end.ExpandEnd.TheVariants as ends

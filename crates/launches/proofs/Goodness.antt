@@ -3,9 +3,7 @@ use Rattle.std.proofs.Common.{◌≡◌, ℕ, zero, suc, ◌+◌, ◌^◌, ◌<�
 use Rattle.std.proofs.lemmas.List.Elements.{All-from_recursion}
 use Rattle.std.proofs.lemmas.Bool.{and_parts, ltb-true}
 use Rattle.point_set.specs.Runs.{AreRuns}
-use Rattle.spy_words.specs.Classes.{ascends, span_before, IsSpan, IsNumberFrom}
-use Rattle.spy_grammar.specs.Spelling.{Good}
-use Rattle.spy_words.specs.declared.access.PrivWord.{PrivWord}
+use Rattle.vocabulary.specs.Prelude.{ascends, span_before, IsSpan, IsNumberFrom, Good, PrivWord}
 use Rattle.spy_grammar.specs.declared.record.Record.TheVariants.{Ispace, Task, Req}
 
 -- Each run ends before the next begins.

@@ -5,17 +5,10 @@ use Rattle.std.specs.Option.{option_or, option_map_or}
 use Rattle.std.proofs.lemmas.Bool.{false≢true}
 use Rattle.std.proofs.lemmas.List.{drop_at}
 use Rattle.std.proofs.lemmas.List.Folds.{find-append}
-use Rattle.privilege.specs.Interference.{kind_of}
-use Rattle.spy_grammar.specs.declared.code.Code.{Code}
+use Rattle.vocabulary.specs.Prelude.{kind_of, Code, Record, LRecord, is_free, meets, points_in, lined, Tables, Space, tables_of, privilege_of, coherence_of}
 use Rattle.spy_grammar.specs.declared.code.Code.TheVariants as codes
-use Rattle.spy_grammar.specs.declared.record.Record.{Record}
 use Rattle.spy_grammar.specs.declared.record.Record.TheVariants as records
-use Rattle.spy_grammar.specs.declared.launches.LRecord.{LRecord}
 use Rattle.spy_grammar.specs.declared.launches.LRecord.TheVariants.{Plain, Launch, Lreq}
-use Rattle.semantics.specs.Kinds.{is_free}
-use Rattle.semantics.specs.Points.{meets, points_in}
-use Rattle.semantics.specs.Records.{lined}
-use Rattle.semantics.specs.Tables.{Tables, Space, tables_of, privilege_of, coherence_of}
 use Rattle.semantics.specs.Launches.{TaskLaunch, Expanded, breaks_launch, clash, colours_of, declared_by, for_tasks, interferes_in_launch, is_launched, launch_rules, launches_by, space_under, with_launching, writes}
 use Rattle.log_tables.specs.Regions.{Regions}
 use Rattle.launches.specs.Interfering.{asks, interferes_from, is_req}

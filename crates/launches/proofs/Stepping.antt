@@ -7,17 +7,11 @@ use Rattle.std.proofs.lemmas.List.Elements.{All-push}
 use Rattle.std.proofs.lemmas.Option.{none-some}
 use Rattle.list_lemmas.proofs.lemmas.Firsts.{find_some, all_at, seen_behind}
 use Rattle.list_lemmas.proofs.lemmas.Places.{find_map}
-use Rattle.spy_grammar.specs.declared.record.Record.{Record}
+use Rattle.vocabulary.specs.Prelude.{Record, LRecord, Code, GoodLaunch, Good, spelling, PrivWord, text_of}
 use Rattle.spy_grammar.specs.declared.record.Record.TheVariants as records
-use Rattle.spy_grammar.specs.declared.launches.LRecord.{LRecord}
 use Rattle.spy_grammar.specs.declared.launches.LRecord.TheVariants.{Plain, Launch, Lreq}
-use Rattle.spy_grammar.specs.declared.code.Code.{Code}
 use Rattle.spy_grammar.specs.declared.code.Code.TheVariants as codes
-use Rattle.spy_grammar.specs.Launches.{GoodLaunch}
-use Rattle.spy_grammar.specs.Spelling.{Good, spelling}
-use Rattle.spy_words.specs.declared.access.PrivWord.{PrivWord}
 use Rattle.semantics.specs.declared.limits.TheConstants.{MOST_BYTES, MOST_COLOURS, MOST_RECORDS}
-use Rattle.semantics.specs.Records.{text_of}
 use Rattle.launches.specs.Written.{is_inner}
 use Rattle.semantics.specs.Faults.{is_end}
 use Rattle.semantics.specs.Launches.{TaskLaunch, Expanded, writes, with_launching, launches_by, names_no_launch, repeats_launch, exceeds_ids, writes_many, writes_long, breaks_launch, space_under, declared_by, colours_of, launch_of}

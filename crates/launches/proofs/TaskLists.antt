@@ -3,7 +3,7 @@ use Rattle.std.proofs.Common.{◌≡◌, ℕ, zero, suc, ◌+◌, ◌<◌, Bool,
 use Rattle.std.specs.List.{list_any}
 use Rattle.std.proofs.lemmas.Bool.{or_parts}
 use Rattle.std.proofs.lemmas.List.{take_more, length-take-le}
-use Rattle.spy_grammar.specs.declared.record.Record.{Record}
+use Rattle.vocabulary.specs.Prelude.{Record}
 use Rattle.semantics.specs.Launches.{for_tasks}
 
 tasks_more : (make : ℕ → ℕ → Record) (n : ℕ) (xs : List ℕ) (y : ℕ) → for_tasks make n (xs ++ y ∷ []) ≡ for_tasks make n xs ++ make (n + length xs) y ∷ []

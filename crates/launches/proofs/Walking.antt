@@ -1,8 +1,7 @@
 -- The walk over the records of a launch log.
 use Rattle.std.proofs.Common.{◌≡◌, List, ◌∷◌, fold, find, Option, Some, None, option_map, sym, ap, ◌∙◌}
 use Rattle.std.specs.Option.{option_or}
-use Rattle.spy_grammar.specs.declared.code.Code.{Code}
-use Rattle.spy_grammar.specs.declared.launches.LLined.{LLined}
+use Rattle.vocabulary.specs.Prelude.{Code, LLined}
 use Rattle.semantics.specs.Faults.{at_line}
 use Rattle.semantics.specs.Launches.{Expanded, breaks_launch, launch_records, launch_rules, launches_fault, with_launching}
 

@@ -5,20 +5,12 @@ use Rattle.std.proofs.lemmas.List.Elements.{filter-append, All-push, All-head, A
 use Rattle.std.proofs.lemmas.List.Sums.{fold-append}
 use Rattle.list_lemmas.proofs.lemmas.Firsts.{map_cases}
 use Rattle.list_lemmas.proofs.lemmas.Places.{all_found}
-use Rattle.spy_words.specs.Classes.{IsNumberFrom}
-use Rattle.spy_grammar.specs.declared.record.Record.{Record}
+use Rattle.vocabulary.specs.Prelude.{IsNumberFrom, Record, Lined, Good, spelling, Sub, lined, lined_from, text_of, Tables, tables_of, with_record, no_tables, meets, points_in, PrivWord}
 use Rattle.spy_grammar.specs.declared.record.Record.TheVariants as records
-use Rattle.spy_grammar.specs.declared.record.Lined.{Lined}
-use Rattle.spy_grammar.specs.Spelling.{Good, spelling}
 use Rattle.semantics.specs.declared.limits.TheConstants.{MOST_BYTES, MOST_RECORDS}
-use Rattle.semantics.specs.declared.tables.Sub.{Sub}
-use Rattle.semantics.specs.Records.{lined, lined_from, text_of}
-use Rattle.semantics.specs.Tables.{Tables, tables_of, with_record, no_tables}
 use Rattle.semantics.specs.Launches.{space_under}
-use Rattle.semantics.specs.Points.{meets, points_in}
 use Rattle.log_tables.specs.Regions.{Regions, regions_of, space_points}
 use Rattle.launches.specs.Steps.{space_by}
-use Rattle.spy_words.specs.declared.access.PrivWord.{PrivWord}
 use Rattle.launches.specs.Written.{regions_by, with_region, is_inner, capped, Tells}
 
 lined_more : (n : ℕ) (xs : List Record) (y : Record) → lined_from n (xs ++ y ∷ []) ≡ lined_from n xs ++ record { line = n + length xs; rec = y } ∷ []

@@ -1,12 +1,9 @@
 -- Interference in launches, after a record is written.
 use Rattle.std.specs.Prelude.{ℕ, Bool, true, false, List, drop}
 use Rattle.std.specs.List.{list_any}
-use Rattle.spy_grammar.specs.declared.record.Record.{Record}
+use Rattle.vocabulary.specs.Prelude.{Record, LRecord, lined, tables_of}
 use Rattle.spy_grammar.specs.declared.record.Record.TheVariants as records
-use Rattle.spy_grammar.specs.declared.launches.LRecord.{LRecord}
 use Rattle.spy_grammar.specs.declared.launches.LRecord.TheVariants.{Plain, Launch, Lreq}
-use Rattle.semantics.specs.Records.{lined}
-use Rattle.semantics.specs.Tables.{tables_of}
 use Rattle.semantics.specs.Launches.{TaskLaunch, clash}
 use Rattle.launches.specs.declared.clashes.Asked.{Asked}
 

@@ -1,7 +1,7 @@
 -- On which lines the records of a launch log stand.
 use Rattle.std.specs.Prelude.{ℕ, ◌≤◌, All, List, map}
 use Rattle.std.specs.List.Sorted.{IsStrictlyIncreasing}
-use Rattle.spy_grammar.specs.declared.launches.LLined.{LLined}
+use Rattle.vocabulary.specs.Prelude.{LLined}
 use Rattle.semantics.specs.declared.limits.TheConstants.{MOST_BYTES}
 
 -- The records stand on lines that ascend, each on one of these many lines.

@@ -1,13 +1,8 @@
 -- What one record more writes.
 use Rattle.std.specs.Prelude.{ℕ, ◌+◌, ◌^◌, ◌≤◌, List, [], ◌∷◌, Option, find, length, map, unwrap_or}
-use Rattle.spy_grammar.specs.declared.code.Code.{Code}
+use Rattle.vocabulary.specs.Prelude.{Code, LRecord, Record, Good, lined, tables_of}
 use Rattle.spy_grammar.specs.declared.code.Code.TheVariants as codes
-use Rattle.spy_grammar.specs.declared.launches.LRecord.{LRecord}
-use Rattle.spy_grammar.specs.declared.record.Record.{Record}
 use Rattle.spy_grammar.specs.declared.record.Record.TheVariants as records
-use Rattle.spy_grammar.specs.Spelling.{Good}
-use Rattle.semantics.specs.Records.{lined}
-use Rattle.semantics.specs.Tables.{tables_of}
 use Rattle.semantics.specs.Launches.{TaskLaunch, Expanded, breaks_launch, space_under}
 use Rattle.launches.specs.declared.launched.Launched.{Launched}
 use Rattle.launches.specs.declared.tasks.TaskReqs.{TaskReqs}

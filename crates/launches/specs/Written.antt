@@ -1,11 +1,8 @@
 -- What is known of the records that a launch log has written.
 use Rattle.std.specs.Prelude.{◌≡◌, ℕ, ◌-◌, ◌^◌, ◌||◌, min, not, Bool, All, List, [], ◌∷◌, ◌++◌, filter, length}
-use Rattle.spy_grammar.specs.declared.record.Record.{Record}
+use Rattle.vocabulary.specs.Prelude.{Record, Good, lined, text_of, tables_of, points_of}
 use Rattle.spy_grammar.specs.declared.record.Record.TheVariants as records
-use Rattle.spy_grammar.specs.Spelling.{Good}
 use Rattle.semantics.specs.Faults.{is_header, is_end}
-use Rattle.semantics.specs.Records.{lined, text_of}
-use Rattle.semantics.specs.Tables.{tables_of, points_of}
 use Rattle.log_tables.specs.Regions.{Regions, regions_of}
 
 -- What records declare of regions.

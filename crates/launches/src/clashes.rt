@@ -3,9 +3,7 @@
 ghost use Rattle.std.specs.Prelude.{◌≡◌, ◌≤◌, ◌&&◌, ◌==◌, IfSome, IfNone, drop, false, length, map};
 ghost use Rattle.std.specs.List.{list_any};
 ghost use Rattle.log_tables.specs.Regions.{space_points};
-ghost use Rattle.semantics.specs.Points.{meets, points_in};
-ghost use Rattle.semantics.specs.Records.{lined};
-ghost use Rattle.semantics.specs.Tables.{tables_of};
+ghost use Rattle.vocabulary.specs.Prelude.{meets, points_in, lined, tables_of};
 ghost use Rattle.semantics.specs.Launches.{clash, is_launched};
 ghost use Rattle.launches.specs.Steps.{launch_seen};
 ghost use Rattle.launches.specs.Interfering.{asks, interferes_from, is_req, req_of};

@@ -4,9 +4,8 @@ ghost use Rattle.std.specs.Prelude.{◌≡◌, ◌==◌, ◌&&◌, find, OnOk, O
 ghost use Rattle.std.specs.Option.{option_map};
 ghost use Rattle.point_set.specs.Runs.{AreRuns};
 ghost use Rattle.spy_grammar.specs.declared.record.Record.TheVariants as records;
-ghost use Rattle.spy_grammar.specs.Spelling.{Good};
+ghost use Rattle.vocabulary.specs.Prelude.{Good, meets};
 ghost use Rattle.log_tables.specs.Regions.{space_points};
-ghost use Rattle.semantics.specs.Points.{meets};
 ghost use Rattle.launches.specs.Written.{with_region};
 
 use arena_sets::ArenaSet;

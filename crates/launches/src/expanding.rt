@@ -1,11 +1,8 @@
 //! From the records of a launch log to the log that it stands for.
 
 ghost use Rattle.std.specs.Prelude.{◌≡◌, ◌≤◌, ℕ, All, Err, IfOk, OnOk, None, Some};
-ghost use Rattle.spy_grammar.specs.declared.code.Code.{Code};
-ghost use Rattle.spy_grammar.specs.Launches.{GoodLaunch};
-ghost use Rattle.spy_grammar.specs.Spelling.{Good};
+ghost use Rattle.vocabulary.specs.Prelude.{Code, GoodLaunch, Good, Fault};
 ghost use Rattle.semantics.specs.Faults.{at_line};
-ghost use Rattle.semantics.specs.declared.faults.Fault.{Fault};
 ghost use Rattle.semantics.specs.Launches.{launch_fault, launches_fault, not_expanded, written_log};
 ghost use Rattle.launches.specs.LaunchLines.{AreLaunchLines};
 

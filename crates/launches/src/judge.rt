@@ -1,7 +1,7 @@
 //! Each rule on launches, in their order.
 
 ghost use Rattle.std.specs.Prelude.{◌≡◌, ◌&&◌, ◌^◌, ◌<◌, ◌≤◌, All, find, length, map, None, Some, IfOk, if◌then◌else◌};
-ghost use Rattle.spy_grammar.specs.Launches.{GoodLaunch};
+ghost use Rattle.vocabulary.specs.Prelude.{GoodLaunch};
 ghost use Rattle.spy_grammar.specs.declared.code.Code.TheVariants as codes;
 ghost use Rattle.semantics.specs.Launches.{breaks_launch, launch_rules, with_launching};
 ghost use Rattle.launches.specs.Interfering.{interferes_from};

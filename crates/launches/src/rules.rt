@@ -2,10 +2,8 @@
 
 ghost use Rattle.std.specs.Prelude.{◌≡◌, ◌+◌, ◌^◌, ◌<◌, ◌||◌, All, List, filter, find, is_none, is_some, length, nat_lt, None, Some, IfOk, if◌then◌else◌};
 ghost use Rattle.std.specs.List.{list_any};
-ghost use Rattle.spy_grammar.specs.Launches.{GoodLaunch};
+ghost use Rattle.vocabulary.specs.Prelude.{GoodLaunch, Record, text_of};
 ghost use Rattle.spy_grammar.specs.declared.code.Code.TheVariants as codes;
-ghost use Rattle.spy_grammar.specs.declared.record.Record.{Record};
-ghost use Rattle.semantics.specs.Records.{text_of};
 ghost use Rattle.semantics.specs.Launches.{breaks_launch, colours_of, exceeds_ids, launch_of, names_no_launch, repeats_launch, with_launching};
 ghost use Rattle.launches.specs.Steps.{HasTaskIds, early_rules, expanded_as, single_broken, space_by};
 ghost use Rattle.launches.specs.Written.{is_inner};

@@ -3,8 +3,7 @@
 ghost use Rattle.std.specs.Prelude.{◌≡◌, ◌+◌, ◌-◌, ◌^◌, ◌<◌, ◌≤◌, ◌==◌, ◌++◌, ◌∷◌, [], false, All, find, is_none, length, map, OnOk, IfSome};
 ghost use Rattle.std.specs.List.{list_any};
 ghost use Rattle.std.specs.Option.{option_map};
-ghost use Rattle.spy_grammar.specs.Launches.{GoodLaunch};
-ghost use Rattle.spy_grammar.specs.Spelling.{Good};
+ghost use Rattle.vocabulary.specs.Prelude.{GoodLaunch, Good};
 ghost use Rattle.spy_grammar.specs.declared.launches.LRecord.TheVariants as launching;
 ghost use Rattle.semantics.specs.Faults.{is_end};
 ghost use Rattle.semantics.specs.Launches.{Expanded, colours_of, exceeds_ids, for_tasks, names_no_launch, with_launching, writes};

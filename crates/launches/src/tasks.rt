@@ -2,7 +2,7 @@
 
 ghost use Rattle.std.specs.Prelude.{◌≡◌, ◌+◌, ◌^◌, ◌≤◌, ◌++◌, false, true, is_none, is_some, length, IfOk, OnOk};
 ghost use Rattle.std.specs.List.{list_any};
-ghost use Rattle.spy_grammar.specs.Spelling.{Good};
+ghost use Rattle.vocabulary.specs.Prelude.{Good};
 ghost use Rattle.spy_grammar.specs.declared.record.Record.TheVariants as records;
 ghost use Rattle.semantics.specs.Launches.{for_tasks};
 ghost use Rattle.launches.specs.Steps.{AreGood, req_for, space_by};

@@ -1,7 +1,7 @@
 //! The walk over the records of a launch log, up to the first that breaks a rule on launches.
 
 ghost use Rattle.std.specs.Prelude.{◌≡◌, [], All, None, IfOk};
-ghost use Rattle.spy_grammar.specs.Launches.{GoodLaunch};
+ghost use Rattle.vocabulary.specs.Prelude.{GoodLaunch};
 ghost use Rattle.semantics.specs.Launches.{launches_fault, not_expanded, written_log};
 
 use crate::judge::judge;

@@ -1,12 +1,8 @@
 //! The records that are written, as they grow.
 
 ghost use Rattle.std.specs.Prelude.{◌≡◌, ◌+◌, ◌++◌, ◌∷◌, [], ◌||◌, not, All, filter, length, nat_lt, OnOk, IfOk, IfSome, if◌then◌else◌};
-ghost use Rattle.spy_words.specs.Classes.{IsNumberFrom};
-ghost use Rattle.spy_grammar.specs.Spelling.{Good, spelling};
+ghost use Rattle.vocabulary.specs.Prelude.{IsNumberFrom, Good, spelling, meets, points_in, lined, text_of, tables_of};
 ghost use Rattle.semantics.specs.Faults.{is_header, is_end};
-ghost use Rattle.semantics.specs.Points.{meets, points_in};
-ghost use Rattle.semantics.specs.Records.{lined, text_of};
-ghost use Rattle.semantics.specs.Tables.{tables_of};
 ghost use Rattle.semantics.specs.Launches.{space_under};
 ghost use Rattle.launches.specs.Written.{Tells, is_inner};
 
@@ -36,7 +32,7 @@ pub(crate) struct Writing<P: PointSet> {
 
 impl<P: PointSet> Model for Writing<P> {
     ghost use Rattle.std.specs.Prelude.{List};
-    ghost use Rattle.spy_grammar.specs.declared.record.Record.{Record};
+    ghost use Rattle.vocabulary.specs.Prelude.{Record};
     ghost use Rattle.launches.specs.Written.{Tells};
 
     ghost Value = { List Record };

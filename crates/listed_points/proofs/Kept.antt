@@ -1,7 +1,7 @@
 -- The least of the points that are kept of a list.
 use Rattle.std.proofs.Common.{ℕ, ◌≤◌, List, filter, Option, Some, None, Contains}
 use Rattle.point_set.specs.Least.{IsLeast, IsLeastFrom}
-use Rattle.semantics.specs.Points.{is_in}
+use Rattle.vocabulary.specs.Prelude.{is_in}
 use Rattle.point_laws.proofs.lemmas.Cuts.{in_both, in_kept}
 
 pub kept_least : (listed xs : List ℕ) (low : ℕ) (o : Option ℕ) → IsLeast (λ q. Contains xs q × Contains listed q × (low ≤ q)) o → IsLeastFrom (filter (is_in listed) xs) low o

@@ -10,9 +10,8 @@ use Rattle.region_tree.specs.Ancestors.{ancestor_of}
 use Rattle.list_lemmas.proofs.lemmas.Firsts.{cases_option}
 use Rattle.region_tree.proofs.lemmas.Climbs.{ancestor-sum, ends}
 use Rattle.semantics.specs.declared.limits.TheConstants.{DEEPEST}
-use Rattle.semantics.specs.Tables.{Tables}
+use Rattle.vocabulary.specs.Prelude.{Tables, part_at, space_above, upward, spaces_above}
 use Rattle.semantics.specs.declared.tables.Part as parts
-use Rattle.semantics.specs.Points.{part_at, space_above, upward, spaces_above}
 use Rattle.semantics.specs.Rules.{is_too_deep}
 use Rattle.region_tree.specs.Growing.{IsGrown}
 

@@ -4,13 +4,9 @@ use Rattle.std.specs.Option.{option_or}
 use Rattle.std.specs.Result.{IsErrAnd}
 use Rattle.std.proofs.lemmas.Option.{none-some, same_Some}
 use Rattle.std.proofs.lemmas.List.{take-append-drop, drop_all}
-use Rattle.spy_grammar.specs.declared.code.Code.{Code}
-use Rattle.spy_grammar.specs.declared.record.Lined.{Lined}
+use Rattle.vocabulary.specs.Prelude.{Code, Lined, records_of, Tables, tables_of, Fault}
 use Rattle.log_rules.specs.Counts.{access_total}
 use Rattle.semantics.specs.declared.limits.TheConstants.{MOST_ACCESSES}
-use Rattle.semantics.specs.Records.{records_of}
-use Rattle.semantics.specs.Tables.{Tables, tables_of}
-use Rattle.semantics.specs.declared.faults.Fault.{Fault}
 use Rattle.semantics.specs.Faults.{at_line, records_fault}
 use Rattle.log_decl.specs.declared.decl_end.DeclEnd.{DeclEnd}
 use Rattle.log_decl.specs.declared.decl_end.DeclEnd.TheVariants as ends

@@ -5,15 +5,10 @@ use Rattle.std.proofs.lemmas.List.{append-nil}
 use Rattle.std.proofs.lemmas.Bool.{and_parts, false≢true}
 use Rattle.std.proofs.lemmas.Bool.Decides.{nat_tests}
 use Rattle.std.proofs.lemmas.List.Folds.{list_any_none}
-use Rattle.spy_grammar.specs.declared.code.Code.{Code}
+use Rattle.vocabulary.specs.Prelude.{Code, Record, Lined, records_of, tables_of, Fault}
 use Rattle.spy_grammar.specs.declared.code.Code.TheVariants as codes
-use Rattle.spy_grammar.specs.declared.record.Record.{Record}
 use Rattle.spy_grammar.specs.declared.record.Record.TheVariants.{Sub}
-use Rattle.spy_grammar.specs.declared.record.Lined.{Lined}
 use Rattle.semantics.specs.declared.limits.TheConstants.{MOST_ACCESSES}
-use Rattle.semantics.specs.Records.{records_of}
-use Rattle.semantics.specs.Tables.{tables_of}
-use Rattle.semantics.specs.declared.faults.Fault.{Fault}
 use Rattle.semantics.specs.Faults.{at_line, record_rules, breaks, first_broken, record_in, records_fault}
 use Rattle.semantics.specs.Rules as rules
 use Rattle.semantics.proofs.lemmas.RecordRules.{none_passes}

@@ -6,13 +6,10 @@ use Rattle.std.specs.Option.{option_map_or}
 use Rattle.std.proofs.lemmas.Bool.{cases_Bool, false≢true}
 use Rattle.std.proofs.lemmas.List.{append-nil}
 use Rattle.std.proofs.lemmas.List.Sums.{fold-append}
-use Rattle.spy_grammar.specs.declared.record.Record.{Record}
+use Rattle.vocabulary.specs.Prelude.{Record, Lined, Tables, Space, with_record, no_tables, tables_of, points_in, part_at}
 use Rattle.spy_grammar.specs.declared.record.Record.TheVariants.{Ispace, Part, Sub}
-use Rattle.spy_grammar.specs.declared.record.Lined.{Lined}
 use Rattle.semantics.specs.declared.tables.Part as parts
 use Rattle.semantics.specs.declared.tables.Sub as subs
-use Rattle.semantics.specs.Tables.{Tables, Space, with_record, no_tables, tables_of}
-use Rattle.semantics.specs.Points.{points_in, part_at}
 
 -- The spaces, partitions and subspaces of the later tables begin with those of the earlier ones.
 pub record Extends (t u : Tables) : Type 0 where

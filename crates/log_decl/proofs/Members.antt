@@ -7,7 +7,7 @@ use Rattle.std.proofs.lemmas.Bool.Decides.{Decides-by_and}
 use Rattle.std.proofs.lemmas.List.Elements.{All-contains, Contains-append_right}
 use Rattle.std.proofs.lemmas.List.Folds.{Any-from_list_any, list_any-from_Any}
 use Rattle.list_lemmas.proofs.lemmas.Firsts.{at_contains}
-use Rattle.semantics.specs.Points.{is_in, is_within, meets}
+use Rattle.vocabulary.specs.Prelude.{is_in, is_within, meets}
 use Rattle.log_tables.proofs.lemmas.Members.{Decides-is_in}
 
 -- The element at which a test of all fails.

@@ -1,14 +1,11 @@
 -- What the forest says of the records that it judges.
 use Rattle.std.proofs.Common.{◌≡◌, ℕ, ◌-◌, ◌<◌, List, [], length, slice_get, Some, None, sym, ap, ◌∙◌, arith}
 use Rattle.std.proofs.lemmas.Option.{same_Some, slice_get_within}
-use Rattle.spy_grammar.specs.declared.code.Code.{Code}
+use Rattle.vocabulary.specs.Prelude.{Code, Record, Lined, tables_of}
 use Rattle.spy_grammar.specs.declared.code.Code.TheVariants as codes
-use Rattle.spy_grammar.specs.declared.record.Record.{Record}
-use Rattle.spy_grammar.specs.declared.record.Lined.{Lined}
 use Rattle.region_tree.specs.Faults.{IsFaulty, FirstNotWithin, FirstNotDisjoint}
 use Rattle.region_tree.specs.Growing.{IsGrown}
 use Rattle.region_tree.proofs.lemmas.Growth.{grown_none}
-use Rattle.semantics.specs.Tables.{tables_of}
 use Rattle.semantics.specs.Faults.{at_line}
 use Rattle.log_tables.specs.Regions.{regions_of}
 use Rattle.log_decl.specs.SubLines.{sub_lines}

@@ -5,14 +5,11 @@ use Rattle.std.specs.Option.{option_map, option_or}
 use Rattle.std.proofs.lemmas.Bool.{and_parts, cases_Bool, cases_eq, not-false, or_parts}
 use Rattle.std.proofs.lemmas.Option.{none-some, slice_get_within}
 use Rattle.std.proofs.lemmas.List.{append-nil}
-use Rattle.spy_grammar.specs.declared.code.Code.{Code}
+use Rattle.vocabulary.specs.Prelude.{Code, Record, Lined, Tables, with_record, tables_of}
 use Rattle.spy_grammar.specs.declared.code.Code.TheVariants as codes
-use Rattle.spy_grammar.specs.declared.record.Record.{Record}
 use Rattle.spy_grammar.specs.declared.record.Record.TheVariants.{Sub}
-use Rattle.spy_grammar.specs.declared.record.Lined.{Lined}
 use Rattle.region_tree.specs.Faults.{IsFaulty, IsOutside, MeetsEarlier}
 use Rattle.semantics.specs.declared.tables.Sub as subs
-use Rattle.semantics.specs.Tables.{Tables, with_record, tables_of}
 use Rattle.semantics.specs.Faults.{at_line}
 use Rattle.semantics.specs.Rules as rules
 use Rattle.log_tables.specs.Regions.{regions_of}

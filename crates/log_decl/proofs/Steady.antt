@@ -4,14 +4,12 @@ use Rattle.std.specs.List.{list_any}
 use Rattle.std.proofs.lemmas.Bool.{and_from, and_parts, false≢true, not-false, or_parts}
 use Rattle.std.proofs.lemmas.List.Elements.{All-nil, All-cons}
 use Rattle.spy_grammar.specs.declared.code.Code.TheVariants as codes
-use Rattle.spy_grammar.specs.declared.record.Record.{Record}
+use Rattle.vocabulary.specs.Prelude.{Record, Lined, Tables, Space, points_of, with_record, tables_of}
 use Rattle.spy_grammar.specs.declared.record.Record.TheVariants.{Ispace, Part, Sub}
-use Rattle.spy_grammar.specs.declared.record.Lined.{Lined}
 use Rattle.log_tables.specs.declared.entries.Step.{Step}
 use Rattle.log_tables.specs.Regions.{regions_of, space_of, part_of, step_of}
 use Rattle.semantics.specs.declared.tables.Part as parts
 use Rattle.semantics.specs.declared.tables.Sub as subs
-use Rattle.semantics.specs.Tables.{Tables, Space, points_of, with_record, tables_of}
 use Rattle.semantics.specs.Faults.{record_in}
 use Rattle.semantics.specs.Rules as rules
 use Rattle.region_tree.specs.Growing.{IsGrown}

@@ -13,8 +13,7 @@ use Rattle.region_tree.specs.Shape.{IsForest}
 use Rattle.list_lemmas.proofs.lemmas.Firsts.{find_some, all_at}
 use Rattle.semantics.specs.declared.tables.Part as parts
 use Rattle.semantics.specs.declared.tables.Sub as subs
-use Rattle.semantics.specs.Tables.{Tables, Space}
-use Rattle.semantics.specs.Points.{points_in, part_at, meets}
+use Rattle.vocabulary.specs.Prelude.{Tables, Space, points_in, part_at, meets}
 use Rattle.semantics.specs.Rules.{is_outside, is_not_disjoint}
 use Rattle.log_decl.proofs.Growing.{Extends, points_kept, part_kept}
 use Rattle.log_decl.proofs.Members.{Decides-outside, Decides-meets, passing}

@@ -4,13 +4,9 @@ use Rattle.std.proofs.lemmas.Bool.{false≢true}
 use Rattle.std.proofs.lemmas.Option.{slice_get-get_or}
 use Rattle.std.proofs.lemmas.List.{append-nil, take_more, map-append, length-map, length-take-le}
 use Rattle.std.proofs.lemmas.List.Sums.{fold-append}
-use Rattle.spy_grammar.specs.declared.code.Code.{Code}
+use Rattle.vocabulary.specs.Prelude.{Code, Record, Lined, records_of, Tables, tables_of, with_record, no_tables}
 use Rattle.spy_grammar.specs.declared.code.Code.TheVariants as codes
-use Rattle.spy_grammar.specs.declared.record.Record.{Record}
-use Rattle.spy_grammar.specs.declared.record.Lined.{Lined}
 use Rattle.semantics.specs.declared.limits.TheConstants.{MOST_ACCESSES}
-use Rattle.semantics.specs.Records.{records_of}
-use Rattle.semantics.specs.Tables.{Tables, tables_of, with_record, no_tables}
 use Rattle.semantics.proofs.lemmas.RecordRules.{none_passes}
 use Rattle.log_rules.specs.Counts.{access_total}
 use Rattle.log_rules.specs.declared.tally.Tally.{Tally}

@@ -1,7 +1,6 @@
 -- What an end of the work tells.
 use Rattle.std.specs.Prelude.{◌≡◌, ℕ, Option, Some, Result, Err}
-use Rattle.spy_grammar.specs.declared.code.Code.{Code}
-use Rattle.semantics.specs.declared.faults.Fault.{Fault}
+use Rattle.vocabulary.specs.Prelude.{Code, Fault}
 use Rattle.semantics.specs.Faults.{at_line}
 use Rattle.log_decl.specs.declared.decl_end.DeclEnd.{DeclEnd}
 use Rattle.log_decl.specs.declared.decl_end.DeclEnd.TheVariants as ends

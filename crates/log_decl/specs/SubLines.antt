@@ -1,9 +1,8 @@
 -- The lines of subspaces.
 use Rattle.std.specs.Prelude.{ℕ, List, Option, Some, None}
 use Rattle.std.specs.List.{filter_map}
-use Rattle.spy_grammar.specs.declared.record.Record.{Record}
+use Rattle.vocabulary.specs.Prelude.{Record, Lined}
 use Rattle.spy_grammar.specs.declared.record.Record.TheVariants.{Sub}
-use Rattle.spy_grammar.specs.declared.record.Lined.{Lined}
 
 -- The line of a record that declares a subspace.
 abbrev pub sub_line : ℕ → Record → Option ℕ

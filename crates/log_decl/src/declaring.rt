@@ -1,10 +1,7 @@
 //! What records declare, or the fault of their frame and records.
 
 ghost use Rattle.std.specs.Prelude.{◌≡◌, ◌<◌, ◌-◌, ◌^◌, ℕ, All, [], None, Some, Err, length, IfOk, OnOk};
-ghost use Rattle.spy_grammar.specs.declared.code.Code.{Code};
-ghost use Rattle.spy_grammar.specs.Spelling.{Good};
-ghost use Rattle.semantics.specs.Records.{records_of, AreLines};
-ghost use Rattle.semantics.specs.Tables.{no_tables, tables_of};
+ghost use Rattle.vocabulary.specs.Prelude.{Code, Good, records_of, AreLines, no_tables, tables_of};
 ghost use Rattle.semantics.specs.Faults.{at_line, declaration_fault, records_fault};
 ghost use Rattle.log_tables.specs.Views.{Ascends};
 ghost use Rattle.log_tables.specs.Regions.{regions_of};

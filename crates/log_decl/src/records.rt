@@ -2,11 +2,8 @@
 
 ghost use Rattle.std.specs.Prelude.{◌≡◌, ◌↔◌, ◌≤◌, ℕ, All, Err, IfOk, OnOk, IsTrue, None, Some, map};
 ghost use Rattle.std.specs.List.Sorted.{IsStrictlyIncreasing};
-ghost use Rattle.spy_grammar.specs.declared.code.Code.{Code};
-ghost use Rattle.spy_grammar.specs.Spelling.{Good};
-ghost use Rattle.semantics.specs.Tables.{tables_of};
+ghost use Rattle.vocabulary.specs.Prelude.{Code, Good, tables_of, AreLines};
 ghost use Rattle.semantics.specs.Faults.{at_line, declaration_fault};
-ghost use Rattle.semantics.specs.Records.{AreLines};
 
 use crate::decl_end::DeclEnd;
 use crate::declaring::declarations;

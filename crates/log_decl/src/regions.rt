@@ -1,8 +1,7 @@
 //! Whether what a log declares makes a forest, or the line of the first subspace that breaks a rule of it.
 
 ghost use Rattle.std.specs.Prelude.{◌≡◌, ◌<◌, List, [], OnOk, length, slice_get};
-ghost use Rattle.spy_grammar.specs.declared.record.Record.{Record};
-ghost use Rattle.semantics.specs.Tables.{tables_of};
+ghost use Rattle.vocabulary.specs.Prelude.{Record, tables_of};
 ghost use Rattle.log_tables.specs.Regions.{regions_of};
 ghost use Rattle.region_tree.specs.Sound.{IsSound};
 ghost use Rattle.log_decl.specs.Ends.{IsFaultOf};

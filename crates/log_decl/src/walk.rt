@@ -3,8 +3,7 @@
 ghost use Rattle.std.specs.Prelude.{◌≡◌, ◌<◌, ◌-◌, ◌^◌, All, [], length, IfOk};
 ghost use Rattle.log_tables.specs.Views.{Ascends};
 ghost use Rattle.log_rules.specs.Tallied.{IsTally};
-ghost use Rattle.semantics.specs.Records.{records_of};
-ghost use Rattle.semantics.specs.Tables.{no_tables};
+ghost use Rattle.vocabulary.specs.Prelude.{records_of, no_tables};
 ghost use Rattle.log_decl.specs.Walk.{StandsAt};
 
 use crate::broken::{AtRecord, first_broken};

@@ -5,9 +5,8 @@ use Rattle.std.specs.Prelude.{option_map}
 use Rattle.std.proofs.lemmas.List.Sums.{length-filter}
 use Rattle.std.proofs.lemmas.List.Filters.{length-filter_both}
 use Rattle.std.proofs.lemmas.List.{append_assoc}
-use Rattle.semantics.specs.Tables.{Tables}
+use Rattle.vocabulary.specs.Prelude.{Tables, least_place}
 use Rattle.semantics.specs.Kinds as kinds
-use Rattle.semantics.specs.Kinds.{least_place}
 use Rattle.outcomes.specs.Outcome.{dependence_at, dependences}
 use Rattle.findings.specs.declared.finding.Dep.{Dep}
 use Rattle.interference.specs.declared.pair.Pair.{Pair}

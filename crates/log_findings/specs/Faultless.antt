@@ -1,11 +1,8 @@
 -- Logs that keep each rule of `check`.
 use Rattle.std.specs.Prelude.{◌≡◌, ℕ, List, None}
 use Rattle.std.specs.List.{AllByRecursion}
-use Rattle.spy_grammar.specs.declared.record.Lined.{Lined}
-use Rattle.spy_grammar.specs.Spelling.{Good}
+use Rattle.vocabulary.specs.Prelude.{Lined, Good, records_of, Tables, tables_of}
 use Rattle.semantics.specs.declared.command.Command.TheVariants.{Check}
-use Rattle.semantics.specs.Records.{records_of}
-use Rattle.semantics.specs.Tables.{Tables, tables_of}
 use Rattle.semantics.specs.Faults.{log_fault}
 
 -- The tables are those of good records of which `check` shows no fault.

@@ -3,9 +3,7 @@ use Rattle.std.specs.Prelude.{◌≡◌, Option, Some, None}
 use Rattle.std.specs.Option.{option_or}
 use Rattle.findings.specs.declared.finding.Finding.{Finding}
 use Rattle.findings.specs.declared.finding.Finding.TheVariants as findings
-use Rattle.semantics.specs.declared.command.Command.{Command}
-use Rattle.semantics.specs.declared.faults.Fault.{Fault}
-use Rattle.semantics.specs.Tables.{Tables}
+use Rattle.vocabulary.specs.Prelude.{Command, Fault, Tables}
 use Rattle.semantics.specs.Faults.{serial_fault, map_fault}
 use Rattle.outcomes.specs.Outcome.{Finds}
 

@@ -1,8 +1,6 @@
 -- The dependence of a pair of items.
-use Rattle.semantics.specs.Kinds.{is_before}
+use Rattle.vocabulary.specs.Prelude.{is_before, id_of, Tables}
 use Rattle.semantics.specs.SerialOrder.{by_serial}
-use Rattle.semantics.specs.Steps.{id_of}
-use Rattle.semantics.specs.Tables.{Tables}
 use Rattle.findings.specs.declared.finding.Dep.{Dep}
 use Rattle.interference.specs.declared.pair.Pair.{Pair}
 

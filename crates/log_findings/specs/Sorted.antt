@@ -1,6 +1,6 @@
 -- Sorted nodes, or why they are not.
 use Rattle.std.specs.Prelude.{◌≡◌, List}
-use Rattle.semantics.specs.Events.{Node}
+use Rattle.vocabulary.specs.Prelude.{Node}
 use Rattle.event_graph.specs.Orders.{IsOrderOf, AreCycleEvents}
 use Rattle.reach_marks.specs.Reached.{AreMarksOf}
 use Rattle.log_findings.specs.declared.sorting.Sorting.{Sorting}

@@ -3,7 +3,7 @@
 ghost use Rattle.std.specs.Prelude.{◌≡◌, IfOk, None, map, sum_by, length};
 ghost use Rattle.findings.specs.Texts as texts;
 ghost use Rattle.semantics.specs.declared.command.Command.TheVariants.{Spare};
-ghost use Rattle.semantics.specs.Events.{graph_of, HasNoCycle};
+ghost use Rattle.vocabulary.specs.Prelude.{graph_of, HasNoCycle};
 ghost use Rattle.outcomes.specs.Outcome.{SpareFinds, events_of_wait};
 ghost use Rattle.log_findings.specs.Findings.{IsFoundOf};
 ghost use Rattle.log_findings.specs.Sorted.{AreSorted};

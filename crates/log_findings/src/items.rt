@@ -3,7 +3,7 @@
 ghost use Rattle.std.specs.Prelude.{◌≡◌, ◌<◌, ◌^◌, length, count_by};
 ghost use Rattle.semantics.specs.Rules as rules;
 ghost use Rattle.semantics.specs.SerialOrder.{by_serial};
-ghost use Rattle.semantics.specs.Steps.{id_of};
+ghost use Rattle.vocabulary.specs.Prelude.{id_of};
 ghost use Rattle.semantics.specs.Counts as counts;
 ghost use Rattle.semantics.specs.Shown.{event_of};
 

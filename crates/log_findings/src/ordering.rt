@@ -3,7 +3,7 @@
 ghost use Rattle.std.specs.Prelude.{◌≡◌, IfOk, IfErr, None};
 ghost use Rattle.findings.specs.Texts as texts;
 ghost use Rattle.semantics.specs.declared.command.Command.TheVariants.{Ordered};
-ghost use Rattle.semantics.specs.Events.{graph_of, HasNoCycle};
+ghost use Rattle.vocabulary.specs.Prelude.{graph_of, HasNoCycle};
 ghost use Rattle.outcomes.specs.Outcome.{OrderedFinds};
 ghost use Rattle.reach_marks.specs.Reached.{AreMarksOf};
 ghost use Rattle.log_findings.specs.Findings.{IsFoundOf};

@@ -1,7 +1,7 @@
 //! The nodes of a log in replay order, and which are before which.
 
 ghost use Rattle.std.specs.Prelude.{◌≡◌, ◌<◌, ◌^◌, length, IfOk, IfErr};
-ghost use Rattle.semantics.specs.Events.{AreLinked, graph_of};
+ghost use Rattle.vocabulary.specs.Prelude.{AreLinked, graph_of};
 ghost use Rattle.event_graph.specs.Orders.{IsOrderOf};
 ghost use Rattle.reach_marks.specs.Reached.{AreMarksOf};
 ghost use Rattle.log_findings.specs.Sorted.{AreSorted, IsUnsorted};

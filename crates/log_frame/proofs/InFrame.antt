@@ -1,9 +1,7 @@
 -- Records in a frame.
 use Rattle.std.proofs.Common.{◌≡◌, Bool, List, [], ◌∷◌, map, find, option_map, refl, inl, inr}
 use Rattle.std.proofs.lemmas.Bool.{cases_Bool}
-use Rattle.spy_grammar.specs.declared.code.Code.{Code}
-use Rattle.spy_grammar.specs.declared.record.Record.{Record}
-use Rattle.spy_grammar.specs.declared.record.Lined.{Lined}
+use Rattle.vocabulary.specs.Prelude.{Code, Record, Lined}
 use Rattle.semantics.specs.Faults.{at_line, first_with}
 
 -- The first record that passes a test is found where it stands.

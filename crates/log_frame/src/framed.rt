@@ -3,7 +3,7 @@
 ghost use Rattle.std.specs.Prelude.{◌≡◌};
 ghost use Rattle.semantics.specs.Faults.{opens, is_header, is_end, miscounts};
 ghost use Rattle.semantics.specs.Launches.{as_framed};
-ghost use Rattle.spy_grammar.specs.declared.record.Lined.{Lined};
+ghost use Rattle.vocabulary.specs.Prelude.{Lined};
 
 use spy_grammar::{LLined, LRecord, Lined, Record};
 

@@ -4,12 +4,8 @@ use Rattle.std.specs.Option.{option_map_or}
 use Rattle.std.specs.List.{list_any, list_all}
 use Rattle.std.proofs.lemmas.Bool.{false≢true, not-false}
 use Rattle.spy_grammar.specs.declared.code.Code.TheVariants as codes
-use Rattle.spy_grammar.specs.declared.record.Lined.{Lined}
-use Rattle.semantics.specs.Records.{records_of}
-use Rattle.semantics.specs.Tables.{tables_of}
-use Rattle.semantics.specs.Events.{Node, graph_of, AreLinked}
+use Rattle.vocabulary.specs.Prelude.{Lined, records_of, tables_of, Node, graph_of, AreLinked, Command}
 use Rattle.semantics.specs.Rules.{node_of, completes}
-use Rattle.semantics.specs.declared.command.Command.{Command}
 use Rattle.semantics.proofs.lemmas.Nodes.{nodes_are}
 use Rattle.log_laws.proofs.lemmas.Members.{Member, member_of, contains_of, member_filter_map, filter_map_member, any_found, all_at}
 use Rattle.log_laws.proofs.lemmas.Apart.{all_pairs}

@@ -1,13 +1,7 @@
 -- Without a race all interleavings agree in what cells hold and in what steps read of it.
 use mathlib.Core.Path.{fun_ext}
 use Rattle.std.proofs.Common.{◌≡◌, List, Option, [], ◌∷◌, inl, inr, refl, ap, ◌∙◌, sym}
-use Rattle.value_terms.specs.Values.{Value}
-use Rattle.semantics.specs.declared.places.Cell.{Cell}
-use Rattle.semantics.specs.Tables.{Tables}
-use Rattle.semantics.specs.Steps.{Step}
-use Rattle.semantics.specs.Execution.{State, effect, executed, sees, ReadsIn}
-use Rattle.semantics.specs.Interleavings.{IsInterleaving}
-use Rattle.semantics.specs.Races.{IsTidy, IsRaceFree}
+use Rattle.vocabulary.specs.Prelude.{Value, Cell, Tables, Step, State, effect, executed, sees, ReadsIn, IsInterleaving, IsTidy, IsRaceFree}
 use Rattle.log_laws.proofs.lemmas.Swap.{swapped_state, swapped_sight}
 use Rattle.log_laws.proofs.lemmas.Turns as turns
 

@@ -3,16 +3,9 @@ use Rattle.std.proofs.Common.{slice_get, ◌≢◌, get_or, Contains, AllPairs, 
 use Rattle.std.specs.List.{range_with_len}
 use Rattle.std.proofs.lemmas.Bool.{true≢false, false_from_ne_true}
 use Rattle.std.proofs.lemmas.List.{length-map}
-use Rattle.semantics.specs.declared.moves.Move.{Move}
-use Rattle.semantics.specs.declared.tables.LogNode.{LogNode}
-use Rattle.semantics.specs.declared.tables.Op.{Op}
+use Rattle.vocabulary.specs.Prelude.{Move, LogNode, Op, Tables, reqs_of, Node, Before, graph_of, IsCycle, AreLinked, Step, id_of, moves_of, steps, steps_by, is_read, IsInterleaving}
 use Rattle.semantics.specs.declared.tables.Op.TheVariants as operations
-use Rattle.semantics.specs.Tables.{Tables}
-use Rattle.semantics.specs.Kinds.{reqs_of}
-use Rattle.semantics.specs.Events.{Node, Before, graph_of, IsCycle, AreLinked}
 use Rattle.semantics.specs.ReplayOrder.{replay_order, is_stuck}
-use Rattle.semantics.specs.Steps.{Step, id_of, moves_of, steps, steps_by}
-use Rattle.semantics.specs.Interleavings.{is_read, IsInterleaving}
 use Rattle.log_laws.proofs.lemmas.Members.{Member, member_of, contains_of, member_at, member_flat, flat_member, none_or_some}
 use Rattle.log_laws.proofs.lemmas.Apart.{Apart, PairsBy, all_pairs, apart_flat, apart_map, numbers_apart, pairs_from, pairs_append, pairs_map, pairs_where, pairs_flat, number_in, number_within}
 use Rattle.log_laws.proofs.lemmas.StepLists.{moves_at, steps_at, MayFollow, step_at}

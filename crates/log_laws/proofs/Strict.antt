@@ -4,20 +4,10 @@ use Rattle.std.specs.Prelude.{IfSome}
 use Rattle.std.specs.List.{AllByRecursion, list_any}
 use Rattle.std.proofs.lemmas.List.{map-append}
 use Rattle.spy_grammar.specs.declared.code.Code.TheVariants as codes
-use Rattle.spy_grammar.specs.declared.record.Record.{Record}
+use Rattle.vocabulary.specs.Prelude.{Record, Lined, Good, Req, LogNode, Op, records_of, Tables, Space, with_record, tables_of, Node, graph_of, points_in, Command}
 use Rattle.spy_grammar.specs.declared.record.Record.TheVariants as records
-use Rattle.spy_grammar.specs.declared.record.Lined.{Lined}
-use Rattle.spy_grammar.specs.Spelling.{Good}
-use Rattle.semantics.specs.declared.tables.Req.{Req}
-use Rattle.semantics.specs.declared.tables.LogNode.{LogNode}
-use Rattle.semantics.specs.declared.tables.Op.{Op}
 use Rattle.semantics.specs.DataOps.{DataOp, data_of}
-use Rattle.semantics.specs.Records.{records_of}
-use Rattle.semantics.specs.Tables.{Tables, Space, with_record, tables_of}
-use Rattle.semantics.specs.Events.{Node, graph_of}
-use Rattle.semantics.specs.Points.{points_in}
 use Rattle.semantics.specs.Rules.{repeats_event}
-use Rattle.semantics.specs.declared.command.Command.{Command}
 use Rattle.log_laws.proofs.lemmas.Members.{Each, each_more, member_map, none_at, found_at, none_or_some}
 use Rattle.log_laws.proofs.lemmas.Apart.{Apart, PairsBy, pairs_more, points_apart, fields_apart}
 use Rattle.log_laws.proofs.lemmas.Admitted.{IsFaultless, by_records, rule_kept}

@@ -1,8 +1,6 @@
 -- Two neighbours in an interleaving, neither of which has to be taken before the other, may change places.
 use Rattle.std.proofs.Common.{List, [], ◌∷◌, ◌++◌, inl, inr, sym, subst}
-use Rattle.semantics.specs.Tables.{Tables}
-use Rattle.semantics.specs.Steps.{Step}
-use Rattle.semantics.specs.Interleavings.{IsInterleaving, AreUnordered}
+use Rattle.vocabulary.specs.Prelude.{Tables, Step, IsInterleaving, AreUnordered}
 use Rattle.log_laws.proofs.lemmas.Members.{Member, member_of, contains_of}
 use Rattle.log_laws.proofs.lemmas.Apart.{PairsBy, all_pairs, pairs_append, pairs_from}
 use Rattle.log_laws.proofs.lemmas.Lists.{pairs_parts}

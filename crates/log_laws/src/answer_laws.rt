@@ -1,14 +1,7 @@
 //! Laws of the orders in which the steps of a run may have been taken.
 
 ghost use Rattle.std.specs.Prelude.{◌≡◌, List};
-ghost use Rattle.value_terms.specs.Values.{Value};
-ghost use Rattle.semantics.specs.declared.places.Cell.{Cell};
-ghost use Rattle.semantics.specs.declared.moves.Move.{Move};
-ghost use Rattle.semantics.specs.Tables.{Tables};
-ghost use Rattle.semantics.specs.Steps.{Step};
-ghost use Rattle.semantics.specs.Execution.{State, effect, sees, executed, ReadsIn};
-ghost use Rattle.semantics.specs.Interleavings.{IsInterleaving};
-ghost use Rattle.semantics.specs.Races.{IsCalm, IsTidy, IsRaceFree};
+ghost use Rattle.vocabulary.specs.Prelude.{Value, Cell, Move, Tables, Step, State, effect, sees, executed, ReadsIn, IsInterleaving, IsCalm, IsTidy, IsRaceFree};
 
 /// Two moves that conflict at no cell may change places, from any state: the state after them stays, and so does what the one reads.
 #[tactic(auto, using(crate::proofs::lemmas::Swap::swapped_state, crate::proofs::lemmas::Swap::swapped_sight))]

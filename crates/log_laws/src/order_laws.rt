@@ -1,7 +1,7 @@
 //! Laws of the order in which a log is replayed.
 
 ghost use Rattle.std.specs.Prelude.{◌≡◌, ◌≢◌, ◌↔◌, ℕ, ◌<◌, List, ◌∷◌, ◌++◌, length, true, false, Some, None, Contains, AllPairs};
-ghost use Rattle.semantics.specs.Events.{Node, WaitsOn, Before, IsCycle, AreLinked};
+ghost use Rattle.vocabulary.specs.Prelude.{Node, WaitsOn, Before, IsCycle, AreLinked};
 ghost use Rattle.semantics.specs.ReplayOrder.{replay_order, is_stuck, shown_cycle};
 
 /// The replay order has each node that is not stuck once, and after all nodes that come before it.

@@ -2,9 +2,7 @@
 
 ghost use Rattle.std.specs.Prelude.{◌≡◌, ℕ, None, List};
 ghost use Rattle.std.specs.List.{AllByRecursion};
-ghost use Rattle.spy_grammar.specs.declared.record.Lined.{Lined};
-ghost use Rattle.spy_grammar.specs.Spelling.{Good};
-ghost use Rattle.semantics.specs.Records.{Hold, Reads, lined, records_of, text_of};
+ghost use Rattle.vocabulary.specs.Prelude.{Lined, Good, Hold, Reads, lined, records_of, text_of};
 ghost use Rattle.semantics.specs.TextFaults.{text_fault};
 
 /// The records of a log that lines hold, or that is read, are good.

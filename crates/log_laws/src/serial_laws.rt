@@ -1,13 +1,8 @@
 //! Laws of the order in which a log lists its items, where neither its frame nor a record has a fault.
 
 ghost use Rattle.std.specs.Prelude.{◌≡◌, ◌≢◌, ◌↔◌, ℕ, ◌<◌, true, List, length, find, None, IsSome, Contains, AllPairs};
-ghost use Rattle.spy_grammar.specs.declared.record.Lined.{Lined};
-ghost use Rattle.semantics.specs.declared.tables.Item.{Item};
-ghost use Rattle.semantics.specs.declared.tables.Serial.{Serial};
-ghost use Rattle.semantics.specs.Tables.{place_of, tables_of};
-ghost use Rattle.semantics.specs.Points.{is_in};
+ghost use Rattle.vocabulary.specs.Prelude.{Lined, Item, Serial, place_of, tables_of, is_in, id_of};
 ghost use Rattle.semantics.specs.SerialOrder.{listed, serial};
-ghost use Rattle.semantics.specs.Steps.{id_of};
 ghost use Rattle.semantics.specs.Rules.{is_declared, item_id};
 ghost use Rattle.semantics.specs.Faults.{declaration_fault};
 

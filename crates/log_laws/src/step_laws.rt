@@ -2,19 +2,7 @@
 
 ghost use Rattle.std.specs.Prelude.{◌≡◌, ◌≢◌, ℕ, None, List, ◌∷◌, ◌++◌, AllPairs};
 ghost use Rattle.std.specs.List.{AllByRecursion};
-ghost use Rattle.value_terms.specs.Values.{Value};
-ghost use Rattle.spy_grammar.specs.declared.record.Lined.{Lined};
-ghost use Rattle.spy_grammar.specs.Spelling.{Good};
-ghost use Rattle.semantics.specs.declared.places.Cell.{Cell};
-ghost use Rattle.semantics.specs.Records.{records_of};
-ghost use Rattle.semantics.specs.Tables.{Tables, tables_of};
-ghost use Rattle.semantics.specs.Events.{AreLinked, graph_of, HasNoCycle};
-ghost use Rattle.semantics.specs.Steps.{Step, steps};
-ghost use Rattle.semantics.specs.Execution.{State, effect, executed, sees, ReadsIn};
-ghost use Rattle.semantics.specs.Interleavings.{AreUnordered, IsInterleaving};
-ghost use Rattle.semantics.specs.Races.{IsRaceFree, IsTidy};
-ghost use Rattle.semantics.specs.Reads.{replay_steps};
-ghost use Rattle.semantics.specs.declared.command.Command.{Command};
+ghost use Rattle.vocabulary.specs.Prelude.{Value, Lined, Good, Cell, records_of, Tables, tables_of, AreLinked, graph_of, HasNoCycle, Step, steps, State, effect, executed, sees, ReadsIn, AreUnordered, IsInterleaving, IsRaceFree, IsTidy, replay_steps, Command};
 ghost use Rattle.semantics.specs.declared.command.Command.TheVariants.{Check};
 ghost use Rattle.semantics.specs.Faults.{log_fault};
 

@@ -1,7 +1,6 @@
 -- Records read line by line.
 use Rattle.std.proofs.Common.{◌≡◌, ℕ, ◌+◌, List, [], ◌∷◌, ◌++◌, refl, sym, ap, ◌∙◌, inl, inr}
-use Rattle.spy_grammar.specs.declared.record.Lined.{Lined}
-use Rattle.semantics.specs.Records.{Hold}
+use Rattle.vocabulary.specs.Prelude.{Lined, Hold}
 use Rattle.std.proofs.lemmas.List.{append_assoc}
 use Rattle.log_reading.specs.Spelled.{Says}
 

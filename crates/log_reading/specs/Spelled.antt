@@ -1,14 +1,8 @@
 -- What one line adds to a log, how its fault ends the reading, and what an input spells.
 use Rattle.std.specs.Prelude.{◌≡◌, ℕ, true, Some, None, Result, Err, List, [], ◌∷◌, ◌++◌, ◌⊎◌}
-use Rattle.spy_words.specs.declared.fault.LineFault.{LineFault}
+use Rattle.vocabulary.specs.Prelude.{LineFault, Code, Record, Lined, is_passed_over, line_at, spelling, Good, Reads, line_count}
 use Rattle.spy_words.specs.declared.fault.LineFault.TheVariants as faults
-use Rattle.spy_grammar.specs.declared.code.Code.{Code}
 use Rattle.spy_grammar.specs.declared.code.Code.TheVariants as codes
-use Rattle.spy_grammar.specs.declared.record.Record.{Record}
-use Rattle.spy_grammar.specs.declared.record.Lined.{Lined}
-use Rattle.spy_grammar.specs.Reading.{is_passed_over, line_at}
-use Rattle.spy_grammar.specs.Spelling.{spelling, Good}
-use Rattle.semantics.specs.Records.{Reads, line_count}
 use Rattle.semantics.specs.TextFaults.{line_fault, lines_fault, text_fault}
 use Rattle.log_reading.specs.declared.reading.SpellEnd.{SpellEnd}
 use Rattle.log_reading.specs.declared.reading.SpellEnd.TheVariants.{Fault, Memory}

@@ -2,8 +2,7 @@
 
 ghost use Rattle.std.specs.Prelude.{◌≡◌, ◌≤◌, All, length, IfOk, None, OnOk};
 ghost use Rattle.spy_lines.specs.LinesOf.{with_ends, IsLine};
-ghost use Rattle.spy_grammar.specs.Spelling.{Good};
-ghost use Rattle.semantics.specs.Records.{Hold, AreLines};
+ghost use Rattle.vocabulary.specs.Prelude.{Good, Hold, AreLines};
 ghost use Rattle.semantics.specs.TextFaults.{lines_fault};
 ghost use Rattle.semantics.specs.declared.limits.TheConstants.{MOST_BYTES};
 ghost use Rattle.log_reading.specs.Spelled.{EndsBy, HasFault, HasFaultOfLines, Spells};

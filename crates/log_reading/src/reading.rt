@@ -1,10 +1,9 @@
 //! The records of an input.
 
 ghost use Rattle.std.specs.Prelude.{◌≡◌, ◌<◌, ◌≤◌, ◌∷◌, [], ◌++◌, None, IfOk, OnOk, length};
-ghost use Rattle.semantics.specs.Records.{Hold};
+ghost use Rattle.vocabulary.specs.Prelude.{Hold, line_at};
 ghost use Rattle.semantics.specs.TextFaults.{code_of, line_fault, lines_fault};
 ghost use Rattle.semantics.specs.declared.limits.TheConstants.{MOST_BYTES};
-ghost use Rattle.spy_grammar.specs.Reading.{line_at};
 ghost use Rattle.log_reading.specs.Spelled.{EndsBy, HasFaultOfLine, HasFaultOfLines, Says, end_at};
 ghost use Rattle.log_reading.specs.declared.reading.SpellEnd.TheVariants.{Memory};
 

@@ -6,14 +6,8 @@ use Rattle.std.proofs.lemmas.Bool.{and_parts, cases_Bool, eqb-true, ne_eqb}
 use Rattle.std.proofs.lemmas.List.Folds.{list_any_more}
 use Rattle.std.proofs.lemmas.List.Sums.{length-filter}
 use Rattle.std.proofs.Math.Bool.{or-false, or_assoc, and_comm}
-use Rattle.privilege.specs.declared.kinds.Priv.{Priv}
-use Rattle.privilege.specs.Interference.{agree}
-use Rattle.spy_words.specs.declared.access.PrivWord.{PrivWord}
+use Rattle.vocabulary.specs.Prelude.{Priv, agree, PrivWord, Req, Tables, place_of, privilege_of, reqs_before, is_in, meets, points_in, req_at}
 use Rattle.spy_grammar.specs.declared.record.Record.TheVariants as records
-use Rattle.semantics.specs.declared.tables.Req.{Req}
-use Rattle.semantics.specs.Tables.{Tables, place_of, privilege_of, reqs_before}
-use Rattle.semantics.specs.Points.{is_in, meets, points_in}
-use Rattle.semantics.specs.Reads.{req_at}
 use Rattle.log_rules.specs.declared.claims.OwnPlace.{OwnPlace}
 use Rattle.log_rules.specs.declared.claims.Claims.{Claims}
 use Rattle.log_rules.specs.Own.{AreClaims, clashes, claims_at, clashes_with, clashes_own, first_clashes, req_clashes_at, clashes_at, first_clashes_at, clashes_in, clashes_row, same_place, claimed}

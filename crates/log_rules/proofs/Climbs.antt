@@ -2,8 +2,7 @@
 use Rattle.std.proofs.Common.{◌≡◌, ℕ, suc, zero, ◌+◌, ◌-◌, ◌<◌, ◌==◌, Bool, false, ◌||◌, List, [], Option, Some, None, min, nat_lt, length, refl, ap, inl, inr, arith}
 use Rattle.std.proofs.lemmas.Bool.{cases_lt}
 use Rattle.std.proofs.lemmas.Bool.Decides.{nat_tests}
-use Rattle.semantics.specs.Tables.{Tables}
-use Rattle.semantics.specs.Points.{upward, space_above, is_in}
+use Rattle.vocabulary.specs.Prelude.{Tables, upward, space_above, is_in}
 
 -- one step more
 pub climbed_more : (t : Tables) (n up limit at above : ℕ) → up < limit → space_above t at ≡ Some above → n ≡ up + length (upward t (limit - up) (space_above t at)) → n ≡ (up + 1) + length (upward t (limit - (up + 1)) (space_above t above))

@@ -9,15 +9,11 @@ use Rattle.std.proofs.lemmas.Grind.{flat_map-append}
 use Rattle.std.proofs.lemmas.List.{append-nil}
 use Rattle.std.proofs.lemmas.List.Sums.{sum_by-cons, sum_by_push, length-filter}
 use Rattle.std.proofs.Math.Bool.{or_comm, or-false, or_assoc}
-use Rattle.privilege.specs.declared.kinds.Priv.{Priv}
-use Rattle.privilege.specs.Interference.{agree}
-use Rattle.spy_grammar.specs.declared.record.Record.{Record}
+use Rattle.vocabulary.specs.Prelude.{Priv, agree, Record, Tables, Space, points_of, place_of, privilege_of, coherence_of, reqs_before, with_record, is_in, points_in}
 use Rattle.spy_grammar.specs.declared.record.Record.TheVariants.{Ispace, Req, Fill, Serial, Inst, Copy, Put, Reset, Fold}
 use Rattle.semantics.specs.declared.tables.Req as reqs
 use Rattle.semantics.specs.declared.tables.Inst as insts
 use Rattle.semantics.specs.declared.tables.Serial as serials
-use Rattle.semantics.specs.Tables.{Tables, Space, points_of, place_of, privilege_of, coherence_of, reqs_before, with_record}
-use Rattle.semantics.specs.Points.{is_in, points_in}
 use Rattle.semantics.specs.SerialOrder.{listed}
 use Rattle.semantics.specs.Rules.{size_of, asked, accesses, is_declared, space_id, names, names_unknown, lacks_req, has_many_points, has_many_cells, has_many_accesses}
 use Rattle.log_rules.specs.declared.claims.OwnPlace.{OwnPlace}

@@ -3,7 +3,7 @@ use Rattle.std.proofs.Common.{◌≡◌, ℕ, ◌+◌, ◌-◌, ◌<◌, List, [
 use Rattle.std.specs.List.{range_with_len}
 use Rattle.std.proofs.lemmas.List.{length-append, take_more}
 use Rattle.std.proofs.lemmas.List.FromFn.{length-range_with_len}
-use Rattle.semantics.specs.Tables.{points_of}
+use Rattle.vocabulary.specs.Prelude.{points_of}
 
 pub cut-both : (a b m : ℕ) → min (a + min b m) m ≡ min (a + b) m
 cut-both a b m = omega arith

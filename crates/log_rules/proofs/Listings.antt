@@ -2,10 +2,8 @@
 use Rattle.std.proofs.Common.{◌≡◌, ℕ, ◌+◌, ◌==◌, Bool, not, ◌&&◌, ◌||◌, List, length, ap, ◌∙◌, sym}
 use Rattle.std.specs.List.{list_all}
 use Rattle.std.proofs.lemmas.List.Folds.{list_any-append}
-use Rattle.spy_grammar.specs.declared.record.Record.{Record}
+use Rattle.vocabulary.specs.Prelude.{Record, Tables, is_in, meets}
 use Rattle.spy_grammar.specs.declared.record.Record.TheVariants.{Serial}
-use Rattle.semantics.specs.Tables.{Tables}
-use Rattle.semantics.specs.Points.{is_in, meets}
 use Rattle.semantics.specs.SerialOrder.{listed}
 use Rattle.semantics.specs.Rules.{has_repeat, items_declared, is_bad_serial}
 use Rattle.log_rules.specs.Gathered.{list_count}

@@ -9,12 +9,7 @@ use Rattle.std.proofs.lemmas.List.Filters.{length-filter_more}
 use Rattle.std.proofs.lemmas.List.Folds.{list_any_more}
 use Rattle.std.proofs.lemmas.List.Kept.{AllPairs-from_increasing}
 use Rattle.std.proofs.lemmas.Grind.{get_or_default_zero}
-use Rattle.semantics.specs.declared.places.Place.{Place}
-use Rattle.semantics.specs.declared.tables.Req.{Req}
-use Rattle.semantics.specs.declared.tables.Inst.{Inst}
-use Rattle.semantics.specs.Tables.{Tables}
-use Rattle.semantics.specs.Points.{is_in, points_in, same_place}
-use Rattle.semantics.specs.Kinds.{covers, grid}
+use Rattle.vocabulary.specs.Prelude.{Place, Req, Inst, Tables, is_in, points_in, same_place, covers, grid}
 use Rattle.semantics.specs.Rules.{load_of, reduces}
 use Rattle.log_rules.specs.Counts.{cut}
 use Rattle.log_rules.specs.Loads.{one, is_held, load_at, row_load, inst_load}

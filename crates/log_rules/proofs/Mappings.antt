@@ -1,8 +1,7 @@
 -- Maps of a requirement, field by field.
 use Rattle.std.proofs.Common.{◌≡◌, ℕ, ◌==◌, ◌&&◌, List, ap, ◌∙◌}
 use Rattle.std.specs.List.{list_any}
-use Rattle.semantics.specs.declared.tables.Map.{Map}
-use Rattle.semantics.specs.Points.{is_in, meets}
+use Rattle.vocabulary.specs.Prelude.{Map, is_in, meets}
 use Rattle.log_tables.specs.Mapped.{names_field}
 use Rattle.log_rules.proofs.Members.{meets_turned}
 use Rattle.log_rules.proofs.ListTests.{list_any-alike, list_any-and, list_any-list_any}

@@ -4,7 +4,7 @@ use Rattle.std.specs.List.{list_any, Any}
 use Rattle.std.proofs.lemmas.Bool.Decides.{same_from_decides, Decides-by_and}
 use Rattle.std.proofs.lemmas.List.Folds.{Any-from_list_any, list_any-from_Any}
 use Rattle.point_set.specs.Least.{IsLeastOf}
-use Rattle.semantics.specs.Points.{is_in, is_within, meets}
+use Rattle.vocabulary.specs.Prelude.{is_in, is_within, meets}
 use Rattle.log_tables.proofs.lemmas.Members.{eq_turned, Decides-is_in}
 use Rattle.log_rules.proofs.ListTests.{list_any-alike, list_any-list_any}
 

@@ -4,7 +4,7 @@ use Rattle.std.proofs.lemmas.Bool.{cases_Bool, false≢true, or_right}
 use Rattle.std.proofs.lemmas.List.{take_more}
 use Rattle.std.proofs.lemmas.List.Folds.{list_any-append, list_any_more}
 use Rattle.std.proofs.Math.Bool.{or-false, not-not}
-use Rattle.semantics.specs.Points.{is_in}
+use Rattle.vocabulary.specs.Prelude.{is_in}
 use Rattle.semantics.specs.Rules.{has_repeat}
 use Rattle.log_rules.specs.Listing.{IsSetOf}
 use Rattle.log_tables.proofs.lemmas.Members.{eq_turned}

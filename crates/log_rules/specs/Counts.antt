@@ -2,10 +2,9 @@
 use Rattle.std.specs.Prelude.{◌≡◌, ℕ, ◌-◌, ◌^◌, min, List, length, Option, sum_by}
 use Rattle.std.specs.Borrow.{Bor}
 use Rattle.std.specs.Option.{option_map}
-use Rattle.spy_grammar.specs.declared.record.Record.{Record}
+use Rattle.vocabulary.specs.Prelude.{Record, Tables, Space, points_of}
 use Rattle.spy_grammar.specs.declared.record.Record.TheVariants.{Ispace, Inst}
 use Rattle.semantics.specs.declared.tables.Inst as insts
-use Rattle.semantics.specs.Tables.{Tables, Space, points_of}
 use Rattle.semantics.specs.Rules.{size_of, accesses}
 
 -- The points of all spaces together.

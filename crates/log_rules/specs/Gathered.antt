@@ -2,9 +2,8 @@
 use Rattle.std.specs.Prelude.{◌≡◌, ℕ, Bool, List, [], filter, length, Option, Some, None, is_some}
 use Rattle.std.specs.List.{list_any}
 use Rattle.std.specs.Option.{option_map, option_map_or}
-use Rattle.spy_grammar.specs.declared.record.Record.{Record}
+use Rattle.vocabulary.specs.Prelude.{Record, Node}
 use Rattle.spy_grammar.specs.declared.record.Record.TheVariants.{Run}
-use Rattle.semantics.specs.Events.{Node}
 use Rattle.semantics.specs.Rules.{node_of, completes, runs_task, items_listed}
 
 -- The completion event of a record.

@@ -2,14 +2,7 @@
 use Rattle.std.specs.Prelude.{ℕ, ◌==◌, ◌&&◌, Bool, false, List, [], Option}
 use Rattle.std.specs.List.{list_any}
 use Rattle.std.specs.Option.{option_map, option_map_or}
-use Rattle.privilege.specs.declared.kinds.Priv.{Priv}
-use Rattle.semantics.specs.declared.tables.Req.{Req}
-use Rattle.semantics.specs.declared.tables.Inst.{Inst}
-use Rattle.semantics.specs.declared.tables.Tree.{Tree}
-use Rattle.semantics.specs.declared.tables.Map.{Map}
-use Rattle.semantics.specs.Tables.{Tables}
-use Rattle.semantics.specs.Points.{points_in, tree_at, meets}
-use Rattle.semantics.specs.Steps.{inst_at}
+use Rattle.vocabulary.specs.Prelude.{Priv, Req, Inst, Tree, Map, Tables, points_in, tree_at, meets, inst_at}
 use Rattle.semantics.specs.Rules.{fits, named_req}
 use Rattle.log_tables.specs.Mapped.{names_field}
 

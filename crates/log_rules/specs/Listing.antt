@@ -2,8 +2,7 @@
 use Rattle.std.specs.Prelude.{◌≡◌, ℕ, ◌+◌, ◌==◌, nat_eq, Bool, true, false, not, ◌&&◌, ◌||◌, List, [], Option, MatchOption, unwrap_or}
 use Rattle.std.specs.HashSet.{HashSet, contains}
 use Rattle.std.specs.List.{list_any, list_all}
-use Rattle.spy_grammar.specs.declared.record.Record.{Record}
-use Rattle.semantics.specs.Points.{is_in}
+use Rattle.vocabulary.specs.Prelude.{Record, is_in}
 use Rattle.semantics.specs.Rules.{has_repeat, items_declared, items_listed}
 use Rattle.log_rules.specs.Gathered.{list_count}
 

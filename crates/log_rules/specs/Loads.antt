@@ -1,12 +1,7 @@
 -- How many requirements reduce at places.
 use Rattle.std.specs.Prelude.{◌≡◌, ℕ, ◌+◌, ◌==◌, Bool, ◌&&◌, List, filter, length, unwrap_or, if◌then◌else◌, sum_by}
 use Rattle.std.specs.HashMap.{get}
-use Rattle.semantics.specs.declared.places.Place.{Place}
-use Rattle.semantics.specs.declared.tables.Req.{Req}
-use Rattle.semantics.specs.declared.tables.Inst.{Inst}
-use Rattle.semantics.specs.Tables.{Tables}
-use Rattle.semantics.specs.Points.{is_in, points_in, same_place}
-use Rattle.semantics.specs.Kinds.{covers}
+use Rattle.vocabulary.specs.Prelude.{Place, Req, Inst, Tables, is_in, points_in, same_place, covers}
 use Rattle.semantics.specs.Rules.{reduces}
 use Rattle.log_rules.specs.declared.load.Loads.{Loads}
 use Rattle.log_rules.specs.Counts.{cut}

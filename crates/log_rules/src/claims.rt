@@ -5,8 +5,7 @@ ghost use Rattle.std.specs.HashMap.{get};
 ghost use Rattle.std.specs.List.{list_any};
 ghost use Rattle.log_rules.specs.Own.{Adds, clashes, clashes_in, same_place, claims_at, clashes_row};
 ghost use Rattle.log_rules.specs.declared.claims.OwnPlace.{OwnPlace};
-ghost use Rattle.privilege.specs.Interference.{agree};
-ghost use Rattle.privilege.specs.declared.kinds.Priv.{Priv};
+ghost use Rattle.vocabulary.specs.Prelude.{agree, Priv};
 
 use point_set::{PointSet, points_in};
 use privilege::{Priv, agree};

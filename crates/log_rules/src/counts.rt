@@ -1,7 +1,7 @@
 //! How much a record asks for, in points, cells and accesses.
 
 ghost use Rattle.std.specs.Prelude.{◌≡◌, ◌+◌, ◌-◌, ◌<◌, ◌^◌, ℕ, length, nat_lt};
-ghost use Rattle.semantics.specs.Tables.{points_of};
+ghost use Rattle.vocabulary.specs.Prelude.{points_of};
 ghost use Rattle.semantics.specs.Rules.{is_late, size_of, asked, accesses};
 ghost use Rattle.log_rules.specs.Counts.{cut, points_asked, cells_asked, Asks};
 

@@ -2,7 +2,7 @@
 
 ghost use Rattle.std.specs.Prelude.{◌≡◌};
 ghost use Rattle.std.specs.List.Sorted.{IsStrictlyIncreasing};
-ghost use Rattle.semantics.specs.Points.{is_within, meets};
+ghost use Rattle.vocabulary.specs.Prelude.{is_within, meets};
 
 use log_tables::is_in;
 

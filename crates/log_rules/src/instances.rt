@@ -4,7 +4,7 @@ ghost use Rattle.std.specs.Prelude.{◌≡◌, ◌||◌, false, [], not};
 ghost use Rattle.std.specs.List.{list_any};
 ghost use Rattle.std.specs.Option.{option_map_or};
 ghost use Rattle.log_rules.specs.Instances.{tree_of_req, points_of_req, root_points, fits_inst, is_mapped, is_any_mapped};
-ghost use Rattle.semantics.specs.Points.{points_in, is_within};
+ghost use Rattle.vocabulary.specs.Prelude.{points_in, is_within};
 ghost use Rattle.semantics.specs.Rules.{is_of_wrong_tree, is_of_wrong_kind, is_not_covered, is_mapped_again, is_reduction, reduces_in, tree_of_inst, is_of_tree, fits, lacks, named_req};
 
 use crate::fields::is_within;

@@ -2,9 +2,7 @@
 
 ghost use Rattle.std.specs.Prelude.{◌≡◌, ◌&&◌, [], ◌∷◌, map, IfOk, OnOk, sum_by};
 ghost use Rattle.std.specs.List.Sorted.{IsStrictlyIncreasing};
-ghost use Rattle.semantics.specs.declared.places.Place.{Place};
-ghost use Rattle.semantics.specs.Points.{points_in, same_place};
-ghost use Rattle.semantics.specs.Kinds.{covers};
+ghost use Rattle.vocabulary.specs.Prelude.{Place, points_in, same_place, covers};
 ghost use Rattle.semantics.specs.Rules.{has_much_load, reduces};
 ghost use Rattle.log_rules.specs.Counts.{cut};
 ghost use Rattle.log_rules.specs.Loads.{AreLoads, CountsAt, load_in, is_held, row_load, grid_load, inst_load};

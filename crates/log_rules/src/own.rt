@@ -3,9 +3,7 @@
 ghost use Rattle.std.specs.Prelude.{◌≡◌};
 ghost use Rattle.std.specs.List.{list_any};
 ghost use Rattle.std.specs.List.Sorted.{IsStrictlyIncreasing};
-ghost use Rattle.privilege.specs.Interference.{agree};
-ghost use Rattle.spy_grammar.specs.declared.record.Record.{Record};
-ghost use Rattle.semantics.specs.Points.{points_in, meets};
+ghost use Rattle.vocabulary.specs.Prelude.{agree, Record, points_in, meets};
 ghost use Rattle.semantics.specs.Rules.{interferes_with_own};
 ghost use Rattle.log_tables.specs.Views.{Ascends};
 ghost use Rattle.log_rules.specs.Own.{AreClaims, clashes_with, clashes_asked, first_clashes, clashes_row};

@@ -2,7 +2,7 @@
 
 ghost use Rattle.std.specs.Prelude.{◌≡◌, not};
 ghost use Rattle.log_rules.specs.Instances.{fields_of_req};
-ghost use Rattle.semantics.specs.Points.{is_within};
+ghost use Rattle.vocabulary.specs.Prelude.{is_within};
 ghost use Rattle.semantics.specs.Rules.{is_not_in_tree, has_wrong_fields, exceeds_tree};
 
 use crate::fields::is_within;

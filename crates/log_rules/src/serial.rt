@@ -3,7 +3,7 @@
 ghost use Rattle.std.specs.Prelude.{◌≡◌, ◌+◌, ◌==◌, nat_eq, IfOk, OnOk};
 ghost use Rattle.std.specs.HashSet.{contains};
 ghost use Rattle.std.specs.List.{list_any, list_all};
-ghost use Rattle.semantics.specs.Records.{records_of};
+ghost use Rattle.vocabulary.specs.Prelude.{records_of};
 ghost use Rattle.semantics.specs.Rules.{is_bad_serial};
 ghost use Rattle.log_rules.specs.Tallied.{IfTally};
 ghost use Rattle.log_rules.specs.Listing.{AddsAll, TellsRepeat, is_listed, lists_badly};

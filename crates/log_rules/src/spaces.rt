@@ -1,7 +1,7 @@
 //! Spaces, and which lie below which.
 
 ghost use Rattle.std.specs.Prelude.{◌≡◌, ◌==◌, ◌||◌, length, min};
-ghost use Rattle.semantics.specs.Points.{upward, space_above, is_in, is_in_tree};
+ghost use Rattle.vocabulary.specs.Prelude.{upward, space_above, is_in, is_in_tree};
 ghost use Rattle.semantics.specs.Rules.{is_sub_again, is_late_sub, is_too_deep, is_no_root};
 
 use log_tables::Draft;

@@ -2,9 +2,7 @@
 
 ghost use Rattle.std.specs.Prelude.{◌≡◌, nat_eq, ℕ, List, [], ◌++◌, ◌∷◌, IfOk, OnOk};
 ghost use Rattle.std.specs.HashSet.{contains};
-ghost use Rattle.spy_grammar.specs.declared.record.Record.{Record};
-ghost use Rattle.semantics.specs.Points.{points_in};
-ghost use Rattle.semantics.specs.Tables.{no_tables, with_record};
+ghost use Rattle.vocabulary.specs.Prelude.{Record, points_in, no_tables, with_record};
 ghost use Rattle.semantics.specs.Rules.{has_many_points, has_many_cells, has_many_accesses};
 ghost use Rattle.log_rules.specs.Own.{Adds, claims_at, claimed};
 ghost use Rattle.log_rules.specs.Listing.{AddsAll, ids_listed};

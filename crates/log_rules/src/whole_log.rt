@@ -5,7 +5,7 @@ ghost use Rattle.std.specs.HashSet.{contains};
 ghost use Rattle.std.specs.List.{list_any, list_all};
 ghost use Rattle.std.specs.Option.{is_some};
 ghost use Rattle.log_rules.specs.Gathered.{AreCompleted, AreRun, done_of, waits_of, task_run, list_count};
-ghost use Rattle.semantics.specs.Records.{records_of};
+ghost use Rattle.vocabulary.specs.Prelude.{records_of};
 ghost use Rattle.semantics.specs.Rules.{has_no_run, waits_for_none, runs_task, completes, items_listed};
 
 use spy_grammar::{Lined, Record};
@@ -25,8 +25,7 @@ pub struct WholeLog<'l> {
 impl<'l> Model for WholeLog<'l> {
     ghost use Rattle.std.specs.Prelude.{List, nat_eq};
     ghost use Rattle.std.specs.HashSet.{contains};
-    ghost use Rattle.spy_grammar.specs.declared.record.Record.{Record};
-    ghost use Rattle.semantics.specs.Records.{records_of};
+    ghost use Rattle.vocabulary.specs.Prelude.{Record, records_of};
     ghost use Rattle.log_rules.specs.Gathered.{IsGathered};
 
     ghost Value = { List Record };

@@ -2,10 +2,7 @@
 use Rattle.std.proofs.Common.{List, [], ◌∷◌, ◌++◌}
 use Rattle.std.specs.List.Sorted.{IsStrictlyIncreasing}
 use Rattle.std.proofs.lemmas.List.Elements.{All-push}
-use Rattle.semantics.specs.declared.tables.FieldSpace.{FieldSpace}
-use Rattle.semantics.specs.declared.tables.Item.{Item}
-use Rattle.semantics.specs.declared.tables.Req.{Req}
-use Rattle.semantics.specs.declared.tables.Inst.{Inst}
+use Rattle.vocabulary.specs.Prelude.{FieldSpace, Item, Req, Inst}
 use Rattle.log_tables.specs.Ascending.{FieldsAscend, body_fields}
 
 pub space_more : (fs : List FieldSpace) (its : List Item) (rs : List Req) (is : List Inst) (f : FieldSpace) → FieldsAscend fs its rs is → IsStrictlyIncreasing f.fields → FieldsAscend (fs ++ f ∷ []) its rs is

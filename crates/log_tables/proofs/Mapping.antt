@@ -2,8 +2,7 @@
 use Rattle.std.proofs.Common.{◌≡◌, ℕ, ◌+◌, ◌<◌, ◌==◌, Bool, true, false, ◌&&◌, ◌||◌, cond, List, [], ◌∷◌, ◌++◌, take, get_or, length, find, Option, Some, None, refl, ap, ◌∙◌, sym}
 use Rattle.std.specs.Option.{option_or, option_map}
 use Rattle.std.proofs.lemmas.List.Folds.{list_any_more, find-append}
-use Rattle.semantics.specs.declared.tables.Map.{Map}
-use Rattle.semantics.specs.Points.{is_in}
+use Rattle.vocabulary.specs.Prelude.{Map, is_in}
 use Rattle.log_tables.specs.declared.maps.FieldKey.{FieldKey}
 use Rattle.log_tables.specs.Mapped.{same_field, names_field, inst_mapped}
 

@@ -1,12 +1,8 @@
 -- Lists of fields that ascend.
 use Rattle.std.specs.Prelude.{ℕ, List, [], All}
 use Rattle.std.specs.List.Sorted.{IsStrictlyIncreasing}
-use Rattle.semantics.specs.declared.tables.FieldSpace.{FieldSpace}
-use Rattle.semantics.specs.declared.tables.Item.{Item}
-use Rattle.semantics.specs.declared.tables.ItemBody.{ItemBody}
+use Rattle.vocabulary.specs.Prelude.{FieldSpace, Item, ItemBody, Req, Inst}
 use Rattle.semantics.specs.declared.tables.ItemBody.TheVariants.{Task, Fill}
-use Rattle.semantics.specs.declared.tables.Req.{Req}
-use Rattle.semantics.specs.declared.tables.Inst.{Inst}
 
 -- The fields that an item covers by itself: those of a fill.
 abbrev pub body_fields : ItemBody → List ℕ

@@ -1,8 +1,7 @@
 -- Which fields of requirements are mapped.
 use Rattle.std.specs.Prelude.{ℕ, ◌==◌, ◌&&◌, Bool, List, find, nat_eq, Option}
 use Rattle.std.specs.Option.{option_map}
-use Rattle.semantics.specs.declared.tables.Map.{Map}
-use Rattle.semantics.specs.Points.{is_in}
+use Rattle.vocabulary.specs.Prelude.{Map, is_in}
 use Rattle.log_tables.specs.declared.maps.FieldKey.{FieldKey}
 
 -- Whether two keys are of one field.

@@ -2,9 +2,7 @@
 use Rattle.std.specs.Prelude.{◌≡◌, ℕ, ◌==◌, ◌&&◌, Bool, List, [], find, Option, MatchOption}
 use Rattle.std.specs.Borrow.{Bor}
 use Rattle.std.specs.Option.{option_map, option_map_or, option_and_then}
-use Rattle.semantics.specs.declared.tables.Part.{Part}
-use Rattle.semantics.specs.declared.tables.Sub.{Sub}
-use Rattle.semantics.specs.Tables.{Tables, Space}
+use Rattle.vocabulary.specs.Prelude.{Part, Sub, Tables, Space}
 use Rattle.log_tables.specs.declared.entries.Step.{Step}
 
 -- The declarations, each kind in the order in which they were made.

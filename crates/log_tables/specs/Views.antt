@@ -1,6 +1,6 @@
 -- How entries are seen, and what records have to have.
 use Rattle.std.specs.Prelude.{◌≡◌, ℕ, List}
-use Rattle.spy_grammar.specs.declared.record.Record.{Record}
+use Rattle.vocabulary.specs.Prelude.{Record}
 use Rattle.spy_grammar.specs.declared.record.Record.TheVariants.{Ispace, Part, Sub, Fields, Tree, Redop, Task, Req, Fill, Serial, Inst, Map, Run, Copy, Put, Reset, Fold, Merge}
 use Rattle.std.specs.List.Sorted.{IsStrictlyIncreasing}
 use Rattle.point_set.specs.Runs.{AreRuns}

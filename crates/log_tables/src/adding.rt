@@ -1,7 +1,7 @@
 //! One record more.
 
 ghost use Rattle.std.specs.Prelude.{◌≡◌, ◌<◌, ◌≤◌, ◌+◌, ◌-◌, ◌^◌, ◌++◌, ◌∷◌, [], length, OnOk, IfOk, OnErr};
-ghost use Rattle.semantics.specs.Tables.{with_node, with_record, privilege_of, coherence_of, points_of};
+ghost use Rattle.vocabulary.specs.Prelude.{with_node, with_record, privilege_of, coherence_of, points_of};
 ghost use Rattle.log_tables.specs.Views.{Ascends, IsOfRegions, IsOfItems, IsOfNodes};
 ghost use Rattle.spy_grammar.specs.declared.record.Record.TheVariants as records;
 ghost use Rattle.std.specs.List.Sorted.{IsStrictlyIncreasing};

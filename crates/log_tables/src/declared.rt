@@ -3,7 +3,7 @@
 ghost use Rattle.std.specs.Prelude.{◌≡◌, ◌==◌, ◌&&◌, [], MatchOption};
 ghost use Rattle.std.specs.List.{list_any};
 ghost use Rattle.std.specs.List.Sorted.{IsStrictlyIncreasing};
-ghost use Rattle.semantics.specs.Points.{fields_in, points_in, space_above};
+ghost use Rattle.vocabulary.specs.Prelude.{fields_in, points_in, space_above};
 ghost use Rattle.semantics.specs.Rules.{is_declared, runs_item, space_id, part_id, field_space_id, tree_id, operator_id, item_id, task_id, inst_id};
 
 use crate::draft::Draft;

@@ -2,7 +2,7 @@
 
 ghost use Rattle.std.specs.Prelude.{◌≡◌, ◌++◌, ◌∷◌, [], ◌^◌, ◌<◌, length, OnOk, OnErr};
 ghost use Rattle.std.specs.List.Sorted.{IsStrictlyIncreasing};
-ghost use Rattle.semantics.specs.Tables.{no_tables, with_item, with_node, with_record};
+ghost use Rattle.vocabulary.specs.Prelude.{no_tables, with_item, with_node, with_record};
 ghost use Rattle.log_tables.specs.Ascending.{body_fields};
 ghost use Rattle.log_tables.specs.Views.{Declares};
 ghost use Rattle.spy_grammar.specs.declared.record.Record.TheVariants as records;
@@ -34,7 +34,7 @@ pub struct Draft<P: PointSet> {
 }
 
 impl<P: PointSet> Model for Draft<P> {
-    ghost use Rattle.semantics.specs.Tables.{Tables};
+    ghost use Rattle.vocabulary.specs.Prelude.{Tables};
     ghost use Rattle.log_tables.specs.Ascending.{FieldsAscend};
 
     ghost Value = { Tables };

@@ -2,7 +2,7 @@
 
 ghost use Rattle.std.specs.Prelude.{◌≡◌};
 ghost use Rattle.std.specs.List.Sorted.{IsStrictlyIncreasing};
-ghost use Rattle.semantics.specs.Points.{is_in};
+ghost use Rattle.vocabulary.specs.Prelude.{is_in};
 
 /// Whether a field is in a list, by a binary search.
 pub fn is_in(fields: &[u32], field: u32) -> bool

@@ -2,11 +2,8 @@
 
 ghost use Rattle.std.specs.Prelude.{All, ◌≡◌, ◌==◌, ◌&&◌, ◌≤◌, length, map, position, slice_get};
 ghost use Rattle.std.specs.Option.{option_and_then, option_copied, option_map};
-ghost use Rattle.semantics.specs.Tables.{place_of, reqs_before};
-ghost use Rattle.semantics.specs.Points.{tree_at, part_at};
+ghost use Rattle.vocabulary.specs.Prelude.{place_of, reqs_before, tree_at, part_at, inst_at, req_at};
 ghost use Rattle.semantics.specs.Rules.{is_sub};
-ghost use Rattle.semantics.specs.Steps.{inst_at};
-ghost use Rattle.semantics.specs.Reads.{req_at};
 ghost use Rattle.std.specs.Prelude.{IfSome, find};
 ghost use Rattle.std.specs.List.Sorted.{IsStrictlyIncreasing};
 ghost use Rattle.log_tables.specs.Ascending.{body_fields};

@@ -29,7 +29,7 @@ pub struct Maps {
 impl Model for Maps {
     ghost use Rattle.std.specs.Prelude.{◌≡◌, List};
     ghost use Rattle.indexmap.specs.IndexMap.{get};
-    ghost use Rattle.semantics.specs.declared.tables.Map.{Map};
+    ghost use Rattle.vocabulary.specs.Prelude.{Map};
     ghost use Rattle.log_tables.specs.declared.maps.FieldKey.{FieldKey};
     ghost use Rattle.log_tables.specs.Mapped.{same_field, inst_mapped};
 

@@ -3,7 +3,7 @@
 ghost use Rattle.std.specs.Prelude.{◌≡◌, ◌++◌, ◌∷◌, [], ◌==◌, ◌&&◌, ◌+◌, ◌<◌, ◌≤◌, ◌^◌, length, find, nat_eq, OnOk, OnErr};
 ghost use Rattle.std.specs.List.{position_from};
 ghost use Rattle.std.specs.Option.{option_copied};
-ghost use Rattle.semantics.specs.Tables.{reqs_before};
+ghost use Rattle.vocabulary.specs.Prelude.{reqs_before};
 
 use crate::entries::ReqKey;
 use crate::rows::Rows;
@@ -22,8 +22,7 @@ pub struct Reqs {
 impl Model for Reqs {
     ghost use Rattle.std.specs.Prelude.{◌≡◌, List, unwrap_or, nat_eq, ℕ};
     ghost use Rattle.indexmap.specs.IndexMap.{get};
-    ghost use Rattle.semantics.specs.declared.tables.Req.{Req};
-    ghost use Rattle.semantics.specs.Tables.{reqs_before};
+    ghost use Rattle.vocabulary.specs.Prelude.{Req, reqs_before};
 
     ghost Value = { List Req };
 

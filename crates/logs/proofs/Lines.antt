@@ -3,11 +3,7 @@ use Rattle.std.proofs.Common.{ℕ, ◌<◌, inl, inr, List, [], ◌∷◌, lengt
 use Rattle.std.specs.Option.{IsSome, option_map, option_map_or, option_and_then}
 use Rattle.std.proofs.lemmas.Option.{slice_get_cases}
 use Rattle.std.proofs.lemmas.Grind.{common_steps}
-use Rattle.semantics.specs.declared.tables.Item.{Item}
-use Rattle.semantics.specs.declared.tables.Serial.{Serial}
-use Rattle.semantics.specs.Tables.{Tables}
-use Rattle.semantics.specs.Points.{is_in}
-use Rattle.semantics.specs.Steps.{id_of}
+use Rattle.vocabulary.specs.Prelude.{Item, Serial, Tables, is_in, id_of}
 use Rattle.logs.specs.Listing.{item_line, line_listing}
 
 listing_needs : (serials : List Serial) (id : ℕ) → IsSome (line_listing serials id) → 0 < length serials

@@ -1,10 +1,7 @@
 -- Which tables are those of a log.
 use Rattle.std.specs.Prelude.{◌≡◌, ℕ, List, None}
 use Rattle.std.specs.List.{AllByRecursion}
-use Rattle.spy_grammar.specs.declared.record.Lined.{Lined}
-use Rattle.spy_grammar.specs.Spelling.{Good}
-use Rattle.semantics.specs.Records.{records_of, AreLines}
-use Rattle.semantics.specs.Tables.{Tables, tables_of}
+use Rattle.vocabulary.specs.Prelude.{Lined, Good, records_of, AreLines, Tables, tables_of}
 use Rattle.semantics.specs.Faults.{declaration_fault}
 
 -- The tables are those of good records, on lines that ascend, that break no rule of a log's frame and no rule on single records.

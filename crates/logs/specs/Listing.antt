@@ -2,10 +2,7 @@
 use Rattle.std.specs.Prelude.{◌≡◌, ℕ, ◌<◌, ◌==◌, List, length, find, position, unwrap_or, slice_index, Option}
 use Rattle.std.specs.Option.{option_map, option_and_then}
 use Rattle.std.specs.Prelude.{slice_get}
-use Rattle.semantics.specs.declared.tables.Item.{Item}
-use Rattle.semantics.specs.declared.tables.Serial.{Serial}
-use Rattle.semantics.specs.Points.{is_in}
-use Rattle.semantics.specs.Tables.{Tables}
+use Rattle.vocabulary.specs.Prelude.{Item, Serial, is_in, Tables}
 
 -- The line of the first of some lists that has the id.
 abbrev pub line_listing : List Serial → ℕ → Option ℕ

@@ -1,6 +1,6 @@
 -- What is looked up of tables beside them.
 use Rattle.std.specs.Prelude.{◌≡◌, ℕ, List, Option, map, length}
-use Rattle.semantics.specs.Tables.{Tables, Space}
+use Rattle.vocabulary.specs.Prelude.{Tables, Space}
 use Rattle.semantics.specs.SerialOrder.{serial}
 use Rattle.logs.specs.Listing.{line_listing, ArePlacesIn}
 

@@ -1,9 +1,7 @@
 -- Which requirements are mapped.
 use Rattle.std.specs.Prelude.{Bool, is_some}
 use Rattle.std.specs.List.{list_all}
-use Rattle.semantics.specs.declared.tables.Req.{Req}
-use Rattle.semantics.specs.Tables.{Tables}
-use Rattle.semantics.specs.Steps.{mapped}
+use Rattle.vocabulary.specs.Prelude.{Req, Tables, mapped}
 
 -- Whether each field of a requirement is mapped to an instance.
 abbrev pub is_mapped : Tables → Req → Bool

@@ -7,10 +7,7 @@ ghost use Rattle.log_tables.specs.Regions.{regions_of, space_of};
 ghost use Rattle.region_tree.specs.Paths.{IsPath};
 ghost use Rattle.region_tree.specs.Sound.{IsSound};
 ghost use Rattle.semantics.specs.SerialOrder.{serial, serial_place};
-ghost use Rattle.semantics.specs.Steps.{inst_at, mapped};
-ghost use Rattle.semantics.specs.Tables.{reqs_before};
-ghost use Rattle.semantics.specs.Points.{points_in};
-ghost use Rattle.semantics.specs.Reads.{req_at};
+ghost use Rattle.vocabulary.specs.Prelude.{inst_at, mapped, reqs_before, points_in, req_at};
 ghost use Rattle.semantics.specs.Faults.{at_line, unmapped_fault};
 ghost use Rattle.spy_grammar.specs.declared.code.Code.TheVariants as codes;
 ghost use Rattle.logs.specs.Faultless.{AreDeclared};
@@ -43,7 +40,7 @@ pub struct Log<'a, P: PointSet + Copy> {
 impl<'a, P: PointSet + Copy> Model for Log<'a, P> {
     ghost use Rattle.std.specs.Prelude.{◌≡◌, nat_eq};
     ghost use Rattle.std.specs.HashMap.{get};
-    ghost use Rattle.semantics.specs.Tables.{Tables};
+    ghost use Rattle.vocabulary.specs.Prelude.{Tables};
     ghost use Rattle.log_tables.specs.Regions.{regions_of};
     ghost use Rattle.region_tree.specs.Sound.{IsSound};
     ghost use Rattle.logs.specs.Faultless.{AreDeclared};

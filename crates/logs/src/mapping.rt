@@ -3,7 +3,7 @@
 ghost use Rattle.std.specs.Prelude.{◌≡◌, MatchOption, not, find, is_some};
 ghost use Rattle.std.specs.List.{list_all};
 ghost use Rattle.std.specs.Option.{option_copied};
-ghost use Rattle.semantics.specs.Steps.{mapped};
+ghost use Rattle.vocabulary.specs.Prelude.{mapped};
 ghost use Rattle.logs.specs.Mapping.{is_mapped};
 
 use log_tables::Draft;

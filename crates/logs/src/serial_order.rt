@@ -3,8 +3,7 @@
 ghost use Rattle.std.specs.Prelude.{◌≡◌, ◌++◌, ◌<◌, ℕ, nat_eq, map, flat_map, length, IfOk, OnOk, if◌then◌else◌, Some};
 ghost use Rattle.std.specs.List.{range_with_len};
 ghost use Rattle.std.specs.HashMap.{get};
-ghost use Rattle.semantics.specs.Points.{is_in};
-ghost use Rattle.semantics.specs.Tables.{place_of};
+ghost use Rattle.vocabulary.specs.Prelude.{is_in, place_of};
 ghost use Rattle.semantics.specs.SerialOrder.{listed, serial};
 ghost use Rattle.logs.specs.Listing.{line_listing, ArePlacesIn};
 

@@ -5,18 +5,8 @@ use Rattle.std.proofs.lemmas.Bool.{eqb-true}
 use Rattle.std.proofs.lemmas.Bool.Decides.{nat_tests}
 use Rattle.std.proofs.lemmas.List.Kept.{AllPairs-filter}
 use Rattle.spy_words.specs.Classes as classes
-use Rattle.spy_grammar.specs.declared.record.Record.{Record}
+use Rattle.vocabulary.specs.Prelude.{Record, Lined, Good, may_read, Place, Req, records_of, Tables, Space, with_record, tables_of, points_in, req_grid, reqs_of, comes_first, Command}
 use Rattle.spy_grammar.specs.declared.record.Record.TheVariants as records
-use Rattle.spy_grammar.specs.declared.record.Lined.{Lined}
-use Rattle.spy_grammar.specs.Spelling.{Good}
-use Rattle.privilege.specs.Allowed.{may_read}
-use Rattle.semantics.specs.declared.places.Place.{Place}
-use Rattle.semantics.specs.declared.tables.Req.{Req}
-use Rattle.semantics.specs.Records.{records_of}
-use Rattle.semantics.specs.Tables.{Tables, Space, with_record, tables_of}
-use Rattle.semantics.specs.Points.{points_in}
-use Rattle.semantics.specs.Kinds.{req_grid, reqs_of, comes_first}
-use Rattle.semantics.specs.declared.command.Command.{Command}
 use Rattle.log_laws.proofs.lemmas.Members.{Member, Each, each_more, member_map, member_filter, found_at, none_or_some}
 use Rattle.log_laws.proofs.lemmas.Apart.{PairsBy, Rise, all_pairs, pairs_from, pairs_map, pairs_so, pairs_flat, fields_rise, points_rise}
 use Rattle.log_laws.proofs.lemmas.Sane.{AreSane}

@@ -3,11 +3,8 @@ use Rattle.std.proofs.Common.{◌≡◌, ◌≢◌, ℕ, zero, suc, ◌+◌, ◌
 use Rattle.std.specs.List.{AllByRecursion}
 use Rattle.std.proofs.lemmas.Bool.{cond_both, and_parts, eqb-true, eq-eqb, false_from_ne_true}
 use Rattle.std.proofs.lemmas.Bool.Decides.{eqb_tells, nat_tests}
-use Rattle.value_terms.specs.declared.terms.Base.{Base}
+use Rattle.vocabulary.specs.Prelude.{Base, Contribution, Group, Bag, Value, comes_before, counted, joined, extended, add, add_one, fold_parts, fold_in, CountsEach, IsWellFormedBag, NeighboursDiffer, IsWellFormed}
 use Rattle.value_terms.specs.declared.terms.Base.TheVariants as bases
-use Rattle.value_terms.specs.declared.terms.Contribution.{Contribution}
-use Rattle.value_terms.specs.declared.bag.Group.{Group}
-use Rattle.value_terms.specs.Values.{Bag, Value, comes_before, counted, joined, extended, add, add_one, fold_parts, fold_in, CountsEach, IsWellFormedBag, NeighboursDiffer, IsWellFormed}
 use Rattle.value_terms.proofs.lemmas.Order.{Below, compared, before_trans, below}
 use Rattle.value_terms.proofs.lemmas.Counting.{counts}
 use Rattle.long_values.specs.LongValues.{Long, raw, init, ident, const, out, added, Readings, add_long, fold_long}

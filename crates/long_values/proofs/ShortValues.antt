@@ -2,11 +2,8 @@
 use Rattle.std.proofs.Common.{◌≡◌, ℕ, ◌+◌, inl, inr, false, ◌&&◌, ◌==◌, List, [], ◌∷◌, refl, sym, ap, ◌∙◌, arith, subst}
 use Rattle.std.proofs.lemmas.Bool.{cond_both, and_parts, eqb-true}
 use Rattle.std.proofs.lemmas.Bool.Decides.{eqb_tells, nat_tests}
-use Rattle.value_terms.specs.declared.terms.Base.{Base}
+use Rattle.vocabulary.specs.Prelude.{Base, Contribution, Group, Bag, Value, counted, joined, comes_before, extended, add, add_one, plain, fold_parts, fold_in}
 use Rattle.value_terms.specs.declared.terms.Base.TheVariants.{Raw, Ident}
-use Rattle.value_terms.specs.declared.terms.Contribution.{Contribution}
-use Rattle.value_terms.specs.declared.bag.Group.{Group}
-use Rattle.value_terms.specs.Values.{Bag, Value, counted, joined, comes_before, extended, add, add_one, plain, fold_parts, fold_in}
 use Rattle.value_terms.proofs.lemmas.Order.{compared}
 use Rattle.value_terms.proofs.lemmas.Counting.{counts, pair_path, joined_counted}
 use Rattle.value_terms.proofs.lemmas.Changes.{add_add, add_raw, extended_later}

@@ -1,17 +1,8 @@
 -- Execution over long values: what the cells hold, and beside it all reads so far.
 use Rattle.std.specs.Prelude.{◌≡◌, ℕ, Bool, ◌&&◌, ◌==◌, List, [], ◌∷◌, ◌++◌, filter, flat_map, Contains, if◌then◌else◌}
 use Rattle.std.specs.Option.{option_map_or}
-use Rattle.value_terms.specs.Values.{Value}
-use Rattle.semantics.specs.declared.places.Place.{Place}
-use Rattle.semantics.specs.declared.places.Cell.{Cell}
-use Rattle.semantics.specs.declared.moves.Move.{Move}
+use Rattle.vocabulary.specs.Prelude.{Value, Place, Cell, Move, Req, Tables, place_of, Step, is_home_cell, same_cell, IsInterleaving, req_at}
 use Rattle.semantics.specs.declared.moves.Move.TheVariants.{Read, Write, Reduce, Copy, Put, Reset, Fold}
-use Rattle.semantics.specs.declared.tables.Req.{Req}
-use Rattle.semantics.specs.Tables.{Tables, place_of}
-use Rattle.semantics.specs.Steps.{Step}
-use Rattle.semantics.specs.Execution.{is_home_cell, same_cell}
-use Rattle.semantics.specs.Interleavings.{IsInterleaving}
-use Rattle.semantics.specs.Reads.{req_at}
 use Rattle.long_values.specs.LongValues.{Long, raw, init, ident, const, out, Readings, add_long, fold_long, short}
 use Rattle.long_values.specs.LongSequential.{LongRead, readings, places_read, wanted_long}
 

@@ -1,19 +1,12 @@
 -- What `check` finds, by long values.
 use Rattle.std.specs.Prelude.{◌≡◌, ◌≢◌, ℕ, List, Some, None, ◌⊎◌, Contains}
-use Rattle.spy_grammar.specs.declared.record.Lined.{Lined}
+use Rattle.vocabulary.specs.Prelude.{Lined, Reads, line_count, Tables, tables_of, place_of, Step, IsInterleaving, IsRaceFree, Seen, HasNoCycle}
 use Rattle.findings.specs.declared.finding.Finding.{Finding}
 use Rattle.findings.specs.declared.finding.Finding.TheVariants as findings
 use Rattle.semantics.specs.declared.command.Command.TheVariants.{Check}
-use Rattle.semantics.specs.Records.{Reads, line_count}
 use Rattle.semantics.specs.TextFaults.{text_fault}
 use Rattle.semantics.specs.Faults.{log_fault}
-use Rattle.semantics.specs.Tables.{Tables, tables_of, place_of}
-use Rattle.semantics.specs.Steps.{Step}
-use Rattle.semantics.specs.Interleavings.{IsInterleaving}
-use Rattle.semantics.specs.Races.{IsRaceFree}
-use Rattle.semantics.specs.Reads.{Seen}
 use Rattle.outcomes.specs.Outcome.{CheckFinds, HasTextFault}
-use Rattle.semantics.specs.Events.{HasNoCycle}
 use Rattle.semantics.specs.Counts.{operation_count, read_count, task_count}
 use Rattle.long_values.specs.LongSequential.{LongRead, wanted_long}
 use Rattle.long_values.specs.LongExecution.{start_long, executed_long, IsShort, IsRightLong}

@@ -2,25 +2,11 @@
 
 ghost use Rattle.std.specs.Prelude.{◌≡◌, ◌↔◌, ℕ, true, None, List, AllPairs, Contains};
 ghost use Rattle.std.specs.List.{AllByRecursion};
-ghost use Rattle.spy_grammar.specs.declared.record.Lined.{Lined};
-ghost use Rattle.spy_grammar.specs.Spelling.{Good};
-ghost use Rattle.semantics.specs.Records.{records_of};
-ghost use Rattle.semantics.specs.Kinds.{comes_first};
-ghost use Rattle.value_terms.specs.declared.terms.Contribution.{Contribution};
-ghost use Rattle.value_terms.specs.Values.{Value};
-ghost use Rattle.semantics.specs.declared.places.Place.{Place};
-ghost use Rattle.semantics.specs.declared.places.Cell.{Cell};
-ghost use Rattle.semantics.specs.Tables.{Tables, place_of, tables_of};
-ghost use Rattle.semantics.specs.Interleavings.{IsInterleaving};
-ghost use Rattle.semantics.specs.Reads.{IsRight};
-ghost use Rattle.semantics.specs.declared.command.Command.{Command};
+ghost use Rattle.vocabulary.specs.Prelude.{Lined, Good, records_of, comes_first, Contribution, Value, Place, Cell, Tables, place_of, tables_of, IsInterleaving, IsRight, Command, Step, after_items, wanted, start, executed, ReadsIn};
 ghost use Rattle.semantics.specs.declared.command.Command.TheVariants.{Check};
 ghost use Rattle.semantics.specs.Faults.{log_fault};
 ghost use Rattle.findings.specs.declared.finding.Finding.{Finding};
 ghost use Rattle.outcomes.specs.Outcome.{CheckFinds, IsFound, IsOutcome};
-ghost use Rattle.semantics.specs.Steps.{Step};
-ghost use Rattle.semantics.specs.Sequential.{after_items, wanted};
-ghost use Rattle.semantics.specs.Execution.{start, executed, ReadsIn};
 ghost use Rattle.long_values.specs.LongValues.{Readings, Long, add_long, short};
 ghost use Rattle.long_values.specs.LongSequential.{LongRead, Places, after_items_long, places_read, wanted_long};
 ghost use Rattle.long_values.specs.LongExecution.{LongState, start_long, read_place, executed_long, reads_at, IsShort, IsRightLong};

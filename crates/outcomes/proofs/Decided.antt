@@ -2,8 +2,7 @@
 use Rattle.std.proofs.Common.{◌≡◌, ℕ, ◌<◌, ◌⊎◌, inl, inr, Bool, true, false, List, [], ◌∷◌, ◌++◌, length, refl, sym, ◌∙◌, subst, append_assoc, Contains, slice_get, nat_lt}
 use Rattle.std.proofs.lemmas.Bool.{cases_Bool, cases_eq, true≢false, false_from_ne_true, lt-ltb, ltb-true}
 use Rattle.std.proofs.lemmas.Option.{none-some, same_Some, slice_get_within}
-use Rattle.semantics.specs.Points.{is_in}
-use Rattle.semantics.specs.Events.{Node, WaitsOn, IsChain, Before}
+use Rattle.vocabulary.specs.Prelude.{is_in, Node, WaitsOn, IsChain, Before}
 use Rattle.log_laws.proofs.lemmas.Members.{Member, member_of, contains_of, member_append, member_in, is_in_of, none_or_some, only}
 
 -- A fact holds, or it fails.

@@ -4,27 +4,15 @@ use Rattle.std.specs.List.{AllByRecursion, range_with_len}
 use Rattle.std.proofs.lemmas.Bool.{cases_Bool, true≢false}
 use Rattle.std.proofs.lemmas.Option.{none-some, slice_get_within}
 use Rattle.std.proofs.lemmas.List.Filters.{length-filter_both}
-use Rattle.privilege.specs.declared.kinds.Kind.{Kind}
+use Rattle.vocabulary.specs.Prelude.{Kind, stronger, Lined, Good, Command, Place, records_of, Tables, tables_of, is_free, item_kind, item_places, kind_at, least_of, least_place, pairs, strongest, Node, WaitsOn, Before, IsCycle, AreLinked, HasNoCycle, graph_of, id_of, IsRaceFree, Seen, Differs, IsRight, shown_difference, want_of, Cell, Ask, Link}
 use Rattle.privilege.specs.declared.kinds.Kind.TheVariants.{Free, Turn, Before as FixedOrder}
-use Rattle.privilege.specs.Interference.{stronger}
 use Rattle.findings.specs.declared.finding.Dep.{Dep}
 use Rattle.findings.specs.declared.finding.Finding.{Finding}
 use Rattle.findings.specs.declared.finding.Finding.TheVariants.{Accepted, Ordered, Deps, Spare, Cycle, Race, Unordered, Differ, Fault, NoRead, Why}
-use Rattle.spy_grammar.specs.declared.record.Lined.{Lined}
-use Rattle.spy_grammar.specs.Spelling.{Good}
-use Rattle.semantics.specs.declared.command.Command.{Command}
 use Rattle.semantics.specs.declared.command.Command.TheVariants as commands
-use Rattle.semantics.specs.declared.places.Place.{Place}
-use Rattle.semantics.specs.Records.{records_of}
-use Rattle.semantics.specs.Tables.{Tables, tables_of}
 use Rattle.semantics.specs.Counts.{task_count, operation_count, read_count, wait_count}
-use Rattle.semantics.specs.Kinds.{is_free, item_kind, item_places, kind_at, least_of, least_place, pairs, strongest}
 use Rattle.semantics.specs.SerialOrder.{by_serial}
-use Rattle.semantics.specs.Events.{Node, WaitsOn, Before, IsCycle, AreLinked, HasNoCycle, graph_of}
 use Rattle.semantics.specs.ReplayOrder.{replay_order, is_stuck, shown_cycle}
-use Rattle.semantics.specs.Steps.{id_of}
-use Rattle.semantics.specs.Races.{IsRaceFree}
-use Rattle.semantics.specs.Reads.{Seen, Differs, IsRight, shown_difference, want_of}
 use Rattle.semantics.specs.Shown.{event_of, IsKept, is_task_at, run_of, task_pairs}
 use Rattle.semantics.specs.Faults.{log_fault}
 use Rattle.log_laws.proofs.lemmas.Admitted.{faultless}
@@ -33,9 +21,6 @@ use Rattle.log_laws.proofs.lemmas.Cycles.{cycle_is_stuck, none_shown, shown_is_c
 use Rattle.log_laws.proofs.lemmas.Rounds.{before_met}
 use Rattle.log_laws.proofs.lemmas.Laws.{faultless_linked}
 use Rattle.trail_laws.proofs.lemmas.Trails.{some_list, why_faults}
-use Rattle.semantics.specs.declared.places.Cell.{Cell}
-use Rattle.semantics.specs.declared.links.Ask.{Ask}
-use Rattle.semantics.specs.declared.links.Link.{Link}
 use Rattle.semantics.specs.Links.{AreLinksOf, IsNoRead}
 use Rattle.outcomes.specs.Outcome.{CheckFinds, OrderedFinds, DepsFinds, SpareFinds, WhyFinds, Finds, IsFound, ShowsCycle, ShowsRace, ask_shown, link_shown, before_count, dependences, events_of_wait}
 use Rattle.outcomes.proofs.Decided.{Told, before_told, last_wait}

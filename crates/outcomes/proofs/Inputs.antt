@@ -5,12 +5,8 @@ use Rattle.std.specs.List.{list_all}
 use Rattle.std.proofs.lemmas.Bool.{not-false}
 use Rattle.std.proofs.lemmas.List.{length-drop}
 use Rattle.std.proofs.lemmas.List.Splits.{length-slice_split}
-use Rattle.spy_words.specs.declared.fault.LineFault.{LineFault}
-use Rattle.spy_grammar.specs.declared.record.Record.{Record}
-use Rattle.spy_grammar.specs.declared.record.Lined.{Lined}
-use Rattle.spy_grammar.specs.Reading.{line_at}
+use Rattle.vocabulary.specs.Prelude.{LineFault, Record, Lined, line_at, parts_of, line_count, Hold, Reads}
 use Rattle.spy_grammar.proofs.lemmas.RowLaws.{line_blank, line_good, line_spelled}
-use Rattle.semantics.specs.Records.{parts_of, line_count, Hold, Reads}
 use Rattle.semantics.specs.TextFaults.{line_fault, lines_fault, text_fault}
 use Rattle.log_laws.proofs.lemmas.Members.{both_none}
 use Rattle.outcomes.proofs.lemmas.Clean.{clean}

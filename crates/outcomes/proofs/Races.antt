@@ -7,13 +7,8 @@ use Rattle.std.specs.List.{position_or_len, range_with_len}
 use Rattle.std.proofs.lemmas.Bool.Decides.{nat_tests}
 use Rattle.std.proofs.lemmas.Option.{slice_get_within}
 use Rattle.std.specs.Prelude.{position, unwrap_or}
-use Rattle.semantics.specs.declared.places.Cell.{Cell}
-use Rattle.semantics.specs.declared.moves.Move.{Move}
-use Rattle.semantics.specs.Tables.{Tables}
-use Rattle.semantics.specs.Kinds.{comes_first}
-use Rattle.semantics.specs.Events.{graph_of}
+use Rattle.vocabulary.specs.Prelude.{Cell, Move, Tables, comes_first, graph_of, steps}
 use Rattle.semantics.specs.ReplayOrder.{replay_order}
-use Rattle.semantics.specs.Steps.{steps}
 use Rattle.semantics.specs.Shown.{replay_place, IsShownRace}
 use Rattle.log_laws.proofs.lemmas.Members.{Member, member_of}
 use Rattle.log_laws.proofs.lemmas.StepLists.{of_node}

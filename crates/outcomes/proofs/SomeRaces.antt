@@ -2,13 +2,9 @@
 use Rattle.std.proofs.Common.{◌≡◌, ◌≢◌, ℕ, ◌<◌, ◌≤◌, ◌⊎◌, inl, inr, Bool, true, false, List, [], ◌∷◌, length, map, flat_map, refl, sym, ap, ◌∙◌, subst, arith, Contains, nat_lt}
 use Rattle.std.proofs.lemmas.Bool.{cases_eq}
 use Rattle.std.proofs.lemmas.Bool.Decides.{nat_tests}
-use Rattle.semantics.specs.declared.places.Cell.{Cell}
-use Rattle.semantics.specs.Tables.{Tables}
-use Rattle.semantics.specs.Kinds.{comes_first}
-use Rattle.semantics.specs.Events.{graph_of, Before}
+use Rattle.vocabulary.specs.Prelude.{Cell, Tables, comes_first, graph_of, Before, Step, steps, Access, Untouched, Writes, Folds, access, conflicts, Race, IsRaceFree}
 use Rattle.semantics.specs.ReplayOrder.{replay_order}
-use Rattle.semantics.specs.Steps.{Step, steps}
-use Rattle.semantics.specs.Races.{Access, Untouched, Reads, Writes, Folds, access, conflicts, Race, IsRaceFree}
+use Rattle.semantics.specs.Races.{Reads}
 use Rattle.semantics.specs.Shown.{replay_place, IsShownRace}
 use Rattle.log_laws.proofs.lemmas.Members.{Member, member_of, contains_of, member_flat, flat_member, member_map, map_member}
 use Rattle.log_laws.proofs.lemmas.Tidy.{ends, meet, untouched}

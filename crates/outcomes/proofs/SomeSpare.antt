@@ -3,9 +3,7 @@ use Rattle.std.proofs.Common.{◌≡◌, ℕ, zero, suc, ◌<◌, ◌≤◌, ◌
 use Rattle.std.proofs.lemmas.Bool.{cases_Bool, cases_eq, true≢false}
 use Rattle.std.proofs.lemmas.Option.{none-some, same_Some, slice_get_within}
 use Rattle.std.specs.List.{range_with_len}
-use Rattle.semantics.specs.declared.waits.ListedWait.{ListedWait}
-use Rattle.semantics.specs.Points.{is_in}
-use Rattle.semantics.specs.Events.{Node, WaitsOn, Before}
+use Rattle.vocabulary.specs.Prelude.{ListedWait, is_in, Node, WaitsOn, Before}
 use Rattle.semantics.specs.ReplayOrder.{waits_at, done_at}
 use Rattle.semantics.specs.Spare.{IsBeforeAnother, IsSpare, AreSpareWaits}
 use Rattle.log_laws.proofs.lemmas.Apart.{number_in}

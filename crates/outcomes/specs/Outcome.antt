@@ -1,6 +1,6 @@
 -- What each command finds in an input: the first that holds of a fault, a cycle, a race or an unordered pair, and a differing read; and else its counts, with what it lists, or where a read came from.
 use Rattle.std.specs.Prelude.{◌≡◌, ℕ, ◌+◌, List, map, filter, filter_map, length, Some, None, option_map, slice_get, unwrap_or, ◌⊎◌}
-use Rattle.value_terms.specs.Values.{Value}
+use Rattle.vocabulary.specs.Prelude.{Value, Lined, Place, Cell, ListedWait, Ask, Link, LinkKind, Reads, records_of, text_of, line_count, Tables, tables_of, pairs, item_kind, is_before, least_place, graph_of, IsCycle, HasNoCycle, id_of, IsRaceFree, Seen, want_of, IsRight, Differs, shown_difference, Command, Fault}
 use Rattle.findings.specs.declared.finding.Dep.{Dep}
 use Rattle.findings.specs.declared.finding.Finding.{Finding}
 use Rattle.findings.specs.declared.finding.Finding.TheVariants as findings
@@ -8,29 +8,13 @@ use Rattle.findings.specs.declared.finding.WhyAsk.{WhyAsk}
 use Rattle.findings.specs.declared.finding.WhyKind.{WhyKind}
 use Rattle.findings.specs.declared.finding.WhyKind.TheVariants as shown
 use Rattle.findings.specs.declared.finding.WhyLink.{WhyLink}
-use Rattle.spy_grammar.specs.declared.record.Lined.{Lined}
-use Rattle.semantics.specs.declared.places.Place.{Place}
-use Rattle.semantics.specs.declared.places.Cell.{Cell}
-use Rattle.semantics.specs.declared.waits.ListedWait.{ListedWait}
-use Rattle.semantics.specs.declared.links.Ask.{Ask}
-use Rattle.semantics.specs.declared.links.Link.{Link}
-use Rattle.semantics.specs.declared.links.LinkKind.{LinkKind}
 use Rattle.semantics.specs.declared.links.LinkKind.TheVariants as kinds
-use Rattle.semantics.specs.Records.{Reads, records_of, text_of, line_count}
-use Rattle.semantics.specs.Tables.{Tables, tables_of}
 use Rattle.semantics.specs.Counts.{task_count, operation_count, read_count, wait_count}
-use Rattle.semantics.specs.Kinds.{pairs, item_kind, is_before, least_place}
 use Rattle.semantics.specs.SerialOrder.{by_serial}
-use Rattle.semantics.specs.Events.{graph_of, IsCycle, HasNoCycle}
 use Rattle.semantics.specs.ReplayOrder.{waits_at, shown_cycle}
 use Rattle.semantics.specs.Spare.{AreSpareWaits}
-use Rattle.semantics.specs.Steps.{id_of}
 use Rattle.semantics.specs.Links.{AreLinksOf, IsNoRead}
-use Rattle.semantics.specs.Races.{IsRaceFree}
-use Rattle.semantics.specs.Reads.{Seen, want_of, IsRight, Differs, shown_difference}
-use Rattle.semantics.specs.declared.command.Command.{Command}
 use Rattle.semantics.specs.declared.command.Command.TheVariants as commands
-use Rattle.semantics.specs.declared.faults.Fault.{Fault}
 use Rattle.semantics.specs.TextFaults.{text_fault}
 use Rattle.semantics.specs.Faults.{log_fault}
 use Rattle.semantics.specs.Shown.{event_of, task_pairs, AreKept, IsShownPair, IsShownRace}

@@ -2,11 +2,8 @@
 
 ghost use Rattle.std.specs.Prelude.{◌≡◌, ℕ, List};
 ghost use Rattle.std.specs.List.{AllByRecursion};
-ghost use Rattle.spy_grammar.specs.declared.record.Lined.{Lined};
-ghost use Rattle.spy_grammar.specs.Spelling.{Good};
+ghost use Rattle.vocabulary.specs.Prelude.{Lined, Good, Command, records_of};
 ghost use Rattle.findings.specs.declared.finding.Finding.{Finding};
-ghost use Rattle.semantics.specs.declared.command.Command.{Command};
-ghost use Rattle.semantics.specs.Records.{records_of};
 ghost use Rattle.outcomes.specs.Outcome.{IsFound, IsOutcome};
 
 /// A command finds one thing in a log.

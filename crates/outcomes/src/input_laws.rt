@@ -1,8 +1,7 @@
 //! Laws of inputs. Each function has nothing to do: its contract is the law.
 
 ghost use Rattle.std.specs.Prelude.{◌≡◌, ℕ, List, None};
-ghost use Rattle.spy_grammar.specs.declared.record.Lined.{Lined};
-ghost use Rattle.semantics.specs.Records.{Reads};
+ghost use Rattle.vocabulary.specs.Prelude.{Lined, Reads};
 ghost use Rattle.semantics.specs.TextFaults.{text_fault};
 
 /// An input without a fault of its bytes and lines spells a log.

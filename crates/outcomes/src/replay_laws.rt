@@ -2,15 +2,9 @@
 
 ghost use Rattle.std.specs.Prelude.{◌≡◌, ℕ, None, Some, List};
 ghost use Rattle.std.specs.List.{AllByRecursion};
-ghost use Rattle.spy_grammar.specs.declared.record.Lined.{Lined};
-ghost use Rattle.spy_grammar.specs.Spelling.{Good};
+ghost use Rattle.vocabulary.specs.Prelude.{Lined, Good, records_of, tables_of, IsRaceFree, Differs, IsRight, Seen, shown_difference, HasNoCycle};
 ghost use Rattle.semantics.specs.declared.command.Command.TheVariants.{Check};
-ghost use Rattle.semantics.specs.Records.{records_of};
-ghost use Rattle.semantics.specs.Tables.{tables_of};
-ghost use Rattle.semantics.specs.Races.{IsRaceFree};
-ghost use Rattle.semantics.specs.Reads.{Differs, IsRight, Seen, shown_difference};
 ghost use Rattle.semantics.specs.Faults.{log_fault};
-ghost use Rattle.semantics.specs.Events.{HasNoCycle};
 
 /// In a log without a fault, a cycle and a race: where the replay shows no differing read, each read is right in every interleaving; and a read that it shows differs in every interleaving.
 #[tactic(auto, using(crate::proofs::lemmas::Replays::right_everywhere, crate::proofs::lemmas::Replays::differs_everywhere))]

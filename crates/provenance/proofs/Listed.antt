@@ -5,12 +5,8 @@ use Rattle.std.proofs.lemmas.List.{reverse-append, map-append, take_more, take_a
 use Rattle.std.proofs.lemmas.List.Concat.{flat_map-append}
 use Rattle.std.proofs.lemmas.List.Elements.{filter-append}
 use Rattle.std.proofs.lemmas.List.Sums.{length-filter, count_by-le-length}
-use Rattle.semantics.specs.declared.moves.Move.{Move}
-use Rattle.semantics.specs.Tables.{Tables}
-use Rattle.semantics.specs.Steps.{Step, steps_by}
-use Rattle.semantics.specs.Events.{graph_of}
+use Rattle.vocabulary.specs.Prelude.{Move, Tables, Step, steps_by, graph_of, replay_steps}
 use Rattle.semantics.specs.ReplayOrder.{replay_order}
-use Rattle.semantics.specs.Reads.{replay_steps}
 use Rattle.point_laws.specs.Alike.{is_at, target}
 use Rattle.inst_steps.specs.Stepping.{moves_at}
 use Rattle.provenance.specs.declared.taking.Taken.{Taken}

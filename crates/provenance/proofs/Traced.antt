@@ -6,19 +6,10 @@ use Rattle.std.proofs.lemmas.List.{reverse-append, map-append, drop_more}
 use Rattle.std.proofs.lemmas.List.Quantifiers.{position-Some}
 use Rattle.std.proofs.lemmas.List.Sums.{fails_before_first}
 use Rattle.semantics.specs.declared.command.Command.TheVariants.{Check}
-use Rattle.semantics.specs.declared.links.Ask.{Ask}
-use Rattle.semantics.specs.declared.links.Link.{Link}
+use Rattle.vocabulary.specs.Prelude.{Ask, Link, Cell, Move, Tables, tables_of, HasNoCycle, Step, steps, IsInterleaving, IsRaceFree, replay_steps}
 use Rattle.semantics.specs.declared.links.LinkKind.TheVariants as kinds
-use Rattle.semantics.specs.declared.places.Cell.{Cell}
-use Rattle.semantics.specs.declared.moves.Move.{Move}
 use Rattle.semantics.specs.declared.moves.Move.TheVariants.{Read}
-use Rattle.semantics.specs.Tables.{Tables, tables_of}
-use Rattle.semantics.specs.Events.{HasNoCycle}
-use Rattle.semantics.specs.Steps.{Step, steps}
 use Rattle.semantics.specs.Faults.{unmapped_fault}
-use Rattle.semantics.specs.Interleavings.{IsInterleaving}
-use Rattle.semantics.specs.Races.{IsRaceFree}
-use Rattle.semantics.specs.Reads.{replay_steps}
 use Rattle.semantics.specs.Links.{Source, sources_of, cell_read, ComesFrom, IsTrail, is_asked, IsNoRead, AreLinksOf, TellValue, EndsInOrigin}
 use Rattle.logs.specs.Faultless.{AreDeclared}
 use Rattle.log_laws.proofs.lemmas.Members.{Member, member_of, contains_of, member_left, member_right, member_map, filter_member}

@@ -1,7 +1,7 @@
 -- One step of going back.
 use Rattle.std.proofs.Common.{◌≡◌, ℕ, ◌<◌, ◌+◌, List, ◌∷◌, map, drop, get_or, length, sym, ap, ◌∙◌}
 use Rattle.std.proofs.lemmas.List.{drop_more}
-use Rattle.semantics.specs.declared.places.Cell.{Cell}
+use Rattle.vocabulary.specs.Prelude.{Cell}
 use Rattle.semantics.specs.Links.{Touch, touch, with_last, sources_of}
 use Rattle.provenance.specs.declared.taking.Taken.{Taken}
 use Rattle.provenance.specs.Listing.{step_of}

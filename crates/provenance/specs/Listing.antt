@@ -1,8 +1,6 @@
 -- The steps of a replay at a field, as they are listed.
 use Rattle.std.specs.Prelude.{ℕ, zero, suc, Bool, ◌==◌, List, [], ◌∷◌, ◌++◌, flat_map, slice_index, if◌then◌else◌}
-use Rattle.semantics.specs.declared.moves.Move.{Move}
-use Rattle.semantics.specs.Tables.{Tables}
-use Rattle.semantics.specs.Steps.{Step}
+use Rattle.vocabulary.specs.Prelude.{Move, Tables, Step}
 use Rattle.point_laws.specs.Alike.{target}
 use Rattle.inst_steps.specs.Stepping.{moves_at}
 use Rattle.provenance.specs.declared.taking.Taken.{Taken}

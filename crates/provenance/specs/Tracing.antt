@@ -1,8 +1,6 @@
 -- What is found by going back along steps.
 use Rattle.std.specs.Prelude.{List, map}
-use Rattle.semantics.specs.declared.links.Link.{Link}
-use Rattle.semantics.specs.declared.places.Cell.{Cell}
-use Rattle.semantics.specs.Tables.{Tables}
+use Rattle.vocabulary.specs.Prelude.{Link, Cell, Tables}
 use Rattle.semantics.specs.Links as links
 use Rattle.provenance.specs.declared.taking.Taken.{Taken}
 use Rattle.provenance.specs.declared.touches.Touch.{Touch}

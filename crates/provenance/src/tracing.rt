@@ -1,13 +1,10 @@
 //! The links of a read.
 
 ghost use Rattle.std.specs.Prelude.{◌≡◌, ◌↔◌, ◌∷◌, [], ◌<◌, ◌^◌, Contains, IfOk, IsErrOf, None, filter, length, map, reverse};
-ghost use Rattle.semantics.specs.declared.links.Link.{Link};
+ghost use Rattle.vocabulary.specs.Prelude.{Link, graph_of, IsRaceFree, replay_steps};
 ghost use Rattle.semantics.specs.declared.links.LinkKind.TheVariants as kinds;
-ghost use Rattle.semantics.specs.Events.{graph_of};
 ghost use Rattle.semantics.specs.Faults.{unmapped_fault};
 ghost use Rattle.semantics.specs.Links.{AreLinksOf, EndsInOrigin, IsNoRead, TellValue};
-ghost use Rattle.semantics.specs.Races.{IsRaceFree};
-ghost use Rattle.semantics.specs.Reads.{replay_steps};
 ghost use Rattle.event_graph.specs.Orders.{IsOrderOf};
 ghost use Rattle.point_laws.specs.Alike.{is_at};
 ghost use Rattle.provenance.specs.declared.ends.TraceEnd.{TraceEnd};

@@ -1,8 +1,7 @@
 -- What is gathered of the nodes of a log.
 use Rattle.std.proofs.Common.{◌≡◌, ℕ, zero, suc, ◌<◌, inl, inr, List, subst, arith, slice_index}
 use Rattle.std.proofs.lemmas.Bool.{cases_lt}
-use Rattle.semantics.specs.declared.moves.Move.{Move}
-use Rattle.semantics.specs.Tables.{Tables}
+use Rattle.vocabulary.specs.Prelude.{Move, Tables}
 use Rattle.log_laws.proofs.lemmas.Members.{Member, member_append, member_left, member_right, member_flat, flat_member}
 use Rattle.cell_races.specs.declared.touches.Touch.{Touch}
 use Rattle.cell_races.specs.Touches.{touches_of}

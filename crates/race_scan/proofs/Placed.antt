@@ -6,7 +6,7 @@ use Rattle.std.proofs.lemmas.Bool.Decides.{nat_tests}
 use Rattle.std.proofs.lemmas.List.{get_or_default}
 use Rattle.std.proofs.lemmas.List.Quantifiers.{position-Some}
 use Rattle.std.proofs.lemmas.List.Sums.{fails_before_first}
-use Rattle.semantics.specs.Events.{Node, AreLinked}
+use Rattle.vocabulary.specs.Prelude.{Node, AreLinked}
 use Rattle.event_graph.specs.Orders.{IsOrderOf}
 use Rattle.event_graph.proofs.lemmas.Whole.{order_within, order_whole}
 use Rattle.reach_marks.specs.Reached.{Marks, AreMarksOf}

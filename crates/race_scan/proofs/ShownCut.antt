@@ -1,8 +1,6 @@
 -- Tables that are cut to first points show the race of the whole.
 use Rattle.std.proofs.Common.{ℕ, List}
-use Rattle.semantics.specs.declared.places.Cell.{Cell}
-use Rattle.semantics.specs.Tables.{Tables}
-use Rattle.semantics.specs.Races.{IsRaceFree}
+use Rattle.vocabulary.specs.Prelude.{Cell, Tables, IsRaceFree}
 use Rattle.semantics.specs.Shown.{IsShownRace}
 use Rattle.point_laws.specs.Alike.{AreFirsts}
 use Rattle.point_laws.specs.Cut.{cut}

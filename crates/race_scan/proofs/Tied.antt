@@ -3,14 +3,9 @@ use Rattle.std.proofs.Common.{◌≡◌, ℕ, ◌<◌, true, false, List, Some, 
 use Rattle.std.specs.List.{range_with_len}
 use Rattle.std.proofs.lemmas.Bool.{true≢false, false_from_ne_true}
 use Rattle.std.proofs.lemmas.List.{length-map, get_or_default}
-use Rattle.semantics.specs.declared.places.Cell.{Cell}
-use Rattle.semantics.specs.declared.moves.Move.{Move}
-use Rattle.semantics.specs.Tables.{Tables}
-use Rattle.semantics.specs.Events.{graph_of, Before}
+use Rattle.vocabulary.specs.Prelude.{Cell, Move, Tables, graph_of, Before, Step, steps, Race, IsRaceFree, access}
 use Rattle.semantics.specs.ReplayOrder.{replay_order}
-use Rattle.semantics.specs.Steps.{Step, steps}
 use Rattle.semantics.specs.Races as races
-use Rattle.semantics.specs.Races.{Race, IsRaceFree, access}
 use Rattle.semantics.specs.Shown.{IsShownRace, replay_place}
 use Rattle.log_laws.proofs.lemmas.Members.{Member, member_of, contains_of, member_flat, flat_member, map_member}
 use Rattle.log_laws.proofs.lemmas.StepLists.{steps_at, step_at}

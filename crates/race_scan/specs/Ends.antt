@@ -1,5 +1,5 @@
 -- How a scan ends.
-use Rattle.semantics.specs.Tables.{Tables}
+use Rattle.vocabulary.specs.Prelude.{Tables}
 use Rattle.semantics.specs.Shown.{IsShownRace}
 use Rattle.cell_races.specs.declared.scan.Clashing.{Clashing}
 use Rattle.race_scan.specs.declared.shown.ScanEnd.{ScanEnd}

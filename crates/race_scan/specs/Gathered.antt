@@ -1,6 +1,6 @@
 -- What the nodes of a log do at cells, node by node in replay order.
 use Rattle.std.specs.Prelude.{ℕ, zero, suc, List, [], ◌++◌, flat_map, slice_index}
-use Rattle.semantics.specs.Tables.{Tables}
+use Rattle.vocabulary.specs.Prelude.{Tables}
 use Rattle.cell_races.specs.declared.touches.Touch.{Touch}
 use Rattle.cell_races.specs.Touches.{touches_of}
 use Rattle.inst_steps.specs.Stepping.{moves_at}

@@ -2,10 +2,8 @@
 
 ghost use Rattle.std.specs.Prelude.{◌≡◌, ◌<◌, Contains, IfErr, IfOk, MatchOption, None, OnOk};
 ghost use Rattle.std.specs.List.Sorted.{IsStrictlyIncreasing};
-ghost use Rattle.semantics.specs.declared.places.Cell.{Cell};
-ghost use Rattle.semantics.specs.Events.{graph_of};
+ghost use Rattle.vocabulary.specs.Prelude.{Cell, graph_of, IsRaceFree};
 ghost use Rattle.semantics.specs.Faults.{unmapped_fault};
-ghost use Rattle.semantics.specs.Races.{IsRaceFree};
 ghost use Rattle.event_graph.specs.Orders.{IsOrderOf};
 ghost use Rattle.reach_marks.specs.Reached.{AreMarksOf};
 ghost use Rattle.point_laws.specs.Alike.{AreFirsts};

@@ -1,7 +1,7 @@
 //! What nodes wait on, by their places in the replay order.
 
 ghost use Rattle.std.specs.Prelude.{◌≡◌, ℕ, ◌<◌, ◌↔◌, length, slice_index, map, All, Contains, IfOk};
-ghost use Rattle.semantics.specs.Events.{AreLinked, WaitsOn};
+ghost use Rattle.vocabulary.specs.Prelude.{AreLinked, WaitsOn};
 ghost use Rattle.semantics.specs.ReplayOrder.{replay_order};
 ghost use Rattle.reach_marks.specs.Places.{ArePlacesIn};
 

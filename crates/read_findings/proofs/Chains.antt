@@ -4,8 +4,7 @@ use Rattle.std.proofs.Common.{◌≡◌, ℕ, suc, List, [], ◌∷◌, map, tru
 use Rattle.std.proofs.lemmas.Bool.{ne_eqb}
 use Rattle.findings.specs.declared.finding.WhyLink.{WhyLink}
 use Rattle.findings.specs.Texts.{is_chain}
-use Rattle.semantics.specs.declared.links.Link.{Link}
-use Rattle.semantics.specs.declared.links.LinkKind.{LinkKind}
+use Rattle.vocabulary.specs.Prelude.{Link, LinkKind}
 use Rattle.semantics.specs.declared.links.LinkKind.TheVariants.{Write, Put, Copy, Start}
 use Rattle.semantics.specs.Links.{EndsInOrigin}
 use Rattle.outcomes.specs.Outcome.{link_shown}

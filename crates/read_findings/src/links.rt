@@ -3,12 +3,10 @@
 ghost use Rattle.std.specs.Prelude.{◌≡◌, ◌↔◌, Contains, None, IfOk, map};
 ghost use Rattle.findings.specs.declared.finding.Finding.TheVariants as findings;
 ghost use Rattle.findings.specs.Texts as texts;
-ghost use Rattle.semantics.specs.declared.links.Link.{Link};
+ghost use Rattle.vocabulary.specs.Prelude.{Link, graph_of, IsRaceFree};
 ghost use Rattle.semantics.specs.declared.links.LinkKind.TheVariants as kinds;
-ghost use Rattle.semantics.specs.Events.{graph_of};
 ghost use Rattle.semantics.specs.Faults.{unmapped_fault};
 ghost use Rattle.semantics.specs.Links.{AreLinksOf, EndsInOrigin};
-ghost use Rattle.semantics.specs.Races.{IsRaceFree};
 ghost use Rattle.event_graph.specs.Orders.{IsOrderOf};
 ghost use Rattle.outcomes.specs.Outcome.{WhyFinds, ask_shown, kind_shown, link_shown};
 

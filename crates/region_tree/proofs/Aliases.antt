@@ -5,7 +5,7 @@ use Rattle.std.proofs.lemmas.Bool.{cases_order}
 use Rattle.std.proofs.lemmas.Option.{none-some, same_Some, slice_get_within, get_or_from_slice_get}
 use Rattle.point_set.specs.Least.{IsLeastCommon}
 use Rattle.point_set.proofs.lemmas.Ahead.{in_or_not}
-use Rattle.semantics.specs.declared.tables.Sub.{Sub}
+use Rattle.vocabulary.specs.Prelude.{Sub}
 use Rattle.log_tables.specs.declared.entries.Step.{Step}
 use Rattle.log_tables.specs.Regions.{Regions, step_of, is_at, child_of, whole_of, space_points}
 use Rattle.region_tree.specs.Shape.{IsForest}

@@ -13,7 +13,7 @@ use Rattle.std.proofs.lemmas.Option.{same_Some, none-some, slice_get_within}
 use Rattle.point_set.specs.Least.{IsLeastOf, IsLeastFrom, IsLeastGap}
 use Rattle.point_set.proofs.lemmas.Ahead.{in_or_not}
 use Rattle.region_tree.specs.declared.claims.Claim.{Claim}
-use Rattle.semantics.specs.declared.tables.Sub.{Sub}
+use Rattle.vocabulary.specs.Prelude.{Sub}
 use Rattle.log_tables.specs.Regions.{Regions, space_points}
 use Rattle.region_tree.specs.Faults.{is_disjoint, IsFaulty}
 use Rattle.region_tree.specs.Claims.{IsRunEnd, IsRun, IsIn, Claims, ClaimsNothing, ClaimsAll, AreClaims, AddsRuns, IsBefore, AreInOrder, AreOwn, Clash, Overlap, AreApart, SomeOverlap, IsFirstOverlap, MeetsSome, IsFirstMeeting}

@@ -4,7 +4,7 @@ use Rattle.std.specs.Result.{IsErrAnd}
 use Rattle.std.proofs.lemmas.Option.{same_Some, slice_get_within}
 use Rattle.std.proofs.lemmas.Bool.{cases_lt}
 use Rattle.point_set.specs.Least.{IsLeast, IsLeastOf, IsLeastCommon, IsLeastOutside}
-use Rattle.semantics.specs.declared.tables.Sub.{Sub}
+use Rattle.vocabulary.specs.Prelude.{Sub}
 use Rattle.region_tree.specs.declared.forest_fault.ForestFault.{ForestFault}
 use Rattle.region_tree.specs.declared.forest_fault.ForestFault.TheVariants.{NotWithin, NotDisjoint, Memory}
 use Rattle.log_tables.specs.Regions.{Regions, space_points}

@@ -3,8 +3,7 @@ use Rattle.std.proofs.Common.{◌≡◌, ℕ, List, ◌∷◌, ◌==◌, Contain
 use Rattle.std.specs.Option.{option_and_then}
 use Rattle.std.proofs.lemmas.Bool.{eqb-true}
 use Rattle.std.proofs.lemmas.Option.{none-some}
-use Rattle.semantics.specs.declared.tables.Part.{Part}
-use Rattle.semantics.specs.declared.tables.Sub.{Sub}
+use Rattle.vocabulary.specs.Prelude.{Part, Sub}
 use Rattle.log_tables.specs.declared.entries.Step.{Step}
 use Rattle.log_tables.specs.Regions.{Regions, step_of, space_of, part_of, sub_of, whole_of, parent_of}
 use Rattle.region_tree.specs.Shape.{IsForest}

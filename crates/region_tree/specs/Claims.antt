@@ -2,7 +2,7 @@
 use Rattle.std.specs.Prelude.{◌≡◌, ◌≢◌, ℕ, ◌+◌, ◌<◌, ◌≤◌, ◌⊎◌, List, slice_get, AllPairs, Contains, Option, Some, IsTrue, MatchOption}
 use Rattle.std.specs.Borrow.{Bor}
 use Rattle.region_tree.specs.declared.claims.Claim.{Claim}
-use Rattle.semantics.specs.declared.tables.Sub.{Sub}
+use Rattle.vocabulary.specs.Prelude.{Sub}
 use Rattle.log_tables.specs.Regions.{Regions, space_points}
 use Rattle.region_tree.specs.Faults.{is_disjoint, MeetsEarlier}
 

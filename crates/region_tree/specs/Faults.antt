@@ -2,7 +2,7 @@
 use Rattle.std.specs.Prelude.{◌≡◌, ℕ, ◌<◌, Bool, false, ◌⊎◌, List, [], slice_get, Contains, Option, MatchOption, Some, None, IsTrue, ⊤}
 use Rattle.std.specs.Option.{option_map_or}
 use Rattle.point_set.specs.Least.{IsLeast}
-use Rattle.semantics.specs.declared.tables.Sub.{Sub}
+use Rattle.vocabulary.specs.Prelude.{Sub}
 use Rattle.region_tree.specs.declared.forest_fault.ForestFault.{ForestFault}
 use Rattle.region_tree.specs.declared.forest_fault.ForestFault.TheVariants.{NotWithin, NotDisjoint, Memory}
 use Rattle.log_tables.specs.Regions.{Regions, part_of, whole_of, space_points}

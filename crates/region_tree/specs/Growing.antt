@@ -1,10 +1,8 @@
 -- Declarations as they grow, one by one.
 use Rattle.std.specs.Prelude.{◌≡◌, ◌≢◌, ℕ, ◌≤◌, ◌<◌, ◌++◌, [], ◌∷◌, All, Some, IsSome, length}
 use Rattle.semantics.specs.declared.limits.TheConstants.{DEEPEST}
-use Rattle.semantics.specs.declared.tables.Part.{Part}
-use Rattle.semantics.specs.declared.tables.Sub.{Sub}
+use Rattle.vocabulary.specs.Prelude.{Part, Sub, Space}
 use Rattle.log_tables.specs.Regions.{Regions, space_of, part_of, whole_of, step_of}
-use Rattle.semantics.specs.Tables.{Space}
 use Rattle.region_tree.specs.Ancestors.{ancestor_of}
 use Rattle.region_tree.specs.Shape.{IsForest}
 

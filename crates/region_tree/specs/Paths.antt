@@ -1,7 +1,7 @@
 -- Paths from topmost spaces down.
 use Rattle.std.specs.Prelude.{◌≡◌, ℕ, List, [], ◌∷◌, Contains, Option, Some, None, IsSome, option_and_then}
 use Rattle.std.specs.Option.{option_map}
-use Rattle.semantics.specs.declared.tables.Sub.{Sub}
+use Rattle.vocabulary.specs.Prelude.{Sub}
 use Rattle.log_tables.specs.declared.entries.Step.{Step}
 use Rattle.log_tables.specs.Regions.{Regions, step_of, space_of, sub_of, whole_of, parent_of}
 

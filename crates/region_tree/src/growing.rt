@@ -1,10 +1,8 @@
 //! Declarations that make a forest, one by one.
 
 ghost use Rattle.std.specs.Prelude.{◌≢◌, All, IsSome, []};
-ghost use Rattle.semantics.specs.declared.tables.Part.{Part};
-ghost use Rattle.semantics.specs.declared.tables.Sub.{Sub};
+ghost use Rattle.vocabulary.specs.Prelude.{Part, Sub, Space};
 ghost use Rattle.log_tables.specs.Regions.{Regions, space_of};
-ghost use Rattle.semantics.specs.Tables.{Space};
 ghost use Rattle.region_tree.specs.Growing.{IsGrown, MaySub, with_space, with_part, with_sub};
 
 /// What keeps declarations a forest: a space with a new id, a partition with a new id of a declared space, and a subspace that may be declared.

@@ -6,26 +6,12 @@ use Rattle.std.proofs.lemmas.Bool.{cases_Bool, and_parts, or_parts, not-false, t
 use Rattle.std.proofs.lemmas.List.{length-append}
 use Rattle.std.proofs.lemmas.List.Sums.{fails_before_first}
 use Rattle.std.proofs.lemmas.List.Elements.{recursion_from_All}
-use Rattle.privilege.specs.declared.kinds.Priv.{Priv}
+use Rattle.vocabulary.specs.Prelude.{Priv, Record, Lined, Cell, Move, Item, Req, Inst, LogNode, Op, records_of, Tables, place_of, with_record, tables_of, points_in, reqs_of, grid, req_grid, id_of, cell_in, mapped_cell, at_cells, reads_by, changes_by, run_moves, moves_of, operator_of, steps_by}
 use Rattle.privilege.specs.declared.kinds.Priv.TheVariants as privileges
 use Rattle.spy_grammar.specs.declared.code.Code.TheVariants as codes
-use Rattle.spy_grammar.specs.declared.record.Record.{Record}
 use Rattle.spy_grammar.specs.declared.record.Record.TheVariants as records
-use Rattle.spy_grammar.specs.declared.record.Lined.{Lined}
-use Rattle.semantics.specs.declared.places.Cell.{Cell}
-use Rattle.semantics.specs.declared.moves.Move.{Move}
 use Rattle.semantics.specs.declared.moves.Move.TheVariants as moves
-use Rattle.semantics.specs.declared.tables.Item.{Item}
-use Rattle.semantics.specs.declared.tables.Req.{Req}
-use Rattle.semantics.specs.declared.tables.Inst.{Inst}
-use Rattle.semantics.specs.declared.tables.LogNode.{LogNode}
-use Rattle.semantics.specs.declared.tables.Op.{Op}
 use Rattle.semantics.specs.declared.tables.Op.TheVariants as operations
-use Rattle.semantics.specs.Records.{records_of}
-use Rattle.semantics.specs.Tables.{Tables, place_of, with_record, tables_of}
-use Rattle.semantics.specs.Points.{points_in}
-use Rattle.semantics.specs.Kinds.{reqs_of, grid, req_grid}
-use Rattle.semantics.specs.Steps.{id_of, cell_in, mapped_cell, at_cells, reads_by, changes_by, run_moves, moves_of, operator_of, steps_by}
 use Rattle.semantics.specs.Rules.{is_task, is_declared, is_reduction, reduces_in, is_of_wrong_kind, names, inst_id, task_id}
 use Rattle.logs.specs.Faultless.{AreDeclared}
 use Rattle.log_laws.proofs.lemmas.Members.{Member, Each, each_more, contains_of, member_at, member_append, member_flat, member_map, all_at, any_at, any_found, find_any, find_still, only}

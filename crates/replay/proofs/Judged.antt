@@ -2,12 +2,8 @@
 use Rattle.std.proofs.Common.{◌≡◌, ◌≢◌, ℕ, ◌<◌, length, Some, None, cond, sym, ap, ◌∙◌}
 use Rattle.std.specs.Option.{option_map_or}
 use Rattle.std.proofs.lemmas.Bool.{false_from_ne_true}
-use Rattle.value_terms.specs.Values.{Value, same_value}
+use Rattle.vocabulary.specs.Prelude.{Value, same_value, Req, Tables, place_of, wanted, Seen, differing, req_at, want_of}
 use Rattle.value_terms.proofs.lemmas.Equality.{value_decides}
-use Rattle.semantics.specs.declared.tables.Req.{Req}
-use Rattle.semantics.specs.Tables.{Tables, place_of}
-use Rattle.semantics.specs.Sequential.{wanted}
-use Rattle.semantics.specs.Reads.{Seen, differing, req_at, want_of}
 use Rattle.serial_exec.specs.Kept.{Kept, AreVersionsOf, value_at}
 
 pub want_is : (t : Tables) (k : Kept) → AreVersionsOf t k → (item task number tree point field : ℕ) (got : Value) → place_of t.items task ≡ item → item < length t.items

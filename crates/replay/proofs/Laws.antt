@@ -1,16 +1,11 @@
 -- What a replay rests on: its steps are few, and fit; a store stands before each; and the tables cut to first points tell of the whole.
 use Rattle.std.proofs.Common.{◌≡◌, ℕ, ◌<◌, ◌∷◌, List, None, length, take, sym, subst, ◌∙◌}
 use Rattle.std.specs.List.{AllByRecursion}
-use Rattle.value_terms.specs.Values.{plain}
+use Rattle.vocabulary.specs.Prelude.{plain, Tables, place_of, graph_of, Step, id_of, start, difference, replay_steps, shown_difference}
 use Rattle.value_terms.specs.declared.terms.Base.TheVariants.{Init}
-use Rattle.semantics.specs.Tables.{Tables, place_of}
-use Rattle.semantics.specs.Events.{graph_of}
 use Rattle.semantics.specs.ReplayOrder.{replay_order}
 use Rattle.semantics.specs.SerialOrder.{serial, serial_place}
-use Rattle.semantics.specs.Steps.{Step, id_of}
-use Rattle.semantics.specs.Execution.{start}
 use Rattle.semantics.specs.Faults.{unmapped_fault}
-use Rattle.semantics.specs.Reads.{difference, replay_steps, shown_difference}
 use Rattle.log_laws.proofs.lemmas.Admitted.{no_broken_rule}
 use Rattle.log_laws.proofs.lemmas.SerialOrder.{items_placed}
 use Rattle.logs.specs.Faultless.{AreDeclared}

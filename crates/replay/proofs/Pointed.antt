@@ -3,13 +3,8 @@ use Rattle.std.proofs.Common.{◌≡◌, ℕ, cond, inl, inr, Bool, true, false,
 use Rattle.std.specs.Option.{option_or}
 use Rattle.std.proofs.lemmas.Bool.{cases_Bool}
 use Rattle.std.proofs.lemmas.Option.{same_Some}
-use Rattle.semantics.specs.declared.moves.Move.{Move}
+use Rattle.vocabulary.specs.Prelude.{Move, Tables, is_in, Step, steps_by, State, effect, Seen, difference, first_difference, shown_difference, want_of}
 use Rattle.semantics.specs.declared.moves.Move.TheVariants as moves
-use Rattle.semantics.specs.Tables.{Tables}
-use Rattle.semantics.specs.Points.{is_in}
-use Rattle.semantics.specs.Steps.{Step, steps_by}
-use Rattle.semantics.specs.Execution.{State, effect}
-use Rattle.semantics.specs.Reads.{Seen, difference, first_difference, shown_difference, want_of}
 use Rattle.log_laws.proofs.lemmas.Members.{none_or_some}
 use Rattle.point_laws.specs.Alike.{is_at, target}
 use Rattle.point_laws.specs.Cut.{cut}

@@ -2,9 +2,7 @@
 use Rattle.std.proofs.Common.{◌≡◌, ℕ, ◌+◌, ◌≤◌, inl, inr, Bool, List, [], ◌∷◌, filter, refl, ap, ◌∙◌, arith, sum_by}
 use Rattle.std.proofs.lemmas.Bool.{cases_Bool}
 use Rattle.std.proofs.lemmas.List.Sums.{sum_by-cons}
-use Rattle.privilege.specs.Allowed.{may_read}
-use Rattle.semantics.specs.declared.tables.Req.{Req}
-use Rattle.semantics.specs.Tables.{Tables}
+use Rattle.vocabulary.specs.Prelude.{may_read, Req, Tables}
 use Rattle.semantics.specs.Rules.{size_of}
 use Rattle.semantics.specs.Counts.{read_count}
 use Rattle.logs.specs.Faultless.{AreDeclared}

@@ -7,15 +7,9 @@ use Rattle.std.proofs.Math.Path.{fun_ext}
 use Rattle.std.proofs.lemmas.Bool.{cases_Bool, true≢false, and_parts, eqb-true}
 use Rattle.std.proofs.Math.Bool.{and_assoc, and-false}
 use Rattle.value_terms.specs.declared.terms.Base.TheVariants.{Raw, Init}
-use Rattle.value_terms.specs.Values.{Value, plain, weight_of}
-use Rattle.semantics.specs.declared.places.Cell.{Cell}
-use Rattle.semantics.specs.declared.moves.Move.{Move}
+use Rattle.vocabulary.specs.Prelude.{Value, plain, weight_of, Cell, Move, Tables, Step, inst_at, start, is_home, is_home_cell, same_cell, effect, difference, first_difference, replay_steps}
 use Rattle.semantics.specs.declared.moves.Move.TheVariants as moves
-use Rattle.semantics.specs.Tables.{Tables}
-use Rattle.semantics.specs.Steps.{Step, inst_at}
-use Rattle.semantics.specs.Execution.{start, is_home, is_home_cell, same_cell, effect}
 use Rattle.semantics.specs.Rules.{reduces_in}
-use Rattle.semantics.specs.Reads.{difference, first_difference, replay_steps}
 use Rattle.log_laws.proofs.lemmas.Members.{none_or_some}
 use Rattle.inst_steps.specs.Stores.{Contents, IsLight, IsStart, has_cell, after_move, value_in}
 use Rattle.inst_steps.specs.Celled.{HasCellsOf}

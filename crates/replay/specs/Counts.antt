@@ -1,8 +1,6 @@
 -- How many reads there are.
 use Rattle.std.specs.Prelude.{ℕ, ◌+◌, List, [], ◌∷◌, if◌then◌else◌}
-use Rattle.privilege.specs.Allowed.{may_read}
-use Rattle.semantics.specs.declared.tables.Req.{Req}
-use Rattle.semantics.specs.Tables.{Tables}
+use Rattle.vocabulary.specs.Prelude.{may_read, Req, Tables}
 use Rattle.semantics.specs.Rules.{size_of}
 
 -- The reads of a requirement.

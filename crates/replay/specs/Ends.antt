@@ -1,8 +1,6 @@
 -- How a replay ends.
 use Rattle.std.specs.Prelude.{◌≡◌, ◌≢◌, Option, Some}
-use Rattle.value_terms.specs.Values.{Value}
-use Rattle.semantics.specs.Tables.{Tables}
-use Rattle.semantics.specs.Reads.{Seen, want_of, shown_difference}
+use Rattle.vocabulary.specs.Prelude.{Value, Tables, Seen, want_of, shown_difference}
 use Rattle.replay.specs.declared.moving.Unlike.{Unlike}
 use Rattle.replay.specs.declared.ends.ReplayEnd.{ReplayEnd}
 use Rattle.replay.specs.declared.ends.ReplayEnd.TheVariants.{Differ, Memory}

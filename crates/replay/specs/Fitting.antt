@@ -1,13 +1,9 @@
 -- Steps that a replay may take.
 use Rattle.std.specs.Prelude.{◌≡◌, ℕ, ◌<◌, true, false, length, slice_get}
 use Rattle.std.specs.Option.{option_map_or}
-use Rattle.semantics.specs.declared.moves.Move.{Move}
+use Rattle.vocabulary.specs.Prelude.{Move, LogNode, Op, Tables, place_of, Step}
 use Rattle.semantics.specs.declared.moves.Move.TheVariants as moves
-use Rattle.semantics.specs.declared.tables.LogNode.{LogNode}
-use Rattle.semantics.specs.declared.tables.Op.{Op}
 use Rattle.semantics.specs.declared.tables.Op.TheVariants as operations
-use Rattle.semantics.specs.Tables.{Tables, place_of}
-use Rattle.semantics.specs.Steps.{Step}
 use Rattle.semantics.specs.Rules.{reduces_in}
 use Rattle.inst_steps.specs.Celled.{AreOfInsts}
 

@@ -1,5 +1,5 @@
 -- What a replay goes by.
-use Rattle.semantics.specs.Tables.{Tables}
+use Rattle.vocabulary.specs.Prelude.{Tables}
 use Rattle.point_laws.specs.Cut.{cut}
 use Rattle.replay.specs.declared.moving.Replay.{Replay}
 

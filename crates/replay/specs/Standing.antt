@@ -1,12 +1,8 @@
 -- Where a replay stands.
 use Rattle.std.specs.Prelude.{◌≡◌, ℕ, ◌+◌, ◌*◌, ◌<◌, ◌≤◌, ◌^◌, true, List, ◌++◌, map, drop, length}
 use Rattle.std.specs.List.{AllByRecursion}
-use Rattle.semantics.specs.declared.places.Cell.{Cell}
-use Rattle.semantics.specs.declared.moves.Move.{Move}
-use Rattle.semantics.specs.Tables.{Tables}
-use Rattle.semantics.specs.Steps.{Step, steps_by}
+use Rattle.vocabulary.specs.Prelude.{Cell, Move, Tables, Step, steps_by, first_difference, shown_difference}
 use Rattle.semantics.specs.Rules.{reduces_in}
-use Rattle.semantics.specs.Reads.{first_difference, shown_difference}
 use Rattle.inst_steps.specs.Stores.{Contents, value_in}
 use Rattle.inst_steps.specs.Celled.{HasCellsOf}
 use Rattle.inst_steps.specs.Weighing.{weight_at}

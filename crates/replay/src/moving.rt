@@ -3,8 +3,7 @@
 ghost use Rattle.std.specs.Prelude.{◌≡◌, ◌<◌, length, option_map, slice_get, IfErr, IfOk, MatchOption, None, OnErr, OnOk};
 ghost use Rattle.std.specs.List.Sorted.{IsStrictlyIncreasing};
 ghost use Rattle.std.specs.Option.{option_map_or};
-ghost use Rattle.semantics.specs.declared.tables.Req.{Req};
-ghost use Rattle.semantics.specs.Reads.{difference, req_at};
+ghost use Rattle.vocabulary.specs.Prelude.{Req, difference, req_at};
 ghost use Rattle.serial_exec.specs.Kept.{AreVersionsOf, value_at};
 ghost use Rattle.inst_steps.specs.Acting.{IsAllowed, IsBy};
 ghost use Rattle.inst_steps.specs.Stores.{HasCells, IsLight, after_move, value_in};

@@ -2,11 +2,9 @@
 
 ghost use Rattle.std.specs.Prelude.{◌≡◌, ◌+◌, ◌<◌, drop, length, All, IfErr, IfOk, None, OnErr, OnOk};
 ghost use Rattle.std.specs.List.Sorted.{IsStrictlyIncreasing};
-ghost use Rattle.semantics.specs.Events.{graph_of};
+ghost use Rattle.vocabulary.specs.Prelude.{graph_of, replay_steps, shown_difference, steps_by};
 ghost use Rattle.semantics.specs.Faults.{unmapped_fault};
 ghost use Rattle.semantics.specs.Counts.{read_count};
-ghost use Rattle.semantics.specs.Reads.{replay_steps, shown_difference};
-ghost use Rattle.semantics.specs.Steps.{steps_by};
 ghost use Rattle.event_graph.specs.Orders.{IsOrderOf};
 ghost use Rattle.point_laws.specs.Alike.{AreFirsts};
 ghost use Rattle.point_laws.specs.Cut.{cut};

@@ -3,8 +3,7 @@ use Rattle.std.proofs.Common.{◌≡◌, ℕ, suc, ◌+◌, ◌<◌, ◌≤◌, 
 use Rattle.std.specs.List.{AllByRecursion}
 use Rattle.std.proofs.lemmas.List.{append_assoc, take_more, append-nil}
 use Rattle.value_terms.specs.declared.terms.Base.TheVariants.{Init}
-use Rattle.value_terms.specs.declared.terms.Contribution.{Contribution}
-use Rattle.value_terms.specs.Values.{Bag, plain, comes_before, count_in, joined, total, add, extended, CountsEach, IsWellFormedBag}
+use Rattle.vocabulary.specs.Prelude.{Contribution, Bag, plain, comes_before, count_in, joined, total, add, extended, CountsEach, IsWellFormedBag}
 use Rattle.value_terms.proofs.lemmas.Order.{compared, same_decides, before_differ}
 use Rattle.value_terms.proofs.lemmas.Counting.{all_after, count_joined, rest_of, absent}
 use Rattle.value_terms.proofs.lemmas.Grouping.{total_joined}

@@ -3,19 +3,13 @@ use Rattle.std.proofs.Common.{◌≡◌, ℕ, zero, suc, ◌+◌, ◌<◌, ◌�
 use Rattle.std.specs.Option.{option_map_or}
 use Rattle.std.proofs.lemmas.List.Elements.{filter_map-append}
 use Rattle.std.proofs.lemmas.Option.{slice_get-get_or, slice_get_past}
-use Rattle.semantics.specs.declared.places.Place.{Place}
-use Rattle.semantics.specs.declared.tables.Item.{Item}
+use Rattle.vocabulary.specs.Prelude.{Place, Item, ItemBody, Req, Tables, points_in, reqs_of, uses_of_item}
 use Rattle.semantics.specs.declared.tables.ItemBody.TheVariants.{Task, Fill}
-use Rattle.semantics.specs.declared.tables.ItemBody.{ItemBody}
 use Rattle.value_terms.specs.declared.terms.Base.TheVariants.{Const}
 use Rattle.log_tables.specs.Ascending.{body_fields}
 use Rattle.std.specs.List.Sorted.{IsStrictlyIncreasing}
 use Rattle.std.proofs.lemmas.List.{append_assoc, take_more, append-nil}
 use Rattle.std.proofs.Math.Bool.{and-false}
-use Rattle.semantics.specs.declared.tables.Req.{Req}
-use Rattle.semantics.specs.Tables.{Tables}
-use Rattle.semantics.specs.Points.{points_in}
-use Rattle.semantics.specs.Kinds.{reqs_of, uses_of_item}
 use Rattle.semantics.specs.SerialOrder.{serial}
 use Rattle.point_laws.specs.Cut.{cut, kept, cut_to}
 use Rattle.point_laws.proofs.lemmas.Cuts.{points_cut_to, kept_nothing}

@@ -5,10 +5,7 @@ use Rattle.std.proofs.lemmas.Bool.{eqb-true, true≢false}
 use Rattle.std.proofs.lemmas.Bool.Decides.{nat_tests}
 use Rattle.std.proofs.lemmas.List.{take-append-drop}
 use Rattle.std.proofs.lemmas.Option.{same_Some, none-some}
-use Rattle.value_terms.specs.declared.terms.Contribution.{Contribution}
-use Rattle.value_terms.specs.declared.bag.Group.{Group}
-use Rattle.value_terms.specs.Values.{Bag, Value, plain, is_raw, add, add_one, joined, group_of, extended, IsWellFormed}
-use Rattle.value_terms.specs.declared.terms.Base.{Base}
+use Rattle.vocabulary.specs.Prelude.{Contribution, Group, Bag, Value, plain, is_raw, add, add_one, joined, group_of, extended, IsWellFormed, Base}
 use Rattle.value_terms.specs.declared.terms.Base.TheVariants.{Raw, Init, Ident, Const, Out}
 use Rattle.value_terms.proofs.lemmas.Changes.{add_raw}
 use Rattle.serial_exec.specs.declared.change.Action.{Action}

@@ -5,21 +5,16 @@ use Rattle.std.specs.List.Sorted.{IsNonDecreasingBy}
 use Rattle.std.specs.Map.{lookup}
 use Rattle.std.specs.Option.{option_map_or, unwrap_or}
 use Rattle.std.proofs.lemmas.Bool.{cases_Bool}
-use Rattle.value_terms.specs.declared.terms.Base.{Base}
+use Rattle.vocabulary.specs.Prelude.{Base, Value, plain, Place, Tables, wanted, after_items, same_place}
 use Rattle.value_terms.specs.declared.terms.Base.TheVariants.{Init}
 use Rattle.serial_exec.specs.declared.change.Action.TheVariants.{Put}
-use Rattle.value_terms.specs.Values.{Value, plain}
-use Rattle.semantics.specs.declared.places.Place.{Place}
-use Rattle.semantics.specs.Tables.{Tables}
 use Rattle.semantics.specs.SerialOrder.{serial, serial_place}
-use Rattle.semantics.specs.Sequential.{wanted, after_items}
 use Rattle.logs.specs.Listing.{ArePlacesIn}
 use Rattle.serial_exec.specs.declared.change.Change.{Change}
 use Rattle.serial_exec.specs.declared.histories.Histories.{Histories}
 use Rattle.serial_exec.specs.Changes.{after_changes, acted_by, before, items_changes, IsAdded}
 use Rattle.point_laws.specs.Cut.{cut_to}
 use Rattle.serial_exec.specs.Histories.{changes_at}
-use Rattle.semantics.specs.Points.{same_place}
 use Rattle.serial_exec.specs.Kept.{kept, changes_in, AreInOrder, AreVersionsOf}
 use Rattle.serial_exec.proofs.Changing.{before-items, items-changes, Rises, items-rise}
 use Rattle.serial_exec.proofs.Gathered.{items_cut}

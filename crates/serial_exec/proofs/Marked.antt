@@ -6,10 +6,9 @@ use Rattle.std.specs.Option.{option_map_or, MatchOption}
 use Rattle.std.proofs.lemmas.Bool.Decides.{nat_tests}
 use Rattle.std.proofs.lemmas.List.Sorted.{IsPermutation-refl}
 use Rattle.std.proofs.lemmas.Map.Entries.{lookup_head, lookup_tail}
-use Rattle.semantics.specs.declared.places.Place.{Place}
+use Rattle.vocabulary.specs.Prelude.{Place, same_place}
 use Rattle.serial_exec.specs.declared.change.Change.{Change}
 use Rattle.serial_exec.specs.declared.marks.Mark.{Mark}
-use Rattle.semantics.specs.Points.{same_place}
 use Rattle.serial_exec.specs.Marks.{AreMarksOf, AreNoted}
 use Rattle.serial_exec.proofs.Marking.{sorted-tell}
 use Rattle.semantics.proofs.lemmas.SamePlaces.{same_place-true}

@@ -10,8 +10,7 @@ use Rattle.std.proofs.lemmas.Cmp.{nat_cmp_total, then_total, on_total}
 use Rattle.std.proofs.lemmas.List.{length-take-le, get_or-take, append-nil, take_rest}
 use Rattle.std.proofs.lemmas.List.Sorted.{sorted_far, ranks_by, sum_by-IsPermutation}
 use Rattle.std.proofs.lemmas.List.Sums.{sum_by-cons, sum_by-append, sum_by-take-drop, sum_by-le-sum_by}
-use Rattle.value_terms.specs.declared.terms.Contribution.{Contribution}
-use Rattle.value_terms.specs.Values.{Bag, same_contribution, comes_before, count_in, Ascends}
+use Rattle.vocabulary.specs.Prelude.{Contribution, Bag, same_contribution, comes_before, count_in, Ascends}
 use Rattle.serial_exec.specs.declared.change.Action.{Action}
 use Rattle.serial_exec.specs.declared.change.Action.TheVariants.{Put, Add}
 use Rattle.serial_exec.specs.declared.change.Change.{Change}

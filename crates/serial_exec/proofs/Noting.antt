@@ -9,14 +9,12 @@ use Rattle.std.proofs.lemmas.List.Folds.{list_any_more}
 use Rattle.std.proofs.lemmas.List.Kept.{AllPairs-from_increasing}
 use Rattle.std.proofs.lemmas.List.{append_assoc, append-nil}
 use Rattle.point_set.specs.Least.{IsLeastFrom}
-use Rattle.semantics.specs.declared.places.Place.{Place}
+use Rattle.vocabulary.specs.Prelude.{Place, is_in, same_place}
 use Rattle.semantics.proofs.lemmas.SamePlaces.{same_place-true}
-use Rattle.semantics.specs.Points.{is_in}
 use Rattle.log_tables.proofs.lemmas.Members.{has_in, in_has}
 use Rattle.serial_exec.specs.declared.change.Change.{Change}
 use Rattle.serial_exec.specs.Changes.{covered}
 use Rattle.serial_exec.specs.Listed.{is_behind, IsPoint}
-use Rattle.semantics.specs.Points.{same_place}
 
 -- A list more at a place.
 pub list-put : {V : Type 0} (items : V → List Change) (old : Place → Option V) (new : Option V) (key k : Place) (list : V) (c : Change)

@@ -6,7 +6,7 @@ use Rattle.std.proofs.lemmas.List.{length-set, length-replicate, get_or-set_same
 use Rattle.std.proofs.lemmas.List.Elements.{filter-append, filter_map-append}
 use Rattle.std.proofs.lemmas.Option.{slice_get-get_or}
 use Rattle.std.proofs.Math.Seq.{take-suc}
-use Rattle.semantics.specs.declared.tables.Req.{Req}
+use Rattle.vocabulary.specs.Prelude.{Req}
 use Rattle.serial_exec.specs.OwnReqs.{AreOwn, IsNoted, reqs_at}
 
 -- A list at a place that is longer by a number.

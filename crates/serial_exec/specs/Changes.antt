@@ -1,17 +1,10 @@
 -- What items do to the value at a place, change by change.
 use Rattle.std.specs.Prelude.{◌≡◌, ℕ, ◌+◌, ◌==◌, ◌&&◌, nat_lt, Bool, List, [], ◌∷◌, ◌++◌, filter, Option, Some, None, slice_get, if◌then◌else◌, ⊤}
 use Rattle.std.specs.Option.{option_map_or}
-use Rattle.privilege.specs.declared.kinds.Priv.{Priv}
+use Rattle.vocabulary.specs.Prelude.{Priv, Value, plain, add_one, Place, Item, Req, Tables, is_in, covers, uses_of}
 use Rattle.privilege.specs.declared.kinds.Priv.TheVariants.{Ro, Rw, Wd, Red}
 use Rattle.value_terms.specs.declared.terms.Base.TheVariants.{Const, Out}
-use Rattle.value_terms.specs.Values.{Value, plain, add_one}
-use Rattle.semantics.specs.declared.places.Place.{Place}
-use Rattle.semantics.specs.declared.tables.Item.{Item}
 use Rattle.semantics.specs.declared.tables.ItemBody.TheVariants.{Task, Fill}
-use Rattle.semantics.specs.declared.tables.Req.{Req}
-use Rattle.semantics.specs.Tables.{Tables}
-use Rattle.semantics.specs.Points.{is_in}
-use Rattle.semantics.specs.Kinds.{covers, uses_of}
 use Rattle.serial_exec.specs.declared.change.Action.{Action}
 use Rattle.serial_exec.specs.declared.change.Action.TheVariants.{Put, Add}
 use Rattle.serial_exec.specs.declared.change.Change.{Change}

@@ -2,8 +2,7 @@
 use Rattle.std.specs.Prelude.{List, []}
 use Rattle.std.specs.Option.{option_map_or}
 use Rattle.std.specs.HashMap.{get}
-use Rattle.semantics.specs.declared.places.Place.{Place}
-use Rattle.semantics.specs.Points.{same_place}
+use Rattle.vocabulary.specs.Prelude.{Place, same_place}
 use Rattle.serial_exec.specs.declared.change.Change.{Change}
 use Rattle.serial_exec.specs.declared.histories.Histories.{Histories}
 

@@ -3,11 +3,7 @@ use Rattle.std.specs.Prelude.{◌≡◌, ℕ, ◌<◌, List, [], map, length, sl
 use Rattle.std.specs.Map.{lookup}
 use Rattle.std.specs.List.Sorted.{IsNonDecreasingBy}
 use Rattle.value_terms.specs.declared.terms.Base.TheVariants.{Init}
-use Rattle.value_terms.specs.Values.{Value, plain}
-use Rattle.semantics.specs.declared.places.Place.{Place}
-use Rattle.semantics.specs.Tables.{Tables}
-use Rattle.semantics.specs.Points.{same_place}
-use Rattle.semantics.specs.Sequential.{wanted}
+use Rattle.vocabulary.specs.Prelude.{Value, plain, Place, Tables, same_place, wanted}
 use Rattle.serial_exec.specs.declared.change.Change.{Change}
 use Rattle.serial_exec.specs.declared.histories.Histories.{Histories}
 use Rattle.serial_exec.specs.Changes.{before, after_changes}

@@ -4,10 +4,7 @@ use Rattle.std.specs.List.{count_by}
 use Rattle.std.specs.List.Sorted.{IsPartitionedBy}
 use Rattle.std.specs.Option.{option_map_or}
 use Rattle.std.specs.HashMap.{get}
-use Rattle.semantics.specs.declared.places.Place.{Place}
-use Rattle.semantics.specs.Points.{same_place}
-use Rattle.value_terms.specs.declared.terms.Contribution.{Contribution}
-use Rattle.value_terms.specs.Values.{comes_before, count_in}
+use Rattle.vocabulary.specs.Prelude.{Place, same_place, Contribution, comes_before, count_in}
 use Rattle.serial_exec.specs.declared.change.Action.{Action}
 use Rattle.serial_exec.specs.declared.change.Action.TheVariants.{Put, Add}
 use Rattle.serial_exec.specs.declared.change.Change.{Change}

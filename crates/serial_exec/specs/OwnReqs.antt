@@ -1,7 +1,7 @@
 -- The requirements of each item, by their positions.
 use Rattle.std.specs.Prelude.{◌≡◌, ℕ, ◌<◌, ◌==◌, List, [], ◌∷◌, ◌++◌, filter, length, slice_get, slice_index_or, if◌then◌else◌}
 use Rattle.std.specs.List.{filter_map}
-use Rattle.semantics.specs.declared.tables.Req.{Req}
+use Rattle.vocabulary.specs.Prelude.{Req}
 
 -- The requirements at some positions.
 abbrev pub reqs_at : List Req → List ℕ → List Req

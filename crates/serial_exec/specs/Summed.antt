@@ -1,8 +1,7 @@
 -- The groups that changes make, run by run.
 use Rattle.std.specs.Prelude.{◌≡◌, ◌≢◌, ℕ, ◌==◌, Bool, false, List, [], ◌∷◌, ◌++◌}
 use Rattle.std.specs.List.{AllByRecursion}
-use Rattle.value_terms.specs.declared.bag.Group.{Group}
-use Rattle.value_terms.specs.Values.{Bag, extended}
+use Rattle.vocabulary.specs.Prelude.{Group, Bag, extended}
 use Rattle.serial_exec.specs.Changes.{IsAdded}
 use Rattle.serial_exec.specs.declared.change.Action.{Action}
 use Rattle.serial_exec.specs.declared.change.Action.TheVariants.{Put, Add}

@@ -2,7 +2,7 @@
 
 ghost use Rattle.std.specs.Prelude.{◌≡◌, ◌↔◌, ◌+◌, ◌^◌, ◌<◌, ◌≤◌, ◌∷◌, true, take, drop, length, IsTrue, MatchOption, []};
 ghost use Rattle.std.specs.List.{AllByRecursion};
-ghost use Rattle.value_terms.specs.Values.{Ascends, IsWellFormedBag, is_raw, joined, plain, total};
+ghost use Rattle.vocabulary.specs.Prelude.{Ascends, IsWellFormedBag, is_raw, joined, plain, total};
 ghost use Rattle.serial_exec.specs.Changes.{IsAdded, after_changes};
 ghost use Rattle.serial_exec.specs.Marks.{AreSorted, AreMarksUntil, IsCounted, IsLeft, Tell};
 ghost use Rattle.serial_exec.specs.Summed as says;

@@ -2,8 +2,7 @@
 
 ghost use Rattle.std.specs.Prelude.{◌≡◌, [], ◌∷◌, ◌++◌, map, length, IfOk, OnOk};
 ghost use Rattle.std.specs.List.Sorted.{IsStrictlyIncreasing};
-ghost use Rattle.semantics.specs.declared.places.Place.{Place};
-ghost use Rattle.semantics.specs.Points.{points_in};
+ghost use Rattle.vocabulary.specs.Prelude.{Place, points_in};
 ghost use Rattle.semantics.specs.SerialOrder.{serial};
 ghost use Rattle.serial_exec.specs.Changes.{Adds, covered, by_task, use_changes, uses_changes, item_changes, items_changes};
 ghost use Rattle.point_laws.specs.Cut.{cut_to};

@@ -2,8 +2,7 @@
 
 ghost use Rattle.std.specs.Prelude.{◌≡◌, ◌++◌, ◌∷◌, [], OnOk, if◌then◌else◌};
 ghost use Rattle.std.specs.List.Sorted.{IsStrictlyIncreasing};
-ghost use Rattle.semantics.specs.declared.places.Place.{Place};
-ghost use Rattle.semantics.specs.Points.{same_place};
+ghost use Rattle.vocabulary.specs.Prelude.{Place, same_place};
 ghost use Rattle.serial_exec.specs.Changes.{Adds, covered};
 ghost use Rattle.point_laws.specs.Cut.{kept};
 ghost use Rattle.listed_points.specs.Listed.{listed_of, IsAscending};

@@ -3,7 +3,7 @@
 ghost use Rattle.std.specs.Prelude.{◌≡◌, ◌≤◌, ◌<◌, ◌++◌, [], false, true, take, length, slice_index_or, IfOk, OnOk};
 ghost use Rattle.std.specs.List.{AllByRecursion};
 ghost use Rattle.std.specs.List.Sorted.{IsPermutation};
-ghost use Rattle.semantics.specs.declared.places.Place.{Place};
+ghost use Rattle.vocabulary.specs.Prelude.{Place};
 ghost use Rattle.serial_exec.specs.declared.marks.Mark.{Mark};
 ghost use Rattle.serial_exec.specs.Marks as says;
 ghost use Rattle.serial_exec.specs.Marks.{marks_by, marks_from, count_before, AreSorted, AreMarksOf, marks_at, AreNoted, AreMarked};

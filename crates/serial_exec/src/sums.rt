@@ -3,7 +3,7 @@
 ghost use Rattle.std.specs.Prelude.{◌≡◌, ◌+◌, ◌-◌, ◌<◌, ◌≤◌, ◌^◌, IfOk};
 ghost use Rattle.std.specs.List.{AllByRecursion};
 ghost use Rattle.value_terms.specs.declared.terms.Base.TheVariants as bases;
-ghost use Rattle.value_terms.specs.Values.{plain, weight_of};
+ghost use Rattle.vocabulary.specs.Prelude.{plain, weight_of};
 ghost use Rattle.serial_exec.specs.Changes.{after_changes, acted_by, AreLast, IsAdded};
 
 use crate::change::{Action, Change};

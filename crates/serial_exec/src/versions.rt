@@ -3,9 +3,7 @@
 ghost use Rattle.std.specs.Prelude.{◌≡◌, ◌↔◌, ℕ, ◌<◌, true, length, IfOk, IsTrue};
 ghost use Rattle.std.specs.List.Sorted.{IsNonDecreasingBy, IsStrictlyIncreasing};
 ghost use Rattle.serial_exec.specs.Changes.{AreFirst, before};
-ghost use Rattle.semantics.specs.declared.places.Place.{Place};
-ghost use Rattle.semantics.specs.Points.{is_in};
-ghost use Rattle.semantics.specs.Sequential.{wanted};
+ghost use Rattle.vocabulary.specs.Prelude.{Place, is_in, wanted};
 ghost use Rattle.point_laws.specs.Cut.{cut, cut_to};
 ghost use Rattle.listed_points.specs.Listed.{listed_of, IsAscending};
 ghost use Rattle.serial_exec.specs.Histories as says;

@@ -3,7 +3,7 @@ use Rattle.std.proofs.Common.{◌≡◌, ◌≢◌, ℕ, zero, suc, ◌+◌, ◌
 use Rattle.std.proofs.lemmas.Bool.{cases_Bool, cases_lt, both_ways, eq-eqb}
 use Rattle.std.proofs.lemmas.Bool.Decides.{nat_tests}
 use Rattle.std.proofs.lemmas.Option.{same_Some, slice_get_within, slice_get-get_or}
-use Rattle.semantics.specs.Events.{Node, WaitsOn, IsChain, Before, AreLinked}
+use Rattle.vocabulary.specs.Prelude.{Node, WaitsOn, IsChain, Before, AreLinked}
 use Rattle.semantics.specs.ReplayOrder.{waits_at, done_at}
 use Rattle.log_laws.proofs.lemmas.Members.{Member, member_of, contains_of, none_or_some, member_at}
 use Rattle.semantics.specs.Spare.{IsBeforeAnother, IsSpare, HaveSameBefore}

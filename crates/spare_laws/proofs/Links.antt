@@ -2,7 +2,7 @@
 use Rattle.std.proofs.Common.{◌≡◌, ℕ, zero, suc, ◌+◌, Bool, false, List, [], ◌∷◌, inl, inr, Some, slice_get, refl, sym, ap, ◌∙◌, subst, arith}
 use Rattle.std.proofs.lemmas.Bool.{cases_Bool}
 use Rattle.std.proofs.lemmas.Option.{same_Some, slice_get_within}
-use Rattle.semantics.specs.Events.{Node, WaitsOn}
+use Rattle.vocabulary.specs.Prelude.{Node, WaitsOn}
 use Rattle.semantics.specs.ReplayOrder.{waits_at, done_at}
 use Rattle.log_laws.proofs.lemmas.Members.{Member, member_of, contains_of, none_or_some, member_at}
 use Rattle.semantics.specs.Spare.{waits_left, nodes_left}

@@ -2,7 +2,7 @@
 use Rattle.std.proofs.Common.{◌≡◌, ◌≢◌, ℕ, suc, ◌<◌, ◌==◌, true, false, List, [], ◌∷◌, ◌++◌, length, inl, inr, refl, sym, subst, arith, Contains, ◌↔◌, if◌then◌else◌, AllPairs}
 use Rattle.std.proofs.lemmas.Bool.{eq-eqb, ne_eqb, cases_eq, false_from_ne_true}
 use Rattle.std.proofs.lemmas.Option.{slice_get_within}
-use Rattle.semantics.specs.Events.{Node, WaitsOn, IsCycle}
+use Rattle.vocabulary.specs.Prelude.{Node, WaitsOn, IsCycle}
 use Rattle.semantics.specs.ReplayOrder.{replay_order, is_stuck}
 use Rattle.log_laws.proofs.lemmas.Members.{Member, member_of}
 use Rattle.log_laws.proofs.lemmas.Apart.{pairs_from}

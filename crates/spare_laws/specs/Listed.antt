@@ -1,7 +1,6 @@
 -- The spare waits of a graph, listed node by node.
 use Rattle.std.specs.Prelude.{◌↔◌, ℕ, ◌<◌, ◌≤◌, ◌+◌, Bool, List, [], ◌∷◌, length, take, sum_by, Contains, AllPairs, if◌then◌else◌}
-use Rattle.semantics.specs.declared.waits.ListedWait.{ListedWait}
-use Rattle.semantics.specs.Events.{Node}
+use Rattle.vocabulary.specs.Prelude.{ListedWait, Node}
 use Rattle.semantics.specs.Spare.{IsSpare, IsAhead}
 
 -- How many waits nodes list, each as often as it is listed.

@@ -1,8 +1,7 @@
 //! Laws of listed waits that others imply. A function has nothing to do: its contract is the law.
 
 ghost use Rattle.std.specs.Prelude.{◌≡◌, ℕ, List, ◌∷◌, Some, Contains, slice_get};
-ghost use Rattle.semantics.specs.declared.waits.ListedWait.{ListedWait};
-ghost use Rattle.semantics.specs.Events.{Node, AreLinked, IsCycle};
+ghost use Rattle.vocabulary.specs.Prelude.{ListedWait, Node, AreLinked, IsCycle};
 ghost use Rattle.semantics.specs.ReplayOrder.{waits_at};
 ghost use Rattle.semantics.specs.Spare.{AreSpareWaits, HaveSameBefore, without};
 

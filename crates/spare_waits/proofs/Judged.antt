@@ -4,8 +4,7 @@ use Rattle.std.specs.List.{list_any}
 use Rattle.std.proofs.lemmas.Bool.{cases_Bool}
 use Rattle.std.proofs.lemmas.List.{get_or-map}
 use Rattle.std.proofs.lemmas.Option.{same_Some, slice_get_within, slice_get-get_or, get_or_from_slice_get}
-use Rattle.semantics.specs.Events.{Node, AreLinked, WaitsOn, Before}
-use Rattle.semantics.specs.Points.{is_in}
+use Rattle.vocabulary.specs.Prelude.{Node, AreLinked, WaitsOn, Before, is_in}
 use Rattle.semantics.specs.ReplayOrder.{waits_at, done_at}
 use Rattle.log_laws.proofs.lemmas.Members.{member_of, contains_of, member_in, is_in_of, any_at, any_found}
 use Rattle.event_graph.specs.Orders.{IsWait}

@@ -18,7 +18,7 @@ pub struct SpareList {
 
 impl Model for SpareList {
     ghost use Rattle.std.specs.Prelude.{List};
-    ghost use Rattle.semantics.specs.declared.waits.ListedWait.{ListedWait};
+    ghost use Rattle.vocabulary.specs.Prelude.{ListedWait};
 
     ghost Value = { List ListedWait };
 

@@ -1,7 +1,7 @@
 //! The search for waits that others imply.
 
 ghost use Rattle.std.specs.Prelude.{◌≡◌, ℕ, ◌<◌, ◌≤◌, ◌+◌, ◌∷◌, length, Some, slice_get, Contains, IfOk, OnOk};
-ghost use Rattle.semantics.specs.declared.waits.ListedWait.{ListedWait};
+ghost use Rattle.vocabulary.specs.Prelude.{ListedWait};
 ghost use Rattle.semantics.specs.ReplayOrder.{waits_at};
 ghost use Rattle.semantics.specs.Spare.{AreSpareWaits, HaveSameBefore, without};
 ghost use Rattle.event_graph.specs.Orders.{IsOrderOf};

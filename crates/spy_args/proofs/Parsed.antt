@@ -8,7 +8,7 @@ use Rattle.std.specs.Str.Parse.{ParsesUnsigned, digits_value}
 use Rattle.std.proofs.lemmas.Bool.{ltb-true, lt-ltb}
 use Rattle.std.proofs.lemmas.Bool.Decides.{nat_tests}
 use Rattle.std.proofs.lemmas.Str.Parse.{IsNumeralModel, numerals_by_value, parse_digits}
-use Rattle.spy_words.specs.Reading.{is_digits, has_leading_zero}
+use Rattle.vocabulary.specs.Prelude.{is_digits, has_leading_zero}
 use Rattle.spy_args.specs.Asked.{number_at}
 
 -- the words of digits, in std's terms

@@ -2,12 +2,11 @@
 use Rattle.std.specs.Prelude.{ℕ, ◌≤◌, ◌^◌, Bool, ◌&&◌, not, nat_le, nat_lt, is_none, List, [], ◌∷◌, length, Option, Some, None, codes, bytes_eq, if◌then◌else◌, option_map, option_and_then}
 use Rattle.std.specs.Str.Parse.{digits_value}
 use Rattle.clap.specs.Walk.{Text}
-use Rattle.spy_words.specs.Reading.{is_digits, has_leading_zero}
+use Rattle.vocabulary.specs.Prelude.{is_digits, has_leading_zero, Ask}
 use Rattle.spy_args.specs.CommandLine.{Words, values_in}
 use Rattle.spy_args.specs.declared.request.Request.{Request}
 use Rattle.spy_args.specs.declared.request.Request.TheVariants.{Judge, Print, Demo}
 use Rattle.semantics.specs.declared.command.Command.TheVariants.{Check, Ordered, Deps, Spare, Why}
-use Rattle.semantics.specs.declared.links.Ask.{Ask}
 
 -- The number of so many bits that a word says: digits, without a leading zero.
 abbrev pub number_at : ℕ → Text → Option ℕ

@@ -7,14 +7,8 @@ use Rattle.std.proofs.lemmas.List.Elements.{All-cons, All-contains_itself, Conta
 use Rattle.std.proofs.lemmas.List.Splits.{length-slice_split, slice_split_none}
 use Rattle.std.proofs.Math.Seq.{take-append-add, drop-append_seam}
 use Rattle.spy_lines.specs.LinesOf.{with_ends, IsLine}
-use Rattle.spy_grammar.specs.declared.code.Code.{Code}
+use Rattle.vocabulary.specs.Prelude.{Code, Record, Lined, line_at, Command, Fault, parts_of, line_count, Hold}
 use Rattle.spy_grammar.specs.declared.code.Code.TheVariants as codes
-use Rattle.spy_grammar.specs.declared.record.Record.{Record}
-use Rattle.spy_grammar.specs.declared.record.Lined.{Lined}
-use Rattle.spy_grammar.specs.Reading.{line_at}
-use Rattle.semantics.specs.declared.command.Command.{Command}
-use Rattle.semantics.specs.declared.faults.Fault.{Fault}
-use Rattle.semantics.specs.Records.{parts_of, line_count, Hold}
 use Rattle.semantics.specs.TextFaults.{ends_within_line, line_fault, lines_fault, text_fault}
 use Rattle.semantics.specs.Faults.{at_line, declaration_fault, ended_fault, first_with, header_fault, is_end, is_header, log_fault, opens}
 use Rattle.spy_cli.specs.Answers.{IsAdmitted}

@@ -1,9 +1,7 @@
 -- Records printed one after another.
 use Rattle.std.proofs.Common.{◌≡◌, ℕ, zero, suc, ◌+◌, List, [], ◌∷◌, ◌++◌, take, refl, sym, ap, ◌∙◌, subst, arith, Some, slice_get}
-use Rattle.spy_grammar.specs.declared.record.Lined.{Lined}
-use Rattle.spy_grammar.specs.Spelling.{Good, spelling}
+use Rattle.vocabulary.specs.Prelude.{Lined, Good, spelling, records_of, text_of}
 use Rattle.std.specs.List.{AllByRecursion}
-use Rattle.semantics.specs.Records.{records_of, text_of}
 use Rattle.std.proofs.lemmas.List.{append_assoc}
 
 -- The items up to one are those before it and itself.

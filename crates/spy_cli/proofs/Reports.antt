@@ -1,16 +1,12 @@
 -- One thing is answered to an input.
 use Rattle.std.proofs.Common.{◌≡◌, ◌≤◌, ◌<◌, ◌^◌, ℕ, arith, List, length, Option, Some, None, refl, sym, ap, subst, ◌∙◌, inl, inr, ◌↔◌}
 use Rattle.std.specs.List.{AllByRecursion}
-use Rattle.spy_grammar.specs.Spelling.{Good}
+use Rattle.vocabulary.specs.Prelude.{Good, Lined, Command, Fault, text_of, records_of, lined, line_count, Reads}
 use Rattle.spy_grammar.specs.declared.code.Code.TheVariants.{TooLong}
-use Rattle.spy_grammar.specs.declared.record.Lined.{Lined}
 use Rattle.findings.specs.declared.finding.Finding.{Finding}
 use Rattle.findings.specs.declared.finding.Finding.TheVariants.{Fault as Faulty}
 use Rattle.findings.specs.Texts as reports
-use Rattle.semantics.specs.declared.command.Command.{Command}
 use Rattle.semantics.specs.declared.command.Command.TheVariants as commands
-use Rattle.semantics.specs.declared.faults.Fault.{Fault}
-use Rattle.semantics.specs.Records.{text_of, records_of, lined, line_count, Reads}
 use Rattle.semantics.specs.TextFaults.{text_fault}
 use Rattle.outcomes.specs.Outcome.{IsFound, IsOutcome, IsPrinted, HasTextFault}
 use Rattle.log_gen.specs.Stencil.{stencil}

@@ -1,12 +1,8 @@
 -- Inputs that are cut off.
 use Rattle.std.specs.Prelude.{◌≡◌, ℕ, ◌<◌, ◌++◌, true, List, Contains}
-use Rattle.spy_grammar.specs.declared.code.Code.{Code}
+use Rattle.vocabulary.specs.Prelude.{Code, Lined, Command, Fault, line_count}
 use Rattle.spy_grammar.specs.declared.code.Code.TheVariants.{Ended, Header, Newline}
-use Rattle.spy_grammar.specs.declared.record.Lined.{Lined}
 use Rattle.findings.specs.declared.finding.Finding.TheVariants as findings
-use Rattle.semantics.specs.declared.command.Command.{Command}
-use Rattle.semantics.specs.declared.faults.Fault.{Fault}
-use Rattle.semantics.specs.Records.{line_count}
 use Rattle.semantics.specs.Faults.{is_end}
 use Rattle.outcomes.specs.Outcome.{IsOutcome}
 

@@ -2,8 +2,7 @@
 
 ghost use Rattle.std.specs.Prelude.{◌≡◌, ◌≤◌, ◌^◌, length, IfOk};
 ghost use Rattle.std.specs.List.{AllByRecursion};
-ghost use Rattle.spy_grammar.specs.Spelling.{Good};
-ghost use Rattle.semantics.specs.Records.{records_of, text_of};
+ghost use Rattle.vocabulary.specs.Prelude.{Good, records_of, text_of};
 ghost use Rattle.spy_cli.specs.Answers.{IsPrintAnswer};
 
 use crate::report::{Report, fault_report};

@@ -1,10 +1,8 @@
 //! Laws of what is answered. Each function has nothing to do: its contract is the law.
 
 ghost use Rattle.std.specs.Prelude.{◌≡◌, ◌↔◌, ℕ, List};
-ghost use Rattle.spy_grammar.specs.declared.record.Lined.{Lined};
+ghost use Rattle.vocabulary.specs.Prelude.{Lined, Command, Reads, lined, line_count, records_of};
 ghost use Rattle.findings.specs.declared.finding.Finding.{Finding};
-ghost use Rattle.semantics.specs.declared.command.Command.{Command};
-ghost use Rattle.semantics.specs.Records.{Reads, lined, line_count, records_of};
 ghost use Rattle.outcomes.specs.Outcome.{IsFound, IsOutcome, IsPrinted};
 ghost use Rattle.spy_args.specs.declared.request.Request.{Request};
 ghost use Rattle.spy_args.specs.Asked.{IsSized};

@@ -3,7 +3,7 @@
 ghost use Rattle.std.specs.Prelude.{◌≡◌, ◌≢◌, ◌⊎◌, ◌+◌, ◌≤◌, ℕ, List, true, false, Some, None, map, string_bytes};
 ghost use Rattle.std.specs.Io.KnownBytes.{Appends};
 ghost use Rattle.spy_io.specs.Causes.{Rose, Grows, Takes};
-ghost use Rattle.semantics.specs.declared.command.Command.{Command};
+ghost use Rattle.vocabulary.specs.Prelude.{Command};
 ghost use Rattle.semantics.specs.declared.limits.TheConstants.{MOST_BYTES};
 ghost use Rattle.spy_args.specs.declared.request.Request.{Request};
 ghost use Rattle.spy_args.specs.Asked.{asked};

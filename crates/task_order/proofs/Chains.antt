@@ -2,9 +2,8 @@
 use Rattle.std.proofs.Common.{◌≡◌, ℕ, ◌<◌, ◌≤◌, inl, inr, ◌⊎◌, List, [], ◌∷◌, length, refl, ap, arith}
 use Rattle.std.proofs.lemmas.Bool.{lt-ltb, le-ltb}
 use Rattle.std.proofs.lemmas.Option.{slice_get_within}
-use Rattle.semantics.specs.Tables.{Tables}
+use Rattle.vocabulary.specs.Prelude.{Tables, Node, IsChain, Before, graph_of}
 use Rattle.semantics.specs.SerialOrder.{serial_place, by_serial}
-use Rattle.semantics.specs.Events.{Node, IsChain, Before, graph_of}
 use Rattle.semantics.specs.Shown.{run_of, IsKept}
 use Rattle.reach_marks.specs.Reached.{Marks, AreMarksOf}
 

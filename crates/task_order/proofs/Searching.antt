@@ -3,10 +3,8 @@ use Rattle.std.proofs.Common.{◌≡◌, ℕ, suc, ◌+◌, ◌-◌, ◌<◌, �
 use Rattle.std.specs.Prelude.{position, unwrap_or}
 use Rattle.std.specs.List.{AllByRecursion, position_or_len, range_with_len}
 use Rattle.std.proofs.lemmas.List.{length-map, length-append}
-use Rattle.semantics.specs.declared.tables.Item.{Item}
-use Rattle.semantics.specs.declared.tables.LogNode.{LogNode}
+use Rattle.vocabulary.specs.Prelude.{Item, LogNode, Tables}
 use Rattle.semantics.specs.Rules.{runs_item}
-use Rattle.semantics.specs.Tables.{Tables}
 use Rattle.semantics.specs.Shown.{run_of, task_pairs, IsKept, AreKept, IsShownPair}
 use Rattle.log_laws.proofs.lemmas.Members.{Member, contains_of, map_member, member_left}
 use Rattle.log_laws.proofs.lemmas.Apart.{number_from}

@@ -1,9 +1,7 @@
 -- The pairs of tasks among some pairs of items, and the first of some that fails.
 use Rattle.std.specs.Prelude.{◌≡◌, ℕ, ◌+◌, ◌<◌, ◌^◌, List, ◌∷◌, ◌++◌, map, filter, Some, length, Contains}
 use Rattle.std.specs.List.{AllByRecursion}
-use Rattle.semantics.specs.declared.tables.Item.{Item}
-use Rattle.semantics.specs.Tables.{Tables}
-use Rattle.semantics.specs.Kinds.{least_place}
+use Rattle.vocabulary.specs.Prelude.{Item, Tables, least_place}
 use Rattle.semantics.specs.Shown.{task_pairs, IsKept, AreKept, IsShownPair}
 use Rattle.interference.specs.declared.pair.Pair.{Pair}
 use Rattle.interference.specs.Pairing.{all_pairs}

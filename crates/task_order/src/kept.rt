@@ -1,7 +1,7 @@
 //! Whether two tasks are run in serial order.
 
 ghost use Rattle.std.specs.Prelude.{◌↔◌, ◌<◌, List, length, IsTrue};
-ghost use Rattle.semantics.specs.Events.{Node, Before, graph_of};
+ghost use Rattle.vocabulary.specs.Prelude.{Node, Before, graph_of};
 ghost use Rattle.semantics.specs.Shown.{IsKept};
 ghost use Rattle.reach_marks.specs.Reached.{AreMarksOf};
 ghost use Rattle.task_order.specs.Runs.{AreRunsOf};

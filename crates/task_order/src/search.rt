@@ -1,7 +1,7 @@
 //! The first two tasks that interfere and are not run in serial order.
 
 ghost use Rattle.std.specs.Prelude.{◌<◌, ◌≤◌, ◌^◌, length, IfErr, IfOk};
-ghost use Rattle.semantics.specs.Events.{graph_of};
+ghost use Rattle.vocabulary.specs.Prelude.{graph_of};
 ghost use Rattle.reach_marks.specs.Reached.{AreMarksOf};
 ghost use Rattle.task_order.specs.Runs.{AreRunsOf};
 ghost use Rattle.task_order.specs.Searched.{GoesOn, IsTaskOrder, Shows};

@@ -6,32 +6,15 @@ use Rattle.std.specs.Option.{option_map_or}
 use Rattle.std.proofs.lemmas.Bool.{or_parts, not-false, true≢false, cond_both}
 use Rattle.std.proofs.lemmas.Bool.Decides.{nat_tests}
 use Rattle.std.proofs.lemmas.List.Elements.{recursion_from_All}
-use Rattle.privilege.specs.declared.kinds.Priv.{Priv}
+use Rattle.vocabulary.specs.Prelude.{Priv, may_read, InstKind, Record, Lined, Cell, Move, Req, Inst, Map, LogNode, Op, records_of, Tables, place_of, with_record, tables_of, is_in, points_in, reqs_of, grid, req_grid, req_at, Step, steps, id_of, inst_at, mapped, mapped_cell, at_cells, reads_by, changes_by, run_moves, move_of, data_moves, moves_of}
 use Rattle.privilege.specs.declared.kinds.Priv.TheVariants as privileges
-use Rattle.privilege.specs.Allowed.{may_read}
-use Rattle.spy_words.specs.declared.access.InstKind.{InstKind}
 use Rattle.spy_words.specs.declared.access.InstKind.TheVariants as layouts
 use Rattle.spy_grammar.specs.declared.code.Code.TheVariants as codes
-use Rattle.spy_grammar.specs.declared.record.Record.{Record}
 use Rattle.spy_grammar.specs.declared.record.Record.TheVariants as records
-use Rattle.spy_grammar.specs.declared.record.Lined.{Lined}
 use Rattle.semantics.specs.declared.command.Command.TheVariants.{Check}
-use Rattle.semantics.specs.declared.places.Cell.{Cell}
-use Rattle.semantics.specs.declared.moves.Move.{Move}
 use Rattle.semantics.specs.declared.moves.Move.TheVariants as moves
-use Rattle.semantics.specs.declared.tables.Req.{Req}
-use Rattle.semantics.specs.declared.tables.Inst.{Inst}
-use Rattle.semantics.specs.declared.tables.Map.{Map}
-use Rattle.semantics.specs.declared.tables.LogNode.{LogNode}
-use Rattle.semantics.specs.declared.tables.Op.{Op}
 use Rattle.semantics.specs.declared.tables.Op.TheVariants as operations
 use Rattle.semantics.specs.DataOps.{DataAct, Copies, Puts, Resets, Folds, DataOp, data_of}
-use Rattle.semantics.specs.Records.{records_of}
-use Rattle.semantics.specs.Tables.{Tables, place_of, with_record, tables_of}
-use Rattle.semantics.specs.Points.{is_in, points_in}
-use Rattle.semantics.specs.Kinds.{reqs_of, grid, req_grid}
-use Rattle.semantics.specs.Reads.{req_at}
-use Rattle.semantics.specs.Steps.{Step, steps, id_of, inst_at, mapped, mapped_cell, at_cells, reads_by, changes_by, run_moves, move_of, data_moves, moves_of}
 use Rattle.semantics.specs.Rules.{is_declared, is_reduction, reduces_in, is_of_wrong_kind, fits, names, inst_id}
 use Rattle.log_laws.proofs.lemmas.Members.{Member, Each, each_more, member_at, member_append, member_flat, member_map, member_filter, found_at, all_at, find_any, find_still, none_or_some, only}
 use Rattle.log_laws.proofs.lemmas.Apart.{member_grid}

@@ -2,14 +2,9 @@
 use Rattle.std.proofs.Common.{◌≡◌, ◌≢◌, ℕ, ◌+◌, ◌⊎◌, inl, inr, sym, ap, ◌∙◌, Bool, true, false, cond, List, [], ◌∷◌, map, refl, subst, Option, Some, None, option_map}
 use Rattle.std.proofs.lemmas.Bool.{cond_both}
 use Rattle.std.proofs.lemmas.Option.{same_Some}
-use Rattle.semantics.specs.declared.links.Link.{Link}
+use Rattle.vocabulary.specs.Prelude.{Link, Cell, Move, Tables, Step, same_cell}
 use Rattle.semantics.specs.declared.links.LinkKind.TheVariants as kinds
-use Rattle.semantics.specs.declared.places.Cell.{Cell}
-use Rattle.semantics.specs.declared.moves.Move.{Move}
 use Rattle.semantics.specs.declared.moves.Move.TheVariants.{Read, Write, Reduce, Copy, Put, Reset, Fold}
-use Rattle.semantics.specs.Tables.{Tables}
-use Rattle.semantics.specs.Steps.{Step}
-use Rattle.semantics.specs.Execution.{same_cell}
 use Rattle.semantics.specs.Links.{Touch, Leaves, Adds, Puts, Takes, touch, Source, with_last, sources_of, cell_read, ComesFrom, kind_of, link_of, EndsInOrigin}
 use Rattle.log_laws.proofs.lemmas.Members.{Member, only}
 use Rattle.log_laws.proofs.lemmas.Tidy.{one_cell, place}

@@ -3,12 +3,9 @@ use mathlib.Core.Path.{fun_ext}
 use Rattle.std.proofs.Common.{◌≡◌, ℕ, ◌+◌, inl, inr, Bool, true, false, cond, List, [], ◌∷◌, refl, sym, ap, ◌∙◌, subst, Option, Some, option_map, arith}
 use Rattle.std.proofs.lemmas.Bool.{true≢false}
 use Rattle.std.proofs.lemmas.Bool.Decides.{nat_tests}
-use Rattle.semantics.specs.declared.places.Cell.{Cell}
-use Rattle.semantics.specs.declared.moves.Move.{Move}
+use Rattle.vocabulary.specs.Prelude.{Cell, Move, Step, same_cell, Access, Untouched, Writes, Folds, at_cell, access, conflicts, IsCalm}
 use Rattle.semantics.specs.declared.moves.Move.TheVariants.{Read, Write, Reduce, Copy, Put, Reset, Fold}
-use Rattle.semantics.specs.Steps.{Step}
-use Rattle.semantics.specs.Execution.{same_cell}
-use Rattle.semantics.specs.Races.{Access, Untouched, Reads, Writes, Folds, at_cell, access, conflicts, IsCalm}
+use Rattle.semantics.specs.Races.{Reads}
 use Rattle.semantics.specs.Links.{Touch, Leaves, Adds, Puts, Takes, touch, Source, with_last, sources_of, cell_read, ComesFrom}
 use Rattle.log_laws.proofs.lemmas.Turns.{SeesIn}
 

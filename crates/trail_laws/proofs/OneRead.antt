@@ -2,21 +2,11 @@
 use Rattle.std.proofs.Common.{◌≡◌, ℕ, inl, inr, true, false, ◌&&◌, ◌==◌, List, Option, Some, None, refl, sym, ap, ap₂, ◌∙◌, subst, Contains}
 use Rattle.std.proofs.lemmas.Bool.{and_parts, eqb-true, true≢false}
 use Rattle.std.proofs.lemmas.Option.{same_Some}
-use Rattle.spy_grammar.specs.declared.record.Lined.{Lined}
+use Rattle.vocabulary.specs.Prelude.{Lined, Ask, Move, Cell, Req, Op, Tables, tables_of, place_of, points_in, reqs_of, grid, Step, steps, id_of, mapped_cell, at_cells, move_of, data_moves, moves_of, is_read}
 use Rattle.semantics.specs.declared.command.Command.TheVariants.{Check}
-use Rattle.semantics.specs.declared.links.Ask.{Ask}
-use Rattle.semantics.specs.declared.moves.Move.{Move}
 use Rattle.semantics.specs.declared.moves.Move.TheVariants as moves
-use Rattle.semantics.specs.declared.places.Cell.{Cell}
-use Rattle.semantics.specs.declared.tables.Req.{Req}
-use Rattle.semantics.specs.declared.tables.Op.{Op}
 use Rattle.semantics.specs.declared.tables.Op.TheVariants as operations
 use Rattle.semantics.specs.DataOps.{DataAct, Copies, Puts, Resets, Folds, DataOp, data_of}
-use Rattle.semantics.specs.Tables.{Tables, tables_of, place_of}
-use Rattle.semantics.specs.Points.{points_in}
-use Rattle.semantics.specs.Kinds.{reqs_of, grid}
-use Rattle.semantics.specs.Steps.{Step, steps, id_of, mapped_cell, at_cells, move_of, data_moves, moves_of}
-use Rattle.semantics.specs.Interleavings.{is_read}
 use Rattle.semantics.specs.Links.{is_asked, cell_read}
 use Rattle.log_laws.proofs.lemmas.Members.{Member, member_of, member_append, member_map, member_filter}
 use Rattle.log_laws.proofs.lemmas.Admitted.{IsFaultless, sane}

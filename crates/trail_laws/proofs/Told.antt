@@ -4,13 +4,8 @@ use Rattle.std.specs.List.{AllByRecursion}
 use Rattle.std.proofs.lemmas.Bool.{true≢false}
 use Rattle.std.proofs.lemmas.Option.{same_Some}
 use Rattle.value_terms.specs.declared.terms.Base.TheVariants.{Const, Out, Ident}
-use Rattle.value_terms.specs.Values.{Value, plain, add_one, fold_in}
-use Rattle.semantics.specs.declared.places.Cell.{Cell}
-use Rattle.semantics.specs.declared.moves.Move.{Move}
+use Rattle.vocabulary.specs.Prelude.{Value, plain, add_one, fold_in, Cell, Move, Tables, Step, State, start, same_cell, effect, sees, ReadsIn}
 use Rattle.semantics.specs.declared.moves.Move.TheVariants.{Read, Write, Reduce, Copy, Put, Reset, Fold}
-use Rattle.semantics.specs.Tables.{Tables}
-use Rattle.semantics.specs.Steps.{Step}
-use Rattle.semantics.specs.Execution.{State, start, same_cell, effect, sees, ReadsIn}
 use Rattle.semantics.specs.Rules.{reduces_in}
 use Rattle.log_laws.proofs.lemmas.Members.{Member}
 use Rattle.log_laws.proofs.lemmas.Apart.{Apart}

@@ -2,18 +2,9 @@
 
 ghost use Rattle.std.specs.Prelude.{◌≡◌, ◌↔◌, ◌⊎◌, ℕ, List, [], None, Contains};
 ghost use Rattle.std.specs.List.{AllByRecursion};
-ghost use Rattle.spy_grammar.specs.declared.record.Lined.{Lined};
-ghost use Rattle.spy_grammar.specs.Spelling.{Good};
+ghost use Rattle.vocabulary.specs.Prelude.{Lined, Good, Ask, Link, records_of, tables_of, HasNoCycle, Step, IsInterleaving, IsRaceFree};
 ghost use Rattle.semantics.specs.declared.command.Command.TheVariants.{Check};
-ghost use Rattle.semantics.specs.declared.links.Ask.{Ask};
-ghost use Rattle.semantics.specs.declared.links.Link.{Link};
 ghost use Rattle.semantics.specs.declared.links.LinkKind.TheVariants as kinds;
-ghost use Rattle.semantics.specs.Records.{records_of};
-ghost use Rattle.semantics.specs.Tables.{tables_of};
-ghost use Rattle.semantics.specs.Events.{HasNoCycle};
-ghost use Rattle.semantics.specs.Steps.{Step};
-ghost use Rattle.semantics.specs.Interleavings.{IsInterleaving};
-ghost use Rattle.semantics.specs.Races.{IsRaceFree};
 ghost use Rattle.semantics.specs.Faults.{log_fault};
 ghost use Rattle.semantics.specs.Links.{Source, ComesFrom, AreLinksOf, IsNoRead, EndsInOrigin, TellValue};
 

@@ -1,9 +1,8 @@
 -- A differing read, as a replay tells it.
 use Rattle.std.proofs.Common.{◌≡◌, ℕ, refl, subst, Ok, Err}
 use Rattle.std.specs.Prelude.{Result, IfErr}
-use Rattle.value_terms.specs.Values.{Value}
+use Rattle.vocabulary.specs.Prelude.{Value, Tables}
 use Rattle.findings.specs.declared.finding.Finding.TheVariants.{Differ as Differing}
-use Rattle.semantics.specs.Tables.{Tables}
 use Rattle.replay.specs.Ends.{IsEndOf}
 use Rattle.replay.specs.declared.ends.Reads.{Reads}
 use Rattle.replay.specs.declared.ends.ReplayEnd.{ReplayEnd}

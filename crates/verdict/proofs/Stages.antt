@@ -3,9 +3,8 @@ use Rattle.std.specs.Prelude.{◌↔◌}
 use Rattle.findings.specs.declared.finding.Finding.{Finding}
 use Rattle.findings.specs.declared.finding.Finding.TheVariants as findings
 use Rattle.semantics.specs.declared.command.Command.TheVariants.{Check, Why}
-use Rattle.semantics.specs.declared.links.Ask.{Ask}
+use Rattle.vocabulary.specs.Prelude.{Ask, Tables}
 use Rattle.outcomes.specs.Outcome.{CheckFinds, WhyFinds}
-use Rattle.semantics.specs.Tables.{Tables}
 use Rattle.long_values.specs.LongOutcome.{CheckFindsLong}
 use Rattle.log_findings.specs.Findings.{IsFoundOf}
 use Rattle.verdict.specs.Stages.{FindsCycle, FindsDifference, FindsFault, FindsRace, FindsUnclean, IsStop}

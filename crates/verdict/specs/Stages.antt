@@ -5,7 +5,7 @@ use Rattle.findings.specs.declared.finding.Finding.TheVariants as findings
 use Rattle.findings.specs.Texts.{Good}
 use Rattle.semantics.specs.declared.command.Command.TheVariants.{Check}
 use Rattle.outcomes.specs.Outcome.{CheckFinds}
-use Rattle.semantics.specs.Tables.{Tables}
+use Rattle.vocabulary.specs.Prelude.{Tables}
 use Rattle.log_findings.specs.Findings.{table_fault}
 use Rattle.verdict.specs.declared.stop.Stop.{Stop}
 use Rattle.verdict.specs.declared.stop.Stop.TheVariants.{Found, Memory}

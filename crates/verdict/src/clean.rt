@@ -1,8 +1,7 @@
 //! A log without a race.
 
 ghost use Rattle.std.specs.Prelude.{◌≡◌, IfOk, IfErr, OnOk};
-ghost use Rattle.semantics.specs.Events.{HasNoCycle};
-ghost use Rattle.semantics.specs.Races.{IsRaceFree};
+ghost use Rattle.vocabulary.specs.Prelude.{HasNoCycle, IsRaceFree};
 ghost use Rattle.findings.specs.Texts as texts;
 ghost use Rattle.outcomes.specs.Outcome.{IsSound, WhyFinds};
 ghost use Rattle.long_values.specs.LongOutcome.{CheckFindsLong, IsSoundLong};
@@ -27,8 +26,7 @@ pub struct Clean<'a, P: PointSet + Copy> {
 }
 
 impl<'a, P: PointSet + Copy> Model for Clean<'a, P> {
-    ghost use Rattle.semantics.specs.Races.{IsRaceFree};
-    ghost use Rattle.semantics.specs.Tables.{Tables};
+    ghost use Rattle.vocabulary.specs.Prelude.{IsRaceFree, Tables};
 
     ghost Value = { Tables };
 

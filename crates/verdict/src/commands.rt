@@ -2,11 +2,10 @@
 
 ghost use Rattle.std.specs.Prelude.{◌≡◌, All, IfOk};
 ghost use Rattle.findings.specs.Texts as texts;
-ghost use Rattle.spy_grammar.specs.Spelling.{Good};
+ghost use Rattle.vocabulary.specs.Prelude.{Good, AreLines};
 ghost use Rattle.semantics.specs.declared.command.Command.TheVariants.{Check, Deps, Ordered, Spare, Why};
 ghost use Rattle.outcomes.specs.Outcome.{IsFound};
 ghost use Rattle.long_values.specs.LongOutcome.{IsFoundLong};
-ghost use Rattle.semantics.specs.Records.{AreLines};
 ghost use Rattle.log_findings.specs.Findings.{IsFoundOf};
 
 use crate::asking::why_in;

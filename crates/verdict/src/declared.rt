@@ -4,7 +4,7 @@ ghost use Rattle.std.specs.Prelude.{◌≡◌, ◌≢◌, None, IfOk, OnOk, IfEr
 ghost use Rattle.semantics.specs.declared.command.Command.TheVariants.{Check};
 ghost use Rattle.verdict.specs.declared.stop.Stop.{Stop};
 ghost use Rattle.log_findings.specs.Findings as faults;
-ghost use Rattle.semantics.specs.Events.{HasNoCycle};
+ghost use Rattle.vocabulary.specs.Prelude.{HasNoCycle};
 ghost use Rattle.verdict.specs.Stages.{FindsCycle, FindsFault, IsStop};
 ghost use Rattle.log_findings.specs.Faultless.{AreFaultless};
 
@@ -28,7 +28,7 @@ pub struct Declared<'a, P: PointSet + Copy> {
 impl<'a, P: PointSet + Copy> Model for Declared<'a, P> {
     ghost use Rattle.std.specs.Prelude.{◌≡◌, None};
     ghost use Rattle.semantics.specs.declared.command.Command.TheVariants.{Check};
-    ghost use Rattle.semantics.specs.Tables.{Tables};
+    ghost use Rattle.vocabulary.specs.Prelude.{Tables};
     ghost use Rattle.log_findings.specs.Findings.{table_fault};
 
     ghost Value = { Tables };

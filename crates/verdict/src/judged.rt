@@ -27,7 +27,7 @@ impl<'a, P: PointSet + Copy> Model for Judged<'a, P> {
     ghost use Rattle.semantics.specs.declared.command.Command.TheVariants.{Check};
     ghost use Rattle.semantics.specs.Counts.{read_count};
     ghost use Rattle.outcomes.specs.Outcome.{IsSound};
-    ghost use Rattle.semantics.specs.Tables.{Tables};
+    ghost use Rattle.vocabulary.specs.Prelude.{Tables};
     ghost use Rattle.log_findings.specs.Findings.{table_fault};
 
     ghost Value = { Tables };

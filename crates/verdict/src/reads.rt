@@ -2,11 +2,9 @@
 
 ghost use Rattle.std.specs.Prelude.{◌≡◌, None, IfOk, IfErr, OnOk};
 ghost use Rattle.semantics.specs.declared.command.Command.TheVariants.{Check};
-ghost use Rattle.semantics.specs.Events.{graph_of};
+ghost use Rattle.vocabulary.specs.Prelude.{graph_of, IsRaceFree, shown_difference};
 ghost use Rattle.outcomes.specs.Outcome.{IsSound};
 ghost use Rattle.semantics.specs.Counts.{read_count};
-ghost use Rattle.semantics.specs.Races.{IsRaceFree};
-ghost use Rattle.semantics.specs.Reads.{shown_difference};
 ghost use Rattle.replay.specs.Ends.{IsEndOf};
 ghost use Rattle.long_values.specs.LongOutcome.{CheckFindsLong, IsSoundLong};
 ghost use Rattle.point_laws.specs.Alike.{AreFirsts};

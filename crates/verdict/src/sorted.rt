@@ -3,11 +3,10 @@
 ghost use Rattle.std.specs.Prelude.{◌≡◌, None, IfOk, IfErr, OnOk};
 ghost use Rattle.semantics.specs.declared.command.Command.TheVariants.{Check};
 ghost use Rattle.semantics.specs.Counts.{read_count};
-ghost use Rattle.semantics.specs.Events.{graph_of, HasNoCycle};
+ghost use Rattle.vocabulary.specs.Prelude.{graph_of, HasNoCycle, IsRaceFree};
 ghost use Rattle.findings.specs.Texts as texts;
 ghost use Rattle.outcomes.specs.Outcome.{IsSound, WhyFinds};
 ghost use Rattle.long_values.specs.LongOutcome.{CheckFindsLong, IsSoundLong};
-ghost use Rattle.semantics.specs.Races.{IsRaceFree};
 ghost use Rattle.point_laws.specs.Alike.{AreFirsts};
 ghost use Rattle.atoms.specs.Atoms.{first_points};
 ghost use Rattle.verdict.specs.declared.stop.Stop.{Stop};
@@ -43,8 +42,7 @@ pub struct Sorted<'a, P: PointSet + Copy> {
 impl<'a, P: PointSet + Copy> Model for Sorted<'a, P> {
     ghost use Rattle.std.specs.Prelude.{◌≡◌, None};
     ghost use Rattle.semantics.specs.declared.command.Command.TheVariants.{Check};
-    ghost use Rattle.semantics.specs.Events.{graph_of};
-    ghost use Rattle.semantics.specs.Tables.{Tables};
+    ghost use Rattle.vocabulary.specs.Prelude.{graph_of, Tables};
     ghost use Rattle.point_laws.specs.Alike.{AreFirsts};
     ghost use Rattle.atoms.specs.Atoms.{first_points};
     ghost use Rattle.log_findings.specs.Findings.{table_fault};

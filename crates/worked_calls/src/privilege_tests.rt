@@ -1,7 +1,7 @@
 //! What a marker is known to be by its bound alone.
 
 ghost use Rattle.std.specs.Prelude.{◌≡◌, true};
-ghost use Rattle.privilege.specs.Allowed.{may_read, may_write};
+ghost use Rattle.vocabulary.specs.Prelude.{may_read, may_write};
 
 use privilege::{Folds, Priv, Privilege, Reads, Red, Ro, Rw, Wd, Writes};
 

@@ -1,9 +1,8 @@
 //! Where reads of a few recorded runs came from, found by hand.
 
 ghost use Rattle.std.specs.Prelude.{◌≡◌, None};
-ghost use Rattle.semantics.specs.Events.{graph_of};
+ghost use Rattle.vocabulary.specs.Prelude.{graph_of, IsRaceFree};
 ghost use Rattle.semantics.specs.Faults.{unmapped_fault};
-ghost use Rattle.semantics.specs.Races.{IsRaceFree};
 ghost use Rattle.event_graph.specs.Orders.{IsOrderOf};
 
 use crate::framed_logs::log_of;

@@ -1,7 +1,7 @@
 //! The race that is shown of a few recorded runs, or what their replay finds, judged by hand.
 
 ghost use Rattle.std.specs.Prelude.{◌≡◌, IfOk, None};
-ghost use Rattle.semantics.specs.Events.{graph_of};
+ghost use Rattle.vocabulary.specs.Prelude.{graph_of};
 ghost use Rattle.semantics.specs.Faults.{unmapped_fault};
 ghost use Rattle.event_graph.specs.Orders.{IsOrderOf};
 ghost use Rattle.point_laws.specs.Alike.{AreFirsts};

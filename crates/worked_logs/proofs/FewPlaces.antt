@@ -4,9 +4,7 @@ use Rattle.std.specs.List.{range_with_len}
 use Rattle.std.proofs.lemmas.Bool.{le-ltb, lt-ltb}
 use Rattle.std.proofs.lemmas.List.FromFn.{length-range_with_len}
 use Rattle.spy_grammar.specs.declared.code.Code.TheVariants as codes
-use Rattle.semantics.specs.Records.{lined}
-use Rattle.semantics.specs.Tables.{points_of}
-use Rattle.semantics.specs.Kinds.{grid}
+use Rattle.vocabulary.specs.Prelude.{lined, points_of, grid}
 use Rattle.semantics.specs.declared.command.Command.TheVariants.{Check}
 use Rattle.semantics.specs.Faults.{at_line, log_fault}
 use Rattle.semantics.specs.Computed.{logs_computed}

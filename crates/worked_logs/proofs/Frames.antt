@@ -5,15 +5,10 @@ use Rattle.std.proofs.lemmas.Bool.{le-ltb}
 use Rattle.std.proofs.lemmas.List.{map-append}
 use Rattle.std.proofs.lemmas.List.Elements.{All-head, All-tail}
 use Rattle.std.proofs.lemmas.List.Sums.{fold-append, sum_by_push}
-use Rattle.spy_grammar.specs.declared.code.Code.{Code}
+use Rattle.vocabulary.specs.Prelude.{Code, Record, Lined, records_of, lined, lined_from, Tables, with_record, no_tables, tables_of, Fault}
 use Rattle.spy_grammar.specs.declared.code.Code.TheVariants as codes
-use Rattle.spy_grammar.specs.declared.record.Record.{Record}
 use Rattle.spy_grammar.specs.declared.record.Record.TheVariants.{End}
-use Rattle.spy_grammar.specs.declared.record.Lined.{Lined}
-use Rattle.semantics.specs.Records.{records_of, lined, lined_from}
-use Rattle.semantics.specs.Tables.{Tables, with_record, no_tables, tables_of}
 use Rattle.semantics.specs.Rules.{accesses}
-use Rattle.semantics.specs.declared.faults.Fault.{Fault}
 use Rattle.semantics.specs.Faults.{at_line, is_header, is_end, first_with, miscounts, header_fault, ended_fault, count_fault, first_broken, record_in, records_fault, declaration_fault}
 use Rattle.worked_logs.specs.WorkedLimits.{framed}
 use Rattle.log_laws.proofs.lemmas.Numbered.{records_numbered}

@@ -6,8 +6,7 @@ use Rattle.std.proofs.lemmas.List.Concat.{length-flat_map}
 use Rattle.std.proofs.lemmas.List.Elements.{All-nil, All-head, All-tail, All-append, All-map}
 use Rattle.std.proofs.lemmas.List.Folds.{list_any_at}
 use Rattle.std.proofs.lemmas.List.Sums.{sum_by-cons, list_all-from_AllPass, AllPass-from_list_all}
-use Rattle.semantics.specs.Points.{is_in, is_within}
-use Rattle.semantics.specs.Kinds.{grid}
+use Rattle.vocabulary.specs.Prelude.{is_in, is_within, grid}
 
 -- Each number of a list is in the list.
 pub within_itself : (ns : List ℕ) → is_within ns ns ≡ true

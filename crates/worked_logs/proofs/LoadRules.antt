@@ -8,20 +8,11 @@ use Rattle.std.proofs.lemmas.List.Elements.{All-push, All-weaker}
 use Rattle.std.proofs.lemmas.List.Folds.{list_any_none}
 use Rattle.spy_words.specs.declared.access.PrivWord.TheVariants as words
 use Rattle.spy_words.specs.declared.access.InstKind.TheVariants as layouts
-use Rattle.spy_grammar.specs.declared.code.Code.{Code}
+use Rattle.vocabulary.specs.Prelude.{Code, Record, Lined, agree, Req, Inst, records_of, Tables, with_record, no_tables, tables_of, meets, points_in, covers, grid}
 use Rattle.spy_grammar.specs.declared.code.Code.TheVariants as codes
-use Rattle.spy_grammar.specs.declared.record.Record.{Record}
 use Rattle.spy_grammar.specs.declared.record.Record.TheVariants as records
-use Rattle.spy_grammar.specs.declared.record.Lined.{Lined}
 use Rattle.privilege.specs.declared.kinds.Priv.TheVariants as privileges
-use Rattle.privilege.specs.Interference.{agree}
 use Rattle.semantics.specs.declared.tables.ItemBody.TheVariants as bodies
-use Rattle.semantics.specs.declared.tables.Req.{Req}
-use Rattle.semantics.specs.declared.tables.Inst.{Inst}
-use Rattle.semantics.specs.Records.{records_of}
-use Rattle.semantics.specs.Tables.{Tables, with_record, no_tables, tables_of}
-use Rattle.semantics.specs.Points.{meets, points_in}
-use Rattle.semantics.specs.Kinds.{covers, grid}
 use Rattle.semantics.specs.Rules.{accesses, size_of, reduces, load_of}
 use Rattle.worked_logs.proofs.Lists.{within_itself, sum_of_same, length-all_kept, length-grid, IsOfBoth, all_of_both}
 use Rattle.worked_logs.proofs.Frames.{broken_by, one_more, declares_more, asks_more, in_time}

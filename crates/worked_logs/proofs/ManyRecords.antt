@@ -6,12 +6,8 @@ use Rattle.std.proofs.lemmas.Bool.{lt-ltb, ne_eqb}
 use Rattle.std.proofs.lemmas.List.Elements.{All-nil, All-push, All-weaker, All-map}
 use Rattle.std.proofs.lemmas.List.Folds.{list_any_none}
 use Rattle.spy_grammar.specs.declared.code.Code.TheVariants as codes
-use Rattle.spy_grammar.specs.declared.record.Record.{Record}
+use Rattle.vocabulary.specs.Prelude.{Record, Lined, records_of, lined, lined_from, Tables, with_record, no_tables, tables_of, is_in}
 use Rattle.spy_grammar.specs.declared.record.Record.TheVariants.{Header, Redop, End}
-use Rattle.spy_grammar.specs.declared.record.Lined.{Lined}
-use Rattle.semantics.specs.Records.{records_of, lined, lined_from}
-use Rattle.semantics.specs.Tables.{Tables, with_record, no_tables, tables_of}
-use Rattle.semantics.specs.Points.{is_in}
 use Rattle.semantics.specs.Rules.{accesses}
 use Rattle.semantics.specs.declared.command.Command.TheVariants.{Check}
 use Rattle.semantics.specs.Faults.{at_line, records_fault, declaration_fault, log_fault}

@@ -6,16 +6,11 @@ use Rattle.std.proofs.lemmas.Bool.{le-ltb, lt-ltb, or_right}
 use Rattle.std.proofs.lemmas.List.Elements.{All-from_recursion, All-nil, All-head, All-tail, All-append, All-replicate, All-map}
 use Rattle.std.proofs.lemmas.List.Folds.{list_any-append}
 use Rattle.std.proofs.lemmas.List.FromFn.{length-range_with_len}
-use Rattle.spy_grammar.specs.declared.code.Code.{Code}
+use Rattle.vocabulary.specs.Prelude.{Code, Record, Lined, lined, lined_from, Tables, with_record, tables_of, Fault}
 use Rattle.spy_grammar.specs.declared.code.Code.TheVariants as codes
-use Rattle.spy_grammar.specs.declared.record.Record.{Record}
 use Rattle.spy_grammar.specs.declared.record.Record.TheVariants.{Header, Ispace, Fields, Tree, Redop, Task, Run, End}
-use Rattle.spy_grammar.specs.declared.record.Lined.{Lined}
-use Rattle.semantics.specs.Records.{lined, lined_from}
-use Rattle.semantics.specs.Tables.{Tables, with_record, tables_of}
 use Rattle.semantics.specs.Rules.{runs_task}
 use Rattle.semantics.specs.declared.command.Command.TheVariants.{Ordered}
-use Rattle.semantics.specs.declared.faults.Fault.{Fault}
 use Rattle.semantics.specs.Faults.{at_line, records_fault, serial_fault, log_fault}
 use Rattle.semantics.specs.Computed.{logs_computed}
 use Rattle.worked_logs.specs.WorkedLimits.{framed, of_load}

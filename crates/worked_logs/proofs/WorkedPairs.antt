@@ -1,8 +1,7 @@
 -- The unordered pairs that are shown of worked logs.
 use Rattle.std.proofs.Common.{◌≡◌, ℕ, zero, suc, ◌<◌, List, [], ◌∷◌, refl, sym, ap, arith, subst, Contains, Some, slice_get}
 use Rattle.findings.specs.declared.finding.Finding.TheVariants.{Unordered}
-use Rattle.semantics.specs.Records.{lined}
-use Rattle.semantics.specs.Events.{Node, WaitsOn, Before, IsCycle}
+use Rattle.vocabulary.specs.Prelude.{lined, Node, WaitsOn, Before, IsCycle}
 use Rattle.semantics.specs.declared.command.Command.TheVariants.{Ordered}
 use Rattle.outcomes.specs.Outcome.{IsFound}
 use Rattle.worked_logs.specs.WorkedLogs.{unordered, three_tasks}

@@ -2,10 +2,7 @@
 use Rattle.std.proofs.Common.{◌≡◌, ℕ, zero, suc, List, [], ◌∷◌, ◌∙◌, refl, sym, ap, arith, subst, Contains, Some, slice_get}
 use Rattle.std.specs.List.{AllByRecursion}
 use Rattle.semantics.specs.declared.moves.Move.TheVariants.{Read, Write, Reduce, Copy}
-use Rattle.semantics.specs.Records.{lined}
-use Rattle.semantics.specs.Tables.{tables_of}
-use Rattle.semantics.specs.Events.{Node, WaitsOn, Before}
-use Rattle.semantics.specs.Races.{Race}
+use Rattle.vocabulary.specs.Prelude.{lined, tables_of, Node, WaitsOn, Before, Race}
 use Rattle.worked_logs.specs.WorkedLogs.{unordered, two_operators, copy_unordered, first_cell}
 use Rattle.semantics.specs.Computed.{logs_computed}
 

@@ -2,9 +2,7 @@
 use Rattle.std.proofs.Common.{◌≡◌, ℕ, zero, suc, ◌<◌, ◌≤◌, ◌⊎◌, inl, inr, List, [], ◌∷◌, take, refl, sym, ap, arith, subst, Contains, Some, slice_get}
 use Rattle.std.proofs.lemmas.Option.{same_Some, slice_get_within}
 use Rattle.findings.specs.declared.finding.Finding.TheVariants as findings
-use Rattle.semantics.specs.declared.waits.ListedWait.{ListedWait}
-use Rattle.semantics.specs.Records.{lined}
-use Rattle.semantics.specs.Events.{Node, WaitsOn, Before, IsCycle}
+use Rattle.vocabulary.specs.Prelude.{ListedWait, lined, Node, WaitsOn, Before, IsCycle}
 use Rattle.semantics.specs.ReplayOrder.{done_at}
 use Rattle.semantics.specs.Spare.{IsBeforeAnother, IsSpare, IsAhead, AreSpareWaits}
 use Rattle.semantics.specs.declared.command.Command.TheVariants.{Spare}

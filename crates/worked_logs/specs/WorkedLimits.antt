@@ -3,7 +3,7 @@ use Rattle.std.specs.Prelude.{ℕ, false, List, [], ◌∷◌, ◌++◌, map, re
 use Rattle.std.specs.List.{range_with_len}
 use Rattle.spy_words.specs.declared.access.PrivWord.TheVariants.{Red}
 use Rattle.spy_words.specs.declared.access.InstKind.TheVariants as layouts
-use Rattle.spy_grammar.specs.declared.record.Record.{Record}
+use Rattle.vocabulary.specs.Prelude.{Record}
 use Rattle.spy_grammar.specs.declared.record.Record.TheVariants.{Header, Ispace, Fields, Tree, Redop, Task, Req, Fill, Inst, Run, End}
 
 -- These records between a header and an end, which counts them.

@@ -1,16 +1,11 @@
 -- Worked logs, by their records.
 use Rattle.std.specs.Prelude.{ℕ, Bool, true, false, List, [], ◌∷◌, ◌++◌}
-use Rattle.spy_words.specs.declared.access.PrivWord.{PrivWord}
+use Rattle.vocabulary.specs.Prelude.{PrivWord, Record, Value, Place, Cell, Seen}
 use Rattle.spy_words.specs.declared.access.PrivWord.TheVariants.{Ro, Rw, Wd, Red}
 use Rattle.spy_words.specs.declared.access.InstKind.TheVariants as layouts
-use Rattle.spy_grammar.specs.declared.record.Record.{Record}
 use Rattle.spy_grammar.specs.declared.record.Record.TheVariants.{Header, Ispace, Part, Sub, Fields, Tree, Redop, Task, Req, Fill, Serial, Inst, Map, Run, Copy, Reset, Fold, Merge, End}
 use Rattle.value_terms.specs.declared.terms.Base.TheVariants.{Init}
-use Rattle.value_terms.specs.Values.{Value}
 use Rattle.findings.specs.declared.finding.Dep.{Dep}
-use Rattle.semantics.specs.declared.places.Place.{Place}
-use Rattle.semantics.specs.declared.places.Cell.{Cell}
-use Rattle.semantics.specs.Reads.{Seen}
 
 -- The field 1 alone.
 abbrev pub one : List ℕ

@@ -1,10 +1,6 @@
 -- Parts of worked long values.
 use Rattle.std.specs.Prelude.{⊤, ℕ, List, Option, slice_get}
-use Rattle.spy_grammar.specs.declared.record.Record.{Record}
-use Rattle.value_terms.specs.WorkedValues.{from_first, from_second}
-use Rattle.semantics.specs.Records.{lined}
-use Rattle.semantics.specs.Tables.{tables_of}
-use Rattle.semantics.specs.Reads.{replay_steps}
+use Rattle.vocabulary.specs.Prelude.{Record, from_first, from_second, lined, tables_of, replay_steps}
 use Rattle.semantics.specs.Computed.{logs_computed}
 use Rattle.long_values.specs.LongSequential.{LongRead}
 use Rattle.long_values.specs.LongExecution.{executed_long, start_long}

@@ -1,10 +1,8 @@
 -- Worked logs for the rules: with one argument a log just keeps its rule, and with another it breaks it.
 use Rattle.std.specs.Prelude.{ℕ, ◌+◌, zero, suc, true, false, List, [], ◌∷◌, ◌++◌}
-use Rattle.spy_words.specs.declared.access.PrivWord.{PrivWord}
+use Rattle.vocabulary.specs.Prelude.{PrivWord, InstKind, Record}
 use Rattle.spy_words.specs.declared.access.PrivWord.TheVariants.{Ro, Red}
-use Rattle.spy_words.specs.declared.access.InstKind.{InstKind}
 use Rattle.spy_words.specs.declared.access.InstKind.TheVariants as layouts
-use Rattle.spy_grammar.specs.declared.record.Record.{Record}
 use Rattle.spy_grammar.specs.declared.record.Record.TheVariants.{Header, Ispace, Part, Sub, Fields, Tree, Redop, Task, Req, Fill, Serial, Inst, Map, Run, Copy, Put, Reset, End}
 use Rattle.worked_logs.specs.WorkedLogs.{one, region}
 

@@ -2,8 +2,7 @@
 
 ghost use Rattle.std.specs.Prelude.{◌≡◌, None, Some, sum_by};
 ghost use Rattle.spy_grammar.specs.declared.code.Code.TheVariants as codes;
-ghost use Rattle.semantics.specs.Records.{lined};
-ghost use Rattle.semantics.specs.Tables.{tables_of};
+ghost use Rattle.vocabulary.specs.Prelude.{lined, tables_of};
 ghost use Rattle.semantics.specs.declared.command.Command.TheVariants.{Check, Ordered};
 ghost use Rattle.semantics.specs.Faults.{at_line, log_fault};
 ghost use Rattle.semantics.specs.Rules.{load_of};

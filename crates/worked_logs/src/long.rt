@@ -1,8 +1,7 @@
 //! Values that carry what was read, tried on worked logs.
 
 ghost use Rattle.std.specs.Prelude.{◌≡◌, ◌≢◌, Some};
-ghost use Rattle.semantics.specs.Records.{lined};
-ghost use Rattle.semantics.specs.Tables.{tables_of};
+ghost use Rattle.vocabulary.specs.Prelude.{lined, tables_of};
 ghost use Rattle.long_values.specs.LongSequential.{wanted_long};
 ghost use Rattle.long_values.specs.LongValues.{short};
 ghost use Rattle.worked_logs.specs.WorkedLogs.{first_place, folded_once, fresh_copy, stale_copy};

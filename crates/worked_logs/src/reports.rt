@@ -2,8 +2,7 @@
 
 ghost use Rattle.std.specs.Prelude.{◌≡◌, [], ◌∷◌};
 ghost use Rattle.findings.specs.declared.finding.Finding.TheVariants as findings;
-ghost use Rattle.semantics.specs.Records.{lined};
-ghost use Rattle.semantics.specs.Tables.{tables_of};
+ghost use Rattle.vocabulary.specs.Prelude.{lined, tables_of};
 ghost use Rattle.semantics.specs.Shown.{task_pairs};
 ghost use Rattle.semantics.specs.declared.command.Command.TheVariants.{Deps, Ordered, Spare};
 ghost use Rattle.outcomes.specs.Outcome.{IsFound};

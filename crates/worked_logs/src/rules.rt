@@ -5,7 +5,7 @@ ghost use Rattle.spy_words.specs.declared.access.PrivWord.TheVariants.{Ro, Rw};
 ghost use Rattle.spy_words.specs.declared.access.InstKind.TheVariants as layouts;
 ghost use Rattle.spy_grammar.specs.declared.code.Code.TheVariants as codes;
 ghost use Rattle.spy_grammar.specs.declared.record.Record.TheVariants.{End, Header, Merge, Run, Serial};
-ghost use Rattle.semantics.specs.Records.{lined};
+ghost use Rattle.vocabulary.specs.Prelude.{lined};
 ghost use Rattle.semantics.specs.declared.command.Command.TheVariants.{Check, Ordered};
 ghost use Rattle.semantics.specs.Faults.{at_line, log_fault};
 ghost use Rattle.worked_logs.specs.WorkedLogs.{one, turned, turned_by_log};

@@ -10,7 +10,7 @@ use Rattle.std.proofs.lemmas.List.Elements.{Contains-get_or}
 use Rattle.std.specs.Option.{IsSomeAnd}
 use Rattle.semantics.specs.ReplayOrder.{waits_at, done_at}
 use Rattle.std.proofs.lemmas.Option.{same_Some, slice_get_cases, slice_get_within, slice_get-map, get_or_from_slice_get, slice_get-get_or}
-use Rattle.semantics.specs.Events.{Node, AreLinked}
+use Rattle.vocabulary.specs.Prelude.{Node, AreLinked}
 use Rattle.log_laws.proofs.lemmas.Members.{none_or_some}
 use Rattle.event_graph.specs.WaitCounts.{times, AddsWaits}
 use Rattle.event_graph.specs.EventPlaces.{hits, is_place, ArePlaces}

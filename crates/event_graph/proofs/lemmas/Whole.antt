@@ -1,7 +1,7 @@
 -- An order has the nodes of its graph, and all of them.
 use Rattle.std.proofs.Common.{ℕ, ◌<◌, List, length, Contains, sym, subst}
 use Rattle.std.proofs.lemmas.Bool.{false_from_ne_true}
-use Rattle.semantics.specs.Events.{Node, AreLinked}
+use Rattle.vocabulary.specs.Prelude.{Node, AreLinked}
 use Rattle.semantics.specs.ReplayOrder.{is_stuck}
 use Rattle.log_laws.proofs.lemmas.Cycles.{has_cycle}
 use Rattle.log_laws.proofs.lemmas.Rounds.{listed_decides}

@@ -4,15 +4,9 @@ use Rattle.std.specs.Option.{option_map_or}
 use Rattle.std.proofs.lemmas.Bool.{cases_Bool, true≢false, ltb-false}
 use Rattle.std.proofs.lemmas.List.Sums.{fold-append, sum_by-cons, sum_by_push}
 use Rattle.spy_grammar.specs.declared.code.Code.TheVariants as codes
-use Rattle.spy_grammar.specs.declared.record.Record.{Record}
+use Rattle.vocabulary.specs.Prelude.{Record, Lined, Req, LogNode, Op, records_of, Tables, with_record, no_tables, tables_of}
 use Rattle.spy_grammar.specs.declared.record.Record.TheVariants as records
-use Rattle.spy_grammar.specs.declared.record.Lined.{Lined}
-use Rattle.semantics.specs.declared.tables.Req.{Req}
-use Rattle.semantics.specs.declared.tables.LogNode.{LogNode}
-use Rattle.semantics.specs.declared.tables.Op.{Op}
 use Rattle.semantics.specs.DataOps.{DataOp, data_of}
-use Rattle.semantics.specs.Records.{records_of}
-use Rattle.semantics.specs.Tables.{Tables, with_record, no_tables, tables_of}
 use Rattle.semantics.specs.Rules.{size_of, accesses}
 use Rattle.semantics.specs.Faults.{is_end, header_fault, ended_fault, records_fault}
 use Rattle.logs.specs.Faultless.{AreDeclared}

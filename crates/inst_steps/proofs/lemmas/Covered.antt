@@ -6,27 +6,13 @@ use Rattle.std.specs.Option.{option_map_or}
 use Rattle.std.proofs.lemmas.Bool.{not-false, false≢true, true≢false, or_parts, eqb-true, and_parts}
 use Rattle.std.proofs.lemmas.List.Elements.{recursion_from_All}
 use Rattle.std.proofs.lemmas.Option.{same_Some}
-use Rattle.privilege.specs.declared.kinds.Priv.{Priv}
+use Rattle.vocabulary.specs.Prelude.{Priv, Record, Lined, Move, Req, Inst, Map, LogNode, Op, records_of, Tables, Space, place_of, with_record, no_tables, tables_of, is_in, is_within, points_in, reqs_of, grid, req_at, inst_at, cell_in, id_of, operator_of, moves_of, start, Value}
 use Rattle.privilege.specs.declared.kinds.Priv.TheVariants as privileges
 use Rattle.spy_grammar.specs.declared.code.Code.TheVariants as codes
-use Rattle.spy_grammar.specs.declared.record.Record.{Record}
 use Rattle.spy_grammar.specs.declared.record.Record.TheVariants as records
-use Rattle.spy_grammar.specs.declared.record.Lined.{Lined}
-use Rattle.semantics.specs.declared.moves.Move.{Move}
 use Rattle.semantics.specs.declared.moves.Move.TheVariants as moves
-use Rattle.semantics.specs.declared.tables.Req.{Req}
-use Rattle.semantics.specs.declared.tables.Inst.{Inst}
-use Rattle.semantics.specs.declared.tables.Map.{Map}
-use Rattle.semantics.specs.declared.tables.LogNode.{LogNode}
-use Rattle.semantics.specs.declared.tables.Op.{Op}
 use Rattle.semantics.specs.declared.tables.Op.TheVariants as operations
 use Rattle.semantics.specs.DataOps.{DataAct, Copies, Puts, Resets, Folds, DataOp, insts_of, data_of}
-use Rattle.semantics.specs.Records.{records_of}
-use Rattle.semantics.specs.Tables.{Tables, Space, place_of, with_record, no_tables, tables_of}
-use Rattle.semantics.specs.Points.{is_in, is_within, points_in}
-use Rattle.semantics.specs.Kinds.{reqs_of, grid}
-use Rattle.semantics.specs.Reads.{req_at}
-use Rattle.semantics.specs.Steps.{inst_at, cell_in, id_of, operator_of}
 use Rattle.semantics.specs.Rules as rules
 use Rattle.semantics.specs.Rules.{is_declared, names, space_id, lacks, is_not_covered, lacks_req}
 use Rattle.semantics.specs.declared.command.Command.TheVariants.{Check}
@@ -46,9 +32,6 @@ use Rattle.inst_steps.specs.Celled.{AreOfInsts, HasCellsOf}
 use Rattle.inst_steps.proofs.Starting.{inst_cut}
 use Rattle.inst_steps.proofs.Sweeping.{pass_cut, sweeps_are, passes_cut, nodes_cut}
 use Rattle.inst_steps.specs.Stepping.{moves_at}
-use Rattle.semantics.specs.Steps.{moves_of}
-use Rattle.semantics.specs.Execution.{start}
-use Rattle.value_terms.specs.Values.{Value}
 
 -- ---- an instance has the points of a space, and fields
 

@@ -7,27 +7,14 @@ use Rattle.std.proofs.lemmas.List.{length-append, length-map}
 use Rattle.std.proofs.lemmas.List.Sums.{sum_by-cons, length-filter, count_by-le-length}
 use Rattle.std.proofs.lemmas.List.Elements.{recursion_from_All}
 use Rattle.std.proofs.lemmas.List.Concat.{flat_map-append}
-use Rattle.privilege.specs.declared.kinds.Priv.{Priv}
+use Rattle.vocabulary.specs.Prelude.{Priv, Record, Cell, Move, Req, LogNode, Op, records_of, Tables, place_of, with_record, tables_of, graph_of, replay_steps, points_in, reqs_of, grid, req_grid, Step, mapped_cell, at_cells, reads_by, changes_by, run_moves, move_of, data_moves, moves_of, id_of, steps_by}
 use Rattle.privilege.specs.declared.kinds.Priv.TheVariants as privileges
 use Rattle.spy_grammar.specs.declared.code.Code.TheVariants as codes
-use Rattle.spy_grammar.specs.declared.record.Record.{Record}
 use Rattle.spy_grammar.specs.declared.record.Record.TheVariants as records
-use Rattle.semantics.specs.declared.places.Cell.{Cell}
-use Rattle.semantics.specs.declared.moves.Move.{Move}
-use Rattle.semantics.specs.declared.tables.Req.{Req}
-use Rattle.semantics.specs.declared.tables.LogNode.{LogNode}
-use Rattle.semantics.specs.declared.tables.Op.{Op}
 use Rattle.semantics.specs.declared.tables.Op.TheVariants as operations
 use Rattle.semantics.specs.DataOps.{DataOp, data_of}
 use Rattle.semantics.specs.declared.command.Command.TheVariants.{Deps}
-use Rattle.semantics.specs.Records.{records_of}
-use Rattle.semantics.specs.Tables.{Tables, place_of, with_record, tables_of}
-use Rattle.semantics.specs.Events.{graph_of}
 use Rattle.semantics.specs.ReplayOrder.{replay_order}
-use Rattle.semantics.specs.Reads.{replay_steps}
-use Rattle.semantics.specs.Points.{points_in}
-use Rattle.semantics.specs.Kinds.{reqs_of, grid, req_grid}
-use Rattle.semantics.specs.Steps.{Step, mapped_cell, at_cells, reads_by, changes_by, run_moves, move_of, data_moves, moves_of, id_of, steps_by}
 use Rattle.semantics.specs.Rules.{size_of, runs_item, is_run_again}
 use Rattle.point_laws.specs.Alike.{is_at}
 use Rattle.point_laws.specs.Cut.{cut}

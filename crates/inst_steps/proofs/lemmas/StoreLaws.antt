@@ -5,15 +5,9 @@ use Rattle.std.specs.FinMap.{get, insert, contains_key}
 use Rattle.std.proofs.lemmas.Bool.{cases_Bool, true≢false, false≢true, false_from_ne_true}
 use Rattle.std.proofs.Math.Bool.{and_assoc}
 use Rattle.value_terms.specs.declared.terms.Base.TheVariants.{Raw}
-use Rattle.value_terms.specs.Values.{Value, plain, add_one, fold_in, weight_of}
+use Rattle.vocabulary.specs.Prelude.{Value, plain, add_one, fold_in, weight_of, Cell, Move, Tables, State, start, same_cell, stored, effect, is_in, points_in, inst_at}
 use Rattle.value_terms.proofs.lemmas.Sums.{weight_added, weight_folded}
-use Rattle.semantics.specs.declared.places.Cell.{Cell}
-use Rattle.semantics.specs.declared.moves.Move.{Move}
 use Rattle.semantics.specs.declared.moves.Move.TheVariants as moves
-use Rattle.semantics.specs.Tables.{Tables}
-use Rattle.semantics.specs.Execution.{State, start, same_cell, stored, effect}
-use Rattle.semantics.specs.Points.{is_in, points_in}
-use Rattle.semantics.specs.Steps.{inst_at}
 use Rattle.point_laws.specs.Cut.{cut}
 use Rattle.point_laws.proofs.lemmas.Cuts.{points_cut, start_cut}
 use Rattle.log_laws.proofs.lemmas.Members.{member_filter, member_in, none_or_some}

@@ -11,12 +11,10 @@ use Rattle.std.proofs.lemmas.Map.Lookups.{CmpEqualImpliesEq, exact_pairs, exact_
 use Rattle.std.specs.FinMap.{find, get, contains_key, from_entries, insert, get-from_entries, get-insert, same_map}
 use Rattle.std.specs.BTreeMap.{is_at}
 use Rattle.std.specs.Map.{lookup, set_value}
-use Rattle.value_terms.specs.Values.{Value}
-use Rattle.semantics.specs.declared.places.Cell.{Cell}
+use Rattle.vocabulary.specs.Prelude.{Value, Cell, plain}
 use Rattle.std.specs.Prelude.{unwrap_or}
 use Rattle.std.proofs.lemmas.Map.Steps.{set_value_same}
 use Rattle.value_terms.specs.declared.terms.Base.TheVariants.{Raw}
-use Rattle.value_terms.specs.Values.{plain}
 use Rattle.inst_steps.specs.Stores.{cell_cmp, Contents, value_in}
 
 -- Cells that compare alike are one.

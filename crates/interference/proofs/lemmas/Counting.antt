@@ -3,7 +3,7 @@ use Rattle.std.proofs.Common.{◌≡◌, ℕ, ◌+◌, ◌-◌, ◌*◌, ◌<◌
 use Rattle.std.specs.List.{range_with_len}
 use Rattle.std.proofs.lemmas.List.{length-map, length-append}
 use Rattle.std.proofs.lemmas.List.FromFn.{length-range_with_len}
-use Rattle.semantics.specs.Tables.{Tables}
+use Rattle.vocabulary.specs.Prelude.{Tables}
 use Rattle.semantics.specs.Kinds as kinds
 use Rattle.semantics.specs.Shown.{task_pairs}
 use Rattle.item_uses.specs.Usages.{Usage, usages}

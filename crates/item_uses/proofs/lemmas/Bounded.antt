@@ -4,10 +4,7 @@ use Rattle.std.specs.Prelude.{is_some}
 use Rattle.std.specs.List.{filter_map}
 use Rattle.std.proofs.lemmas.Bool.{eqb-true, and_cases, not-false, ltb-true}
 use Rattle.privilege.specs.declared.kinds.Kind.TheVariants.{Free}
-use Rattle.privilege.specs.declared.kinds.Priv.{Priv}
-use Rattle.privilege.specs.Interference.{agree}
-use Rattle.semantics.specs.declared.places.Place.{Place}
-use Rattle.semantics.specs.Kinds.{is_free}
+use Rattle.vocabulary.specs.Prelude.{Priv, agree, Place, is_free}
 use Rattle.log_laws.proofs.lemmas.Members.{Member, contains_of, member_flat, flat_member, member_map, map_member, member_filter_map, filter_map_member, none_or_some}
 use Rattle.item_uses.specs.declared.span.Span.{Span}
 use Rattle.item_uses.specs.declared.accesses.Accesses.{Accesses}

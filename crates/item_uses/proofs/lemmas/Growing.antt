@@ -6,12 +6,8 @@ use Rattle.std.proofs.lemmas.Bool.{cases_Bool, eq-eqb, ne_eqb, eqb-true}
 use Rattle.std.proofs.lemmas.List.{map-append, length-map, append-nil}
 use Rattle.std.proofs.lemmas.List.Elements.{filter-append}
 use Rattle.std.proofs.lemmas.List.FromFn.{length-range_with_len}
-use Rattle.semantics.specs.declared.tables.Item.{Item}
-use Rattle.semantics.specs.declared.tables.ItemBody.{ItemBody}
+use Rattle.vocabulary.specs.Prelude.{Item, ItemBody, Req, Tables, uses_of, uses_of_item, reqs_of}
 use Rattle.semantics.specs.declared.tables.ItemBody.TheVariants.{Task, Fill}
-use Rattle.semantics.specs.declared.tables.Req.{Req}
-use Rattle.semantics.specs.Tables.{Tables}
-use Rattle.semantics.specs.Kinds.{uses_of, uses_of_item, reqs_of}
 use Rattle.semantics.specs.Shown.{is_task_at}
 use Rattle.log_laws.proofs.lemmas.Members.{Member}
 use Rattle.log_laws.proofs.lemmas.Apart.{number_between}

@@ -1,13 +1,7 @@
 -- The kind of two items comes from their requirements, two at a time.
 use Rattle.std.proofs.Common.{◌≡◌, ℕ, ◌≤◌, Bool, true, false, List, refl, sym, ap, ◌∙◌, Option, Some, None, subst, filter, map, flat_map, eqb, ◌&&◌}
 use Rattle.std.proofs.lemmas.Bool.{eqb-true, eq-eqb, and_parts, and_from}
-use Rattle.privilege.specs.declared.kinds.Kind.{Kind}
-use Rattle.privilege.specs.Interference.{kind_of}
-use Rattle.semantics.specs.declared.places.Place.{Place}
-use Rattle.semantics.specs.declared.tables.Req.{Req}
-use Rattle.semantics.specs.Tables.{Tables}
-use Rattle.semantics.specs.Points.{is_in, points_in}
-use Rattle.semantics.specs.Kinds.{uses_of, covers, kind_at, item_kind, item_places, req_grid}
+use Rattle.vocabulary.specs.Prelude.{Kind, kind_of, Place, Req, Tables, is_in, points_in, uses_of, covers, kind_at, item_kind, item_places, req_grid}
 use Rattle.log_laws.proofs.lemmas.Members.{Member, member_filter, is_in_of, member_in, member_flat, flat_member, member_map, map_member, filter_member}
 use Rattle.log_laws.proofs.lemmas.Apart.{member_grid, grid_member}
 use Rattle.item_uses.specs.Usages.{usage_of, usages_of}

@@ -2,11 +2,8 @@
 use Rattle.std.proofs.Common.{◌≡◌, ℕ, inl, inr, Bool, true, false, not, List, [], ◌∷◌, refl, sym, ap, ◌∙◌, Some, subst, filter, flat_map}
 use Rattle.std.specs.List.{filter_map}
 use Rattle.std.proofs.lemmas.Bool.{cases_Bool, not-true, true≢false}
-use Rattle.privilege.specs.declared.kinds.Kind.{Kind}
+use Rattle.vocabulary.specs.Prelude.{Kind, Place, Tables, uses_of, strongest, kind_at, item_places, is_free, least_place}
 use Rattle.privilege.specs.declared.kinds.Kind.TheVariants.{Free, Turn, Before}
-use Rattle.semantics.specs.declared.places.Place.{Place}
-use Rattle.semantics.specs.Tables.{Tables}
-use Rattle.semantics.specs.Kinds.{uses_of, strongest, kind_at, item_places, is_free, least_place}
 use Rattle.log_laws.proofs.lemmas.Members.{Member, member_filter, member_flat, flat_member, member_map, map_member, member_filter_map, filter_map_member, filter_member}
 use Rattle.item_uses.specs.Usages.{Usage, usage_of, usages_of}
 use Rattle.item_uses.specs.Sharing.{shared_place, usage_kind, kind_place, place_between}

@@ -5,13 +5,9 @@ use Rattle.std.specs.List.Sorted.{IsStrictlyIncreasing}
 use Rattle.std.proofs.lemmas.List.{length-map, get_or-map}
 use Rattle.std.proofs.lemmas.List.Elements.{All-from_recursion}
 use Rattle.std.proofs.lemmas.Bool.{and_parts, ltb-true}
-use Rattle.spy_words.specs.Classes.{ascends, span_before, IsSpan}
-use Rattle.spy_grammar.specs.Spelling.{Good}
-use Rattle.spy_grammar.specs.declared.record.Record.{Record}
+use Rattle.vocabulary.specs.Prelude.{ascends, span_before, IsSpan, Good, Record, Lined, AreLines}
 use Rattle.spy_grammar.specs.declared.record.Record.TheVariants.{Ispace, Fields, Req, Fill, Inst}
-use Rattle.spy_grammar.specs.declared.record.Lined.{Lined}
 use Rattle.log_tables.specs.Views.{Ascends}
-use Rattle.semantics.specs.Records.{AreLines}
 
 -- Where each element stands before the next.
 rise : {X : Type 0} (before : X → X → Bool) (R : X → X → Type 0) → ((x y : X) → before x y ≡ true → R x y) → (xs : List X) → ascends before xs ≡ true → (k : ℕ) (d : X) → k + 1 < length xs → R (get_or xs k d) (get_or xs (k + 1) d)

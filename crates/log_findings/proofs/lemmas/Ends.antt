@@ -4,21 +4,13 @@ use Rattle.std.specs.List.{AllByRecursion}
 use Rattle.std.proofs.lemmas.Bool.Decides.{nat_tests}
 use Rattle.std.proofs.lemmas.List.{length-map, length_push}
 use Rattle.std.proofs.lemmas.List.Elements.{recursion_from_All}
-use Rattle.spy_grammar.specs.Spelling.{Good}
-use Rattle.spy_grammar.specs.declared.code.Code.{Code}
+use Rattle.vocabulary.specs.Prelude.{Good, Code, Lined, Record, Command, records_of, Tables, with_record, tables_of, no_tables, AreLinked, graph_of, Ask}
 use Rattle.spy_grammar.specs.declared.code.Code.TheVariants as codes
-use Rattle.spy_grammar.specs.declared.record.Lined.{Lined}
-use Rattle.spy_grammar.specs.declared.record.Record.{Record}
 use Rattle.spy_grammar.specs.declared.record.Record.TheVariants as records
 use Rattle.findings.specs.declared.finding.Finding.{Finding}
 use Rattle.findings.specs.declared.finding.Finding.TheVariants.{Accepted, Cycle, Race, Differ, NoRead, Why, Fault}
-use Rattle.semantics.specs.declared.command.Command.{Command}
 use Rattle.semantics.specs.declared.command.Command.TheVariants as commands
-use Rattle.semantics.specs.Records.{records_of}
-use Rattle.semantics.specs.Tables.{Tables, with_record, tables_of, no_tables}
-use Rattle.semantics.specs.Events.{AreLinked, graph_of}
 use Rattle.semantics.specs.Faults.{at_line, declaration_fault, serial_fault, unmapped_fault, log_fault}
-use Rattle.semantics.specs.declared.links.Ask.{Ask}
 use Rattle.outcomes.specs.Outcome.{IsFound, CheckFinds, WhyFinds}
 use Rattle.semantics.specs.Rules.{is_late}
 use Rattle.log_laws.proofs.lemmas.Admitted.{IsFaultless, rule_kept, by_records, no_broken_rule}

@@ -1,12 +1,6 @@
 -- All interleavings of a log without a race agree.
 use Rattle.std.proofs.Common.{◌≡◌, List}
-use Rattle.value_terms.specs.Values.{Value}
-use Rattle.semantics.specs.declared.places.Cell.{Cell}
-use Rattle.semantics.specs.Tables.{Tables}
-use Rattle.semantics.specs.Steps.{Step}
-use Rattle.semantics.specs.Execution.{State, executed, ReadsIn}
-use Rattle.semantics.specs.Interleavings.{IsInterleaving}
-use Rattle.semantics.specs.Races.{IsTidy, IsRaceFree}
+use Rattle.vocabulary.specs.Prelude.{Value, Cell, Tables, Step, State, executed, ReadsIn, IsInterleaving, IsTidy, IsRaceFree}
 use Rattle.log_laws.proofs.Reorder.{all_agree}
 
 module _ (t : Tables) (tidy : IsTidy t) (free : IsRaceFree t) (xs ys : List Step) (a : IsInterleaving t xs) (b : IsInterleaving t ys) where

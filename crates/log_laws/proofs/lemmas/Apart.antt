@@ -5,10 +5,8 @@ use Rattle.std.proofs.lemmas.List.Elements.{Contains-get_or}
 use Rattle.std.proofs.lemmas.List.Kept.{AllPairs-cons, AllPairs-filter}
 use Rattle.std.proofs.lemmas.List.Recursion.{same_from_clauses}
 use Rattle.spy_words.specs.Classes as classes
-use Rattle.spy_words.specs.Classes.{IsGood, IsNumberFrom, ascends, span_before, IsSpan}
+use Rattle.vocabulary.specs.Prelude.{IsGood, IsNumberFrom, ascends, span_before, IsSpan, points_of, grid}
 use Rattle.std.specs.List.{AllByRecursion, range_with_len}
-use Rattle.semantics.specs.Tables.{points_of}
-use Rattle.semantics.specs.Kinds.{grid}
 use Rattle.log_laws.proofs.lemmas.Members.{Member, member_of, contains_of, only, member_append, member_map, member_flat, flat_member, map_member}
 
 -- A relation of each element to each later one.

@@ -7,8 +7,7 @@ use Rattle.std.proofs.lemmas.List.Elements.{Contains-get_or}
 use Rattle.std.proofs.lemmas.Grind.{common_steps}
 use Rattle.std.proofs.lemmas.Map.Views.{any-filter_same}
 use Rattle.std.proofs.lemmas.Option.{gets, slice_get-get_or, same_Some}
-use Rattle.semantics.specs.Points.{is_in}
-use Rattle.semantics.specs.Events.{Node, WaitsOn, IsChain, IsCycle, AreLinked}
+use Rattle.vocabulary.specs.Prelude.{is_in, Node, WaitsOn, IsChain, IsCycle, AreLinked}
 use Rattle.semantics.specs.ReplayOrder.{positions, waits_at, has_event, replay_order, is_stuck, stuck_nodes, stuck_wait, up_to, walk, from_least, cycle_from, shown_cycle}
 use Rattle.log_laws.proofs.lemmas.Members.{Member, contains_of, member_filter, any_at, any_found, is_in_of, member_in, find_any, found_at}
 use Rattle.log_laws.proofs.lemmas.Apart.{Apart, all_pairs, number_within, number_in}

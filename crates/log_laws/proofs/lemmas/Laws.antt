@@ -1,16 +1,8 @@
 -- What a log without a fault keeps, as its laws say it.
 use Rattle.std.proofs.Common.{List}
 use Rattle.std.specs.List.{AllByRecursion}
-use Rattle.spy_grammar.specs.declared.record.Lined.{Lined}
-use Rattle.spy_grammar.specs.Spelling.{Good}
-use Rattle.semantics.specs.declared.command.Command.{Command}
+use Rattle.vocabulary.specs.Prelude.{Lined, Good, Command, records_of, tables_of, AreLinked, graph_of, HasNoCycle, IsInterleaving, IsTidy, replay_steps}
 use Rattle.semantics.specs.declared.command.Command.TheVariants.{Check}
-use Rattle.semantics.specs.Records.{records_of}
-use Rattle.semantics.specs.Tables.{tables_of}
-use Rattle.semantics.specs.Events.{AreLinked, graph_of, HasNoCycle}
-use Rattle.semantics.specs.Interleavings.{IsInterleaving}
-use Rattle.semantics.specs.Races.{IsTidy}
-use Rattle.semantics.specs.Reads.{replay_steps}
 use Rattle.log_laws.proofs.lemmas.Apart.{Apart}
 use Rattle.log_laws.proofs.lemmas.Admitted.{IsFaultless, sane, all_mapped}
 use Rattle.log_laws.proofs.lemmas.Tidy.{tidy, moves_once}

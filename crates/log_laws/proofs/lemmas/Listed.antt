@@ -7,17 +7,9 @@ use Rattle.std.proofs.lemmas.List.Elements.{recursion_from_All, Contains-get_or,
 use Rattle.std.proofs.lemmas.List.Folds.{list_any-append}
 use Rattle.std.proofs.lemmas.Option.{slice_get_cases}
 use Rattle.spy_grammar.specs.declared.code.Code.TheVariants as codes
-use Rattle.spy_grammar.specs.declared.record.Record.{Record}
+use Rattle.vocabulary.specs.Prelude.{Record, Lined, Item, ItemBody, Serial, records_of, Tables, with_item, with_record, no_tables, tables_of, is_in, meets, id_of}
 use Rattle.spy_grammar.specs.declared.record.Record.TheVariants as records
-use Rattle.spy_grammar.specs.declared.record.Lined.{Lined}
-use Rattle.semantics.specs.declared.tables.Item.{Item}
-use Rattle.semantics.specs.declared.tables.ItemBody.{ItemBody}
-use Rattle.semantics.specs.declared.tables.Serial.{Serial}
-use Rattle.semantics.specs.Records.{records_of}
-use Rattle.semantics.specs.Tables.{Tables, with_item, with_record, no_tables, tables_of}
-use Rattle.semantics.specs.Points.{is_in, meets}
 use Rattle.semantics.specs.SerialOrder.{listed}
-use Rattle.semantics.specs.Steps.{id_of}
 use Rattle.semantics.specs.Rules.{is_declared, item_id, names, repeats_id, has_repeat, items_listed, items_declared, is_bad_serial}
 use Rattle.semantics.specs.Faults.{records_fault}
 use Rattle.log_laws.proofs.lemmas.Members.{Member, Each, each_more, member_of, member_at, member_append, map_member, member_flat, any_at, find_any, none_at, all_at, is_in_of, member_in, meets_of}

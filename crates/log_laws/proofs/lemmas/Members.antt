@@ -8,7 +8,7 @@ use Rattle.std.proofs.lemmas.List.Elements.{Contains-append_left, Contains-appen
 use Rattle.std.proofs.lemmas.List.Folds.{Any-from_list_any, list_any-from_Any, find-append}
 use Rattle.std.proofs.lemmas.List.Recursion.{and_at}
 use Rattle.std.proofs.lemmas.Option.{same_Some, slice_get_within, get_or_from_slice_get}
-use Rattle.semantics.specs.Points.{is_in, meets}
+use Rattle.vocabulary.specs.Prelude.{is_in, meets}
 
 abbrev pub Member : {X : Type 0} → List X → X → Type 0
 Member [] x = ⊥

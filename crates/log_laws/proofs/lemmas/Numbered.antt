@@ -1,9 +1,7 @@
 -- Records, each on a line of its own.
 use Rattle.std.proofs.Common.{◌≡◌, ℕ, ◌+◌, List, [], ◌∷◌, map, refl, ap, inr}
 use Rattle.std.specs.List.{AllByRecursion}
-use Rattle.spy_grammar.specs.declared.record.Record.{Record}
-use Rattle.spy_grammar.specs.Spelling.{Good, spelling}
-use Rattle.semantics.specs.Records.{Hold, lined_from, records_of}
+use Rattle.vocabulary.specs.Prelude.{Record, Good, spelling, Hold, lined_from, records_of}
 
 pub records_numbered : (line : ℕ) (rs : List Record) → records_of (lined_from line rs) ≡ rs
 records_numbered line [] = refl

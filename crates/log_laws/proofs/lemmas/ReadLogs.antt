@@ -5,12 +5,8 @@ use Rattle.std.proofs.lemmas.Bool.Decides.{nat_tests}
 use Rattle.std.proofs.lemmas.Grind.{common_steps}
 use Rattle.std.proofs.lemmas.List.{length_push}
 use Rattle.std.proofs.lemmas.List.Splits.{slice_split_at, join_with_byte-slice_split}
-use Rattle.spy_grammar.specs.declared.record.Record.{Record}
-use Rattle.spy_grammar.specs.declared.record.Lined.{Lined}
-use Rattle.spy_grammar.specs.Reading.{line_at}
-use Rattle.spy_grammar.specs.Spelling.{spelling, Good}
+use Rattle.vocabulary.specs.Prelude.{Record, Lined, line_at, spelling, Good, text_of, records_of, lined, parts_of, line_count, Hold, Reads}
 use Rattle.spy_grammar.proofs.lemmas.RowLaws.{line_again, no_line_feed}
-use Rattle.semantics.specs.Records.{text_of, records_of, lined, parts_of, line_count, Hold, Reads}
 use Rattle.semantics.specs.TextFaults.{is_too_long, lines_fault, text_fault}
 use Rattle.log_laws.proofs.lemmas.Numbered.{spellings_hold}
 

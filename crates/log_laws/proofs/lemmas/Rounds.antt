@@ -7,8 +7,7 @@ use Rattle.std.proofs.lemmas.Grind.{common_steps}
 use Rattle.std.proofs.lemmas.List.{get_or_at, get_or_default, length-append, length-take-le, length_push}
 use Rattle.std.proofs.lemmas.List.Folds.{Any-from_list_any, list_any_at}
 use Rattle.std.proofs.lemmas.Option.{gets, slice_get_cases}
-use Rattle.semantics.specs.Points.{is_in}
-use Rattle.semantics.specs.Events.{Node, WaitsOn, IsChain, Before, AreLinked}
+use Rattle.vocabulary.specs.Prelude.{is_in, Node, WaitsOn, IsChain, Before, AreLinked}
 use Rattle.semantics.specs.ReplayOrder.{positions, waits_at, has_event, is_ready, after_rounds, replay_order, is_stuck}
 use Rattle.log_laws.proofs.lemmas.Members.{Member, member_of, contains_of, none_or_some, all_at, is_in_of, member_in, found_at, none_found}
 use Rattle.log_laws.proofs.lemmas.Apart.{pairs_from, number_within, number_in}

@@ -5,19 +5,9 @@ use Rattle.std.specs.Option.{option_map_or}
 use Rattle.std.proofs.lemmas.Bool.{not-false, eq-eqb, eqb-true}
 use Rattle.std.proofs.lemmas.List.Sums.{sum_by-append}
 use Rattle.std.proofs.lemmas.List.Folds.{list_any-append}
-use Rattle.spy_grammar.specs.declared.record.Record.{Record}
+use Rattle.vocabulary.specs.Prelude.{Record, Priv, agree, Req, Inst, Map, Tables, Space, with_record, no_tables, place_of, reqs_before, meets, points_in, grid, req_grid, req_at, inst_at}
 use Rattle.spy_grammar.specs.declared.record.Record.TheVariants as records
-use Rattle.privilege.specs.declared.kinds.Priv.{Priv}
 use Rattle.privilege.specs.declared.kinds.Priv.TheVariants as privileges
-use Rattle.privilege.specs.Interference.{agree}
-use Rattle.semantics.specs.declared.tables.Req.{Req}
-use Rattle.semantics.specs.declared.tables.Inst.{Inst}
-use Rattle.semantics.specs.declared.tables.Map.{Map}
-use Rattle.semantics.specs.Tables.{Tables, Space, with_record, no_tables, place_of, reqs_before}
-use Rattle.semantics.specs.Points.{meets, points_in}
-use Rattle.semantics.specs.Kinds.{grid, req_grid}
-use Rattle.semantics.specs.Reads.{req_at}
-use Rattle.semantics.specs.Steps.{inst_at}
 use Rattle.semantics.specs.Rules.{is_declared, names, space_id, lacks_req, interferes_with_own, is_of_wrong_tree}
 use Rattle.log_laws.proofs.lemmas.Members.{Member, Each, each_more, none_at, all_at, meets_of, find_any, find_still}
 use Rattle.log_laws.proofs.lemmas.Apart.{Apart, PairsBy, pairs_so, pairs_more, pairs_of, member_grid}

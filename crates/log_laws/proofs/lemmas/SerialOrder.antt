@@ -6,13 +6,8 @@ use Rattle.std.proofs.lemmas.Bool.Decides.{nat_tests}
 use Rattle.std.proofs.lemmas.Grind.{common_steps}
 use Rattle.std.proofs.lemmas.List.Sums.{position_or_len_is}
 use Rattle.std.proofs.lemmas.Option.{same_Some, slice_get_within, slice_get-get_or, get_or_from_slice_get}
-use Rattle.spy_grammar.specs.declared.record.Record.{Record}
-use Rattle.spy_grammar.specs.declared.record.Lined.{Lined}
-use Rattle.semantics.specs.declared.tables.Item.{Item}
-use Rattle.semantics.specs.Records.{records_of}
-use Rattle.semantics.specs.Tables.{Tables, place_of, tables_of}
+use Rattle.vocabulary.specs.Prelude.{Record, Lined, Item, records_of, Tables, place_of, tables_of, id_of}
 use Rattle.semantics.specs.SerialOrder.{listed, serial}
-use Rattle.semantics.specs.Steps.{id_of}
 use Rattle.semantics.specs.Faults.{records_fault}
 use Rattle.log_laws.proofs.lemmas.Members.{Member, contains_of, member_map, map_member, any_found}
 use Rattle.log_laws.proofs.lemmas.Apart.{Apart, PairsBy, all_pairs, pairs_so, pairs_map, number_in, number_within, numbers_apart}

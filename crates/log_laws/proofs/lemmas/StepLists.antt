@@ -1,12 +1,7 @@
 -- Which node, and which operation, a step belongs to.
 use Rattle.std.proofs.Common.{map, slice_get, ◌≡◌, ◌≢◌, ℕ, inl, inr, List, [], sym, ap, subst, Some}
 use Rattle.std.specs.Option.{option_map_or}
-use Rattle.semantics.specs.declared.moves.Move.{Move}
-use Rattle.semantics.specs.declared.tables.LogNode.{LogNode}
-use Rattle.semantics.specs.Tables.{Tables}
-use Rattle.semantics.specs.Events.{graph_of}
-use Rattle.semantics.specs.Interleavings.{MustPrecede}
-use Rattle.semantics.specs.Steps.{Step, moves_of, steps_by}
+use Rattle.vocabulary.specs.Prelude.{Move, LogNode, Tables, graph_of, MustPrecede, Step, moves_of, steps_by}
 use Rattle.log_laws.proofs.lemmas.Members.{Member, member_map, member_flat, none_or_some}
 
 -- The moves of the node at a position.

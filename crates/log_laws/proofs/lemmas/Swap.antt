@@ -2,11 +2,8 @@
 use Rattle.std.proofs.Common.{◌≡◌, ◌≢◌, ◌⊎◌, true, false, refl, arith}
 use Rattle.std.proofs.lemmas.Bool.Decides.{nat_tests}
 use Rattle.value_terms.proofs.lemmas.Changes.{add_add, add_fold, fold_fold}
-use Rattle.semantics.specs.declared.places.Cell.{Cell}
-use Rattle.semantics.specs.declared.moves.Move.{Move}
+use Rattle.vocabulary.specs.Prelude.{Cell, Move, State, effect, sees, same_cell, IsCalm}
 use Rattle.semantics.specs.declared.moves.Move.TheVariants.{Read, Write}
-use Rattle.semantics.specs.Execution.{State, effect, sees, same_cell}
-use Rattle.semantics.specs.Races.{IsCalm}
 
 same_cell_tells : (a b : Cell) → ((same_cell a b ≡ true) × (a ≡ b)) ⊎ ((same_cell a b ≡ false) × (a ≢ b))
 unfolding same_cell

@@ -3,26 +3,12 @@ use Rattle.std.proofs.Common.{◌≡◌, ◌≢◌, ℕ, ◌⊎◌, inl, inr, Bo
 use Rattle.std.proofs.lemmas.Bool.{true≢false, and_parts, cond_both, eq-eqb, eqb-true, false_from_ne_true}
 use Rattle.std.proofs.lemmas.Bool.Decides.{nat_tests}
 use Rattle.std.proofs.lemmas.Option.{same_Some}
-use Rattle.privilege.specs.declared.kinds.Priv.{Priv}
+use Rattle.vocabulary.specs.Prelude.{Priv, agree, may_read, Cell, Move, Req, LogNode, Op, Map, Tables, is_in, points_in, reqs_of, grid, req_grid, id_of, mapped, mapped_cell, reads_by, changes_by, at_cells, run_moves, moves_of, steps, same_cell, is_read, Access, Untouched, Writes, Folds, at_cell, from_to, access, conflicts, IsTidy}
 use Rattle.privilege.specs.declared.kinds.Priv.TheVariants as privileges
-use Rattle.privilege.specs.Interference.{agree}
-use Rattle.privilege.specs.Allowed.{may_read}
-use Rattle.semantics.specs.declared.places.Cell.{Cell}
-use Rattle.semantics.specs.declared.moves.Move.{Move}
 use Rattle.semantics.specs.declared.moves.Move.TheVariants as moves
-use Rattle.semantics.specs.declared.tables.Req.{Req}
-use Rattle.semantics.specs.declared.tables.LogNode.{LogNode}
-use Rattle.semantics.specs.declared.tables.Op.{Op}
 use Rattle.semantics.specs.declared.tables.Op.TheVariants as operations
-use Rattle.semantics.specs.declared.tables.Map.{Map}
-use Rattle.semantics.specs.Tables.{Tables}
-use Rattle.semantics.specs.Points.{is_in, points_in}
-use Rattle.semantics.specs.Kinds.{reqs_of, grid, req_grid}
-use Rattle.semantics.specs.Steps.{id_of, mapped, mapped_cell, reads_by, changes_by, at_cells, run_moves, moves_of, steps}
 use Rattle.semantics.specs.Rules.{tree_of_inst}
-use Rattle.semantics.specs.Execution.{same_cell}
-use Rattle.semantics.specs.Interleavings.{is_read}
-use Rattle.semantics.specs.Races.{Access, Untouched, Reads, Writes, Folds, at_cell, from_to, access, conflicts, IsTidy}
+use Rattle.semantics.specs.Races.{Reads}
 use Rattle.log_laws.proofs.lemmas.Members.{Member, member_of, only, member_append, member_map, member_flat, member_filter, found_at, none_or_some}
 use Rattle.log_laws.proofs.lemmas.Apart.{Apart, pairs_append, apart_map, apart_flat, apart_filter, grid_apart, member_grid}
 use Rattle.log_laws.proofs.lemmas.Sane.{AreSane, two_reqs, reqs_apart}

@@ -7,10 +7,8 @@ use Rattle.std.proofs.lemmas.List.Elements.{recursion_from_All}
 use Rattle.std.proofs.lemmas.List.Splits.{length-slice_split, slice_split_at, slice_split-cons_yes, slice_split-cons_no}
 use Rattle.std.proofs.Math.Seq.{take-append_seam, drop-append_seam}
 use Rattle.spy_lines.specs.LinesOf.{with_ends, IsLine, IsUnended}
-use Rattle.spy_grammar.specs.declared.code.Code.{Code}
+use Rattle.vocabulary.specs.Prelude.{Code, Lined, parts_of, line_count, Hold}
 use Rattle.spy_grammar.specs.declared.code.Code.TheVariants.{TooLong, Newline}
-use Rattle.spy_grammar.specs.declared.record.Lined.{Lined}
-use Rattle.semantics.specs.Records.{parts_of, line_count, Hold}
 use Rattle.semantics.specs.TextFaults.{ends_within_line, lines_fault, text_fault}
 use Rattle.log_reading.specs.Spelled.{HasFault, HasFaultOfLines, Spells}
 use Rattle.log_reading.specs.declared.reading.SpellEnd.{SpellEnd}

@@ -3,9 +3,7 @@ use Rattle.std.proofs.Common.{◌≡◌, ℕ, zero, suc, ◌+◌, ◌≤◌, ◌
 use Rattle.std.specs.List.{AllByRecursion}
 use Rattle.std.specs.List.Sorted.{IsStrictlyIncreasing}
 use Rattle.std.proofs.lemmas.List.Elements.{All-cons, All-head, All-tail}
-use Rattle.spy_grammar.specs.declared.record.Lined.{Lined}
-use Rattle.spy_grammar.specs.Spelling.{Good}
-use Rattle.semantics.specs.Records.{Hold, records_of, AreLines}
+use Rattle.vocabulary.specs.Prelude.{Lined, Good, Hold, records_of, AreLines}
 
 pub each_good : (log : List Lined) → AllByRecursion Good (records_of log) → All (λ (l : Lined). Good l.rec) log
 each_good [] good = λ k d lt. absurd (omega (arith, lt))

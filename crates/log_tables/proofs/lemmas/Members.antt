@@ -10,7 +10,7 @@ use Rattle.std.proofs.lemmas.List.Sorted.{searched}
 use Rattle.std.proofs.lemmas.List.Kept.{AllPairs-from_increasing}
 use Rattle.std.proofs.lemmas.List.Folds.{list_any_at, list_any_none, Any-from_list_any, list_any-from_Any}
 use Rattle.std.proofs.lemmas.Grind.{get_or_default_zero}
-use Rattle.semantics.specs.Points.{is_in}
+use Rattle.vocabulary.specs.Prelude.{is_in}
 
 pub eq_turned : (a b : ℕ) → (a == b) ≡ (b == a)
 eq_turned a b = grind (arith, nat_tests)

@@ -1,14 +1,9 @@
 -- What `check` finds is the same by long values as by values.
 use Rattle.std.proofs.Common.{◌≡◌, ◌↔◌, ℕ, List, None, ap, inl, inr, subst, sym, ◌∙◌}
-use Rattle.spy_grammar.specs.declared.record.Lined.{Lined}
+use Rattle.vocabulary.specs.Prelude.{Lined, Tables, tables_of, place_of, wanted, ReadsIn, Seen, read_step, IsRight, Differs, line_count}
 use Rattle.findings.specs.declared.finding.Finding.{Finding}
 use Rattle.findings.specs.declared.finding.Finding.TheVariants as findings
 use Rattle.semantics.specs.declared.command.Command.TheVariants.{Check}
-use Rattle.semantics.specs.Tables.{Tables, tables_of, place_of}
-use Rattle.semantics.specs.Sequential.{wanted}
-use Rattle.semantics.specs.Execution.{ReadsIn}
-use Rattle.semantics.specs.Reads.{Seen, read_step, IsRight, Differs}
-use Rattle.semantics.specs.Records.{line_count}
 use Rattle.semantics.specs.Faults.{log_fault}
 use Rattle.outcomes.specs.Outcome.{CheckFinds, IsFound, IsOutcome}
 use Rattle.log_laws.proofs.lemmas.Members.{contains_of}

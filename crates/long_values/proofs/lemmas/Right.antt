@@ -1,11 +1,6 @@
 -- Reads that are right in every interleaving, by values and by long values.
 use Rattle.std.proofs.Common.{◌≡◌, ◌↔◌, ℕ, List, None, ap, subst, sym, ◌∙◌}
-use Rattle.spy_grammar.specs.declared.record.Lined.{Lined}
-use Rattle.semantics.specs.declared.places.Cell.{Cell}
-use Rattle.semantics.specs.Tables.{Tables, tables_of, place_of}
-use Rattle.semantics.specs.Sequential.{wanted}
-use Rattle.semantics.specs.Execution.{ReadsIn}
-use Rattle.semantics.specs.Reads.{read_step, IsRight}
+use Rattle.vocabulary.specs.Prelude.{Lined, Cell, Tables, tables_of, place_of, wanted, ReadsIn, read_step, IsRight}
 use Rattle.semantics.specs.Faults.{log_fault}
 use Rattle.semantics.specs.declared.command.Command.TheVariants.{Check}
 use Rattle.log_laws.proofs.lemmas.Admitted.{faultless, sane}

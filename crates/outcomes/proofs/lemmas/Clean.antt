@@ -1,7 +1,7 @@
 -- An input without a fault is not too long, ends with a line feed, and its lines have none.
 use Rattle.std.proofs.Common.{◌≡◌, ℕ, ◌≤◌, inl, inr, false, List, length, take, arith, None}
 use Rattle.std.proofs.lemmas.Bool.{cases_Bool, ltb-false}
-use Rattle.semantics.specs.Records.{parts_of, line_count}
+use Rattle.vocabulary.specs.Prelude.{parts_of, line_count}
 use Rattle.semantics.specs.TextFaults.{is_too_long, ends_within_line, lines_fault, text_fault}
 
 pub record IsClean (bytes : List ℕ) : Type 0 where

@@ -3,26 +3,13 @@ use Rattle.std.proofs.Common.{ap₂, ◌≡◌, ℕ, ◌<◌, inl, inr, ◌⊎�
 use Rattle.std.specs.List.{AllByRecursion}
 use Rattle.std.proofs.lemmas.Bool.{false_from_ne_true}
 use Rattle.std.proofs.lemmas.List.{length-map}
-use Rattle.spy_grammar.specs.declared.record.Lined.{Lined}
-use Rattle.spy_grammar.specs.Spelling.{Good}
+use Rattle.vocabulary.specs.Prelude.{Lined, Good, Command, Cell, Place, records_of, line_count, Tables, tables_of, Value, least_place, id_of, LogNode, Node, graph_of, AreLinked, HasNoCycle, IsInterleaving, Seen, replay_steps, want_of, IsRight, Ask, Link}
 use Rattle.findings.specs.declared.finding.Finding.{Finding}
 use Rattle.findings.specs.declared.finding.Finding.TheVariants.{Accepted, Ordered, Deps, Spare, Cycle, Race, Unordered, Differ, Fault, NoRead, Why}
-use Rattle.semantics.specs.declared.command.Command.{Command}
 use Rattle.semantics.specs.declared.command.Command.TheVariants as commands
 use Rattle.semantics.specs.declared.faults.Fault.{Fault as Shown}
-use Rattle.semantics.specs.declared.places.Cell.{Cell}
-use Rattle.semantics.specs.declared.places.Place.{Place}
-use Rattle.semantics.specs.Records.{records_of, line_count}
-use Rattle.semantics.specs.Tables.{Tables, tables_of}
-use Rattle.value_terms.specs.Values.{Value}
-use Rattle.semantics.specs.Kinds.{least_place}
 use Rattle.semantics.specs.SerialOrder.{by_serial}
-use Rattle.semantics.specs.Steps.{id_of}
-use Rattle.semantics.specs.declared.tables.LogNode.{LogNode}
-use Rattle.semantics.specs.Events.{Node, graph_of, AreLinked, HasNoCycle}
 use Rattle.semantics.specs.ReplayOrder.{replay_order, is_stuck}
-use Rattle.semantics.specs.Interleavings.{IsInterleaving}
-use Rattle.semantics.specs.Reads.{Seen, replay_steps, want_of, IsRight}
 use Rattle.semantics.specs.Shown.{event_of, IsKept, AreKept, IsShownPair}
 use Rattle.semantics.specs.Faults.{log_fault}
 use Rattle.log_laws.proofs.lemmas.Admitted.{IsFaultless, faultless}
@@ -33,8 +20,6 @@ use Rattle.log_laws.proofs.lemmas.ReadLogs.{held_is_good, one_read}
 use Rattle.outcomes.specs.Outcome.{ShowsCycle, ShowsRace, ShowsPair, ShowsSpare, ShowsDifference, CheckFinds, OrderedFinds, DepsFinds, SpareFinds, ShowsLinks, WhyFinds, Finds, IsFound, events_of_wait, before_count, link_shown, IsOutcome}
 use Rattle.spare_laws.proofs.lemmas.OneList.{one_list}
 use Rattle.trail_laws.proofs.lemmas.Trails.{one_list as one_trail, why_faults}
-use Rattle.semantics.specs.declared.links.Ask.{Ask}
-use Rattle.semantics.specs.declared.links.Link.{Link}
 use Rattle.semantics.specs.Links.{AreLinksOf, IsNoRead}
 use Rattle.findings.specs.declared.finding.WhyLink.{WhyLink}
 use Rattle.outcomes.proofs.Pairs.{first_failing, held_within}

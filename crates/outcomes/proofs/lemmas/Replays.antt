@@ -3,25 +3,14 @@ use Rattle.std.proofs.Common.{◌≡◌, ◌≢◌, ℕ, inl, inr, List, [], ◌
 use Rattle.std.specs.List.{AllByRecursion}
 use Rattle.std.specs.Option.{option_or}
 use Rattle.std.proofs.lemmas.Bool.{cases_Bool}
-use Rattle.value_terms.specs.Values.{Value, same_value}
+use Rattle.vocabulary.specs.Prelude.{Value, same_value, Lined, Good, Move, records_of, Tables, tables_of, HasNoCycle, IsRaceFree, Step, State, start, effect, sees, ReadsIn, IsInterleaving, Seen, want_of, read_step, IsRight, Differs, differing, difference, first_difference, replay_steps, shown_difference}
 use Rattle.value_terms.proofs.lemmas.Equality.{value_decides}
-use Rattle.spy_grammar.specs.declared.record.Lined.{Lined}
-use Rattle.spy_grammar.specs.Spelling.{Good}
 use Rattle.semantics.specs.declared.command.Command.TheVariants.{Check}
-use Rattle.semantics.specs.declared.moves.Move.{Move}
 use Rattle.semantics.specs.declared.moves.Move.TheVariants as moves
-use Rattle.semantics.specs.Records.{records_of}
-use Rattle.semantics.specs.Tables.{Tables, tables_of}
-use Rattle.semantics.specs.Events.{HasNoCycle}
-use Rattle.semantics.specs.Races.{IsRaceFree}
 use Rattle.semantics.specs.Faults.{log_fault}
 use Rattle.log_laws.proofs.lemmas.Admitted.{IsFaultless, faultless}
 use Rattle.log_laws.proofs.lemmas.Answers.{one_sight}
 use Rattle.log_laws.proofs.lemmas.Laws.{faultless_tidy, replay_interleaves}
-use Rattle.semantics.specs.Steps.{Step}
-use Rattle.semantics.specs.Execution.{State, start, effect, sees, ReadsIn}
-use Rattle.semantics.specs.Interleavings.{IsInterleaving}
-use Rattle.semantics.specs.Reads.{Seen, want_of, read_step, IsRight, Differs, differing, difference, first_difference, replay_steps, shown_difference}
 use Rattle.log_laws.proofs.lemmas.Members.{Member, contains_of, both_none, none_or_some}
 
 module _ (t : Tables) where

@@ -7,26 +7,11 @@ use Rattle.std.proofs.lemmas.Bool.{cases_Bool, true≢false, false_from_ne_true,
 use Rattle.std.proofs.lemmas.List.Concat.{flat_map_single}
 use Rattle.std.proofs.lemmas.List.Elements.{filter-append}
 use Rattle.value_terms.specs.declared.terms.Base.TheVariants.{Init}
-use Rattle.value_terms.specs.Values.{Value, plain, same_value}
-use Rattle.semantics.specs.declared.places.Cell.{Cell}
-use Rattle.semantics.specs.declared.places.Place.{Place}
-use Rattle.semantics.specs.declared.moves.Move.{Move}
+use Rattle.vocabulary.specs.Prelude.{Value, plain, same_value, Cell, Place, Move, Item, Req, Op, Tables, Space, place_of, is_in, points_in, covers, uses_of, reqs_of, grid, req_grid, after_items, after_uses, wanted, changed, Step, id_of, inst_at, cell_in, mapped_cell, operator_of, reads_by, changes_by, at_cells, moves_of, steps_by, steps, State, start, effect, graph_of, req_at, difference, first_difference, shown_difference, access, Race}
 use Rattle.semantics.specs.declared.moves.Move.TheVariants as moves
-use Rattle.semantics.specs.declared.tables.Item.{Item}
-use Rattle.semantics.specs.declared.tables.Req.{Req}
-use Rattle.semantics.specs.declared.tables.Op.{Op}
 use Rattle.semantics.specs.declared.tables.Op.TheVariants as operations
-use Rattle.semantics.specs.Tables.{Tables, Space, place_of}
-use Rattle.semantics.specs.Points.{is_in, points_in}
-use Rattle.semantics.specs.Kinds.{covers, uses_of, reqs_of, grid, req_grid}
 use Rattle.semantics.specs.SerialOrder.{serial, serial_place}
-use Rattle.semantics.specs.Sequential.{after_items, after_uses, wanted, changed}
-use Rattle.semantics.specs.Steps.{Step, id_of, inst_at, cell_in, mapped_cell, operator_of, reads_by, changes_by, at_cells, moves_of, steps_by, steps}
-use Rattle.semantics.specs.Execution.{State, start, effect}
-use Rattle.semantics.specs.Events.{graph_of}
 use Rattle.semantics.specs.ReplayOrder.{replay_order}
-use Rattle.semantics.specs.Reads.{req_at, difference, first_difference, shown_difference}
-use Rattle.semantics.specs.Races.{access, Race}
 use Rattle.log_laws.proofs.lemmas.Members.{Member, Each, member_of, contains_of, member_filter, none_or_some, filter_member, member_in, is_in_of}
 use Rattle.log_laws.proofs.lemmas.StepLists.{steps_at}
 use Rattle.log_laws.proofs.lemmas.Lists.{filter_map_of}

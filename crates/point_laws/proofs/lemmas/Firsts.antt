@@ -5,23 +5,10 @@ use Rattle.std.proofs.Math.Path.{fun_ext}
 use Rattle.std.proofs.lemmas.Bool.{cases_Bool, true≢false}
 use Rattle.std.proofs.lemmas.List.{map-append}
 use Rattle.std.proofs.lemmas.List.Elements.{filter-append}
-use Rattle.privilege.specs.declared.kinds.Priv.{Priv}
+use Rattle.vocabulary.specs.Prelude.{Priv, same_value, Cell, Move, Req, Op, Tables, place_of, is_in, points_in, reqs_of, req_grid, Step, id_of, mapped_cell, reads_by, changes_by, at_cells, moves_of, steps_by, State, start, effect, executed, is_read, wanted, Seen, req_at, want_of, differing, difference, first_difference}
 use Rattle.privilege.specs.declared.kinds.Priv.TheVariants as privileges
-use Rattle.value_terms.specs.Values.{same_value}
-use Rattle.semantics.specs.declared.places.Cell.{Cell}
-use Rattle.semantics.specs.declared.moves.Move.{Move}
 use Rattle.semantics.specs.declared.moves.Move.TheVariants as moves
-use Rattle.semantics.specs.declared.tables.Req.{Req}
-use Rattle.semantics.specs.declared.tables.Op.{Op}
 use Rattle.semantics.specs.declared.tables.Op.TheVariants as operations
-use Rattle.semantics.specs.Tables.{Tables, place_of}
-use Rattle.semantics.specs.Points.{is_in, points_in}
-use Rattle.semantics.specs.Kinds.{reqs_of, req_grid}
-use Rattle.semantics.specs.Steps.{Step, id_of, mapped_cell, reads_by, changes_by, at_cells, moves_of, steps_by}
-use Rattle.semantics.specs.Execution.{State, start, effect, executed}
-use Rattle.semantics.specs.Interleavings.{is_read}
-use Rattle.semantics.specs.Sequential.{wanted}
-use Rattle.semantics.specs.Reads.{Seen, req_at, want_of, differing, difference, first_difference}
 use Rattle.log_laws.proofs.lemmas.Members.{Member, Each, is_in_of, member_in, member_filter, member_map, none_or_some, both_none}
 use Rattle.log_laws.proofs.lemmas.StepLists.{steps_at}
 use Rattle.log_laws.proofs.lemmas.Tidy.{is_of, a_read, no_read}

@@ -1,13 +1,8 @@
 -- The points of a space, declared or not, are in ascending order.
 use Rattle.std.proofs.Common.{ℕ, inl, inr, ◌==◌, List, [], ◌∷◌, find, fold}
 use Rattle.std.specs.List.{AllByRecursion}
-use Rattle.spy_grammar.specs.declared.record.Record.{Record}
+use Rattle.vocabulary.specs.Prelude.{Record, Lined, Good, records_of, Tables, Space, with_record, no_tables, tables_of, points_in}
 use Rattle.spy_grammar.specs.declared.record.Record.TheVariants as records
-use Rattle.spy_grammar.specs.declared.record.Lined.{Lined}
-use Rattle.spy_grammar.specs.Spelling.{Good}
-use Rattle.semantics.specs.Records.{records_of}
-use Rattle.semantics.specs.Tables.{Tables, Space, with_record, no_tables, tables_of}
-use Rattle.semantics.specs.Points.{points_in}
 use Rattle.log_laws.proofs.lemmas.Members.{Each, member_of, contains_of, each_more, found_at, none_or_some}
 use Rattle.log_laws.proofs.lemmas.Apart.{Apart, Rise, rise_apart, all_pairs, pairs_from, points_rise}
 use Rattle.point_laws.specs.Alike.{HasPointsInOrder}

@@ -1,6 +1,6 @@
 -- A node that is before another is before all that this one is before.
 use Rattle.std.proofs.Common.{◌≡◌, ℕ, true, List, [], ◌∷◌, ◌++◌}
-use Rattle.semantics.specs.Events.{Node, IsChain}
+use Rattle.vocabulary.specs.Prelude.{Node, IsChain}
 use Rattle.reach_marks.specs.Reached.{AreMarksOf, Marks, before_in}
 
 pub chains_join : (nodes : List Node) (a : ℕ) (first : List ℕ) (b : ℕ) (second : List ℕ) (c : ℕ) → IsChain nodes a first b → IsChain nodes b second c → IsChain nodes a (first ++ b ∷ second) c

@@ -2,7 +2,7 @@
 use Rattle.std.proofs.Common.{◌≡◌, ℕ, zero, suc, ◌+◌, ◌-◌, ◌<◌, ◌≤◌, ◌==◌, Some, None, All, slice_get, subst, refl, sym, ap, ◌∙◌, inl, inr, arith}
 use Rattle.std.proofs.lemmas.Bool.{cases_lt, eqb-true}
 use Rattle.std.proofs.lemmas.Option.{none-some, option_and_then_some}
-use Rattle.semantics.specs.declared.tables.Sub.{Sub}
+use Rattle.vocabulary.specs.Prelude.{Sub}
 use Rattle.log_tables.specs.Regions.{Regions, sub_of, whole_of, parent_of}
 use Rattle.list_lemmas.proofs.lemmas.Firsts.{cases_option, find_some, all_at}
 use Rattle.region_tree.specs.Ancestors.{ancestor_of, IsBelow, IsShallow}

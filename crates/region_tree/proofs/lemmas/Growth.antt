@@ -6,10 +6,8 @@ use Rattle.std.proofs.lemmas.Option.{none-some, same_Some, option_and_then_some}
 use Rattle.std.proofs.lemmas.List.Folds.{find-append}
 use Rattle.std.proofs.lemmas.List.Elements.{All-nil, All-push}
 use Rattle.std.proofs.lemmas.List.Quantifiers.{all_pairs_push}
-use Rattle.semantics.specs.declared.tables.Part.{Part}
-use Rattle.semantics.specs.declared.tables.Sub.{Sub}
+use Rattle.vocabulary.specs.Prelude.{Part, Sub, Space}
 use Rattle.log_tables.specs.Regions.{Regions, space_of, part_of, sub_of, whole_of, parent_of, step_of}
-use Rattle.semantics.specs.Tables.{Space}
 use Rattle.region_tree.specs.Ancestors.{ancestor_of}
 use Rattle.list_lemmas.proofs.lemmas.Firsts.{cases_option, or_none, find_some, all_at}
 use Rattle.region_tree.proofs.lemmas.Climbs.{acyclic_from, ancestor-sum}

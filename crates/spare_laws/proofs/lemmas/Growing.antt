@@ -4,11 +4,10 @@ use Rattle.std.proofs.lemmas.Bool.{cases_eq, and_parts, and_from, false_from_ne_
 use Rattle.std.proofs.lemmas.List.{take_more, take_all, length-take-le}
 use Rattle.std.proofs.lemmas.List.Sums.{sum_by_push}
 use Rattle.std.proofs.lemmas.Option.{slice_get_within, slice_get-get_or}
-use Rattle.semantics.specs.Events.{Node}
+use Rattle.vocabulary.specs.Prelude.{Node, ListedWait}
 use Rattle.log_laws.proofs.lemmas.Members.{Member, member_of, contains_of, member_append, member_left, member_right, any_at, any_found}
 use Rattle.log_laws.proofs.lemmas.Apart.{PairsBy, pairs_from, all_pairs, pairs_append}
 use Rattle.spare_laws.proofs.lemmas.Listing.{waits_within}
-use Rattle.semantics.specs.declared.waits.ListedWait.{ListedWait}
 use Rattle.semantics.specs.ReplayOrder.{waits_at}
 use Rattle.semantics.specs.Spare.{IsSpare, IsAhead, AreSpareWaits, is_among}
 use Rattle.spare_laws.specs.Listed.{AreUpTo, listed_count, marked}

@@ -1,10 +1,9 @@
 -- There is one list of the spare waits of a graph.
 use Rattle.std.proofs.Common.{◌≡◌, ◌↔◌, List, [], ◌∷◌, inl, inr, refl, sym, ap, ◌∙◌, subst, arith}
-use Rattle.semantics.specs.Events.{Node}
+use Rattle.vocabulary.specs.Prelude.{Node, ListedWait}
 use Rattle.log_laws.proofs.lemmas.Members.{Member, member_of, contains_of}
 use Rattle.log_laws.proofs.lemmas.Apart.{PairsBy, pairs_from}
 use Rattle.log_laws.proofs.lemmas.Lists.{left_out_same}
-use Rattle.semantics.specs.declared.waits.ListedWait.{ListedWait}
 use Rattle.semantics.specs.Spare.{IsAhead, AreSpareWaits}
 
 not_both : (v w : ListedWait) → IsAhead v w → IsAhead w v → ⊥

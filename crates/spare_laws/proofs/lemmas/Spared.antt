@@ -1,7 +1,6 @@
 -- Without all spare waits the same nodes are before the same ones, and without one more they are not.
 use Rattle.std.proofs.Common.{◌≡◌, ℕ, List, [], ◌∷◌, Some, slice_get, Contains}
-use Rattle.semantics.specs.declared.waits.ListedWait.{ListedWait}
-use Rattle.semantics.specs.Events.{Node, AreLinked, IsCycle}
+use Rattle.vocabulary.specs.Prelude.{ListedWait, Node, AreLinked, IsCycle}
 use Rattle.semantics.specs.ReplayOrder.{waits_at}
 use Rattle.semantics.specs.Spare.{AreSpareWaits, HaveSameBefore, is_among, without}
 use Rattle.log_laws.proofs.lemmas.Cycles.{has_cycle}

@@ -1,11 +1,8 @@
 -- A copy keeps the point and the field.
 use Rattle.std.proofs.Common.{◌≡◌, List, Contains}
-use Rattle.spy_grammar.specs.declared.record.Lined.{Lined}
+use Rattle.vocabulary.specs.Prelude.{Lined, Move, Tables, tables_of, Step, steps}
 use Rattle.semantics.specs.declared.command.Command.TheVariants.{Check}
-use Rattle.semantics.specs.declared.moves.Move.{Move}
 use Rattle.semantics.specs.declared.moves.Move.TheVariants.{Read, Write, Reduce, Copy, Put, Reset, Fold}
-use Rattle.semantics.specs.Tables.{Tables, tables_of}
-use Rattle.semantics.specs.Steps.{Step, steps}
 use Rattle.log_laws.proofs.lemmas.Members.{member_of}
 use Rattle.log_laws.proofs.lemmas.Admitted.{IsFaultless}
 use Rattle.log_laws.proofs.lemmas.Tidy.{place}

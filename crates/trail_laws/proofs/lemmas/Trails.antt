@@ -3,32 +3,13 @@ use Rattle.std.proofs.Common.{◌≡◌, ◌≢◌, ◌↔◌, ◌⊎◌, ◌≤
 use Rattle.std.specs.List.{AllByRecursion, list_any}
 use Rattle.std.specs.Option.{option_map_or}
 use Rattle.std.proofs.lemmas.Bool.{cases_Bool}
-use Rattle.privilege.specs.declared.kinds.Priv.{Priv}
+use Rattle.vocabulary.specs.Prelude.{Priv, Value, Lined, Good, Ask, Link, Cell, Move, LogNode, Op, records_of, Tables, tables_of, points_in, reqs_of, grid, graph_of, AreLinked, HasNoCycle, Step, steps, id_of, cell_in, mapped_cell, at_cells, move_of, moves_of, start, ReadsIn, IsInterleaving, IsRaceFree, replay_steps}
 use Rattle.privilege.specs.declared.kinds.Priv.TheVariants as privileges
-use Rattle.value_terms.specs.Values.{Value}
-use Rattle.spy_grammar.specs.declared.record.Lined.{Lined}
-use Rattle.spy_grammar.specs.Spelling.{Good}
 use Rattle.semantics.specs.declared.command.Command.TheVariants.{Check, Why}
-use Rattle.semantics.specs.declared.links.Ask.{Ask}
-use Rattle.semantics.specs.declared.links.Link.{Link}
 use Rattle.semantics.specs.declared.links.LinkKind.TheVariants as kinds
-use Rattle.semantics.specs.declared.places.Cell.{Cell}
-use Rattle.semantics.specs.declared.moves.Move.{Move}
 use Rattle.semantics.specs.declared.moves.Move.TheVariants as moves
-use Rattle.semantics.specs.declared.tables.LogNode.{LogNode}
-use Rattle.semantics.specs.declared.tables.Op.{Op}
 use Rattle.semantics.specs.declared.tables.Op.TheVariants as operations
 use Rattle.semantics.specs.DataOps.{Copies, Puts, Resets, Folds}
-use Rattle.semantics.specs.Records.{records_of}
-use Rattle.semantics.specs.Tables.{Tables, tables_of}
-use Rattle.semantics.specs.Points.{points_in}
-use Rattle.semantics.specs.Kinds.{reqs_of, grid}
-use Rattle.semantics.specs.Events.{graph_of, AreLinked, HasNoCycle}
-use Rattle.semantics.specs.Steps.{Step, steps, id_of, cell_in, mapped_cell, at_cells, move_of, moves_of}
-use Rattle.semantics.specs.Execution.{start, ReadsIn}
-use Rattle.semantics.specs.Interleavings.{IsInterleaving}
-use Rattle.semantics.specs.Races.{IsRaceFree}
-use Rattle.semantics.specs.Reads.{replay_steps}
 use Rattle.semantics.specs.Shown.{event_of}
 use Rattle.semantics.specs.Faults.{log_fault}
 use Rattle.semantics.specs.Links.{Source, cell_read, ComesFrom, IsTrail, is_asked, IsNoRead, kind_of, link_of, AreLinksOf, put_by, put_at, value_put, last_put, TellValue, EndsInOrigin}

@@ -1,6 +1,6 @@
 use Rattle.std.proofs.Common.{◌≡◌, ◌∙◌, ◌+◌, ◌-◌, length, true, false, sym, ap, arith, ℕ, List, get_or, reverse, [], ◌∷◌}
 use Rattle.std.proofs.lemmas.List.{reverse-append}
-use Rattle.semantics.specs.Points.{is_in}
+use Rattle.vocabulary.specs.Prelude.{is_in}
 use Rattle.semantics.specs.ReplayOrder.{up_to}
 use Rattle.event_graph.proofs.Walks.{walk_on, walk_back, marked_more}
 use Rattle.event_graph.proofs.cycle_walk.walk_from.Goals as goal

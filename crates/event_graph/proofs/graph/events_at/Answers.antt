@@ -1,6 +1,6 @@
 use Rattle.std.proofs.Common.{◌≡◌, ◌∙◌, ap, get_or, Some, slice_get, sym, refl}
 use Rattle.std.proofs.lemmas.Option.{slice_get-get_or}
-use Rattle.semantics.specs.Events.{Node}
+use Rattle.vocabulary.specs.Prelude.{Node}
 use Rattle.event_graph.specs.Orders.{event_at}
 use Rattle.event_graph.proofs.lemmas.Placed.{map_more}
 use Rattle.event_graph.proofs.graph.events_at.Goals as goal

@@ -1,7 +1,7 @@
 use Rattle.std.proofs.Common.{◌≡◌, nat_eq, All, is_some, true, subst, arith, refl}
 use Rattle.std.specs.HashMap.{get}
 use Rattle.std.proofs.lemmas.List.{take_all}
-use Rattle.semantics.specs.Events.{Node}
+use Rattle.vocabulary.specs.Prelude.{Node}
 use Rattle.event_graph.proofs.linked.are_waits_known.Goals as goal
 
 pub returns : goal.returns

@@ -1,5 +1,5 @@
 use Rattle.std.proofs.Common.{◌≡◌, take}
-use Rattle.semantics.specs.Events.{graph_of}
+use Rattle.vocabulary.specs.Prelude.{graph_of}
 use Rattle.event_graph.proofs.node.nodes_in.Given as goal
 
 abbrev pub invariant-loop-node : goal.invariant-loop-node

@@ -2,7 +2,7 @@ use Rattle.std.proofs.Common.{◌≡◌, ◌∙◌, ◌+◌, ◌==◌, arith, na
 use Rattle.std.specs.HashMap.{get}
 use Rattle.std.specs.Option.{IsSomeAnd}
 use Rattle.std.proofs.lemmas.Option.{slice_get-get_or, slice_get_within}
-use Rattle.semantics.specs.Events.{Node}
+use Rattle.vocabulary.specs.Prelude.{Node}
 use Rattle.semantics.specs.ReplayOrder.{waits_at}
 use Rattle.event_graph.specs.WaitCounts.{times}
 use Rattle.event_graph.proofs.lemmas.Placed.{placed_within, listed_more, listed_all, hits_times}

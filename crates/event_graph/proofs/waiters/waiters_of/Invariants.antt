@@ -1,5 +1,5 @@
 use Rattle.std.proofs.Common.{◌≡◌, ℕ, get_or, [], if◌then◌else◌, nat_lt, length, slice_get, Some}
-use Rattle.semantics.specs.Events.{Node}
+use Rattle.vocabulary.specs.Prelude.{Node}
 use Rattle.semantics.specs.ReplayOrder.{waits_at}
 use Rattle.event_graph.specs.WaitCounts.{times}
 use Rattle.event_graph.proofs.waiters.waiters_of.Given as goal

@@ -1,6 +1,6 @@
 use Rattle.std.proofs.Common.{map, sym, ap, ◌∙◌}
 use Rattle.std.specs.Option.{option_map}
-use Rattle.semantics.specs.Kinds.{grid}
+use Rattle.vocabulary.specs.Prelude.{grid}
 use Rattle.point_laws.specs.Cut.{kept, cut_to}
 use Rattle.listed_points.specs.Listed.{listed_of}
 use Rattle.inst_steps.specs.Sweeps.{action_at, actions_of_pass}

@@ -1,5 +1,5 @@
 use Rattle.std.proofs.Common.{take}
-use Rattle.value_terms.specs.Values.{plain}
+use Rattle.vocabulary.specs.Prelude.{plain}
 use Rattle.inst_steps.specs.Stores.{HoldsMore, is_at_point}
 use Rattle.inst_steps.proofs.start.hold_fields.Given as goal
 

@@ -1,5 +1,5 @@
 use Rattle.std.proofs.Common.{take}
-use Rattle.semantics.specs.Execution.{start}
+use Rattle.vocabulary.specs.Prelude.{start}
 use Rattle.point_laws.specs.Cut.{cut_to}
 use Rattle.listed_points.specs.Listed.{listed_of}
 use Rattle.inst_steps.specs.Stores.{HoldsMore, is_of_some}

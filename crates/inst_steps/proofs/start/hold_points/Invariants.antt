@@ -1,6 +1,5 @@
 use Rattle.std.proofs.Common.{◌-◌, ◌^◌, ◌&&◌, nat_lt}
-use Rattle.semantics.specs.Points.{is_in}
-use Rattle.value_terms.specs.Values.{plain}
+use Rattle.vocabulary.specs.Prelude.{is_in, plain}
 use Rattle.point_laws.specs.Cut.{kept}
 use Rattle.listed_points.specs.Listed.{listed_of}
 use Rattle.inst_steps.specs.Stores.{HoldsMore, is_at_points}

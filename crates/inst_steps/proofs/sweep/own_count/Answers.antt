@@ -1,6 +1,6 @@
 use Rattle.std.proofs.Common.{◌==◌, sym, ◌∙◌}
 use Rattle.std.proofs.lemmas.List.Sums.{length-filter}
-use Rattle.semantics.specs.declared.tables.Req.{Req}
+use Rattle.vocabulary.specs.Prelude.{Req}
 use Rattle.inst_steps.proofs.sweep.own_count.Goals as goal
 
 pub returns : goal.returns

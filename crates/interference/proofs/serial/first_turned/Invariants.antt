@@ -1,5 +1,5 @@
 use Rattle.std.proofs.Common.{◌≡◌, find}
-use Rattle.semantics.specs.Kinds.{is_before}
+use Rattle.vocabulary.specs.Prelude.{is_before}
 use Rattle.interference.specs.declared.pair.Pair.{Pair}
 use Rattle.interference.specs.Pairing.{asked_of, left}
 use Rattle.interference.proofs.serial.first_turned.Given as goal

@@ -1,6 +1,6 @@
 use Rattle.std.proofs.Common.{◌≡◌, map, take}
 use Rattle.std.specs.List.{filter_map}
-use Rattle.semantics.specs.Kinds.{strongest, least_of}
+use Rattle.vocabulary.specs.Prelude.{strongest, least_of}
 use Rattle.item_uses.specs.Sharing.{shared_kind, kind_place}
 use Rattle.item_uses.proofs.between.interference_with_list.Given as goal
 

@@ -1,5 +1,5 @@
 use Rattle.std.proofs.Common.{◌≡◌, find, drop}
-use Rattle.semantics.specs.Points.{is_in}
+use Rattle.vocabulary.specs.Prelude.{is_in}
 use Rattle.item_uses.specs.Sharing.{least_shared}
 use Rattle.item_uses.proofs.fields.first_shared.Given as goal
 

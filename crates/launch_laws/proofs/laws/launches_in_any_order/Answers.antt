@@ -1,4 +1,4 @@
-use Rattle.semantics.specs.Kinds.{uses_of}
+use Rattle.vocabulary.specs.Prelude.{uses_of}
 use Rattle.log_laws.proofs.lemmas.Members.{member_of}
 use Rattle.launch_laws.specs.LaunchOrders.{launch_tables, launches_of}
 use Rattle.launch_laws.proofs.FreeTasks.{tasks_turned}

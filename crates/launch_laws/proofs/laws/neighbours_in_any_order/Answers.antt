@@ -1,4 +1,4 @@
-use Rattle.semantics.specs.Kinds.{uses_of}
+use Rattle.vocabulary.specs.Prelude.{uses_of}
 use Rattle.log_laws.proofs.lemmas.Members.{member_of}
 use Rattle.launch_laws.proofs.FreeStretches.{all_stretches, wanted_same}
 use Rattle.launch_laws.proofs.laws.neighbours_in_any_order.Goals as goal

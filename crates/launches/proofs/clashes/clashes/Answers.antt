@@ -1,8 +1,6 @@
 use Rattle.std.proofs.Common.{sym, ap, ◌∙◌}
 use Rattle.std.specs.List.{list_any}
-use Rattle.spy_grammar.specs.declared.record.Record.{Record}
-use Rattle.semantics.specs.Records.{lined}
-use Rattle.semantics.specs.Tables.{tables_of}
+use Rattle.vocabulary.specs.Prelude.{Record, lined, tables_of}
 use Rattle.semantics.specs.Launches.{clash}
 use Rattle.launches.specs.Steps.{launch_seen}
 use Rattle.launches.specs.Interfering.{req_of}

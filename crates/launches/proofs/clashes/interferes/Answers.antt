@@ -1,9 +1,7 @@
 use Rattle.std.proofs.Common.{List, drop, sym, ap, ◌∙◌}
 use Rattle.std.specs.List.{list_any}
 use Rattle.list_lemmas.proofs.lemmas.Places.{list_any_map}
-use Rattle.spy_grammar.specs.declared.record.Record.{Record}
-use Rattle.semantics.specs.Records.{lined}
-use Rattle.semantics.specs.Tables.{tables_of}
+use Rattle.vocabulary.specs.Prelude.{Record, lined, tables_of}
 use Rattle.semantics.specs.Launches.{TaskLaunch, clash}
 use Rattle.launches.specs.declared.launched.Launched.{Launched}
 use Rattle.launches.specs.Steps.{launch_seen}

@@ -1,5 +1,5 @@
 use Rattle.std.proofs.Common.{refl, subst}
-use Rattle.spy_grammar.specs.Spelling.{Good}
+use Rattle.vocabulary.specs.Prelude.{Good}
 use Rattle.launches.proofs.Goodness.{good_runs}
 use Rattle.launches.proofs.declaring.declare.Goals as goal
 

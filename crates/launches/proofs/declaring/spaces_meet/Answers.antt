@@ -1,5 +1,5 @@
 use Rattle.std.proofs.Common.{◌∙◌, ap, sym, ℕ, List}
-use Rattle.semantics.specs.Points.{meets}
+use Rattle.vocabulary.specs.Prelude.{meets}
 use Rattle.log_tables.specs.Regions.{space_points}
 use Rattle.launches.proofs.Clashing.{meets_none}
 use Rattle.launches.proofs.declaring.spaces_meet.Goals as goal

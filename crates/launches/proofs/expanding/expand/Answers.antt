@@ -1,5 +1,5 @@
 use Rattle.std.proofs.Common.{◌≡◌, Some, ap, ◌∙◌}
-use Rattle.semantics.specs.declared.faults.Fault.{Fault}
+use Rattle.vocabulary.specs.Prelude.{Fault}
 use Rattle.launches.specs.declared.expand_end.ExpandEnd.TheVariants as ends
 use Rattle.launches.proofs.Framing.{same_fault}
 use Rattle.launches.proofs.expanding.expand.Goals as goal

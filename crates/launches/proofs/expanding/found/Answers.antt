@@ -1,6 +1,6 @@
 use Rattle.std.proofs.Common.{◌≡◌, Option, Some, None, Err, sym, ap, ◌∙◌, subst}
 use Rattle.std.specs.Result.{IfOk, OnOk}
-use Rattle.semantics.specs.declared.faults.Fault.{Fault}
+use Rattle.vocabulary.specs.Prelude.{Fault}
 use Rattle.launches.proofs.Framing.{faulty_frame, sound_frame}
 use Rattle.launches.proofs.expanding.found.Goals as goal
 

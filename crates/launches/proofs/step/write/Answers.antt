@@ -1,5 +1,5 @@
 use Rattle.std.proofs.Common.{◌≡◌, false, refl, subst}
-use Rattle.spy_grammar.specs.Launches.{GoodLaunch}
+use Rattle.vocabulary.specs.Prelude.{GoodLaunch}
 use Rattle.semantics.specs.Launches.{exceeds_ids, names_no_launch}
 use Rattle.launches.specs.Steps.{expanded_as}
 use Rattle.launches.proofs.Stepping.{good_tasks, ids_fit, good_base, good_reqs, none_lacking}

@@ -1,5 +1,5 @@
 use Rattle.std.proofs.Common.{ℕ, List, [], ◌∷◌, ◌++◌, Option, unwrap_or, get_or, ap, ◌∙◌, arith}
-use Rattle.spy_grammar.specs.declared.record.Record.{Record}
+use Rattle.vocabulary.specs.Prelude.{Record}
 use Rattle.spy_grammar.specs.declared.record.Record.TheVariants as records
 use Rattle.launches.specs.Steps.{req_for, space_by}
 use Rattle.launches.proofs.TaskLists.{one_task_more}

@@ -1,8 +1,7 @@
 use Rattle.std.proofs.Common.{◌≡◌, ◌<◌, ◌^◌, All, fold, length}
 use Rattle.std.specs.List.{AllByRecursion}
 use Rattle.std.specs.Vec.Iter.{into_iter_items}
-use Rattle.spy_grammar.specs.declared.launches.LLined.{LLined}
-use Rattle.spy_grammar.specs.Launches.{GoodLaunch}
+use Rattle.vocabulary.specs.Prelude.{LLined, GoodLaunch}
 use Rattle.semantics.specs.Launches.{expanded, launch_records, launches_fault, not_expanded, with_launching}
 use Rattle.launches.specs.Steps.{HasTaskIds, expanded_as}
 use Rattle.launches.proofs.walk.walk.Given as goal

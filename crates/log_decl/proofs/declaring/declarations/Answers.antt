@@ -1,5 +1,5 @@
 use Rattle.std.proofs.Common.{◌≡◌, [], None, refl, subst}
-use Rattle.semantics.specs.Records.{records_of}
+use Rattle.vocabulary.specs.Prelude.{records_of}
 use Rattle.semantics.specs.Faults.{header_fault, ended_fault, count_fault, records_fault}
 use Rattle.log_decl.proofs.lemmas.Ascending.{good_ascends, few_records}
 use Rattle.log_decl.proofs.Ending.{after_frame}

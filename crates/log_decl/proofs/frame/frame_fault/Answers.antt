@@ -1,7 +1,7 @@
 use Rattle.std.proofs.Common.{List, ap, ◌∙◌}
 use Rattle.std.specs.Option.{option_or}
 use Rattle.std.proofs.lemmas.List.{map-id}
-use Rattle.spy_grammar.specs.declared.record.Lined.{Lined}
+use Rattle.vocabulary.specs.Prelude.{Lined}
 use Rattle.semantics.specs.Faults.{header_fault, ended_fault, count_fault}
 use Rattle.log_decl.proofs.frame.frame_fault.Goals as goal
 

@@ -1,6 +1,5 @@
 use Rattle.std.proofs.Common.{◌∙◌, ap, sym, refl, List, arith}
-use Rattle.spy_grammar.specs.declared.record.Lined.{Lined}
-use Rattle.semantics.specs.Tables.{tables_of}
+use Rattle.vocabulary.specs.Prelude.{Lined, tables_of}
 use Rattle.semantics.specs.Faults.{declaration_fault}
 use Rattle.log_reading.proofs.lemmas.Numbered.{good_records}
 use Rattle.log_decl.proofs.records.declare.Goals as goal

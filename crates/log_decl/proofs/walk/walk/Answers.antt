@@ -1,6 +1,5 @@
 use Rattle.std.proofs.Common.{◌≡◌, ◌+◌, List, take, None, sym, ap, ◌∙◌, arith}
-use Rattle.spy_grammar.specs.declared.record.Record.{Record}
-use Rattle.semantics.specs.Records.{records_of}
+use Rattle.vocabulary.specs.Prelude.{Record, records_of}
 use Rattle.log_decl.specs.Walk.{broken_of}
 use Rattle.log_decl.proofs.Walking.{counted, stands_where, none_where, may_count, tables_more, records_more, keeps_more, tally_more}
 use Rattle.log_decl.proofs.walk.walk.Goals as goal

@@ -1,6 +1,5 @@
 use Rattle.std.proofs.Common.{◌≡◌, ◌≤◌, take, length, []}
-use Rattle.semantics.specs.Records.{records_of}
-use Rattle.semantics.specs.Tables.{tables_of}
+use Rattle.vocabulary.specs.Prelude.{records_of, tables_of}
 use Rattle.log_rules.specs.Tallied.{IsTally}
 use Rattle.log_decl.specs.Walk.{Keep}
 use Rattle.log_decl.proofs.walk.walk.Given as goal

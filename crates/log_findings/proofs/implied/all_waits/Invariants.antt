@@ -1,5 +1,5 @@
 use Rattle.std.proofs.Common.{◌≡◌, length, take, sum_by}
-use Rattle.semantics.specs.declared.tables.LogNode.{LogNode}
+use Rattle.vocabulary.specs.Prelude.{LogNode}
 use Rattle.log_findings.proofs.implied.all_waits.Given as goal
 
 abbrev pub invariant-loop-node : goal.invariant-loop-node

@@ -1,6 +1,5 @@
 use Rattle.std.proofs.Common.{◌∙◌, List, map, length, sum_by, ap, sym, subst}
-use Rattle.semantics.specs.declared.tables.LogNode.{LogNode}
-use Rattle.semantics.specs.Events.{Node}
+use Rattle.vocabulary.specs.Prelude.{LogNode, Node}
 use Rattle.semantics.specs.Spare.{AreSpareWaits}
 use Rattle.outcomes.specs.Outcome.{ShowsSpare, SpareFinds, events_of_wait}
 use Rattle.log_findings.proofs.implied.waits_found.Goals as goal

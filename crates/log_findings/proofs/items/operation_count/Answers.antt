@@ -1,6 +1,6 @@
 use Rattle.std.proofs.Common.{◌<◌, ◌^◌, ◌∙◌, List, length, sym, ap, subst, count_by}
 use Rattle.std.proofs.lemmas.List.Sums.{length-filter}
-use Rattle.semantics.specs.declared.tables.LogNode.{LogNode}
+use Rattle.vocabulary.specs.Prelude.{LogNode}
 use Rattle.semantics.specs.Counts.{is_operation}
 use Rattle.log_findings.proofs.lemmas.Ends.{few_declared_nodes}
 use Rattle.log_findings.proofs.items.operation_count.Goals as goal

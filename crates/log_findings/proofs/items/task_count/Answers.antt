@@ -1,6 +1,6 @@
 use Rattle.std.proofs.Common.{◌<◌, ◌^◌, ◌∙◌, List, length, sym, ap, subst, count_by}
 use Rattle.std.proofs.lemmas.List.Sums.{length-filter}
-use Rattle.semantics.specs.declared.tables.Item.{Item}
+use Rattle.vocabulary.specs.Prelude.{Item}
 use Rattle.semantics.specs.Rules.{is_task}
 use Rattle.log_findings.proofs.lemmas.Ends.{few_declared_items}
 use Rattle.log_findings.proofs.items.task_count.Goals as goal

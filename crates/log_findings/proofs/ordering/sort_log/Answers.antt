@@ -1,6 +1,5 @@
 use Rattle.std.proofs.Common.{◌<◌, ◌^◌, List, length, sym, subst}
-use Rattle.semantics.specs.declared.tables.LogNode.{LogNode}
-use Rattle.semantics.specs.Events.{AreLinked, graph_of}
+use Rattle.vocabulary.specs.Prelude.{LogNode, AreLinked, graph_of}
 use Rattle.log_laws.proofs.lemmas.Laws.{faultless_linked}
 use Rattle.log_findings.proofs.lemmas.Ends.{few_declared_nodes, linked_in}
 use Rattle.log_findings.proofs.ordering.sort_log.Goals as goal

@@ -1,4 +1,4 @@
-use Rattle.semantics.specs.Records.{records_of}
+use Rattle.vocabulary.specs.Prelude.{records_of}
 use Rattle.log_laws.proofs.lemmas.ReadLogs.{held_is_good, printed_has_no_fault, printed_is_read}
 use Rattle.log_laws.proofs.read_laws.printed_logs_are_read.Goals as goal
 use Rattle.log_laws.proofs.lemmas.Numbered.{records_numbered}

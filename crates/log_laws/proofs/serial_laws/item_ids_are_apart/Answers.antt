@@ -1,6 +1,5 @@
 use Rattle.std.proofs.Common.{◌≢◌}
-use Rattle.semantics.specs.declared.tables.Item.{Item}
-use Rattle.semantics.specs.Tables.{tables_of}
+use Rattle.vocabulary.specs.Prelude.{Item, tables_of}
 use Rattle.log_laws.proofs.lemmas.Apart.{all_pairs}
 use Rattle.log_laws.proofs.lemmas.Admitted.{no_broken_rule}
 use Rattle.log_laws.proofs.lemmas.Listed.{are_listed}

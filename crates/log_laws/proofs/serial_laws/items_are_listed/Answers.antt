@@ -1,6 +1,5 @@
 use Rattle.std.proofs.Common.{◌≢◌}
-use Rattle.semantics.specs.Records.{records_of}
-use Rattle.semantics.specs.Tables.{tables_of}
+use Rattle.vocabulary.specs.Prelude.{records_of, tables_of}
 use Rattle.semantics.specs.SerialOrder.{listed}
 use Rattle.log_laws.proofs.lemmas.Members.{member_of, contains_of}
 use Rattle.log_laws.proofs.lemmas.Apart.{all_pairs}

@@ -1,5 +1,5 @@
 use Rattle.std.proofs.Common.{◌≢◌}
-use Rattle.semantics.specs.Tables.{tables_of}
+use Rattle.vocabulary.specs.Prelude.{tables_of}
 use Rattle.semantics.specs.SerialOrder.{serial}
 use Rattle.log_laws.proofs.lemmas.Members.{member_of, contains_of}
 use Rattle.log_laws.proofs.lemmas.Apart.{all_pairs}

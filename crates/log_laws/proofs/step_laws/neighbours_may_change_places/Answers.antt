@@ -1,5 +1,5 @@
 use Rattle.std.proofs.Common.{sym}
-use Rattle.semantics.specs.Tables.{tables_of}
+use Rattle.vocabulary.specs.Prelude.{tables_of}
 use Rattle.semantics.specs.declared.command.Command.TheVariants.{Check}
 use Rattle.log_laws.proofs.lemmas.Admitted.{faultless}
 use Rattle.log_laws.proofs.lemmas.Laws.{faultless_tidy}

@@ -1,5 +1,4 @@
-use Rattle.semantics.specs.Tables.{tables_of}
-use Rattle.semantics.specs.Steps.{steps}
+use Rattle.vocabulary.specs.Prelude.{tables_of, steps}
 use Rattle.semantics.specs.declared.command.Command.TheVariants.{Check}
 use Rattle.std.proofs.Common.{◌≢◌}
 use Rattle.log_laws.proofs.lemmas.Apart.{Apart, all_pairs}

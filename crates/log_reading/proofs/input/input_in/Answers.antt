@@ -2,7 +2,7 @@ use Rattle.std.proofs.Common.{arith, ◌≡◌, ◌≤◌, ◌<◌, ◌^◌, Lis
 use Rattle.std.specs.Prelude.{Result, IfOk, OnOk}
 use Rattle.spy_lines.specs.LinesOf.{with_ends, IsLine}
 use Rattle.spy_grammar.specs.declared.code.Code.TheVariants.{TooLong}
-use Rattle.semantics.specs.Records.{Hold}
+use Rattle.vocabulary.specs.Prelude.{Hold}
 use Rattle.semantics.specs.TextFaults.{lines_fault}
 use Rattle.log_reading.specs.Spelled.{HasFault, Spells}
 use Rattle.log_reading.specs.declared.reading.Input.{Input}

@@ -1,5 +1,5 @@
 use Rattle.std.proofs.Common.{sym, subst, arith}
-use Rattle.semantics.specs.Records.{AreLines}
+use Rattle.vocabulary.specs.Prelude.{AreLines}
 use Rattle.log_laws.proofs.lemmas.ReadLogs.{held_is_good}
 use Rattle.log_reading.proofs.lemmas.Numbered.{are_lines, each_good}
 use Rattle.log_reading.proofs.input.records_of.Goals as goal

@@ -1,7 +1,7 @@
 use Rattle.std.proofs.Common.{◌≡◌, ◌∷◌, ◌+◌, [], arith, ap, sym, subst, refl, ◌∙◌, length}
 use Rattle.std.specs.Option.{option_or}
 use Rattle.std.proofs.lemmas.List.{append-nil}
-use Rattle.semantics.specs.Records.{Hold}
+use Rattle.vocabulary.specs.Prelude.{Hold}
 use Rattle.semantics.specs.TextFaults.{lines_fault}
 use Rattle.log_reading.proofs.Held.{held_behind}
 use Rattle.log_reading.proofs.reading.read_input.Goals as goal

@@ -1,6 +1,5 @@
 use Rattle.std.proofs.Common.{◌≡◌, ◌+◌, ◌≤◌, ◌^◌, ◌++◌, List, length}
-use Rattle.spy_grammar.specs.declared.record.Lined.{Lined}
-use Rattle.semantics.specs.Records.{Hold}
+use Rattle.vocabulary.specs.Prelude.{Lined, Hold}
 use Rattle.semantics.specs.TextFaults.{lines_fault}
 use Rattle.log_reading.proofs.reading.read_input.Given as goal
 

@@ -1,5 +1,5 @@
 use Rattle.std.proofs.Common.{◌≡◌, take, length}
-use Rattle.semantics.specs.Tables.{points_of}
+use Rattle.vocabulary.specs.Prelude.{points_of}
 use Rattle.log_rules.specs.Counts.{cut}
 use Rattle.log_rules.proofs.counts.point_count.Given as goal
 

@@ -1,6 +1,6 @@
 use Rattle.std.proofs.Common.{◌∙◌, ap, sym}
 use Rattle.std.specs.List.{list_any}
-use Rattle.semantics.specs.declared.tables.LogNode.{LogNode}
+use Rattle.vocabulary.specs.Prelude.{LogNode}
 use Rattle.semantics.specs.Rules.{runs_item, is_run_again}
 use Rattle.log_rules.proofs.events.is_run_again.Goals as goal
 

@@ -1,5 +1,5 @@
 use Rattle.std.proofs.Common.{◌∙◌, ap, is_some}
-use Rattle.semantics.specs.declared.tables.Map.{Map}
+use Rattle.vocabulary.specs.Prelude.{Map}
 use Rattle.log_tables.specs.Mapped.{names_field}
 use Rattle.log_rules.proofs.ListTests.{is_some-find}
 use Rattle.log_rules.proofs.instances.is_mapped.Goals as goal

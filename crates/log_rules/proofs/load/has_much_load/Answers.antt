@@ -1,5 +1,5 @@
 use Rattle.std.proofs.Common.{nat_lt, List, zero-add, lit<, ap, sym, ◌∙◌, sum_by}
-use Rattle.semantics.specs.declared.tables.Inst.{Inst}
+use Rattle.vocabulary.specs.Prelude.{Inst}
 use Rattle.semantics.specs.Rules.{load_of, has_much_load}
 use Rattle.log_rules.specs.Counts.{cut}
 use Rattle.log_rules.specs.Loads.{load_in, inst_load}

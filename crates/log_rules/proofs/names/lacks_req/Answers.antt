@@ -1,5 +1,5 @@
 use Rattle.std.proofs.Common.{sym, ◌∙◌, ap, not, is_some, Option}
-use Rattle.semantics.specs.declared.tables.Req.{Req}
+use Rattle.vocabulary.specs.Prelude.{Req}
 use Rattle.semantics.specs.Rules.{lacks_req}
 use Rattle.log_rules.proofs.names.lacks_req.Goals as goal
 

@@ -1,5 +1,5 @@
 use Rattle.std.proofs.Common.{◌∙◌, ap}
-use Rattle.semantics.specs.Reads.{req_at}
+use Rattle.vocabulary.specs.Prelude.{req_at}
 use Rattle.log_rules.proofs.names.named_req.Goals as goal
 
 pub returns-clause-req : goal.returns-clause-req

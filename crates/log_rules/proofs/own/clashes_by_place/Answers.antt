@@ -1,6 +1,6 @@
 use Rattle.std.proofs.Common.{◌||◌, sym, ap, ◌∙◌}
 use Rattle.std.specs.List.{list_any}
-use Rattle.semantics.specs.Points.{points_in}
+use Rattle.vocabulary.specs.Prelude.{points_in}
 use Rattle.log_rules.specs.Own.{clashes_row}
 use Rattle.log_rules.proofs.Claiming.{own_by_claims}
 use Rattle.log_rules.proofs.own.clashes_by_place.Goals as goal

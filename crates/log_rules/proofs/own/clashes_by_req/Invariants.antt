@@ -1,6 +1,6 @@
 use Rattle.std.proofs.Common.{◌≡◌, false, take}
 use Rattle.std.specs.List.{list_any}
-use Rattle.semantics.specs.Points.{points_in}
+use Rattle.vocabulary.specs.Prelude.{points_in}
 use Rattle.log_rules.specs.Own.{clashes_with}
 use Rattle.log_rules.proofs.own.clashes_by_req.Given as goal
 

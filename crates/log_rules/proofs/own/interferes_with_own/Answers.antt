@@ -1,5 +1,5 @@
 use Rattle.std.proofs.Common.{◌∙◌, ap, sym, ℕ, List}
-use Rattle.semantics.specs.Tables.{place_of}
+use Rattle.vocabulary.specs.Prelude.{place_of}
 use Rattle.semantics.specs.Rules.{interferes_with_own}
 use Rattle.log_rules.specs.Own.{clashes_own}
 use Rattle.log_rules.proofs.own.interferes_with_own.Goals as goal

@@ -1,5 +1,5 @@
 use Rattle.std.proofs.Common.{◌∙◌, ap, sym, ℕ, List}
-use Rattle.semantics.specs.Points.{meets, points_in}
+use Rattle.vocabulary.specs.Prelude.{meets, points_in}
 use Rattle.log_rules.proofs.ListTests.{list_any-false}
 use Rattle.log_rules.proofs.own.spaces_meet.Goals as goal
 

@@ -1,8 +1,7 @@
 use Rattle.std.proofs.Common.{Bool, ◌∙◌, ap, sym, nat_eq}
 use Rattle.std.specs.HashSet.{contains}
 use Rattle.std.proofs.lemmas.List.Folds.{list_all-map, list_all_at}
-use Rattle.spy_grammar.specs.declared.record.Record.{Record}
-use Rattle.spy_grammar.specs.declared.record.Lined.{Lined}
+use Rattle.vocabulary.specs.Prelude.{Record, Lined}
 use Rattle.log_rules.specs.Listing.{is_listed}
 use Rattle.log_rules.proofs.serial.are_listed.Goals as goal
 

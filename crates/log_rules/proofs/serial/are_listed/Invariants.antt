@@ -1,7 +1,7 @@
 use Rattle.std.proofs.Common.{◌≡◌, true, take, nat_eq}
 use Rattle.std.specs.HashSet.{contains}
 use Rattle.std.specs.List.{list_all}
-use Rattle.semantics.specs.Records.{records_of}
+use Rattle.vocabulary.specs.Prelude.{records_of}
 use Rattle.log_rules.specs.Listing.{is_listed}
 use Rattle.log_rules.proofs.serial.are_listed.Given as goal
 

@@ -1,5 +1,5 @@
 use Rattle.std.proofs.Common.{◌∙◌, ap, sym, nat_eq, ℕ, List, length}
-use Rattle.semantics.specs.declared.tables.Serial.{Serial}
+use Rattle.vocabulary.specs.Prelude.{Serial}
 use Rattle.std.specs.HashSet.{contains}
 use Rattle.semantics.specs.Rules.{is_bad_serial}
 use Rattle.log_rules.specs.Listing.{lists_badly}

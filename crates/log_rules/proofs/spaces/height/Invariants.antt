@@ -1,5 +1,5 @@
 use Rattle.std.proofs.Common.{◌≡◌, ◌+◌, ◌-◌, length}
-use Rattle.semantics.specs.Points.{upward, space_above}
+use Rattle.vocabulary.specs.Prelude.{upward, space_above}
 use Rattle.log_rules.proofs.spaces.height.Given as goal
 
 abbrev pub invariant-loop-up : goal.invariant-loop-up

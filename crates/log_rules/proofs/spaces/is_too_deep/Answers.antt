@@ -1,7 +1,7 @@
 use Rattle.std.proofs.Common.{sym, ◌∙◌, ap, ◌+◌, nat_lt, length, Option, min}
 use Rattle.std.specs.Option.{option_map_or}
 use Rattle.semantics.specs.declared.Part.{Part}
-use Rattle.semantics.specs.Points.{spaces_above, space_above}
+use Rattle.vocabulary.specs.Prelude.{spaces_above, space_above}
 use Rattle.semantics.specs.Rules.{is_too_deep}
 use Rattle.log_rules.proofs.Climbs.{cut_off, deep_test}
 use Rattle.log_rules.proofs.spaces.is_too_deep.Goals as goal

@@ -1,5 +1,5 @@
 use Rattle.std.proofs.Common.{◌≡◌, ◌-◌}
-use Rattle.semantics.specs.Points.{upward, space_above, is_in}
+use Rattle.vocabulary.specs.Prelude.{upward, space_above, is_in}
 use Rattle.log_rules.proofs.spaces.lies_below.Given as goal
 
 abbrev pub invariant-loop-up : goal.invariant-loop-up

@@ -1,7 +1,6 @@
 use Rattle.std.proofs.Common.{◌≡◌, ℕ, ◌||◌, ap, sym, ◌∙◌}
 use Rattle.std.proofs.Math.Bool.{or-false}
-use Rattle.semantics.specs.Points.{points_in}
-use Rattle.semantics.specs.Tables.{place_of, reqs_before}
+use Rattle.vocabulary.specs.Prelude.{points_in, place_of, reqs_before}
 use Rattle.log_rules.specs.Own.{claimed, claims_at, clashes_in}
 use Rattle.log_rules.proofs.Claiming.{first_claims_nothing, later_claims_all}
 use Rattle.log_rules.proofs.tally.note_claims.Goals as goal

@@ -1,6 +1,6 @@
 use Rattle.std.proofs.Common.{take, nat_eq}
 use Rattle.std.specs.HashSet.{contains}
-use Rattle.semantics.specs.Records.{records_of}
+use Rattle.vocabulary.specs.Prelude.{records_of}
 use Rattle.log_rules.specs.Gathered.{AreCompleted}
 use Rattle.log_rules.proofs.whole_log.completed.Given as goal
 

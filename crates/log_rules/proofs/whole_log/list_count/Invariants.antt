@@ -1,5 +1,5 @@
 use Rattle.std.proofs.Common.{◌≡◌, ◌≤◌, take}
-use Rattle.semantics.specs.Records.{records_of}
+use Rattle.vocabulary.specs.Prelude.{records_of}
 use Rattle.log_rules.specs.Gathered.{list_count}
 use Rattle.log_rules.proofs.whole_log.list_count.Given as goal
 

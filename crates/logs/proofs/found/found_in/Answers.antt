@@ -1,6 +1,6 @@
 use Rattle.std.proofs.Common.{◌∙◌, ap, sym, map, length, subst, List, ℕ}
 use Rattle.std.proofs.lemmas.Simd.{map-map}
-use Rattle.semantics.specs.Tables.{Space}
+use Rattle.vocabulary.specs.Prelude.{Space}
 use Rattle.log_tables.specs.Views.{space_seen}
 use Rattle.logs.specs.Listing.{ArePlacesIn, line_listing}
 use Rattle.logs.proofs.found.found_in.Goals as goal

@@ -1,7 +1,7 @@
 use Rattle.std.proofs.Common.{◌≡◌, true, take}
 use Rattle.std.specs.List.{list_all}
 use Rattle.std.specs.Option.{is_some}
-use Rattle.semantics.specs.Steps.{mapped}
+use Rattle.vocabulary.specs.Prelude.{mapped}
 use Rattle.logs.proofs.mapping.is_mapped.Given as goal
 
 abbrev pub invariant-loop-field : goal.invariant-loop-field

@@ -1,5 +1,5 @@
 use Rattle.std.proofs.Common.{◌≡◌, map, flat_map, take}
-use Rattle.semantics.specs.Tables.{place_of}
+use Rattle.vocabulary.specs.Prelude.{place_of}
 use Rattle.logs.proofs.serial_order.listed_order.Given as goal
 
 abbrev pub invariant-loop-list : goal.invariant-loop-list

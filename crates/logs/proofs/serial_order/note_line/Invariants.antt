@@ -1,6 +1,6 @@
 use Rattle.std.proofs.Common.{◌≡◌, ℕ, take, nat_eq, Some, if◌then◌else◌}
 use Rattle.std.specs.HashMap.{get}
-use Rattle.semantics.specs.Points.{is_in}
+use Rattle.vocabulary.specs.Prelude.{is_in}
 use Rattle.logs.proofs.serial_order.note_line.Given as goal
 
 abbrev pub invariant-loop-id : goal.invariant-loop-id

@@ -1,4 +1,4 @@
-use Rattle.semantics.specs.Tables.{tables_of}
+use Rattle.vocabulary.specs.Prelude.{tables_of}
 use Rattle.semantics.specs.declared.command.Command.TheVariants.{Check}
 use Rattle.log_laws.proofs.lemmas.Admitted.{faultless, sane}
 use Rattle.log_laws.proofs.lemmas.Members.{member_of, contains_of}

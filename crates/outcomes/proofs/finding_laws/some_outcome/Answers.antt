@@ -1,6 +1,6 @@
 use Rattle.std.proofs.Common.{refl, inl, inr}
 use Rattle.findings.specs.declared.finding.Finding.TheVariants.{Fault}
-use Rattle.semantics.specs.Records.{line_count}
+use Rattle.vocabulary.specs.Prelude.{line_count}
 use Rattle.semantics.specs.TextFaults.{text_fault}
 use Rattle.log_laws.proofs.lemmas.Members.{none_or_some}
 use Rattle.log_laws.proofs.lemmas.ReadLogs.{held_is_good}

@@ -1,6 +1,5 @@
 use Rattle.std.proofs.Common.{◌≡◌, ◌==◌, ◌&&◌, Bool, true, false, cond, refl, sym, ap, ◌∙◌}
-use Rattle.semantics.specs.declared.places.Cell.{Cell}
-use Rattle.semantics.specs.Execution.{same_cell}
+use Rattle.vocabulary.specs.Prelude.{Cell, same_cell}
 use Rattle.semantics.specs.Links.{Leaves}
 use Rattle.provenance.specs.Tracing.{meant}
 use Rattle.provenance.proofs.touches.touch_at.Goals as goal

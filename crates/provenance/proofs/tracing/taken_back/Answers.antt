@@ -1,7 +1,6 @@
 use Rattle.std.proofs.Common.{◌∷◌, [], ◌∙◌, ◌<◌, ◌^◌, length, refl, sym, subst, arith, All}
 use Rattle.std.proofs.lemmas.List.{length-map}
-use Rattle.semantics.specs.Events.{graph_of}
-use Rattle.semantics.specs.Steps.{steps_by}
+use Rattle.vocabulary.specs.Prelude.{graph_of, steps_by}
 use Rattle.log_laws.proofs.lemmas.Members.{all_contained}
 use Rattle.event_graph.proofs.lemmas.Whole.{order_within}
 use Rattle.point_laws.specs.Cut.{cut}

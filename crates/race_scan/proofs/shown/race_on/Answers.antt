@@ -1,7 +1,7 @@
 use Rattle.std.proofs.Common.{◌≡◌, ◌<◌, length, refl, ap, ◌∙◌, subst, All}
 use Rattle.std.proofs.lemmas.List.{length-map}
 use Rattle.semantics.specs.ReplayOrder.{replay_order}
-use Rattle.semantics.specs.Tables.{Tables}
+use Rattle.vocabulary.specs.Prelude.{Tables}
 use Rattle.reach_marks.specs.Reached.{AreMarksOf}
 use Rattle.point_laws.specs.Cut.{cut}
 use Rattle.race_scan.specs.Gathered.{touches_before}

@@ -1,5 +1,5 @@
 use Rattle.std.proofs.Common.{MatchOption, subst}
-use Rattle.semantics.specs.Races.{IsRaceFree}
+use Rattle.vocabulary.specs.Prelude.{IsRaceFree}
 use Rattle.semantics.specs.Shown.{IsShownRace}
 use Rattle.point_laws.specs.Cut.{cut}
 use Rattle.atoms.specs.Atoms.{first_points}

@@ -1,6 +1,6 @@
 use Rattle.std.specs.Prelude.{◌↔◌}
 use Rattle.std.proofs.Common.{◌≡◌, List, Contains, sym, subst}
-use Rattle.semantics.specs.declared.links.Link.{Link}
+use Rattle.vocabulary.specs.Prelude.{Link}
 use Rattle.semantics.specs.declared.links.LinkKind.TheVariants as kinds
 use Rattle.read_findings.proofs.links.read_finding.Goals as goal
 

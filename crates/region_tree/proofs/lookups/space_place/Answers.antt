@@ -1,6 +1,6 @@
 use Rattle.std.proofs.Common.{◌==◌, ap, sym, ◌∙◌}
 use Rattle.std.specs.List.{position_from}
-use Rattle.semantics.specs.Tables.{Space}
+use Rattle.vocabulary.specs.Prelude.{Space}
 use Rattle.log_tables.specs.Views.{space_seen}
 use Rattle.list_lemmas.proofs.lemmas.Firsts.{position_from-map}
 use Rattle.region_tree.proofs.lookups.space_place.Goals as goal

@@ -1,6 +1,6 @@
 use Rattle.std.proofs.Common.{rules, nat_eq, ◌∙◌}
 use Rattle.std.proofs.lemmas.List.{map-id}
-use Rattle.semantics.specs.declared.tables.Part.{Part}
+use Rattle.vocabulary.specs.Prelude.{Part}
 use Rattle.region_tree.proofs.Distinct.{distinct_told, ids_told}
 use Rattle.region_tree.proofs.shape.are_part_ids_distinct.Goals as goal
 

@@ -1,6 +1,6 @@
 use Rattle.std.proofs.Common.{rules, nat_eq, map, ap, ◌∙◌}
 use Rattle.log_tables.specs.Views.{space_seen}
-use Rattle.semantics.specs.Tables.{Space}
+use Rattle.vocabulary.specs.Prelude.{Space}
 use Rattle.region_tree.proofs.Distinct.{distinct_told, ids_told}
 use Rattle.region_tree.proofs.shape.are_space_ids_distinct.Goals as goal
 

@@ -1,6 +1,6 @@
 use Rattle.std.proofs.Common.{rules, ◌∙◌}
 use Rattle.std.proofs.lemmas.List.{map-id}
-use Rattle.semantics.specs.declared.tables.Sub.{Sub}
+use Rattle.vocabulary.specs.Prelude.{Sub}
 use Rattle.region_tree.specs.Firsts.{same_step}
 use Rattle.log_tables.specs.Regions.{step_of}
 use Rattle.region_tree.proofs.Distinct.{distinct_told, steps_told}

@@ -1,6 +1,6 @@
 use Rattle.std.proofs.Common.{rules, nat_eq, ◌∙◌}
 use Rattle.std.proofs.lemmas.List.{map-id}
-use Rattle.semantics.specs.declared.tables.Sub.{Sub}
+use Rattle.vocabulary.specs.Prelude.{Sub}
 use Rattle.region_tree.proofs.Distinct.{distinct_told, ids_told}
 use Rattle.region_tree.proofs.shape.are_sub_spaces_distinct.Goals as goal
 

@@ -1,6 +1,6 @@
 use Rattle.std.proofs.Common.{◌≡◌, ◌-◌, length, Some, List, slice_get, subst, ap, ◌∙◌}
 use Rattle.std.proofs.lemmas.Option.{none-some, same_Some}
-use Rattle.semantics.specs.declared.tables.Sub.{Sub}
+use Rattle.vocabulary.specs.Prelude.{Sub}
 use Rattle.log_tables.specs.declared.entries.Step.{Step}
 use Rattle.region_tree.proofs.Aliases.{end_found}
 use Rattle.region_tree.proofs.sharing.end_of.Goals as goal

@@ -1,5 +1,5 @@
 use Rattle.std.proofs.Common.{◌≡◌, None, sym, ◌∙◌, subst}
-use Rattle.semantics.specs.Reads.{shown_difference}
+use Rattle.vocabulary.specs.Prelude.{shown_difference}
 use Rattle.point_laws.specs.Cut.{cut}
 use Rattle.atoms.specs.Atoms.{first_points}
 use Rattle.replay.specs.Ends.{IsEndOf}

@@ -1,6 +1,6 @@
 use Rattle.std.proofs.Common.{◌↔◌, length}
 use Rattle.std.specs.List.{AllByRecursion}
-use Rattle.value_terms.specs.Values.{Ascends}
+use Rattle.vocabulary.specs.Prelude.{Ascends}
 use Rattle.serial_exec.specs.Marks.{AreSorted, IsCounted}
 use Rattle.serial_exec.proofs.agreeing.are_counts.Given as goal
 

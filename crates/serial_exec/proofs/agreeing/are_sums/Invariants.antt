@@ -1,6 +1,6 @@
 use Rattle.std.proofs.Common.{◌≡◌, ◌↔◌, [], length}
 use Rattle.std.specs.List.{AllByRecursion}
-use Rattle.value_terms.specs.Values.{IsWellFormedBag}
+use Rattle.vocabulary.specs.Prelude.{IsWellFormedBag}
 use Rattle.serial_exec.specs.Changes.{IsAdded}
 use Rattle.serial_exec.specs.Marks.{AreMarksUntil}
 use Rattle.serial_exec.specs.Summed.{summed}

@@ -1,6 +1,6 @@
 use Rattle.std.proofs.Common.{◌≡◌, ◌+◌, length, refl, sym, ◌∙◌}
 use Rattle.std.proofs.lemmas.Bool.{true≢false}
-use Rattle.value_terms.specs.Values.{count_in}
+use Rattle.vocabulary.specs.Prelude.{count_in}
 use Rattle.serial_exec.specs.Marks.{IsCounted}
 use Rattle.serial_exec.specs.Summed.{all_added}
 use Rattle.serial_exec.proofs.Bags.{each, in-order-is, counts-tell, right-counts, right-total}

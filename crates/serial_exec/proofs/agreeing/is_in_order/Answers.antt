@@ -1,6 +1,6 @@
 use Rattle.std.proofs.Common.{get_or, refl, arith}
 use Rattle.value_terms.specs.declared.terms.Base.TheVariants as bases
-use Rattle.value_terms.specs.declared.terms.Contribution.{Contribution}
+use Rattle.vocabulary.specs.Prelude.{Contribution}
 use Rattle.serial_exec.specs.declared.change.Action.TheVariants.{Put}
 use Rattle.serial_exec.specs.declared.change.Change.{Change}
 use Rattle.serial_exec.proofs.Bags.{in-order-more}

@@ -1,5 +1,5 @@
 use Rattle.std.proofs.Common.{◌≡◌, ◌+◌, length}
-use Rattle.value_terms.specs.Values.{total}
+use Rattle.vocabulary.specs.Prelude.{total}
 use Rattle.serial_exec.proofs.agreeing.is_total.Given as goal
 
 abbrev pub invariant-loop-left : goal.invariant-loop-left

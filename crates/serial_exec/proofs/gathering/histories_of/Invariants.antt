@@ -1,5 +1,5 @@
 use Rattle.std.proofs.Common.{◌≡◌, take}
-use Rattle.semantics.specs.declared.places.Place.{Place}
+use Rattle.vocabulary.specs.Prelude.{Place}
 use Rattle.semantics.specs.SerialOrder.{serial}
 use Rattle.listed_points.specs.Listed.{listed_of}
 use Rattle.serial_exec.specs.Changes.{items_changes}

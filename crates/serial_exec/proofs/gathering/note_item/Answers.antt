@@ -4,7 +4,7 @@ use Rattle.log_tables.specs.Ascending.{body_fields}
 use Rattle.value_terms.specs.declared.terms.Base.TheVariants.{Const}
 use Rattle.listed_points.specs.Listed.{listed_of}
 use Rattle.serial_exec.specs.declared.change.Action.TheVariants.{Put}
-use Rattle.semantics.specs.Points.{points_in}
+use Rattle.vocabulary.specs.Prelude.{points_in}
 use Rattle.serial_exec.specs.Changes.{covered}
 use Rattle.point_laws.specs.Cut.{cut_to}
 use Rattle.serial_exec.specs.Histories.{changes_at}

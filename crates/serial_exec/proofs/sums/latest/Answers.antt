@@ -1,7 +1,7 @@
 use Rattle.std.proofs.Common.{◌∙◌, ◌++◌, [], take, sym, ap, refl}
 use Rattle.std.proofs.lemmas.List.{take-append-drop, take_rest}
 use Rattle.value_terms.specs.declared.terms.Base.TheVariants as bases
-use Rattle.value_terms.specs.Values.{plain}
+use Rattle.vocabulary.specs.Prelude.{plain}
 use Rattle.serial_exec.specs.Changes.{after_changes}
 use Rattle.serial_exec.proofs.Keeping.{put-latest}
 use Rattle.serial_exec.proofs.sums.latest.Goals as goal

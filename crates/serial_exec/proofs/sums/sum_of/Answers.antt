@@ -1,5 +1,5 @@
 use Rattle.std.proofs.Common.{◌≤◌, ◌+◌, ◌∙◌, sym, ap, get_or, arith}
-use Rattle.value_terms.specs.Values.{plain, weight_of}
+use Rattle.vocabulary.specs.Prelude.{plain, weight_of}
 use Rattle.value_terms.specs.declared.terms.Base.TheVariants as bases
 use Rattle.serial_exec.specs.declared.change.Action.TheVariants.{Put}
 use Rattle.serial_exec.specs.declared.change.Change.{Change}

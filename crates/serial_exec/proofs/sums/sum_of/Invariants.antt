@@ -1,5 +1,5 @@
 use Rattle.std.proofs.Common.{◌≡◌, ◌≤◌, take}
-use Rattle.value_terms.specs.Values.{plain, weight_of}
+use Rattle.vocabulary.specs.Prelude.{plain, weight_of}
 use Rattle.serial_exec.specs.Changes.{after_changes}
 use Rattle.serial_exec.proofs.sums.sum_of.Given as goal
 

@@ -1,6 +1,6 @@
 use Rattle.std.proofs.Common.{◌≡◌, ◌∙◌, ◌<◌, ◌||◌, ℕ, List, Bool, false, length, map, take, get_or, ap, sym, subst, All}
 use Rattle.std.specs.List.{list_any}
-use Rattle.semantics.specs.Points.{is_in}
+use Rattle.vocabulary.specs.Prelude.{is_in}
 use Rattle.reach_marks.specs.Reached.{before_in}
 use Rattle.reach_marks.proofs.lemmas.Transitive.{transitive}
 use Rattle.spare_laws.proofs.lemmas.Growing.{node_more}

@@ -1,7 +1,7 @@
 use Rattle.std.proofs.Common.{◌∙◌, ap, sym}
 use Rattle.std.specs.Char.{is_ascii_digit}
 use Rattle.std.specs.List.{list_all}
-use Rattle.spy_words.specs.Reading.{has_leading_zero}
+use Rattle.vocabulary.specs.Prelude.{has_leading_zero}
 use Rattle.spy_args.proofs.Parsed.{number_parsed}
 use Rattle.spy_args.proofs.numbers.large_at.Goals as goal
 

@@ -2,10 +2,9 @@ use Rattle.std.proofs.Common.{◌≡◌, ◌∙◌, ap, arith, length, map, sym,
 use Rattle.std.specs.List.{AllByRecursion}
 use Rattle.std.proofs.lemmas.List.{length-map}
 use Rattle.std.proofs.lemmas.Result.{IfOk-weaker}
-use Rattle.spy_grammar.specs.Spelling.{Good, spelling}
+use Rattle.vocabulary.specs.Prelude.{Good, spelling, lined, records_of, AreLines}
 use Rattle.semantics.specs.declared.command.Command.TheVariants.{Check}
 use Rattle.outcomes.specs.Outcome.{IsFound}
-use Rattle.semantics.specs.Records.{lined, records_of, AreLines}
 use Rattle.log_gen.specs.Stencil.{stencil}
 use Rattle.spy_cli.specs.declared.report.Report.{Report}
 use Rattle.log_reading.proofs.lemmas.Numbered.{are_lines, each_good}

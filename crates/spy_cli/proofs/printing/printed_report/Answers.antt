@@ -1,7 +1,6 @@
 use Rattle.std.proofs.Common.{sym, subst}
 use Rattle.std.specs.List.{AllByRecursion}
-use Rattle.spy_grammar.specs.Spelling.{Good}
-use Rattle.semantics.specs.Records.{records_of}
+use Rattle.vocabulary.specs.Prelude.{Good, records_of}
 use Rattle.log_reading.proofs.lemmas.Numbered.{good_records}
 use Rattle.spy_cli.proofs.printing.printed_report.Goals as goal
 

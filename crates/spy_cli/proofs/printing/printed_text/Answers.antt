@@ -1,8 +1,7 @@
 use Rattle.std.proofs.Common.{◌∷◌, ◌++◌, [], refl, ap, sym, ◌∙◌, take}
 use Rattle.std.proofs.lemmas.List.{append_assoc}
 use Rattle.std.proofs.lemmas.Option.{slice_get_read}
-use Rattle.spy_grammar.specs.Spelling.{spelling}
-use Rattle.semantics.specs.Records.{records_of, text_of}
+use Rattle.vocabulary.specs.Prelude.{spelling, records_of, text_of}
 use Rattle.spy_cli.proofs.Printed.{good_at, text_more, one_more}
 use Rattle.spy_cli.proofs.printing.printed_text.Goals as goal
 

@@ -1,5 +1,5 @@
 use Rattle.std.proofs.Common.{◌≡◌, take}
-use Rattle.semantics.specs.Records.{records_of, text_of}
+use Rattle.vocabulary.specs.Prelude.{records_of, text_of}
 use Rattle.spy_cli.proofs.printing.printed_text.Given as goal
 
 abbrev pub invariant-loop-lined : goal.invariant-loop-lined

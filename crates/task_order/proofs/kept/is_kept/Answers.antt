@@ -1,7 +1,7 @@
 use Rattle.std.proofs.Common.{◌≡◌, ◌<◌, ◌≤◌, ◌↔◌, sym, subst, arith, slice_index}
 use Rattle.std.specs.Prelude.{IsTrue}
 use Rattle.semantics.specs.SerialOrder.{serial_place}
-use Rattle.semantics.specs.Events.{Before, graph_of}
+use Rattle.vocabulary.specs.Prelude.{Before, graph_of}
 use Rattle.semantics.specs.Shown.{run_of}
 use Rattle.task_order.proofs.Chains.{turned, straight}
 use Rattle.task_order.proofs.kept.is_kept.Goals as goal

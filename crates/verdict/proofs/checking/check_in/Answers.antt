@@ -2,7 +2,7 @@ use Rattle.std.proofs.Common.{subst}
 use Rattle.std.proofs.lemmas.Result.{IfOk-weaker}
 use Rattle.findings.specs.declared.finding.Finding.{Finding}
 use Rattle.semantics.specs.declared.command.Command.TheVariants.{Check}
-use Rattle.semantics.specs.Tables.{Tables}
+use Rattle.vocabulary.specs.Prelude.{Tables}
 use Rattle.outcomes.specs.Outcome.{CheckFinds}
 use Rattle.log_findings.specs.Findings.{IsFoundOf}
 use Rattle.log_findings.proofs.lemmas.Ends.{check_found}

@@ -1,6 +1,6 @@
 use Rattle.std.proofs.Common.{subst}
 use Rattle.std.proofs.lemmas.Result.{IfErr-weaker}
-use Rattle.semantics.specs.Tables.{Tables}
+use Rattle.vocabulary.specs.Prelude.{Tables}
 use Rattle.verdict.specs.Stages.{FindsUnclean, IsStop}
 use Rattle.verdict.specs.declared.stop.Stop.{Stop}
 use Rattle.verdict.proofs.Stages.{stop_of_race}

@@ -2,7 +2,7 @@ use Rattle.std.proofs.Common.{◌∙◌, Err, ap, ap₂, sym, subst}
 use Rattle.std.proofs.lemmas.Result.{IfOk-weaker}
 use Rattle.findings.specs.declared.finding.Finding.{Finding}
 use Rattle.findings.specs.declared.finding.Finding.TheVariants.{Fault}
-use Rattle.semantics.specs.Tables.{Tables}
+use Rattle.vocabulary.specs.Prelude.{Tables}
 use Rattle.outcomes.specs.Outcome.{IsFound}
 use Rattle.log_findings.specs.Findings.{IsFoundOf}
 use Rattle.log_findings.proofs.lemmas.Ends.{found_in_log, fault_in_log}

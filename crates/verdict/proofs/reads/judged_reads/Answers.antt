@@ -1,8 +1,5 @@
 use Rattle.std.proofs.Common.{◌≡◌, ◌∙◌, Some, None, refl, sym, subst}
-use Rattle.semantics.specs.Tables.{Tables}
-use Rattle.semantics.specs.Races.{IsRaceFree}
-use Rattle.semantics.specs.Reads.{Seen, IsRight, Differs, shown_difference}
-use Rattle.semantics.specs.Events.{HasNoCycle}
+use Rattle.vocabulary.specs.Prelude.{Tables, IsRaceFree, Seen, IsRight, Differs, shown_difference, HasNoCycle}
 use Rattle.semantics.specs.Counts.{operation_count, read_count, task_count}
 use Rattle.verdict.specs.Stages.{FindsDifference}
 use Rattle.findings.specs.declared.finding.Finding.TheVariants.{Accepted}

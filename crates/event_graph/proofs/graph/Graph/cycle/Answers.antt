@@ -1,5 +1,5 @@
 use Rattle.std.proofs.Common.{◌≡◌, ◌∙◌, ◌+◌, length, ℕ, List, [], Some, sym, ap, Bool}
-use Rattle.semantics.specs.Events.{Node}
+use Rattle.vocabulary.specs.Prelude.{Node}
 use Rattle.semantics.specs.ReplayOrder.{replay_order, from_least, walk}
 use Rattle.event_graph.specs.Marked.{AreMarked}
 use Rattle.event_graph.proofs.Walks.{order_within, none_stuck, first_stuck}

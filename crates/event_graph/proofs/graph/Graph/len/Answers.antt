@@ -1,6 +1,6 @@
 use Rattle.std.proofs.Common.{nat_eq, subst}
 use Rattle.std.specs.HashMap.{get}
-use Rattle.semantics.specs.Events.{AreLinked}
+use Rattle.vocabulary.specs.Prelude.{AreLinked}
 use Rattle.event_graph.proofs.Waited.{linked_from}
 use Rattle.event_graph.proofs.graph.Graph.len.Goals as goal
 

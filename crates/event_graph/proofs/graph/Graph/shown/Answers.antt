@@ -1,6 +1,6 @@
 use Rattle.std.proofs.Common.{◌∙◌, ap, nat_eq, map, List, subst}
 use Rattle.std.specs.HashMap.{get}
-use Rattle.semantics.specs.Events.{Node, AreLinked}
+use Rattle.vocabulary.specs.Prelude.{Node, AreLinked}
 use Rattle.event_graph.specs.Orders.{event_at}
 use Rattle.log_laws.proofs.lemmas.Cycles.{shown_is_cycle}
 use Rattle.event_graph.proofs.Waited.{linked_from}

@@ -1,6 +1,6 @@
 use Rattle.std.proofs.Common.{◌≡◌, ◌∙◌, ap, nat_eq, length, List, subst, arith}
 use Rattle.std.specs.HashMap.{get}
-use Rattle.semantics.specs.Events.{Node}
+use Rattle.vocabulary.specs.Prelude.{Node}
 use Rattle.semantics.specs.ReplayOrder.{waits_at}
 use Rattle.event_graph.specs.Orders.{IsWait}
 use Rattle.event_graph.proofs.Waited.{wait_found, no_waits}

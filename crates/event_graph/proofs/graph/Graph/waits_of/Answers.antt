@@ -1,7 +1,7 @@
 use Rattle.std.proofs.Common.{◌≡◌, ◌∙◌, ap, nat_eq, length, ℕ, List, get_or, Some, arith, subst, sym, ◌<◌}
 use Rattle.std.specs.HashMap.{get}
 use Rattle.std.proofs.lemmas.Option.{slice_get_within, get_or_from_slice_get}
-use Rattle.semantics.specs.Events.{Node}
+use Rattle.vocabulary.specs.Prelude.{Node}
 use Rattle.semantics.specs.ReplayOrder.{waits_at}
 use Rattle.event_graph.specs.Orders.{IsWait}
 use Rattle.event_graph.proofs.Waited.{waited, wait_found}

@@ -1,7 +1,7 @@
 use Rattle.std.proofs.Common.{◌≡◌, ◌∙◌, ◌<◌, arith, nat_eq, length, get_or, List, ℕ, Contains, sym, subst}
 use Rattle.std.specs.HashMap.{get}
 use Rattle.std.proofs.lemmas.List.Elements.{Contains-get_or}
-use Rattle.semantics.specs.Events.{AreLinked}
+use Rattle.vocabulary.specs.Prelude.{AreLinked}
 use Rattle.log_laws.proofs.lemmas.Cycles.{cycle_is_stuck, none_shown}
 use Rattle.log_laws.proofs.lemmas.Members.{member_of}
 use Rattle.log_laws.proofs.lemmas.Rounds.{replay, once, listed_decides}

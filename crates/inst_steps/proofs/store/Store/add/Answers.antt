@@ -1,7 +1,7 @@
 use Rattle.std.proofs.Common.{Some, sym, ap, ◌∙◌}
 use Rattle.std.specs.FinMap as map
 use Rattle.std.proofs.lemmas.Result.{on_ok_weaker, on_err_weaker}
-use Rattle.value_terms.specs.Values.{add_one}
+use Rattle.vocabulary.specs.Prelude.{add_one}
 use Rattle.inst_steps.proofs.lemmas.StoreMaps.{put_at, is_there, not_missing, same_written, value_there}
 use Rattle.inst_steps.proofs.store.Store.add.Goals.{in-Some, in-None}
 use Rattle.inst_steps.proofs.store.Store.add.Goals as goal

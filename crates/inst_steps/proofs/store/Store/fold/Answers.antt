@@ -1,7 +1,7 @@
 use Rattle.std.proofs.Common.{Some, sym, ap, ◌∙◌}
 use Rattle.std.specs.FinMap as map
 use Rattle.std.proofs.lemmas.Result.{on_ok_weaker, on_err_weaker}
-use Rattle.value_terms.specs.Values.{fold_in}
+use Rattle.vocabulary.specs.Prelude.{fold_in}
 use Rattle.inst_steps.proofs.lemmas.StoreMaps.{put_at, is_there, not_missing, same_written, value_there}
 use Rattle.inst_steps.proofs.store.Store.fold.Goals.{in-Some, in-None}
 use Rattle.inst_steps.proofs.store.Store.fold.Goals as goal

@@ -1,5 +1,5 @@
 use Rattle.std.proofs.Common.{List, [], ◌∷◌, ◌++◌, ap, ◌∙◌}
-use Rattle.spy_grammar.specs.declared.record.Record.{Record}
+use Rattle.vocabulary.specs.Prelude.{Record}
 use Rattle.launches.proofs.Writings.{tells_more}
 use Rattle.launches.proofs.writing.Writing.push.Goals as goal
 

@@ -1,5 +1,5 @@
 use Rattle.std.proofs.Common.{List, ap, ◌∙◌}
-use Rattle.spy_grammar.specs.declared.record.Record.{Record}
+use Rattle.vocabulary.specs.Prelude.{Record}
 use Rattle.launches.specs.Steps.{space_by}
 use Rattle.launches.proofs.Writings.{space_found, space_good}
 use Rattle.launches.proofs.writing.Writing.space_under.Goals as goal

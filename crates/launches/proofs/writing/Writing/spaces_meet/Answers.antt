@@ -1,8 +1,5 @@
 use Rattle.std.proofs.Common.{List, ap, ◌∙◌}
-use Rattle.spy_grammar.specs.declared.record.Record.{Record}
-use Rattle.semantics.specs.Points.{meets, points_in}
-use Rattle.semantics.specs.Records.{lined}
-use Rattle.semantics.specs.Tables.{tables_of}
+use Rattle.vocabulary.specs.Prelude.{Record, meets, points_in, lined, tables_of}
 use Rattle.launches.proofs.Writings.{meets_by}
 use Rattle.launches.proofs.writing.Writing.spaces_meet.Goals as goal
 

@@ -1,6 +1,6 @@
 use Rattle.std.proofs.Common.{◌≡◌, ◌||◌, not, Some, ap, ◌∙◌}
 use Rattle.std.specs.HashMap.{get}
-use Rattle.privilege.specs.Interference.{agree}
+use Rattle.vocabulary.specs.Prelude.{agree}
 use Rattle.log_rules.specs.Own.{same_place, clashes}
 use Rattle.log_rules.proofs.Claiming.{clashes-put}
 use Rattle.log_rules.proofs.claims.Claims.claim.Goals as goal

@@ -1,7 +1,7 @@
 use Rattle.std.proofs.Common.{◌≡◌, ◌||◌}
 use Rattle.log_rules.specs.declared.claims.OwnPlace.{OwnPlace}
 use Rattle.log_rules.specs.Own.{clashes_in, claims_at}
-use Rattle.privilege.specs.declared.kinds.Priv.{Priv}
+use Rattle.vocabulary.specs.Prelude.{Priv}
 use Rattle.log_rules.proofs.claims.Claims.claim_all.Given as goal
 
 abbrev pub invariant-loop-point : goal.invariant-loop-point

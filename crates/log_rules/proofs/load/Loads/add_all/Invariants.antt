@@ -1,6 +1,6 @@
 use Rattle.std.proofs.Common.{◌≡◌, ◌+◌, ◌<◌}
 use Rattle.std.specs.List.{AllPairs}
-use Rattle.semantics.specs.declared.places.Place.{Place}
+use Rattle.vocabulary.specs.Prelude.{Place}
 use Rattle.log_rules.specs.Counts.{cut}
 use Rattle.log_rules.specs.Loads.{load_in, one, is_held}
 use Rattle.log_rules.proofs.load.Loads.add_all.Given as goal

@@ -1,6 +1,5 @@
 use Rattle.std.proofs.Common.{◌+◌, ◌<◌, ◌&&◌, List, length, get_or, ap, subst, ◌∙◌}
-use Rattle.semantics.specs.declared.tables.Req.{Req}
-use Rattle.semantics.specs.Kinds.{covers}
+use Rattle.vocabulary.specs.Prelude.{Req, covers}
 use Rattle.semantics.specs.Rules.{reduces}
 use Rattle.log_rules.specs.Counts.{cut}
 use Rattle.log_rules.specs.Loads.{load_in, one}

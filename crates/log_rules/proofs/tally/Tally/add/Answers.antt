@@ -1,7 +1,7 @@
 use Rattle.std.proofs.lemmas.Bool.{cases_lt}
 use Rattle.std.proofs.lemmas.Bool.Decides.{nat_tests}
 use Rattle.std.proofs.Common.{◌≡◌, ℕ, ◌≤◌, nat_lt, false, inl, inr, arith, ◌+◌, ◌-◌, ◌^◌, ◌||◌, ap, sym, ◌∙◌}
-use Rattle.semantics.specs.Points.{is_in}
+use Rattle.vocabulary.specs.Prelude.{is_in}
 use Rattle.semantics.specs.Rules.{accesses}
 use Rattle.log_rules.specs.Counts.{cut, points_asked, cells_asked}
 use Rattle.log_rules.specs.Listing.{ids_listed}

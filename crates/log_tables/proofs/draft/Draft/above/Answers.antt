@@ -1,6 +1,5 @@
 use Rattle.std.proofs.Common.{ap, ◌∙◌}
-use Rattle.semantics.specs.Tables.{Tables}
-use Rattle.semantics.specs.Points.{space_above}
+use Rattle.vocabulary.specs.Prelude.{Tables, space_above}
 use Rattle.log_tables.proofs.draft.Draft.above.Goals as goal
 
 pub returns : goal.returns

@@ -1,6 +1,6 @@
 use Rattle.std.proofs.Common.{◌==◌}
 use Rattle.std.specs.List.Sorted.{IsStrictlyIncreasing}
-use Rattle.semantics.specs.declared.tables.Inst.{Inst}
+use Rattle.vocabulary.specs.Prelude.{Inst}
 use Rattle.list_lemmas.proofs.lemmas.Places.{all_found_behind}
 use Rattle.log_tables.proofs.draft.Draft.inst.Goals as goal
 

@@ -1,10 +1,7 @@
 use Rattle.std.proofs.Common.{[]}
 use Rattle.std.specs.List.Sorted.{IsStrictlyIncreasing}
 use Rattle.std.proofs.lemmas.List.Elements.{All-nil, All-same}
-use Rattle.semantics.specs.declared.tables.FieldSpace.{FieldSpace}
-use Rattle.semantics.specs.declared.tables.Item.{Item}
-use Rattle.semantics.specs.declared.tables.Req.{Req}
-use Rattle.semantics.specs.declared.tables.Inst.{Inst}
+use Rattle.vocabulary.specs.Prelude.{FieldSpace, Item, Req, Inst}
 use Rattle.log_tables.specs.Ascending.{body_fields}
 use Rattle.log_tables.proofs.draft.Draft.new.Goals as goal
 

@@ -1,6 +1,6 @@
 use Rattle.std.proofs.Common.{◌==◌, ◌&&◌}
 use Rattle.std.specs.List.Sorted.{IsStrictlyIncreasing}
-use Rattle.semantics.specs.declared.tables.Req.{Req}
+use Rattle.vocabulary.specs.Prelude.{Req}
 use Rattle.list_lemmas.proofs.lemmas.Places.{all_found_behind}
 use Rattle.log_tables.proofs.draft.Draft.req.Goals as goal
 

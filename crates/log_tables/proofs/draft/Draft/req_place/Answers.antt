@@ -1,8 +1,7 @@
 use Rattle.std.proofs.Common.{◌∙◌, sym, ap, ◌==◌, ◌&&◌}
 use Rattle.std.specs.List.{position_from}
 use Rattle.std.proofs.lemmas.Iterator.Adapters.{position_from-zero}
-use Rattle.semantics.specs.declared.tables.Req.{Req}
-use Rattle.semantics.specs.Tables.{Tables}
+use Rattle.vocabulary.specs.Prelude.{Req, Tables}
 use Rattle.list_lemmas.proofs.lemmas.Firsts.{find_by_place}
 use Rattle.log_tables.proofs.draft.Draft.req_place.Goals as goal
 

@@ -3,7 +3,7 @@ use Rattle.std.specs.Option.{option_or}
 use Rattle.std.specs.Map.{lookup}
 use Rattle.indexmap.specs.IndexMap.{get}
 use Rattle.log_tables.specs.declared.maps.FieldKey.{FieldKey}
-use Rattle.semantics.specs.declared.tables.Map.{Map}
+use Rattle.vocabulary.specs.Prelude.{Map}
 use Rattle.log_tables.specs.Mapped.{same_field, names_field, inst_mapped}
 use Rattle.log_tables.proofs.Mapping.{mapped_more}
 use Rattle.log_tables.proofs.maps.Maps.push.Goals as goal

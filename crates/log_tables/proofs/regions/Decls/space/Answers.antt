@@ -1,6 +1,6 @@
 use Rattle.std.proofs.Common.{◌==◌, ap, sym, ◌∙◌}
 use Rattle.std.specs.Option.{option_map}
-use Rattle.semantics.specs.Tables.{Space}
+use Rattle.vocabulary.specs.Prelude.{Space}
 use Rattle.log_tables.specs.Regions.{Regions, space_of}
 use Rattle.log_tables.specs.Views.{space_seen}
 use Rattle.list_lemmas.proofs.lemmas.Firsts.{seen_behind}

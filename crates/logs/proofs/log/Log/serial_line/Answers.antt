@@ -1,9 +1,6 @@
 use Rattle.std.proofs.Common.{ℕ, ◌<◌, length, find, subst, sym}
 use Rattle.std.specs.Option.{IsSome}
-use Rattle.semantics.specs.declared.tables.Serial.{Serial}
-use Rattle.semantics.specs.Tables.{Tables, tables_of}
-use Rattle.semantics.specs.Points.{is_in}
-use Rattle.semantics.specs.Steps.{id_of}
+use Rattle.vocabulary.specs.Prelude.{Serial, Tables, tables_of, is_in, id_of}
 use Rattle.log_laws.proofs.lemmas.Admitted.{no_broken_rule}
 use Rattle.log_laws.proofs.lemmas.Listed.{each_listed, line_found}
 use Rattle.logs.proofs.Lines.{line_needs, line_of}

@@ -1,8 +1,6 @@
 use Rattle.std.proofs.Common.{sym, ap, ◌∙◌}
 use Rattle.std.proofs.lemmas.Option.{MatchOption-at_none, MatchOption-at_some}
-use Rattle.value_terms.specs.Values.{Value}
-use Rattle.semantics.specs.Reads.{Seen, differing}
-use Rattle.semantics.specs.Tables.{Tables}
+use Rattle.vocabulary.specs.Prelude.{Value, Seen, differing, Tables}
 use Rattle.point_laws.specs.Cut.{cut}
 use Rattle.replay.proofs.Judged.{want_is, agrees, differs}
 use Rattle.replay.proofs.moving.Replay.judge.Goals as goal

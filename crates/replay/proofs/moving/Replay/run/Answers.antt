@@ -1,8 +1,6 @@
 use Rattle.std.proofs.Common.{◌<◌, length, Contains, sym, ◌∙◌, subst}
 use Rattle.std.proofs.lemmas.List.{length-map}
-use Rattle.semantics.specs.Events.{graph_of}
-use Rattle.semantics.specs.Tables.{Tables}
-use Rattle.semantics.specs.Steps.{steps_by}
+use Rattle.vocabulary.specs.Prelude.{graph_of, Tables, steps_by}
 use Rattle.log_laws.proofs.lemmas.Members.{all_contained}
 use Rattle.log_laws.proofs.lemmas.Rounds.{listed_decides}
 use Rattle.point_laws.specs.Cut.{cut}

@@ -1,6 +1,6 @@
 use Rattle.std.proofs.Common.{slice_index, sym, subst}
 use Rattle.std.specs.List.{AllByRecursion}
-use Rattle.semantics.specs.Tables.{Tables}
+use Rattle.vocabulary.specs.Prelude.{Tables}
 use Rattle.point_laws.specs.Cut.{cut}
 use Rattle.inst_steps.specs.Acting.{IsBy, steps_in}
 use Rattle.replay.specs.Standing.{Stands, left_in}

@@ -1,6 +1,6 @@
 use Rattle.std.proofs.Common.{drop}
 use Rattle.point_laws.specs.Cut.{cut}
-use Rattle.semantics.specs.Steps.{steps_by}
+use Rattle.vocabulary.specs.Prelude.{steps_by}
 use Rattle.replay.specs.Standing.{Stands}
 use Rattle.replay.proofs.moving.Replay.take_nodes.Given as goal
 

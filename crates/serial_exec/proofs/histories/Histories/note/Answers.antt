@@ -1,7 +1,7 @@
 use Rattle.std.proofs.Common.{◌++◌, ◌∷◌, [], ap, sym, ◌∙◌, IsSome, subst, refl, cond}
 use Rattle.std.specs.HashMap.{get}
 use Rattle.std.specs.Option.{option_map_or, option_copied_mut}
-use Rattle.semantics.specs.Points.{same_place}
+use Rattle.vocabulary.specs.Prelude.{same_place}
 use Rattle.serial_exec.proofs.Noting.{list-put}
 use Rattle.serial_exec.proofs.histories.Histories.note.Goals as goal
 

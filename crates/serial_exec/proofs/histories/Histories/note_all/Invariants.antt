@@ -1,6 +1,6 @@
 use Rattle.std.proofs.Common.{◌≡◌, ◌++◌, ◌∷◌, [], ◌-◌, ◌^◌, ◌&&◌, if◌then◌else◌}
 use Rattle.std.specs.Option.{option_map_or}
-use Rattle.semantics.specs.declared.places.Place.{Place}
+use Rattle.vocabulary.specs.Prelude.{Place}
 use Rattle.listed_points.specs.Listed.{listed_of}
 use Rattle.serial_exec.specs.Changes.{covered}
 use Rattle.point_laws.specs.Cut.{kept}

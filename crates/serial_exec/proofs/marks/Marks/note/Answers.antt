@@ -1,5 +1,5 @@
 use Rattle.std.specs.HashMap.{get}
-use Rattle.semantics.specs.Points.{same_place}
+use Rattle.vocabulary.specs.Prelude.{same_place}
 use Rattle.serial_exec.proofs.Marked.{list-noted}
 use Rattle.serial_exec.proofs.marks.Marks.note.Goals as goal
 

@@ -3,10 +3,9 @@ use Rattle.std.specs.Map.{lookup}
 use Rattle.std.specs.Map.Iter.{deref_pair}
 use Rattle.std.specs.Option.{option_map_or}
 use Rattle.std.proofs.lemmas.Map.Iter.{rest_more}
-use Rattle.semantics.specs.declared.places.Place.{Place}
+use Rattle.vocabulary.specs.Prelude.{Place, same_place}
 use Rattle.serial_exec.specs.declared.marks.Marks.{Marks}
 use Rattle.serial_exec.specs.Histories.{changes_at}
-use Rattle.semantics.specs.Points.{same_place}
 use Rattle.serial_exec.specs.Marks.{marks_at}
 use Rattle.serial_exec.proofs.Marked.{all-still, still-more}
 use Rattle.serial_exec.proofs.marks.Marks.of.Goals as goal

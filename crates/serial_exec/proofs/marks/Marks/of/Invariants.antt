@@ -2,9 +2,8 @@ use Rattle.std.proofs.Common.{◌≡◌, []}
 use Rattle.std.specs.List.{IsDistinct}
 use Rattle.std.specs.Map.{keys_of, lookup}
 use Rattle.std.specs.Option.{MatchOption}
-use Rattle.semantics.specs.declared.places.Place.{Place}
+use Rattle.vocabulary.specs.Prelude.{Place, same_place}
 use Rattle.serial_exec.specs.Histories.{changes_at}
-use Rattle.semantics.specs.Points.{same_place}
 use Rattle.serial_exec.specs.Marks.{AreMarksOf, marks_at}
 use Rattle.serial_exec.proofs.marks.Marks.of.Given as goal
 

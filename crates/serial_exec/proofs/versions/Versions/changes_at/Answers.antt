@@ -1,7 +1,7 @@
 use Rattle.std.proofs.Common.{Some, None, ◌∙◌, sym, ap}
 use Rattle.std.specs.HashMap.{get}
 use Rattle.std.specs.Option.{option_copied}
-use Rattle.semantics.specs.Points.{same_place}
+use Rattle.vocabulary.specs.Prelude.{same_place}
 use Rattle.serial_exec.specs.Kept.{Kept, changes_in}
 use Rattle.serial_exec.proofs.Keeping.{kept-changes, found-at}
 use Rattle.serial_exec.proofs.versions.Versions.changes_at.Goals as goal

@@ -2,7 +2,7 @@ use Rattle.std.proofs.Common.{Some, None, [], ◌∙◌, sym, ap, subst}
 use Rattle.std.specs.HashMap.{get}
 use Rattle.std.specs.Option.{option_copied}
 use Rattle.serial_exec.specs.Histories.{changes_at}
-use Rattle.semantics.specs.Points.{same_place}
+use Rattle.vocabulary.specs.Prelude.{same_place}
 use Rattle.serial_exec.specs.Kept.{Kept, changes_in}
 use Rattle.serial_exec.specs.Marks.{AreMarksOf}
 use Rattle.serial_exec.proofs.Keeping.{kept-changes, found-at}

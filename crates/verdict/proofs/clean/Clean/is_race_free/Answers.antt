@@ -1,6 +1,5 @@
 use Rattle.std.proofs.Common.{subst}
-use Rattle.semantics.specs.Races.{IsRaceFree}
-use Rattle.semantics.specs.Tables.{Tables}
+use Rattle.vocabulary.specs.Prelude.{IsRaceFree, Tables}
 use Rattle.verdict.proofs.clean.Clean.is_race_free.Goals as goal
 
 pub returns-clause-free : goal.returns-clause-free

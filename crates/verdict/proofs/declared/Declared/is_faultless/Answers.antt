@@ -1,5 +1,5 @@
 use Rattle.std.proofs.Common.{subst}
-use Rattle.semantics.specs.Tables.{Tables}
+use Rattle.vocabulary.specs.Prelude.{Tables}
 use Rattle.log_findings.specs.Faultless.{AreFaultless}
 use Rattle.log_findings.proofs.lemmas.Ends.{faultless_of}
 use Rattle.verdict.proofs.declared.Declared.is_faultless.Goals as goal

@@ -1,6 +1,5 @@
 use Rattle.std.proofs.Common.{subst}
-use Rattle.semantics.specs.Events.{HasNoCycle}
-use Rattle.semantics.specs.Tables.{Tables}
+use Rattle.vocabulary.specs.Prelude.{HasNoCycle, Tables}
 use Rattle.verdict.proofs.declared.Declared.sort.Goals as goal
 
 pub returns-in-Ok-clause-no_cycle : goal.returns-in-Ok-clause-no_cycle

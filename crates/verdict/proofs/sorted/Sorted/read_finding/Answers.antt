@@ -1,6 +1,5 @@
 use Rattle.std.proofs.Common.{refl, sym, subst}
-use Rattle.semantics.specs.Races.{IsRaceFree}
-use Rattle.semantics.specs.Tables.{Tables}
+use Rattle.vocabulary.specs.Prelude.{IsRaceFree, Tables}
 use Rattle.log_findings.proofs.lemmas.Ends.{mapped_of}
 use Rattle.verdict.proofs.sorted.Sorted.read_finding.Goals as goal
 

@@ -1,6 +1,5 @@
 use Rattle.std.proofs.Common.{refl, sym, subst}
-use Rattle.semantics.specs.Races.{IsRaceFree}
-use Rattle.semantics.specs.Tables.{Tables}
+use Rattle.vocabulary.specs.Prelude.{IsRaceFree, Tables}
 use Rattle.verdict.proofs.sorted.Sorted.reads.Goals as goal
 
 pub judged_reads-requires : goal.judged_reads-requires

@@ -1,6 +1,5 @@
 use Rattle.std.proofs.Common.{refl, subst}
-use Rattle.semantics.specs.Races.{IsRaceFree}
-use Rattle.semantics.specs.Tables.{Tables}
+use Rattle.vocabulary.specs.Prelude.{IsRaceFree, Tables}
 use Rattle.verdict.proofs.sorted.Sorted.scan.Goals as goal
 
 pub of-requires : goal.of-requires
