@@ -4,7 +4,6 @@ use Rattle.std.specs.List.{AllByRecursion}
 use Rattle.std.proofs.lemmas.Bool.{eqb-true}
 use Rattle.std.proofs.lemmas.Bool.Decides.{nat_tests}
 use Rattle.std.proofs.lemmas.List.Kept.{AllPairs-filter}
-use Rattle.spy_words.specs.Classes as classes
 use Rattle.vocabulary.specs.Prelude.{Record, Lined, Good, may_read, Place, Req, records_of, Tables, Space, with_record, tables_of, points_in, req_grid, reqs_of, comes_first, Command}
 use Rattle.spy_grammar.specs.declared.record.Record.TheVariants as records
 use Rattle.log_laws.proofs.lemmas.Members.{Member, Each, each_more, member_map, member_filter, found_at, none_or_some}
