@@ -16,6 +16,8 @@ mod interference_tests;
 #[cfg(test)]
 mod launch_claims_tests;
 #[cfg(test)]
+mod launches_tests;
+#[cfg(test)]
 mod listed_points_tests;
 #[cfg(test)]
 mod log_gen_tests;
