@@ -49,5 +49,6 @@ pub fn code_text(code: Code) -> &'static [u8]
         Unmapped => b"unmapped",
         LaunchRange => b"launch-range",
         LaunchInterference => b"launch-interference",
+        TooManyGroups => b"too-many-groups",
     }
 }

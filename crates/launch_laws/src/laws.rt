@@ -1,12 +1,23 @@
-//! Laws of the order of items. A function has nothing to do: its contract is the law.
+//! Laws of what launches write, and of the order of items. A function has nothing to do: its contract is the law.
 
-ghost use Rattle.std.specs.Prelude.{◌≡◌, ℕ, true, List, None, Contains};
-ghost use Rattle.vocabulary.specs.Prelude.{may_read, Value, LLined, Place, Req, lined, Tables, covers, uses_of, after_items, wanted};
+ghost use Rattle.std.specs.Prelude.{◌≡◌, ℕ, true, All, List, None, Contains};
+ghost use Rattle.vocabulary.specs.Prelude.{may_read, Good, GoodLaunch, Reads, Value, LLined, Place, Req, lined, text_of, Tables, covers, uses_of, after_items, wanted};
 ghost use Rattle.semantics.specs.SerialOrder.{serial};
+ghost use Rattle.semantics.specs.TextFaults.{text_fault};
 ghost use Rattle.semantics.specs.Faults.{declaration_fault};
 ghost use Rattle.semantics.specs.Launches.{TaskLaunch, launch_fault, written_log};
 ghost use Rattle.launch_laws.specs.Stretches.{AreTurned, joined, wanted_in};
 ghost use Rattle.launch_laws.specs.LaunchOrders.{AgreeButFor, launch_tables, launches_of};
+
+/// What a launch log writes, of which no fault is shown, is a log: each record has a spelling, and the text of the log has no fault of its bytes or lines and holds these records.
+pub fn written_logs_are_logs()
+    ensures good { (lines : ℕ) (log : List LLined) → All (λ l. GoodLaunch l.rec) log
+        → launch_fault lines log ≡ None → All Good (written_log log) }
+    ensures fault { (lines : ℕ) (log : List LLined) → All (λ l. GoodLaunch l.rec) log
+        → launch_fault lines log ≡ None → text_fault (text_of (written_log log)) ≡ None }
+    ensures log { (lines : ℕ) (log : List LLined) → All (λ l. GoodLaunch l.rec) log
+        → launch_fault lines log ≡ None → Reads (text_of (written_log log)) (lined (written_log log)) }
+{}
 
 /// The tasks of a launch may be run in any order, where no fault is shown of the launch log and what it writes has tables: each place has the same value after all items, and each read of an item wants the same value. And what a read is said to want is what it wants where the items are run in serial order.
 pub fn launches_in_any_order()

@@ -4,5 +4,5 @@
 mod laws;
 mod meanings;
 
-pub use laws::{launches_in_any_order, neighbours_in_any_order};
+pub use laws::{launches_in_any_order, neighbours_in_any_order, written_logs_are_logs};
 pub use meanings::worked_launches;

@@ -1,5 +1,4 @@
 pub mod Interfering
-pub mod LaunchLines
 pub mod Steps
 pub mod Written
 pub use Rattle.semantics.specs.Launches

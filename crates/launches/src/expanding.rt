@@ -3,8 +3,7 @@
 ghost use Rattle.std.specs.Prelude.{◌≡◌, ◌≤◌, ℕ, All, Err, IfOk, OnOk, None, Some};
 ghost use Rattle.vocabulary.specs.Prelude.{Code, GoodLaunch, Good, Fault};
 ghost use Rattle.semantics.specs.Faults.{at_line};
-ghost use Rattle.semantics.specs.Launches.{launch_fault, launches_fault, not_expanded, written_log};
-ghost use Rattle.launches.specs.LaunchLines.{AreLaunchLines};
+ghost use Rattle.semantics.specs.Launches.{AreLaunchLines, launch_fault, launches_fault, not_expanded, written_log};
 
 use crate::expand_end::ExpandEnd;
 use crate::walk::walk;

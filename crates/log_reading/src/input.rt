@@ -1,24 +1,26 @@
 //! An input, and the records that it spells.
 
-ghost use Rattle.std.specs.Prelude.{◌≡◌, ◌≤◌, All, length, IfOk, None, OnOk};
+ghost use Rattle.std.specs.Prelude.{◌≡◌, ◌≤◌, ◌∷◌, All, length, IfOk, None, Some, OnOk};
 ghost use Rattle.spy_lines.specs.LinesOf.{with_ends, IsLine};
-ghost use Rattle.vocabulary.specs.Prelude.{Good, Hold, AreLines};
-ghost use Rattle.semantics.specs.TextFaults.{lines_fault};
+ghost use Rattle.vocabulary.specs.Prelude.{Good, GoodLaunch, HoldBy, AreLines, AreLinesBy};
+ghost use Rattle.semantics.specs.Launches.{AreLaunchLines};
+ghost use Rattle.semantics.specs.TextFaults.{lines_fault_by, text_fault_by};
 ghost use Rattle.semantics.specs.declared.limits.TheConstants.{MOST_BYTES};
-ghost use Rattle.log_reading.specs.Spelled.{EndsBy, HasFault, HasFaultOfLines, Spells};
+ghost use Rattle.log_reading.specs.Spelled.{EndsBy, HasFault, HasLaunchFault, HasFaultOfLines, Spells, SpellsBy, SpellsLaunch};
 
+use crate::log_line::LogLine;
 use crate::reading::{Input, SpellEnd, read_input};
 use semantics::MOST_BYTES;
-use spy_grammar::Code;
+use spy_grammar::{Code, LLined, Lined};
 use spy_lines::{LineList, Lines};
 use std::alloc::Global;
 
 /// The lines of an input, over its bytes.
-fn lines_of(bytes: Vec<u8>) -> Result<LineList, SpellEnd>
+fn lines_of<L: LogLine>(bytes: Vec<u8>) -> Result<LineList, SpellEnd>
     requires { length bytes.items ≤ MOST_BYTES }
     ensures bytes { IfOk result (λ lines. with_ends lines ≡ bytes.items) }
     ensures lines { IfOk result (λ lines. All IsLine lines) }
-    ensures fault { EndsBy (HasFault bytes.items) result }
+    ensures fault { EndsBy (λ line code. text_fault_by L.read bytes.items ≡ Some (record { line = line; code = code })) result }
 {
     match Lines::of(bytes).finish() {
         Ok(list) => Ok(list),
@@ -30,24 +32,24 @@ fn lines_of(bytes: Vec<u8>) -> Result<LineList, SpellEnd>
 }
 
 /// The records of lines, which are not kept.
-fn records_of(alloc: Global, list: LineList) -> Result<Input, SpellEnd>
-    ensures held { IfOk result (λ i. Hold 1 list i.records.items) }
-    ensures clean { OnOk result (lines_fault 1 list ≡ None) }
+fn records_of<L: LogLine>(alloc: Global, list: LineList) -> Result<Input<L>, SpellEnd>
+    ensures held { IfOk result (λ i. HoldBy L.good L.spelled L.on 1 list i.records.items) }
+    ensures clean { OnOk result (lines_fault_by L.read 1 list ≡ None) }
     ensures count { IfOk result (λ i. i.lines ≡ length list) }
-    ensures good { IfOk result (λ i. All (λ l. Good l.rec) i.records.items) }
-    ensures lines { IfOk result (λ i. AreLines i.lines i.records.items) }
-    ensures fault { EndsBy (HasFaultOfLines list) result }
+    ensures good { IfOk result (λ i. All (λ l. L.good (L.rec_of l)) i.records.items) }
+    ensures lines { IfOk result (λ i. AreLinesBy L.line_of i.lines i.records.items) }
+    ensures fault { EndsBy (HasFaultOfLines L.read list) result }
 {
-    let input = read_input(alloc, &list)?;
+    let input = read_input::<L>(alloc, &list)?;
     Ok(input)
 }
 
-/// The records of an input, or the first fault of its bytes and lines.
-pub fn input_in(alloc: Global, bytes: Vec<u8>) -> Result<Input, SpellEnd>
-    ensures spelled { IfOk result (λ i. Spells bytes.items i.lines i.records.items) }
-    ensures good { IfOk result (λ i. All (λ l. Good l.rec) i.records.items) }
-    ensures lines { IfOk result (λ i. AreLines i.lines i.records.items) }
-    ensures fault { EndsBy (HasFault bytes.items) result }
+/// The records of an input of a log of some kind, or the first fault of its bytes and lines.
+fn any_input_in<L: LogLine>(alloc: Global, bytes: Vec<u8>) -> Result<Input<L>, SpellEnd>
+    ensures spelled { IfOk result (λ i. SpellsBy (text_fault_by L.read) L.good L.spelled L.on bytes.items i.lines i.records.items) }
+    ensures good { IfOk result (λ i. All (λ l. L.good (L.rec_of l)) i.records.items) }
+    ensures lines { IfOk result (λ i. AreLinesBy L.line_of i.lines i.records.items) }
+    ensures fault { EndsBy (λ line code. text_fault_by L.read bytes.items ≡ Some (record { line = line; code = code })) result }
 {
     if bytes.len() as u64 > MOST_BYTES {
         return Err(SpellEnd::Fault {
@@ -55,6 +57,28 @@ pub fn input_in(alloc: Global, bytes: Vec<u8>) -> Result<Input, SpellEnd>
             code: Code::TooLong,
         });
     }
-    let list = lines_of(bytes)?;
-    records_of(alloc, list)
+    let list = lines_of::<L>(bytes)?;
+    records_of::<L>(alloc, list)
+}
+
+/// The records of an input, or the first fault of its bytes and lines.
+#[tactic(auto, unfolding(semantics::specs::TextFaults::text_fault))]
+pub fn input_in(alloc: Global, bytes: Vec<u8>) -> Result<Input<Lined>, SpellEnd>
+    ensures spelled { IfOk result (λ i. Spells bytes.items i.lines i.records.items) }
+    ensures good { IfOk result (λ i. All (λ l. Good l.rec) i.records.items) }
+    ensures lines { IfOk result (λ i. AreLines i.lines i.records.items) }
+    ensures fault { EndsBy (HasFault bytes.items) result }
+{
+    any_input_in::<Lined>(alloc, bytes)
+}
+
+/// The records of an input of a launch log, or the first fault of its bytes and lines.
+#[tactic(auto, unfolding(semantics::specs::Launches::launch_text_fault))]
+pub fn launch_input_in(alloc: Global, bytes: Vec<u8>) -> Result<Input<LLined>, SpellEnd>
+    ensures spelled { IfOk result (λ i. SpellsLaunch bytes.items i.lines i.records.items) }
+    ensures good { IfOk result (λ i. All (λ l. GoodLaunch l.rec) i.records.items) }
+    ensures lines { IfOk result (λ i. AreLaunchLines i.lines i.records.items) }
+    ensures fault { EndsBy (HasLaunchFault bytes.items) result }
+{
+    any_input_in::<LLined>(alloc, bytes)
 }

@@ -1,4 +1,5 @@
 pub mod Outcome
+pub mod LaunchOutcome
 pub use Rattle.semantics.specs.Events
 pub use Rattle.semantics.specs.Faults
 pub use Rattle.semantics.specs.Links

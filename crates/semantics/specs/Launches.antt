@@ -14,7 +14,9 @@ use Rattle.spy_grammar.specs.declared.launches.LLined.{LLined}
 use Rattle.semantics.specs.declared.faults.Fault.{Fault}
 use Rattle.semantics.specs.declared.limits.TheConstants.{MOST_BYTES, MOST_RECORDS, MOST_COLOURS}
 use Rattle.semantics.specs.declared.tables.Sub.{Sub}
-use Rattle.semantics.specs.Records.{lined, text_of}
+use Rattle.spy_grammar.specs.Launches.{launch_line_at, launch_spelling, GoodLaunch}
+use Rattle.semantics.specs.Records.{lined, text_of, AreLinesBy, ReadsBy}
+use Rattle.semantics.specs.TextFaults.{text_fault_by}
 use Rattle.semantics.specs.Tables.{Tables, tables_of, privilege_of, coherence_of}
 use Rattle.semantics.specs.Points.{points_in, meets}
 use Rattle.semantics.specs.Kinds.{is_free}
@@ -158,3 +160,21 @@ framed log = map (λ (l : LLined). record { line = l.line; rec = as_framed l.rec
 -- The fault that is shown of a launch log: that of its frame, and else that of the first record that breaks a rule on launches.
 unfoldable pub launch_fault : ℕ → List LLined → Option Fault
 launch_fault lines log = option_or (header_fault lines (framed log)) (option_or (ended_fault lines (framed log)) (option_or (count_fault (framed log)) (launches_fault not_expanded log)))
+
+-- ---- from bytes to a launch log
+
+-- A record of a launch log on a line.
+abbrev pub on_launch_line : ℕ → LRecord → LLined
+on_launch_line line r = record { line = line; rec = r }
+
+-- The records of a launch log stand on lines that ascend, each on one of these many lines.
+abbrev pub AreLaunchLines : ℕ → List LLined → Type 0
+AreLaunchLines lines log = AreLinesBy (λ (l : LLined). l.line) lines log
+
+-- The input is lines that hold the records of the launch log.
+abbrev pub LaunchReads : List ℕ → List LLined → Type 0
+LaunchReads bytes log = ReadsBy GoodLaunch launch_spelling on_launch_line bytes log
+
+-- The fault that is shown of the bytes and the single lines of a launch log.
+unfoldable pub launch_text_fault : List ℕ → Option Fault
+launch_text_fault bytes = text_fault_by launch_line_at bytes

@@ -34,20 +34,36 @@ parts_of bytes = slice_split (λ b. b == 10) bytes
 abbrev pub line_count : List ℕ → ℕ
 line_count bytes = length (parts_of bytes) - 1
 
--- Some lines, numbered from `number`, hold these records and no others: each line is blank or a comment, or spells the next record, which stands on the line of that number.
-abbrev pub Hold : ℕ → List (List ℕ) → List Lined → Type 0
-Hold number [] log = log ≡ []
-Hold number (line ∷ lines) log =
-    ((is_passed_over line ≡ true) × Hold (number + 1) lines log)
-    ⊎ ((r : Record) × (rest : List Lined) × Good r × (line ≡ spelling r) × (log ≡ record { line = number; rec = r } ∷ rest) × Hold (number + 1) lines rest)
+-- Some lines, numbered from `number`, hold these records and no others: each line is blank or a comment, or spells the next record, which stands on the line of that number. Of a kind of log this is said by which of its records have a spelling, by that spelling, and by how a record stands on a line.
+abbrev pub HoldBy : {R L : Type 0} → (R → Type 0) → (R → List ℕ) → (ℕ → R → L) → ℕ → List (List ℕ) → List L → Type 0
+HoldBy IsGood spelled on number [] log = log ≡ []
+HoldBy {R} {L} IsGood spelled on number (line ∷ lines) log =
+    ((is_passed_over line ≡ true) × HoldBy IsGood spelled on (number + 1) lines log)
+    ⊎ ((r : R) × (rest : List L) × IsGood r × (line ≡ spelled r) × (log ≡ on number r ∷ rest) × HoldBy IsGood spelled on (number + 1) lines rest)
 
--- The input is lines, each ended by a line feed, that hold the records of the log.
-pub record Reads (bytes : List ℕ) (log : List Lined) : Type 0 where
+-- The input is lines, each ended by a line feed, that hold the records of a log of such a kind.
+pub record ReadsBy {R L : Type 0} (IsGood : R → Type 0) (spelled : R → List ℕ) (on : ℕ → R → L) (bytes : List ℕ) (log : List L) : Type 0 where
   pub ended : drop (line_count bytes) (parts_of bytes) ≡ [] ∷ []
-  pub hold : Hold 1 (take (line_count bytes) (parts_of bytes)) log
+  pub hold : HoldBy IsGood spelled on 1 (take (line_count bytes) (parts_of bytes)) log
+
+-- A record on a line.
+abbrev pub on_line : ℕ → Record → Lined
+on_line line r = record { line = line; rec = r }
+
+-- Some lines hold these records of a log.
+abbrev pub Hold : ℕ → List (List ℕ) → List Lined → Type 0
+Hold number lines log = HoldBy Good spelling on_line number lines log
+
+-- The input is lines that hold the records of the log.
+abbrev pub Reads : List ℕ → List Lined → Type 0
+Reads bytes log = ReadsBy Good spelling on_line bytes log
 
 -- The records stand on lines that ascend, each on one of these many lines. (Each line of an input has a byte at least, its line feed.)
-pub record AreLines (lines : ℕ) (log : List Lined) : Type 0 where
-  pub ascend : IsStrictlyIncreasing (map (λ (l : Lined). l.line) log)
-  pub within : All (λ (l : Lined). l.line ≤ lines) log
+pub record AreLinesBy {L : Type 0} (line_of : L → ℕ) (lines : ℕ) (log : List L) : Type 0 where
+  pub ascend : IsStrictlyIncreasing (map line_of log)
+  pub within : All (λ (l : L). line_of l ≤ lines) log
   pub few : lines ≤ MOST_BYTES
+
+-- The same of a log.
+abbrev pub AreLines : ℕ → List Lined → Type 0
+AreLines lines log = AreLinesBy (λ (l : Lined). l.line) lines log

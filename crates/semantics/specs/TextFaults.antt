@@ -6,7 +6,6 @@ use Rattle.spy_words.specs.declared.fault.LineFault.{LineFault}
 use Rattle.spy_words.specs.declared.fault.LineFault.TheVariants as faults
 use Rattle.spy_grammar.specs.declared.code.Code.{Code}
 use Rattle.spy_grammar.specs.declared.code.Code.TheVariants as codes
-use Rattle.spy_grammar.specs.declared.record.Record.{Record}
 use Rattle.spy_grammar.specs.Reading.{line_at}
 use Rattle.semantics.specs.declared.faults.Fault.{Fault}
 use Rattle.semantics.specs.declared.limits.TheConstants.{MOST_BYTES}
@@ -27,18 +26,25 @@ code_of faults.Number = codes.Number
 code_of faults.Order = codes.Order
 code_of _ = codes.Word
 
-abbrev pub line_fault : ℕ → Result (Option Record) LineFault → Option Fault
+abbrev pub line_fault : {R : Type 0} → ℕ → Result (Option R) LineFault → Option Fault
 line_fault line (Ok said) = None
 line_fault line (Err e) = Some (record { line = line; code = code_of e })
 
--- The first fault among some lines, numbered from `line`.
-abbrev pub lines_fault : ℕ → List (List ℕ) → Option Fault
-lines_fault line [] = None
-lines_fault line (l ∷ ls) = option_or (line_fault line (line_at l)) (lines_fault (line + 1) ls)
+-- The first fault among some lines, numbered from `line`, of a log whose lines are read so.
+abbrev pub lines_fault_by : {R : Type 0} → (List ℕ → Result (Option R) LineFault) → ℕ → List (List ℕ) → Option Fault
+lines_fault_by read line [] = None
+lines_fault_by read line (l ∷ ls) = option_or (line_fault line (read l)) (lines_fault_by read (line + 1) ls)
 
 -- The fault that is shown of the bytes and the single lines: too long; else not ended; else that of the first line that has one.
-unfoldable pub text_fault : List ℕ → Option Fault
-text_fault bytes =
+abbrev pub text_fault_by : {R : Type 0} → (List ℕ → Result (Option R) LineFault) → List ℕ → Option Fault
+text_fault_by read bytes =
     if is_too_long bytes then Some (record { line = 0; code = codes.TooLong })
     else if ends_within_line bytes then Some (record { line = line_count bytes + 1; code = codes.Newline })
-    else lines_fault 1 (take (line_count bytes) (parts_of bytes))
+    else lines_fault_by read 1 (take (line_count bytes) (parts_of bytes))
+
+-- The same of a log.
+abbrev pub lines_fault : ℕ → List (List ℕ) → Option Fault
+lines_fault line lines = lines_fault_by line_at line lines
+
+unfoldable pub text_fault : List ℕ → Option Fault
+text_fault bytes = text_fault_by line_at bytes

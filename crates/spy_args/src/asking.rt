@@ -33,12 +33,14 @@ fn size_of(word: &[u8]) -> Option<u32>
 }
 
 /// The commands without a size: the word of each, and what it asks for.
-const PLAIN_WORDS: [(&[u8], Request); 5] = [
+const PLAIN_WORDS: [(&[u8], Request); 7] = [
     (b"check", Request::Judge(Command::Check)),
     (b"ordered", Request::Judge(Command::Ordered)),
     (b"deps", Request::Judge(Command::Deps)),
     (b"spare", Request::Judge(Command::Spare)),
     (b"print", Request::Print),
+    (b"expand", Request::Expand),
+    (b"launched", Request::Launched),
 ];
 
 /// What a word asks for by such a table.

@@ -9,6 +9,10 @@ pub enum Request {
     Judge(Command),
     /// The records, each on a line of its own.
     Print,
+    /// The log that a launch log stands for.
+    Expand,
+    /// The check of the log that a launch log stands for.
+    Launched,
     /// The check of a stencil log of so many pieces, from 1 to 500.
     Demo { size: u32 },
 }

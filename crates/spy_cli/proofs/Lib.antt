@@ -1,3 +1,5 @@
+mod Alike
 mod Cut
+mod Expanding
 mod Printed
 mod Reports

@@ -5,7 +5,6 @@ use Rattle.vocabulary.specs.Prelude.{Good, Lined, Command, Fault, text_of, recor
 use Rattle.spy_grammar.specs.declared.code.Code.TheVariants.{TooLong}
 use Rattle.findings.specs.declared.finding.Finding.{Finding}
 use Rattle.findings.specs.declared.finding.Finding.TheVariants.{Fault as Faulty}
-use Rattle.findings.specs.Texts as reports
 use Rattle.semantics.specs.declared.command.Command.TheVariants as commands
 use Rattle.semantics.specs.TextFaults.{text_fault}
 use Rattle.outcomes.specs.Outcome.{IsFound, IsOutcome, IsPrinted, HasTextFault}
@@ -14,35 +13,24 @@ use Rattle.spy_args.specs.Asked.{IsSized}
 use Rattle.spy_args.specs.declared.request.Request.{Request}
 use Rattle.spy_args.specs.declared.request.Request.TheVariants as requests
 use Rattle.spy_cli.specs.declared.status.Status.{Status}
-use Rattle.spy_cli.specs.Answers.{status_of, Tells, IsJudged, IsDemo, IsAnswer, IsAnswerLong, IsInput}
+use Rattle.spy_cli.specs.Answers.{Tells, IsJudged, IsAnswer, IsAnswerLong, IsInput}
 use Rattle.log_reading.proofs.lemmas.Lines.{long}
 use Rattle.log_laws.proofs.lemmas.Numbered.{records_numbered}
 use Rattle.log_laws.proofs.lemmas.ReadLogs.{held_is_good, one_read, printed_has_no_fault, printed_is_read}
 use Rattle.long_values.proofs.lemmas.Checked.{outcome_same}
-use Rattle.outcomes.proofs.lemmas.Found.{one_answered, one_found}
+use Rattle.outcomes.proofs.lemmas.Found.{one_answered}
 use Rattle.log_gen.proofs.lemmas.Spelled.{log_good}
-
-told_alike : (f g : Finding) (s t : Status) (x y : List ℕ) → f ≡ g → Tells f s x → Tells g t y → (s ≡ t) × (x ≡ y)
-told_alike f g s t x y same p q = (p.status_is ∙ ap status_of same ∙ sym q.status_is, p.text_is ∙ ap reports.report_text same ∙ sym q.text_is)
+use Rattle.spy_cli.proofs.Alike.{no_fault, one_fault, told_alike}
+use Rattle.spy_cli.proofs.Expanding.{checks_alike, expands_alike, launches_alike, long_launch}
 
 judged_alike : (command : Command) (bytes : List ℕ) (s t : Status) (x y : List ℕ) → IsJudged command bytes s x → IsJudged command bytes t y → (s ≡ t) × (x ≡ y)
 judged_alike command bytes s t x y p q = told_alike p.finding q.finding s t x y (one_answered command bytes p.finding q.finding p.outcome q.outcome) p.tells q.tells
 
 faults_alike : (bytes : List ℕ) (f g : Finding) → HasTextFault bytes f → HasTextFault bytes g → f ≡ g
-faults_alike bytes f g p q =
-    let both : ◌≡◌ {A = Option Fault} (Some p.fault) (Some q.fault) = sym p.shown ∙ q.shown in
-    let same : p.fault ≡ q.fault = cc in
-    p.finding_is ∙ ap (λ (k : Fault). Faulty k.line k.code) same ∙ sym q.finding_is
+faults_alike bytes f g p q = one_fault (text_fault bytes) p.fault q.fault f g p.shown q.shown p.finding_is q.finding_is
 
 clean_or_not : {A : Type 0} (bytes : List ℕ) (f : Finding) → HasTextFault bytes f → text_fault bytes ≡ None → A
-clean_or_not bytes f p e = let wrong : ◌≡◌ {A = Option Fault} (Some p.fault) None = sym p.shown ∙ e in absurd cc
-
--- Two answers of one `demo` are one.
-demos_alike : (size : ℕ) → AllByRecursion Good (stencil size) → (s t : Status) (x y : List ℕ) → IsDemo size s x → IsDemo size t y → (s ≡ t) × (x ≡ y)
-demos_alike size good s t x y p q =
-    let good_log = subst (AllByRecursion Good) (sym (records_numbered 1 (stencil size))) good in
-    let same = one_found commands.Check (length (stencil size)) (lined (stencil size)) good_log p.finding q.finding p.found q.found in
-    told_alike p.finding q.finding s t x y same p.tells q.tells
+clean_or_not bytes f p e = no_fault (text_fault bytes) p.fault p.shown e
 
 pub same_answer : (request : Request) (bytes : List ℕ) (s t : Status) (x y : List ℕ) → IsSized request → IsAnswer request bytes s x → IsAnswer request bytes t y → (s ≡ t) × (x ≡ y)
 same_answer (requests.Judge command) bytes s t x y sized p q = judged_alike command bytes s t x y p q
@@ -50,7 +38,9 @@ same_answer requests.Print bytes s t x y sized (inl p) (inl q) = told_alike p.fi
 same_answer requests.Print bytes s t x y sized (inl p) (inr q) = clean_or_not bytes p.finding p.fault q.1.spelled
 same_answer requests.Print bytes s t x y sized (inr p) (inl q) = clean_or_not bytes q.finding q.fault p.1.spelled
 same_answer requests.Print bytes s t x y sized (inr p) (inr q) = (p.0 ∙ sym q.0, p.1.text_is ∙ ap (λ log. text_of (records_of log)) (one_read bytes p.1.log q.1.log p.1.reads q.1.reads) ∙ sym q.1.text_is)
-same_answer (requests.Demo size) bytes s t x y sized p q = demos_alike size (log_good size sized.1) s t x y p q
+same_answer requests.Expand bytes s t x y sized p q = expands_alike bytes s t x y p q
+same_answer requests.Launched bytes s t x y sized p q = launches_alike bytes s t x y p q
+same_answer (requests.Demo size) bytes s t x y sized p q = checks_alike (stencil size) (log_good size sized.1) s t x y p q
 
 -- What is answered under `check` is the same by long values.
 pub same_in_long : (bytes : List ℕ) (status : Status) (text : List ℕ) → IsAnswer (requests.Judge commands.Check) bytes status text ↔ IsAnswerLong bytes status text
@@ -91,4 +81,6 @@ pub too_long_told : (request : Request) (left : Option (List ℕ)) (bytes : List
     → Tells (Faulty 0 TooLong) s x → IsAnswer request bytes s x
 too_long_told (requests.Judge command) left bytes s x input long tells = record { finding = Faulty 0 TooLong; outcome = inl (told_long bytes long); tells = tells }
 too_long_told requests.Print left bytes s x input long tells = inl (record { finding = Faulty 0 TooLong; fault = told_long bytes long; tells = tells })
+too_long_told requests.Expand left bytes s x input long tells = inl (record { finding = Faulty 0 TooLong; fault = long_launch bytes long; tells = tells })
+too_long_told requests.Launched left bytes s x input long tells = inl (record { finding = Faulty 0 TooLong; fault = long_launch bytes long; tells = tells })
 too_long_told (requests.Demo size) left bytes s x input long tells = absurd (omega (arith, long, ap length input))

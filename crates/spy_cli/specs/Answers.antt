@@ -2,7 +2,7 @@
 use Rattle.std.specs.Prelude.{◌≡◌, ℕ, ◌+◌, ◌-◌, ◌^◌, ◌<◌, ◌≤◌, Bool, true, false, List, [], length, Option, Some, None, ◌⊎◌}
 use Rattle.std.specs.Io.KnownBytes.{Appends, Consumes, IsAtEnd}
 use Rattle.spy_io.specs.Causes.{Grows, Rose, Takes, TakesExactly}
-use Rattle.vocabulary.specs.Prelude.{Lined, Command, Reads, line_count, lined}
+use Rattle.vocabulary.specs.Prelude.{Record, Lined, Command, Reads, line_count, lined}
 use Rattle.findings.specs.declared.finding.Finding.{Finding}
 use Rattle.findings.specs.declared.finding.Finding.TheVariants as findings
 use Rattle.findings.specs.Texts as reports
@@ -11,6 +11,7 @@ use Rattle.semantics.specs.declared.limits.TheConstants.{MOST_BYTES}
 use Rattle.semantics.specs.TextFaults.{text_fault}
 use Rattle.semantics.specs.Faults.{log_fault}
 use Rattle.outcomes.specs.Outcome.{HasTextFault, IsFound, IsOutcome, IsPrinted}
+use Rattle.outcomes.specs.LaunchOutcome.{IsExpanded, IsLaunchFault, StandsFor}
 use Rattle.long_values.specs.LongOutcome.{IsOutcomeLong}
 use Rattle.log_gen.specs.Stencil.{stencil}
 use Rattle.spy_args.specs.declared.request.Request.{Request}
@@ -81,21 +82,41 @@ pub record IsFaulty (bytes : List ℕ) (status : Status) (text : List ℕ) : Typ
   pub fault : HasTextFault bytes finding
   pub tells : Tells finding status text
 
--- What `check` finds in the stencil log of so many pieces is answered. Its records stand on lines of their own, from line 1 on.
-pub record IsDemo (size : ℕ) (status : Status) (text : List ℕ) : Type 0 where
+-- What `check` finds in the log of some records is answered. They stand on lines of their own, from line 1 on.
+pub record IsChecked (rs : List Record) (status : Status) (text : List ℕ) : Type 0 where
   pub finding : Finding
-  pub found : IsFound commands.Check (length (stencil size)) (lined (stencil size)) finding
+  pub found : IsFound commands.Check (length rs) (lined rs) finding
   pub tells : Tells finding status text
+
+-- A fault of the launch log, or of its bytes or lines, is answered.
+pub record IsLaunchFaulty (bytes : List ℕ) (status : Status) (text : List ℕ) : Type 0 where
+  pub finding : Finding
+  pub fault : IsLaunchFault bytes finding
+  pub tells : Tells finding status text
+
+-- What `check` finds in the log that a launch log stands for is answered.
+pub record IsLaunchChecked (bytes : List ℕ) (status : Status) (text : List ℕ) : Type 0 where
+  pub records : List Record
+  pub stands : StandsFor bytes records
+  pub checked : IsChecked records status text
 
 -- What is answered to an input.
 abbrev pub IsAnswer : Request → List ℕ → Status → List ℕ → Type 0
 IsAnswer (requests.Judge command) bytes status text = IsJudged command bytes status text
 IsAnswer requests.Print bytes status text = IsFaulty bytes status text ⊎ ((status ≡ statuses.Yes) × IsPrinted bytes text)
-IsAnswer (requests.Demo size) bytes status text = IsDemo size status text
+IsAnswer requests.Expand bytes status text = IsLaunchFaulty bytes status text ⊎ ((status ≡ statuses.Yes) × IsExpanded bytes text)
+IsAnswer requests.Launched bytes status text = IsLaunchFaulty bytes status text ⊎ IsLaunchChecked bytes status text
+IsAnswer (requests.Demo size) bytes status text = IsChecked (stencil size) status text
 
--- What is answered to an input that is printed.
+-- What is answered to an input that is printed, expanded, or checked as a launch log.
 abbrev pub IsPrintAnswer : List ℕ → Status → List ℕ → Type 0
 IsPrintAnswer = IsAnswer requests.Print
+
+abbrev pub IsExpandAnswer : List ℕ → Status → List ℕ → Type 0
+IsExpandAnswer = IsAnswer requests.Expand
+
+abbrev pub IsLaunchedAnswer : List ℕ → Status → List ℕ → Type 0
+IsLaunchedAnswer = IsAnswer requests.Launched
 
 -- What is answered to an input under `check`, by long values.
 pub record IsAnswerLong (bytes : List ℕ) (status : Status) (text : List ℕ) : Type 0 where
@@ -138,10 +159,18 @@ pub record IsAdmitted (command : Command) (bytes : List ℕ) : Type 0 where
   pub reads : Reads bytes log
   pub keeps : log_fault command (line_count bytes) log ≡ None
 
+-- The input stands for a log, and that log keeps each rule that `check` judges.
+pub record IsLaunchAdmitted (bytes : List ℕ) : Type 0 where
+  pub records : List Record
+  pub stands : StandsFor bytes records
+  pub keeps : log_fault commands.Check (length records) (lined records) ≡ None
+
 -- The input keeps each rule that is judged. (Of the stencil log nothing is asked.)
 abbrev pub Keeps : Request → List ℕ → Type 0
 Keeps (requests.Judge command) bytes = IsAdmitted command bytes
 Keeps requests.Print bytes = text_fault bytes ≡ None
+Keeps requests.Expand bytes = (rs : List Record) × StandsFor bytes rs
+Keeps requests.Launched bytes = IsLaunchAdmitted bytes
 Keeps (requests.Demo size) bytes = Unit {0}
 
 -- How a command ends on a log that keeps each rule: `deps` lists, and refuses none.
@@ -152,6 +181,7 @@ EndsOnLog _ status = (status ≡ statuses.Yes) ⊎ (status ≡ statuses.Refused)
 -- How a call ends, if no device fails, on an input that keeps each rule.
 abbrev pub Ends : Request → Status → Type 0
 Ends (requests.Judge command) status = EndsOnLog command status
+Ends requests.Launched status = EndsOnLog commands.Check status
 Ends (requests.Demo size) status = IsDecided status ⊎ (status ≡ statuses.Memory)
 Ends _ status = (status ≡ statuses.Yes) ⊎ (status ≡ statuses.Memory)
 

@@ -8,6 +8,7 @@ ghost use Rattle.semantics.specs.declared.limits.TheConstants.{MOST_BYTES};
 
 use crate::demo::demo_report;
 use crate::judging::judged_report;
+use crate::launching::{expanded_report, launched_report};
 use crate::printing::printed_report;
 use crate::report::{Report, fault_report};
 use memory::Memory;
@@ -48,6 +49,8 @@ fn report_on_bytes(alloc: Global, request: Request, bytes: Vec<u8>) -> Result<Re
     match request {
         Request::Judge(command) => judged_report(alloc, command, bytes),
         Request::Print => printed_report(alloc, bytes),
+        Request::Expand => expanded_report(alloc, bytes),
+        Request::Launched => launched_report(alloc, bytes),
         Request::Demo { size } => demo_report(alloc, size),
     }
 }

@@ -13,7 +13,7 @@ use spy_grammar::{Lined, with_line};
 use std::alloc::Global;
 
 /// The records, each on a line of its own.
-fn printed_text(alloc: Global, records: &[Lined]) -> Result<Vec<u8>, Memory>
+pub(crate) fn printed_text(alloc: Global, records: &[Lined]) -> Result<Vec<u8>, Memory>
     requires { AllByRecursion Good (records_of records.now) }
     ensures { IfOk result (λ text. text.items ≡ text_of (records_of records.now)) }
 {

@@ -4,6 +4,7 @@ ghost use Rattle.std.specs.Prelude.{◌≡◌, ◌↔◌, ℕ, List};
 ghost use Rattle.vocabulary.specs.Prelude.{Lined, Command, Reads, lined, line_count, records_of};
 ghost use Rattle.findings.specs.declared.finding.Finding.{Finding};
 ghost use Rattle.outcomes.specs.Outcome.{IsFound, IsOutcome, IsPrinted};
+ghost use Rattle.outcomes.specs.LaunchOutcome.{IsExpanded};
 ghost use Rattle.spy_args.specs.declared.request.Request.{Request};
 ghost use Rattle.spy_args.specs.Asked.{IsSized};
 ghost use Rattle.spy_cli.specs.declared.status.Status.{Status};
@@ -29,6 +30,12 @@ pub fn printed_again()
     ensures found { (bytes text : List ℕ) → IsPrinted bytes text → (log : List Lined) → Reads bytes log
         → (command : Command) (f : Finding) → IsOutcome command text f
         ↔ IsFound command (line_count text) (lined (records_of log)) f }
+{}
+
+/// Where `expand` writes a log, `launched` answers what `check` answers to it.
+pub fn launched_is_checked()
+    ensures { (bytes written : List ℕ) → IsExpanded bytes written → (status : Status) (text : List ℕ)
+        → IsAnswer Request.Launched bytes status text ↔ IsAnswer (Request.Judge Command.Check) written status text }
 {}
 
 /// The front of a log that keeps its rules, cut off before the line of `end` does, shows that: its fault is `newline`, `header` or `ended`.

@@ -41,4 +41,5 @@ pub enum Code {
     Unmapped,
     LaunchRange,
     LaunchInterference,
+    TooManyGroups,
 }

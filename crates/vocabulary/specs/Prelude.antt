@@ -46,7 +46,7 @@ pub use Rattle.semantics.specs.declared.tables.Serial.{Serial}
 pub use Rattle.semantics.specs.declared.tables.Sub.{Sub}
 pub use Rattle.semantics.specs.declared.tables.Tree.{Tree}
 pub use Rattle.semantics.specs.declared.waits.ListedWait.{ListedWait}
-pub use Rattle.semantics.specs.Records.{records_of, lined, lined_from, text_of, AreLines, Hold, parts_of, line_count, Reads}
+pub use Rattle.semantics.specs.Records.{records_of, lined, lined_from, text_of, AreLines, AreLinesBy, Hold, HoldBy, on_line, parts_of, line_count, Reads, ReadsBy}
 pub use Rattle.semantics.specs.Tables.{Tables, Space, with_record, no_tables, tables_of, place_of, privilege_of, coherence_of, points_of, with_item, reqs_before, with_node}
 pub use Rattle.semantics.specs.Points.{is_in, points_in, is_within, meets, part_at, space_above, upward, spaces_above, same_place, tree_at, is_in_tree, fields_in}
 pub use Rattle.semantics.specs.Kinds.{comes_first, reqs_of, grid, req_grid, is_free, item_kind, least_place, is_before, least_of, lesser, strongest, uses_of, uses_of_item, covers, kind_at, item_places, pairs}

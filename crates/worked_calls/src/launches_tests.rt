@@ -2,7 +2,7 @@
 
 ghost use Rattle.std.specs.Prelude.{All, IfOk};
 ghost use Rattle.spy_grammar.specs.Launches.{GoodLaunch};
-ghost use Rattle.launches.specs.LaunchLines.{AreLaunchLines};
+ghost use Rattle.semantics.specs.Launches.{AreLaunchLines};
 
 use launches::{ExpandEnd, expand};
 use semantics::MOST_BYTES;

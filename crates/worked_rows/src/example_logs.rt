@@ -657,3 +657,65 @@ map 5 1 1 2
 run 5 8 4,5
 end 38
 ";
+
+/// Two launches over the pieces of a region: each task changes a piece, and then each reads a piece with its halo.
+pub const LAUNCHED_HALO: &[u8] = b"legion-spy 1
+# A row of 8 points in two pieces, as in halo_exchange.log: tasks 2 and 3 change a piece each, and tasks 4 and 5 read a piece with its halo.
+# Each pair is one launch over the colours 0 and 1, whose tasks have a requirement each, on the subspace of their colour.
+ispace 1 0-7
+part 1 1 disjoint
+part 2 1 aliased
+ispace 2 0-3
+sub 1 0 2
+ispace 3 4-7
+sub 1 1 3
+ispace 4 0-4
+sub 2 0 4
+ispace 5 3-7
+sub 2 1 5
+ispace 6 3
+ispace 7 4
+fields 1 1
+tree 1 1 1
+inst 1 1 4 1 plain
+inst 2 1 5 1 plain
+fill 1 1 1 1 0
+put 1 4 1 0 1 -
+put 2 5 1 0 2 -
+launch 2 0,1
+lreq 2 1 1 1 rw ex
+map 2 1 1 1
+map 3 1 1 2
+run 2 3 1
+run 3 4 2
+copy 1 2 6 1 5 2,3
+copy 2 1 7 1 6 1,4
+launch 4 0,1
+lreq 4 1 2 1 ro ex
+map 4 1 1 1
+map 5 1 1 2
+run 4 7 3,6
+run 5 8 4,5
+end 34
+";
+
+/// A launch whose tasks change pieces that overlap.
+pub const LAUNCHED_OVERLAP: &[u8] = b"legion-spy 1
+# The tasks of a launch change a piece each, but over the pieces with their halos: both would write the points 3 and 4.
+ispace 1 0-7
+part 2 1 aliased
+ispace 4 0-4
+sub 2 0 4
+ispace 5 3-7
+sub 2 1 5
+fields 1 1
+tree 1 1 1
+inst 1 1 1 1 home
+launch 2 0,1
+lreq 2 1 2 1 rw ex
+map 2 1 1 1
+map 3 1 1 1
+run 2 1 -
+run 3 2 1
+end 15
+";

@@ -3,7 +3,8 @@
 use crate::answers::{answer, answer_why};
 use crate::example_logs::{
     EARLY_HALO, FILL_NEVER_PUT, FOLDED_EARLY, FOLDED_TWICE, FRESH_COPY, FULL_BARRIERS,
-    GATHERED_REDUCTIONS, HALO_EXCHANGE, HALO_STENCIL, HALO_STENCIL_UNORDERED, MERGED_WAITS,
+    GATHERED_REDUCTIONS, HALO_EXCHANGE, HALO_STENCIL, HALO_STENCIL_UNORDERED, LAUNCHED_HALO,
+    LAUNCHED_OVERLAP, MERGED_WAITS,
     MISSING_COPY, MISSING_WAIT, NEVER_EMPTIED, STALE_COPY, STALE_HALO, TURNED_WRITES,
     TWO_OPERATORS, TWO_TASKS, TWO_TASKS_UNORDERED, UNSTATED_TURN, WAITS_IN_A_CYCLE,
     WRITE_THEN_READ, WRITER_APART,
@@ -101,6 +102,29 @@ fn examples_tell_where_values_came_from(rt: HostRuntime) -> Result<(), Fail> {
         let (status, said) = answer_why(alloc, read, log)?;
         assert!(rt; status == Status::Yes);
         assert_eq!(rt; said.as_slice(), links);
+    }
+    Ok(())
+}
+
+/// Each launch log under `launched`. What `expand` writes of it has the same report under `check`, or is the same fault.
+#[rattlefmt::skip]
+#[test]
+fn examples_of_launches_have_their_reports(rt: HostRuntime) -> Result<(), Fail> {
+    let alloc = rt.alloc();
+    let rows: [(&[u8], &[u8]); 2] = [
+        (LAUNCHED_HALO, b"accepted tasks 4 operations 8 reads 18\n"),
+        (LAUNCHED_OVERLAP, b"fault 13 launch-interference\n"),
+    ];
+    for (log, launched) in rows {
+        let (_, said) = answer(alloc, "launched", log)?;
+        assert_eq!(rt; said.as_slice(), launched);
+        let (status, written) = answer(alloc, "expand", log)?;
+        if status == Status::Yes {
+            let (_, checked) = answer(alloc, "check", &written)?;
+            assert_eq!(rt; checked.as_slice(), launched);
+        } else {
+            assert_eq!(rt; written.as_slice(), launched);
+        }
     }
     Ok(())
 }

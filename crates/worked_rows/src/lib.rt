@@ -16,6 +16,8 @@ mod further_lines;
 #[cfg(test)]
 mod hostile;
 #[cfg(test)]
+mod launched;
+#[cfg(test)]
 mod lines;
 #[cfg(test)]
 mod printed;

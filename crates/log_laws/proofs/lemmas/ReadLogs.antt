@@ -1,12 +1,16 @@
 -- The records of a log that an input holds, and the input that they are printed as.
-use Rattle.std.proofs.Common.{◌≡◌, ℕ, ◌+◌, ◌-◌, ◌≤◌, ◌==◌, inl, inr, false, List, [], ◌∷◌, ◌++◌, map, length, take, drop, refl, sym, ap, ◌∙◌, arith, None, ne_eqb, take_at, drop_at, take-append-drop}
+use Rattle.std.proofs.Common.{◌≡◌, ℕ, ◌+◌, ◌-◌, ◌≤◌, ◌==◌, inl, inr, false, List, [], ◌∷◌, ◌++◌, map, length, take, drop, true, refl, sym, ap, ap₂, ◌∙◌, arith, Option, Some, None, Result, Ok, ne_eqb, take_at, drop_at, take-append-drop}
 use Rattle.std.specs.List.{AllByRecursion, join_with_byte}
 use Rattle.std.proofs.lemmas.Bool.Decides.{nat_tests}
 use Rattle.std.proofs.lemmas.Grind.{common_steps}
-use Rattle.std.proofs.lemmas.List.{length_push}
+use Rattle.std.proofs.lemmas.List.{length_push, length-map}
 use Rattle.std.proofs.lemmas.List.Splits.{slice_split_at, join_with_byte-slice_split}
-use Rattle.vocabulary.specs.Prelude.{Record, Lined, line_at, spelling, Good, text_of, records_of, lined, parts_of, line_count, Hold, Reads}
+use Rattle.vocabulary.specs.Prelude.{LineFault, Record, Lined, LLined, is_passed_over, line_at, spelling, on_line, Good, GoodLaunch, text_of, records_of, lined, parts_of, line_count, Hold, HoldBy, Reads, ReadsBy}
+use Rattle.spy_grammar.specs.Reading.{line_in}
+use Rattle.spy_grammar.specs.Launches.{launch_line_at, launch_spelling}
+use Rattle.spy_grammar.proofs.lemmas.LaunchLaws.{launch_again}
 use Rattle.spy_grammar.proofs.lemmas.RowLaws.{line_again, no_line_feed}
+use Rattle.semantics.specs.Launches.{LaunchReads, on_launch_line}
 use Rattle.semantics.specs.TextFaults.{is_too_long, lines_fault, text_fault}
 use Rattle.log_laws.proofs.lemmas.Numbered.{spellings_hold}
 
@@ -19,16 +23,39 @@ held_is_good line (l ∷ lines) log (inr h) = rw h.4 (h.2, held_is_good (line + 
 
 -- ---- lines hold one log
 
-held_once : (n : ℕ) (lines : List (List ℕ)) (log other : List Lined) → Hold n lines log → Hold n lines other → log ≡ other
+-- Of any kind of log whose lines are read so that a spelling is read as its record, and what is passed over as none.
+module _ {R L : Type 0} (read : List ℕ → Result (Option R) LineFault) (IsGood : R → Type 0) (spelled : R → List ℕ) (on : ℕ → R → L)
+    (again : (r : R) → IsGood r → read (spelled r) ≡ Ok (Some r)) (passed : (line : List ℕ) → is_passed_over line ≡ true → read line ≡ Ok None) where
+  no_record : (line : List ℕ) (r : R) → is_passed_over line ≡ true → IsGood r → line ≡ spelled r → ⊥
+  no_record line r over good is = let both : ◌≡◌ {A = Result (Option R) LineFault} (Ok None) (Ok (Some r)) = sym (passed line over) ∙ ap read is ∙ again r good in absurd cc
+
+  one_record : (line : List ℕ) (r s : R) → IsGood r → line ≡ spelled r → IsGood s → line ≡ spelled s → r ≡ s
+  one_record line r s good is fine so = let both : ◌≡◌ {A = Result (Option R) LineFault} (Ok (Some r)) (Ok (Some s)) = sym (again r good) ∙ ap read (sym is ∙ so) ∙ again s fine in cc
+
+  held_once : (n : ℕ) (lines : List (List ℕ)) (log other : List L) → HoldBy IsGood spelled on n lines log → HoldBy IsGood spelled on n lines other → log ≡ other
+  held_once n [] log other a b = a ∙ sym b
+  held_once n (l ∷ ls) log other (inl a) (inl b) = held_once (n + 1) ls log other a.1 b.1
+  held_once n (l ∷ ls) log other (inl a) (inr b) = absurd (no_record l b.0 a.0 b.2 b.3)
+  held_once n (l ∷ ls) log other (inr a) (inl b) = absurd (no_record l a.0 b.0 a.2 a.3)
+  held_once n (l ∷ ls) log other (inr a) (inr b) =
+      a.4 ∙ ap₂ (λ r rest. on n r ∷ rest) (one_record l a.0 b.0 a.2 a.3 b.2 b.3) (held_once (n + 1) ls a.1 b.1 a.5 b.5) ∙ sym b.4
+
+  pub one_read_by : (bytes : List ℕ) (log other : List L) → ReadsBy IsGood spelled on bytes log → ReadsBy IsGood spelled on bytes other → log ≡ other
+  one_read_by bytes log other a b = held_once 1 _ log other a.hold b.hold
+
+line_passed : (line : List ℕ) → is_passed_over line ≡ true → line_at line ≡ Ok None
 unfolding line_at
-held_once n [] log other a b = a ∙ sym b
-held_once n (l ∷ ls) log other (inl a) (inl b) = held_once (n + 1) ls log other a.1 b.1
-held_once n (l ∷ ls) log other (inl a) (inr b) = grind (arith, a.0, b.3, line_again b.0 b.2)
-held_once n (l ∷ ls) log other (inr a) (inl b) = grind (arith, b.0, a.3, line_again a.0 a.2)
-held_once n (l ∷ ls) log other (inr a) (inr b) = grind (arith, a.3, a.4, b.3, b.4, line_again a.0 a.2, line_again b.0 b.2, held_once (n + 1) ls a.1 b.1 a.5 b.5)
+line_passed line over = rw over refl
 
 pub one_read : (bytes : List ℕ) (log other : List Lined) → Reads bytes log → Reads bytes other → log ≡ other
-one_read bytes log other a b = held_once 1 _ log other a.hold b.hold
+one_read = one_read_by line_at Good spelling on_line line_again line_passed
+
+launch_line_passed : (line : List ℕ) → is_passed_over line ≡ true → launch_line_at line ≡ Ok None
+unfolding launch_line_at line_in
+launch_line_passed line over = rw over refl
+
+pub one_launch_read : (bytes : List ℕ) (log other : List LLined) → LaunchReads bytes log → LaunchReads bytes other → log ≡ other
+one_launch_read = one_read_by launch_line_at GoodLaunch launch_spelling on_launch_line launch_again launch_line_passed
 
 -- ---- what a log is printed as
 
@@ -63,11 +90,21 @@ printed_lines : (n : ℕ) (rs : List Record) → AllByRecursion Good rs → line
 printed_lines n [] good = refl
 printed_lines n (r ∷ rs) good = rw (line_again r good.0) (printed_lines (n + 1) rs good.1)
 
-pub printed_has_no_fault : (bytes : List ℕ) (log : List Lined) → text_fault bytes ≡ None → Reads bytes log → text_fault (text_of (records_of log)) ≡ None
+pub text_has_no_fault : (rs : List Record) → AllByRecursion Good rs → is_too_long (text_of rs) ≡ false → text_fault (text_of rs) ≡ None
 unfolding text_fault
+text_has_no_fault rs good is_short =
+    let cut = all_but_last (map spelling rs) in
+    rw (is_short, parts_printed rs good, cut.0, cut.1) (printed_lines 1 rs good)
+
+not_long : (bytes : List ℕ) → text_fault bytes ≡ None → is_too_long bytes ≡ false
+unfolding text_fault
+not_long bytes e = grind (arith, nat_tests, e)
+
+pub printed_has_no_fault : (bytes : List ℕ) (log : List Lined) → text_fault bytes ≡ None → Reads bytes log → text_fault (text_of (records_of log)) ≡ None
 printed_has_no_fault bytes log e h =
-    let good = held_is_good 1 _ log h.hold in
-    let text : List ℕ = text_of (records_of log) in
-    let is_short : is_too_long text ≡ false = grind (arith, nat_tests, printed_fits bytes log h, e) in
-    let cut = all_but_last (map spelling (records_of log)) in
-    rw (is_short, parts_printed (records_of log) good, cut.0, cut.1) (printed_lines 1 (records_of log) good)
+    let is_short : is_too_long (text_of (records_of log)) ≡ false = grind (arith, nat_tests, printed_fits bytes log h, not_long bytes e) in
+    text_has_no_fault (records_of log) (held_is_good 1 _ log h.hold) is_short
+
+-- The text of good records has a line for each.
+pub text_lines : (rs : List Record) → AllByRecursion Good rs → line_count (text_of rs) ≡ length rs
+text_lines rs good = omega (arith, ap length (parts_printed rs good), length_push (map spelling rs) [], length-map rs spelling)

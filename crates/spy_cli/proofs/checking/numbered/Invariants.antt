@@ -1,7 +1,7 @@
 use Rattle.std.proofs.Common.{◌≡◌, ◌+◌, ◌≤◌, ◌^◌, ◌++◌, length}
 use Rattle.std.specs.Vec.Iter.{into_iter_items}
 use Rattle.vocabulary.specs.Prelude.{lined, lined_from}
-use Rattle.spy_cli.proofs.demo.lined_records.Given as goal
+use Rattle.spy_cli.proofs.checking.numbered.Given as goal
 
 abbrev pub invariant-loop-rec : goal.invariant-loop-rec
 invariant-loop-rec l = record {
