@@ -4,7 +4,7 @@ use Rattle.std.specs.List.{AllByRecursion}
 use Rattle.spy_grammar.specs.declared.code.Code.{Code}
 use Rattle.findings.specs.declared.finding.Dep.{Dep}
 use Rattle.findings.specs.declared.finding.Finding.{Finding}
-use Rattle.findings.specs.declared.finding.Finding.TheVariants.{Accepted, Ordered, Deps, Spare, Cycle, Race, Unordered, Differ, NoRead, Why, Fault, Usage, CannotRead}
+use Rattle.findings.specs.declared.finding.Finding.TheVariants.{Accepted, Ordered, Deps, Spare, Nested, Cycle, Race, Unordered, Differ, NoRead, Unlicensed, Why, Fault, Usage, CannotRead}
 use Rattle.findings.specs.declared.finding.WhyKind.{WhyKind}
 use Rattle.findings.specs.declared.finding.WhyKind.TheVariants.{Write, Put, Copy, Start}
 use Rattle.findings.specs.declared.finding.WhyLink.{WhyLink}
@@ -31,11 +31,13 @@ own_line (Accepted tasks operations reads) = record { name = codes "accepted"; r
 own_line (Ordered tasks pairs) = record { name = codes "ordered"; row = says (codes "tasks") ∷ small tasks ∷ says (codes "pairs") ∷ large pairs ∷ [] }
 own_line (Deps list items before turn) = record { name = codes "deps"; row = says (codes "items") ∷ small items ∷ says (codes "before") ∷ large before ∷ says (codes "turn") ∷ large turn ∷ [] }
 own_line (Spare list waits) = record { name = codes "spare"; row = says (codes "waits") ∷ large (length list) ∷ says (codes "of") ∷ large waits ∷ [] }
+own_line (Nested tasks groups free) = record { name = codes "nested"; row = says (codes "tasks") ∷ small tasks ∷ says (codes "groups") ∷ small groups ∷ says (codes "free") ∷ large free ∷ [] }
 own_line (Cycle events) = record { name = codes "cycle"; row = map small events }
 own_line (Race a b inst point field) = record { name = codes "race"; row = small a ∷ small b ∷ says (codes "inst") ∷ small inst ∷ says (codes "point") ∷ large point ∷ says (codes "field") ∷ small field ∷ [] }
 own_line (Unordered t u tree point field) = record { name = codes "unordered"; row = small t ∷ small u ∷ says (codes "tree") ∷ small tree ∷ says (codes "point") ∷ large point ∷ says (codes "field") ∷ small field ∷ [] }
 own_line (Differ task req point field got want) = record { name = codes "differ"; row = says (codes "task") ∷ small task ∷ says (codes "req") ∷ small req ∷ says (codes "point") ∷ large point ∷ says (codes "field") ∷ small field ∷ says (codes "got") ∷ holds got ∷ says (codes "want") ∷ holds want ∷ [] }
 own_line (NoRead task req point field) = record { name = codes "no"; row = says (codes "read") ∷ says (codes "task") ∷ small task ∷ says (codes "req") ∷ small req ∷ says (codes "point") ∷ large point ∷ says (codes "field") ∷ small field ∷ [] }
+own_line (Unlicensed leaf child req group tree point field) = record { name = codes "unlicensed"; row = says (if leaf then codes "task" else codes "group") ∷ small child ∷ says (codes "req") ∷ small req ∷ says (codes "group") ∷ small group ∷ says (codes "tree") ∷ small tree ∷ says (codes "point") ∷ large point ∷ says (codes "field") ∷ small field ∷ [] }
 own_line (Why ask links) = record { name = codes "why"; row = says (codes "task") ∷ small ask.task ∷ says (codes "req") ∷ small ask.req ∷ says (codes "point") ∷ large ask.point ∷ says (codes "field") ∷ small ask.field ∷ [] }
 own_line (Fault line code) = record { name = codes "fault"; row = small line ∷ names code ∷ [] }
 own_line Usage = record { name = codes "usage"; row = [] }

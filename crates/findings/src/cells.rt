@@ -1,11 +1,11 @@
 //! The lines of a report, word by word.
 
-ghost use Rattle.std.specs.Prelude.{◌≡◌, map};
+ghost use Rattle.std.specs.Prelude.{◌≡◌, List, ◌∷◌, map, codes, if◌then◌else◌};
 ghost use Rattle.std.specs.List.{AllByRecursion};
 ghost use Rattle.value_terms.specs.Values.{IsHeld};
 ghost use Rattle.findings.specs.declared.cells.ReportCell.TheVariants as cells;
-ghost use Rattle.findings.specs.Cells.{words_in};
-ghost use Rattle.findings.specs.Texts.{Line, dep_line, kind_text, link_line, own_line, small, spare_line, Fits, IsInRange};
+ghost use Rattle.findings.specs.Cells.{with_cell, words_in};
+ghost use Rattle.findings.specs.Texts.{Line, Word, dep_line, kind_text, link_line, own_line, says, small, spare_line, Fits, IsInRange};
 
 use crate::cells::ReportCell::*;
 use crate::finding::{Dep, Finding, WhyAsk, WhyKind, WhyLink};
@@ -20,6 +20,8 @@ pub enum ReportCell<'a> {
     Small(u32),
     Large(u64),
     Names(Code),
+    /// A word, and the number that it tells of.
+    Numbered(&'a [u8], u32),
     /// All the events of a cycle.
     Events(&'a [u32]),
     /// A point and a field.
@@ -111,6 +113,18 @@ fn differing<'a>(got: &'a Value, want: &'a Value) -> ReportCell<'a>
     Differs(got, want)
 }
 
+/// A child of a group, as a cell of a line: a task, if `leaf`, or a group.
+fn child_cell<'a>(leaf: bool, child: u32) -> ReportCell<'a>
+    ensures { (ws : List Word) → with_cell result ws
+        ≡ says (if leaf then codes "task" else codes "group") ∷ small child ∷ ws }
+{
+    if leaf {
+        Numbered(b"task", child)
+    } else {
+        Numbered(b"group", child)
+    }
+}
+
 /// A report's own line.
 #[rattlefmt::skip]
 pub fn own_words(f: &Finding) -> Words<'_>
@@ -123,11 +137,13 @@ pub fn own_words(f: &Finding) -> Words<'_>
         Finding::Ordered { tasks, pairs } => (b"ordered", [Says(b"tasks"), Small(*tasks), Says(b"pairs"), Large(*pairs), No, No]),
         Finding::Deps { list: _, items, before, turn } => (b"deps", [Says(b"items"), Small(*items), Says(b"before"), Large(*before), Says(b"turn"), Large(*turn)]),
         Finding::Spare { list, waits } => (b"spare", [Says(b"waits"), Large(list.len() as u64), Says(b"of"), Large(*waits), No, No]),
+        Finding::Nested { tasks, groups, free } => (b"nested", [Says(b"tasks"), Small(*tasks), Says(b"groups"), Small(*groups), Says(b"free"), Large(*free)]),
         Finding::Cycle { events } => (b"cycle", event_words(events.as_slice())),
         Finding::Race { a, b, inst, point, field } => (b"race", [Small(*a), Small(*b), Says(b"inst"), Small(*inst), At(*point, *field), No]),
         Finding::Unordered { t, u, tree, point, field } => (b"unordered", [Small(*t), Small(*u), Says(b"tree"), Small(*tree), At(*point, *field), No]),
         Finding::Differ { task, req, point, field, got, want } => (b"differ", [Says(b"task"), Small(*task), Says(b"req"), Small(*req), At(*point, *field), differing(got, want)]),
         Finding::NoRead { task, req, point, field } => (b"no", [Says(b"read"), Says(b"task"), Small(*task), Says(b"req"), Small(*req), At(*point, *field)]),
+        Finding::Unlicensed { leaf, child, req, group, tree, point, field } => (b"unlicensed", [child_cell(*leaf, *child), Numbered(b"req", *req), Numbered(b"group", *group), Numbered(b"tree", *tree), At(*point, *field), No]),
         Finding::Why { ask: WhyAsk { task, req, point, field }, links: _ } => (b"why", [Says(b"task"), Small(*task), Says(b"req"), Small(*req), At(*point, *field), No]),
         Finding::Fault { line, code } => (b"fault", [Small(*line), Names(*code), No, No, No, No]),
         Finding::Usage => (b"usage", [No, No, No, No, No, No]),

@@ -63,6 +63,8 @@ pub enum Finding {
     Deps { list: DepList, items: u32, before: u64, turn: u64 },
     /// The listed waits that others imply, each by the event of its node and the one that is waited for, and how many waits are listed in all.
     Spare { list: PairList, waits: u64 },
+    /// Every child has no more than what its group may do. So many tasks are members, and so many pairs of groups may run side by side.
+    Nested { tasks: u32, groups: u32, free: u64 },
     /// Events that wait on each other in a cycle.
     Cycle { events: EventList },
     /// Two nodes, named by their events, that reach a place of an instance in either order.
@@ -73,6 +75,8 @@ pub enum Finding {
     Differ { task: u32, req: u32, point: u64, field: u32, got: Value, want: Value },
     /// The log has no such read.
     NoRead { task: u32, req: u32, point: u64, field: u32 },
+    /// A requirement of a task, if `leaf`, or of a group, and a place at which the group that it is a child of may not do what it asks for.
+    Unlicensed { leaf: bool, child: u32, req: u32, group: u32, tree: u32, point: u64, field: u32 },
     /// The links from a read back to where its value came from.
     Why { ask: WhyAsk, links: WhyList },
     /// The rule that the log breaks, and the line that breaks it.

@@ -132,6 +132,16 @@ fn push_events(out: &mut Vec<u8>, events: &[u32]) -> Result<(), AllocError>
     Ok(())
 }
 
+fn push_numbered(out: &mut Vec<u8>, word: &[u8], n: u32) -> Result<(), AllocError>
+    ensures { OnOk result (out.new.items ≡ out.old.items
+        ++ row_text (with_cell (cells.Numbered word.entry n) [])) }
+{
+    out.push(b' ')?;
+    out.extend_from_slice(word)?;
+    out.push(b' ')?;
+    push_u64(out, u64::from(n))
+}
+
 fn push_place(out: &mut Vec<u8>, point: u64, field: u32) -> Result<(), AllocError>
     ensures { OnOk result (out.new.items ≡ out.old.items ++ row_text (with_cell (cells.At point field) [])) }
 {
@@ -157,6 +167,7 @@ fn push_cell(out: &mut Vec<u8>, cell: &ReportCell<'_>) -> Result<(), AllocError>
     match *cell {
         No => return Ok(()),
         Events(events) => return push_events(out, events),
+        Numbered(word, n) => return push_numbered(out, word, n),
         At(point, field) => return push_place(out, point, field),
         Differs(got, want) => return push_values(out, got, want),
         _ => out.push(b' ')?,
@@ -166,7 +177,7 @@ fn push_cell(out: &mut Vec<u8>, cell: &ReportCell<'_>) -> Result<(), AllocError>
         Small(n) => push_u64(out, u64::from(n)),
         Large(n) => push_u64(out, n),
         Names(code) => out.extend_from_slice(codes::code_text(code)),
-        No | Events(_) | At(..) | Differs(..) => Ok(()),
+        No | Numbered(..) | Events(_) | At(..) | Differs(..) => Ok(()),
     }
 }
 

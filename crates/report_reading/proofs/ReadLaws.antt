@@ -15,7 +15,7 @@ use Rattle.spy_grammar.specs.declared.code.Code.TheVariants.{TooLong}
 use Rattle.spy_words.specs.Reading.{parts}
 use Rattle.findings.specs.declared.finding.Dep.{Dep}
 use Rattle.findings.specs.declared.finding.Finding.{Finding}
-use Rattle.findings.specs.declared.finding.Finding.TheVariants.{Accepted, Ordered, Deps, Spare, Cycle, Race, Unordered, Differ, NoRead, Why, Fault, Usage, CannotRead}
+use Rattle.findings.specs.declared.finding.Finding.TheVariants.{Accepted, Ordered, Deps, Spare, Nested, Cycle, Race, Unordered, Differ, NoRead, Unlicensed, Why, Fault, Usage, CannotRead}
 use Rattle.findings.specs.declared.finding.WhyAsk.{WhyAsk}
 use Rattle.findings.specs.declared.finding.WhyKind.{WhyKind}
 use Rattle.findings.specs.declared.finding.WhyKind.TheVariants.{Write, Put, Copy, Start}
@@ -85,6 +85,11 @@ events_plain (n ∷ ns) = events_plain ns
 own_plain : (f : Finding) → Fits (own_line f) → PlainLine (own_line f)
 unfolding is_plain
 own_plain (Cycle events) fits = (plain_by_test (codes "cycle") refl, row_plain (map small events) (events_plain events) fits)
+own_plain (Unlicensed leaf child req group tree point field) fits = (plain_by_test (codes "unlicensed") refl, row_plain (own_line (Unlicensed leaf child req group tree point field)).row (row leaf) fits)
+  where
+    row : (b : Bool) → list_all is_plain (own_line (Unlicensed b child req group tree point field)).row ≡ true
+    row true = refl
+    row false = refl
 own_plain f fits = (plain_by_test (own_line f).name refl, row_plain (own_line f).row refl fits)
 
 dep_plain : (d : Dep) → Fits (dep_line d) → PlainLine (dep_line d)
@@ -232,11 +237,18 @@ report_again (Accepted tasks operations reads) listed fits whole = rw (small_aga
 report_again (Ordered tasks pairs) listed fits whole = rw (small_again tasks fits.1.0, large_again pairs fits.1.1.1.0) refl
 report_again (Deps list items before turn) listed fits whole = rw (lines_again dep_line dep_at dep_again list listed, small_again items fits.1.0, large_again before fits.1.1.1.0, large_again turn fits.1.1.1.1.1.0) refl
 report_again (Spare list waits) listed fits whole = rw (lines_again spare_line spare_at spare_again list listed, large_again waits fits.1.1.1.0) refl
+report_again (Nested tasks groups free) listed fits whole = rw (small_again tasks fits.1.0, small_again groups fits.1.1.1.0, large_again free fits.1.1.1.1.1.0) refl
 report_again (Cycle events) listed fits whole = rw (events_again events fits) refl
 report_again (Race a b inst point field) listed fits whole = rw (small_again a fits.0, small_again b fits.1.0, small_again inst fits.1.1.1.0, large_again point fits.1.1.1.1.1.0, small_again field fits.1.1.1.1.1.1.1.0) refl
 report_again (Unordered t u tree point field) listed fits whole = rw (small_again t fits.0, small_again u fits.1.0, small_again tree fits.1.1.1.0, large_again point fits.1.1.1.1.1.0, small_again field fits.1.1.1.1.1.1.1.0) refl
 report_again (Differ task req point field got want) listed fits whole = rw (small_again task fits.1.0, small_again req fits.1.1.1.0, large_again point fits.1.1.1.1.1.0, small_again field fits.1.1.1.1.1.1.1.0, value_again got fits.1.1.1.1.1.1.1.1.1.0, value_again want fits.1.1.1.1.1.1.1.1.1.1.1.0) refl
 report_again (NoRead task req point field) listed fits whole = rw (small_again task fits.1.1.0, small_again req fits.1.1.1.1.0, large_again point fits.1.1.1.1.1.1.0, small_again field fits.1.1.1.1.1.1.1.1.0) refl
+report_again (Unlicensed leaf child req group tree point field) listed fits whole =
+    rw (named leaf, small_again child fits.1.0, small_again req fits.1.1.1.0, small_again group fits.1.1.1.1.1.0, small_again tree fits.1.1.1.1.1.1.1.0, large_again point fits.1.1.1.1.1.1.1.1.1.0, small_again field fits.1.1.1.1.1.1.1.1.1.1.1.0) refl
+  where
+    named : (b : Bool) → bytes_eq (cond b (codes "task") (codes "group")) (codes "task") ≡ b
+    named true = refl
+    named false = refl
 report_again (Why ask links) listed fits whole = rw (links_again links listed (chain_kept links whole), ask_again ask links fits) refl
 report_again (Fault line code) listed fits whole = rw (small_again line fits.0, code_again code) refl
 report_again Usage listed fits whole = refl

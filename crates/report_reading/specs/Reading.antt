@@ -4,7 +4,7 @@ use Rattle.std.specs.Str.{bytes_eq}
 use Rattle.spy_words.specs.Reading.{parts}
 use Rattle.findings.specs.declared.finding.Dep.{Dep}
 use Rattle.findings.specs.declared.finding.Finding.{Finding}
-use Rattle.findings.specs.declared.finding.Finding.TheVariants.{Accepted, Ordered, Deps, Spare, Cycle, Race, Unordered, Differ, NoRead, Why, Fault, Usage, CannotRead}
+use Rattle.findings.specs.declared.finding.Finding.TheVariants.{Accepted, Ordered, Deps, Spare, Nested, Cycle, Race, Unordered, Differ, NoRead, Unlicensed, Why, Fault, Usage, CannotRead}
 use Rattle.findings.specs.declared.finding.WhyAsk.{WhyAsk}
 use Rattle.findings.specs.declared.finding.WhyKind.{WhyKind}
 use Rattle.findings.specs.declared.finding.WhyKind.TheVariants.{Write, Put, Copy, Start}
@@ -46,11 +46,13 @@ report_at listed ws =
     else if bytes_eq (word_at ws 0) (codes "ordered") then Ordered (small_at ws 2) (large_at ws 4)
     else if bytes_eq (word_at ws 0) (codes "deps") then Deps (map dep_at listed) (small_at ws 2) (large_at ws 4) (large_at ws 6)
     else if bytes_eq (word_at ws 0) (codes "spare") then Spare (map spare_at listed) (large_at ws 4)
+    else if bytes_eq (word_at ws 0) (codes "nested") then Nested (small_at ws 2) (small_at ws 4) (large_at ws 6)
     else if bytes_eq (word_at ws 0) (codes "cycle") then Cycle (events_at (drop 1 ws))
     else if bytes_eq (word_at ws 0) (codes "race") then Race (small_at ws 1) (small_at ws 2) (small_at ws 4) (large_at ws 6) (small_at ws 8)
     else if bytes_eq (word_at ws 0) (codes "unordered") then Unordered (small_at ws 1) (small_at ws 2) (small_at ws 4) (large_at ws 6) (small_at ws 8)
     else if bytes_eq (word_at ws 0) (codes "differ") then Differ (small_at ws 2) (small_at ws 4) (large_at ws 6) (small_at ws 8) (value_at (word_at ws 10)) (value_at (word_at ws 12))
     else if bytes_eq (word_at ws 0) (codes "no") then NoRead (small_at ws 3) (small_at ws 5) (large_at ws 7) (small_at ws 9)
+    else if bytes_eq (word_at ws 0) (codes "unlicensed") then Unlicensed (bytes_eq (word_at ws 1) (codes "task")) (small_at ws 2) (small_at ws 4) (small_at ws 6) (small_at ws 8) (large_at ws 10) (small_at ws 12)
     else if bytes_eq (word_at ws 0) (codes "why") then Why (ask_at ws) (map link_at listed)
     else if bytes_eq (word_at ws 0) (codes "fault") then Fault (small_at ws 1) (code_at (word_at ws 2))
     else if bytes_eq (word_at ws 0) (codes "usage") then Usage

@@ -85,6 +85,8 @@ fn report_at(alloc: Global, listed: &[&[u8]], words: &[&[u8]]) -> Result<Finding
         Ok(Finding::Deps { list: listed_at(alloc, listed)?, items: small_at(words, 2), before: large_at(words, 4), turn: large_at(words, 6) })
     } else if name == b"spare".as_slice() {
         Ok(Finding::Spare { list: listed_at(alloc, listed)?, waits: large_at(words, 4) })
+    } else if name == b"nested".as_slice() {
+        Ok(Finding::Nested { tasks: small_at(words, 2), groups: small_at(words, 4), free: large_at(words, 6) })
     } else if name == b"cycle".as_slice() {
         Ok(Finding::Cycle { events: events_at(alloc, after_first(words))? })
     } else if name == b"race".as_slice() {
@@ -97,6 +99,8 @@ fn report_at(alloc: Global, listed: &[&[u8]], words: &[&[u8]]) -> Result<Finding
         Ok(Finding::Differ { task: small_at(words, 2), req: small_at(words, 4), point: large_at(words, 6), field: small_at(words, 8), got, want })
     } else if name == b"no".as_slice() {
         Ok(Finding::NoRead { task: small_at(words, 3), req: small_at(words, 5), point: large_at(words, 7), field: small_at(words, 9) })
+    } else if name == b"unlicensed".as_slice() {
+        Ok(Finding::Unlicensed { leaf: word_at(words, 1) == b"task".as_slice(), child: small_at(words, 2), req: small_at(words, 4), group: small_at(words, 6), tree: small_at(words, 8), point: large_at(words, 10), field: small_at(words, 12) })
     } else if name == b"why".as_slice() {
         Ok(Finding::Why { ask: ask_at(words), links: listed_at(alloc, listed)? })
     } else if name == b"fault".as_slice() {

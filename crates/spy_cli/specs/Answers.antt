@@ -59,6 +59,7 @@ status_of (findings.Accepted tasks operations reads) = statuses.Yes
 status_of (findings.Ordered tasks pairs) = statuses.Yes
 status_of (findings.Deps list items before turn) = statuses.Yes
 status_of (findings.Spare list waits) = statuses.Yes
+status_of (findings.Nested tasks groups free) = statuses.Yes
 status_of (findings.Why ask links) = statuses.Yes
 status_of (findings.Fault line code) = statuses.Fault
 status_of findings.Usage = statuses.Usage

@@ -27,12 +27,14 @@ fn status_of(finding: &Finding) -> Status
         | Finding::Ordered { .. }
         | Finding::Deps { .. }
         | Finding::Spare { .. }
+        | Finding::Nested { .. }
         | Finding::Why { .. } => Status::Yes,
         Finding::Cycle { .. }
         | Finding::Race { .. }
         | Finding::Unordered { .. }
         | Finding::Differ { .. }
-        | Finding::NoRead { .. } => Status::Refused,
+        | Finding::NoRead { .. }
+        | Finding::Unlicensed { .. } => Status::Refused,
         Finding::Fault { .. } => Status::Fault,
         Finding::Usage => Status::Usage,
         Finding::CannotRead => Status::ReadFault,
