@@ -19,5 +19,6 @@ pub mod Faults
 pub mod Shown
 pub mod Links
 pub mod Launches
+pub mod Nesting
 pub mod Counts
 pub mod Computed

@@ -3,6 +3,7 @@
 
 mod command;
 mod faults;
+mod groups;
 mod laws;
 mod limits;
 mod links;
@@ -13,9 +14,10 @@ mod waits;
 
 pub use command::Command;
 pub use faults::Fault;
+pub use groups::{Child, Group, GroupMember, GroupReq, Unlicensed};
 pub use laws::nodes_are_of_records;
 pub use limits::{
-    DEEPEST, MOST_ACCESSES, MOST_BYTES, MOST_CELLS, MOST_COLOURS, MOST_LOAD, MOST_POINTS,
+    DEEPEST, MOST_ACCESSES, MOST_BYTES, MOST_CELLS, MOST_COLOURS, MOST_GROUPS, MOST_LOAD, MOST_POINTS,
     MOST_RECORDS,
 };
 pub use links::{Ask, Link, LinkKind};

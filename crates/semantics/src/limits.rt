@@ -23,3 +23,6 @@ pub const MOST_LOAD: u128 = 67_108_864;
 
 /// How many colours a launch has at most.
 pub const MOST_COLOURS: usize = 4_096;
+
+/// How many groups a nested log has at most.
+pub const MOST_GROUPS: usize = 1_024;
