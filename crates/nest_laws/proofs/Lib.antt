@@ -1,0 +1,4 @@
+mod Licensed
+mod Walks
+mod MemberTasks
+mod FreeGroups

@@ -1,0 +1,30 @@
+//! Laws of groups and of what is below them. A function has nothing to do: its contract is the law.
+
+ghost use Rattle.std.specs.Prelude.{◌≡◌, ℕ, true, List, None, Contains};
+ghost use Rattle.privilege.specs.declared.kinds.Kind.TheVariants.{Free};
+ghost use Rattle.spy_grammar.specs.declared.nested.NLined.{NLined};
+ghost use Rattle.vocabulary.specs.Prelude.{Place, Req, Tables, covers, item_kind, kind_at, reqs_of};
+ghost use Rattle.semantics.specs.Nesting.{Nesting, are_free, licenses, nested_fault, nested_tables, nesting_of, shown_unlicensed};
+ghost use Rattle.nest_laws.specs.Below.{IsTaskBelow};
+
+/// Where no child asks for more than its group licenses, each group that a task is below licenses what the task asks for at every place of its requirements: the group that it is a member of, and all above that.
+pub fn children_are_licensed()
+    ensures { (t : Tables) (n : Nesting) → shown_unlicensed t n ≡ None → (g item : ℕ) → IsTaskBelow t n g item
+        → (r : Req) → Contains (reqs_of t item) r → (p : Place) → covers t p r ≡ true
+        → licenses t n g p r.access ≡ true }
+{}
+
+/// Two groups that are free of each other may run side by side, where no fault is shown of the nested log and no child asks for more than its group licenses: no task below the one interferes with a task below the other, at no place.
+pub fn free_groups_are_apart()
+    ensures tasks { (lines : ℕ) (log : List NLined) → nested_fault lines log ≡ None
+        → shown_unlicensed (nested_tables log) (nesting_of log) ≡ None
+        → (g h : ℕ) → are_free (nested_tables log) (nesting_of log) g h ≡ true
+        → (a b : ℕ) → IsTaskBelow (nested_tables log) (nesting_of log) g a
+        → IsTaskBelow (nested_tables log) (nesting_of log) h b → item_kind (nested_tables log) a b ≡ Free }
+    ensures places { (lines : ℕ) (log : List NLined) → nested_fault lines log ≡ None
+        → shown_unlicensed (nested_tables log) (nesting_of log) ≡ None
+        → (g h : ℕ) → are_free (nested_tables log) (nesting_of log) g h ≡ true
+        → (a b : ℕ) → IsTaskBelow (nested_tables log) (nesting_of log) g a
+        → IsTaskBelow (nested_tables log) (nesting_of log) h b
+        → (p : Place) → kind_at (nested_tables log) a b p ≡ Free }
+{}

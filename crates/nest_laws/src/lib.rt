@@ -1,0 +1,6 @@
+//! Laws of groups: what their members may do, and what groups that are free of each other may do side by side.
+#![tactic(auto)]
+
+mod laws;
+
+pub use laws::{children_are_licensed, free_groups_are_apart};
