@@ -1,4 +1,6 @@
 mod Licensed
+mod Exactly
 mod Walks
 mod MemberTasks
 mod FreeGroups
+mod Ancestry

@@ -52,7 +52,7 @@ licensed_place t n group r none p c = elim (cases_Bool (licenses t n group p r.a
 -- ---- children
 
 module _ (t : Tables) (n : Nesting) (none : shown_unlicensed t n ≡ None) where
-  child_licensed : (c : Child) → Member (children n) c → (r : Req) → Member (reqs_of_child t n c) r → (p : Place) → covers t p r ≡ true → licenses t n c.group p r.access ≡ true
+  pub child_licensed : (c : Child) → Member (children n) c → (r : Req) → Member (reqs_of_child t n c) r → (p : Place) → covers t p r ≡ true → licenses t n c.group p r.access ≡ true
   child_licensed c of r asks p here =
       let given = given_none (unlicensed_child t n) (children n) none c of in
       licensed_place t n c.group r (unmapped_none _ (unlicensed_place t n c.group r) (given_none _ (reqs_of_child t n c) given r asks)) p here

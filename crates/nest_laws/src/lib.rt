@@ -4,5 +4,5 @@
 mod laws;
 mod meanings;
 
-pub use laws::{children_are_licensed, free_groups_are_apart};
+pub use laws::{ancestors_are_all_above, children_are_licensed, free_groups_are_apart};
 pub use meanings::{worked_group_limits, worked_group_rules, worked_nests};
