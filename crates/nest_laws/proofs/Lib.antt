@@ -1,6 +1,7 @@
 mod Licensed
 mod Exactly
 mod Walks
+mod PlainLogs
 mod MemberTasks
 mod FreeGroups
 mod Ancestry

@@ -1,7 +1,7 @@
 -- Worked nested logs, by their records: two tasks in groups, and groups with privileges on a region.
 use Rattle.std.specs.Prelude.{⊤, ℕ, ◌+◌, Bool, false, List, [], ◌∷◌, ◌++◌, map, length}
 use Rattle.vocabulary.specs.Prelude.{PrivWord, Record}
-use Rattle.spy_words.specs.declared.access.PrivWord.TheVariants.{Ro, Rw}
+use Rattle.spy_words.specs.declared.access.PrivWord.TheVariants.{Ro, Rw, Wd}
 use Rattle.spy_grammar.specs.declared.record.Record.TheVariants as records
 use Rattle.spy_grammar.specs.declared.nested.NRecord.{NRecord}
 use Rattle.spy_grammar.specs.declared.nested.NRecord.TheVariants.{Plain, Group, Greq, Member}
@@ -45,6 +45,10 @@ read_below = two_tasks Rw (two_groups Rw 1 (first_in 1))
 abbrev pub writer_in_reader : List NLined
 writer_in_reader = two_tasks Rw (two_groups Rw 1 (first_in 2))
 
+-- The same, and the group that reads is below one that only writes.
+abbrev pub both_ask : List NLined
+both_ask = two_tasks Rw (two_groups Wd 1 (first_in 2))
+
 -- Both tasks read, in two groups of which neither is above the other.
 abbrev pub both_read : List NLined
 both_read = two_tasks Ro (two_groups Ro 0 (first_in 1))
@@ -52,6 +56,10 @@ both_read = two_tasks Ro (two_groups Ro 0 (first_in 1))
 -- The second group reads below a first that has this privilege.
 abbrev pub read_below_one : PrivWord → List NLined
 read_below_one access = two_tasks Rw (two_groups access 1 (first_in 1))
+
+-- The group 1 gets its privilege on the last line that is nested.
+abbrev pub licensed_later : List NLined
+licensed_later = two_tasks Rw (Group 1 0 ∷ Group 2 1 ∷ Greq 2 1 1 one_field Ro ∷ first_in 1 ++ Greq 1 1 1 one_field Rw ∷ [])
 
 -- What is shown of a child, a task or not, whose only requirement asks for more than its group licenses, at the least place of the region.
 abbrev pub unlicensed_at_first : Bool → ℕ → ℕ → Unlicensed
@@ -76,6 +84,14 @@ second_group id parent = on_region (Group 1 0 ∷ Group id parent ∷ []) []
 -- The group 1, and a privilege of this group to read these fields of a space of a tree.
 abbrev pub group_reads : ℕ → ℕ → ℕ → List ℕ → List Record → List NLined
 group_reads group tree space fields rest = on_region (Group 1 0 ∷ Greq group tree space fields Ro ∷ []) rest
+
+-- The group 1 has the points 0 and 1, and the group 2, a child of this one, reads them, and then all points.
+abbrev pub reads_beyond : List NLined
+reads_beyond = on_region (Group 1 0 ∷ Greq 1 1 2 one_field Rw ∷ Group 2 1 ∷ Greq 2 1 2 one_field Ro ∷ Greq 2 1 1 one_field Ro ∷ []) split_later
+
+-- What is shown of it: the second privilege of the group 2, at the point 2.
+abbrev pub second_beyond : Unlicensed
+second_beyond = record { child = record { leaf = false; id = 2; group = 1 }; req = 2; place = record { tree = 1; point = 2; field = 1 } }
 
 -- A task or fill with the id 1, and the group 1, of which what has this id is a member; then further records.
 abbrev pub member_of_one : Record → ℕ → List Record → List NLined

@@ -4,10 +4,18 @@ ghost use Rattle.std.specs.Prelude.{◌≡◌, ◌↔◌, ℕ, true, false, List
 ghost use Rattle.std.specs.Option.{option_map_or};
 ghost use Rattle.privilege.specs.declared.kinds.Kind.TheVariants.{Free};
 ghost use Rattle.spy_grammar.specs.declared.nested.NLined.{NLined};
-ghost use Rattle.vocabulary.specs.Prelude.{Place, Req, Tables, covers, item_kind, kind_at, reqs_of};
+ghost use Rattle.vocabulary.specs.Prelude.{Lined, Place, Req, Tables, covers, item_kind, kind_at, reqs_of, tables_of};
+ghost use Rattle.semantics.specs.Faults.{declaration_fault};
 ghost use Rattle.semantics.specs.declared.groups.Child.{Child};
-ghost use Rattle.semantics.specs.Nesting.{Nesting, ancestors, are_apart, are_free, children, group_above, is_ancestor, licenses, nested_fault, nested_tables, nesting_of, reqs_of_child, shown_unlicensed};
-ghost use Rattle.nest_laws.specs.Below.{IsTaskBelow};
+ghost use Rattle.semantics.specs.Nesting.{Nesting, ancestors, are_apart, are_free, children, group_above, is_ancestor, licenses, nested_fault, nested_tables, nesting_of, no_nesting, reqs_of_child, shown_unlicensed};
+ghost use Rattle.nest_laws.specs.Below.{IsTaskBelow, as_nested};
+
+/// A log is a nested log in which nothing is nested: the fault that is shown of it is that of its frame or of its single records, and it declares the same.
+pub fn logs_are_nested_logs()
+    ensures fault { (lines : ℕ) (log : List Lined) → nested_fault lines (as_nested log) ≡ declaration_fault lines log }
+    ensures tables { (log : List Lined) → nested_tables (as_nested log) ≡ tables_of log }
+    ensures none { (log : List Lined) → nesting_of (as_nested log) ≡ no_nesting }
+{}
 
 /// The ancestors of a group are the group above it, if there is one, and the ancestors of that, where no fault is shown of the nested log: none is left out, and no group is one of its own.
 pub fn ancestors_are_all_above()

@@ -4,5 +4,7 @@
 mod laws;
 mod meanings;
 
-pub use laws::{ancestors_are_all_above, children_are_licensed, free_groups_are_apart};
+pub use laws::{
+    ancestors_are_all_above, children_are_licensed, free_groups_are_apart, logs_are_nested_logs,
+};
 pub use meanings::{worked_group_limits, worked_group_rules, worked_nests};

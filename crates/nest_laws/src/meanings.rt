@@ -8,7 +8,7 @@ ghost use Rattle.spy_grammar.specs.declared.record.Record.TheVariants.{Task, Fil
 ghost use Rattle.spy_grammar.specs.declared.nested.NRecord.TheVariants.{Plain, Group, Member};
 ghost use Rattle.semantics.specs.Faults.{at_line};
 ghost use Rattle.semantics.specs.Nesting.{Nesting, free_pairs, is_late_group, is_late_nested, nested_fault, nested_tables, nesting_of, shown_unlicensed};
-ghost use Rattle.nest_laws.specs.WorkedNests.{around_log, both_read, counted_wrong, first_in, group_reads, member_of_one, nests_computed, one_field, read_below, read_below_one, second_group, split_later, two_groups, two_tasks, unlicensed_at_first, writer_in_reader};
+ghost use Rattle.nest_laws.specs.WorkedNests.{around_log, both_ask, both_read, counted_wrong, first_in, group_reads, licensed_later, member_of_one, nests_computed, one_field, read_below, read_below_one, reads_beyond, second_beyond, second_group, split_later, two_groups, two_tasks, unlicensed_at_first, writer_in_reader};
 
 /// What the definitions say of two tasks in groups: whether each child asks for no more than its group licenses, and how many pairs of groups are free of each other.
 #[tactic(auto, unfolding(crate::specs::WorkedNests::nests_computed))]
@@ -25,6 +25,13 @@ pub fn worked_nests()
     ensures group_shown { nested_fault 17 (read_below_one Wd) ≡ None }
     ensures group { shown_unlicensed (nested_tables (read_below_one Wd)) (nesting_of (read_below_one Wd))
         ≡ Some (unlicensed_at_first false 2 1) }
+    // Of a group and a task that both ask for too much the group is shown.
+    ensures group_first { shown_unlicensed (nested_tables both_ask) (nesting_of both_ask)
+        ≡ Some (unlicensed_at_first false 2 1) }
+    ensures later { nested_fault 17 licensed_later ≡ None }
+    ensures later_too { shown_unlicensed (nested_tables licensed_later) (nesting_of licensed_later) ≡ None }
+    ensures beyond { nested_fault 13 reads_beyond ≡ None }
+    ensures second { shown_unlicensed (nested_tables reads_beyond) (nesting_of reads_beyond) ≡ Some second_beyond }
 {}
 
 /// Logs that just keep the rules on groups, and logs that break them.
