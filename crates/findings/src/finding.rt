@@ -63,7 +63,7 @@ pub enum Finding {
     Deps { list: DepList, items: u32, before: u64, turn: u64 },
     /// The listed waits that others imply, each by the event of its node and the one that is waited for, and how many waits are listed in all.
     Spare { list: PairList, waits: u64 },
-    /// Every child has no more than what its group may do. So many tasks are members, and so many pairs of groups may run side by side.
+    /// No child of a group may do more than the group. So many tasks are members, there are so many groups, and so many pairs of these may run side by side.
     Nested { tasks: u32, groups: u32, free: u64 },
     /// Events that wait on each other in a cycle.
     Cycle { events: EventList },
