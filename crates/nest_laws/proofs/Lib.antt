@@ -5,3 +5,4 @@ mod PlainLogs
 mod MemberTasks
 mod FreeGroups
 mod Ancestry
+mod ManyGroups

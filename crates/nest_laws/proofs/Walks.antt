@@ -38,7 +38,7 @@ keeps whole earlier l rest e =
     (not-false _ (rule_kept whole earlier l rest e codes.UnknownId (inr (inr (inl refl))))) in
     record { new = rule_kept whole earlier l rest e codes.RepeatedId (inr (inl refl)); groups = known.0; things = known.1 }
 
-nested_more : (earlier : List NLined) (l : NLined) → nesting_of (earlier ++ l ∷ []) ≡ with_nested (nesting_of earlier) l.rec
+pub nested_more : (earlier : List NLined) (l : NLined) → nesting_of (earlier ++ l ∷ []) ≡ with_nested (nesting_of earlier) l.rec
 nested_more earlier l = fold-append (λ n (l : NLined). with_nested n l.rec) no_nesting earlier (l ∷ [])
 
 tables_more : (earlier : List NLined) (l : NLined) → nested_tables (earlier ++ l ∷ []) ≡ with_plain (nested_tables earlier) l

@@ -1,5 +1,5 @@
 -- Worked nested logs, by their records: two tasks in groups, and groups with privileges on a region.
-use Rattle.std.specs.Prelude.{⊤, ℕ, ◌+◌, Bool, false, List, [], ◌∷◌, ◌++◌, map, length}
+use Rattle.std.specs.Prelude.{⊤, ℕ, zero, suc, ◌+◌, Bool, false, List, [], ◌∷◌, ◌++◌, map, length}
 use Rattle.vocabulary.specs.Prelude.{PrivWord, Record}
 use Rattle.spy_words.specs.declared.access.PrivWord.TheVariants.{Ro, Rw, Wd}
 use Rattle.spy_grammar.specs.declared.record.Record.TheVariants as records
@@ -110,3 +110,12 @@ counted_wrong = nested_lined_from 1 (Plain (records.Header 1) ∷ Group 1 2 ∷ 
 unfoldable pub nests_computed : ⊤
 unfolding nested_fault
 nests_computed = tt
+
+-- So many groups without a parent, each on a line of its own: the first has this id, and stands on the next line.
+abbrev pub groups_from : ℕ → ℕ → List NLined
+groups_from id zero = []
+groups_from id (suc k) = record { line = id + 1; rec = Group id 0 } ∷ groups_from (id + 1) k
+
+-- A log with nothing in it, and so many groups between its header and its end.
+abbrev pub many_groups : ℕ → List NLined
+many_groups k = record { line = 1; rec = Plain (records.Header 1) } ∷ groups_from 1 k ++ record { line = k + 2; rec = Plain (records.End 0) } ∷ []
