@@ -6,3 +6,4 @@ mod MemberTasks
 mod FreeGroups
 mod Ancestry
 mod ManyGroups
+mod ManyPrivileges

@@ -21,7 +21,7 @@ record HasGroups (n : Nesting) (k : ℕ) : Type 0 where
   privileges : n.privileges ≡ []
   members : n.members ≡ []
 
-one_longer : {X : Type 0} (xs : List X) (x : X) → length (xs ++ x ∷ []) ≡ suc (length xs)
+pub one_longer : {X : Type 0} (xs : List X) (x : X) → length (xs ++ x ∷ []) ≡ suc (length xs)
 one_longer [] x = refl
 one_longer (y ∷ xs) x = ap suc (one_longer xs x)
 
@@ -36,7 +36,7 @@ one_group_more n k h = record {
 not_yet : (n : Nesting) (k : ℕ) → HasGroups n k → is_group n (k + 1) ≡ false
 not_yet n k h = false_from_ne_true _ (λ is. let g = any_found (λ (g : groups.Group). g.id == (k + 1)) n.groups is in let le = h.ids g.0 g.1 in let e = eqb-true g.0.id (k + 1) g.2 in absurd (omega (arith, le, e)))
 
-few : (m k : ℕ) → k ≤ m → nat_lt m k ≡ false
+pub few : (m k : ℕ) → k ≤ m → nat_lt m k ≡ false
 few m k le = false_from_ne_true _ (λ is. let lt = ltb-true m k is in absurd (omega (arith, le, lt)))
 
 -- The first 1,024 groups break no rule.

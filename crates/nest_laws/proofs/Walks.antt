@@ -41,7 +41,7 @@ keeps whole earlier l rest e =
 pub nested_more : (earlier : List NLined) (l : NLined) → nesting_of (earlier ++ l ∷ []) ≡ with_nested (nesting_of earlier) l.rec
 nested_more earlier l = fold-append (λ n (l : NLined). with_nested n l.rec) no_nesting earlier (l ∷ [])
 
-tables_more : (earlier : List NLined) (l : NLined) → nested_tables (earlier ++ l ∷ []) ≡ with_plain (nested_tables earlier) l
+pub tables_more : (earlier : List NLined) (l : NLined) → nested_tables (earlier ++ l ∷ []) ≡ with_plain (nested_tables earlier) l
 tables_more earlier l =
     ap tables_of (filter_map-append plain_line earlier (l ∷ [])) ∙ fold-append (λ t (l : Lined). with_record t l.line l.rec) no_tables (plain_log earlier) (plain_log (l ∷ [])) ∙ one (nested_tables earlier) l.line l.rec
   where

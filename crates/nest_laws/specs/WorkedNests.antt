@@ -119,3 +119,20 @@ groups_from id (suc k) = record { line = id + 1; rec = Group id 0 } ∷ groups_f
 -- A log with nothing in it, and so many groups between its header and its end.
 abbrev pub many_groups : ℕ → List NLined
 many_groups k = record { line = 1; rec = Plain (records.Header 1) } ∷ groups_from 1 k ++ record { line = k + 2; rec = Plain (records.End 0) } ∷ []
+
+-- A privilege of the group 1 to read a region.
+abbrev pub greq_of_one : NRecord
+greq_of_one = Greq 1 1 1 one_field Ro
+
+-- The header, a region without points, and the group 1.
+abbrev pub before_privileges : List NLined
+before_privileges = nested_lined_from 1 (plain_records (records.Header 1 ∷ records.Ispace 1 [] ∷ records.Fields 1 one_field ∷ records.Tree 1 1 1 ∷ []) ++ Group 1 0 ∷ [])
+
+-- So many privileges of the group, each on a line of its own, from this line on.
+abbrev pub privileges_from : ℕ → ℕ → List NLined
+privileges_from line zero = []
+privileges_from line (suc k) = record { line = line; rec = greq_of_one } ∷ privileges_from (line + 1) k
+
+-- A log with a group that has so many privileges.
+abbrev pub many_privileges : ℕ → List NLined
+many_privileges k = before_privileges ++ privileges_from 6 k ++ record { line = k + 6; rec = Plain (records.End 3) } ∷ []

@@ -1,14 +1,13 @@
 //! What a nested log says, tried on worked logs.
 
-ghost use Rattle.std.specs.Prelude.{◌≡◌, ◌≤◌, ℕ, ◌+◌, true, false, List, None, Some, [], ◌∷◌, length};
+ghost use Rattle.std.specs.Prelude.{◌≡◌, ◌≤◌, ℕ, true, false, List, None, Some, [], ◌∷◌};
 ghost use Rattle.spy_words.specs.declared.access.PrivWord.TheVariants.{Rw, Wd};
 ghost use Rattle.spy_grammar.specs.declared.code.Code.TheVariants as codes;
-ghost use Rattle.spy_grammar.specs.declared.record.Record.{Record};
 ghost use Rattle.spy_grammar.specs.declared.record.Record.TheVariants.{Task, Fill, Run};
-ghost use Rattle.spy_grammar.specs.declared.nested.NRecord.TheVariants.{Plain, Group, Member};
+ghost use Rattle.spy_grammar.specs.declared.nested.NRecord.TheVariants.{Member};
 ghost use Rattle.semantics.specs.Faults.{at_line};
-ghost use Rattle.semantics.specs.Nesting.{Nesting, free_pairs, is_late_group, is_late_nested, nested_fault, nested_tables, nesting_of, shown_unlicensed};
-ghost use Rattle.nest_laws.specs.WorkedNests.{around_log, both_ask, both_read, counted_wrong, first_in, group_reads, licensed_later, many_groups, member_of_one, nests_computed, one_field, read_below, read_below_one, reads_beyond, second_beyond, second_group, split_later, two_groups, two_tasks, unlicensed_at_first, writer_in_reader};
+ghost use Rattle.semantics.specs.Nesting.{free_pairs, nested_fault, nested_tables, nesting_of, shown_unlicensed};
+ghost use Rattle.nest_laws.specs.WorkedNests.{around_log, both_ask, both_read, counted_wrong, first_in, group_reads, licensed_later, many_groups, many_privileges, member_of_one, nests_computed, one_field, read_below, read_below_one, reads_beyond, second_beyond, second_group, split_later, two_groups, two_tasks, unlicensed_at_first, writer_in_reader};
 
 /// What the definitions say of two tasks in groups: whether each child asks for no more than its group licenses, and how many pairs of groups are free of each other.
 #[tactic(auto, unfolding(crate::specs::WorkedNests::nests_computed))]
@@ -59,15 +58,12 @@ pub fn worked_group_rules()
     ensures plain_first { nested_fault 3 counted_wrong ≡ Some (at_line codes.Count 3) }
 {}
 
-/// The limits of a nested log: 1,024 groups, and 131,072 records that are not plain.
+/// The limits of a nested log: 1,024 groups, and 131,072 records that are not plain, of which the first is here a group.
 pub fn worked_group_limits()
     ensures most_groups { (lines k : ℕ) → k ≤ 1024 → nested_fault lines (many_groups k) ≡ None }
-    ensures one_more { (lines : ℕ) → nested_fault lines (many_groups 1025) ≡ Some (at_line codes.TooManyGroups 1026) }
-    ensures last_group { (n : Nesting) → length n.groups ≡ 1023 → is_late_group n (Group 1 0) ≡ false }
-    ensures late_group { (n : Nesting) → length n.groups ≡ 1024 → is_late_group n (Group 1 0) ≡ true }
-    ensures last { (n : Nesting) → length n.groups + length n.privileges + length n.members ≡ 131071
-        → is_late_nested n (Member 1 1) ≡ false }
-    ensures late { (n : Nesting) → length n.groups + length n.privileges + length n.members ≡ 131072
-        → is_late_nested n (Member 1 1) ≡ true }
-    ensures plain { (n : Nesting) (r : Record) → is_late_nested n (Plain r) ≡ false }
+    ensures one_group_more { (lines : ℕ) → nested_fault lines (many_groups 1025)
+        ≡ Some (at_line codes.TooManyGroups 1026) }
+    ensures most_records { (lines k : ℕ) → k ≤ 131071 → nested_fault lines (many_privileges k) ≡ None }
+    ensures one_record_more { (lines : ℕ) → nested_fault lines (many_privileges 131072)
+        ≡ Some (at_line codes.TooManyRecords 131077) }
 {}
