@@ -3,8 +3,11 @@ use Rattle.std.specs.Prelude.{◌≡◌, ℕ, true, Some, None, Option, Result, 
 use Rattle.vocabulary.specs.Prelude.{LineFault, Code, Lined, LLined, is_passed_over, spelling, on_line, Good, GoodLaunch, Fault, ReadsBy, line_count}
 use Rattle.spy_words.specs.declared.fault.LineFault.TheVariants as faults
 use Rattle.spy_grammar.specs.declared.code.Code.TheVariants as codes
+use Rattle.spy_grammar.specs.declared.nested.NLined.{NLined}
 use Rattle.spy_grammar.specs.Launches.{launch_spelling}
+use Rattle.spy_grammar.specs.Nested.{nested_spelling, GoodNested}
 use Rattle.semantics.specs.Launches.{launch_text_fault, on_launch_line}
+use Rattle.semantics.specs.Nesting.{nested_text_fault, on_nested_line}
 use Rattle.semantics.specs.TextFaults.{line_fault, lines_fault_by, text_fault}
 use Rattle.log_reading.specs.declared.reading.SpellEnd.{SpellEnd}
 use Rattle.log_reading.specs.declared.reading.SpellEnd.TheVariants.{Fault as Faulty, Memory}
@@ -41,6 +44,10 @@ Spells bytes lines log = SpellsBy text_fault Good spelling on_line bytes lines l
 abbrev pub SpellsLaunch : List ℕ → ℕ → List LLined → Type 0
 SpellsLaunch bytes lines log = SpellsBy launch_text_fault GoodLaunch launch_spelling on_launch_line bytes lines log
 
+-- The same of a nested log.
+abbrev pub SpellsNested : List ℕ → ℕ → List NLined → Type 0
+SpellsNested bytes lines log = SpellsBy nested_text_fault GoodNested nested_spelling on_nested_line bytes lines log
+
 -- An input has this fault of its bytes and lines.
 abbrev pub HasFault : List ℕ → ℕ → Code → Type 0
 HasFault bytes line code = text_fault bytes ≡ Some (record { line = line; code = code })
@@ -48,6 +55,10 @@ HasFault bytes line code = text_fault bytes ≡ Some (record { line = line; code
 -- An input of a launch log has this fault of its bytes and lines.
 abbrev pub HasLaunchFault : List ℕ → ℕ → Code → Type 0
 HasLaunchFault bytes line code = launch_text_fault bytes ≡ Some (record { line = line; code = code })
+
+-- An input of a nested log has this fault of its bytes and lines.
+abbrev pub HasNestedFault : List ℕ → ℕ → Code → Type 0
+HasNestedFault bytes line code = nested_text_fault bytes ≡ Some (record { line = line; code = code })
 
 -- The first of some lines that has a fault has this one, where lines are read so.
 abbrev pub HasFaultOfLines : {R : Type 0} → (List ℕ → Result (Option R) LineFault) → List (List ℕ) → ℕ → Code → Type 0

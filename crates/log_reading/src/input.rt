@@ -3,15 +3,17 @@
 ghost use Rattle.std.specs.Prelude.{◌≡◌, ◌≤◌, ◌∷◌, All, length, IfOk, None, Some, OnOk};
 ghost use Rattle.spy_lines.specs.LinesOf.{with_ends, IsLine};
 ghost use Rattle.vocabulary.specs.Prelude.{Good, GoodLaunch, HoldBy, AreLines, AreLinesBy};
+ghost use Rattle.spy_grammar.specs.Nested.{GoodNested};
 ghost use Rattle.semantics.specs.Launches.{AreLaunchLines};
+ghost use Rattle.semantics.specs.Nesting.{AreNestedLines};
 ghost use Rattle.semantics.specs.TextFaults.{lines_fault_by, text_fault_by};
 ghost use Rattle.semantics.specs.declared.limits.TheConstants.{MOST_BYTES};
-ghost use Rattle.log_reading.specs.Spelled.{EndsBy, HasFault, HasLaunchFault, HasFaultOfLines, Spells, SpellsBy, SpellsLaunch};
+ghost use Rattle.log_reading.specs.Spelled.{EndsBy, HasFault, HasLaunchFault, HasNestedFault, HasFaultOfLines, Spells, SpellsBy, SpellsLaunch, SpellsNested};
 
 use crate::log_line::LogLine;
 use crate::reading::{Input, SpellEnd, read_input};
 use semantics::MOST_BYTES;
-use spy_grammar::{Code, LLined, Lined};
+use spy_grammar::{Code, LLined, Lined, NLined};
 use spy_lines::{LineList, Lines};
 use std::alloc::Global;
 
@@ -81,4 +83,15 @@ pub fn launch_input_in(alloc: Global, bytes: Vec<u8>) -> Result<Input<LLined>, S
     ensures fault { EndsBy (HasLaunchFault bytes.items) result }
 {
     any_input_in::<LLined>(alloc, bytes)
+}
+
+/// The records of an input of a nested log, or the first fault of its bytes and lines.
+#[tactic(auto, unfolding(semantics::specs::Nesting::nested_text_fault))]
+pub fn nested_input_in(alloc: Global, bytes: Vec<u8>) -> Result<Input<NLined>, SpellEnd>
+    ensures spelled { IfOk result (λ i. SpellsNested bytes.items i.lines i.records.items) }
+    ensures good { IfOk result (λ i. All (λ l. GoodNested l.rec) i.records.items) }
+    ensures lines { IfOk result (λ i. AreNestedLines i.lines i.records.items) }
+    ensures fault { EndsBy (HasNestedFault bytes.items) result }
+{
+    any_input_in::<NLined>(alloc, bytes)
 }

@@ -4,12 +4,17 @@ ghost use Rattle.std.specs.Prelude.{◌≡◌, ℕ, List, None, Option, Result, 
 ghost use Rattle.spy_words.specs.Faults.{Fails};
 ghost use Rattle.spy_words.specs.declared.fault.LineFault.{LineFault as Faulty};
 ghost use Rattle.spy_grammar.specs.Launches.{launch_line_at, launch_spelling};
+ghost use Rattle.spy_grammar.specs.Nested.{GoodNested, nested_line_at, nested_spelling};
 ghost use Rattle.vocabulary.specs.Prelude.{Good, GoodLaunch, line_at, on_line, spelling};
 ghost use Rattle.semantics.specs.Launches.{on_launch_line};
+ghost use Rattle.semantics.specs.Nesting.{on_nested_line};
 ghost use Rattle.semantics.specs.TextFaults.{line_fault};
 ghost use Rattle.log_reading.specs.Spelled.{SaysBy};
 
-use spy_grammar::{LLined, LRecord, LineFault, Lined, Record, read_launch_line, read_line};
+use spy_grammar::{
+    LLined, LRecord, LineFault, Lined, NLined, NRecord, Record, read_launch_line, read_line,
+    read_nested_line,
+};
 use std::alloc::Global;
 
 /// A record on a line of a log of some kind.
@@ -88,6 +93,34 @@ impl LogLine for LLined {
     fn read_on(alloc: Global, line: u32, text: &[u8]) -> Result<Option<LLined>, LineFault> {
         match read_launch_line(alloc, text) {
             Ok(Some(rec)) => Ok(Some(LLined { line, rec })),
+            Ok(None) => Ok(None),
+            Err(fault) => Err(fault),
+        }
+    }
+
+    ghost line_is = { λ n r. refl };
+
+    ghost rec_is = { λ n r. refl };
+}
+
+impl LogLine for NLined {
+    type Rec = NRecord;
+
+    ghost read = { nested_line_at };
+
+    ghost good = { GoodNested };
+
+    ghost spelled = { nested_spelling };
+
+    ghost on = { on_nested_line };
+
+    ghost line_of = { λ l. l.line };
+
+    ghost rec_of = { λ l. l.rec };
+
+    fn read_on(alloc: Global, line: u32, text: &[u8]) -> Result<Option<NLined>, LineFault> {
+        match read_nested_line(alloc, text) {
+            Ok(Some(rec)) => Ok(Some(NLined { line, rec })),
             Ok(None) => Ok(None),
             Err(fault) => Err(fault),
         }

@@ -22,7 +22,7 @@ use Rattle.semantics.specs.declared.groups.Unlicensed.{Unlicensed}
 use Rattle.semantics.specs.declared.limits.TheConstants.{MOST_RECORDS, MOST_GROUPS}
 use Rattle.semantics.specs.declared.places.Place.{Place}
 use Rattle.semantics.specs.declared.tables.Req.{Req}
-use Rattle.semantics.specs.Records.{ReadsBy}
+use Rattle.semantics.specs.Records.{AreLinesBy, ReadsBy}
 use Rattle.semantics.specs.TextFaults.{text_fault_by}
 use Rattle.semantics.specs.Tables.{Tables, tables_of, place_of, privilege_of}
 use Rattle.semantics.specs.Points.{is_in, meets, points_in, is_in_tree}
@@ -262,6 +262,10 @@ nested_fault lines log = option_or (declaration_fault lines (plain_log log)) (gr
 -- A record of a nested log on a line.
 abbrev pub on_nested_line : ℕ → NRecord → NLined
 on_nested_line line r = record { line = line; rec = r }
+
+-- The records of a nested log stand on lines that ascend, each on one of these many lines.
+abbrev pub AreNestedLines : ℕ → List NLined → Type 0
+AreNestedLines lines log = AreLinesBy (λ (l : NLined). l.line) lines log
 
 -- The input is lines that hold the records of the nested log.
 abbrev pub NestedReads : List ℕ → List NLined → Type 0

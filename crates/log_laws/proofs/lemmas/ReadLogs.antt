@@ -8,9 +8,13 @@ use Rattle.std.proofs.lemmas.List.Splits.{slice_split_at, join_with_byte-slice_s
 use Rattle.vocabulary.specs.Prelude.{LineFault, Record, Lined, LLined, is_passed_over, line_at, spelling, on_line, Good, GoodLaunch, text_of, records_of, lined, parts_of, line_count, Hold, HoldBy, Reads, ReadsBy}
 use Rattle.spy_grammar.specs.Reading.{line_in}
 use Rattle.spy_grammar.specs.Launches.{launch_line_at, launch_spelling}
+use Rattle.spy_grammar.specs.declared.nested.NLined.{NLined}
+use Rattle.spy_grammar.specs.Nested.{nested_line_at, nested_spelling, GoodNested}
 use Rattle.spy_grammar.proofs.lemmas.LaunchLaws.{launch_again}
+use Rattle.spy_grammar.proofs.lemmas.NestedLaws.{nested_again}
 use Rattle.spy_grammar.proofs.lemmas.RowLaws.{line_again, no_line_feed}
 use Rattle.semantics.specs.Launches.{LaunchReads, on_launch_line}
+use Rattle.semantics.specs.Nesting.{NestedReads, on_nested_line}
 use Rattle.semantics.specs.TextFaults.{is_too_long, lines_fault, text_fault}
 use Rattle.log_laws.proofs.lemmas.Numbered.{spellings_hold}
 
@@ -56,6 +60,13 @@ launch_line_passed line over = rw over refl
 
 pub one_launch_read : (bytes : List ℕ) (log other : List LLined) → LaunchReads bytes log → LaunchReads bytes other → log ≡ other
 one_launch_read = one_read_by launch_line_at GoodLaunch launch_spelling on_launch_line launch_again launch_line_passed
+
+nested_line_passed : (line : List ℕ) → is_passed_over line ≡ true → nested_line_at line ≡ Ok None
+unfolding nested_line_at line_in
+nested_line_passed line over = rw over refl
+
+pub one_nested_read : (bytes : List ℕ) (log other : List NLined) → NestedReads bytes log → NestedReads bytes other → log ≡ other
+one_nested_read = one_read_by nested_line_at GoodNested nested_spelling on_nested_line nested_again nested_line_passed
 
 -- ---- what a log is printed as
 

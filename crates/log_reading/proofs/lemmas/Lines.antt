@@ -9,10 +9,12 @@ use Rattle.std.proofs.Math.Seq.{take-append_seam, drop-append_seam}
 use Rattle.spy_lines.specs.LinesOf.{with_ends, IsLine, IsUnended}
 use Rattle.vocabulary.specs.Prelude.{Code, LineFault, line_at, parts_of, line_count, HoldBy}
 use Rattle.spy_grammar.specs.Launches.{launch_line_at}
+use Rattle.spy_grammar.specs.Nested.{nested_line_at}
 use Rattle.spy_grammar.specs.declared.code.Code.TheVariants.{TooLong, Newline}
 use Rattle.semantics.specs.Launches.{launch_text_fault}
+use Rattle.semantics.specs.Nesting.{nested_text_fault}
 use Rattle.semantics.specs.TextFaults.{ends_within_line, lines_fault, lines_fault_by, text_fault, text_fault_by}
-use Rattle.log_reading.specs.Spelled.{HasFault, HasLaunchFault, HasFaultOfLines, SpellsBy}
+use Rattle.log_reading.specs.Spelled.{HasFault, HasLaunchFault, HasNestedFault, HasFaultOfLines, SpellsBy}
 use Rattle.log_reading.specs.declared.reading.SpellEnd.{SpellEnd}
 use Rattle.log_reading.specs.declared.reading.SpellEnd.TheVariants.{Fault}
 
@@ -26,6 +28,10 @@ long = long_by line_at
 pub launch_long : (bytes : List ℕ) → 2 ^ 26 < length bytes → HasLaunchFault bytes 0 TooLong
 unfolding launch_text_fault
 launch_long = long_by launch_line_at
+
+pub nested_long : (bytes : List ℕ) → 2 ^ 26 < length bytes → HasNestedFault bytes 0 TooLong
+unfolding nested_text_fault
+nested_long = long_by nested_line_at
 
 -- The lines of an input, as it is cut at each line feed: whole lines, and then those of what stands after them.
 pub parts_before : (lines : List (List ℕ)) (behind : List ℕ) → AllByRecursion IsLine lines → parts_of (with_ends lines ++ behind) ≡ lines ++ parts_of behind
