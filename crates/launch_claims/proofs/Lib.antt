@@ -1,4 +1,7 @@
+mod Claimed
 mod Clashing
-mod Reaching
 mod Ordered
+mod Pairing
 mod Passing
+mod Reaching
+mod Splitting

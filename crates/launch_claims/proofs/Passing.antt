@@ -116,7 +116,7 @@ first_found claims sorted most (Some n) perm found =
     let starts = starts_sorted claims sorted n perm found in
     record { asks = asks_at claims n starts; clash = starts.0; first = starts.1 }
 
-clash_within : (n : ℕ) (claims : List Claim) → HasClash (asked_below n claims) → HasClash claims
+pub clash_within : (n : ℕ) (claims : List Claim) → HasClash (asked_below n claims) → HasClash claims
 clash_within n claims = clash_moved (asked_below n claims) claims (λ c h. (asked_in n claims c h).0)
 
 clash_up_to : (most : ℕ) (claims : List Claim) → ((c : Claim) → Contains claims c → c.record ≤ most) → HasClash claims → HasClash (asked_below (most + 1) claims)

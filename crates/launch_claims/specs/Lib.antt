@@ -1,2 +1,4 @@
+pub mod Claiming
 pub mod Claims
+pub mod Interference
 pub mod Reaches

@@ -1,0 +1,110 @@
+//! The first record at which requirements of tasks of launches interfere.
+
+ghost use Rattle.std.specs.Prelude.{◌≡◌, ◌<◌, ◌≤◌, ◌↔◌, ◌⊎◌, IsTrue, Contains, IfOk};
+ghost use Rattle.std.specs.List.{Any};
+ghost use Rattle.std.specs.List.Sorted.{IsPermutation, IsNonDecreasingBy};
+ghost use Rattle.launch_claims.specs.declared.requirement.Requirement.{Requirement};
+ghost use Rattle.launch_claims.specs.Interference.{InterferesAt, InterferesIn, IsLeast, IsOfLaunch};
+
+use crate::claiming::claims_of;
+use crate::first::first_clash;
+use crate::pairs::{first_by_pairs, lesser};
+use crate::requirement::{LaunchTasks, Requirement};
+use memory::Memory;
+use std::alloc::Global;
+
+/// Puts requirements in the order of their tasks.
+fn sort_by_task(reqs: &mut Vec<Requirement<'_>>)
+    ensures reqs { IsPermutation reqs.old.items reqs.new.items }
+    ensures order { IsNonDecreasingBy (λ r. r.task) reqs.new.items }
+{
+    reqs.sort_unstable_by_key(|req| req.task);
+}
+
+/// Requirements in the order of their tasks, parted in those of tasks below this one and the others, by a binary search.
+fn split_at_task<'s, 'r>(
+    reqs: &'s [Requirement<'r>],
+    task: u64,
+) -> (&'s [Requirement<'r>], &'s [Requirement<'r>])
+    requires { IsNonDecreasingBy (λ r. r.task) reqs.now }
+    ensures below { (u : Requirement) → Contains result.0.now u ↔ (Contains reqs.now u × (u.task < task)) }
+    ensures others { (u : Requirement) → Contains result.1.now u ↔ (Contains reqs.now u × (task ≤ u.task)) }
+    ensures order { IsNonDecreasingBy (λ r. r.task) result.0.now }
+{
+    reqs.split_at(reqs.partition_point(|req| u64::from(req.task) < task))
+}
+
+/// The requirements of the tasks of a launch, which stand side by side.
+fn of_launch<'s, 'r>(launch: &LaunchTasks, reqs: &'s [Requirement<'r>]) -> &'s [Requirement<'r>]
+    requires { IsNonDecreasingBy (λ r. r.task) reqs.now }
+    ensures { (u : Requirement) → Contains result.now u ↔ IsOfLaunch launch.now reqs.now u }
+{
+    let (below, _) = split_at_task(reqs, launch.end);
+    let (_, own) = split_at_task(below, u64::from(launch.base));
+    own
+}
+
+/// Whether the points of some requirement come with the record of this number.
+fn some_declared_at(reqs: &[Requirement<'_>], number: u32) -> bool
+    ensures { IsTrue result ↔ Any (λ r. r.declared ≡ number) reqs.now }
+{
+    reqs.iter().any(|req| req.declared == number)
+}
+
+/// Whether the launch or the points of some requirement come with the record of this number.
+fn is_late(launch: &LaunchTasks, reqs: &[Requirement<'_>], number: u32) -> bool
+    ensures { IsTrue result ↔ ((launch.now.number ≡ number) ⊎ Any (λ r. r.declared ≡ number) reqs.now) }
+{
+    launch.number == number || some_declared_at(reqs, number)
+}
+
+/// The first number at which requirements of tasks of a launch interfere.
+///
+/// Where their claims first clash, one of the two is new. Where it is new since a record asks for it, they interfere. Else the launch or its points are new, which is no interference, and all pairs are compared.
+fn first_in_launch(
+    alloc: Global,
+    launch: &LaunchTasks,
+    reqs: &[Requirement<'_>],
+) -> Result<Option<u32>, Memory>
+    ensures { IfOk result (IsLeast (InterferesIn launch.now reqs.now)) }
+{
+    let claims = claims_of(alloc, launch, reqs)?;
+    let Some(number) = first_clash(alloc, claims.as_slice())? else {
+        return Ok(None);
+    };
+    if is_late(launch, reqs, number) {
+        Ok(first_by_pairs(launch, reqs))
+    } else {
+        Ok(Some(number))
+    }
+}
+
+/// The first number at which requirements interfere that stand in the order of their tasks.
+fn first_in_launches(
+    alloc: Global,
+    launches: &[LaunchTasks],
+    reqs: &[Requirement<'_>],
+) -> Result<Option<u32>, Memory>
+    requires { IsNonDecreasingBy (λ r. r.task) reqs.now }
+    ensures { IfOk result (IsLeast (InterferesAt launches.now reqs.now)) }
+{
+    let mut first: Option<u32> = None;
+    for launch in launches {
+        let next = first_in_launch(alloc, launch, of_launch(launch, reqs))?;
+        first = lesser(first, next);
+    }
+    Ok(first)
+}
+
+/// The first number of a record at which requirements of tasks of launches interfere.
+pub fn first_interference(
+    alloc: Global,
+    launches: &[LaunchTasks],
+    reqs: &[Requirement<'_>],
+) -> Result<Option<u32>, Memory>
+    ensures { IfOk result (IsLeast (InterferesAt launches.now reqs.now)) }
+{
+    let mut sorted = Vec::from_slice(alloc, reqs)?;
+    sort_by_task(&mut sorted);
+    first_in_launches(alloc, launches, sorted.as_slice())
+}
