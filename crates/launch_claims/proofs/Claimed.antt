@@ -1,9 +1,7 @@
 -- What requirements claim, and when it clashes.
-use Rattle.std.proofs.Common.{◌≡◌, ◌↔◌, ℕ, ◌+◌, ◌<◌, ◌≤◌, max, Bool, false, IsTrue, List, [], ◌∷◌, ◌++◌, ◌⊎◌, Contains, Option, Some, None, IfSome, length, map, refl, sym, ap, subst, ◌∙◌, inl, inr, arith}
+use Rattle.std.proofs.Common.{◌≡◌, ◌↔◌, ℕ, ◌+◌, ◌<◌, ◌≤◌, max, Bool, false, IsTrue, List, ◌⊎◌, Contains, Option, Some, None, IfSome, map, refl, sym, ap, subst, ◌∙◌, inl, inr, arith}
 use Rattle.std.specs.List.{Any, flat_map}
 use Rattle.std.proofs.lemmas.Bool.{both_ways, cases_lt}
-use Rattle.std.proofs.lemmas.List.{get_or-map, length-map}
-use Rattle.std.proofs.lemmas.List.Elements.{Contains-append_left, Contains-append_right, Contains-append_cases, Contains-push_cases}
 use Rattle.launch_claims.specs.declared.claim.Claim.{Claim}
 use Rattle.launch_claims.specs.declared.requirement.LaunchTasks.{LaunchTasks}
 use Rattle.launch_claims.specs.declared.requirement.Requirement.{Requirement}
@@ -11,39 +9,8 @@ use Rattle.launch_claims.specs.Claiming.{claim_on, claims_by, claims_of, run_of,
 use Rattle.launch_claims.specs.Claims.{HasClash, IsFirstClash, asked_below}
 use Rattle.launch_claims.specs.Interference.{Conflict, InterferesIn, IsKnownAt, IsLeast}
 use Rattle.launch_claims.proofs.Clashing.{Clash, clash_back, clash_from, clash_told, one_field, share_from}
+use Rattle.launch_claims.proofs.lemmas.Members.{in_flat, in_map, of_flat, of_map}
 use Rattle.launch_claims.proofs.Passing.{asked_from, asked_in, clash_moved, clash_within}
-
--- ---- members of lists made of lists
-
-one_of : {X : Type 0} (x : X) (xs : List X) (y : X) → Contains (x ∷ xs) y → (x ≡ y) ⊎ Contains xs y
-one_of x xs y h = elim (Contains-append_cases (x ∷ []) xs y h) [
-  | inl first ↦ elim (Contains-push_cases [] x y first) [ inl none ↦ absurd (omega (arith, none.1)) | inr is ↦ inl is ]
-  | inr later ↦ inr later
-]
-
-in_map : {X Y : Type 0} (f : X → Y) (xs : List X) (x : X) → Contains xs x → Contains (map f xs) (f x)
-in_map f xs x h = (h.0, omega (arith, h.1, length-map xs f), get_or-map f xs h.0 x (f x) h.1 ∙ ap f h.2)
-
-of_map : {X Y : Type 0} (f : X → Y) (xs : List X) (y : Y) → Contains (map f xs) y → (x : X) × Contains xs x × (f x ≡ y)
-of_map f [] y h = absurd (omega (arith, h.1))
-of_map f (x ∷ xs) y h = elim (one_of (f x) (map f xs) y h) [
-  | inl is ↦ (x, (0, omega arith, refl), is)
-  | inr later ↦ let r = of_map f xs y later in (r.0, Contains-append_right (x ∷ []) xs r.0 r.1, r.2)
-]
-
-in_flat : {X Y : Type 0} (f : X → List Y) (xs : List X) (x : X) (y : Y) → Contains xs x → Contains (f x) y → Contains (flat_map f xs) y
-in_flat f [] x y h k = absurd (omega (arith, h.1))
-in_flat f (z ∷ xs) x y h k = elim (one_of z xs x h) [
-  | inl is ↦ Contains-append_left (f z) (flat_map f xs) y (subst (λ w. Contains (f w) y) (sym is) k)
-  | inr later ↦ Contains-append_right (f z) (flat_map f xs) y (in_flat f xs x y later k)
-]
-
-of_flat : {X Y : Type 0} (f : X → List Y) (xs : List X) (y : Y) → Contains (flat_map f xs) y → (x : X) × Contains xs x × Contains (f x) y
-of_flat f [] y h = absurd (omega (arith, h.1))
-of_flat f (x ∷ xs) y h = elim (Contains-append_cases (f x) (flat_map f xs) y h) [
-  | inl first ↦ (x, (0, omega arith, refl), first)
-  | inr later ↦ let r = of_flat f xs y later in (r.0, Contains-append_right (x ∷ []) xs r.0 r.1, r.2)
-]
 
 -- ---- claims of requirements
 

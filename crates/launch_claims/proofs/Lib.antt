@@ -1,3 +1,4 @@
+pub mod lemmas
 mod Claimed
 mod Clashing
 mod Ordered

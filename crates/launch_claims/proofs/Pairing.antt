@@ -8,15 +8,12 @@ use Rattle.std.proofs.lemmas.List.Elements.{Contains-append_left, Contains-push,
 use Rattle.std.proofs.lemmas.List.Sorted.{Contains-permutation, IsPermutation-sym}
 use Rattle.launch_claims.specs.declared.requirement.LaunchTasks.{LaunchTasks}
 use Rattle.launch_claims.specs.declared.requirement.Requirement.{Requirement}
+use Rattle.launch_claims.proofs.lemmas.Least.{least_same}
 use Rattle.launch_claims.specs.Interference.{Conflict, InterferesAt, InterferesIn, IsKnownAt, IsLeast, IsOfLaunch, least_with, lesser}
 
 -- At the record of this number, one of the first requirements that it asks for is in conflict with one of all.
 abbrev pub AmongPairs : LaunchTasks → List Requirement → List Requirement → ℕ → Type 0
 AmongPairs l some all n = (u : Requirement) × (v : Requirement) × Contains some u × Contains all v × IsKnownAt l n u v × Conflict u v
-
-pub least_same : (P Q : ℕ → Type 0) → ((n : ℕ) → P n → Q n) → ((n : ℕ) → Q n → P n) → (o : Option ℕ) → IsLeast P o → IsLeast Q o
-least_same P Q to from None h = λ n q. h n (from n q)
-least_same P Q to from (Some m) h = (to m h.0, λ n q. h.1 n (from n q))
 
 pub least_either : (P Q : ℕ → Type 0) (o p : Option ℕ) → IsLeast P o → IsLeast Q p → IsLeast (λ n. P n ⊎ Q n) (lesser o p)
 least_either P Q None None h k = λ n e. elim e [ inl a ↦ h n a | inr b ↦ k n b ]

@@ -1,8 +1,9 @@
-mod Clashing
+mod Breaking
 mod Framing
 mod Goodness
-mod Judging
+mod Listing
 mod Stepping
 mod TaskLists
+mod Using
 mod Walking
 mod Writings

@@ -16,7 +16,7 @@ use Rattle.launches.specs.Written.{is_inner}
 use Rattle.semantics.specs.Faults.{is_end}
 use Rattle.semantics.specs.Launches.{TaskLaunch, Expanded, writes, with_launching, launches_by, names_no_launch, repeats_launch, exceeds_ids, writes_many, writes_long, breaks_launch, space_under, declared_by, colours_of, launch_of}
 use Rattle.launches.specs.declared.launched.Launched.{Launched}
-use Rattle.launches.specs.Steps.{HasTaskIds, launch_seen, expanded_as, early_rules, single_broken}
+use Rattle.launches.specs.Steps.{HasTaskIds, IsKept, launch_seen, expanded_as, early_rules, single_broken}
 
 pub writes_end : (e : Expanded) (r : Record) → is_end r ≡ true → writes e (Plain r) ≡ records.End (length e.written - 1) ∷ []
 writes_end e (records.End n) h = refl
@@ -68,6 +68,12 @@ step_no_launch ls ws us r none e =
 
 pub fit_more : (ls ms : List Launched) (l : Launched) → All HasTaskIds ls → HasTaskIds l → ms ≡ ls ++ l ∷ [] → All HasTaskIds ms
 fit_more ls ms l all one e = subst (All HasTaskIds) (sym e) (All-push HasTaskIds ls l all one)
+
+pub kept_same : (e : Expanded) → IsKept e e
+kept_same e = record { launches = ([], sym (append-nil e.launches)); written = ([], sym (append-nil e.written)) }
+
+pub kept_more : (e f : Expanded) (r : LRecord) → f ≡ with_launching e r → IsKept e f
+kept_more e f r step = record { launches = (launches_by r, ap (λ (x : Expanded). x.launches) step); written = (writes e r, ap (λ (x : Expanded). x.written) step) }
 
 -- ---- the rules by themselves
 

@@ -5,11 +5,11 @@ use Rattle.std.proofs.lemmas.List.Elements.{filter-append, All-push, All-head, A
 use Rattle.std.proofs.lemmas.List.Sums.{fold-append}
 use Rattle.list_lemmas.proofs.lemmas.Firsts.{map_cases}
 use Rattle.list_lemmas.proofs.lemmas.Places.{all_found}
-use Rattle.vocabulary.specs.Prelude.{IsNumberFrom, Record, Lined, Good, spelling, Sub, lined, lined_from, text_of, Tables, tables_of, with_record, no_tables, meets, points_in, PrivWord}
+use Rattle.vocabulary.specs.Prelude.{IsNumberFrom, Record, Lined, Good, spelling, Sub, lined, lined_from, text_of, Tables, tables_of, with_record, no_tables, PrivWord}
 use Rattle.spy_grammar.specs.declared.record.Record.TheVariants as records
 use Rattle.semantics.specs.declared.limits.TheConstants.{MOST_BYTES, MOST_RECORDS}
 use Rattle.semantics.specs.Launches.{space_under}
-use Rattle.log_tables.specs.Regions.{Regions, regions_of, space_points}
+use Rattle.log_tables.specs.Regions.{Regions, regions_of}
 use Rattle.launches.specs.Steps.{space_by}
 use Rattle.launches.specs.Written.{regions_by, with_region, is_inner, capped, Tells}
 
@@ -78,11 +78,6 @@ long_where rs regions inner bytes told = ap (nat_lt MOST_BYTES) told.bytes ∙ m
 pub space_found : (rs : List Record) (regions : Regions) (inner bytes part colour : ℕ) → Tells rs regions inner bytes → option_map (λ (s : Sub). s.space) (find (λ (s : Sub). (s.part == part) && (s.colour == colour)) regions.subs) ≡ space_under (tables_of (lined rs)) part colour
 unfolding regions_by
 space_found rs regions inner bytes part colour told = ap (λ (d : Regions). option_map (λ (s : Sub). s.space) (find (λ (s : Sub). (s.part == part) && (s.colour == colour)) d.subs)) told.regions
-
--- Whether two spaces meet.
-pub meets_by : (rs : List Record) (d : Regions) (n m ours theirs : ℕ) → Tells rs d n m → meets (space_points d ours) (space_points d theirs) ≡ meets (points_in (tables_of (lined rs)) ours) (points_in (tables_of (lined rs)) theirs)
-unfolding regions_by
-meets_by rs d n m ours theirs told = ap (λ (x : Regions). meets (space_points x ours) (space_points x theirs)) told.regions
 
 -- A requirement declares no subspace.
 pub space_stays : (rs : List Record) (id tree space : ℕ) (fields : List ℕ) (access : PrivWord) (atomic : Bool) (part colour : ℕ) → space_by (rs ++ records.Req id tree space fields access atomic ∷ []) part colour ≡ space_by rs part colour

@@ -1,27 +1,28 @@
--- Interference in launches, after a record is written.
-use Rattle.std.specs.Prelude.{ℕ, Bool, true, false, List, drop}
-use Rattle.std.specs.List.{list_any}
-use Rattle.vocabulary.specs.Prelude.{Record, LRecord, lined, tables_of}
-use Rattle.spy_grammar.specs.declared.record.Record.TheVariants as records
-use Rattle.spy_grammar.specs.declared.launches.LRecord.TheVariants.{Plain, Launch, Lreq}
+-- Interference in launches, judged of all that is written. Beside each launch and each written record stands the line of the record that it comes from.
+use Rattle.std.specs.Prelude.{◌≡◌, ℕ, ◌<◌, ◌≤◌, nat_lt, List, filter, map, Contains, IsTrue, Option, Some, None}
+use Rattle.vocabulary.specs.Prelude.{Fault, Record, lined, tables_of}
+use Rattle.spy_grammar.specs.declared.code.Code.TheVariants as codes
+use Rattle.semantics.specs.Faults.{at_line}
 use Rattle.semantics.specs.Launches.{TaskLaunch, clash}
-use Rattle.launches.specs.declared.clashes.Asked.{Asked}
 
--- Whether a record states a requirement.
-abbrev pub is_req : Record → Bool
-is_req (records.Req task tree space fields access atomic) = true
-is_req _ = false
+-- What is written by the lines before this one.
+abbrev pub written_before : ℕ → List (ℕ × Record) → List Record
+written_before line ws = map (λ (w : ℕ × Record). w.1) (filter (λ (w : ℕ × Record). nat_lt w.0 line) ws)
 
--- The requirement that is asked for.
-abbrev pub req_of : Asked → Record
-req_of a = records.Req a.task a.tree a.space a.fields.now a.access a.atomic
+-- What the record on this line writes for a task of an earlier launch clashes with what is written by then for another task of that launch.
+pub record BreaksAt (ls : List (ℕ × TaskLaunch)) (ws : List (ℕ × Record)) (line : ℕ) : Type 0 where
+  pub launch : ℕ × TaskLaunch
+  pub own : ℕ × Record
+  pub other : ℕ × Record
+  pub launched : Contains ls launch
+  pub writes : Contains ws own
+  pub has : Contains ws other
+  pub earlier : launch.0 < line
+  pub at : own.0 ≡ line
+  pub until : other.0 ≤ line
+  pub clash : IsTrue (clash (tables_of (lined (written_before line ws))) launch.1 own.1 other.1)
 
--- Whether a record writes requirements.
-abbrev pub asks : LRecord → Bool
-asks (Plain r) = is_req r
-asks (Launch base colours) = false
-asks (Lreq base tree part fields access atomic) = true
-
--- Whether one of the records from this place on clashes with one of all, in some launch.
-abbrev pub interferes_from : List TaskLaunch → List Record → ℕ → Bool
-interferes_from ls ws before = list_any (λ (l : TaskLaunch). list_any (λ q. list_any (clash (tables_of (lined ws)) l q) ws) (drop before ws)) ls
+-- The fault at the first line at which interference breaks a rule, and else another fault.
+abbrev pub first_fault : Option ℕ → Option Fault → Option Fault
+first_fault None fault = fault
+first_fault (Some line) fault = Some (at_line codes.LaunchInterference line)

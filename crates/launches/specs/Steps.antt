@@ -1,5 +1,5 @@
 -- What one record more writes.
-use Rattle.std.specs.Prelude.{ℕ, ◌+◌, ◌^◌, ◌≤◌, List, [], ◌∷◌, Option, find, length, map, unwrap_or}
+use Rattle.std.specs.Prelude.{◌≡◌, ◌++◌, ℕ, ◌+◌, ◌^◌, ◌≤◌, List, [], ◌∷◌, Option, find, length, map, unwrap_or}
 use Rattle.vocabulary.specs.Prelude.{Code, LRecord, Record, Good, lined, tables_of}
 use Rattle.spy_grammar.specs.declared.code.Code.TheVariants as codes
 use Rattle.spy_grammar.specs.declared.record.Record.TheVariants as records
@@ -42,3 +42,8 @@ single_rules = codes.RepeatedId ∷ codes.UnknownId ∷ codes.LaunchRange ∷ co
 -- The first of these that a record breaks.
 abbrev pub single_broken : Expanded → LRecord → Option Code
 single_broken e r = find (breaks_launch e r) single_rules
+
+-- What is launched and written before stands first in what is so afterwards.
+pub record IsKept (e f : Expanded) : Type 0 where
+  pub launches : (ls : List TaskLaunch) × (f.launches ≡ e.launches ++ ls)
+  pub written : (rs : List Record) × (f.written ≡ e.written ++ rs)

@@ -4,8 +4,7 @@ ghost use Rattle.std.specs.Prelude.{◌≡◌, ◌==◌, ◌&&◌, find, OnOk, O
 ghost use Rattle.std.specs.Option.{option_map};
 ghost use Rattle.point_set.specs.Runs.{AreRuns};
 ghost use Rattle.spy_grammar.specs.declared.record.Record.TheVariants as records;
-ghost use Rattle.vocabulary.specs.Prelude.{Good, meets};
-ghost use Rattle.log_tables.specs.Regions.{space_points};
+ghost use Rattle.vocabulary.specs.Prelude.{Good};
 ghost use Rattle.launches.specs.Written.{with_region};
 
 use arena_sets::ArenaSet;
@@ -74,25 +73,4 @@ pub(crate) fn space_of_step<P: PointSet>(regions: &Decls<P>, part: u32, colour: 
         (find (λ s. (s.part == part) && (s.colour == colour)) regions.now.subs) }
 {
     Some(regions.subs().rows().get(Step { part, colour })?.space)
-}
-
-/// Whether two sets have a point in common.
-fn sets_meet<P: PointSet>(ours: &P, theirs: &P) -> bool
-    ensures { result ≡ meets (P.points ours.now) (P.points theirs.now) }
-{
-    ours.meets(theirs)
-}
-
-/// Whether two spaces have a point in common.
-#[tactic(auto, using(crate::proofs::Clashing::meets_none))]
-pub(crate) fn spaces_meet<P: PointSet>(regions: &Decls<P>, ours: u32, theirs: u32) -> bool
-    ensures { result ≡ meets (space_points regions.now ours) (space_points regions.now theirs) }
-{
-    let Some(our_set) = regions.set(ours) else {
-        return false;
-    };
-    match regions.set(theirs) {
-        Some(their_set) => sets_meet(our_set, their_set),
-        None => false,
-    }
 }

@@ -1,32 +1,40 @@
 //! From the records of a launch log to the log that it stands for.
 
-ghost use Rattle.std.specs.Prelude.{◌≡◌, ◌≤◌, ℕ, All, Err, IfOk, OnOk, None, Some};
+ghost use Rattle.std.specs.Prelude.{◌≡◌, ℕ, All, Err, IfOk, OnOk, None, Some, map};
+ghost use Rattle.std.specs.List.Sorted.{IsStrictlyIncreasing};
 ghost use Rattle.vocabulary.specs.Prelude.{Code, GoodLaunch, Good, Fault};
 ghost use Rattle.semantics.specs.Faults.{at_line};
 ghost use Rattle.semantics.specs.Launches.{AreLaunchLines, launch_fault, launches_fault, not_expanded, written_log};
 
 use crate::expand_end::ExpandEnd;
-use crate::walk::walk;
-use crate::writing::Writing;
+use crate::interference::{first_fault, first_interference};
+use crate::walk::{Walked, walk};
 use bumpalo::Bump;
 use log_frame::frame_fault;
 use memory::Memory;
 use point_set::RunSet;
-use semantics::{Fault, MOST_BYTES};
+use semantics::Fault;
 use spy_grammar::{LLined, Record};
 use std::alloc::Global;
 
 /// What the records of a launch log write, or the fault of the first that breaks a rule on launches.
 fn written(alloc: Global, records: Vec<LLined>) -> Result<Result<Vec<Record>, Fault>, Memory>
-    requires { All (λ l. GoodLaunch l.rec) records.items }
+    requires good { All (λ l. GoodLaunch l.rec) records.items }
+    requires lines { IsStrictlyIncreasing (map (λ l. l.line) records.items) }
     ensures written { IfOk result (λ r. IfOk r (λ w. w.items ≡ written_log records.items)) }
     ensures good { IfOk result (λ r. IfOk r (λ w. All Good w.items)) }
     ensures faultless { IfOk result (λ r. OnOk r (launches_fault not_expanded records.items ≡ None)) }
     ensures fault { IfOk result (λ r. (f : Fault) → r ≡ Err f → launches_fault not_expanded records.items ≡ Some f) }
 {
     let bump = Bump::new(alloc);
-    let mut writing = Writing::<RunSet>::new(alloc);
-    match walk(&mut writing, alloc, &bump, records)? {
+    let Walked {
+        launches,
+        writing,
+        lines,
+        fault,
+    } = walk::<RunSet>(alloc, &bump, records)?;
+    let interference = first_interference(alloc, launches.as_slice(), writing.as_slice(), &lines)?;
+    match first_fault(interference, fault) {
         Some(fault) => Ok(Err(fault)),
         None => Ok(Ok(writing.into_records())),
     }
@@ -39,7 +47,7 @@ fn found(
     lines: u32,
 ) -> Result<Result<Vec<Record>, Fault>, Memory>
     requires good { All (λ l. GoodLaunch l.rec) records.items }
-    requires few { lines ≤ MOST_BYTES }
+    requires lines { AreLaunchLines lines records.items }
     ensures written { IfOk result (λ r. IfOk r (λ w. w.items ≡ written_log records.items)) }
     ensures good { IfOk result (λ r. IfOk r (λ w. All Good w.items)) }
     ensures faultless { IfOk result (λ r. OnOk r (launch_fault lines records.items ≡ None)) }

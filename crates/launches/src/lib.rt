@@ -3,15 +3,15 @@
 //! `expanding.rt` has the call, `walk.rt` the walk over the records, `writing.rt` the records that are written, as they grow, `step.rt` what one record more writes, `rules.rt` the rules that are tried of it by itself, `clashes.rt` the one on interference, and `judge.rt` all of them in their order.
 #![tactic(auto)]
 
-mod clashes;
 mod declaring;
 mod expand_end;
 mod expanding;
-mod judge;
+mod interference;
 mod launched;
 mod rules;
 mod step;
 mod tasks;
+mod uses;
 mod walk;
 mod writing;
 

@@ -5,7 +5,7 @@ ghost use Rattle.std.specs.List.{list_any};
 ghost use Rattle.vocabulary.specs.Prelude.{GoodLaunch, Record, text_of};
 ghost use Rattle.spy_grammar.specs.declared.code.Code.TheVariants as codes;
 ghost use Rattle.semantics.specs.Launches.{breaks_launch, colours_of, exceeds_ids, launch_of, names_no_launch, repeats_launch, with_launching};
-ghost use Rattle.launches.specs.Steps.{HasTaskIds, early_rules, expanded_as, single_broken, space_by};
+ghost use Rattle.launches.specs.Steps.{HasTaskIds, IsKept, early_rules, expanded_as, single_broken, space_by};
 ghost use Rattle.launches.specs.Written.{is_inner};
 
 use crate::launched::Launched;
@@ -139,7 +139,8 @@ pub(crate) fn advance<'a, P: ArenaSet<'a>>(
     ensures code { IfOk result (λ code. code ≡ single_broken (expanded_as launches.old writing.old) rec) }
     ensures step { IfOk result (λ code. code ≡ None → expanded_as launches.new writing.new
         ≡ with_launching (expanded_as launches.old writing.old) rec) }
-    ensures fit { IfOk result (λ code. code ≡ None → All HasTaskIds launches.new) }
+    ensures kept { IfOk result (λ _. IsKept (expanded_as launches.old writing.old) (expanded_as launches.new writing.new)) }
+    ensures fit { IfOk result (λ _. All HasTaskIds launches.new) }
     ensures few { IfOk result (λ code. code ≡ None → length writing.new < 2 ^ 32) }
 {
     let early = early_broken(launches, writing, &rec);

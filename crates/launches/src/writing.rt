@@ -1,12 +1,12 @@
 //! The records that are written, as they grow.
 
 ghost use Rattle.std.specs.Prelude.{◌≡◌, ◌+◌, ◌++◌, ◌∷◌, [], ◌||◌, not, All, filter, length, nat_lt, OnOk, IfOk, IfSome, if◌then◌else◌};
-ghost use Rattle.vocabulary.specs.Prelude.{IsNumberFrom, Good, spelling, meets, points_in, lined, text_of, tables_of};
+ghost use Rattle.vocabulary.specs.Prelude.{IsNumberFrom, Good, spelling, lined, text_of, tables_of};
 ghost use Rattle.semantics.specs.Faults.{is_header, is_end};
 ghost use Rattle.semantics.specs.Launches.{space_under};
 ghost use Rattle.launches.specs.Written.{Tells, is_inner};
 
-use crate::declaring::{declare, space_of_step, spaces_meet};
+use crate::declaring::{declare, space_of_step};
 use arena_sets::ArenaSet;
 use bumpalo::Bump;
 use log_tables::Decls;
@@ -121,13 +121,6 @@ impl<P: PointSet> Writing<P> {
         ensures { result.now ≡ self.now }
     {
         &self.written
-    }
-
-    /// Whether two spaces have a point in common.
-    pub(crate) fn spaces_meet(&self, ours: u32, theirs: u32) -> bool
-        ensures { result ≡ meets (points_in (tables_of (lined self.now)) ours) (points_in (tables_of (lined self.now)) theirs) }
-    {
-        spaces_meet(&self.regions, ours, theirs)
     }
 }
 

@@ -2,7 +2,7 @@ use Rattle.std.proofs.Common.{is_some, refl, sym, ap, ◌∙◌}
 use Rattle.std.proofs.lemmas.Bool.{false≢true}
 use Rattle.semantics.specs.Launches.{Expanded}
 use Rattle.launches.specs.Steps.{expanded_as}
-use Rattle.launches.proofs.Stepping.{none_where, early_told, late_short, late_told, none_early}
+use Rattle.launches.proofs.Stepping.{none_where, early_told, kept_more, kept_same, late_short, late_told, none_early}
 use Rattle.launches.proofs.rules.advance.Goals as goal
 
 pub write-requires : goal.write-requires
@@ -19,7 +19,8 @@ returns-then-is_some g c =
     record {
       code = early_told e c.args.rec c.early_broken-early.result some c.early_broken-early.ensures;
       step = λ none. absurd (false≢true (ap is_some (sym none) ∙ some));
-      fit = λ none. absurd (false≢true (ap is_some (sym none) ∙ some));
+      kept = kept_same e;
+      fit = c.requires.fit;
       few = λ none. absurd (false≢true (ap is_some (sym none) ∙ some));
     }
 
@@ -31,6 +32,7 @@ returns g c =
     record {
       code = late_told e c.args.rec _ c.late_broken.result (sym c.early_broken-early.ensures ∙ none) (ap (λ (x : Expanded). x.written) step) c.late_broken.ensures;
       step = λ kept. step;
-      fit = λ kept. c.in_ok-write.ensures.fit;
+      kept = kept_more e _ c.args.rec step;
+      fit = c.in_ok-write.ensures.fit;
       few = λ kept. late_short _ c.late_broken.result c.late_broken.ensures kept;
     }

@@ -1,9 +1,9 @@
-use Rattle.std.proofs.Common.{◌≡◌, ◌<◌, ◌^◌, All, fold, length}
+use Rattle.std.proofs.Common.{◌≡◌, ◌<◌, ◌^◌, All, None, length}
 use Rattle.std.specs.List.{AllByRecursion}
-use Rattle.std.specs.Vec.Iter.{into_iter_items}
+use Rattle.std.specs.Vec.Iter.{into_iter_items, into_iter_len}
 use Rattle.vocabulary.specs.Prelude.{LLined, GoodLaunch}
-use Rattle.semantics.specs.Launches.{expanded, launch_records, launches_fault, not_expanded, with_launching}
 use Rattle.launches.specs.Steps.{HasTaskIds, expanded_as}
+use Rattle.launches.proofs.Walking.{Walks}
 use Rattle.launches.proofs.walk.walk.Given as goal
 
 abbrev pub invariant-loop-l : goal.invariant-loop-l
@@ -11,8 +11,9 @@ invariant-loop-l g l = record {
   can : (goal.iterator-loop-l g).can_next l.l-iterator;
   finite : (goal.iterator-loop-l g).is_finite l.l-iterator;
   good : AllByRecursion (λ (x : LLined). GoodLaunch x.rec) (into_iter_items l.l-iterator);
-  fault : launches_fault not_expanded l.fn.records.items ≡ launches_fault (expanded_as l.launches l.writing) (into_iter_items l.l-iterator);
-  log : expanded (launch_records l.fn.records.items) ≡ fold with_launching (expanded_as l.launches l.writing) (launch_records (into_iter_items l.l-iterator));
+  walks : Walks l.fn.records.items (into_iter_items l.l-iterator) (expanded_as l.launches l.writing) l.launched.items l.written.items;
   fit : All HasTaskIds l.launches;
   few : length l.writing < 2 ^ 32;
+  left : into_iter_len l.l-iterator ≡ length (into_iter_items l.l-iterator);
+  none : l.fault ≡ None;
 }

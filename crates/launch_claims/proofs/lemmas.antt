@@ -1,0 +1,3 @@
+-- Lemmas for the proofs of other crates.
+pub mod Least
+pub mod Members

@@ -1,0 +1,48 @@
+-- The requirements that written records state, with the points of their spaces. Beside a record stands the line of the record that writes it.
+use Rattle.std.specs.Prelude.{ℕ, ◌+◌, ◌==◌, List, length, Option, Some, None, option_map, find}
+use Rattle.std.specs.List.{filter_map}
+use Rattle.vocabulary.specs.Prelude.{Priv, Record, privilege_of}
+use Rattle.spy_grammar.specs.declared.record.Record.TheVariants as records
+use Rattle.semantics.specs.Launches.{TaskLaunch}
+use Rattle.launch_claims.specs.declared.requirement.LaunchTasks.{LaunchTasks}
+use Rattle.launch_claims.specs.declared.requirement.Requirement.{Requirement}
+use Rattle.launches.specs.declared.uses.Space.{Space}
+
+-- A declared space: its runs, and the line of the record that declares it.
+pub record DeclaredSpace : Type 0 where
+  pub id : ℕ
+  pub runs : List (ℕ × ℕ)
+  pub line : ℕ
+
+-- A requirement on a declared space.
+pub record Use : Type 0 where
+  pub task : ℕ
+  pub tree : ℕ
+  pub runs : List (ℕ × ℕ)
+  pub fields : List ℕ
+  pub access : Priv
+  pub line : ℕ
+  pub declared : ℕ
+
+-- A space, as definitions see it.
+abbrev pub space_seen : Space → DeclaredSpace
+space_seen s = record { id = s.id; runs = s.runs.now; line = s.line }
+
+-- A requirement, as definitions see it.
+abbrev pub use_seen : Requirement → Use
+use_seen r = record { task = r.task; tree = r.tree; runs = r.runs.now; fields = r.fields.now; access = r.access; line = r.record; declared = r.declared }
+
+-- The space that a record declares.
+abbrev pub space_by_record : ℕ × Record → Option DeclaredSpace
+space_by_record (line, records.Ispace id set) = Some (record { id = id; runs = set; line = line })
+space_by_record (line, _) = None
+
+-- The requirement that a record states, if its space is declared.
+abbrev pub asked_by : List DeclaredSpace → ℕ × Record → Option Use
+asked_by spaces (line, records.Req task tree space fields access atomic) =
+    option_map (λ (s : DeclaredSpace). record { task = task; tree = tree; runs = s.runs; fields = fields; access = privilege_of access; line = line; declared = s.line }) (find (λ (s : DeclaredSpace). s.id == space) spaces)
+asked_by spaces (line, _) = None
+
+-- The tasks of a launch.
+abbrev pub tasks_by : ℕ × TaskLaunch → LaunchTasks
+tasks_by l = record { base = l.1.base; end = l.1.base + length l.1.colours; number = l.0 }

@@ -1,0 +1,179 @@
+//! The requirements that written records state, with the points of their spaces, and the launches, as interference is judged of them.
+
+ghost use Rattle.std.specs.Prelude.{◌≡◌, ◌+◌, ◌++◌, ◌^◌, ◌≤◌, ◌==◌, [], All, find, length, map, IfOk, OnOk};
+ghost use Rattle.std.specs.List.{cons_option, filter_map, zip};
+ghost use Rattle.std.specs.Option.{option_map};
+ghost use Rattle.launches.specs.Steps.{HasTaskIds, launch_seen};
+ghost use Rattle.launches.specs.Uses.{asked_by, space_by_record, space_seen, tasks_by, use_seen};
+
+use crate::launched::Launched;
+use launch_claims::{LaunchTasks, Requirement};
+use log_tables::{Keyed, Rows, priv_of};
+use memory::Memory;
+use spy_grammar::Record;
+use std::alloc::Global;
+
+/// A declared space: its points, as runs from a first to a last one, and the line of the record that declares it.
+#[derive(Clone, Copy)]
+pub(crate) struct Space<'w> {
+    pub(crate) id: u32,
+    pub(crate) runs: &'w [(u64, u64)],
+    pub(crate) line: u32,
+}
+
+impl<'w> Keyed<u32> for Space<'w> {
+    ghost key_of = { λ s. s.id };
+
+    fn key(&self) -> u32 {
+        self.id
+    }
+}
+
+/// The space that a record declares, if it declares one.
+fn space_in(rec: &Record, line: u32) -> Option<Space<'_>>
+    ensures { option_map space_seen result ≡ space_by_record (line, rec.now) }
+{
+    match rec {
+        Record::Ispace { id, set } => Some(Space {
+            id: *id,
+            runs: set.as_slice(),
+            line,
+        }),
+        _ => None,
+    }
+}
+
+/// Adds the space that a record declares, if it declares one.
+fn push_space<'w>(
+    spaces: &mut Rows<u32, Space<'w>>,
+    rec: &'w Record,
+    line: u32,
+) -> Result<(), Memory>
+    ensures { OnOk result (map space_seen spaces.new
+        ≡ map space_seen spaces.old ++ cons_option (space_by_record (line, rec.now)) []) }
+{
+    if let Some(space) = space_in(rec, line) {
+        spaces.push(space)?;
+    }
+    Ok(())
+}
+
+/// The spaces that written records declare. Behind each of the first records stands its line.
+pub(crate) fn spaces_in<'w>(
+    alloc: Global,
+    written: &'w [Record],
+    lines: &[u32],
+) -> Result<Rows<u32, Space<'w>>, Memory>
+    requires { length lines.now ≤ length written.now }
+    ensures { IfOk result (λ spaces. map space_seen spaces ≡ filter_map space_by_record (zip lines.now written.now)) }
+{
+    let mut spaces = Rows::new(alloc);
+    for i in 0..lines.len() {
+        push_space(&mut spaces, &written[i], lines[i])?;
+    }
+    Ok(spaces)
+}
+
+/// The first space with this id.
+fn space_of<'w>(spaces: &Rows<u32, Space<'w>>, id: u32) -> Option<Space<'w>>
+    ensures { result ≡ find (λ s. s.id == id) spaces.now }
+{
+    spaces.get(id).copied()
+}
+
+/// The requirement that a record states, if it states one on a declared space.
+fn requirement_in<'w>(
+    spaces: &Rows<u32, Space<'w>>,
+    rec: &'w Record,
+    line: u32,
+) -> Option<Requirement<'w>>
+    ensures { option_map use_seen result ≡ asked_by (map space_seen spaces.now) (line, rec.now) }
+{
+    match rec {
+        Record::Req {
+            task,
+            tree,
+            space,
+            fields,
+            access,
+            ..
+        } => {
+            let Some(space) = space_of(spaces, *space) else {
+                return None;
+            };
+            Some(Requirement {
+                task: *task,
+                tree: *tree,
+                runs: space.runs,
+                fields: fields.as_slice(),
+                access: priv_of(*access),
+                record: line,
+                declared: space.line,
+            })
+        }
+        _ => None,
+    }
+}
+
+/// Adds the requirement that a record states, if it states one on a declared space.
+fn push_requirement<'w>(
+    reqs: &mut Vec<Requirement<'w>>,
+    spaces: &Rows<u32, Space<'w>>,
+    rec: &'w Record,
+    line: u32,
+) -> Result<(), Memory>
+    ensures { OnOk result (map use_seen reqs.new.items
+        ≡ map use_seen reqs.old.items ++ cons_option (asked_by (map space_seen spaces.now) (line, rec.now)) []) }
+{
+    if let Some(req) = requirement_in(spaces, rec, line) {
+        reqs.push(req)?;
+    }
+    Ok(())
+}
+
+/// The requirements that written records state on declared spaces.
+pub(crate) fn requirements_in<'w>(
+    alloc: Global,
+    spaces: &Rows<u32, Space<'w>>,
+    written: &'w [Record],
+    lines: &[u32],
+) -> Result<Vec<Requirement<'w>>, Memory>
+    requires { length lines.now ≤ length written.now }
+    ensures { IfOk result (λ reqs. map use_seen reqs.items
+        ≡ filter_map (asked_by (map space_seen spaces.now)) (zip lines.now written.now)) }
+{
+    let mut reqs = Vec::new(alloc);
+    for i in 0..lines.len() {
+        push_requirement(&mut reqs, spaces, &written[i], lines[i])?;
+    }
+    Ok(reqs)
+}
+
+/// The tasks of a launch on a line.
+fn tasks_of(launch: &Launched, line: u32) -> LaunchTasks
+    requires { HasTaskIds launch.now }
+    ensures { result ≡ tasks_by (line, launch_seen launch.now) }
+{
+    LaunchTasks {
+        base: launch.base,
+        end: u64::from(launch.base) + launch.colours.len() as u64,
+        number: line,
+    }
+}
+
+/// The tasks of launches. Behind each of the first launches stands its line.
+pub(crate) fn launch_tasks(
+    alloc: Global,
+    launches: &[Launched],
+    lines: &[u32],
+) -> Result<Vec<LaunchTasks>, Memory>
+    requires fit { All HasTaskIds launches.now }
+    requires lines { length lines.now ≤ length launches.now }
+    ensures { IfOk result (λ tasks. tasks.items ≡ map tasks_by (zip lines.now (map launch_seen launches.now))) }
+{
+    let mut tasks = Vec::new(alloc);
+    for i in 0..lines.len() {
+        tasks.push(tasks_of(&launches[i], lines[i]))?;
+    }
+    Ok(tasks)
+}
