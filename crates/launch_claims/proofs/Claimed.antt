@@ -1,11 +1,11 @@
 -- What requirements claim, and when it clashes.
-use Rattle.std.proofs.Common.{◌≡◌, ◌↔◌, ℕ, ◌+◌, ◌<◌, ◌≤◌, max, Bool, false, IsTrue, List, ◌⊎◌, Contains, Option, Some, None, IfSome, map, refl, sym, ap, subst, ◌∙◌, inl, inr, arith}
-use Rattle.std.specs.List.{Any, flat_map}
+use Rattle.std.proofs.Common.{◌≡◌, ◌↔◌, ℕ, ◌+◌, ◌<◌, ◌≤◌, max, Bool, false, IsTrue, List, ◌⊎◌, Contains, Option, Some, None, IfSome, map, refl, sym, ap, subst, inl, inr, arith}
+use Rattle.std.specs.List.{Any}
 use Rattle.std.proofs.lemmas.Bool.{both_ways, cases_lt}
 use Rattle.launch_claims.specs.declared.claim.Claim.{Claim}
 use Rattle.launch_claims.specs.declared.requirement.LaunchTasks.{LaunchTasks}
 use Rattle.launch_claims.specs.declared.requirement.Requirement.{Requirement}
-use Rattle.launch_claims.specs.Claiming.{claim_on, claims_by, claims_of, run_of, time_of}
+use Rattle.launch_claims.specs.Claiming.{claim_on, claims_by, claims_of, run_of}
 use Rattle.launch_claims.specs.Claims.{HasClash, IsFirstClash, asked_below}
 use Rattle.launch_claims.specs.Interference.{Conflict, InterferesIn, IsKnownAt, IsLeast}
 use Rattle.launch_claims.proofs.Clashing.{Clash, clash_back, clash_from, clash_told, one_field, share_from}
@@ -66,7 +66,8 @@ clash_there l reqs n h =
     } in
     let one : max l.number (max u.record u.declared) < n + 1 = omega arith in
     let other : max l.number (max v.record v.declared) < n + 1 = omega arith in (
-      c, d,
+      c,
+      d,
       asked_from (n + 1) (claims_of l reqs) c (claimed l reqs u f p h.2 conflict.fields.1 conflict.points.2) one,
       asked_from (n + 1) (claims_of l reqs) d (claimed l reqs v f q h.3 conflict.fields.2 conflict.points.3) other,
       clash_from c d clash,

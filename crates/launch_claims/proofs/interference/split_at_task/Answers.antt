@@ -12,8 +12,8 @@ returns c =
     let t = c.args.task in
     let i = c.partition_point.result in
     let parts : IsParted (λ (r : Requirement). r.task) t reqs i =
-        c.partition_point.ensures.partitioned (λ (r : Requirement). nat_lt r.task t) (always_returns_same _ _ _ (λ a r f called. search rules))
-        (IsPartitionedBy-ltb (λ (r : Requirement). r.task) reqs t c.requires) in
+    c.partition_point.ensures.partitioned (λ (r : Requirement). nat_lt r.task t) (always_returns_same _ _ _ (λ a r f called. search rules))
+    (IsPartitionedBy-ltb (λ (r : Requirement). r.task) reqs t c.requires) in
     record {
       below = λ u. subst (λ (xs : List Requirement). Contains xs u ↔ (Contains reqs u × (u.task < t))) (sym c.split_at.ensures.front) (in_front (λ (r : Requirement). r.task) t reqs i parts u);
       others = λ u. subst (λ (xs : List Requirement). Contains xs u ↔ (Contains reqs u × (t ≤ u.task))) (sym c.split_at.ensures.back) (in_back (λ (r : Requirement). r.task) t reqs i parts u);
