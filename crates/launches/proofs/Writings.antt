@@ -9,26 +9,23 @@ use Rattle.vocabulary.specs.Prelude.{IsNumberFrom, Record, Lined, Good, spelling
 use Rattle.spy_grammar.specs.declared.record.Record.TheVariants as records
 use Rattle.semantics.specs.declared.limits.TheConstants.{MOST_BYTES, MOST_RECORDS}
 use Rattle.semantics.specs.Launches.{space_under}
-use Rattle.log_tables.specs.Regions.{Regions, regions_of}
 use Rattle.launches.specs.Steps.{space_by}
-use Rattle.launches.specs.Written.{regions_by, with_region, is_inner, capped, Tells}
+use Rattle.launches.specs.Written.{subs_by, with_sub, is_inner, capped, Tells}
 
 lined_more : (n : ℕ) (xs : List Record) (y : Record) → lined_from n (xs ++ y ∷ []) ≡ lined_from n xs ++ record { line = n + length xs; rec = y } ∷ []
 lined_more n [] y = ap (λ m. record { line = m; rec = y } ∷ []) (omega arith)
 lined_more n (x ∷ xs) y = ap (λ ls. record { line = n; rec = x } ∷ ls) (lined_more (n + 1) xs y ∙ ap (λ m. lined_from (n + 1) xs ++ record { line = m; rec = y } ∷ []) (omega arith))
 
-region_more : (t : Tables) (line : ℕ) (r : Record) → regions_of (with_record t line r) ≡ with_region (regions_of t) r
-region_more t line (records.Ispace id set) = refl
-region_more t line (records.Part id space disjoint) = refl
-region_more t line (records.Sub part colour space) = refl
-region_more t line _ = refl
+sub_more : (t : Tables) (line : ℕ) (r : Record) → (with_record t line r).subs ≡ with_sub t.subs r
+sub_more t line (records.Sub part colour space) = refl
+sub_more t line _ = refl
 
-pub regions_more : (rs : List Record) (r : Record) → regions_by (rs ++ r ∷ []) ≡ with_region (regions_by rs) r
-unfolding regions_by
-regions_more rs r =
-    ap (λ ls. regions_of (tables_of ls)) (lined_more 1 rs r)
-    ∙ ap regions_of (fold-append (λ (t : Tables) (l : Lined). with_record t l.line l.rec) no_tables (lined rs) (record { line = 1 + length rs; rec = r } ∷ []))
-    ∙ region_more (tables_of (lined rs)) (1 + length rs) r
+pub subs_more : (rs : List Record) (r : Record) → subs_by (rs ++ r ∷ []) ≡ with_sub (subs_by rs) r
+unfolding subs_by
+subs_more rs r =
+    ap (λ ls. (tables_of ls).subs) (lined_more 1 rs r)
+    ∙ ap (λ (t : Tables). t.subs) (fold-append (λ (t : Tables) (l : Lined). with_record t l.line l.rec) no_tables (lined rs) (record { line = 1 + length rs; rec = r } ∷ []))
+    ∙ sub_more (tables_of (lined rs)) (1 + length rs) r
 
 text_more : (rs : List Record) (r : Record) → text_of (rs ++ r ∷ []) ≡ text_of rs ++ (spelling r ++ 10 ∷ [])
 text_more [] r = refl
@@ -47,10 +44,10 @@ capped_more : (n m : ℕ) → capped (capped n + m) ≡ capped (n + m)
 capped_more n m = omega arith
 
 -- With one record more.
-pub tells_more : (rs ss : List Record) (r : Record) (d e : Regions) (n m p q one many : ℕ) → Tells rs d n m → Good r → one ≡ cond (is_inner r) 1 0 → many ≡ length (spelling r ++ 10 ∷ [])
-    → ss ≡ rs ++ r ∷ [] → e ≡ with_region d r → p ≡ capped (n + one) → q ≡ capped (m + many) → Tells ss e p q
-tells_more rs ss r d e n m p q one many told good is_one is_many more regions inner bytes = subst (λ xs. Tells xs e p q) (sym more) (record {
-  regions = regions ∙ ap (λ f. with_region f r) told.regions ∙ sym (regions_more rs r);
+pub tells_more : (rs ss : List Record) (r : Record) (d e : List Sub) (n m p q one many : ℕ) → Tells rs d n m → Good r → one ≡ cond (is_inner r) 1 0 → many ≡ length (spelling r ++ 10 ∷ [])
+    → ss ≡ rs ++ r ∷ [] → e ≡ with_sub d r → p ≡ capped (n + one) → q ≡ capped (m + many) → Tells ss e p q
+tells_more rs ss r d e n m p q one many told good is_one is_many more subs inner bytes = subst (λ xs. Tells xs e p q) (sym more) (record {
+  declared = subs ∙ ap (λ f. with_sub f r) told.declared ∙ sym (subs_more rs r);
   inner =
       inner ∙ ap (λ k. capped (k + one)) told.inner ∙ capped_more (length (filter is_inner rs)) one
       ∙ ap (λ k. capped (length (filter is_inner rs) + k)) is_one ∙ ap capped (sym (inner_more rs r));
@@ -62,27 +59,27 @@ tells_more rs ss r d e n m p q one many told good is_one is_many more regions in
 })
 
 -- Nothing is written.
-pub none_written : Tells [] (record { spaces = []; parts = []; subs = [] }) 0 0
-unfolding regions_by
-none_written = record { regions = refl; inner = refl; bytes = refl; good = λ k d lt. absurd (omega (arith, lt)) }
+pub none_written : Tells [] [] 0 0
+unfolding subs_by
+none_written = record { declared = refl; inner = refl; bytes = refl; good = λ k d lt. absurd (omega (arith, lt)) }
 
 many_capped : (limit n : ℕ) → limit < 2 ^ 64 - 1 → nat_lt limit (capped n) ≡ nat_lt limit n
 many_capped limit n lt = grind (arith, nat_tests)
 
-pub many_where : (rs : List Record) (regions : Regions) (inner bytes : ℕ) → Tells rs regions inner bytes → nat_lt MOST_RECORDS inner ≡ nat_lt MOST_RECORDS (length (filter is_inner rs))
-many_where rs regions inner bytes told = ap (nat_lt MOST_RECORDS) told.inner ∙ many_capped MOST_RECORDS (length (filter is_inner rs)) (omega arith)
+pub many_where : (rs : List Record) (subs : List Sub) (inner bytes : ℕ) → Tells rs subs inner bytes → nat_lt MOST_RECORDS inner ≡ nat_lt MOST_RECORDS (length (filter is_inner rs))
+many_where rs subs inner bytes told = ap (nat_lt MOST_RECORDS) told.inner ∙ many_capped MOST_RECORDS (length (filter is_inner rs)) (omega arith)
 
-pub long_where : (rs : List Record) (regions : Regions) (inner bytes : ℕ) → Tells rs regions inner bytes → nat_lt MOST_BYTES bytes ≡ nat_lt MOST_BYTES (length (text_of rs))
-long_where rs regions inner bytes told = ap (nat_lt MOST_BYTES) told.bytes ∙ many_capped MOST_BYTES (length (text_of rs)) (omega arith)
+pub long_where : (rs : List Record) (subs : List Sub) (inner bytes : ℕ) → Tells rs subs inner bytes → nat_lt MOST_BYTES bytes ≡ nat_lt MOST_BYTES (length (text_of rs))
+long_where rs subs inner bytes told = ap (nat_lt MOST_BYTES) told.bytes ∙ many_capped MOST_BYTES (length (text_of rs)) (omega arith)
 
-pub space_found : (rs : List Record) (regions : Regions) (inner bytes part colour : ℕ) → Tells rs regions inner bytes → option_map (λ (s : Sub). s.space) (find (λ (s : Sub). (s.part == part) && (s.colour == colour)) regions.subs) ≡ space_under (tables_of (lined rs)) part colour
-unfolding regions_by
-space_found rs regions inner bytes part colour told = ap (λ (d : Regions). option_map (λ (s : Sub). s.space) (find (λ (s : Sub). (s.part == part) && (s.colour == colour)) d.subs)) told.regions
+pub space_found : (rs : List Record) (subs : List Sub) (inner bytes part colour : ℕ) → Tells rs subs inner bytes → option_map (λ (s : Sub). s.space) (find (λ (s : Sub). (s.part == part) && (s.colour == colour)) subs) ≡ space_under (tables_of (lined rs)) part colour
+unfolding subs_by
+space_found rs subs inner bytes part colour told = ap (λ (d : List Sub). option_map (λ (s : Sub). s.space) (find (λ (s : Sub). (s.part == part) && (s.colour == colour)) d)) told.declared
 
 -- A requirement declares no subspace.
 pub space_stays : (rs : List Record) (id tree space : ℕ) (fields : List ℕ) (access : PrivWord) (atomic : Bool) (part colour : ℕ) → space_by (rs ++ records.Req id tree space fields access atomic ∷ []) part colour ≡ space_by rs part colour
-unfolding regions_by
-space_stays rs id tree space fields access atomic part colour = ap (λ (d : Regions). option_map (λ (s : Sub). s.space) (find (λ (s : Sub). (s.part == part) && (s.colour == colour)) d.subs)) (regions_more rs (records.Req id tree space fields access atomic))
+unfolding subs_by
+space_stays rs id tree space fields access atomic part colour = ap (λ (d : List Sub). option_map (λ (s : Sub). s.space) (find (λ (s : Sub). (s.part == part) && (s.colour == colour)) d)) (subs_more rs (records.Req id tree space fields access atomic))
 
 -- ---- the spaces of subspaces
 
@@ -95,7 +92,7 @@ ids_from n t [] h good = h
 ids_from n t (r ∷ rs) h good = ids_from (n + 1) (with_record t n r) rs (id_more t n r h (All-head Good r rs good)) (All-tail Good r rs good)
 
 -- The space of a subspace has an id.
-pub space_good : (rs : List Record) (d : Regions) (n m part colour : ℕ) → Tells rs d n m → (o : Option ℕ) → o ≡ space_under (tables_of (lined rs)) part colour → IfSome o (IsNumberFrom 1)
+pub space_good : (rs : List Record) (d : List Sub) (n m part colour : ℕ) → Tells rs d n m → (o : Option ℕ) → o ≡ space_under (tables_of (lined rs)) part colour → IfSome o (IsNumberFrom 1)
 space_good rs d n m part colour told None e = tt
 space_good rs d n m part colour told (Some space) e =
     let test : Sub → Bool = λ (s : Sub). (s.part == part) && (s.colour == colour) in

@@ -9,10 +9,8 @@ ghost use Rattle.semantics.specs.Launches.{AreLaunchLines, launch_fault, launche
 use crate::expand_end::ExpandEnd;
 use crate::interference::{first_fault, first_interference};
 use crate::walk::{Walked, walk};
-use bumpalo::Bump;
 use log_frame::frame_fault;
 use memory::Memory;
-use point_set::RunSet;
 use semantics::Fault;
 use spy_grammar::{LLined, Record};
 use std::alloc::Global;
@@ -26,13 +24,12 @@ fn written(alloc: Global, records: Vec<LLined>) -> Result<Result<Vec<Record>, Fa
     ensures faultless { IfOk result (λ r. OnOk r (launches_fault not_expanded records.items ≡ None)) }
     ensures fault { IfOk result (λ r. (f : Fault) → r ≡ Err f → launches_fault not_expanded records.items ≡ Some f) }
 {
-    let bump = Bump::new(alloc);
     let Walked {
         launches,
         writing,
         lines,
         fault,
-    } = walk::<RunSet>(alloc, &bump, records)?;
+    } = walk(alloc, records)?;
     let interference = first_interference(alloc, launches.as_slice(), writing.as_slice(), &lines)?;
     match first_fault(interference, fault) {
         Some(fault) => Ok(Err(fault)),

@@ -12,11 +12,8 @@ use crate::launched::Launched;
 use crate::step::{launch_of, write};
 use crate::tasks::lacks_space;
 use crate::writing::Writing;
-use arena_sets::ArenaSet;
-use bumpalo::Bump;
 use log_tables::Rows;
 use memory::Memory;
-use point_set::PointSet;
 use semantics::{MOST_BYTES, MOST_COLOURS, MOST_RECORDS};
 use spy_grammar::{Code, LRecord};
 use std::alloc::Global;
@@ -31,9 +28,9 @@ fn has_launch(launches: &Rows<u32, Launched>, base: u32) -> bool
 }
 
 /// Whether a launch with this id is missing, or the partition has no subspace under some of its colours.
-fn lacks_some<P: PointSet>(
+fn lacks_some(
     launches: &Rows<u32, Launched>,
-    writing: &Writing<P>,
+    writing: &Writing,
     base: u32,
     part: u32,
 ) -> bool
@@ -67,9 +64,9 @@ fn repeats_launch(launches: &Rows<u32, Launched>, rec: &LRecord) -> bool
 }
 
 /// Whether an `lreq` names no launch, or has no subspace for some task.
-fn names_no_launch<P: PointSet>(
+fn names_no_launch(
     launches: &Rows<u32, Launched>,
-    writing: &Writing<P>,
+    writing: &Writing,
     rec: &LRecord,
 ) -> bool
     requires { All HasTaskIds launches.now }
@@ -92,9 +89,9 @@ fn exceeds_ids(rec: &LRecord) -> bool
 }
 
 /// The first rule that a record breaks of those that are tried before it is written.
-fn early_broken<P: PointSet>(
+fn early_broken(
     launches: &Rows<u32, Launched>,
-    writing: &Writing<P>,
+    writing: &Writing,
     rec: &LRecord,
 ) -> Option<Code>
     requires { All HasTaskIds launches.now }
@@ -112,7 +109,7 @@ fn early_broken<P: PointSet>(
 }
 
 /// The rule on how much is written that is broken.
-fn late_broken<P: PointSet>(writing: &Writing<P>) -> Option<Code>
+fn late_broken(writing: &Writing) -> Option<Code>
     ensures { result ≡ (if nat_lt MOST_RECORDS (length (filter is_inner writing.now)) then Some codes.TooManyRecords
         else if nat_lt MOST_BYTES (length (text_of writing.now)) then Some codes.TooLong else None) }
 {
@@ -126,11 +123,10 @@ fn late_broken<P: PointSet>(writing: &Writing<P>) -> Option<Code>
 }
 
 /// Adds what one record more launches and writes; or the first rule that it breaks by itself.
-pub(crate) fn advance<'a, P: ArenaSet<'a>>(
+pub(crate) fn advance(
     launches: &mut Rows<u32, Launched>,
-    writing: &mut Writing<P>,
+    writing: &mut Writing,
     alloc: Global,
-    bump: &'a Bump,
     rec: LRecord,
 ) -> Result<Option<Code>, Memory>
     requires good { GoodLaunch rec }
@@ -147,6 +143,6 @@ pub(crate) fn advance<'a, P: ArenaSet<'a>>(
     if early.is_some() {
         return Ok(early);
     }
-    write(launches, writing, alloc, bump, rec)?;
+    write(launches, writing, alloc, rec)?;
     Ok(late_broken(writing))
 }

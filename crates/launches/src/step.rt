@@ -12,8 +12,6 @@ ghost use Rattle.launches.specs.Steps.{AreGood, HasTaskIds, expanded_as, launch_
 use crate::launched::Launched;
 use crate::tasks::{TaskReqs, push_reqs, push_tasks};
 use crate::writing::Writing;
-use arena_sets::ArenaSet;
-use bumpalo::Bump;
 use log_tables::Rows;
 use memory::Memory;
 use spy_grammar::{LRecord, Record};
@@ -56,10 +54,9 @@ fn plain_record(rec: Record, before: usize) -> Record
 }
 
 /// Writes a record of a log.
-fn write_plain<'a, P: ArenaSet<'a>>(
-    writing: &mut Writing<P>,
+fn write_plain(
+    writing: &mut Writing,
     alloc: Global,
-    bump: &'a Bump,
     rec: Record,
 ) -> Result<(), Memory>
     requires good { Good rec }
@@ -68,15 +65,14 @@ fn write_plain<'a, P: ArenaSet<'a>>(
         → writing.new ≡ writing.old ++ writes e (launching.Plain rec)) }
 {
     let rec = plain_record(rec, writing.len());
-    writing.push(alloc, bump, rec)
+    writing.push(alloc, rec)
 }
 
 /// Writes the tasks of a launch, and notes it.
-fn write_launch<'a, P: ArenaSet<'a>>(
+fn write_launch(
     launches: &mut Rows<u32, Launched>,
-    writing: &mut Writing<P>,
+    writing: &mut Writing,
     alloc: Global,
-    bump: &'a Bump,
     launch: Launched,
 ) -> Result<(), Memory>
     requires id { 1 ≤ launch.base }
@@ -85,17 +81,16 @@ fn write_launch<'a, P: ArenaSet<'a>>(
         ≡ with_launching (expanded_as launches.old writing.old) (launching.Launch launch.base launch.colours)) }
     ensures noted { OnOk result (launches.new ≡ launches.old ++ launch ∷ []) }
 {
-    push_tasks(writing, alloc, bump, launch.base, launch.colours.as_slice())?;
+    push_tasks(writing, alloc, launch.base, launch.colours.as_slice())?;
     launches.push(launch)?;
     Ok(())
 }
 
 /// Writes the requirements of the tasks of a launch.
-fn write_reqs<'a, P: ArenaSet<'a>>(
+fn write_reqs(
     launches: &Rows<u32, Launched>,
-    writing: &mut Writing<P>,
+    writing: &mut Writing,
     alloc: Global,
-    bump: &'a Bump,
     base: u32,
     reqs: &TaskReqs<'_>,
 ) -> Result<(), Memory>
@@ -108,17 +103,16 @@ fn write_reqs<'a, P: ArenaSet<'a>>(
         ++ for_tasks (req_for writing.old reqs.now) base (colours_of (expanded_as launches.now writing.old) base)) }
 {
     match launch_of(launches, base) {
-        Some(launch) => push_reqs(writing, alloc, bump, reqs, base, launch.colours.as_slice()),
+        Some(launch) => push_reqs(writing, alloc, reqs, base, launch.colours.as_slice()),
         None => Ok(()),
     }
 }
 
 /// Adds what one record more launches and writes.
-pub(crate) fn write<'a, P: ArenaSet<'a>>(
+pub(crate) fn write(
     launches: &mut Rows<u32, Launched>,
-    writing: &mut Writing<P>,
+    writing: &mut Writing,
     alloc: Global,
-    bump: &'a Bump,
     rec: LRecord,
 ) -> Result<(), Memory>
     requires good { GoodLaunch rec }
@@ -131,10 +125,10 @@ pub(crate) fn write<'a, P: ArenaSet<'a>>(
     ensures fit { OnOk result (All HasTaskIds launches.new) }
 {
     match rec {
-        LRecord::Plain(rec) => write_plain(writing, alloc, bump, rec),
+        LRecord::Plain(rec) => write_plain(writing, alloc, rec),
         LRecord::Launch { base, colours } => {
             let launch = Launched { base, colours };
-            write_launch(launches, writing, alloc, bump, launch)
+            write_launch(launches, writing, alloc, launch)
         }
         LRecord::Lreq {
             base,
@@ -151,7 +145,7 @@ pub(crate) fn write<'a, P: ArenaSet<'a>>(
                 access,
                 atomic,
             };
-            write_reqs(launches, writing, alloc, bump, base, &reqs)
+            write_reqs(launches, writing, alloc, base, &reqs)
         }
     }
 }

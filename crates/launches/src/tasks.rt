@@ -8,10 +8,7 @@ ghost use Rattle.semantics.specs.Launches.{for_tasks};
 ghost use Rattle.launches.specs.Steps.{AreGood, req_for, space_by};
 
 use crate::writing::Writing;
-use arena_sets::ArenaSet;
-use bumpalo::Bump;
 use memory::Memory;
-use point_set::PointSet;
 use spy_grammar::Record;
 use spy_words::{Nums, PrivWord};
 use std::alloc::{AllocError, Global};
@@ -35,8 +32,8 @@ fn copied(alloc: Global, numbers: &Nums) -> Result<Nums, AllocError>
 
 /// The requirement of one task.
 #[tactic(auto, using(crate::proofs::Goodness::good_req))]
-fn req_for<P: PointSet>(
-    writing: &Writing<P>,
+fn req_for(
+    writing: &Writing,
     alloc: Global,
     reqs: &TaskReqs<'_>,
     id: u32,
@@ -63,7 +60,7 @@ fn req_for<P: PointSet>(
 }
 
 /// Whether a partition has no subspace so far under some of these colours.
-pub(crate) fn lacks_space<P: PointSet>(writing: &Writing<P>, part: u32, colours: &[u32]) -> bool
+pub(crate) fn lacks_space(writing: &Writing, part: u32, colours: &[u32]) -> bool
     ensures { result ≡ list_any (λ colour. is_none (space_by writing.now part colour)) colours.now }
 {
     colours
@@ -72,10 +69,9 @@ pub(crate) fn lacks_space<P: PointSet>(writing: &Writing<P>, part: u32, colours:
 }
 
 /// Writes the tasks of a launch.
-pub(crate) fn push_tasks<'a, P: ArenaSet<'a>>(
-    writing: &mut Writing<P>,
+pub(crate) fn push_tasks(
+    writing: &mut Writing,
     alloc: Global,
-    bump: &'a Bump,
     base: u32,
     colours: &[u32],
 ) -> Result<(), Memory>
@@ -86,17 +82,16 @@ pub(crate) fn push_tasks<'a, P: ArenaSet<'a>>(
 {
     let mut id = u64::from(base);
     for _colour in colours {
-        writing.push(alloc, bump, Record::Task { id: id as u32 })?;
+        writing.push(alloc, Record::Task { id: id as u32 })?;
         id += 1;
     }
     Ok(())
 }
 
 /// Writes a requirement of each task of a launch.
-pub(crate) fn push_reqs<'a, P: ArenaSet<'a>>(
-    writing: &mut Writing<P>,
+pub(crate) fn push_reqs(
+    writing: &mut Writing,
     alloc: Global,
-    bump: &'a Bump,
     reqs: &TaskReqs<'_>,
     base: u32,
     colours: &[u32],
@@ -111,7 +106,7 @@ pub(crate) fn push_reqs<'a, P: ArenaSet<'a>>(
     let mut id = u64::from(base);
     for colour in colours {
         let rec = req_for(writing, alloc, reqs, id as u32, *colour)?;
-        writing.push(alloc, bump, rec)?;
+        writing.push(alloc, rec)?;
         id += 1;
     }
     Ok(())

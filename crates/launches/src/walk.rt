@@ -9,11 +9,8 @@ ghost use Rattle.launches.specs.Walks.{HasWalked};
 use crate::launched::Launched;
 use crate::rules::advance;
 use crate::writing::Writing;
-use arena_sets::ArenaSet;
-use bumpalo::Bump;
 use log_tables::Rows;
 use memory::Memory;
-use point_set::PointSet;
 use semantics::Fault;
 use spy_grammar::LLined;
 use std::alloc::Global;
@@ -27,9 +24,9 @@ pub(crate) struct Lines {
 
 /// What is launched and written by the records up to the first that breaks a rule by itself, and the fault of that one.
 #[derive(Drop)]
-pub(crate) struct Walked<P: PointSet> {
+pub(crate) struct Walked {
     pub(crate) launches: Rows<u32, Launched>,
-    pub(crate) writing: Writing<P>,
+    pub(crate) writing: Writing,
     pub(crate) lines: Lines,
     pub(crate) fault: Option<Fault>,
 }
@@ -44,11 +41,10 @@ fn note(lines: &mut Vec<u32>, line: u32, count: usize) -> Result<(), Memory>
 }
 
 /// Writes what the records of a launch log write, up to the first that breaks a rule on launches by itself, and tells the fault of that one.
-pub(crate) fn walk<'a, P: ArenaSet<'a>>(
+pub(crate) fn walk(
     alloc: Global,
-    bump: &'a Bump,
     records: Vec<LLined>,
-) -> Result<Walked<P>, Memory>
+) -> Result<Walked, Memory>
     requires good { All (λ l. GoodLaunch l.rec) records.items }
     requires lines { IsStrictlyIncreasing (map (λ l. l.line) records.items) }
     ensures walked { IfOk result (λ w. HasWalked records.items (expanded_as w.launches w.writing)
@@ -62,7 +58,7 @@ pub(crate) fn walk<'a, P: ArenaSet<'a>>(
     let mut fault = None;
     for l in records {
         let line = l.line;
-        if let Some(code) = advance(&mut launches, &mut writing, alloc, bump, l.rec)? {
+        if let Some(code) = advance(&mut launches, &mut writing, alloc, l.rec)? {
             fault = Some(Fault { line, code });
             break;
         }

@@ -7,22 +7,19 @@ ghost use Rattle.semantics.specs.Launches.{space_under};
 ghost use Rattle.launches.specs.Written.{Tells, is_inner};
 
 use crate::declaring::{declare, space_of_step};
-use arena_sets::ArenaSet;
-use bumpalo::Bump;
-use log_tables::Decls;
+use log_tables::{Rows, Step};
 use memory::Memory;
-use point_set::PointSet;
-use semantics::{MOST_BYTES, MOST_RECORDS};
+use semantics::{MOST_BYTES, MOST_RECORDS, Sub};
 use spy_grammar::{Record, write_record};
 use std::alloc::Global;
 use std::marker::Model;
 
 /// The records that a launch log has written so far, which contracts see as a list. Each has a spelling.
 ///
-/// What they declare of regions is looked up, and not gone through. The two counts stay at the greatest `u64` where they would pass it.
+/// The subspaces that they declare are looked up, and not gone through. The two counts stay at the greatest `u64` where they would pass it.
 #[derive(Drop)]
-pub(crate) struct Writing<P: PointSet> {
-    regions: Decls<P>,
+pub(crate) struct Writing {
+    subs: Rows<Step, Sub>,
     written: Vec<Record>,
     /// How many are neither header nor end.
     inner: u64,
@@ -30,7 +27,7 @@ pub(crate) struct Writing<P: PointSet> {
     bytes: u64,
 }
 
-impl<P: PointSet> Model for Writing<P> {
+impl Model for Writing {
     ghost use Rattle.std.specs.Prelude.{List};
     ghost use Rattle.vocabulary.specs.Prelude.{Record};
     ghost use Rattle.launches.specs.Written.{Tells};
@@ -39,7 +36,7 @@ impl<P: PointSet> Model for Writing<P> {
 
     ghost view = { λ w. w.written.items };
 
-    ghost invariant = { λ w. Tells w.written.items w.regions w.inner w.bytes };
+    ghost invariant = { λ w. Tells w.written.items w.subs w.inner w.bytes };
 }
 
 /// How many of one record are neither header nor end.
@@ -61,14 +58,14 @@ fn line_length(alloc: Global, rec: &Record) -> Result<usize, Memory>
     Ok(line.len())
 }
 
-impl<P: PointSet> Writing<P> {
+impl Writing {
     /// Nothing is written.
     #[tactic(auto, using(crate::proofs::Writings::none_written))]
-    pub(crate) fn new(alloc: Global) -> Writing<P>
+    pub(crate) fn new(alloc: Global) -> Writing
         ensures { result ≡ [] }
     {
         Writing {
-            regions: Decls::new(alloc),
+            subs: Rows::new(alloc),
             written: Vec::new(alloc),
             inner: 0,
             bytes: 0,
@@ -77,8 +74,6 @@ impl<P: PointSet> Writing<P> {
 
     /// The records, handed back.
     pub(crate) fn into_records(self) -> Vec<Record>
-    where
-        P: Drop,
         ensures same { result.items ≡ self }
         ensures good { All Good result.items }
     {
@@ -113,7 +108,7 @@ impl<P: PointSet> Writing<P> {
         ensures space { result ≡ space_under (tables_of (lined self.now)) part colour }
         ensures id { IfSome result (IsNumberFrom 1) }
     {
-        space_of_step(&self.regions, part, colour)
+        space_of_step(&self.subs, part, colour)
     }
 
     /// The records.
@@ -122,18 +117,16 @@ impl<P: PointSet> Writing<P> {
     {
         &self.written
     }
-}
 
-impl<'a, P: ArenaSet<'a>> Writing<P> {
     /// One record more.
-    pub(crate) fn push(&mut self, alloc: Global, bump: &'a Bump, rec: Record) -> Result<(), Memory>
+    pub(crate) fn push(&mut self, alloc: Global, rec: Record) -> Result<(), Memory>
         requires { Good rec }
         ensures { OnOk result (self.new ≡ self.old ++ rec ∷ []) }
     {
         let length = line_length(alloc, &rec)? as u64;
         let inner = self.inner.saturating_add(inner_of(&rec));
         self.written.reserve(1)?;
-        declare(&mut self.regions, bump, &rec)?;
+        declare(&mut self.subs, &rec)?;
         self.inner = inner;
         self.bytes = self.bytes.saturating_add(length);
         self.written.push(rec)?;

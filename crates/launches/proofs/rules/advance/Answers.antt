@@ -1,4 +1,4 @@
-use Rattle.std.proofs.Common.{is_some, refl, sym, ap, ◌∙◌}
+use Rattle.std.proofs.Common.{is_some, sym, ap, ◌∙◌}
 use Rattle.std.proofs.lemmas.Bool.{false≢true}
 use Rattle.semantics.specs.Launches.{Expanded}
 use Rattle.launches.specs.Steps.{expanded_as}
@@ -6,14 +6,14 @@ use Rattle.launches.proofs.Stepping.{none_where, early_told, kept_more, kept_sam
 use Rattle.launches.proofs.rules.advance.Goals as goal
 
 pub write-requires : goal.write-requires
-write-requires g c κs =
+write-requires c =
     let e = expanded_as c.args.launches.now c.args.writing.now in
     let none = none_where c.early_broken-early.result (sym c.is_some.ensures ∙ c.if-is_some.false) in
     let kept = none_early e c.args.rec (sym c.early_broken-early.ensures ∙ none) in
-    ((refl, tt), (c.requires.good, (kept.0, (kept.1, (c.requires.few, c.requires.fit)))))
+    record { good = c.requires.good; known = kept.0; ids = kept.1; few = c.requires.few; fit = c.requires.fit }
 
 pub returns-then-is_some : goal.returns-then-is_some
-returns-then-is_some g c =
+returns-then-is_some c =
     let e = expanded_as c.args.launches.now c.args.writing.now in
     let some = sym c.is_some.ensures ∙ c.if-is_some.true in
     record {
@@ -25,7 +25,7 @@ returns-then-is_some g c =
     }
 
 pub returns : goal.returns
-returns g c =
+returns c =
     let e = expanded_as c.args.launches.now c.args.writing.now in
     let none = none_where c.early_broken-early.result (sym c.is_some.ensures ∙ c.if-is_some.false) in
     let step = c.in_ok-write.ensures.step in

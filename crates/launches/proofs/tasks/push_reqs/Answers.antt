@@ -7,7 +7,7 @@ use Rattle.launches.proofs.Writings.{space_stays}
 use Rattle.launches.proofs.tasks.push_reqs.Goals as goal
 
 pub loop-colour-preserved : goal.loop-colour-preserved
-loop-colour-preserved g c =
+loop-colour-preserved c =
     let inv = c.loop-colour.invariant in
     let reqs = c.args.reqs.now in
     let was = c.loop-colour.writing in

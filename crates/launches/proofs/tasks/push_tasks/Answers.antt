@@ -4,7 +4,7 @@ use Rattle.launches.proofs.TaskLists.{one_task_more}
 use Rattle.launches.proofs.tasks.push_tasks.Goals as goal
 
 pub loop-colour-preserved : goal.loop-colour-preserved
-loop-colour-preserved g c =
+loop-colour-preserved c =
     let inv = c.loop-colour.invariant in
     record {
       at = omega (arith, inv.at);

@@ -17,7 +17,7 @@ nothing_left [] e = refl
 nothing_left (x ∷ xs) e = absurd (omega (arith, e))
 
 pub loop-l-init : goal.loop-l-init
-loop-l-init g c =
+loop-l-init c =
     let all = c.into_iter-l-iterator.ensures.into_iter_gives.0 in
     record {
       can = tt;
@@ -31,12 +31,12 @@ loop-l-init g c =
     }
 
 pub note-requires : goal.note-requires
-note-requires g c =
+note-requires c =
     launches_grow c.args.records.items _ (expanded_as c.loop-l.launches c.loop-l.writing) (expanded_as c.advance.new.launches c.advance.new.writing) c.loop-l.launched.items c.loop-l.written.items c.in-Some.l.rec c.len.result c.loop-l.invariant.walks
     (c.in_ok-code.ensures.step c.in_default.is) (c.len.ensures ∙ sym (length-map c.advance.new.launches launch_seen))
 
 pub loop-l-preserved : goal.loop-l-preserved
-loop-l-preserved g c =
+loop-l-preserved c =
     let inv = c.loop-l.invariant in
     let l = c.in-Some.l in
     let rest = into_iter_items c.next.new.self in
@@ -64,7 +64,7 @@ loop-l-preserved g c =
     }
 
 pub returns-clause-walked : goal.returns-clause-walked
-returns-clause-walked g c =
+returns-clause-walked c =
     let log = c.args.records.items in
     let ns = c.loop-l.launched.items in
     let ms = c.loop-l.written.items in
@@ -90,7 +90,7 @@ returns-clause-walked g c =
     ]
 
 pub returns-clause-fit : goal.returns-clause-fit
-returns-clause-fit g c = elim c.match-next.branch [
+returns-clause-fit c = elim c.match-next.branch [
   | in-None w ↦ subst (All HasTaskIds) (sym w.launches-is) c.loop-l.invariant.fit
   | in-Some+in_ok-code+in-Some-2 w ↦ subst (All HasTaskIds) (sym w.launches-is) w.in_ok-code.ensures.fit
 ]

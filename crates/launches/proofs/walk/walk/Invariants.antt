@@ -7,9 +7,9 @@ use Rattle.launches.proofs.Walking.{Walks}
 use Rattle.launches.proofs.walk.walk.Given as goal
 
 abbrev pub invariant-loop-l : goal.invariant-loop-l
-invariant-loop-l g l = record {
-  can : (goal.iterator-loop-l g).can_next l.l-iterator;
-  finite : (goal.iterator-loop-l g).is_finite l.l-iterator;
+invariant-loop-l l = record {
+  can : goal.iterator-loop-l.can_next l.l-iterator;
+  finite : goal.iterator-loop-l.is_finite l.l-iterator;
   good : AllByRecursion (λ (x : LLined). GoodLaunch x.rec) (into_iter_items l.l-iterator);
   walks : Walks l.fn.records.items (into_iter_items l.l-iterator) (expanded_as l.launches l.writing) l.launched.items l.written.items;
   fit : All HasTaskIds l.launches;
