@@ -1,8 +1,7 @@
 -- Which records have a spelling.
-use Rattle.std.proofs.Common.{◌≡◌, ℕ, zero, suc, ◌+◌, ◌^◌, ◌<◌, ◌≤◌, Bool, true, List, [], ◌∷◌, length, get_or, All, subst, arith}
-use Rattle.std.proofs.lemmas.Bool.{and_parts, ltb-true}
-use Rattle.vocabulary.specs.Prelude.{ascends, span_before, IsSpan, IsNumberFrom, Good, PrivWord}
-use Rattle.spy_grammar.specs.declared.record.Record.TheVariants.{Ispace, Task, Req}
+use Rattle.std.proofs.Common.{ℕ, ◌^◌, ◌<◌, ◌≤◌, Bool, List}
+use Rattle.vocabulary.specs.Prelude.{IsNumberFrom, Good, PrivWord}
+use Rattle.spy_grammar.specs.declared.record.Record.TheVariants.{Task, Req}
 
 pub good_task : (id : ℕ) → 1 ≤ id → id < 2 ^ 32 → Good (Task id)
 good_task id least most = ((least, most), tt)

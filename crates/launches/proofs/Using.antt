@@ -1,13 +1,13 @@
 -- Interference among requirements is what breaks the rule.
-use Rattle.std.proofs.Common.{◌≡◌, ◌≢◌, ◌↔◌, ℕ, ◌+◌, ◌<◌, ◌≤◌, ◌==◌, max, min, nat_lt, Bool, true, false, not, ◌&&◌, IsTrue, List, [], ◌∷◌, ◌++◌, Contains, filter, find, fold, length, map, get_or, Option, Some, None, option_map, refl, sym, ap, subst, ◌∙◌, inl, inr, arith, append_assoc, append-nil, ◌⊎◌, if◌then◌else◌}
+use Rattle.std.proofs.Common.{◌≡◌, ◌≢◌, ℕ, ◌+◌, ◌<◌, ◌≤◌, ◌==◌, max, nat_lt, true, false, not, ◌&&◌, List, [], ◌∷◌, ◌++◌, Contains, find, fold, length, map, get_or, Option, Some, None, option_map, refl, sym, ap, subst, ◌∙◌, inl, inr, arith, append_assoc, append-nil, ◌⊎◌, if◌then◌else◌}
 use Rattle.std.specs.List.{cons_option, filter_map}
 use Rattle.std.specs.Option.{option_map_or}
-use Rattle.std.proofs.lemmas.Bool.{and_from, and_parts, both_ways, cases_Bool, eq-eqb, eqb-false, eqb-true, false≢true, le-ltb, lt-ltb, ltb-false, ltb-true, ne_eqb, not-true, not_from_false}
+use Rattle.std.proofs.lemmas.Bool.{and_from, and_parts, cases_Bool, eq-eqb, eqb-false, eqb-true, false≢true, le-ltb, lt-ltb, ltb-false, ltb-true, ne_eqb, not-true, not_from_false}
 use Rattle.std.proofs.lemmas.List.{get_or_default}
 use Rattle.std.proofs.lemmas.List.Elements.{Contains-append_right, Contains-get_or}
 use Rattle.std.proofs.lemmas.Option.{none-some}
 use Rattle.list_lemmas.proofs.lemmas.Firsts.{map_cases}
-use Rattle.point_set.proofs.lemmas.InRuns.{Holds, InRun, in_run, of_run}
+use Rattle.point_set.proofs.lemmas.InRuns.{in_run, of_run}
 use Rattle.log_tables.proofs.lemmas.Members.{has_in, in_has}
 use Rattle.launch_claims.specs.declared.requirement.LaunchTasks.{LaunchTasks}
 use Rattle.launch_claims.specs.declared.requirement.Requirement.{Requirement}
@@ -215,7 +215,7 @@ shared_clash n ds t l points (k, records.Req task tree space fields access atomi
     let one = map_cases (use_on k task tree fields access) (find (λ (d : DeclaredSpace). d.id == space) ds) u asks in
     let two = map_cases (use_on j other its_tree its_fields its_access) (find (λ (d : DeclaredSpace). d.id == its_space) ds) v others in
     let s : Shared n l (use_on k task tree fields access one.0) (use_on j other its_tree its_fields its_access two.0) =
-        subst (λ (z : Use). Shared n l z (use_on j other its_tree its_fields its_access two.0)) (sym one.2) (subst (λ (z : Use). Shared n l u z) (sym two.2) shared) in
+    subst (λ (z : Use). Shared n l z (use_on j other its_tree its_fields its_access two.0)) (sym one.2) (subst (λ (z : Use). Shared n l u z) (sym two.2) shared) in
     let point = point_at one.0.runs two.0.runs s.points in
     let here = subst (λ (xs : List ℕ). Contains xs point.0) (sym (points space)) (known_from n (find (λ (d : DeclaredSpace). d.id == space) ds) one.0 point.0 one.1 s.declared point.1) in
     let there = subst (λ (xs : List ℕ). Contains xs point.0) (sym (points its_space)) (known_from n (find (λ (d : DeclaredSpace). d.id == its_space) ds) two.0 point.0 two.1 s.also point.2) in
@@ -280,7 +280,7 @@ breaks_to ls ws reqs n order are b =
     let u = of_map use_seen reqs r.0 (subst (λ (xs : List Use). Contains xs r.0) (sym are) (in_filtered (asked_by ds) ws b.own r.0 b.writes r.2)) in
     let v = of_map use_seen reqs r.1 (subst (λ (xs : List Use). Contains xs r.1) (sym are) (in_filtered (asked_by ds) ws b.other r.1 b.has r.3)) in
     let s : Shared n b.launch (use_seen u.0) (use_seen v.0) =
-        subst (λ (z : Use). Shared n b.launch z (use_seen v.0)) (sym u.2) (subst (λ (z : Use). Shared n b.launch r.0 z) (sym v.2) r.4) in
+    subst (λ (z : Use). Shared n b.launch z (use_seen v.0)) (sym u.2) (subst (λ (z : Use). Shared n b.launch r.0 z) (sym v.2) r.4) in
     let here : u.0.record ≡ b.own.0 = ap (λ (z : Use). z.line) u.2 ∙ asked_line ds b.own r.0 r.2 in
     let there : v.0.record ≡ b.other.0 = ap (λ (z : Use). z.line) v.2 ∙ asked_line ds b.other r.1 r.3 in
     let at = b.at in

@@ -1,17 +1,17 @@
 -- The walk over the records of a launch log.
-use Rattle.std.proofs.Common.{◌≡◌, ℕ, zero, suc, ◌+◌, ◌-◌, ◌<◌, ◌≤◌, Bool, true, false, List, [], ◌∷◌, ◌++◌, Contains, fold, find, get_or, length, map, replicate, Option, Some, None, option_map, refl, sym, ap, subst, ◌∙◌, inl, inr, ◌⊎◌, arith, add-one, append-nil, length-append, if◌then◌else◌}
+use Rattle.std.proofs.Common.{◌≡◌, ℕ, suc, ◌+◌, ◌-◌, ◌<◌, ◌≤◌, true, false, List, [], ◌∷◌, ◌++◌, Contains, fold, find, get_or, length, map, replicate, Option, Some, None, option_map, refl, sym, ap, subst, ◌∙◌, inl, inr, arith, length-append, if◌then◌else◌}
 use Rattle.std.specs.Bool.{⊤}
 use Rattle.std.specs.List.{zip}
 use Rattle.std.specs.List.Sorted.{IsStrictlyIncreasing}
 use Rattle.std.specs.Option.{option_or}
-use Rattle.std.proofs.lemmas.Bool.{cases_Bool, cases_lt, both_ways}
+use Rattle.std.proofs.lemmas.Bool.{cases_Bool, cases_lt}
 use Rattle.std.proofs.lemmas.List.{get_or-replicate, length-map, length-replicate}
 use Rattle.std.proofs.lemmas.List.Elements.{Contains-append_cases, Contains-append_right}
 use Rattle.std.proofs.lemmas.List.Folds.{find-append}
 use Rattle.vocabulary.specs.Prelude.{Code, Fault, LLined, LRecord, Record}
 use Rattle.spy_grammar.specs.declared.code.Code.TheVariants as codes
 use Rattle.semantics.specs.Faults.{at_line}
-use Rattle.semantics.specs.Launches.{Expanded, TaskLaunch, breaks_launch, expanded, interferes_in_launch, launch_records, launch_rules, launches_by, launches_fault, not_expanded, with_launching, writes, written_log}
+use Rattle.semantics.specs.Launches.{Expanded, TaskLaunch, breaks_launch, interferes_in_launch, launch_records, launch_rules, launches_by, launches_fault, not_expanded, with_launching, writes, written_log}
 use Rattle.launch_claims.specs.Interference.{IsLeast}
 use Rattle.std.proofs.lemmas.Option.{none-some}
 use Rattle.launch_claims.proofs.lemmas.Members.{of_map, one_of}
@@ -197,9 +197,9 @@ pub walks_more : (log rest : List LLined) (l : LLined) (e f : Expanded) (ns ms n
     → k ≡ length f.launches → next_ns ≡ ns ++ replicate (k - length ns) l.line → j ≡ length f.written → next_ms ≡ ms ++ replicate (j - length ms) l.line → Walks log rest f next_ns next_ms
 walks_more log rest l e f ns ms next_ns next_ms k j w none step launches are_ns records are_ms =
     let same_ns : next_ns ≡ ns ++ replicate (length (launches_by l.rec)) l.line =
-        are_ns ∙ ap (λ (xs : List ℕ). ns ++ xs) (count_more ns e.launches (launches_by l.rec) f.launches k l.line w.beside.launched (ap (λ (x : Expanded). x.launches) step) launches) in
+    are_ns ∙ ap (λ (xs : List ℕ). ns ++ xs) (count_more ns e.launches (launches_by l.rec) f.launches k l.line w.beside.launched (ap (λ (x : Expanded). x.launches) step) launches) in
     let same_ms : next_ms ≡ ms ++ replicate (length (writes e l.rec)) l.line =
-        are_ms ∙ ap (λ (xs : List ℕ). ms ++ xs) (count_more ms e.written (writes e l.rec) f.written j l.line w.beside.written (ap (λ (x : Expanded). x.written) step) records) in
+    are_ms ∙ ap (λ (xs : List ℕ). ms ++ xs) (count_more ms e.written (writes e l.rec) f.written j l.line w.beside.written (ap (λ (x : Expanded). x.written) step) records) in
     subst (λ (x : Expanded). Walks log rest x next_ns next_ms) (sym step)
     (subst (λ (xs : List ℕ). Walks log rest (with_launching e l.rec) xs next_ms) (sym same_ns)
     (subst (λ (xs : List ℕ). Walks log rest (with_launching e l.rec) (ns ++ replicate (length (launches_by l.rec)) l.line) xs) (sym same_ms) (walks_step log rest l e ns ms w none)))

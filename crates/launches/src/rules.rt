@@ -28,12 +28,7 @@ fn has_launch(launches: &Rows<u32, Launched>, base: u32) -> bool
 }
 
 /// Whether a launch with this id is missing, or the partition has no subspace under some of its colours.
-fn lacks_some(
-    launches: &Rows<u32, Launched>,
-    writing: &Writing,
-    base: u32,
-    part: u32,
-) -> bool
+fn lacks_some(launches: &Rows<u32, Launched>, writing: &Writing, base: u32, part: u32) -> bool
     requires { All HasTaskIds launches.now }
     ensures { let e = expanded_as launches.now writing.now in
         result ≡ (is_none (launch_of e base)
@@ -64,11 +59,7 @@ fn repeats_launch(launches: &Rows<u32, Launched>, rec: &LRecord) -> bool
 }
 
 /// Whether an `lreq` names no launch, or has no subspace for some task.
-fn names_no_launch(
-    launches: &Rows<u32, Launched>,
-    writing: &Writing,
-    rec: &LRecord,
-) -> bool
+fn names_no_launch(launches: &Rows<u32, Launched>, writing: &Writing, rec: &LRecord) -> bool
     requires { All HasTaskIds launches.now }
     ensures { result ≡ names_no_launch (expanded_as launches.now writing.now) rec.now }
 {
@@ -89,11 +80,7 @@ fn exceeds_ids(rec: &LRecord) -> bool
 }
 
 /// The first rule that a record breaks of those that are tried before it is written.
-fn early_broken(
-    launches: &Rows<u32, Launched>,
-    writing: &Writing,
-    rec: &LRecord,
-) -> Option<Code>
+fn early_broken(launches: &Rows<u32, Launched>, writing: &Writing, rec: &LRecord) -> Option<Code>
     requires { All HasTaskIds launches.now }
     ensures { result ≡ find (breaks_launch (expanded_as launches.now writing.now) rec.now) early_rules }
 {

@@ -54,11 +54,7 @@ fn plain_record(rec: Record, before: usize) -> Record
 }
 
 /// Writes a record of a log.
-fn write_plain(
-    writing: &mut Writing,
-    alloc: Global,
-    rec: Record,
-) -> Result<(), Memory>
+fn write_plain(writing: &mut Writing, alloc: Global, rec: Record) -> Result<(), Memory>
     requires good { Good rec }
     requires few { length writing.old < 2 ^ 32 }
     ensures { OnOk result ((e : Expanded) → e.written ≡ writing.old

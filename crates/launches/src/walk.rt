@@ -41,10 +41,7 @@ fn note(lines: &mut Vec<u32>, line: u32, count: usize) -> Result<(), Memory>
 }
 
 /// Writes what the records of a launch log write, up to the first that breaks a rule on launches by itself, and tells the fault of that one.
-pub(crate) fn walk(
-    alloc: Global,
-    records: Vec<LLined>,
-) -> Result<Walked, Memory>
+pub(crate) fn walk(alloc: Global, records: Vec<LLined>) -> Result<Walked, Memory>
     requires good { All (λ l. GoodLaunch l.rec) records.items }
     requires lines { IsStrictlyIncreasing (map (λ l. l.line) records.items) }
     ensures walked { IfOk result (λ w. HasWalked records.items (expanded_as w.launches w.writing)

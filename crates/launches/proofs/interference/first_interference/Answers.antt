@@ -1,6 +1,5 @@
-use Rattle.std.proofs.Common.{ℕ, List, map, ap, subst, ◌∙◌}
+use Rattle.std.proofs.Common.{ℕ, List, map, ap, ◌∙◌}
 use Rattle.std.specs.List.{filter_map, zip}
-use Rattle.std.specs.Result.{IfOk}
 use Rattle.std.proofs.lemmas.Result.{IfOk-weaker}
 use Rattle.launch_claims.specs.declared.requirement.Requirement.{Requirement}
 use Rattle.launch_claims.specs.Interference.{InterferesAt, IsLeast}

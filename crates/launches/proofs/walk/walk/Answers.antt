@@ -83,7 +83,7 @@ returns-clause-walked c =
           let f = expanded_as w.advance.new.launches w.advance.new.writing in
           let cut : into_iter_items c.loop-l.l-iterator ≡ l ∷ rest = w.in-Some.ensures.steps.0 in
           let told : HasWalked log f ns ms (Some (at_line w.in-Some-2.code l.line)) =
-              walks_fault log rest l e f ns ms w.in-Some-2.code (subst (λ (xs : List LLined). Walks log xs e ns ms) cut inv.walks) (sym w.in_ok-code.ensures.code ∙ w.in-Some-2.is) w.in_ok-code.ensures.kept in
+          walks_fault log rest l e f ns ms w.in-Some-2.code (subst (λ (xs : List LLined). Walks log xs e ns ms) cut inv.walks) (sym w.in_ok-code.ensures.code ∙ w.in-Some-2.is) w.in_ok-code.ensures.kept in
           subst (λ (ls : List Launched). HasWalked log (expanded_as ls c.match-next.writing) ns ms c.match-next.fault) (sym w.launches-is)
           (subst (λ (ws : List Record). HasWalked log (expanded_as w.advance.new.launches ws) ns ms c.match-next.fault) (sym w.writing-is)
           (subst (λ (o : Option Fault). HasWalked log f ns ms o) (sym w.fault-is) told))
