@@ -1,6 +1,5 @@
 mod Breaking
 mod Framing
-mod Goodness
 mod Listing
 mod Stepping
 mod TaskLists

@@ -15,6 +15,7 @@ use Rattle.semantics.specs.declared.limits.TheConstants.{MOST_BYTES, MOST_COLOUR
 use Rattle.launches.specs.Written.{is_inner}
 use Rattle.semantics.specs.Faults.{is_end}
 use Rattle.semantics.specs.Launches.{TaskLaunch, Expanded, writes, with_launching, launches_by, names_no_launch, repeats_launch, exceeds_ids, writes_many, writes_long, breaks_launch, space_under, declared_by, colours_of, launch_of}
+use Rattle.launch_laws.proofs.lemmas.WrittenLogs.{length_text}
 use Rattle.launches.specs.declared.launched.Launched.{Launched}
 use Rattle.launches.specs.Steps.{HasTaskIds, IsKept, launch_seen, expanded_as, early_rules, single_broken}
 
@@ -38,24 +39,6 @@ ids_found ls base (Some l) fit e =
 pub some_seen : {X Y : Type 0} (f : X → Y) (o : Option X) (p : Option Y) → option_map f o ≡ p → is_some o ≡ is_some p
 some_seen f None p e = ap is_some e
 some_seen f (Some x) p e = ap is_some e
-
--- ---- what a good record gives
-
-pub good_tasks : (base : ℕ) (colours : List ℕ) → GoodLaunch (Launch base colours) → 1 ≤ base
-good_tasks base colours good = good.0.0
-
-pub ids_fit : (base : ℕ) (colours : List ℕ) → exceeds_ids (Launch base colours) ≡ false → base + length colours ≤ 2 ^ 32
-ids_fit base colours e = ltb-false (2 ^ 32) (base + length colours) (or_parts (nat_lt MOST_COLOURS (length colours)) (nat_lt (2 ^ 32) (base + length colours)) e).1
-
-pub good_base : (base tree part : ℕ) (fields : List ℕ) (access : PrivWord) (atomic : Bool) → GoodLaunch (Lreq base tree part fields access atomic) → 1 ≤ base
-good_base base tree part fields access atomic good = good.0.0
-
-pub good_reqs : (base tree part : ℕ) (fields : List ℕ) (access : PrivWord) (atomic : Bool) → GoodLaunch (Lreq base tree part fields access atomic) → Good (records.Req 1 tree 1 fields access atomic)
-good_reqs base tree part fields access atomic good = ((omega arith, omega arith), (good.1.0, ((omega arith, omega arith), good.1.1.1)))
-
-pub none_lacking : (e : Expanded) (base tree part : ℕ) (fields : List ℕ) (access : PrivWord) (atomic : Bool) → names_no_launch e (Lreq base tree part fields access atomic) ≡ false
-    → list_any (λ colour. is_none (space_under (declared_by e) part colour)) (colours_of e base) ≡ false
-none_lacking e base tree part fields access atomic h = (or_parts (is_none (launch_of e base)) (list_any (λ colour. is_none (space_under (declared_by e) part colour)) (colours_of e base)) h).1
 
 -- ---- one step
 
@@ -131,10 +114,6 @@ late_told e r ws o none more is =
     ∙ sym (early_or_late e r none)
 
 -- ---- how many records there are
-
-length_text : (rs : List Record) → length rs ≤ length (text_of rs)
-length_text [] = omega arith
-length_text (r ∷ rs) = omega (arith, length-append (spelling r) (10 ∷ text_of rs), length_text rs)
 
 pub late_short : (rs : List Record) (o : Option Code) → o ≡ (if nat_lt MOST_RECORDS (length (filter is_inner rs)) then Some codes.TooManyRecords else if nat_lt MOST_BYTES (length (text_of rs)) then Some codes.TooLong else None) → o ≡ None → length rs < 2 ^ 32
 late_short rs o is none = elim (cases_Bool (nat_lt MOST_RECORDS (length (filter is_inner rs)))) [

@@ -1,7 +1,7 @@
 -- What is known of written records, and of one more.
 use Rattle.std.proofs.Common.{◌≡◌, ℕ, ◌+◌, ◌-◌, ◌^◌, ◌<◌, ◌==◌, ◌&&◌, nat_lt, Bool, true, false, cond, List, [], ◌∷◌, ◌++◌, fold, find, filter, length, All, Option, Some, None, IfSome, option_map, refl, sym, ap, ◌∙◌, subst, arith, append_assoc, length-append}
 use Rattle.std.proofs.lemmas.Bool.Decides.{nat_tests}
-use Rattle.std.proofs.lemmas.List.Elements.{filter-append, All-push, All-head, All-tail, All-nil}
+use Rattle.std.proofs.lemmas.List.Elements.{recursion_from_All, filter-append, All-push, All-head, All-tail, All-nil}
 use Rattle.std.proofs.lemmas.List.Sums.{fold-append}
 use Rattle.list_lemmas.proofs.lemmas.Firsts.{map_cases}
 use Rattle.list_lemmas.proofs.lemmas.Places.{all_found}
@@ -10,6 +10,7 @@ use Rattle.spy_grammar.specs.declared.record.Record.TheVariants as records
 use Rattle.semantics.specs.declared.limits.TheConstants.{MOST_BYTES, MOST_RECORDS}
 use Rattle.semantics.specs.Launches.{space_under}
 use Rattle.launches.specs.Steps.{space_by}
+use Rattle.launch_laws.proofs.lemmas.WrittenLogs
 use Rattle.launches.specs.Written.{subs_by, with_sub, is_inner, capped, Tells}
 
 lined_more : (n : ℕ) (xs : List Record) (y : Record) → lined_from n (xs ++ y ∷ []) ≡ lined_from n xs ++ record { line = n + length xs; rec = y } ∷ []
@@ -83,19 +84,6 @@ space_stays rs id tree space fields access atomic part colour = ap (λ (d : List
 
 -- ---- the spaces of subspaces
 
-id_more : (t : Tables) (line : ℕ) (r : Record) → All (λ (s : Sub). IsNumberFrom 1 s.space) t.subs → Good r → All (λ (s : Sub). IsNumberFrom 1 s.space) (with_record t line r).subs
-id_more t line (records.Sub part colour space) h good = All-push (λ (s : Sub). IsNumberFrom 1 s.space) t.subs (record { part = part; colour = colour; space = space }) h good.1.1.0
-id_more t line _ h good = h
-
-ids_from : (n : ℕ) (t : Tables) (rs : List Record) → All (λ (s : Sub). IsNumberFrom 1 s.space) t.subs → All Good rs → All (λ (s : Sub). IsNumberFrom 1 s.space) (fold (λ (u : Tables) (l : Lined). with_record u l.line l.rec) t (lined_from n rs)).subs
-ids_from n t [] h good = h
-ids_from n t (r ∷ rs) h good = ids_from (n + 1) (with_record t n r) rs (id_more t n r h (All-head Good r rs good)) (All-tail Good r rs good)
-
 -- The space of a subspace has an id.
 pub space_good : (rs : List Record) (d : List Sub) (n m part colour : ℕ) → Tells rs d n m → (o : Option ℕ) → o ≡ space_under (tables_of (lined rs)) part colour → IfSome o (IsNumberFrom 1)
-space_good rs d n m part colour told None e = tt
-space_good rs d n m part colour told (Some space) e =
-    let test : Sub → Bool = λ (s : Sub). (s.part == part) && (s.colour == colour) in
-    let subs = (tables_of (lined rs)).subs in
-    let found = map_cases (λ (s : Sub). s.space) (find test subs) space (sym e) in
-    subst (IsNumberFrom 1) found.2 (all_found (λ (s : Sub). IsNumberFrom 1 s.space) test subs found.0 (ids_from 1 no_tables rs (All-nil (λ (s : Sub). IsNumberFrom 1 s.space)) told.good) found.1)
+space_good rs d n m part colour told = WrittenLogs.space_good rs part colour (recursion_from_All Good rs told.good)

@@ -31,7 +31,7 @@ fn copied(alloc: Global, numbers: &Nums) -> Result<Nums, AllocError>
 }
 
 /// The requirement of one task.
-#[tactic(auto, using(crate::proofs::Goodness::good_req))]
+#[tactic(auto, using(launch_laws::proofs::lemmas::WrittenLogs::good_req))]
 fn req_for(
     writing: &Writing,
     alloc: Global,

@@ -2,7 +2,7 @@ use Rattle.std.proofs.Common.{◌≡◌, false, subst}
 use Rattle.vocabulary.specs.Prelude.{GoodLaunch}
 use Rattle.semantics.specs.Launches.{exceeds_ids, names_no_launch}
 use Rattle.launches.specs.Steps.{expanded_as}
-use Rattle.launches.proofs.Stepping.{good_tasks, ids_fit, good_base, good_reqs, none_lacking}
+use Rattle.launch_laws.proofs.lemmas.WrittenLogs.{good_tasks, ids_fit, good_base, good_reqs, none_lacking}
 use Rattle.launches.proofs.step.write.Goals as goal
 
 pub write_launch-requires : goal.write_launch-requires
