@@ -1,6 +1,6 @@
 //! The first records at which claims of launches clash, found by hand.
 
-use launch_claims::{Claim, first_clash};
+use launch_claims::{Claim, LaunchTasks, Requirement, first_clash, first_interference};
 use privilege::Priv;
 use std::alloc::Global;
 use std::test::Fail;
@@ -170,6 +170,43 @@ fn places_are_apart(rt: HostRuntime) -> Result<(), Fail> {
             claim_of(&rows[1], launch, tree, field),
         ];
         assert_eq!(rt; told(rt.alloc(), claims.as_slice())?, first);
+    }
+    Ok(())
+}
+
+/// A requirement of one launch: its task, the record that asks for it, and the one that declares its points.
+fn requirement(task: u32, record: u32, declared: u32) -> Requirement<'static> {
+    Requirement {
+        task,
+        tree: 1,
+        runs: &[(0, 3), (8, 9)],
+        fields: &[2],
+        access: Priv::Rw,
+        record,
+        declared,
+    }
+}
+
+#[test]
+fn first_interferences_are_told(rt: HostRuntime) -> Result<(), Fail> {
+    let launch = LaunchTasks {
+        base: 4,
+        end: 6,
+        number: 3,
+    };
+    for (one, other, first) in [
+        (requirement(4, 5, 1), requirement(5, 7, 1), Some(7)),
+        (requirement(4, 2, 1), requirement(5, 7, 1), Some(7)),
+        (requirement(4, 2, 1), requirement(5, 1, 0), None),
+        (requirement(4, 5, 6), requirement(5, 7, 1), Some(7)),
+        (requirement(4, 5, 8), requirement(5, 7, 1), None),
+        (requirement(4, 5, 1), requirement(4, 7, 1), None),
+        (requirement(4, 5, 1), requirement(6, 7, 1), None),
+    ] {
+        match first_interference(rt.alloc(), [launch].as_slice(), [one, other].as_slice()) {
+            Ok(found) => assert_eq!(rt; found, first),
+            Err(_) => return Err("no memory".into()),
+        }
     }
     Ok(())
 }
