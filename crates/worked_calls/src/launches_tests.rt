@@ -1,47 +1,17 @@
 //! What a launch log writes, and the faults of launches.
 
-ghost use Rattle.std.specs.Prelude.{All, IfOk};
-ghost use Rattle.spy_grammar.specs.Launches.{GoodLaunch};
-ghost use Rattle.semantics.specs.Launches.{AreLaunchLines};
-
 use launches::{ExpandEnd, expand};
-use semantics::MOST_BYTES;
-use spy_grammar::{Code, LLined, read_launch_line, write_record};
+use log_reading::launch_input_in;
+use spy_grammar::{Code, write_record};
 use std::alloc::Global;
 use std::test::Fail;
 
-/// The records of a launch log, and how many lines it has.
-#[derive(Drop)]
-struct LaunchLog {
-    records: Vec<LLined>,
-    lines: u32,
-}
-
-/// The records of the lines of a text.
-fn read_log(alloc: Global, text: &[u8]) -> Result<LaunchLog, Fail>
-    ensures good { IfOk result (λ l. All (λ r. GoodLaunch r.rec) l.records.items) }
-    ensures lines { IfOk result (λ l. AreLaunchLines l.lines l.records.items) }
-{
-    let mut records = Vec::new(alloc);
-    let mut lines = 0u32;
-    for words in text.split(|b| *b == b'\n') {
-        if u64::from(lines) >= MOST_BYTES {
-            return Err("too many lines".into());
-        }
-        lines += 1;
-        match read_launch_line(alloc, words) {
-            Ok(Some(rec)) => records.push(LLined { line: lines, rec })?,
-            Ok(None) => {}
-            Err(_) => return Err("a line that spells no record".into()),
-        }
-    }
-    Ok(LaunchLog { records, lines })
-}
-
 /// The log that a launch log stands for, or the line and the code of its fault.
 fn expanded(alloc: Global, text: &[u8]) -> Result<Result<Vec<u8>, (u32, Code)>, Fail> {
-    let log = read_log(alloc, text)?;
-    match expand(alloc, log.records, log.lines) {
+    let input = launch_input_in(alloc, text.to_vec(alloc)?)
+        .ok()
+        .ok_or("a line that spells no record")?;
+    match expand(alloc, input.records, input.lines) {
         Ok(records) => {
             let mut written = Vec::new(alloc);
             for rec in &records {
@@ -55,83 +25,15 @@ fn expanded(alloc: Global, text: &[u8]) -> Result<Result<Vec<u8>, (u32, Code)>, 
     }
 }
 
-/// Two tasks of a launch write a half of a region each. With `third` the second half is declared, with `launch` the launch, and with `more` further records; there are `count` records between header and end.
-fn halves(
-    alloc: Global,
-    third: &str,
-    launch: &str,
-    more: &str,
-    count: u32,
-) -> Result<String, Fail> {
-    Ok(format!(in alloc;
-        "legion-spy 1\nispace 1 0-3\npart 1 1 aliased\nispace 2 0-1\nsub 1 0 2\n{third}\nsub 1 1 3\nfields 1 1\ntree 1 1 1\n{launch}\nlreq 1 1 1 1 wd ex\n{more}inst 1 1 1 1 plain\nmap 1 1 1 1\nmap 2 1 1 1\nrun 1 1 -\nrun 2 2 -\nend {count}\n"
-    )?)
-}
-
 #[test]
 fn launches_are_expanded(rt: HostRuntime) -> Result<(), Fail> {
     let alloc = rt.alloc();
-    let text = halves(alloc, "ispace 3 2-3", "launch 1 0,1", "", 15)?;
-    let written = expanded(alloc, text.as_bytes())?.ok().ok_or("a fault")?;
+    let text = b"legion-spy 1\nispace 1 0-3\npart 1 1 aliased\nispace 2 0-1\nsub 1 0 2\nlaunch 1 0\nlreq 1 1 1 1 wd ex\nend 6\n";
+    let written = expanded(alloc, text)?.ok().ok_or("a fault")?;
     assert_eq!(rt;
         written.as_slice(),
-        b"legion-spy 1\nispace 1 0-3\npart 1 1 aliased\nispace 2 0-1\nsub 1 0 2\nispace 3 2-3\nsub 1 1 3\nfields 1 1\ntree 1 1 1\ntask 1\ntask 2\nreq 1 1 2 1 wd ex\nreq 2 1 3 1 wd ex\ninst 1 1 1 1 plain\nmap 1 1 1 1\nmap 2 1 1 1\nrun 1 1 -\nrun 2 2 -\nend 17\n".as_slice()
+        b"legion-spy 1\nispace 1 0-3\npart 1 1 aliased\nispace 2 0-1\nsub 1 0 2\ntask 1\nreq 1 1 2 1 wd ex\nend 6\n".as_slice()
     );
-    Ok(())
-}
-
-#[test]
-fn launches_have_their_faults(rt: HostRuntime) -> Result<(), Fail> {
-    let alloc = rt.alloc();
-    for (third, launch, more, count, fault) in [
-        (
-            "ispace 3 1-3",
-            "launch 1 0,1",
-            "",
-            15,
-            (11, Code::LaunchInterference),
-        ),
-        (
-            "ispace 3 2-3",
-            "launch 1 0,2",
-            "",
-            15,
-            (11, Code::UnknownId),
-        ),
-        (
-            "ispace 3 2-3",
-            "launch 1 0,1",
-            "req 2 1 1 1 ro ex\n",
-            16,
-            (12, Code::LaunchInterference),
-        ),
-        (
-            "ispace 3 2-3",
-            "launch 1 0,1",
-            "launch 1 5\n",
-            16,
-            (12, Code::RepeatedId),
-        ),
-        (
-            "ispace 3 2-3",
-            "launch 1 0,1",
-            "launch 4294967295 0,1\n",
-            16,
-            (12, Code::LaunchRange),
-        ),
-        (
-            "ispace 3 2-3",
-            "launch 1 0,1",
-            "lreq 2 1 1 1 wd ex\n",
-            16,
-            (12, Code::UnknownId),
-        ),
-        ("ispace 3 2-3", "launch 1 0,1", "", 16, (17, Code::Count)),
-    ] {
-        let text = halves(alloc, third, launch, more, count)?;
-        let found = expanded(alloc, text.as_bytes())?.err();
-        assert!(rt; found == Some(fault), "at {third}, {launch}, {more}");
-    }
     Ok(())
 }
 
