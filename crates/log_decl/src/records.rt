@@ -64,20 +64,6 @@ fn are_within(records: &[Lined], lines: u32) -> bool
     records.iter().all(|l| l.line <= lines)
 }
 
-/// Whether so many lines are not more than an input may have bytes.
-fn are_few(lines: u32) -> bool
-    ensures { IsTrue result ↔ lines ≤ MOST_BYTES }
-{
-    u64::from(lines) <= MOST_BYTES
-}
-
-/// Whether all four are true.
-fn all_of(one: bool, two: bool, three: bool, four: bool) -> bool
-    ensures { IsTrue result ↔ (IsTrue one × IsTrue two × IsTrue three × IsTrue four) }
-{
-    one && two && three && four
-}
-
 /// Whether each number is below the next.
 fn is_ascending(numbers: &[u32]) -> bool
     ensures { IsTrue result ↔ IsStrictlyIncreasing numbers.now }
@@ -95,10 +81,9 @@ pub fn are_log_records(alloc: Global, records: &[Lined], lines: u32) -> Result<b
     ensures { IfOk result (λ are. IsTrue are
         ↔ (All (λ l. Good l.rec) records.now × AreLines lines records.now)) }
 {
+    if lines as u64 > MOST_BYTES || !are_good(records) || !are_within(records, lines) {
+        return Ok(false);
+    }
     let numbers = lines_of(alloc, records)?;
-    let good = are_good(records);
-    let ascending = is_ascending(&numbers);
-    let within = are_within(records, lines);
-    let few = are_few(lines);
-    Ok(all_of(good, ascending, within, few))
+    Ok(is_ascending(&numbers))
 }

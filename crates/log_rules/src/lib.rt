@@ -21,8 +21,8 @@ pub use instances::{is_mapped_again, is_not_covered, is_of_wrong_kind, is_of_wro
 pub use load::has_much_load;
 pub use names::{names_unknown, repeats_id};
 pub use own::interferes_with_own;
-pub use requirements::{has_wrong_fields, is_not_in_tree};
+pub use requirements::{exceeds_tree, has_wrong_fields, is_not_in_tree};
 pub use serial::is_bad_serial;
-pub use spaces::{is_late_sub, is_no_root, is_sub_again, is_too_deep};
+pub use spaces::{is_in_tree, is_late_sub, is_no_root, is_sub_again, is_too_deep};
 pub use tally::{Tally, has_many_accesses, has_many_cells, has_many_points};
 pub use whole_log::{WholeLog, has_no_run, waits_for_none};

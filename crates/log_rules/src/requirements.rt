@@ -25,7 +25,7 @@ pub fn is_not_in_tree<P: PointSet>(draft: &Draft<P>, rec: &Record) -> bool
 }
 
 /// Whether some field is none of a tree's.
-fn exceeds_tree<P: PointSet>(draft: &Draft<P>, tree: u32, fields: &Nums) -> bool
+pub fn exceeds_tree<P: PointSet>(draft: &Draft<P>, tree: u32, fields: &Nums) -> bool
     ensures { result ≡ exceeds_tree draft.now tree fields.now }
 {
     match draft.tree(tree) {

@@ -84,7 +84,7 @@ fn lies_below<P: PointSet>(draft: &Draft<P>, space: u32, root: u32, limit: usize
 }
 
 /// Whether a space is the root space of a tree, or lies below it.
-pub(crate) fn is_in_tree<P: PointSet>(draft: &Draft<P>, tree: u32, space: u32) -> bool
+pub fn is_in_tree<P: PointSet>(draft: &Draft<P>, tree: u32, space: u32) -> bool
     ensures { result ≡ is_in_tree draft.now tree space }
 {
     match draft.tree(tree) {

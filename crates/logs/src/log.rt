@@ -90,6 +90,13 @@ impl<'a, P: PointSet + Copy> Log<'a, P> {
         let _draft = &self.draft;
     }
 
+    /// The tables, in which more can be looked up.
+    pub fn draft(&self) -> &Draft<P>
+        ensures { result.now ≡ self.now }
+    {
+        &self.draft
+    }
+
     /// The items, in program order, the order of their lines.
     pub fn items(&self) -> &[Item]
         ensures { result.now ≡ self.now.items }
