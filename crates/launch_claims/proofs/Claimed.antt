@@ -59,7 +59,7 @@ clash_there l reqs n h =
     let others = known.others in
     let others_declared = known.others_declared in
     let clash : Clash c d = record {
-      field = share_from c d (record { launch = refl; tree = conflict.tree; field = refl });
+      field = share_from c d (record { tree = conflict.tree; field = refl });
       points = conflict.points.4;
       tasks = conflict.tasks;
       accesses = conflict.accesses;

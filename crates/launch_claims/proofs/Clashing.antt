@@ -31,30 +31,28 @@ disagree_back p q e = elim (cases_Bool (agree q p)) [
 
 -- two claims of one field
 pub record OneField (c d : Claim) : Type 0 where
-  pub launch : c.launch ≡ d.launch
   pub tree : c.tree ≡ d.tree
   pub field : c.field ≡ d.field
 
 pub one_field : (c d : Claim) → IsTrue (share_field c d) → OneField c d
 one_field c d h =
-    let one = and_parts _ _ h in
-    let two = and_parts _ _ one.1 in
-    record { launch = eqb-true c.launch d.launch one.0; tree = eqb-true c.tree d.tree two.0; field = eqb-true c.field d.field two.1 }
+    let both = and_parts _ _ h in
+    record { tree = eqb-true c.tree d.tree both.0; field = eqb-true c.field d.field both.1 }
 
 pub share_from : (c d : Claim) → OneField c d → IsTrue (share_field c d)
-share_from c d h = and_from _ _ (eq-eqb c.launch d.launch h.launch) (and_from _ _ (eq-eqb c.tree d.tree h.tree) (eq-eqb c.field d.field h.field))
+share_from c d h = and_from _ _ (eq-eqb c.tree d.tree h.tree) (eq-eqb c.field d.field h.field)
 
 pub share_back : (c d : Claim) → IsTrue (share_field c d) → IsTrue (share_field d c)
-share_back c d h = let o = one_field c d h in share_from d c (record { launch = sym o.launch; tree = sym o.tree; field = sym o.field })
+share_back c d h = let o = one_field c d h in share_from d c (record { tree = sym o.tree; field = sym o.field })
 
 pub share_also : (b c d : Claim) → IsTrue (share_field b c) → IsTrue (share_field c d) → IsTrue (share_field b d)
 share_also b c d h k =
     let o = one_field b c h in
     let p = one_field c d k in
-    share_from b d (record { launch = o.launch ∙ p.launch; tree = o.tree ∙ p.tree; field = o.field ∙ p.field })
+    share_from b d (record { tree = o.tree ∙ p.tree; field = o.field ∙ p.field })
 
 pub share_same : (c : Claim) → IsTrue (share_field c c)
-share_same c = share_from c c (record { launch = refl; tree = refl; field = refl })
+share_same c = share_from c c (record { tree = refl; field = refl })
 
 -- the parts of a clash
 pub record Clash (c d : Claim) : Type 0 where

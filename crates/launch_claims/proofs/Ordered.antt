@@ -11,13 +11,13 @@ use Rattle.launch_claims.proofs.Clashing.{one_field}
 
 -- what the sort compares
 abbrev pub Key : Type 0
-Key = ℕ × ℕ × ℕ × ℕ
+Key = ℕ × ℕ × ℕ
 
 abbrev pub key_of : Claim → Key
-key_of c = (c.launch, c.tree, c.field, c.first)
+key_of c = (c.tree, c.field, c.first)
 
 abbrev pub key_cmp : Key → Key → Ordering
-key_cmp x y = ordering_then (ordering_then (ordering_then (nat_cmp x.0 y.0) (nat_cmp x.1 y.1)) (nat_cmp x.2 y.2)) (nat_cmp x.3 y.3)
+key_cmp x y = ordering_then (ordering_then (nat_cmp x.0 y.0) (nat_cmp x.1 y.1)) (nat_cmp x.2 y.2)
 
 then_not_less : (o p : Ordering) → is_lt (ordering_then o p) ≡ false → (is_lt o ≡ false) × (o ≡ Equal → is_lt p ≡ false)
 then_not_less Less p h = absurd (let none : ⊥ = cc in none)
@@ -37,25 +37,21 @@ then_tied o p e f = ap (λ q. ordering_then q p) e ∙ f
 
 not_less : (c d : Claim) → is_lt (key_cmp (key_of d) (key_of c)) ≡ false → IsBefore c d
 not_less c d h =
-    let l = nat_cmp d.launch c.launch in
     let t = nat_cmp d.tree c.tree in
     let f = nat_cmp d.field c.field in
-    let three = then_not_less (ordering_then (ordering_then l t) f) (nat_cmp d.first c.first) h in
-    let two = then_not_less (ordering_then l t) f three.0 in
-    let one = then_not_less l t two.0 in
+    let two = then_not_less (ordering_then t f) (nat_cmp d.first c.first) h in
+    let one = then_not_less t f two.0 in
     record {
       fields = record {
-        launch = not_below c.launch d.launch l refl one.0;
-        tree = λ e. not_below c.tree d.tree t refl (one.1 (tied c.launch d.launch e));
-        field = λ e g. not_below c.field d.field f refl (two.1 (then_tied l t (tied c.launch d.launch e) (tied c.tree d.tree g)));
+        tree = not_below c.tree d.tree t refl one.0;
+        field = λ e. not_below c.field d.field f refl (one.1 (tied c.tree d.tree e));
       };
       points = λ share.
           let o = one_field c d share in
-          not_below c.first d.first (nat_cmp d.first c.first) refl
-          (three.1 (then_tied (ordering_then l t) f (then_tied l t (tied c.launch d.launch o.launch) (tied c.tree d.tree o.tree)) (tied c.field d.field o.field)));
+          not_below c.first d.first (nat_cmp d.first c.first) refl (two.1 (then_tied t f (tied c.tree d.tree o.tree) (tied c.field d.field o.field)));
     }
 
 pub in_order : (claims : List Claim) → IsSortedByKey key_of key_cmp claims → AreInOrder claims
 in_order claims up i j d lt within =
-    let total = then_total (then_total (then_total (on_total (λ (t : Key). t.0) nat_cmp_total) (on_total (λ (t : Key). t.1) nat_cmp_total)) (on_total (λ (t : Key). t.2) nat_cmp_total)) (on_total (λ (t : Key). t.3) nat_cmp_total) in
+    let total = then_total (then_total (on_total (λ (t : Key). t.0) nat_cmp_total) (on_total (λ (t : Key). t.1) nat_cmp_total)) (on_total (λ (t : Key). t.2) nat_cmp_total) in
     not_less (get_or claims i d) (get_or claims j d) (sorted_far (λ (x : Claim) (y : Claim). is_lt (key_cmp (key_of x) (key_of y))) (ranks_by total key_of) claims up i j d (omega arith) within)

@@ -135,7 +135,7 @@ none_found claims sorted most (Some n) perm above starts = (
 
 -- what a place beyond the end of a list reads as
 abbrev pub blank : Claim
-blank = record { launch = 0; tree = 0; field = 0; first = 0; last = 0; task = 0; access = Ro; «record» = 0 }
+blank = record { tree = 0; field = 0; first = 0; last = 0; task = 0; access = Ro; «record» = 0 }
 
 -- no record has a number below 0
 pub none_below_zero : (claims : List Claim) → ¬ HasClash (asked_below 0 claims)

@@ -79,19 +79,17 @@ no_point seen d less some = let h = clash_told some.0 d some.2 in omega (arith, 
 -- where the last field that was seen is not that of the next claim, none that was seen is
 fields_same : (c d : Claim) → IsFieldBefore c d → IsFieldBefore d c → OneField c d
 fields_same c d h k =
-    let launch : c.launch ≡ d.launch = omega (arith, h.launch, k.launch) in
-    let tree : c.tree ≡ d.tree = omega (arith, h.tree launch, k.tree (sym launch)) in
-    record { launch = launch; tree = tree; field = omega (arith, h.field launch tree, k.field (sym launch) (sym tree)) }
+    let tree : c.tree ≡ d.tree = omega (arith, h.tree, k.tree) in
+    record { tree = tree; field = omega (arith, h.field tree, k.field (sym tree)) }
 
 field_moved : (b c d : Claim) → OneField b c → IsFieldBefore b d → IsFieldBefore c d
 field_moved b c d o h = record {
-  launch = omega (arith, o.launch, h.launch);
-  tree = λ e. let t = h.tree (o.launch ∙ e) in omega (arith, o.tree, t);
-  field = λ e f. let t = h.field (o.launch ∙ e) (o.tree ∙ f) in omega (arith, o.field, t);
+  tree = omega (arith, o.tree, h.tree);
+  field = λ e. let t = h.field (o.tree ∙ e) in omega (arith, o.field, t);
 }
 
 field_same : (c d : Claim) → IsTrue (share_field c d) → IsFieldBefore c d
-field_same c d share = let o = one_field c d share in record { launch = omega (arith, o.launch); tree = λ e. omega (arith, o.tree); field = λ e f. omega (arith, o.field) }
+field_same c d share = let o = one_field c d share in record { tree = omega (arith, o.tree); field = λ e. omega (arith, o.field) }
 
 pub other_field : (seen : List Claim) (r : Reach) (d : Claim) → share_field r.furthest d ≡ false → Measures r seen → IsBehind seen d → (c : Claim) → Contains seen c → share_field c d ≡ false
 other_field seen r d apart h behind c in_seen = false_from_ne_true (share_field c d) (λ shared.

@@ -1,11 +1,11 @@
--- What tasks of launches claim, and which of it clashes.
+-- What tasks of a launch claim, and which of it clashes.
 use Rattle.std.specs.Prelude.{◌≡◌, ℕ, ◌+◌, ◌==◌, max, min, nat_le, nat_lt, Bool, not, ◌&&◌, List, filter, Contains, IsTrue}
 use Rattle.privilege.specs.Interference.{agree}
 use Rattle.launch_claims.specs.declared.claim.Claim.{Claim}
 
--- Whether two claims are of one launch, and of one field of one tree.
+-- Whether two claims are of one field of one tree.
 abbrev pub share_field : Claim → Claim → Bool
-share_field c d = (c.launch == d.launch) && ((c.tree == d.tree) && (c.field == d.field))
+share_field c d = (c.tree == d.tree) && (c.field == d.field)
 
 -- Whether the runs of two claims have a point in common.
 abbrev pub share_point : Claim → Claim → Bool

@@ -5,11 +5,10 @@ use Rattle.launch_claims.specs.declared.claim.Claim.{Claim}
 use Rattle.launch_claims.specs.declared.reach.Reach.{Reach}
 use Rattle.launch_claims.specs.Claims.{share_field, clashes, HasClash, asked_below}
 
--- The first claim is of the field of the second, or of an earlier one: launches come in ascending order, in each its trees, and in each of these its fields.
+-- The first claim is of the field of the second, or of an earlier one: trees come in ascending order, and in each its fields.
 pub record IsFieldBefore (c d : Claim) : Type 0 where
-  pub launch : c.launch ≤ d.launch
-  pub tree : c.launch ≡ d.launch → c.tree ≤ d.tree
-  pub field : c.launch ≡ d.launch → c.tree ≡ d.tree → c.field ≤ d.field
+  pub tree : c.tree ≤ d.tree
+  pub field : c.tree ≡ d.tree → c.field ≤ d.field
 
 -- Fields come in order, and within a field first points do.
 pub record IsBefore (c d : Claim) : Type 0 where

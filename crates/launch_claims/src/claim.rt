@@ -8,8 +8,6 @@ use privilege::Priv;
 /// A run of points of a field of a tree that a task of a launch uses by a requirement.
 #[derive(Clone, Copy)]
 pub struct Claim {
-    /// Which launch, by its number among the launches.
-    pub launch: u32,
     pub tree: u32,
     pub field: u32,
     /// The first and the last point.
@@ -22,9 +20,9 @@ pub struct Claim {
     pub record: u32,
 }
 
-/// Whether two claims are of one launch, and of one field of one tree.
+/// Whether two claims are of one field of one tree.
 pub(crate) fn share_field(one: &Claim, other: &Claim) -> bool
     ensures { result ≡ share_field one.now other.now }
 {
-    one.launch == other.launch && one.tree == other.tree && one.field == other.field
+    one.tree == other.tree && one.field == other.field
 }

@@ -20,7 +20,6 @@ fn claim_on(launch: &LaunchTasks, req: &Requirement<'_>, field: u32) -> Claim
     ensures { result ≡ claim_on launch.now req.now field }
 {
     Claim {
-        launch: launch.number,
         tree: req.tree,
         field,
         first: 0,

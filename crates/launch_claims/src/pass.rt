@@ -8,12 +8,12 @@ ghost use Rattle.launch_claims.specs.Reaches.{AreInOrder};
 use crate::claim::Claim;
 use crate::reach::{Reach, clashes_so_far, reach_with};
 
-/// Puts claims in the order of their launches, trees, fields and first points.
+/// Puts claims in the order of their trees, fields and first points.
 pub(crate) fn sort(claims: &mut Vec<Claim>)
     ensures claims { IsPermutation claims.old.items claims.new.items }
     ensures order { AreInOrder claims.new.items }
 {
-    claims.sort_unstable_by_key(|claim| (claim.launch, claim.tree, claim.field, claim.first));
+    claims.sort_unstable_by_key(|claim| (claim.tree, claim.field, claim.first));
 }
 
 /// Whether some two claims clash that records up to `number` ask for, by one pass.

@@ -8,7 +8,7 @@ use std::test::Fail;
 /// A claim: its record, its task, its privilege, and the first and the last point.
 type Row = (u32, u32, Priv, u64, u64);
 
-/// Claims of one launch on one field, and the first record at which they clash.
+/// Claims on one field, and the first record at which they clash.
 const CASES: [(&str, &[Row], Option<u32>); 16] = [
     ("none", &[], None),
     (
@@ -121,11 +121,10 @@ const CASES: [(&str, &[Row], Option<u32>); 16] = [
     ),
 ];
 
-/// The claim of a row, on this field of a tree for this launch.
-fn claim_of(row: &Row, launch: u32, tree: u32, field: u32) -> Claim {
+/// The claim of a row, on this field of a tree.
+fn claim_of(row: &Row, tree: u32, field: u32) -> Claim {
     let (record, task, access, first, last) = *row;
     Claim {
-        launch,
         tree,
         field,
         first,
@@ -149,7 +148,7 @@ fn first_records_are_found(rt: HostRuntime) -> Result<(), Fail> {
     for (what, rows, first) in CASES {
         let mut claims = Vec::new(rt.alloc());
         for row in rows {
-            claims.push(claim_of(row, 1, 1, 1))?;
+            claims.push(claim_of(row, 1, 1))?;
         }
         assert_eq!(rt; told(rt.alloc(), claims.as_slice())?, first, "{what}");
     }
@@ -159,15 +158,10 @@ fn first_records_are_found(rt: HostRuntime) -> Result<(), Fail> {
 #[test]
 fn places_are_apart(rt: HostRuntime) -> Result<(), Fail> {
     let rows = [(1, 1, Priv::Rw, 0, 9), (2, 2, Priv::Rw, 5, 7)];
-    for (launch, tree, field, first) in [
-        (1, 1, 1, Some(2)),
-        (2, 1, 1, None),
-        (1, 2, 1, None),
-        (1, 1, 2, None),
-    ] {
+    for (tree, field, first) in [(1, 1, Some(2)), (2, 1, None), (1, 2, None)] {
         let claims = [
-            claim_of(&rows[0], 1, 1, 1),
-            claim_of(&rows[1], launch, tree, field),
+            claim_of(&rows[0], 1, 1),
+            claim_of(&rows[1], tree, field),
         ];
         assert_eq!(rt; told(rt.alloc(), claims.as_slice())?, first);
     }
