@@ -159,10 +159,7 @@ fn first_records_are_found(rt: HostRuntime) -> Result<(), Fail> {
 fn places_are_apart(rt: HostRuntime) -> Result<(), Fail> {
     let rows = [(1, 1, Priv::Rw, 0, 9), (2, 2, Priv::Rw, 5, 7)];
     for (tree, field, first) in [(1, 1, Some(2)), (2, 1, None), (1, 2, None)] {
-        let claims = [
-            claim_of(&rows[0], 1, 1),
-            claim_of(&rows[1], tree, field),
-        ];
+        let claims = [claim_of(&rows[0], 1, 1), claim_of(&rows[1], tree, field)];
         assert_eq!(rt; told(rt.alloc(), claims.as_slice())?, first);
     }
     Ok(())
