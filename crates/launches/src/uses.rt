@@ -58,7 +58,7 @@ fn push_space<'w>(
     Ok(())
 }
 
-/// The spaces that written records declare. Behind each of the first records stands its line.
+/// The spaces that the first written records declare, as many as there are lines: line `i` is that of record `i`.
 pub(crate) fn spaces_in<'w>(
     alloc: Global,
     written: &'w [Record],
@@ -131,7 +131,7 @@ fn push_requirement<'w>(
     Ok(())
 }
 
-/// The requirements that written records state on declared spaces.
+/// The requirements that these records state on declared spaces.
 pub(crate) fn requirements_in<'w>(
     alloc: Global,
     spaces: &Rows<u32, Space<'w>>,
@@ -161,7 +161,7 @@ fn tasks_of(launch: &Launched, line: u32) -> LaunchTasks
     }
 }
 
-/// The tasks of launches. Behind each of the first launches stands its line.
+/// The tasks of the first launches, as many as there are lines: line `i` is that of launch `i`.
 pub(crate) fn launch_tasks(
     alloc: Global,
     launches: &[Launched],
