@@ -1,14 +1,17 @@
 -- What requirements claim, and when it clashes.
-use Rattle.std.proofs.Common.{◌≡◌, ◌↔◌, ℕ, ◌+◌, ◌<◌, ◌≤◌, max, Bool, false, IsTrue, List, ◌⊎◌, Contains, Option, Some, None, IfSome, map, refl, sym, ap, subst, inl, inr, arith}
+use Rattle.std.proofs.Common.{◌≡◌, All, true, ◌↔◌, ℕ, ◌+◌, ◌<◌, ◌≤◌, max, Bool, false, IsTrue, List, ◌⊎◌, Contains, Option, Some, None, IfSome, map, refl, sym, ap, subst, ◌∙◌, inl, inr, arith}
 use Rattle.std.specs.List.{Any}
-use Rattle.std.proofs.lemmas.Bool.{both_ways, cases_lt}
+use Rattle.std.proofs.lemmas.Bool.{both_ways, cases_lt, false≢true}
+use Rattle.std.proofs.lemmas.List.Elements.{All-contains}
+use Rattle.privilege.specs.declared.kinds.Priv.{Priv}
+use Rattle.privilege.specs.Interference.{agree}
 use Rattle.launch_claims.specs.declared.claim.Claim.{Claim}
 use Rattle.launch_claims.specs.declared.requirement.LaunchTasks.{LaunchTasks}
 use Rattle.launch_claims.specs.declared.requirement.Requirement.{Requirement}
 use Rattle.launch_claims.specs.Claiming.{claim_on, claims_by, claims_of, run_of}
 use Rattle.launch_claims.specs.Claims.{HasClash, IsFirstClash, asked_below}
-use Rattle.launch_claims.specs.Interference.{Conflict, InterferesIn, IsKnownAt, IsLeast}
-use Rattle.launch_claims.proofs.Clashing.{Clash, clash_back, clash_from, clash_told, one_field, share_from}
+use Rattle.launch_claims.specs.Interference.{AllAgree, Conflict, InterferesIn, IsKnownAt, IsLeast}
+use Rattle.launch_claims.proofs.Clashing.{Clash, agree_same, clash_back, clash_from, clash_told, one_field, share_from}
 use Rattle.launch_claims.proofs.lemmas.Members.{in_flat, in_map, of_flat, of_map}
 use Rattle.launch_claims.proofs.Passing.{asked_from, asked_in, clash_moved, clash_within}
 
@@ -152,3 +155,14 @@ pub first_clashes : (l : LaunchTasks) (reqs : List Requirement) (claims : List C
 first_clashes l reqs claims o n late are told some judged timely =
     let first : IsFirstClash (claims_of l reqs) n = subst (λ cs. IsFirstClash cs n) are (subst (λ x. IfSome x (IsFirstClash claims)) some told) in
     (first_there l reqs n (λ h. both_ways late timely (judged.1 h)) first, λ m h. none_before l reqs n m first h)
+
+-- ---- where all privileges agree
+
+pub agreed : (p : Priv) (reqs : List Requirement) → All (λ (r : Requirement). agree p r.access ≡ true) reqs → AllAgree reqs
+agreed p reqs all u v in_u in_v =
+    let one = All-contains (λ (r : Requirement). agree p r.access ≡ true) reqs u all in_u in
+    let other = All-contains (λ (r : Requirement). agree p r.access ≡ true) reqs v all in_v in
+    subst (λ (q : Priv). agree q v.access ≡ true) (agree_same p u.access one) other
+
+pub none_where_agreed : (l : LaunchTasks) (reqs : List Requirement) → AllAgree reqs → (n : ℕ) → ¬ InterferesIn l reqs n
+none_where_agreed l reqs all n h = absurd (false≢true (sym h.5.accesses ∙ all h.0 h.1 h.2 h.3))

@@ -1,5 +1,5 @@
 -- When requirements of tasks of a launch interfere.
-use Rattle.std.specs.Prelude.{◌≡◌, ◌≢◌, ℕ, ◌<◌, ◌≤◌, max, min, false, List, Contains, Option, Some, None, MatchOption}
+use Rattle.std.specs.Prelude.{◌≡◌, ◌≢◌, ℕ, ◌<◌, ◌≤◌, max, min, true, false, List, Contains, Option, Some, None, MatchOption}
 use Rattle.privilege.specs.Interference.{agree}
 use Rattle.launch_claims.specs.declared.requirement.LaunchTasks.{LaunchTasks}
 use Rattle.launch_claims.specs.declared.requirement.Requirement.{Requirement}
@@ -39,6 +39,10 @@ pub record IsKnownAt (l : LaunchTasks) (n : ℕ) (u v : Requirement) : Type 0 wh
 -- At the record of this number, some requirement that it asks for is in conflict with one that is asked for by then.
 abbrev pub InterferesIn : LaunchTasks → List Requirement → ℕ → Type 0
 InterferesIn l reqs n = (u : Requirement) × (v : Requirement) × Contains reqs u × Contains reqs v × IsKnownAt l n u v × Conflict u v
+
+-- The privileges of any two of these requirements agree.
+abbrev pub AllAgree : List Requirement → Type 0
+AllAgree reqs = (u v : Requirement) → Contains reqs u → Contains reqs v → agree u.access v.access ≡ true
 
 -- The requirements of the tasks of a launch.
 abbrev pub IsOfLaunch : LaunchTasks → List Requirement → Requirement → Type 0

@@ -1,16 +1,18 @@
 //! The first record at which requirements of tasks of launches interfere.
 
-ghost use Rattle.std.specs.Prelude.{◌≡◌, ◌<◌, ◌≤◌, ◌↔◌, ◌⊎◌, IsTrue, Contains, IfOk};
+ghost use Rattle.std.specs.Prelude.{◌≡◌, All, true, ◌<◌, ◌≤◌, ◌↔◌, ◌⊎◌, IsTrue, Contains, IfOk};
 ghost use Rattle.std.specs.List.{Any};
 ghost use Rattle.std.specs.List.Sorted.{IsPermutation, IsNonDecreasingBy};
 ghost use Rattle.launch_claims.specs.declared.requirement.Requirement.{Requirement};
-ghost use Rattle.launch_claims.specs.Interference.{InterferesAt, InterferesIn, IsLeast, IsOfLaunch};
+ghost use Rattle.privilege.specs.Interference.{agree};
+ghost use Rattle.launch_claims.specs.Interference.{AllAgree, InterferesAt, InterferesIn, IsLeast, IsOfLaunch};
 
 use crate::claiming::claims_of;
 use crate::first::first_clash;
 use crate::pairs::{first_by_pairs, lesser};
 use crate::requirement::{LaunchTasks, Requirement};
 use memory::Memory;
+use privilege::{Priv, agree};
 use std::alloc::Global;
 
 /// Puts requirements in the order of their tasks.
@@ -58,6 +60,23 @@ fn is_late(launch: &LaunchTasks, reqs: &[Requirement<'_>], number: u32) -> bool
     launch.number == number || some_declared_at(reqs, number)
 }
 
+/// Whether a privilege agrees with those of all requirements.
+fn agrees_with_all(access: Priv, reqs: &[Requirement<'_>]) -> bool
+    ensures { IsTrue result ↔ All (λ r. agree access r.access ≡ true) reqs.now }
+{
+    reqs.iter().all(|req| agree(access, req.access))
+}
+
+/// Whether the privileges of requirements all agree, where there is one. Then none of them interfere, whatever they claim.
+fn all_agree(reqs: &[Requirement<'_>]) -> bool
+    ensures { IsTrue result → AllAgree reqs.now }
+{
+    match reqs.first() {
+        Some(first) => agrees_with_all(first.access, reqs),
+        None => false,
+    }
+}
+
 /// The first number at which requirements of tasks of a launch interfere.
 ///
 /// Where their claims first clash, one of the two is new. Where it is new since a record asks for it, they interfere. Else the launch or its points are new, which is no interference, and all pairs are compared.
@@ -68,6 +87,9 @@ fn first_in_launch(
 ) -> Result<Option<u32>, Memory>
     ensures { IfOk result (IsLeast (InterferesIn launch.now reqs.now)) }
 {
+    if all_agree(reqs) {
+        return Ok(None);
+    }
     let claims = claims_of(alloc, launch, reqs)?;
     let Some(number) = first_clash(alloc, claims.as_slice())? else {
         return Ok(None);
