@@ -1,5 +1,6 @@
 pub mod Outcome
 pub mod LaunchOutcome
+pub mod NestedOutcome
 pub use Rattle.semantics.specs.Events
 pub use Rattle.semantics.specs.Faults
 pub use Rattle.semantics.specs.Links

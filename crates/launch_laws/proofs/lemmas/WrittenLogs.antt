@@ -1,9 +1,9 @@
 -- What a launch log without a fault writes is a log: each record has a spelling, and the text is no longer than an input may be.
-use Rattle.std.proofs.Common.{◌≡◌, ℕ, ◌+◌, ◌-◌, ◌^◌, ◌≤◌, ◌<◌, ◌==◌, ◌&&◌, Bool, true, false, List, [], ◌∷◌, ◌++◌, Option, Some, None, is_none, unwrap_or, IfSome, nat_lt, find, fold, map, length, All, refl, sym, ap, ◌∙◌, subst, arith, inl, inr, append-nil, length-append}
+use Rattle.std.proofs.Common.{◌≡◌, ℕ, ◌+◌, ◌^◌, ◌≤◌, ◌<◌, ◌==◌, ◌&&◌, Bool, false, List, [], ◌∷◌, ◌++◌, Option, Some, None, is_none, unwrap_or, IfSome, nat_lt, find, fold, length, All, refl, sym, subst, arith, inl, inr, length-append}
 use Rattle.std.specs.List.{list_any, AllByRecursion}
 use Rattle.std.specs.Option.{option_map, option_map_or}
 use Rattle.std.proofs.lemmas.Bool.{eqb-true, le-ltb, ltb-false, or_parts, false≢true}
-use Rattle.std.proofs.lemmas.List.Elements.{All-push, All-from_recursion, All-head, All-tail, All-nil}
+use Rattle.std.proofs.lemmas.List.Elements.{All-push, All-from_recursion, All-nil}
 use Rattle.vocabulary.specs.Prelude.{IsNumberFrom, Code, Record, LRecord, Lined, LLined, PrivWord, Good, GoodLaunch, spelling, text_of, lined, lined_from, Sub, Tables, tables_of, with_record, no_tables}
 use Rattle.spy_grammar.specs.declared.code.Code.TheVariants as codes
 use Rattle.spy_grammar.specs.declared.record.Record.TheVariants as records
@@ -11,7 +11,7 @@ use Rattle.spy_grammar.specs.declared.launches.LRecord.TheVariants.{Plain, Launc
 use Rattle.semantics.specs.declared.limits.TheConstants.{MOST_BYTES, MOST_COLOURS}
 use Rattle.semantics.specs.TextFaults.{text_fault}
 use Rattle.semantics.specs.Faults.{at_line, header_fault, ended_fault, count_fault}
-use Rattle.semantics.specs.Launches.{TaskLaunch, Expanded, not_expanded, declared_by, launch_of, colours_of, space_under, for_tasks, writes, launches_by, with_launching, launch_records, written_log, names_no_launch, exceeds_ids, writes_long, breaks_launch, launch_rules, launches_fault, framed, launch_fault}
+use Rattle.semantics.specs.Launches.{TaskLaunch, Expanded, not_expanded, declared_by, launch_of, colours_of, space_under, for_tasks, writes, launches_by, with_launching, launch_records, written_log, names_no_launch, exceeds_ids, breaks_launch, launch_rules, launches_fault, framed, launch_fault}
 use Rattle.list_lemmas.proofs.lemmas.Firsts.{map_cases, find_some}
 use Rattle.list_lemmas.proofs.lemmas.Places.{all_found}
 use Rattle.log_laws.proofs.lemmas.ReadLogs.{text_has_no_fault}
@@ -96,10 +96,9 @@ reqs_good : (rs : List Record) (tree part : ℕ) (fields : List ℕ) (access : P
     → AllByRecursion Good (for_tasks (λ id colour. records.Req id tree (unwrap_or (space_under (tables_of (lined rs)) part colour) 0) fields access atomic) base colours)
 reqs_good rs tree part fields access atomic good one base [] least most found = tt
 reqs_good rs tree part fields access atomic good one base (c ∷ cs) least most found =
-    let parts = or_parts (is_none (space_under (tables_of (lined rs)) part c)) (list_any (λ colour. is_none (space_under (tables_of (lined rs)) part colour)) cs) found in
-    (
+    let parts = or_parts (is_none (space_under (tables_of (lined rs)) part c)) (list_any (λ colour. is_none (space_under (tables_of (lined rs)) part colour)) cs) found in (
       good_req base tree _ fields access atomic one least (omega (arith, most)) (some_good (space_under (tables_of (lined rs)) part c) parts.0 (space_good rs part c good _ refl)),
-      reqs_good rs tree part fields access atomic good one (base + 1) cs (omega (arith, least)) (omega (arith, most)) parts.1
+      reqs_good rs tree part fields access atomic good one (base + 1) cs (omega (arith, least)) (omega (arith, most)) parts.1,
     )
   where
     some_good : (o : Option ℕ) → is_none o ≡ false → IfSome o (IsNumberFrom 1) → IsNumberFrom 1 (unwrap_or o 0)
