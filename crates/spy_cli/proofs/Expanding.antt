@@ -104,11 +104,13 @@ checked_alike bytes written e status text = (there, back)
   where
     rs : List Record
     rs = e.records
+
     there : IsAnswer requests.Launched bytes status text → IsAnswer (requests.Judge Check) written status text
     there (inl p) = fault_or_log bytes p.finding rs p.fault e.stands
     there (inr c) =
         subst (λ w. IsJudged Check w status text) (sym e.text_is)
         (in_text rs status text (good_log bytes rs e.stands) (clean_log bytes rs e.stands) (subst (λ qs. IsChecked qs status text) (one_log bytes c.records rs c.stands e.stands) c.checked))
+
     back : IsAnswer (requests.Judge Check) written status text → IsAnswer requests.Launched bytes status text
     back j = inr (record {
       records = rs;

@@ -28,7 +28,8 @@ fn expanded(alloc: Global, text: &[u8]) -> Result<Result<Vec<u8>, (u32, Code)>, 
 #[test]
 fn launches_are_expanded(rt: HostRuntime) -> Result<(), Fail> {
     let alloc = rt.alloc();
-    let text = b"legion-spy 1\nispace 1 0-3\npart 1 1 aliased\nispace 2 0-1\nsub 1 0 2\nlaunch 1 0\nlreq 1 1 1 1 wd ex\nend 6\n";
+    let text =
+        b"legion-spy 1\nispace 1 0-3\npart 1 1 aliased\nispace 2 0-1\nsub 1 0 2\nlaunch 1 0\nlreq 1 1 1 1 wd ex\nend 6\n";
     let written = expanded(alloc, text)?.ok().ok_or("a fault")?;
     assert_eq!(rt;
         written.as_slice(),

@@ -157,7 +157,9 @@ fn long_text(alloc: Global, id: &str) -> Result<Vec<u8>, Fail> {
     let all = colours(alloc, 4096)?;
     let asked = fields(alloc, 2723)?;
     let more = fields(alloc, 1545)?;
-    let rest = format!(in alloc; "launch 10001 {all}\nlreq 10001 1 1 {asked} ro ex\nfields {id} {more}\n")?;
+    let rest = format!(in alloc;
+        "launch 10001 {all}\nlreq 10001 1 1 {asked} ro ex\nfields {id} {more}\n"
+    )?;
     lines.extend_from_slice(rest.as_bytes())?;
     Ok(lines)
 }
