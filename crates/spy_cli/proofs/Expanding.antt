@@ -1,5 +1,5 @@
 -- What is answered to launch logs.
-use Rattle.std.proofs.Common.{◌≡◌, ◌<◌, ◌^◌, ℕ, List, length, Some, None, refl, sym, ap, subst, ◌∙◌, ◌↔◌, inl, inr}
+use Rattle.std.proofs.Common.{◌≡◌, ◌<◌, ◌^◌, ℕ, List, length, None, refl, sym, ap, subst, ◌∙◌, ◌↔◌, inl, inr}
 use Rattle.std.specs.List.{AllByRecursion}
 use Rattle.std.proofs.lemmas.List.Elements.{recursion_from_All}
 use Rattle.vocabulary.specs.Prelude.{Record, LLined, Good, GoodLaunch, text_of, lined, line_count}
@@ -34,12 +34,12 @@ faults_alike bytes f g (inr p) (inr q) =
     one_fault (launch_fault (line_count bytes) p.log) p.fault q.fault f g p.shown (ap (launch_fault (line_count bytes)) (sym same) ∙ q.shown) p.finding_is q.finding_is
 
 -- An input that stands for a log has no fault.
-fault_or_log : {A : Type 0} (bytes : List ℕ) (f : Finding) (rs : List Record) → IsLaunchFault bytes f → StandsFor bytes rs → A
+pub fault_or_log : {A : Type 0} (bytes : List ℕ) (f : Finding) (rs : List Record) → IsLaunchFault bytes f → StandsFor bytes rs → A
 fault_or_log bytes f rs (inl p) s = no_fault (launch_text_fault bytes) p.fault p.shown s.spelled
 fault_or_log bytes f rs (inr p) s =
     no_fault (launch_fault (line_count bytes) p.log) p.fault p.shown (ap (launch_fault (line_count bytes)) (one_launch_read bytes p.log s.log p.reads s.reads) ∙ s.keeps)
 
-one_log : (bytes : List ℕ) (rs qs : List Record) → StandsFor bytes rs → StandsFor bytes qs → rs ≡ qs
+pub one_log : (bytes : List ℕ) (rs qs : List Record) → StandsFor bytes rs → StandsFor bytes qs → rs ≡ qs
 one_log bytes rs qs s t = s.written ∙ ap written_log (one_launch_read bytes s.log t.log s.reads t.reads) ∙ sym t.written
 
 read_good : (bytes : List ℕ) (log : List LLined) → LaunchReads bytes log → AllByRecursion (λ (l : LLined). GoodLaunch l.rec) log

@@ -1,4 +1,5 @@
 mod Alike
+mod Completing
 mod Cut
 mod Expanding
 mod Printed

@@ -1,7 +1,6 @@
 -- One thing is answered to an input.
-use Rattle.std.proofs.Common.{◌≡◌, ◌≤◌, ◌<◌, ◌^◌, ℕ, arith, List, length, Option, Some, None, refl, sym, ap, subst, ◌∙◌, inl, inr, ◌↔◌}
-use Rattle.std.specs.List.{AllByRecursion}
-use Rattle.vocabulary.specs.Prelude.{Good, Lined, Command, Fault, text_of, records_of, lined, line_count, Reads}
+use Rattle.std.proofs.Common.{◌≡◌, ◌<◌, ◌^◌, ℕ, arith, List, length, Option, None, refl, sym, ap, subst, ◌∙◌, inl, inr, ◌↔◌}
+use Rattle.vocabulary.specs.Prelude.{Lined, Command, text_of, records_of, lined, line_count, Reads}
 use Rattle.spy_grammar.specs.declared.code.Code.TheVariants.{TooLong}
 use Rattle.findings.specs.declared.finding.Finding.{Finding}
 use Rattle.findings.specs.declared.finding.Finding.TheVariants.{Fault as Faulty}

@@ -1,4 +1,4 @@
-use Rattle.std.proofs.Common.{inl, inr, ◌≡◌, Option, Some, subst, sym, ◌∙◌}
+use Rattle.std.proofs.Common.{inl, inr, ◌≡◌, Option, Some, subst, sym, ◌∙◌, arith}
 use Rattle.std.specs.Prelude.{IfSome}
 use Rattle.std.specs.Io.KnownBytes.{Appends}
 use Rattle.spy_io.specs.Causes.{Grows}
@@ -6,7 +6,8 @@ use Rattle.spy_args.specs.declared.request.Request.{Request}
 use Rattle.spy_args.specs.declared.request.Request.TheVariants.{Judge}
 use Rattle.semantics.specs.declared.command.Command.TheVariants.{Check}
 use Rattle.spy_args.specs.Asked.{IsSized}
-use Rattle.spy_cli.specs.Answers.{IsAnswer, IsDecided, IsInput}
+use Rattle.spy_cli.specs.Answers.{Ends, IsAnswer, IsDecided, IsInput}
+use Rattle.spy_cli.proofs.Completing.{ends}
 use Rattle.spy_cli.proofs.Reports.{same_answer, same_in_long}
 use Rattle.spy_cli.proofs.top.run.Goals as goal
 
@@ -60,3 +61,13 @@ returns-in-Ok-clause-part g c request asks bytes status text input out fails =
       | inl a ↦ inl (subst (Grows (g.K.Sink.held c.args.sink.now) (g.K.Sink.held c.written-in-Ok.new.sink)) (same_answer request bytes a.status status a.text text sized a.answer out).1 a.written)
       | inr r ↦ inr r
     ]
+
+pub returns-in-Ok-clause-complete : goal.returns-in-Ok-clause-complete
+returns-in-Ok-clause-complete g c request asks bytes input keeps source_calm sink_calm =
+    let r = c.in-Ok.report in
+    let both : ◌≡◌ {A = Option Request} (Some c.in-Ok-Some.request) (Some request) = sym c.in-Ok-Some.field-0-is ∙ c.in-Ok-Some.ensures.asked ∙ asks in
+    let same : c.in-Ok-Some.request ≡ request = cc in
+    let own = c.in-Ok.ensures.outcome bytes (subst (λ k. IsInput k (g.S.Source.left c.args.source.now) bytes) (sym same) input) in
+    let done = c.written-in-Ok.ensures.done (λ e. absurd (omega (arith, (c.written-in-Ok.ensures.fault e).0, sink_calm.same, sink_calm.room))) in
+    subst (Ends request) (sym done.0)
+    (ends request bytes r.status r.text.items (subst (λ k. IsAnswer k bytes r.status r.text.items) same own) keeps c.in-Ok.ensures.decided)
