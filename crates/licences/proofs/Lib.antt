@@ -1,0 +1,3 @@
+mod Least
+mod Meeting
+mod Reaching

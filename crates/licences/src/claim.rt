@@ -1,0 +1,180 @@
+//! What is asked for, or allowed.
+
+ghost use Rattle.std.specs.Prelude.{◌≡◌, ◌^◌, ◌<◌, [], All};
+ghost use Rattle.std.specs.Option.{option_map_or};
+ghost use Rattle.std.specs.List.Sorted.{IsStrictlyIncreasing};
+ghost use Rattle.point_set.specs.Least.{IsLeastFrom, IsLeastGap};
+ghost use Rattle.vocabulary.specs.Prelude.{meets};
+ghost use Rattle.licences.specs.Claims.{claimed, conflict};
+ghost use Rattle.licences.specs.Reach.{serves};
+
+use log_tables::is_in;
+use point_set::PointSet;
+use privilege::{Priv, agree, contains};
+use std::marker::Model;
+
+/// Some fields of some points of a tree, and what is asked for, or allowed, there.
+#[derive(Drop)]
+pub struct Claim<'a, P: PointSet + Copy> {
+    // Its number among others.
+    number: u32,
+    tree: u32,
+    // Without a set there are no points.
+    set: Option<P>,
+    fields: &'a [u32],
+    access: Priv,
+}
+
+impl<'a, P: PointSet + Copy> Model for Claim<'a, P> {
+    ghost use Rattle.std.specs.Prelude.{[]};
+    ghost use Rattle.std.specs.Option.{option_map_or};
+    ghost use Rattle.std.specs.List.Sorted.{IsStrictlyIncreasing};
+    ghost use Rattle.licences.specs.Claims.{Claimed, claimed};
+
+    ghost Value = { Claimed };
+
+    ghost view = { λ c. claimed c.number c.tree (option_map_or P.points c.set []) c.fields.now c.access };
+
+    ghost invariant = { λ c. IsStrictlyIncreasing c.fields.now };
+}
+
+/// Whether two lists have a field in common, by a binary search for each field of the first.
+fn fields_meet(ours: &[u32], theirs: &[u32]) -> bool
+    requires { IsStrictlyIncreasing theirs.now }
+    ensures { result ≡ meets ours.now theirs.now }
+{
+    ours.iter().any(|field| is_in(theirs, *field))
+}
+
+/// Whether two sets have a point in common.
+#[tactic(auto, using(crate::proofs::Meeting::meets_told))]
+fn sets_meet<P: PointSet>(ours: &P, theirs: &P) -> bool
+    ensures { result ≡ meets (P.points ours.now) (P.points theirs.now) }
+{
+    ours.meets(theirs)
+}
+
+/// Whether two sets have a point in common, where there are both.
+#[tactic(auto, using(crate::proofs::Meeting::meets_none))]
+fn points_meet<P: PointSet>(ours: &Option<P>, theirs: &Option<P>) -> bool
+    ensures { result ≡ meets (option_map_or P.points ours.now []) (option_map_or P.points theirs.now []) }
+{
+    let Some(ours) = ours else {
+        return false;
+    };
+    match theirs {
+        Some(theirs) => sets_meet(ours, theirs),
+        None => false,
+    }
+}
+
+/// Each point of a set is a `u64`. There is nothing to do.
+#[tactic(auto, using(crate::proofs::Meeting::bounded_none))]
+fn are_bounded<P: PointSet>(set: &Option<P>)
+    ensures { All (λ x. x < 2 ^ 64) (option_map_or P.points set.now []) }
+{
+    let _set = set;
+}
+
+/// The least point from a number on, where there is a set.
+fn next_in<P: PointSet>(set: &Option<P>, from: u64) -> Option<u64>
+    ensures { IsLeastFrom (option_map_or P.points set.now []) from result }
+{
+    match set {
+        Some(set) => set.next_from(from),
+        None => None,
+    }
+}
+
+/// The least number from this one on that is no point, where there is a set.
+fn gap_in<P: PointSet>(set: &Option<P>, from: u64) -> Option<u64>
+    ensures { IsLeastGap (option_map_or P.points set.now []) from result }
+{
+    match set {
+        Some(set) => set.gap_from(from),
+        None => Some(from),
+    }
+}
+
+impl<'a, P: PointSet + Copy> Claim<'a, P> {
+    /// These fields of the points of this set, or of no point, with this privilege.
+    pub fn new(
+        number: u32,
+        tree: u32,
+        set: Option<P>,
+        fields: &'a [u32],
+        access: Priv,
+    ) -> Claim<'a, P>
+        requires { IsStrictlyIncreasing fields.now }
+        ensures { result ≡ claimed number tree (option_map_or P.points set []) fields.now access }
+    {
+        Claim {
+            number,
+            tree,
+            set,
+            fields,
+            access,
+        }
+    }
+
+    /// Its number.
+    pub(crate) fn number(&self) -> u32
+        ensures { result ≡ self.now.number }
+    {
+        self.number
+    }
+
+    /// The tree.
+    pub(crate) fn tree(&self) -> u32
+        ensures { result ≡ self.now.tree }
+    {
+        self.tree
+    }
+
+    /// The fields.
+    pub(crate) fn fields(&self) -> &[u32]
+        ensures { result.now ≡ self.now.fields }
+    {
+        self.fields
+    }
+
+    /// Each point is a `u64`. There is nothing to do.
+    pub(crate) fn points_are_bounded(&self)
+        ensures { All (λ x. x < 2 ^ 64) self.now.points }
+    {
+        are_bounded(&self.set)
+    }
+
+    /// The least point from this number on.
+    pub(crate) fn next_from(&self, from: u64) -> Option<u64>
+        ensures { IsLeastFrom self.now.points from result }
+    {
+        next_in(&self.set, from)
+    }
+
+    /// The least number from this one on that is no point.
+    pub(crate) fn gap_from(&self, from: u64) -> Option<u64>
+        ensures { IsLeastGap self.now.points from result }
+    {
+        gap_in(&self.set, from)
+    }
+
+    /// Whether it allows what another asks for at a field, wherever it has the point.
+    #[tactic(auto, using(crate::proofs::Meeting::in_order))]
+    pub(crate) fn serves(&self, asked: &Claim<'_, P>, field: u32) -> bool
+        ensures { result ≡ serves self.now asked.now field }
+    {
+        self.tree == asked.tree && contains(self.access, asked.access) && is_in(self.fields, field)
+    }
+
+    /// Whether the two share a place, and their privileges do not agree.
+    #[tactic(auto, using(crate::proofs::Meeting::turned))]
+    pub(crate) fn conflicts(&self, other: &Claim<'_, P>) -> bool
+        ensures { result ≡ conflict self.now other.now }
+    {
+        self.tree == other.tree
+            && !agree(self.access, other.access)
+            && fields_meet(self.fields, other.fields)
+            && points_meet(&self.set, &other.set)
+    }
+}
