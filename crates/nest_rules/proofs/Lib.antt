@@ -1,0 +1,3 @@
+mod Adding
+mod Parting
+pub mod lemmas

@@ -1,0 +1,4 @@
+-- Lemmas for the proofs of other crates.
+pub mod KeptFields
+pub mod Judging
+pub mod PlainLines

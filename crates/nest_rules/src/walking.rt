@@ -1,0 +1,36 @@
+//! The walk over the records of a nested log that are not plain, up to the first that breaks a rule on groups.
+
+ghost use Rattle.std.specs.Prelude.{◌≡◌, ◌≤◌, All, None, fold, length, IfOk};
+ghost use Rattle.spy_grammar.specs.Nested.{GoodNested};
+ghost use Rattle.semantics.specs.declared.limits.TheConstants.{MOST_GROUPS};
+ghost use Rattle.semantics.specs.Nesting.{no_nesting, with_nested};
+ghost use Rattle.nest_rules.specs.Pending.{pending_fault, with_pending};
+
+use crate::groups::Groups;
+use crate::pending::Pending;
+use crate::rules::broken;
+use log_tables::Draft;
+use point_set::PointSet;
+use semantics::Fault;
+use std::alloc::AllocError;
+
+/// Adds what is nested, up to the first record that breaks a rule on groups, and the fault of that one. The tables are those of the whole log.
+pub fn walk<P: PointSet>(
+    groups: &mut Groups,
+    draft: &Draft<P>,
+    nested: Vec<Pending>,
+) -> Result<Option<Fault>, AllocError>
+    requires none { groups.old ≡ no_nesting }
+    requires good { All (λ p. GoodNested p.rec) nested.items }
+    ensures fault { IfOk result (λ fault. fault ≡ pending_fault draft.now no_nesting nested.items) }
+    ensures few { IfOk result (λ fault. length groups.new.groups ≤ MOST_GROUPS) }
+    ensures nesting { IfOk result (λ fault. fault ≡ None → groups.new ≡ fold with_pending no_nesting nested.items) }
+{
+    for p in nested {
+        if let Some(code) = broken(draft, &*groups, &p) {
+            return Ok(Some(Fault { line: p.line, code }));
+        }
+        groups.add(p.rec)?;
+    }
+    Ok(None)
+}
