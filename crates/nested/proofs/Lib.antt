@@ -1,0 +1,7 @@
+mod Above
+mod Ending
+mod Freeing
+mod Gathering
+mod Naming
+mod Origins
+mod Showing

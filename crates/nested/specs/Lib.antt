@@ -1,0 +1,3 @@
+pub mod Nested
+pub mod Rows
+pub use Rattle.semantics.specs.Nesting

@@ -1,0 +1,155 @@
+//! Whether each child asks for no more than its group licenses.
+
+ghost use Rattle.std.specs.Prelude.{◌≡◌, [], IfOk};
+ghost use Rattle.std.specs.Option.{option_map_or};
+ghost use Rattle.semantics.specs.Nesting.{first_given, shown_unlicensed};
+ghost use Rattle.licences.specs.Claims.{first_refused};
+ghost use Rattle.nested.specs.Rows.{AreNamed, rows_in, shown_as, shown_group, shown_member};
+
+use crate::own::own_claims;
+use crate::row::Row;
+use crate::rows::row_at;
+use licences::{Claim, first_refused};
+use log_tables::Draft;
+use nest_rules::Groups;
+use point_set::PointSet;
+use semantics::{Child, Group, GroupMember, Unlicensed};
+use std::alloc::{AllocError, Global};
+
+/// What is shown of a child that asks for more than these allow.
+fn refused_child<P: PointSet + Copy>(
+    child: Child,
+    all: &[Claim<'_, P>],
+    own: &[Claim<'_, P>],
+) -> Option<Unlicensed>
+    ensures { result ≡ shown_as child (first_refused all.now own.now) }
+{
+    match first_refused(all, own) {
+        Some((req, place)) => Some(Unlicensed { child, req, place }),
+        None => None,
+    }
+}
+
+/// The same, where the group of the child may have no row.
+fn refused_by<P: PointSet + Copy>(
+    child: Child,
+    all: Option<&Row<'_, P>>,
+    own: &[Claim<'_, P>],
+) -> Option<Unlicensed>
+    ensures { result ≡ shown_as child (first_refused (option_map_or (λ r. r.now) all.entry []) own.now) }
+{
+    match all {
+        Some(row) => refused_child(child, row.as_slice(), own),
+        // Where there is no row, nothing is allowed.
+        None => refused_child(child, &own[..0], own),
+    }
+}
+
+/// What is shown of a group that has privileges which the group above it does not license.
+fn refused_group<P: PointSet + Copy>(
+    draft: &Draft<P>,
+    groups: &Groups,
+    rows: &[Row<'_, P>],
+    group: Group,
+) -> Option<Unlicensed>
+    requires rows { rows.now ≡ rows_in draft.now groups.now }
+    requires named { AreNamed groups.now }
+    ensures { result ≡ shown_group draft.now groups.now group }
+{
+    if group.parent == 0 {
+        return None;
+    }
+    let child = Child {
+        leaf: false,
+        id: group.id,
+        group: group.parent,
+    };
+    let all = row_at(rows, groups, group.parent);
+    let found = row_at(rows, groups, group.id);
+    let Some(own) = found else {
+        return None;
+    };
+    refused_by(child, all, own.as_slice())
+}
+
+/// What is shown of the first of some groups that has privileges which the group above it does not license.
+fn refused_groups<P: PointSet + Copy>(
+    draft: &Draft<P>,
+    groups: &Groups,
+    rows: &[Row<'_, P>],
+    all: &[Group],
+) -> Option<Unlicensed>
+    requires rows { rows.now ≡ rows_in draft.now groups.now }
+    requires named { AreNamed groups.now }
+    ensures { result ≡ first_given (shown_group draft.now groups.now) all.now }
+{
+    for group in all {
+        let shown = refused_group(draft, groups, rows, *group);
+        if shown.is_some() {
+            return shown;
+        }
+    }
+    None
+}
+
+/// What is shown of a task that asks for more than its group licenses.
+fn refused_member<P: PointSet + Copy>(
+    alloc: Global,
+    draft: &Draft<P>,
+    groups: &Groups,
+    rows: &[Row<'_, P>],
+    member: GroupMember,
+) -> Result<Option<Unlicensed>, AllocError>
+    requires rows { rows.now ≡ rows_in draft.now groups.now }
+    requires named { AreNamed groups.now }
+    ensures { IfOk result (λ shown. shown ≡ shown_member draft.now groups.now member) }
+{
+    let own = own_claims(alloc, draft, draft.place(member.task))?;
+    let child = Child {
+        leaf: true,
+        id: member.task,
+        group: member.group,
+    };
+    let all = row_at(rows, groups, member.group);
+    Ok(refused_by(child, all, own.as_slice()))
+}
+
+/// What is shown of the first of some tasks that asks for more than its group licenses.
+fn refused_members<P: PointSet + Copy>(
+    alloc: Global,
+    draft: &Draft<P>,
+    groups: &Groups,
+    rows: &[Row<'_, P>],
+    all: &[GroupMember],
+) -> Result<Option<Unlicensed>, AllocError>
+    requires rows { rows.now ≡ rows_in draft.now groups.now }
+    requires named { AreNamed groups.now }
+    ensures { IfOk result (λ shown. shown ≡ first_given (shown_member draft.now groups.now) all.now) }
+{
+    for member in all {
+        let shown = refused_member(alloc, draft, groups, rows, *member)?;
+        if shown.is_some() {
+            return Ok(shown);
+        }
+    }
+    Ok(None)
+}
+
+/// What is shown of the first child that asks for more than its group licenses.
+#[tactic(auto, using(crate::proofs::Showing::all_children))]
+pub(crate) fn unlicensed<P: PointSet + Copy>(
+    alloc: Global,
+    draft: &Draft<P>,
+    groups: &Groups,
+    rows: &[Row<'_, P>],
+) -> Result<Option<Unlicensed>, AllocError>
+    requires rows { rows.now ≡ rows_in draft.now groups.now }
+    requires named { AreNamed groups.now }
+    ensures { IfOk result (λ shown. shown ≡ shown_unlicensed draft.now groups.now) }
+{
+    let shown = refused_groups(draft, groups, rows, groups.groups());
+    if shown.is_some() {
+        return Ok(shown);
+    }
+    refused_members(alloc, draft, groups, rows, groups.members())
+}
