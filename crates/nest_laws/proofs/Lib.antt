@@ -1,3 +1,4 @@
+pub mod lemmas
 mod Licensed
 mod Exactly
 mod Walks
