@@ -1,14 +1,17 @@
 -- The least place at which a claim is refused, field by field.
-use Rattle.std.proofs.Common.{◌≡◌, ℕ, ◌+◌, ◌<◌, ◌≤◌, ◌==◌, Bool, true, false, not, inl, inr, List, [], ◌∷◌, ◌++◌, Contains, map, filter, take, drop, length, get_or, Option, Some, None, IfSome, refl, sym, ap, ◌∙◌, subst, arith}
-use Rattle.std.proofs.lemmas.Bool.{cases_Bool, false≢true, not-false}
+use Rattle.std.proofs.Common.{◌≡◌, ℕ, ◌+◌, ◌<◌, ◌≤◌, ◌==◌, Bool, true, false, not, inl, inr, List, [], ◌∷◌, ◌++◌, Contains, filter, take, drop, length, get_or, Option, Some, None, refl, sym, ap, ◌∙◌, subst, arith}
+use Rattle.std.specs.List.{list_any, list_all}
+use Rattle.std.proofs.lemmas.Bool.{false≢true, and_parts, eqb-true}
+use Rattle.std.proofs.lemmas.List.Folds.{Any-from_list_any}
 use Rattle.std.proofs.lemmas.Bool.Decides.{nat_tests}
 use Rattle.std.proofs.lemmas.List.{take_more, drop_more, drop_all}
-use Rattle.std.proofs.lemmas.List.Elements.{Contains-append_left, Contains-push, Contains-push_cases}
+use Rattle.std.proofs.lemmas.List.Elements.{All-contains, Contains-append_left, Contains-push, Contains-push_cases}
 use Rattle.vocabulary.specs.Prelude.{Place, grid, least_of, lesser}
-use Rattle.log_laws.proofs.lemmas.Members.{Member, member_of, contains_of, member_map, map_member, member_filter, filter_member}
+use Rattle.log_laws.proofs.lemmas.Members.{Member, all_at, member_of, contains_of, member_map, map_member, member_filter, filter_member}
 use Rattle.log_laws.proofs.lemmas.Apart.{member_grid, grid_member}
-use Rattle.licences.specs.Claims.{Claimed, allows, places, refused, first_refused, lesser_place}
-use Rattle.licences.specs.Reach.{at, allows_at, IsRefusedAt, IsLeastAt, IsLeastAmong, is_before}
+use Rattle.licences.specs.Claims.{AreOfSpaces, Claimed, allows, places, refused, first_refused, lesser_place}
+use Rattle.licences.proofs.Reaching.{served_at}
+use Rattle.licences.specs.Reach.{at, serves, serves_all, IsRefusedAt, IsLeastAt, IsLeastAmong, is_before}
 
 before_itself : (p : Place) → is_before p p ≡ false
 before_itself p = grind (arith, nat_tests)
@@ -152,6 +155,20 @@ least_told cs c o h = same o (refused cs c) h (place_is_least (refused_places cs
         ap (λ x. Some x) (before_both p q
         (subst (λ x. is_before x q ≡ false) (sym h.some.0) (k.1 (at c p.field p.point) (place_refused cs c p.field p.point h.some.1 h.some.2)))
         (subst (λ x. is_before x p ≡ false) (sym r.0) (h.least q.field q.point r.1 r.2)))
+
+-- Where a claim to the same space serves all fields, nothing is refused.
+pub allowed_at_once : (cs : List Claimed) (c : Claimed) → AreOfSpaces cs c → list_any (λ one. serves_all one c) cs ≡ true → None ≡ refused cs c
+allowed_at_once cs c spaces any =
+    let found = Any-from_list_any (λ one. serves_all one c) cs any in
+    let one = found.1 in
+    let parts = and_parts (one.space == c.space) (list_all (serves one c) c.fields) found.4 in
+    let same : one.points ≡ c.points = All-contains (λ (d : Claimed). d.space ≡ c.space → d.points ≡ c.points) cs one spaces (found.0, found.2, found.3) (eqb-true one.space c.space parts.0) in
+    least_told cs c None (record {
+      some = tt;
+      least = λ field point of no_point.
+          let served : serves one c field ≡ true = all_at (serves one c) c.fields field parts.1 (member_of c.fields field of) in
+          absurd (false≢true (sym no_point.1 ∙ served_at cs one c field point (found.0, found.2, found.3) served (subst (λ xs. Contains xs point) (sym same) no_point.0)));
+    })
 
 -- ---- the first that is refused
 

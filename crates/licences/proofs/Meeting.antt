@@ -1,6 +1,6 @@
 -- When lists and sets meet.
 use Rattle.std.proofs.Common.{◌≡◌, ℕ, ◌↔◌, ◌^◌, ◌<◌, All, Option, Some, None, Bool, true, false, not, ◌&&◌, List, [], ◌∷◌, IsTrue, Contains, refl}
-use Rattle.std.specs.List.{list_any, Any}
+use Rattle.std.specs.List.{Any}
 use Rattle.std.specs.Option.{option_map_or}
 use Rattle.std.proofs.lemmas.List.Elements.{All-nil}
 use Rattle.std.proofs.lemmas.Bool.Decides.{same_from_decides}

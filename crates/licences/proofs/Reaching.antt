@@ -1,14 +1,13 @@
 -- How far a claim is allowed, one claim more.
 use Rattle.std.proofs.Common.{◌≡◌, ℕ, ◌+◌, ◌^◌, ◌<◌, ◌≤◌, ◌==◌, max, Bool, true, false, ◌&&◌, ◌||◌, inl, inr, List, [], ◌∷◌, ◌++◌, Contains, take, length, get_or, Option, Some, None, refl, sym, ap, ◌∙◌, subst, arith}
-use Rattle.std.specs.List.{list_any}
-use Rattle.std.proofs.lemmas.List.{take_more}
+use Rattle.std.proofs.lemmas.List.{take_all, take_more}
 use Rattle.std.proofs.lemmas.List.Folds.{list_any-append, list_any-from_Any}
 use Rattle.std.proofs.lemmas.Bool.{cases_Bool, cases_lt, false≢true}
 use Rattle.privilege.specs.Allowed.{contains}
 use Rattle.vocabulary.specs.Prelude.{is_in}
 use Rattle.log_tables.proofs.lemmas.Members.{has_in, in_has}
 use Rattle.point_set.specs.Least.{IsLeastGap}
-use Rattle.licences.specs.Claims.{Claimed, allows, holds}
+use Rattle.licences.specs.Claims.{Claimed, holds}
 use Rattle.licences.specs.Reach.{at, allows_at, serves, Reaches}
 
 -- One claim allows what is asked for at a point exactly where it serves the field and has the point.
@@ -93,17 +92,42 @@ reach_all all one c f from of s h = λ x le lt.
 pub reach_none : (c : Claimed) (f from : ℕ) → Reaches (allows_at [] c f) from (Some from)
 reach_none c f from = (omega arith, (λ x le lt. absurd (omega (arith, le, lt))), λ e. refl)
 
--- The loop's step.
-pub same_step : (all : List Claimed) (i : ℕ) (one c : Claimed) (f from end : ℕ) → i < length all → one ≡ get_or all i one → serves one c f ≡ false
-    → Reaches (allows_at (take i all) c f) from (Some end) → Reaches (allows_at (take (i + 1) all) c f) from (Some end)
-same_step all i one c f from end lt is s h = subst (λ cs. Reaches (allows_at cs c f) from (Some end)) (sym (more_at all i one lt is)) (reach_same (take i all) one c f from end s h)
+-- How far one claim reaches.
+pub alone : (one c : Claimed) (f from : ℕ) (o : Option ℕ) → serves one c f ≡ true → IsLeastGap one.points from o → Reaches (allows_at (one ∷ []) c f) from o
+alone one c f from (Some gap) s h = subst (λ end. Reaches (allows_at (one ∷ []) c f) from (Some end)) (longest from gap h.0.1) (reach_further [] one c f from from gap s (reach_none c f from) h)
   where
-    more_at : (all : List Claimed) (i : ℕ) (one : Claimed) → i < length all → one ≡ get_or all i one → take (i + 1) all ≡ take i all ++ one ∷ []
-    more_at all i one lt is = take_more all i one lt ∙ ap (λ x. take i all ++ x ∷ []) (sym is)
+    longest : (from gap : ℕ) → from ≤ gap → max from gap ≡ gap
+    longest from gap le = omega (arith, le)
+alone one c f from None s h = reach_all (one ∷ []) one c f from (0, omega arith, refl) s h
 
-pub further_step : (all : List Claimed) (i : ℕ) (one c : Claimed) (f from end gap : ℕ) → i < length all → one ≡ get_or all i one → serves one c f ≡ true
-    → Reaches (allows_at (take i all) c f) from (Some end) → IsLeastGap one.points from (Some gap) → Reaches (allows_at (take (i + 1) all) c f) from (Some (max end gap))
-further_step all i one c f from end gap lt is s h k = subst (λ cs. Reaches (allows_at cs c f) from (Some (max end gap))) (sym (more_at all i one lt is)) (reach_further (take i all) one c f from end gap s h k)
-  where
-    more_at : (all : List Claimed) (i : ℕ) (one : Claimed) → i < length all → one ≡ get_or all i one → take (i + 1) all ≡ take i all ++ one ∷ []
-    more_at all i one lt is = take_more all i one lt ∙ ap (λ x. take i all ++ x ∷ []) (sym is)
+pub idle : (one c : Claimed) (f from : ℕ) → serves one c f ≡ false → Reaches (allows_at (one ∷ []) c f) from (Some from)
+idle one c f from s = reach_same [] one c f from from s (reach_none c f from)
+
+or_false : (b : Bool) → (b || false) ≡ b
+or_false true = refl
+or_false false = refl
+
+-- What one of some claims allows all of them do.
+among : (all : List Claimed) (one c : Claimed) (f x : ℕ) → Contains all one → allows_at (one ∷ []) c f x ≡ true → allows_at all c f x ≡ true
+among all one c f x of e =
+    list_any-from_Any (λ (d : Claimed). holds (at c f x) d && contains d.access c.access) all (of.0, one, of.1, of.2, sym (or_false (holds (at c f x) one && contains one.access c.access)) ∙ e)
+
+pub served_at : (all : List Claimed) (one c : Claimed) (f x : ℕ) → Contains all one → serves one c f ≡ true → Contains one.points x → allows_at all c f x ≡ true
+served_at all one c f x of s has = among all one c f x of (also [] one c f x s (in_has one.points x has))
+
+-- Where one of some claims reaches further, they do so all together.
+pub by_one : (all : List Claimed) (one c : Claimed) (f from : ℕ) (o : Option ℕ) → Contains all one → (o ≡ Some from → ⊥) → Reaches (allows_at (one ∷ []) c f) from o → Reaches (allows_at all c f) from o
+by_one all one c f from None of further h = λ x le lt. among all one c f x of (h x le lt)
+by_one all one c f from (Some end) of further h = (h.0, (λ x le lt. among all one c f x of (h.1 x le lt)), λ e. absurd (further (ap (λ x. Some x) e)))
+
+-- The loop's step: one claim more that does not reach further.
+pub none_more : (all : List Claimed) (i : ℕ) (one c : Claimed) (f from : ℕ) (o : Option ℕ) → i < length all → one ≡ get_or all i one → o ≡ Some from → Reaches (allows_at (one ∷ []) c f) from o
+    → allows_at (take i all) c f from ≡ false → allows_at (take (i + 1) all) c f from ≡ false
+none_more all i one c f from o lt is end h so_far =
+    let here : allows_at (one ∷ []) c f from ≡ false = (subst (λ o. Reaches (allows_at (one ∷ []) c f) from o) end h).2 refl in
+    let own : (serves one c f && is_in one.points from) ≡ false = sym (allows_more [] one c f from) ∙ here in
+    ap (λ cs. allows_at cs c f from) (take_more all i one lt ∙ ap (λ x. take i all ++ x ∷ []) (sym is)) ∙ neither (take i all) one c f from so_far own
+
+-- Where no claim reaches further, none allows the first point.
+pub none_reach : (all : List Claimed) (i : ℕ) (c : Claimed) (f from : ℕ) → length all ≤ i → allows_at (take i all) c f from ≡ false → Reaches (allows_at all c f) from (Some from)
+none_reach all i c f from le none = (omega arith, (λ x le lt. absurd (omega (arith, le, lt))), λ e. subst (λ cs. allows_at cs c f from ≡ false) (take_all i all le) none)

@@ -1,20 +1,25 @@
 -- What is asked for at places, or allowed there.
-use Rattle.std.specs.Prelude.{ℕ, ◌==◌, Bool, not, ◌&&◌, List, [], ◌∷◌, map, filter, Option, Some, None}
+use Rattle.std.specs.Prelude.{◌≡◌, ℕ, ◌==◌, All, Bool, not, ◌&&◌, List, [], ◌∷◌, map, filter, Option, Some, None}
 use Rattle.std.specs.Option.{option_map, option_or}
 use Rattle.std.specs.List.{list_any}
 use Rattle.privilege.specs.Allowed.{contains}
 use Rattle.vocabulary.specs.Prelude.{Priv, Place, agree, grid, is_in, meets, least_of, lesser}
 
--- Some fields of some points of a tree, and a privilege, with the number that it has among others.
+-- Some fields of the points of a space of a tree, and a privilege, with the number that it has among others.
 pub record Claimed : Type 0 where
   pub number : ℕ
   pub tree : ℕ
+  pub space : ℕ
   pub points : List ℕ
   pub fields : List ℕ
   pub access : Priv
 
-abbrev pub claimed : ℕ → ℕ → List ℕ → List ℕ → Priv → Claimed
-claimed number tree points fields access = record { number = number; tree = tree; points = points; fields = fields; access = access }
+abbrev pub claimed : ℕ → ℕ → ℕ → List ℕ → List ℕ → Priv → Claimed
+claimed number tree space points fields access = record { number = number; tree = tree; space = space; points = points; fields = fields; access = access }
+
+-- Those of some claims that are to one space with another are to the same points.
+abbrev pub AreOfSpaces : List Claimed → Claimed → Type 0
+AreOfSpaces cs c = All (λ (d : Claimed). d.space ≡ c.space → d.points ≡ c.points) cs
 
 -- Whether a claim covers a place.
 abbrev pub holds : Place → Claimed → Bool

@@ -1,5 +1,6 @@
 -- How far what a claim asks for is allowed, point by point, and where it is first refused.
-use Rattle.std.specs.Prelude.{◌≡◌, ℕ, ◌^◌, ◌<◌, ◌≤◌, ◌==◌, ◌&&◌, Bool, true, false, List, Contains, Option, Some, None, IfSome, MatchOption, ⊤}
+use Rattle.std.specs.Prelude.{◌≡◌, ℕ, ◌^◌, ◌<◌, ◌≤◌, ◌==◌, ◌&&◌, Bool, true, false, List, Contains, Option, Some, None, IfSome, MatchOption}
+use Rattle.std.specs.List.{list_all}
 use Rattle.std.specs.Option.{option_map}
 use Rattle.point_set.specs.Least.{IsLeast}
 use Rattle.privilege.specs.Allowed.{contains}
@@ -17,6 +18,10 @@ allows_at cs c field point = allows cs (at c field point) c.access
 -- Whether a claim may allow what another asks for at a field, wherever it has the point.
 abbrev pub serves : Claimed → Claimed → ℕ → Bool
 serves one c field = (one.tree == c.tree) && (contains one.access c.access && is_in one.fields field)
+
+-- Whether a claim to the same space serves all fields of another.
+abbrev pub serves_all : Claimed → Claimed → Bool
+serves_all one c = (one.space == c.space) && list_all (serves one c) c.fields
 
 -- The test passes from the first number up to where it reaches; if it reaches nothing, it fails at the first number; and without an end it passes at each `u64`.
 abbrev pub Reaches : (ℕ → Bool) → ℕ → Option ℕ → Type 0

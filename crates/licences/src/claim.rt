@@ -1,24 +1,26 @@
 //! What is asked for, or allowed.
 
-ghost use Rattle.std.specs.Prelude.{◌≡◌, ◌^◌, ◌<◌, [], All};
+ghost use Rattle.std.specs.Prelude.{◌≡◌, ◌==◌, ◌&&◌, ◌^◌, ◌<◌, not, [], All};
+ghost use Rattle.std.specs.List.{list_all};
 ghost use Rattle.std.specs.Option.{option_map_or};
 ghost use Rattle.std.specs.List.Sorted.{IsStrictlyIncreasing};
 ghost use Rattle.point_set.specs.Least.{IsLeastFrom, IsLeastGap};
-ghost use Rattle.vocabulary.specs.Prelude.{meets};
+ghost use Rattle.vocabulary.specs.Prelude.{agree, meets};
 ghost use Rattle.licences.specs.Claims.{claimed, conflict};
-ghost use Rattle.licences.specs.Reach.{serves};
+ghost use Rattle.licences.specs.Reach.{serves, serves_all};
 
 use log_tables::is_in;
 use point_set::PointSet;
 use privilege::{Priv, agree, contains};
 use std::marker::Model;
 
-/// Some fields of some points of a tree, and what is asked for, or allowed, there.
+/// Some fields of the points of a space of a tree, and what is asked for, or allowed, there.
 #[derive(Drop)]
 pub struct Claim<'a, P: PointSet + Copy> {
     // Its number among others.
     number: u32,
     tree: u32,
+    space: u32,
     // Without a set there are no points.
     set: Option<P>,
     fields: &'a [u32],
@@ -33,7 +35,7 @@ impl<'a, P: PointSet + Copy> Model for Claim<'a, P> {
 
     ghost Value = { Claimed };
 
-    ghost view = { λ c. claimed c.number c.tree (option_map_or P.points c.set []) c.fields.now c.access };
+    ghost view = { λ c. claimed c.number c.tree c.space (option_map_or P.points c.set []) c.fields.now c.access };
 
     ghost invariant = { λ c. IsStrictlyIncreasing c.fields.now };
 }
@@ -96,21 +98,30 @@ fn gap_in<P: PointSet>(set: &Option<P>, from: u64) -> Option<u64>
     }
 }
 
+/// Whether a claim serves each of some fields of another.
+fn serves_each<P: PointSet + Copy>(one: &Claim<'_, P>, asked: &Claim<'_, P>, fields: &[u32]) -> bool
+    ensures { result ≡ list_all (serves one.now asked.now) fields.now }
+{
+    fields.iter().all(|field| one.serves(asked, *field))
+}
+
 impl<'a, P: PointSet + Copy> Claim<'a, P> {
-    /// These fields of the points of this set, or of no point, with this privilege.
+    /// These fields of the points of this set, that of a space, or of no point, with this privilege.
     pub fn new(
         number: u32,
         tree: u32,
+        space: u32,
         set: Option<P>,
         fields: &'a [u32],
         access: Priv,
     ) -> Claim<'a, P>
         requires { IsStrictlyIncreasing fields.now }
-        ensures { result ≡ claimed number tree (option_map_or P.points set []) fields.now access }
+        ensures { result ≡ claimed number tree space (option_map_or P.points set []) fields.now access }
     {
         Claim {
             number,
             tree,
+            space,
             set,
             fields,
             access,
@@ -131,8 +142,22 @@ impl<'a, P: PointSet + Copy> Claim<'a, P> {
         self.tree
     }
 
+    /// The id of the space.
+    pub fn space(&self) -> u32
+        ensures { result ≡ self.now.space }
+    {
+        self.space
+    }
+
+    /// The privilege.
+    pub fn access(&self) -> Priv
+        ensures { result ≡ self.now.access }
+    {
+        self.access
+    }
+
     /// The fields.
-    pub(crate) fn fields(&self) -> &[u32]
+    pub fn fields(&self) -> &[u32]
         ensures { result.now ≡ self.now.fields }
     {
         self.fields
@@ -167,14 +192,39 @@ impl<'a, P: PointSet + Copy> Claim<'a, P> {
         self.tree == asked.tree && contains(self.access, asked.access) && is_in(self.fields, field)
     }
 
+    /// Whether it is a claim to the same space as another, and serves all its fields.
+    pub(crate) fn serves_all(&self, asked: &Claim<'_, P>) -> bool
+        ensures { result ≡ serves_all self.now asked.now }
+    {
+        self.space == asked.space && serves_each(self, asked, asked.fields)
+    }
+
+    /// Whether the two are of one tree, and their privileges do not agree.
+    pub fn disagrees(&self, other: &Claim<'_, P>) -> bool
+        ensures { result ≡ ((self.now.tree == other.now.tree) && not (agree self.now.access other.now.access)) }
+    {
+        self.tree == other.tree && !agree(self.access, other.access)
+    }
+
+    /// Whether the two have a field in common.
+    pub fn has_common_field(&self, other: &Claim<'_, P>) -> bool
+        ensures { result ≡ meets self.now.fields other.now.fields }
+    {
+        fields_meet(self.fields, other.fields)
+    }
+
+    /// Whether the two have a point in common.
+    pub fn has_common_point(&self, other: &Claim<'_, P>) -> bool
+        ensures { result ≡ meets self.now.points other.now.points }
+    {
+        points_meet(&self.set, &other.set)
+    }
+
     /// Whether the two share a place, and their privileges do not agree.
     #[tactic(auto, using(crate::proofs::Meeting::turned))]
     pub(crate) fn conflicts(&self, other: &Claim<'_, P>) -> bool
         ensures { result ≡ conflict self.now other.now }
     {
-        self.tree == other.tree
-            && !agree(self.access, other.access)
-            && fields_meet(self.fields, other.fields)
-            && points_meet(&self.set, &other.set)
+        self.disagrees(other) && self.has_common_field(other) && self.has_common_point(other)
     }
 }

@@ -1,33 +1,66 @@
 //! Where none of some claims allows what another asks for.
 
-ghost use Rattle.std.specs.Prelude.{◌≡◌};
+ghost use Rattle.std.specs.Prelude.{◌≡◌, ◌∷◌, [], All};
+ghost use Rattle.std.specs.List.{list_any};
 ghost use Rattle.point_set.specs.Least.{IsLeast};
-ghost use Rattle.licences.specs.Claims.{first_refused, lesser_place, refused};
-ghost use Rattle.licences.specs.Reach.{IsLeastAmong, IsLeastAt, IsRefusedAt, Reaches, allows_at, is_before};
+ghost use Rattle.licences.specs.Claims.{AreOfSpaces, first_refused, lesser_place, refused};
+ghost use Rattle.licences.specs.Reach.{IsLeastAmong, IsLeastAt, IsRefusedAt, Reaches, allows_at, is_before, serves_all};
 
 use crate::claim::Claim;
 use point_set::PointSet;
 use semantics::Place;
 
-/// How far what is asked for is allowed without a gap, from a point on: by the one claim that reaches furthest.
+/// How far a claim allows what is asked for without a gap, from a point on.
+fn end_by<P: PointSet + Copy>(
+    one: &Claim<'_, P>,
+    asked: &Claim<'_, P>,
+    field: u32,
+    from: u64,
+) -> Option<u64>
+    ensures { Reaches (allows_at (one.now ∷ []) asked.now field) from result }
+{
+    if one.serves(asked, field) {
+        one.gap_from(from)
+    } else {
+        Some(from)
+    }
+}
+
+/// How far the first of some claims that allows what is asked for at a point does so from there on, and its place.
+fn first_reach<P: PointSet + Copy>(
+    all: &[Claim<'_, P>],
+    asked: &Claim<'_, P>,
+    field: u32,
+    from: u64,
+) -> (Option<u64>, usize)
+    ensures { Reaches (allows_at all.now asked.now field) from result.0 }
+{
+    for k in 0..all.len() {
+        let end = end_by(&all[k], asked, field, from);
+        if end != Some(from) {
+            return (end, k);
+        }
+    }
+    (Some(from), 0)
+}
+
+/// How far what is asked for is allowed from a point on by one claim, and the place of that one. What allowed it before is asked first.
 fn reach<P: PointSet + Copy>(
     all: &[Claim<'_, P>],
     asked: &Claim<'_, P>,
     field: u32,
     from: u64,
-) -> Option<u64>
-    ensures { Reaches (allows_at all.now asked.now field) from result }
+    last: usize,
+) -> (Option<u64>, usize)
+    ensures { Reaches (allows_at all.now asked.now field) from result.0 }
 {
-    let mut end = from;
-    for one in all {
-        if one.serves(asked, field) {
-            match one.gap_from(from) {
-                Some(gap) => end = end.max(gap),
-                None => return None,
-            }
+    if let Some(one) = all.get(last) {
+        let end = end_by(one, asked, field, from);
+        if end != Some(from) {
+            return (end, last);
         }
     }
-    Some(end)
+    first_reach(all, asked, field, from)
 }
 
 /// The least point at which a claim is refused at a field. Each step passes over a run of what is allowed.
@@ -40,17 +73,20 @@ fn refused_point<P: PointSet + Copy>(
 {
     asked.points_are_bounded();
     let mut from = 0;
+    let mut last = 0;
     loop {
         let Some(point) = asked.next_from(from) else {
             return None;
         };
-        let Some(end) = reach(all, asked, field, point) else {
+        let (reached, by) = reach(all, asked, field, point, last);
+        let Some(end) = reached else {
             return None;
         };
         if end == point {
             return Some(point);
         }
         from = end;
+        last = by;
     }
 }
 
@@ -91,8 +127,15 @@ fn lesser_of(p: Option<Place>, q: Option<Place>) -> Option<Place>
     }
 }
 
-/// The least place of a claim at which none of these allows what it asks for.
-pub fn refused<P: PointSet + Copy>(all: &[Claim<'_, P>], asked: &Claim<'_, P>) -> Option<Place>
+/// Whether one of some claims is to the same space as another, and serves all its fields.
+fn is_allowed_at_once<P: PointSet + Copy>(all: &[Claim<'_, P>], asked: &Claim<'_, P>) -> bool
+    ensures { result ≡ list_any (λ one. serves_all one asked.now) all.now }
+{
+    all.iter().any(|one| one.serves_all(asked))
+}
+
+/// The least place of a claim at which none of these allows what it asks for, field by field.
+fn refused_among<P: PointSet + Copy>(all: &[Claim<'_, P>], asked: &Claim<'_, P>) -> Option<Place>
     ensures { result ≡ refused all.now asked.now }
 {
     let mut least = None;
@@ -102,11 +145,25 @@ pub fn refused<P: PointSet + Copy>(all: &[Claim<'_, P>], asked: &Claim<'_, P>) -
     least
 }
 
+/// The least place of a claim at which none of these allows what it asks for. Claims to the same space are asked first, since their points need no look.
+#[tactic(auto, using(crate::proofs::Least::allowed_at_once))]
+pub fn refused<P: PointSet + Copy>(all: &[Claim<'_, P>], asked: &Claim<'_, P>) -> Option<Place>
+    requires { AreOfSpaces all.now asked.now }
+    ensures { result ≡ refused all.now asked.now }
+{
+    if is_allowed_at_once(all, asked) {
+        None
+    } else {
+        refused_among(all, asked)
+    }
+}
+
 /// The number of the first of some claims for which none of these allows all that it asks for, and the least place at which none does.
 pub fn first_refused<P: PointSet + Copy>(
     all: &[Claim<'_, P>],
     own: &[Claim<'_, P>],
 ) -> Option<(u32, Place)>
+    requires { All (AreOfSpaces all.now) own.now }
     ensures { result ≡ first_refused all.now own.now }
 {
     for one in own {

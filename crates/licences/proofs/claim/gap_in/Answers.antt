@@ -1,4 +1,4 @@
-use Rattle.std.proofs.Common.{Option, [], sym, subst}
+use Rattle.std.proofs.Common.{[], sym, subst}
 use Rattle.std.specs.Option.{option_map_or}
 use Rattle.point_set.specs.Least.{IsLeastGap}
 use Rattle.licences.proofs.claim.gap_in.Goals as goal

@@ -1,4 +1,4 @@
-use Rattle.std.proofs.Common.{Option, [], sym, subst}
+use Rattle.std.proofs.Common.{[], sym, subst}
 use Rattle.std.specs.Option.{option_map_or}
 use Rattle.point_set.specs.Least.{IsLeastFrom}
 use Rattle.licences.proofs.claim.next_in.Goals as goal

@@ -1,4 +1,4 @@
-use Rattle.licences.proofs.Least.{refused_on, refused_here, refused_none}
+use Rattle.licences.proofs.Least.{refused_on}
 use Rattle.std.proofs.Common.{◌∙◌, sym}
 use Rattle.licences.proofs.refusal.first_refused.Goals as goal
 

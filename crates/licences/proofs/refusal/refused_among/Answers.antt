@@ -3,7 +3,7 @@ use Rattle.std.proofs.lemmas.List.{take_all}
 use Rattle.licences.specs.Claims.{lesser_place}
 use Rattle.licences.specs.Reach.{IsLeastAmong}
 use Rattle.licences.proofs.Least.{field_step, least_told}
-use Rattle.licences.proofs.refusal.refused.Goals as goal
+use Rattle.licences.proofs.refusal.refused_among.Goals as goal
 
 pub loop-field-preserved : goal.loop-field-preserved
 loop-field-preserved g c =
