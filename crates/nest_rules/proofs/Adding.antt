@@ -11,10 +11,11 @@ use Rattle.spy_grammar.specs.declared.nested.NRecord.{NRecord}
 use Rattle.spy_grammar.specs.declared.nested.NRecord.TheVariants as records
 use Rattle.spy_grammar.specs.Nested.{GoodNested}
 use Rattle.semantics.specs.declared.groups.Group.{Group}
+use Rattle.semantics.specs.declared.groups.GroupMember.{GroupMember}
 use Rattle.semantics.specs.declared.limits.TheConstants.{MOST_RECORDS, MOST_GROUPS}
 use Rattle.semantics.specs.Nesting.{Nesting, with_nested, is_group, is_late_nested, is_late_group, repeats_group, named_groups, privileges_before}
 use Rattle.nest_rules.specs.declared.pending.Pending.{Pending}
-use Rattle.nest_rules.specs.Pending.{broken, with_pending}
+use Rattle.nest_rules.specs.Pending.{AreFew, broken, with_pending}
 
 pub place_of_id : (gs : List Group) (id : ℕ) → position_from (λ (n : ℕ). n == id) 0 (map (λ (g : Group). g.id) gs) ≡ position_from (λ (g : Group). g.id == id) 0 gs
 place_of_id gs id = position_from-map (λ (g : Group). g.id) (λ n. n == id) 0 gs
@@ -35,17 +36,16 @@ good_fields group tree space fields access good = rise fields good.1.1.1.0.1
 one_longer : {X : Type 0} (xs : List X) (x : X) → length (xs ++ x ∷ []) ≡ length xs + 1
 one_longer xs x = length-append xs (x ∷ [])
 
-few_privileges : (n : Nesting) (r : NRecord) → is_late_nested n r ≡ false → length n.privileges ≤ MOST_RECORDS → length (with_nested n r).privileges ≤ MOST_RECORDS
-few_privileges n (records.Greq group tree space fields access) late few =
-    subst (λ k. k ≤ MOST_RECORDS) (sym (one_longer n.privileges (record { group = group; number = privileges_before n.privileges group + 1; tree = tree; space = space; fields = fields; access = privilege_of access })))
-    (omega (arith, ltb-false MOST_RECORDS (length n.groups + length n.privileges + length n.members + 1) late))
-few_privileges n _ late few = few
+few_nested : (n : Nesting) (r : NRecord) → is_late_nested n r ≡ false → length n.groups + length n.privileges + length n.members ≤ MOST_RECORDS
+    → length (with_nested n r).groups + length (with_nested n r).privileges + length (with_nested n r).members ≤ MOST_RECORDS
+few_nested n (records.Plain r) late few = few
+few_nested n (records.Group id parent) late few = omega (arith, one_longer n.groups (record { id = id; parent = parent }), ltb-false MOST_RECORDS (length n.groups + length n.privileges + length n.members + 1) late)
+few_nested n (records.Greq group tree space fields access) late few =
+    omega (arith, one_longer n.privileges (record { group = group; number = privileges_before n.privileges group + 1; tree = tree; space = space; fields = fields; access = privilege_of access }), ltb-false MOST_RECORDS (length n.groups + length n.privileges + length n.members + 1) late)
+few_nested n (records.Member task group) late few = omega (arith, one_longer n.members (record { task = task; group = group }), ltb-false MOST_RECORDS (length n.groups + length n.privileges + length n.members + 1) late)
 
 not_late : (t : Tables) (n : Nesting) (p : Pending) → broken t n p ≡ None → is_late_nested n p.rec ≡ false
 not_late t n p none = elim (cases_Bool (is_late_nested n p.rec)) [ inl late ↦ absurd (none-some _ (sym (rw late at none))) | inr early ↦ early ]
-
-pub few_more : (t : Tables) (n : Nesting) (p : Pending) → broken t n p ≡ None → length n.privileges ≤ MOST_RECORDS → length (with_pending n p).privileges ≤ MOST_RECORDS
-few_more t n p none few = few_privileges n p.rec (not_late t n p none) few
 
 few_groups : (n : Nesting) (r : NRecord) → is_late_group n r ≡ false → length n.groups ≤ MOST_GROUPS → length (with_nested n r).groups ≤ MOST_GROUPS
 few_groups n (records.Group id parent) late few = omega (arith, one_longer n.groups (record { id = id; parent = parent }), ltb-false MOST_GROUPS (length n.groups + 1) late)
@@ -62,5 +62,5 @@ no_late_group t n p none = last (is_late_nested n p.rec) (repeats_group n p.rec)
     last false false false true o e = absurd (none-some _ (sym e))
     last false false false false o e = refl
 
-pub few_groups_more : (t : Tables) (n : Nesting) (p : Pending) → broken t n p ≡ None → length n.groups ≤ MOST_GROUPS → length (with_pending n p).groups ≤ MOST_GROUPS
-few_groups_more t n p none few = few_groups n p.rec (no_late_group t n p none) few
+pub few_more : (t : Tables) (n : Nesting) (p : Pending) → broken t n p ≡ None → AreFew n → AreFew (with_pending n p)
+few_more t n p none few = (few_groups n p.rec (no_late_group t n p none) few.0, few_nested n p.rec (not_late t n p none) few.1)

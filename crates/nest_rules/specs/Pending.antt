@@ -1,5 +1,5 @@
 -- Records of a nested log that are not plain, each with whether what it names of the log is declared by then.
-use Rattle.std.specs.Prelude.{◌≡◌, Bool, true, not, ◌&&◌, List, [], ◌∷◌, ◌++◌, map, Option, Some, None, option_map, if◌then◌else◌}
+use Rattle.std.specs.Prelude.{◌≡◌, ◌≤◌, ◌+◌, length, Bool, true, not, ◌&&◌, List, [], ◌∷◌, ◌++◌, map, Option, Some, None, option_map, if◌then◌else◌}
 use Rattle.std.specs.List.{list_all, filter_map}
 use Rattle.std.specs.Option.{option_or}
 use Rattle.vocabulary.specs.Prelude.{Code, Record, Fault, Tables, Space, with_record, is_in}
@@ -8,6 +8,7 @@ use Rattle.spy_grammar.specs.declared.record.Record.TheVariants.{Ispace, Tree, T
 use Rattle.spy_grammar.specs.declared.nested.NRecord.{NRecord}
 use Rattle.spy_grammar.specs.declared.nested.NRecord.TheVariants as records
 use Rattle.spy_grammar.specs.declared.nested.NLined.{NLined}
+use Rattle.semantics.specs.declared.limits.TheConstants.{MOST_RECORDS, MOST_GROUPS}
 use Rattle.semantics.specs.declared.tables.Tree as trees
 use Rattle.semantics.specs.Rules.{is_declared}
 use Rattle.semantics.specs.Faults.{at_line}
@@ -69,6 +70,10 @@ pending_from t [] = []
 pending_from t (l ∷ ls) = pending_with (knows t l.rec) l ++ pending_from (with_plain t l) ls
 
 -- ---- how they are judged
+
+-- What is nested is within the limits: on groups, and on all records that are not plain.
+abbrev pub AreFew : Nesting → Type 0
+AreFew n = (length n.groups ≤ MOST_GROUPS) × (length n.groups + length n.privileges + length n.members ≤ MOST_RECORDS)
 
 -- The first rule on groups that a record breaks.
 abbrev pub broken : Tables → Nesting → Pending → Option Code

@@ -1,10 +1,9 @@
 //! The walk over the records of a nested log that are not plain, up to the first that breaks a rule on groups.
 
-ghost use Rattle.std.specs.Prelude.{◌≡◌, ◌≤◌, All, None, fold, length, IfOk};
+ghost use Rattle.std.specs.Prelude.{◌≡◌, All, None, fold, IfOk};
 ghost use Rattle.spy_grammar.specs.Nested.{GoodNested};
-ghost use Rattle.semantics.specs.declared.limits.TheConstants.{MOST_GROUPS};
 ghost use Rattle.semantics.specs.Nesting.{no_nesting, with_nested};
-ghost use Rattle.nest_rules.specs.Pending.{pending_fault, with_pending};
+ghost use Rattle.nest_rules.specs.Pending.{AreFew, pending_fault, with_pending};
 
 use crate::groups::Groups;
 use crate::pending::Pending;
@@ -23,7 +22,7 @@ pub fn walk<P: PointSet>(
     requires none { groups.old ≡ no_nesting }
     requires good { All (λ p. GoodNested p.rec) nested.items }
     ensures fault { IfOk result (λ fault. fault ≡ pending_fault draft.now no_nesting nested.items) }
-    ensures few { IfOk result (λ fault. length groups.new.groups ≤ MOST_GROUPS) }
+    ensures few { IfOk result (λ fault. AreFew groups.new) }
     ensures nesting { IfOk result (λ fault. fault ≡ None → groups.new ≡ fold with_pending no_nesting nested.items) }
 {
     for p in nested {

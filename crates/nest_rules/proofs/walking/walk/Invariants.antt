@@ -1,11 +1,10 @@
-use Rattle.std.proofs.Common.{◌≡◌, ◌≤◌, fold, length}
+use Rattle.std.proofs.Common.{◌≡◌, fold}
 use Rattle.std.specs.List.{AllByRecursion}
 use Rattle.std.specs.Vec.Iter.{into_iter_items}
 use Rattle.spy_grammar.specs.Nested.{GoodNested}
-use Rattle.semantics.specs.declared.limits.TheConstants.{MOST_RECORDS, MOST_GROUPS}
 use Rattle.semantics.specs.Nesting.{no_nesting}
 use Rattle.nest_rules.specs.declared.pending.Pending.{Pending}
-use Rattle.nest_rules.specs.Pending.{pending_fault, with_pending}
+use Rattle.nest_rules.specs.Pending.{AreFew, pending_fault, with_pending}
 use Rattle.nest_rules.proofs.walking.walk.Given as goal
 
 abbrev pub invariant-loop-p : goal.invariant-loop-p
@@ -15,6 +14,5 @@ invariant-loop-p g l = record {
   good : AllByRecursion (λ (p : Pending). GoodNested p.rec) (into_iter_items l.p-iterator);
   fault : pending_fault l.draft no_nesting l.fn.nested.items ≡ pending_fault l.draft l.groups (into_iter_items l.p-iterator);
   nesting : fold with_pending no_nesting l.fn.nested.items ≡ fold with_pending l.groups (into_iter_items l.p-iterator);
-  few : length l.groups.privileges ≤ MOST_RECORDS;
-  few_groups : length l.groups.groups ≤ MOST_GROUPS;
+  few : AreFew l.groups;
 }
