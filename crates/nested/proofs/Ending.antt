@@ -1,14 +1,13 @@
 -- What the parts of a nested log tell of the whole.
-use Rattle.std.proofs.Common.{◌≡◌, ◌≤◌, ℕ, List, length, [], Some, None, Result, Ok, IfOk, OnOk, refl, sym, ap, ◌∙◌, subst}
+use Rattle.std.proofs.Common.{◌≡◌, ℕ, List, [], Some, None, Result, Ok, IfOk, OnOk, refl, sym, ap, ◌∙◌, subst}
 use Rattle.std.specs.Option.{option_or}
 use Rattle.vocabulary.specs.Prelude.{Code, Tables, Fault}
 use Rattle.spy_grammar.specs.declared.nested.NLined.{NLined}
-use Rattle.semantics.specs.declared.limits.TheConstants.{MOST_GROUPS}
 use Rattle.semantics.specs.Faults.{declaration_fault}
 use Rattle.semantics.specs.Nesting.{Nesting, no_nesting, nested_fault, nested_tables, groups_fault, plain_log, shown_unlicensed}
 use Rattle.log_laws.proofs.lemmas.Admitted.{no_broken_rule}
 use Rattle.nest_rules.specs.declared.pending.Pending.{Pending}
-use Rattle.nest_rules.specs.Pending.{pending_from, pending_fault}
+use Rattle.nest_rules.specs.Pending.{AreFew, pending_from, pending_fault}
 use Rattle.nest_rules.proofs.lemmas.Judging.{pending_is, nesting_is}
 use Rattle.vocabulary.specs.Prelude as v
 use Rattle.nested.specs.Rows.{AreNamed}
@@ -35,13 +34,13 @@ licensed_by t ps n from is none licensed = record {
   licensed = licensed;
 }
 
-groups_by : (t : Tables) (ps : List Pending) (n : Nesting) → n ≡ all_nested ps → length n.groups ≤ MOST_GROUPS → pending_fault t no_nesting ps ≡ None → AreGroups t ps n
+groups_by : (t : Tables) (ps : List Pending) (n : Nesting) → n ≡ all_nested ps → AreFew n → pending_fault t no_nesting ps ≡ None → AreGroups t ps n
 groups_by t ps n is few none = record { nesting = is; named = subst AreNamed (sym is) (named_all t no_nesting ps none refl); few = few; faultless = none }
 
 -- The groups that no record breaks a rule on.
 pub groups_told : {E : Type 0} (t : Tables) (ps : List Pending) (n : Nesting) (r : Result Nesting E) → r ≡ Ok n
-    → IfOk r (λ (g : Nesting). g ≡ all_nested ps) → IfOk r (λ (g : Nesting). length g.groups ≤ MOST_GROUPS) → OnOk r (pending_fault t no_nesting ps ≡ None) → AreGroups t ps n
+    → IfOk r (λ (g : Nesting). g ≡ all_nested ps) → IfOk r AreFew → OnOk r (pending_fault t no_nesting ps ≡ None) → AreGroups t ps n
 groups_told t ps n r e is few none = groups_by t ps n
     (subst (λ q. IfOk q (λ (g : Nesting). g ≡ all_nested ps)) e is)
-    (subst (λ q. IfOk q (λ (g : Nesting). length g.groups ≤ MOST_GROUPS)) e few)
+    (subst (λ q. IfOk q AreFew) e few)
     (subst (λ q. OnOk q (pending_fault t no_nesting ps ≡ None)) e none)

@@ -1,5 +1,5 @@
 -- When groups are free of each other, by claims.
-use Rattle.std.proofs.Common.{◌≡◌, ℕ, ◌==◌, Bool, true, false, not, inl, inr, List, [], ◌∷◌, filter, refl, sym, ap, ◌∙◌}
+use Rattle.std.proofs.Common.{◌≡◌, ℕ, ◌==◌, Bool, true, false, not, inl, inr, List, [], ◌∷◌, None, filter, refl, sym, ap, ◌∙◌, subst}
 use Rattle.std.specs.List.{list_any}
 use mathlib.Core.Path.{fun_ext}
 use Rattle.std.proofs.lemmas.Bool.{cases_Bool}
@@ -7,8 +7,10 @@ use Rattle.list_lemmas.proofs.lemmas.Places.{list_any_map}
 use Rattle.privilege.specs.declared.kinds.Coherence.TheVariants.{Exclusive}
 use Rattle.vocabulary.specs.Prelude.{Priv, Tables, agree, kind_of, is_free}
 use Rattle.semantics.specs.declared.groups.GroupReq.{GroupReq}
-use Rattle.semantics.specs.Nesting.{Nesting, as_req, privileges_of, interfere, are_free}
+use Rattle.semantics.specs.Nesting.{Nesting, as_req, privileges_of, interfere, are_free, nested_tables, shown_unlicensed}
 use Rattle.licences.specs.Claims.{Claimed, conflict}
+use Rattle.nest_laws.proofs.lemmas.Groups.{free_tasks}
+use Rattle.nested.specs.Nested.{IsLicensed, TasksAreApart}
 use Rattle.nested.specs.Rows.{claim_of, row_in}
 
 free_where : (p q : Priv) → is_free (kind_of p Exclusive q Exclusive) ≡ agree p q
@@ -34,3 +36,11 @@ free_of_none cs theirs is = sym (ap not (ap (λ ds. list_any (λ c. list_any (co
     none : (cs : List Claimed) → list_any (λ c. list_any (conflict c) []) cs ≡ false
     none [] = refl
     none (c ∷ cs) = none cs
+
+-- Tasks below groups that are free of each other do not interfere.
+pub tasks_apart : (t : Tables) (n : Nesting) (g h : ℕ) → IsLicensed t n → are_free t n g h ≡ true → TasksAreApart t n g h
+tasks_apart t n g h l free =
+    subst (λ (u : Tables). TasksAreApart u n g h) (sym l.tables)
+    (subst (λ (m : Nesting). TasksAreApart (nested_tables l.log) m g h) (sym l.nesting)
+    (free_tasks l.lines l.log l.faultless (subst (λ (m : Nesting). shown_unlicensed (nested_tables l.log) m ≡ None) l.nesting (subst (λ (u : Tables). shown_unlicensed u n ≡ None) l.tables l.licensed)) g h
+    (subst (λ (m : Nesting). are_free (nested_tables l.log) m g h ≡ true) l.nesting (subst (λ (u : Tables). are_free u n g h ≡ true) l.tables free))))

@@ -1,19 +1,21 @@
 -- Rows of claims, one after the other, and the row of a group.
-use Rattle.std.proofs.Common.{◌≡◌, ℕ, ◌+◌, ◌<◌, ◌==◌, Bool, true, false, inl, inr, List, [], ◌∷◌, ◌++◌, map, filter, take, length, get_or, slice_get, Option, Some, None, is_some, option_map, refl, sym, ap, ◌∙◌, subst}
+use Rattle.std.proofs.Common.{◌≡◌, ℕ, ◌+◌, ◌<◌, ◌==◌, Bool, true, false, inl, inr, List, [], ◌∷◌, ◌++◌, map, filter, take, length, get_or, slice_get, Option, Some, None, is_some, option_map, refl, sym, ap, ◌∙◌, subst, All}
 use Rattle.std.specs.List.{list_any, list_all, position_from}
 use Rattle.std.proofs.lemmas.Bool.{cases_Bool, and_parts, false≢true, eqb-true}
 use Rattle.std.proofs.lemmas.List.{take_more}
+use Rattle.std.proofs.lemmas.List.Elements.{All-map}
 use Rattle.std.specs.Borrow.{Bor}
 use Rattle.std.specs.Option.{option_copied, option_map_or}
 use Rattle.std.proofs.lemmas.Option.{slice_get-map, none-some, same_Some}
 use Rattle.list_lemmas.proofs.lemmas.Firsts.{find_place}
 use Rattle.log_laws.proofs.lemmas.Members.{find_any, found_at}
 use Rattle.list_lemmas.proofs.lemmas.Places.{is_some-position}
-use Rattle.vocabulary.specs.Prelude.{Tables}
+use Rattle.vocabulary.specs.Prelude.{Req, Tables, points_in}
 use Rattle.semantics.specs.declared.groups.Group as groups
 use Rattle.semantics.specs.declared.groups.GroupReq.{GroupReq}
 use Rattle.semantics.specs.Nesting.{Nesting, as_req, is_group}
-use Rattle.nested.specs.Rows.{AreNamed, claim_of, row_in, rows_in}
+use Rattle.licences.specs.Claims.{AreOfSpaces, Claimed}
+use Rattle.nested.specs.Rows.{AreNamed, claim_of, own_by, row_in, rows_in}
 
 -- ---- what passes a test, one element more
 
@@ -68,3 +70,18 @@ row_none t n id at named = ap (map (λ (q : GroupReq). claim_of t (as_req q))) (
 pub seen_row : {X : Type 0} (o : Option (Bor X)) (x d : X) → option_copied o ≡ Some x → option_map_or (λ (r : Bor X). r.now) o d ≡ x
 seen_row None x d e = absurd (none-some x e)
 seen_row (Some r) x d e = same_Some r.now x e
+
+-- ---- claims to one space
+
+-- Each claim is to the points of its space.
+abbrev AreIn : Tables → List Claimed → Type 0
+AreIn t cs = All (λ (c : Claimed). c.points ≡ points_in t c.space) cs
+
+pub spaces_alike : (t : Tables) (cs ds : List Claimed) → AreIn t cs → AreIn t ds → All (AreOfSpaces cs) ds
+spaces_alike t cs ds a b = λ k d lt i e le same. a i e le ∙ ap (points_in t) same ∙ sym (b k d lt)
+
+pub row_in_spaces : (t : Tables) (n : Nesting) (id : ℕ) (cs : List Claimed) → cs ≡ row_in t n id → AreIn t cs
+row_in_spaces t n id cs is = subst (AreIn t) (sym is) (All-map (λ (c : Claimed). c.points ≡ points_in t c.space) (λ (q : GroupReq). claim_of t (as_req q)) (filter (λ (q : GroupReq). q.group == id) n.privileges) (λ k d lt. refl))
+
+pub own_in_spaces : (t : Tables) (rs : List Req) (item : ℕ) (cs : List Claimed) → cs ≡ own_by t rs item → AreIn t cs
+own_in_spaces t rs item cs is = subst (AreIn t) (sym is) (All-map (λ (c : Claimed). c.points ≡ points_in t c.space) (claim_of t) (filter (λ (r : Req). r.item == item) rs) (λ k d lt. refl))

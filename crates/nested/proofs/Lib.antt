@@ -4,4 +4,5 @@ mod Freeing
 mod Gathering
 mod Naming
 mod Origins
+mod Asking
 mod Showing

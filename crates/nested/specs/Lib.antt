@@ -1,3 +1,4 @@
 pub mod Nested
 pub mod Rows
+pub use Rattle.outcomes.specs.NestedOutcome
 pub use Rattle.semantics.specs.Nesting

@@ -1,14 +1,17 @@
 -- What a nested log is seen as.
-use Rattle.std.specs.Prelude.{◌≡◌, ◌≤◌, ℕ, true, List, Contains, Some, None, fold, length}
-use Rattle.vocabulary.specs.Prelude.{Place, Req, Tables, AreLinesBy, covers, no_tables, reqs_of}
-use Rattle.semantics.specs.declared.limits.TheConstants.{MOST_GROUPS}
+use Rattle.std.specs.Prelude.{◌≡◌, ℕ, true, List, Contains, Some, None, fold, length}
+use Rattle.vocabulary.specs.Prelude.{Place, Req, Tables, AreLinesBy, covers, item_kind, no_tables, reqs_of}
+use Rattle.privilege.specs.declared.kinds.Kind.TheVariants.{Free}
 use Rattle.spy_grammar.specs.declared.record.Lined.{Lined}
 use Rattle.spy_grammar.specs.declared.nested.NLined.{NLined}
+use Rattle.findings.specs.declared.finding.Finding.{Finding}
+use Rattle.findings.specs.declared.finding.Finding.TheVariants as findings
+use Rattle.semantics.specs.declared.groups.Unlicensed.{Unlicensed}
 use Rattle.semantics.specs.Faults.{at_line, declaration_fault}
-use Rattle.semantics.specs.Nesting.{Nesting, no_nesting, nested_fault, nested_tables, nesting_of, plain_log, licenses, shown_unlicensed}
+use Rattle.semantics.specs.Nesting.{Nesting, no_nesting, nested_fault, nested_tables, nesting_of, plain_log, free_pairs, licenses, shown_unlicensed}
 use Rattle.nest_laws.specs.Below.{IsTaskBelow}
 use Rattle.nest_rules.specs.declared.pending.Pending.{Pending}
-use Rattle.nest_rules.specs.Pending.{pending_from, pending_fault, with_pending}
+use Rattle.nest_rules.specs.Pending.{AreFew, pending_from, pending_fault, with_pending}
 use Rattle.licences.specs.Claims.{Claimed}
 use Rattle.nested.specs.Rows.{AreNamed, rows_in}
 use Rattle.nested.specs.declared.nest_end.NestEnd.{NestEnd}
@@ -54,7 +57,7 @@ IsEnd t ps ends.Memory = Unit {0}
 pub record AreGroups (t : Tables) (ps : List Pending) (n : Nesting) : Type 0 where
   pub nesting : n ≡ all_nested ps
   pub named : AreNamed n
-  pub few : length n.groups ≤ MOST_GROUPS
+  pub few : AreFew n
   pub faultless : pending_fault t no_nesting ps ≡ None
 
 -- Why such groups are refused: only for a child that asks for more than its group licenses.
@@ -84,6 +87,18 @@ IsNestEnd lines log ends.Memory = Unit {0}
 -- Each group that a task is below licenses what the task asks for, at every place of its requirements.
 abbrev pub TasksAreLicensed : Tables → Nesting → Type 0
 TasksAreLicensed t n = (g item : ℕ) → IsTaskBelow t n g item → (r : Req) → Contains (reqs_of t item) r → (p : Place) → covers t p r ≡ true → licenses t n g p r.access ≡ true
+
+-- No task below the one group interferes with a task below the other.
+abbrev pub TasksAreApart : Tables → Nesting → ℕ → ℕ → Type 0
+TasksAreApart t n g h = (a b : ℕ) → IsTaskBelow t n g a → IsTaskBelow t n h b → item_kind t a b ≡ Free
+
+-- What is found where no child asks for more than its group licenses: the counts.
+abbrev pub FindsLicensed : Tables → Nesting → Finding → Type 0
+FindsLicensed t n f = f ≡ findings.Nested (length n.members) (length n.groups) (free_pairs t n)
+
+-- What is found where a child asks for more than its group licenses.
+abbrev pub FindsUnlicensed : Unlicensed → Finding → Type 0
+FindsUnlicensed u f = f ≡ findings.Unlicensed u.child.leaf u.child.id u.req u.child.group u.place.tree u.place.point u.place.field
 
 -- What these tables and records are seen as.
 abbrev pub nested_with : Tables → List Pending → Nested

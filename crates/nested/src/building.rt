@@ -18,7 +18,6 @@ use arena_sets::ArenaSet;
 use bumpalo::Bump;
 use log_decl::{DeclEnd, Log, declare};
 use log_tables::Draft;
-use nest_laws::children_are_licensed;
 use nest_rules::{Groups, Parts, Pending, split};
 use point_set::PointSet;
 use spy_grammar::{Lined, NLined};
@@ -177,6 +176,5 @@ pub fn build<'a, P: ArenaSet<'a>>(
         → (nested_fault lines records.items ≡ None)
         × (shown_unlicensed (nested_tables records.items) (nesting_of records.items) ≡ Some u) }
 {
-    children_are_licensed();
     built(alloc, bump, records, lines)
 }

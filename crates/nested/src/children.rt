@@ -1,12 +1,12 @@
 //! Whether each child asks for no more than its group licenses.
 
-ghost use Rattle.std.specs.Prelude.{◌≡◌, [], IfOk};
+ghost use Rattle.std.specs.Prelude.{◌≡◌, ◌<◌, [], All, get_or, length, IfOk};
 ghost use Rattle.std.specs.Option.{option_map_or};
 ghost use Rattle.semantics.specs.Nesting.{first_given, shown_unlicensed};
-ghost use Rattle.licences.specs.Claims.{first_refused};
-ghost use Rattle.nested.specs.Rows.{AreNamed, rows_in, shown_as, shown_group, shown_member};
+ghost use Rattle.licences.specs.Claims.{AreOfSpaces, first_refused};
+ghost use Rattle.nested.specs.Rows.{AreNamed, own_rows_by, rows_in, shown_as, shown_group, shown_member};
 
-use crate::own::own_claims;
+use crate::own::own_rows;
 use crate::row::Row;
 use crate::rows::row_at;
 use licences::{Claim, first_refused};
@@ -22,6 +22,7 @@ fn refused_child<P: PointSet + Copy>(
     all: &[Claim<'_, P>],
     own: &[Claim<'_, P>],
 ) -> Option<Unlicensed>
+    requires { All (AreOfSpaces all.now) own.now }
     ensures { result ≡ shown_as child (first_refused all.now own.now) }
 {
     match first_refused(all, own) {
@@ -36,6 +37,7 @@ fn refused_by<P: PointSet + Copy>(
     all: Option<&Row<'_, P>>,
     own: &[Claim<'_, P>],
 ) -> Option<Unlicensed>
+    requires { All (AreOfSpaces (option_map_or (λ r. r.now) all [])) own.now }
     ensures { result ≡ shown_as child (first_refused (option_map_or (λ r. r.now) all.entry []) own.now) }
 {
     match all {
@@ -92,47 +94,60 @@ fn refused_groups<P: PointSet + Copy>(
     None
 }
 
+/// The row at a place.
+fn row_of_place<'r, 'a, P: PointSet + Copy>(
+    rows: &'r [Row<'a, P>],
+    place: usize,
+) -> &'r Row<'a, P>
+    requires { place < length rows.now }
+    ensures { result.now ≡ get_or rows.now place [] }
+{
+    &rows[place]
+}
+
 /// What is shown of a task that asks for more than its group licenses.
 fn refused_member<P: PointSet + Copy>(
-    alloc: Global,
     draft: &Draft<P>,
     groups: &Groups,
     rows: &[Row<'_, P>],
+    tasks: &[Row<'_, P>],
     member: GroupMember,
-) -> Result<Option<Unlicensed>, AllocError>
+) -> Option<Unlicensed>
     requires rows { rows.now ≡ rows_in draft.now groups.now }
     requires named { AreNamed groups.now }
-    ensures { IfOk result (λ shown. shown ≡ shown_member draft.now groups.now member) }
+    requires tasks { tasks.now ≡ own_rows_by draft.now draft.now.reqs }
+    ensures { result ≡ shown_member draft.now groups.now member }
 {
-    let own = own_claims(alloc, draft, draft.place(member.task))?;
+    let own = row_of_place(tasks, draft.place(member.task));
     let child = Child {
         leaf: true,
         id: member.task,
         group: member.group,
     };
     let all = row_at(rows, groups, member.group);
-    Ok(refused_by(child, all, own.as_slice()))
+    refused_by(child, all, own.as_slice())
 }
 
 /// What is shown of the first of some tasks that asks for more than its group licenses.
 fn refused_members<P: PointSet + Copy>(
-    alloc: Global,
     draft: &Draft<P>,
     groups: &Groups,
     rows: &[Row<'_, P>],
+    tasks: &[Row<'_, P>],
     all: &[GroupMember],
-) -> Result<Option<Unlicensed>, AllocError>
+) -> Option<Unlicensed>
     requires rows { rows.now ≡ rows_in draft.now groups.now }
     requires named { AreNamed groups.now }
-    ensures { IfOk result (λ shown. shown ≡ first_given (shown_member draft.now groups.now) all.now) }
+    requires tasks { tasks.now ≡ own_rows_by draft.now draft.now.reqs }
+    ensures { result ≡ first_given (shown_member draft.now groups.now) all.now }
 {
     for member in all {
-        let shown = refused_member(alloc, draft, groups, rows, *member)?;
+        let shown = refused_member(draft, groups, rows, tasks, *member);
         if shown.is_some() {
-            return Ok(shown);
+            return shown;
         }
     }
-    Ok(None)
+    None
 }
 
 /// What is shown of the first child that asks for more than its group licenses.
@@ -151,5 +166,7 @@ pub(crate) fn unlicensed<P: PointSet + Copy>(
     if shown.is_some() {
         return Ok(shown);
     }
-    refused_members(alloc, draft, groups, rows, groups.members())
+    let tasks = own_rows(alloc, draft)?;
+    let shown = refused_members(draft, groups, rows, &tasks, groups.members());
+    Ok(shown)
 }

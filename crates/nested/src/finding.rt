@@ -1,12 +1,11 @@
 //! The groups of a nested log with their privileges, or why it is refused.
 
-ghost use Rattle.std.specs.Prelude.{◌≡◌, ◌≤◌, All, Err, Some, None, fold, length, IfOk, OnOk};
+ghost use Rattle.std.specs.Prelude.{◌≡◌, All, Err, Some, None, fold, IfOk, OnOk};
 ghost use Rattle.vocabulary.specs.Prelude.{Fault};
 ghost use Rattle.spy_grammar.specs.Nested.{GoodNested};
 ghost use Rattle.semantics.specs.declared.groups.Unlicensed.{Unlicensed};
-ghost use Rattle.semantics.specs.declared.limits.TheConstants.{MOST_GROUPS};
 ghost use Rattle.semantics.specs.Nesting.{no_nesting, shown_unlicensed};
-ghost use Rattle.nest_rules.specs.Pending.{pending_fault, with_pending};
+ghost use Rattle.nest_rules.specs.Pending.{AreFew, pending_fault, with_pending};
 ghost use Rattle.nested.specs.Rows.{AreNamed, rows_in};
 
 use crate::children::unlicensed;
@@ -34,7 +33,7 @@ pub(crate) fn judged<P: PointSet>(
 ) -> Result<Result<Groups, Fault>, AllocError>
     requires { All (λ p. GoodNested p.rec) nested.items }
     ensures nesting { IfOk result (λ r. IfOk r (λ g. g ≡ fold with_pending no_nesting nested.items)) }
-    ensures few { IfOk result (λ r. IfOk r (λ g. length g.groups ≤ MOST_GROUPS)) }
+    ensures few { IfOk result (λ r. IfOk r AreFew) }
     ensures faultless { IfOk result (λ r. OnOk r (pending_fault draft.now no_nesting nested.items ≡ None)) }
     ensures fault { IfOk result (λ r. (f : Fault) → r ≡ Err f
         → pending_fault draft.now no_nesting nested.items ≡ Some f) }

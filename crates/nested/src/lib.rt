@@ -4,6 +4,8 @@
 mod apart;
 mod building;
 mod children;
+mod commands;
+mod counting;
 mod finding;
 mod nest;
 mod nest_end;
@@ -12,5 +14,6 @@ mod row;
 mod rows;
 
 pub use building::build;
+pub use commands::find;
 pub use nest::Nest;
 pub use nest_end::NestEnd;

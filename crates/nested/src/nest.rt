@@ -1,16 +1,18 @@
 //! What is asked of a nested log.
 
-ghost use Rattle.std.specs.Prelude.{◌≡◌, ◌≤◌, [], not, length};
+ghost use Rattle.std.specs.Prelude.{◌≡◌, ◌≤◌, [], not, true, length};
 ghost use Rattle.std.specs.List.{list_any};
 ghost use Rattle.std.specs.Option.{option_map_or};
 ghost use Rattle.vocabulary.specs.Prelude.{Tables};
-ghost use Rattle.semantics.specs.declared.limits.TheConstants.{MOST_GROUPS};
-ghost use Rattle.semantics.specs.Nesting.{are_apart, are_free, is_ancestor};
+ghost use Rattle.semantics.specs.declared.limits.TheConstants.{MOST_GROUPS, MOST_RECORDS};
+ghost use Rattle.semantics.specs.Nesting.{are_apart, are_free, free_pairs, is_ancestor};
 ghost use Rattle.licences.specs.Claims.{conflict};
-ghost use Rattle.nested.specs.Nested.{IsLicensed};
+ghost use Rattle.nest_rules.specs.Pending.{AreFew};
+ghost use Rattle.nested.specs.Nested.{IsLicensed, TasksAreApart};
 ghost use Rattle.nested.specs.Rows.{AreNamed, rows_in};
 
 use crate::apart::is_above;
+use crate::counting::pairs_apart;
 use crate::finding::Found;
 use crate::row::Row;
 use crate::rows::row_at;
@@ -28,8 +30,8 @@ pub struct Nest<'a, P: PointSet + Copy> {
 }
 
 impl<'a, P: PointSet + Copy> Model for Nest<'a, P> {
-    ghost use Rattle.std.specs.Prelude.{◌≡◌, ◌≤◌, length};
-    ghost use Rattle.semantics.specs.declared.limits.TheConstants.{MOST_GROUPS};
+    ghost use Rattle.std.specs.Prelude.{◌≡◌};
+    ghost use Rattle.nest_rules.specs.Pending.{AreFew};
     ghost use Rattle.nested.specs.Nested.{IsLicensed, Nested};
     ghost use Rattle.nested.specs.Rows.{AreNamed, rows_in};
 
@@ -38,7 +40,7 @@ impl<'a, P: PointSet + Copy> Model for Nest<'a, P> {
     ghost view = { λ n. record { tables = n.log; nesting = n.found.groups } };
 
     ghost invariant = { λ n. IsLicensed n.log n.found.groups × AreNamed n.found.groups
-        × (n.found.rows.items ≡ rows_in n.log n.found.groups) × (length n.found.groups.groups ≤ MOST_GROUPS) };
+        × (n.found.rows.items ≡ rows_in n.log n.found.groups) × AreFew n.found.groups };
 }
 
 /// Whether two rows are free of each other. A group without a row may do nothing.
@@ -71,7 +73,7 @@ impl<'a, P: PointSet + Copy> Nest<'a, P> {
         requires licensed { IsLicensed log found.groups }
         requires named { AreNamed found.groups }
         requires rows { found.rows.items ≡ rows_in log found.groups }
-        requires few { length found.groups.groups ≤ MOST_GROUPS }
+        requires few { AreFew found.groups }
         ensures { result ≡ record { tables = log.entry; nesting = found.entry.groups } }
     {
         Nest { log, found }
@@ -93,7 +95,8 @@ impl<'a, P: PointSet + Copy> Nest<'a, P> {
 
     /// How many tasks are children of groups.
     pub fn task_count(&self) -> usize
-        ensures { result ≡ length self.now.nesting.members }
+        ensures count { result ≡ length self.now.nesting.members }
+        ensures few { result ≤ MOST_RECORDS }
     {
         self.found.groups.members().len()
     }
@@ -105,11 +108,19 @@ impl<'a, P: PointSet + Copy> Nest<'a, P> {
         let _found = &self.found;
     }
 
-    /// Whether two groups are free of each other: whether no privilege of the one interferes with one of the other.
+    /// Whether two groups are free of each other: whether no privilege of the one interferes with one of the other. Then no task below the one interferes with a task below the other.
     pub fn free(&self, g: u32, h: u32) -> bool
-        ensures { result ≡ are_free self.now.tables self.now.nesting g h }
+        ensures exact { result ≡ are_free self.now.tables self.now.nesting g h }
+        ensures tasks { result ≡ true → TasksAreApart self.now.tables self.now.nesting g h }
     {
         groups_free(self.found.rows.as_slice(), &self.found.groups, g, h)
+    }
+
+    /// How many pairs of groups are free of each other, of which neither is an ancestor of the other.
+    pub fn free_pairs(&self) -> u64
+        ensures { result ≡ free_pairs self.now.tables self.now.nesting }
+    {
+        pairs_apart(self, self.found.groups.groups())
     }
 
     /// Whether the first group is an ancestor of the second.

@@ -1,9 +1,9 @@
-//! What a task asks for.
+//! What tasks ask for.
 
-ghost use Rattle.std.specs.Prelude.{◌≡◌, ◌==◌, All, filter, map, IfOk};
+ghost use Rattle.std.specs.Prelude.{◌≡◌, [], map, IfOk, OnOk};
+ghost use Rattle.std.specs.List.{range_with_len};
 ghost use Rattle.std.specs.List.Sorted.{IsStrictlyIncreasing};
-ghost use Rattle.vocabulary.specs.Prelude.{reqs_of};
-ghost use Rattle.nested.specs.Rows.{claim_of};
+ghost use Rattle.nested.specs.Rows.{claim_of, own_rows_by, with_own};
 
 use crate::row::Row;
 use licences::Claim;
@@ -18,35 +18,57 @@ fn req_claim<'l, P: PointSet + Copy>(draft: &Draft<P>, req: &'l Req) -> Claim<'l
     ensures { result ≡ claim_of draft.now req.now }
 {
     let set = draft.set(req.space).copied();
-    Claim::new(req.number, req.tree, set, req.fields.as_slice(), req.access)
+    Claim::new(
+        req.number,
+        req.tree,
+        req.space,
+        set,
+        req.fields.as_slice(),
+        req.access,
+    )
 }
 
-/// Those of some requirements that are an item's.
-fn own_among<'l, P: PointSet + Copy>(
+/// So many rows without a claim.
+fn empty_rows<'l, P: PointSet + Copy>(
     alloc: Global,
-    draft: &Draft<P>,
-    reqs: &'l [Req],
-    item: usize,
-) -> Result<Row<'l, P>, AllocError>
-    requires { All (λ r. IsStrictlyIncreasing r.fields) reqs.now }
-    ensures { IfOk result (λ own. own ≡ map (claim_of draft.now) (filter (λ r. r.item == item) reqs.now)) }
+    count: usize,
+) -> Result<Vec<Row<'l, P>>, AllocError>
+    ensures { IfOk result (λ rows. rows.items ≡ map (λ i. []) (range_with_len 0 count)) }
 {
-    let mut own = Row::new(alloc);
-    for req in reqs {
-        if req.item == item {
-            own.push(req_claim(draft, req))?;
-        }
+    let mut rows = Vec::new(alloc);
+    for _ in 0..count {
+        rows.push(Row::new(alloc))?;
     }
-    Ok(own)
+    Ok(rows)
 }
 
-/// The requirements of an item.
-pub(crate) fn own_claims<'l, P: PointSet + Copy>(
+/// One requirement more, in the row of its item.
+fn add_own<'l, P: PointSet + Copy>(
+    draft: &Draft<P>,
+    rows: &mut Vec<Row<'l, P>>,
+    req: &'l Req,
+) -> Result<(), AllocError>
+    requires { IsStrictlyIncreasing req.now.fields }
+    ensures { OnOk result (rows.new.items
+        ≡ with_own rows.old.items req.now.item (claim_of draft.now req.now)) }
+{
+    if req.item < rows.len() {
+        let claim = req_claim(draft, req);
+        rows[req.item].push(claim)?;
+    }
+    Ok(())
+}
+
+/// The requirements of each item, and, past the last, a row for what is unknown.
+pub(crate) fn own_rows<'l, P: PointSet + Copy>(
     alloc: Global,
     draft: &'l Draft<P>,
-    item: usize,
-) -> Result<Row<'l, P>, AllocError>
-    ensures { IfOk result (λ own. own ≡ map (claim_of draft.now) (reqs_of draft.now item)) }
+) -> Result<Vec<Row<'l, P>>, AllocError>
+    ensures { IfOk result (λ rows. rows.items ≡ own_rows_by draft.now draft.now.reqs) }
 {
-    own_among(alloc, draft, draft.reqs(), item)
+    let mut rows = empty_rows(alloc, draft.items().len() + 1)?;
+    for req in draft.reqs() {
+        add_own(draft, &mut rows, req)?;
+    }
+    Ok(rows)
 }

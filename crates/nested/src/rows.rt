@@ -30,6 +30,7 @@ fn privilege_claim<'a, P: PointSet + Copy>(
     Ok(Claim::new(
         privilege.number,
         privilege.tree,
+        privilege.space,
         set,
         fields,
         privilege.access,
