@@ -5,7 +5,7 @@ use Rattle.clap.specs.Walk.{Text}
 use Rattle.vocabulary.specs.Prelude.{is_digits, has_leading_zero, Ask}
 use Rattle.spy_args.specs.CommandLine.{Words, values_in}
 use Rattle.spy_args.specs.declared.request.Request.{Request}
-use Rattle.spy_args.specs.declared.request.Request.TheVariants.{Judge, Print, Expand, Launched, Demo}
+use Rattle.spy_args.specs.declared.request.Request.TheVariants.{Judge, Print, Expand, Launched, Nested, Demo}
 use Rattle.semantics.specs.declared.command.Command.TheVariants.{Check, Ordered, Deps, Spare, Why}
 
 -- The number of so many bits that a word says: digits, without a leading zero.
@@ -40,7 +40,7 @@ size_at word = if is_size word then Some (digits_value 10 word) else None
 abbrev pub plain_words : List (Text × Request)
 plain_words =
     (codes "check", Judge Check) ∷ (codes "ordered", Judge Ordered) ∷ (codes "deps", Judge Deps) ∷ (codes "spare", Judge Spare)
-    ∷ (codes "print", Print) ∷ (codes "expand", Expand) ∷ (codes "launched", Launched) ∷ []
+    ∷ (codes "print", Print) ∷ (codes "expand", Expand) ∷ (codes "launched", Launched) ∷ (codes "nested", Nested) ∷ []
 
 -- What a word asks for by such a table: the first row with that word says it.
 abbrev pub request_among : List (Text × Request) → Text → Option Request

@@ -33,7 +33,7 @@ fn size_of(word: &[u8]) -> Option<u32>
 }
 
 /// The commands without a size: the word of each, and what it asks for.
-const PLAIN_WORDS: [(&[u8], Request); 7] = [
+const PLAIN_WORDS: [(&[u8], Request); 8] = [
     (b"check", Request::Judge(Command::Check)),
     (b"ordered", Request::Judge(Command::Ordered)),
     (b"deps", Request::Judge(Command::Deps)),
@@ -41,6 +41,7 @@ const PLAIN_WORDS: [(&[u8], Request); 7] = [
     (b"print", Request::Print),
     (b"expand", Request::Expand),
     (b"launched", Request::Launched),
+    (b"nested", Request::Nested),
 ];
 
 /// What a word asks for by such a table.

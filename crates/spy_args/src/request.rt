@@ -13,6 +13,8 @@ pub enum Request {
     Expand,
     /// The check of the log that a launch log stands for.
     Launched,
+    /// Whether each child in a nested log asks for no more than its group licenses, and which groups are free of each other.
+    Nested,
     /// The check of a stencil log of so many pieces, from 1 to 500.
     Demo { size: u32 },
 }

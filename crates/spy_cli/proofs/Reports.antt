@@ -13,11 +13,12 @@ use Rattle.spy_args.specs.declared.request.Request.{Request}
 use Rattle.spy_args.specs.declared.request.Request.TheVariants as requests
 use Rattle.spy_cli.specs.declared.status.Status.{Status}
 use Rattle.spy_cli.specs.Answers.{Tells, IsJudged, IsAnswer, IsAnswerLong, IsInput}
-use Rattle.log_reading.proofs.lemmas.Lines.{long}
+use Rattle.log_reading.proofs.lemmas.Lines.{long, nested_long}
 use Rattle.log_laws.proofs.lemmas.Numbered.{records_numbered}
 use Rattle.log_laws.proofs.lemmas.ReadLogs.{held_is_good, one_read, printed_has_no_fault, printed_is_read}
 use Rattle.long_values.proofs.lemmas.Checked.{outcome_same}
 use Rattle.outcomes.proofs.lemmas.Found.{one_answered}
+use Rattle.outcomes.proofs.lemmas.NestedFound.{one_nested}
 use Rattle.log_gen.proofs.lemmas.Spelled.{log_good}
 use Rattle.spy_cli.proofs.Alike.{no_fault, one_fault, told_alike}
 use Rattle.spy_cli.proofs.Expanding.{checks_alike, expands_alike, launches_alike, long_launch}
@@ -39,6 +40,7 @@ same_answer requests.Print bytes s t x y sized (inr p) (inl q) = clean_or_not by
 same_answer requests.Print bytes s t x y sized (inr p) (inr q) = (p.0 ∙ sym q.0, p.1.text_is ∙ ap (λ log. text_of (records_of log)) (one_read bytes p.1.log q.1.log p.1.reads q.1.reads) ∙ sym q.1.text_is)
 same_answer requests.Expand bytes s t x y sized p q = expands_alike bytes s t x y p q
 same_answer requests.Launched bytes s t x y sized p q = launches_alike bytes s t x y p q
+same_answer requests.Nested bytes s t x y sized p q = told_alike p.finding q.finding s t x y (one_nested bytes p.finding q.finding p.outcome q.outcome) p.tells q.tells
 same_answer (requests.Demo size) bytes s t x y sized p q = checks_alike (stencil size) (log_good size sized.1) s t x y p q
 
 -- What is answered under `check` is the same by long values.
@@ -82,4 +84,5 @@ too_long_told (requests.Judge command) left bytes s x input long tells = record 
 too_long_told requests.Print left bytes s x input long tells = inl (record { finding = Faulty 0 TooLong; fault = told_long bytes long; tells = tells })
 too_long_told requests.Expand left bytes s x input long tells = inl (record { finding = Faulty 0 TooLong; fault = long_launch bytes long; tells = tells })
 too_long_told requests.Launched left bytes s x input long tells = inl (record { finding = Faulty 0 TooLong; fault = long_launch bytes long; tells = tells })
+too_long_told requests.Nested left bytes s x input long tells = record { finding = Faulty 0 TooLong; outcome = inl (record { fault = record { line = 0; code = TooLong }; shown = nested_long bytes long; finding_is = refl }); tells = tells }
 too_long_told (requests.Demo size) left bytes s x input long tells = absurd (omega (arith, long, ap length input))

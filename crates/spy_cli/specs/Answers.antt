@@ -3,15 +3,18 @@ use Rattle.std.specs.Prelude.{◌≡◌, ℕ, ◌+◌, ◌-◌, ◌^◌, ◌<◌
 use Rattle.std.specs.Io.KnownBytes.{Appends, Consumes, IsAtEnd}
 use Rattle.spy_io.specs.Causes.{Grows, Rose, Takes, TakesExactly}
 use Rattle.vocabulary.specs.Prelude.{Record, Lined, Command, Reads, line_count, lined}
+use Rattle.spy_grammar.specs.declared.nested.NLined.{NLined}
 use Rattle.findings.specs.declared.finding.Finding.{Finding}
 use Rattle.findings.specs.declared.finding.Finding.TheVariants as findings
 use Rattle.findings.specs.Texts as reports
 use Rattle.semantics.specs.declared.command.Command.TheVariants as commands
 use Rattle.semantics.specs.declared.limits.TheConstants.{MOST_BYTES}
+use Rattle.semantics.specs.Nesting.{NestedReads, nested_fault, nested_text_fault}
 use Rattle.semantics.specs.TextFaults.{text_fault}
 use Rattle.semantics.specs.Faults.{log_fault}
 use Rattle.outcomes.specs.Outcome.{HasTextFault, IsFound, IsOutcome, IsPrinted}
 use Rattle.outcomes.specs.LaunchOutcome.{IsExpanded, IsLaunchFault, StandsFor}
+use Rattle.outcomes.specs.NestedOutcome.{IsNestedOutcome}
 use Rattle.long_values.specs.LongOutcome.{IsOutcomeLong}
 use Rattle.log_gen.specs.Stencil.{stencil}
 use Rattle.spy_args.specs.declared.request.Request.{Request}
@@ -101,12 +104,19 @@ pub record IsLaunchChecked (bytes : List ℕ) (status : Status) (text : List ℕ
   pub stands : StandsFor bytes records
   pub checked : IsChecked records status text
 
+-- What `nested` finds in the input is answered.
+pub record IsNestJudged (bytes : List ℕ) (status : Status) (text : List ℕ) : Type 0 where
+  pub finding : Finding
+  pub outcome : IsNestedOutcome bytes finding
+  pub tells : Tells finding status text
+
 -- What is answered to an input.
 abbrev pub IsAnswer : Request → List ℕ → Status → List ℕ → Type 0
 IsAnswer (requests.Judge command) bytes status text = IsJudged command bytes status text
 IsAnswer requests.Print bytes status text = IsFaulty bytes status text ⊎ ((status ≡ statuses.Yes) × IsPrinted bytes text)
 IsAnswer requests.Expand bytes status text = IsLaunchFaulty bytes status text ⊎ ((status ≡ statuses.Yes) × IsExpanded bytes text)
 IsAnswer requests.Launched bytes status text = IsLaunchFaulty bytes status text ⊎ IsLaunchChecked bytes status text
+IsAnswer requests.Nested bytes status text = IsNestJudged bytes status text
 IsAnswer (requests.Demo size) bytes status text = IsChecked (stencil size) status text
 
 -- What is answered to an input that is printed, expanded, or checked as a launch log.
@@ -166,12 +176,20 @@ pub record IsLaunchAdmitted (bytes : List ℕ) : Type 0 where
   pub stands : StandsFor bytes records
   pub keeps : log_fault commands.Check (length records) (lined records) ≡ None
 
+-- The input spells a nested log, and that log keeps each rule that `nested` judges.
+pub record IsNestAdmitted (bytes : List ℕ) : Type 0 where
+  pub spelled : nested_text_fault bytes ≡ None
+  pub log : List NLined
+  pub reads : NestedReads bytes log
+  pub keeps : nested_fault (line_count bytes) log ≡ None
+
 -- The input keeps each rule that is judged. (Of the stencil log nothing is asked.)
 abbrev pub Keeps : Request → List ℕ → Type 0
 Keeps (requests.Judge command) bytes = IsAdmitted command bytes
 Keeps requests.Print bytes = text_fault bytes ≡ None
 Keeps requests.Expand bytes = (rs : List Record) × StandsFor bytes rs
 Keeps requests.Launched bytes = IsLaunchAdmitted bytes
+Keeps requests.Nested bytes = IsNestAdmitted bytes
 Keeps (requests.Demo size) bytes = Unit {0}
 
 -- How a command ends on a log that keeps each rule: `deps` lists, and refuses none.
@@ -183,6 +201,7 @@ EndsOnLog _ status = (status ≡ statuses.Yes) ⊎ (status ≡ statuses.Refused)
 abbrev pub Ends : Request → Status → Type 0
 Ends (requests.Judge command) status = EndsOnLog command status
 Ends requests.Launched status = EndsOnLog commands.Check status
+Ends requests.Nested status = (status ≡ statuses.Yes) ⊎ (status ≡ statuses.Refused) ⊎ (status ≡ statuses.Memory)
 Ends (requests.Demo size) status = IsDecided status ⊎ (status ≡ statuses.Memory)
 Ends _ status = (status ≡ statuses.Yes) ⊎ (status ≡ statuses.Memory)
 

@@ -5,5 +5,6 @@ pub use Rattle.spy_args.specs.Asked
 pub use Rattle.spy_io.specs.Causes
 pub use Rattle.outcomes.specs.Outcome
 pub use Rattle.outcomes.specs.LaunchOutcome
+pub use Rattle.outcomes.specs.NestedOutcome
 pub use Rattle.semantics.specs.Records
 pub use Rattle.findings.specs.Texts

@@ -9,6 +9,7 @@ ghost use Rattle.semantics.specs.declared.limits.TheConstants.{MOST_BYTES};
 use crate::demo::demo_report;
 use crate::judging::judged_report;
 use crate::launching::{expanded_report, launched_report};
+use crate::nesting::nested_report;
 use crate::printing::printed_report;
 use crate::report::{Report, fault_report};
 use memory::Memory;
@@ -51,6 +52,7 @@ fn report_on_bytes(alloc: Global, request: Request, bytes: Vec<u8>) -> Result<Re
         Request::Print => printed_report(alloc, bytes),
         Request::Expand => expanded_report(alloc, bytes),
         Request::Launched => launched_report(alloc, bytes),
+        Request::Nested => nested_report(alloc, bytes),
         Request::Demo { size } => demo_report(alloc, size),
     }
 }

@@ -6,6 +6,7 @@ mod checking;
 mod demo;
 mod judging;
 mod launching;
+mod nesting;
 mod printing;
 mod report;
 mod report_laws;

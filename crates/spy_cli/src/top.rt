@@ -36,7 +36,7 @@ fn written<K: Sink>(sink: &mut K, text: &[u8], status: Status) -> Status
 }
 
 /// Runs the command that the words ask for over the bytes of the source, and writes its report to the sink.
-/// The words do not hold the program's name. The commands are `check`, `ordered`, `deps`, `spare`, `print`, `expand`, `launched` and `why --task T --req Q --point P --field F`, and `demo --size N`, which reads nothing: it checks the stencil log of N pieces.
+/// The words do not hold the program's name. The commands are `check`, `ordered`, `deps`, `spare`, `print`, `expand`, `launched`, `nested` and `why --task T --req Q --point P --field F`, and `demo --size N`, which reads nothing: it checks the stencil log of N pieces.
 #[tactic(auto, using(log_laws::proofs::lemmas::ReadLogs::one_read))]
 pub fn run<S: Source, K: Sink>(
     alloc: Global,
