@@ -719,3 +719,72 @@ run 2 1 -
 run 3 2 1
 end 15
 ";
+
+/// A task hands each half of a region to a task of its own.
+pub const NESTED_HALVES: &[u8] = b"legion-spy 1
+# A task with a whole region (group 1) hands a half of it to each of two tasks, which launch the tasks of their half.
+# The halves are free of each other, so a runtime may analyse what lies below them apart.
+ispace 1 0-7
+part 1 1 disjoint
+ispace 2 0-3
+sub 1 0 2
+ispace 3 4-7
+sub 1 1 3
+fields 1 1
+tree 1 1 1
+group 1 0
+greq 1 1 1 1 rw
+group 2 1
+greq 2 1 2 1 rw
+group 3 1
+greq 3 1 3 1 rw
+# Tasks 1 and 2 write the halves, and tasks 3 and 4 read them.
+task 1
+req 1 1 2 1 wd ex
+member 1 2
+task 2
+req 2 1 3 1 wd ex
+member 2 3
+task 3
+req 3 1 2 1 ro ex
+member 3 2
+task 4
+req 4 1 3 1 ro ex
+member 4 3
+run 1 1 -
+run 2 2 -
+run 3 3 1
+run 4 4 2
+end 20
+";
+
+/// A task asks for a point that the task above it does not have.
+pub const NESTED_OVERREACH: &[u8] = b"legion-spy 1
+# The task of the left half (group 2) launches one that smooths it (group 4), which would read a point of the right half.
+# Group 2 has no such privilege to give: who analyses the halves apart would miss that group 4 has to wait for group 3.
+ispace 1 0-7
+part 1 1 disjoint
+ispace 2 0-3
+sub 1 0 2
+ispace 3 4-7
+sub 1 1 3
+part 2 1 aliased
+ispace 4 0-4
+sub 2 0 4
+fields 1 1
+tree 1 1 1
+group 1 0
+greq 1 1 1 1 rw
+group 2 1
+greq 2 1 2 1 rw
+group 3 1
+greq 3 1 3 1 rw
+group 4 2
+greq 4 1 2 1 rw
+greq 4 1 4 1 ro
+task 1
+req 1 1 4 1 ro ex
+member 1 4
+run 1 1 -
+end 14
+";

@@ -4,8 +4,8 @@ use crate::answers::{answer, answer_why};
 use crate::example_logs::{
     EARLY_HALO, FILL_NEVER_PUT, FOLDED_EARLY, FOLDED_TWICE, FRESH_COPY, FULL_BARRIERS,
     GATHERED_REDUCTIONS, HALO_EXCHANGE, HALO_STENCIL, HALO_STENCIL_UNORDERED, LAUNCHED_HALO,
-    LAUNCHED_OVERLAP, MERGED_WAITS, MISSING_COPY, MISSING_WAIT, NEVER_EMPTIED, STALE_COPY,
-    STALE_HALO, TURNED_WRITES, TWO_OPERATORS, TWO_TASKS, TWO_TASKS_UNORDERED, UNSTATED_TURN,
+    LAUNCHED_OVERLAP, MERGED_WAITS, MISSING_COPY, MISSING_WAIT, NESTED_HALVES, NESTED_OVERREACH,
+    NEVER_EMPTIED, STALE_COPY, STALE_HALO, TURNED_WRITES, TWO_OPERATORS, TWO_TASKS, TWO_TASKS_UNORDERED, UNSTATED_TURN,
     WAITS_IN_A_CYCLE, WRITE_THEN_READ, WRITER_APART,
 };
 use spy_cli::Status;
@@ -124,6 +124,22 @@ fn examples_of_launches_have_their_reports(rt: HostRuntime) -> Result<(), Fail> 
         } else {
             assert_eq!(rt; written.as_slice(), launched);
         }
+    }
+    Ok(())
+}
+
+/// Each nested log under `nested`.
+#[rattlefmt::skip]
+#[test]
+fn examples_of_groups_have_their_reports(rt: HostRuntime) -> Result<(), Fail> {
+    let alloc = rt.alloc();
+    let rows: [(&[u8], &[u8]); 2] = [
+        (NESTED_HALVES, b"nested tasks 4 groups 3 free 1\n"),
+        (NESTED_OVERREACH, b"unlicensed group 4 req 2 group 2 tree 1 point 4 field 1\n"),
+    ];
+    for (log, report) in rows {
+        let (_, said) = answer(alloc, "nested", log)?;
+        assert_eq!(rt; said.as_slice(), report);
     }
     Ok(())
 }

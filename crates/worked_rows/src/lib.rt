@@ -18,6 +18,8 @@ mod hostile;
 #[cfg(test)]
 mod launched;
 #[cfg(test)]
+mod nested;
+#[cfg(test)]
 mod lines;
 #[cfg(test)]
 mod printed;
