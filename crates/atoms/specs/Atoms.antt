@@ -18,7 +18,7 @@ IsDeclared t p = Any (λ (s : Space). is_in s.points p ≡ true) t.spaces
 abbrev pub AreToldApart : Tables → ℕ → ℕ → Type 0
 AreToldApart t p q = Any (λ (s : Space). is_in s.points p ≢ is_in s.points q) t.spaces
 
--- Spans are the atoms of a log: runs of just the points of its spaces. No space tells two points of a span apart, and some space tells neighbours of different spans apart.
+-- Spans are the atoms of what is declared: runs of just the points of its spaces. No space tells two points of a span apart, and some space tells neighbours of different spans apart.
 pub record AreAtomsOf (t : Tables) (spans : List (ℕ × ℕ)) : Type 0 where
   pub runs : AreRuns spans
   pub points : (p : ℕ) → Contains (points_of spans) p ↔ IsDeclared t p

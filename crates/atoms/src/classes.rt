@@ -1,19 +1,21 @@
-//! The atoms of a log.
+//! The atoms of spaces.
 
-ghost use Rattle.std.specs.Prelude.{◌≡◌, ◌<◌, length, slice_get, IfOk};
+ghost use Rattle.std.specs.Prelude.{◌≡◌, ◌<◌, map, length, slice_get, IfOk};
 ghost use Rattle.std.specs.List.Sorted.{IsStrictlyIncreasing};
 ghost use Rattle.point_set.specs.Runs.{AreRuns};
+ghost use Rattle.vocabulary.specs.Prelude.{Tables};
+ghost use Rattle.log_tables.specs.Views.{space_seen};
 ghost use Rattle.point_laws.specs.Alike.{AreFirsts};
 ghost use Rattle.atoms.specs.Atoms.{AreAtomsOf, IsAtomAt, first_points};
 
 use crate::spans::spans_of;
-use logs::Log;
-use point_set::run_from;
-use region_tree::{ArenaSet, Memory};
+use log_tables::Space;
+use memory::Memory;
+use point_set::{PointSet, run_from};
 use std::alloc::Global;
 use std::marker::Model;
 
-/// The points of a log's spaces in runs that no space divides, and that are as long as can be. Contracts see the first and the last point of each, in ascending order.
+/// The points of some spaces in runs that no space divides, and that are as long as can be. Contracts see the first and the last point of each, in ascending order.
 #[derive(Drop)]
 pub struct Atoms {
     spans: Vec<(u64, u64)>,
@@ -54,12 +56,14 @@ fn place_of(spans: &[(u64, u64)], p: u64) -> Option<usize>
 }
 
 impl Atoms {
-    /// The atoms of a log. The time goes by the runs of its spaces and not by their points, and is linear in them but for a sort.
-    pub fn build<'a, P: ArenaSet<'a>>(alloc: Global, log: &Log<'a, P>) -> Result<Atoms, Memory>
-        ensures atoms { IfOk result (λ atoms. AreAtomsOf log.now atoms) }
-        ensures firsts { IfOk result (λ atoms. AreFirsts log.now (first_points atoms)) }
+    /// The atoms of these spaces, whatever else is declared. The time goes by the runs of their sets and not by the points, and is linear in them but for a sort.
+    pub fn build<P: PointSet>(alloc: Global, spaces: &[Space<P>]) -> Result<Atoms, Memory>
+        ensures atoms { IfOk result (λ atoms. (t : Tables) → map (space_seen P.points) spaces.now ≡ t.spaces
+            → AreAtomsOf t atoms) }
+        ensures firsts { IfOk result (λ atoms. (t : Tables) → map (space_seen P.points) spaces.now ≡ t.spaces
+            → AreFirsts t (first_points atoms)) }
     {
-        let spans = spans_of(alloc, log.space_sets())?;
+        let spans = spans_of(alloc, spaces)?;
         let firsts = firsts_of(alloc, spans.as_slice())?;
         Ok(Atoms { spans, firsts })
     }

@@ -6,8 +6,8 @@ ghost use Rattle.log_tables.specs.Views.{space_seen};
 ghost use Rattle.atoms.specs.Edges.{AddsEdges, AreEdgesOf, IsFirstRun};
 
 use log_tables::Space;
+use memory::Memory;
 use point_set::PointSet;
-use region_tree::Memory;
 use std::alloc::Global;
 
 /// A number at which a maximal run of a set begins, or that follows one, with the last point of that run.

@@ -1,4 +1,4 @@
-//! Atoms: the runs of points of a log that no declared space divides.
+//! Atoms: the runs of points that none of some spaces divides.
 #![tactic(auto)]
 
 mod classes;

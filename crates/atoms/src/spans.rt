@@ -8,8 +8,8 @@ ghost use Rattle.atoms.specs.Parts.{part_before, parts_from, parts_of};
 
 use crate::edges::{Edge, sorted_edges};
 use log_tables::Space;
+use memory::Memory;
 use point_set::PointSet;
-use region_tree::Memory;
 use std::alloc::Global;
 
 /// Adds the part from an edge to the number before `next`, where some run goes over it.

@@ -15,11 +15,9 @@ use Rattle.inst_steps.specs.declared.act.Act.{Act}
 use Rattle.inst_steps.specs.declared.act.Act.TheVariants as acts
 use Rattle.inst_steps.specs.declared.act.Action.{Action}
 use Rattle.inst_steps.specs.Acting.{IsBy, IsMappedTo, IsOfTask, IsOwn, HasNumber}
-use Rattle.point_laws.specs.Cut.{kept, cut_to}
 use Rattle.inst_steps.specs.Stepping.{AreNumbered, rest_actions}
 use Rattle.inst_steps.specs.Sweeps.{Pass, action_at, actions_of_pass, cell_of, changing, own_place, pass_for, passes_of, reading}
 use Rattle.inst_steps.specs.Viewing.{HasPrivilege}
-use Rattle.inst_steps.proofs.Sweeping.{actions_cut}
 
 all_of : {X : Type 0} (P : X → Type 0) (xs : List X) → Each P xs → AllByRecursion P xs
 all_of P [] h = tt
@@ -116,19 +114,15 @@ module _ (t : Tables) where
     sweep_suits (operations.Fold src dst space fields) o m = subst (λ o. IfSome o (λ (p : Pass). Suits p.act)) (sym (only m)) (λ p. (tt, tt))
     sweep_suits operations.Merge o m = absurd m
 
-    one_by : (listed : Option (List ℕ)) (o : Option Pass) → IfSome o (λ (p : Pass). Suits p.act) → (a : Action) → Member (actions_of_pass (cut_to listed t) o) a → IsFit a
-    one_by listed None h a m = absurd m
-    one_by listed (Some p) h a m =
-        let q = member_map (action_at t p.act) (grid (kept listed (points_in t p.space)) p.fields) a (subst (λ xs. Member xs a) (actions_cut listed t p) m) in
-        subst IsFit (sym q.2) (h q.0)
+    one_by : (o : Option Pass) → IfSome o (λ (p : Pass). Suits p.act) → (a : Action) → Member (actions_of_pass t o) a → IsFit a
+    one_by None h a m = absurd m
+    one_by (Some p) h a m = let q = member_map (action_at t p.act) (grid (points_in t p.space) p.fields) a m in subst IsFit (sym q.2) (h q.0)
 
-    each_fit : (listed : Option (List ℕ)) (op : Op) (a : Action) → Member (rest_actions t op listed 0) a → IsFit a
-    each_fit listed op a m =
-        let o = member_flat (actions_of_pass (cut_to listed t)) (passes_of t op) a m in
-        one_by listed o.0 (sweep_suits op o.0 o.1) a o.2
+    each_fit : (op : Op) (a : Action) → Member (rest_actions t op 0) a → IsFit a
+    each_fit op a m = let o = member_flat (actions_of_pass t) (passes_of t op) a m in one_by o.0 (sweep_suits op o.0 o.1) a o.2
 
-    pub all_by : (listed : Option (List ℕ)) (op : Op) → AllByRecursion (IsBy t) (rest_actions t op listed 0)
-    all_by listed op = all_of (IsBy t) (rest_actions t op listed 0) (λ a m. (each_fit listed op a m).0)
+    pub all_by : (op : Op) → AllByRecursion (IsBy t) (rest_actions t op 0)
+    all_by op = all_of (IsBy t) (rest_actions t op 0) (λ a m. (each_fit op a m).0)
 
-    pub all_own : (listed : Option (List ℕ)) (op : Op) → AllByRecursion (IsOwn t) (rest_actions t op listed 0)
-    all_own listed op = all_of (IsOwn t) (rest_actions t op listed 0) (λ a m. (each_fit listed op a m).1)
+    pub all_own : (op : Op) → AllByRecursion (IsOwn t) (rest_actions t op 0)
+    all_own op = all_of (IsOwn t) (rest_actions t op 0) (λ a m. (each_fit op a m).1)

@@ -2,21 +2,13 @@
 use Rattle.std.proofs.Common.{◌≡◌, ℕ, suc, ◌+◌, ◌-◌, ◌<◌, ◌≤◌, inl, inr, Bool, true, false, nat_le, ◌==◌, List, [], ◌∷◌, ◌++◌, map, filter, length, get_or, Option, Some, None, Contains, refl, sym, ap, ◌∙◌, subst, arith}
 use Rattle.std.specs.List.Sorted.{IsStrictlyIncreasing}
 use Rattle.std.proofs.lemmas.Bool.{cases_lt, cases_Bool, le-leb, lt-leb, eqb-true}
-use Rattle.std.proofs.lemmas.List.{drop_more, drop_all, get_or_default}
-use Rattle.std.proofs.lemmas.Map.Keys.{sorted_tail, sorted_from_strictly_increasing, IsStrictlyIncreasing-from_sorted}
-use Rattle.std.proofs.lemmas.List.Kept.{IsStrictlyIncreasing-filter}
-use Rattle.std.specs.Ordering.{nat_cmp}
-use Rattle.point_set.specs.Least.{IsLeastFrom, points_from}
-use Rattle.point_set.proofs.lemmas.Ahead.{spread}
-use Rattle.vocabulary.specs.Prelude.{is_in, grid}
+use Rattle.std.proofs.lemmas.List.{drop_more, drop_all}
+use Rattle.point_set.specs.Least.{IsLeastFrom, IsLeastOf, points_from}
+use Rattle.vocabulary.specs.Prelude.{grid}
 use Rattle.log_laws.proofs.lemmas.Members.{Member, contains_of, member_of}
 use Rattle.log_laws.proofs.lemmas.Apart.{Rise}
-use Rattle.point_laws.specs.Cut.{kept}
+use Rattle.cut_logs.proofs.lemmas.Rising.{rise}
 use Rattle.inst_steps.specs.Grids.{behind, grid_from}
-
-pub kept_up : (listed : Option (List ℕ)) (xs : List ℕ) → IsStrictlyIncreasing xs → IsStrictlyIncreasing (kept listed xs)
-kept_up (Some listed) xs up = IsStrictlyIncreasing-filter (is_in listed) xs up
-kept_up None xs up = up
 
 filter_same : (f g : ℕ → Bool) (xs : List ℕ) → ((q : ℕ) → Member xs q → f q ≡ g q) → filter f xs ≡ filter g xs
 filter_same f g [] h = refl
@@ -42,16 +34,6 @@ from_least xs low None least = filter_none (λ q. nat_le low q) xs (λ q m. elim
   | inr from ↦ absurd (least q (contains_of xs q m, from))
 ])
 
-pub rise : (xs : List ℕ) → IsStrictlyIncreasing xs → Rise xs
-rise [] up = tt
-rise (x ∷ xs) up = (
-  (λ y m. let c = contains_of xs y m in above c.0 y (spread (x ∷ xs) 0 (suc c.0) up (omega arith) (omega (arith, c.1))) c.1 c.2),
-  rise xs (IsStrictlyIncreasing-from_sorted xs (sorted_tail nat_cmp x xs (sorted_from_strictly_increasing (x ∷ xs) up))),
-)
-  where
-    above : (k y : ℕ) → get_or (x ∷ xs) 0 0 + (suc k - 0) ≤ get_or (x ∷ xs) (suc k) 0 → k < length xs → get_or xs k y ≡ y → x < y
-    above k y far lt is = omega (arith, far, get_or_default xs k 0 y lt ∙ is)
-
 first_in_rise : (xs : List ℕ) (p : ℕ) → Rise xs → Member xs p → filter (λ q. nat_le p q) xs ≡ p ∷ behind xs p
 first_in_rise [] p up m = absurd m
 first_in_rise (x ∷ xs) p up (inl is) = subst (λ p. filter (λ q. nat_le p q) (x ∷ xs) ≡ p ∷ behind (x ∷ xs) p) (sym is)
@@ -69,12 +51,12 @@ everything : (xs : List ℕ) → filter (λ q. nat_le 0 q) xs ≡ xs
 everything [] = refl
 everything (x ∷ xs) = rw (le-leb 0 x (omega arith)) (ap (λ ys. x ∷ ys) (everything xs))
 
-pub grid_all : (xs fields : List ℕ) (p : ℕ) → IsStrictlyIncreasing xs → IsLeastFrom xs 0 (Some p) → grid xs fields ≡ grid_from xs fields p 0
-grid_all xs fields p up least = ap (λ ps. grid ps fields) (sym (everything xs) ∙ from_least xs 0 (Some p) least) ∙ grid_first xs fields p up least.0.0
+pub grid_all : (xs fields : List ℕ) (p : ℕ) → IsStrictlyIncreasing xs → IsLeastOf xs (Some p) → grid xs fields ≡ grid_from xs fields p 0
+grid_all xs fields p up least = ap (λ ps. grid ps fields) (sym (everything xs) ∙ from_least xs 0 (Some p) ((least.0, omega arith), λ q h. least.1 q h.0)) ∙ grid_first xs fields p up least.0
 
-pub grid_none : (xs fields : List ℕ) → IsLeastFrom xs 0 None → grid xs fields ≡ []
+pub grid_none : (xs fields : List ℕ) → IsLeastOf xs None → grid xs fields ≡ []
 grid_none [] fields least = refl
-grid_none (x ∷ xs) fields least = absurd (least x ((0, omega arith, refl), omega arith))
+grid_none (x ∷ xs) fields least = absurd (least x (0, omega arith, refl))
 
 pub grid_no_fields : (xs : List ℕ) → grid xs [] ≡ []
 grid_no_fields [] = refl

@@ -13,6 +13,7 @@ use Rattle.semantics.specs.Rules as rules
 use Rattle.log_laws.proofs.lemmas.Admitted.{Unbroken, rule_kept, by_records, no_broken_rule}
 use Rattle.log_laws.proofs.lemmas.Apart.{range-more}
 use Rattle.logs.specs.Faultless.{AreDeclared}
+use Rattle.cut_logs.specs.Cutting.{IsCutOf}
 use Rattle.inst_steps.specs.Stepping.{AreNumbered}
 
 abbrev of_item : ℕ → List Req → List Req
@@ -113,3 +114,7 @@ numbered t d =
           find_filtered item (k + 1) (tables_of d.log).reqs ∙ ap (λ n. find (λ (r : Req). r.number == n) (of_item item (tables_of d.log).reqs)) one ∙ found_at (of_item item (tables_of d.log).reqs) 1 k (all item);
       small = λ item. omega (arith, few, length-filter (λ (r : Req). r.item == item) (tables_of d.log).reqs, count_by-le-length (λ (r : Req). r.item == item) (tables_of d.log).reqs);
     })
+
+-- What is said of requirements says the same of tables that are cut.
+pub numbered_cut : (t c : Tables) → IsCutOf t c → AreNumbered t → AreNumbered c
+numbered_cut t c of n = subst AreNumbered (sym of.1) (record { found = n.found; small = n.small })

@@ -1,4 +1,4 @@
--- Operations are their sweeps, and cut tables those of what is listed.
+-- Operations are their sweeps.
 use Rattle.std.proofs.Common.{◌≡◌, ℕ, zero, suc, ◌+◌, ◌<◌, List, [], ◌∷◌, ◌++◌, map, flat_map, drop, length, get_or, Option, Some, None, unwrap_or, slice_get, refl, sym, ap, ap₂, ◌∙◌, arith}
 use Rattle.std.specs.Option.{option_map_or}
 use Rattle.std.proofs.Math.Path.{fun_ext}
@@ -7,8 +7,8 @@ use Rattle.std.proofs.lemmas.List.Concat.{flat_map_single, flat_map-append}
 use Rattle.vocabulary.specs.Prelude.{Priv, Move, Req, Op, Tables, points_in, reqs_of, grid, req_grid, id_of, operator_of, mapped_cell, reads_by, changes_by, moves_of, LogNode}
 use Rattle.privilege.specs.declared.kinds.Priv.TheVariants as privileges
 use Rattle.semantics.specs.declared.tables.Op.TheVariants as operations
-use Rattle.point_laws.specs.Cut.{cut, kept, cut_to}
-use Rattle.point_laws.proofs.lemmas.Cuts.{points_cut, kept_nothing}
+use Rattle.point_laws.specs.Cut.{kept, cut_to}
+use Rattle.point_laws.proofs.lemmas.Cuts.{points_cut_to}
 use Rattle.inst_steps.specs.declared.act.Act.{Act}
 use Rattle.inst_steps.specs.declared.act.Act.TheVariants as acts
 use Rattle.inst_steps.specs.declared.act.Action.{Action}
@@ -61,28 +61,26 @@ sweeps_are t operations.Merge = refl
 -- ---- cut tables
 
 pub passes_cut : (listed : Option (List ℕ)) (t : Tables) (op : Op) → passes_of (cut_to listed t) op ≡ passes_of t op
-passes_cut None t op = refl
-passes_cut (Some ps) t (operations.Run item) = refl
-passes_cut (Some ps) t (operations.Copy src dst space fields) = refl
-passes_cut (Some ps) t (operations.Put inst space fields n) = refl
-passes_cut (Some ps) t (operations.Reset inst space fields) = refl
-passes_cut (Some ps) t (operations.Fold src dst space fields) = refl
-passes_cut (Some ps) t operations.Merge = refl
+passes_cut listed t (operations.Run item) = refl
+passes_cut listed t (operations.Copy src dst space fields) = refl
+passes_cut listed t (operations.Put inst space fields n) = refl
+passes_cut listed t (operations.Reset inst space fields) = refl
+passes_cut listed t (operations.Fold src dst space fields) = refl
+passes_cut listed t operations.Merge = refl
 
-act_cut : (ps : List ℕ) (t : Tables) (a : Act) (p : ℕ × ℕ) → move_at (cut ps t) a p ≡ move_at t a p
-act_cut ps t (acts.Read task item number req) p = refl
-act_cut ps t (acts.Write task item number req) p = refl
-act_cut ps t (acts.Reduce task item number req op) p = refl
-act_cut ps t (acts.Copy src dst) p = refl
-act_cut ps t (acts.Put inst n) p = refl
-act_cut ps t (acts.Reset inst) p = refl
-act_cut ps t (acts.Fold op src dst) p = refl
+act_cut : (listed : Option (List ℕ)) (t : Tables) (a : Act) (p : ℕ × ℕ) → move_at (cut_to listed t) a p ≡ move_at t a p
+act_cut listed t (acts.Read task item number req) p = refl
+act_cut listed t (acts.Write task item number req) p = refl
+act_cut listed t (acts.Reduce task item number req op) p = refl
+act_cut listed t (acts.Copy src dst) p = refl
+act_cut listed t (acts.Put inst n) p = refl
+act_cut listed t (acts.Reset inst) p = refl
+act_cut listed t (acts.Fold op src dst) p = refl
 
-pub actions_cut : (listed : Option (List ℕ)) (t : Tables) (p : Pass) → pass_actions (cut_to listed t) p ≡ map (action_at t p.act) (grid (kept listed (points_in t p.space)) p.fields)
-actions_cut None t p = refl
-actions_cut (Some ps) t p =
-    ap (λ (f : ℕ × ℕ → Move). map (λ q. record { req = req_in p.act; step = f q }) (grid (points_in (cut ps t) p.space) p.fields)) (fun_ext (act_cut ps t p.act))
-    ∙ ap (λ points. map (action_at t p.act) (grid points p.fields)) (points_cut ps t p.space)
+pub pass_cut : (listed : Option (List ℕ)) (t : Tables) (p : Pass) → pass_moves (cut_to listed t) p ≡ map (move_at t p.act) (grid (kept listed (points_in t p.space)) p.fields)
+pass_cut listed t p =
+    ap (λ (f : ℕ × ℕ → Move). map f (grid (points_in (cut_to listed t) p.space) p.fields)) (fun_ext (act_cut listed t p.act))
+    ∙ ap (λ points. map (move_at t p.act) (grid points p.fields)) (points_cut_to listed t p.space)
 
 -- ---- the moves of actions
 
@@ -98,11 +96,8 @@ passes_steps : (t : Tables) (ps : List (Option Pass)) → steps_in (flat_map (ac
 passes_steps t [] = refl
 passes_steps t (o ∷ ps) = map-append (λ (a : Action). a.step) (actions_of_pass t o) (flat_map (actions_of_pass t) ps) ∙ ap₂ (λ xs ys. xs ++ ys) (pass_steps t o) (passes_steps t ps)
 
-pub pass_cut : (listed : Option (List ℕ)) (t : Tables) (p : Pass) → pass_moves (cut_to listed t) p ≡ map (move_at t p.act) (grid (kept listed (points_in t p.space)) p.fields)
-pass_cut listed t p = sym (pass_steps (cut_to listed t) (Some p)) ∙ ap steps_in (actions_cut listed t p) ∙ steps_at t p.act (grid (kept listed (points_in t p.space)) p.fields)
-
-pub all_steps : (listed : Option (List ℕ)) (t : Tables) (op : Op) → steps_in (rest_actions t op listed 0) ≡ moves_of (cut_to listed t) op
-all_steps listed t op = passes_steps (cut_to listed t) (passes_of t op) ∙ ap (flat_map (moves_of_pass (cut_to listed t))) (sym (passes_cut listed t op)) ∙ sweeps_are (cut_to listed t) op
+pub all_steps : (t : Tables) (op : Op) → steps_in (rest_actions t op 0) ≡ moves_of t op
+all_steps t op = passes_steps t (passes_of t op) ∙ sweeps_are t op
 
 -- ---- one sweep on
 
@@ -112,31 +107,26 @@ at_place g none [] (suc k) = sym (ap₂ (λ xs ys. xs ++ flat_map g ys) none (dr
 at_place g none (p ∷ ps) zero = refl
 at_place g none (p ∷ ps) (suc k) = at_place g none ps k ∙ ap (λ n. g (unwrap_or (slice_get ps k) None) ++ flat_map g (drop n (p ∷ ps))) (let e : suc (k + 1) ≡ suc k + 1 = omega arith in e)
 
-pub one_sweep : (listed : Option (List ℕ)) (t : Tables) (op : Op) (k : ℕ) → rest_actions t op listed k ≡ actions_of_pass (cut_to listed t) (pass_at (passes_of t op) k) ++ rest_actions t op listed (k + 1)
-one_sweep listed t op k = at_place (actions_of_pass (cut_to listed t)) refl (passes_of t op) k
+pub one_sweep : (t : Tables) (op : Op) (k : ℕ) → rest_actions t op k ≡ actions_of_pass t (pass_at (passes_of t op) k) ++ rest_actions t op (k + 1)
+one_sweep t op k = at_place (actions_of_pass t) refl (passes_of t op) k
 
 -- ---- where a sweep stands
 
-pub no_points : (listed : Option (List ℕ)) (t : Tables) (p : Pass) → points_in t p.space ≡ [] → pass_actions (cut_to listed t) p ≡ []
-no_points listed t p none = actions_cut listed t p ∙ ap (λ points. map (action_at t p.act) (grid (kept listed points) p.fields)) none ∙ ap (λ points. map (action_at t p.act) (grid points p.fields)) (kept_nothing listed)
+pub no_points : (t : Tables) (p : Pass) → points_in t p.space ≡ [] → pass_actions t p ≡ []
+no_points t p none = ap (λ points. map (action_at t p.act) (grid points p.fields)) none
 
-module _ {P : Type 0} (points : P → List ℕ) (t : Tables) (listed : Option (List ℕ)) where
-  pub spot_actions_are : (act : Act) (o : Option (Spot P)) → IfSome o (λ (s : Spot P). s.act ≡ act) → spot_actions points t listed o ≡ map (action_at t act) (spots_left points listed o)
+module _ {S : Type 0} (points : S → List ℕ) (t : Tables) where
+  pub spot_actions_are : (act : Act) (o : Option (Spot S)) → IfSome o (λ (s : Spot S). s.act ≡ act) → spot_actions points t o ≡ map (action_at t act) (spots_left points o)
   spot_actions_are act None h = refl
-  spot_actions_are act (Some s) h = ap (λ a. map (action_at t a) (spot_grid points listed s)) h
+  spot_actions_are act (Some s) h = ap (λ a. map (action_at t a) (spot_grid points s)) h
 
-  pub spot_step : (s : Spot P) (o : Option (Spot P)) → spot_grid points listed s ≡ spot_here s ∷ spots_left points listed o → IfSome o (λ (n : Spot P). n.act ≡ s.act)
-      → actions_from points t listed s ≡ action_at t s.act (spot_here s) ∷ spot_actions points t listed o
+  pub spot_step : (s : Spot S) (o : Option (Spot S)) → spot_grid points s ≡ spot_here s ∷ spots_left points o → IfSome o (λ (n : Spot S). n.act ≡ s.act)
+      → actions_from points t s ≡ action_at t s.act (spot_here s) ∷ spot_actions points t o
   spot_step s o e h = ap (map (action_at t s.act)) e ∙ ap (λ rest. action_at t s.act (spot_here s) ∷ rest) (sym (spot_actions_are s.act o h))
 
 -- ---- the moves of a node
 
-pub nodes_cut : (listed : Option (List ℕ)) (t : Tables) → (cut_to listed t).nodes ≡ t.nodes
-nodes_cut (Some ps) t = refl
-nodes_cut None t = refl
-
-pub node_moves : (listed : Option (List ℕ)) (t : Tables) (nodes : List LogNode) (node : ℕ) (d : LogNode) → nodes ≡ t.nodes → node < length t.nodes
-    → moves_of (cut_to listed t) (get_or nodes node d).op ≡ moves_at (cut_to listed t) node
-node_moves listed t nodes node d same lt =
-    ap (λ ns. moves_of (cut_to listed t) (get_or ns node d).op) same
-    ∙ sym (ap (λ (o : Option LogNode). option_map_or (λ (n : LogNode). moves_of (cut_to listed t) n.op) o []) (ap (λ ns. slice_get ns node) (nodes_cut listed t) ∙ slice_get-get_or t.nodes node d lt))
+pub node_moves : (t : Tables) (nodes : List LogNode) (node : ℕ) (d : LogNode) → nodes ≡ t.nodes → node < length t.nodes → moves_of t (get_or nodes node d).op ≡ moves_at t node
+node_moves t nodes node d same lt =
+    ap (λ ns. moves_of t (get_or ns node d).op) same
+    ∙ sym (ap (λ (o : Option LogNode). option_map_or (λ (n : LogNode). moves_of t n.op) o []) (slice_get-get_or t.nodes node d lt))

@@ -10,7 +10,6 @@ pub use Rattle.point_laws.specs.Cut
 pub use Rattle.semantics.specs.Execution
 pub use Rattle.logs.specs.Faultless
 pub use Rattle.semantics.specs.Faults
-pub use Rattle.listed_points.specs.Listed
 pub use Rattle.semantics.specs.Points
 pub use Rattle.semantics.specs.Tables
 pub use Rattle.value_terms.specs.Values

@@ -13,6 +13,6 @@ mod view;
 
 pub use act::Action;
 pub use iterator::{Actions, Steps};
-pub use of_nodes::{actions_on, steps, steps_on};
+pub use of_nodes::{actions_of, actions_on, steps, steps_of, steps_on};
 pub use store::Store;
 pub use view::View;

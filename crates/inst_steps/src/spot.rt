@@ -1,45 +1,40 @@
 //! Where a sweep stands.
 
-ghost use Rattle.std.specs.Prelude.{◌≡◌, [], ◌∷◌, ◌++◌, IfSome, IfNone};
+ghost use Rattle.std.specs.Prelude.{◌≡◌, [], ◌+◌, ◌∷◌, ◌++◌, IfSome, IfNone};
 ghost use Rattle.vocabulary.specs.Prelude.{grid};
-ghost use Rattle.point_laws.specs.Cut.{kept};
-ghost use Rattle.listed_points.specs.Listed.{IsAscending, listed_of};
-ghost use Rattle.inst_steps.specs.Stepping.{IsSpot, spot_here, spot_grid, spots_left, pass_seen, IsWithin};
+ghost use Rattle.point_set.specs.Least.{IsLeastFrom};
+ghost use Rattle.inst_steps.specs.Stepping.{IsSpot, spot_here, spot_grid, spots_left, IsWithin};
 ghost use Rattle.inst_steps.specs.Sweeps.{action_at, move_at, cell_of, req_in};
 
 use crate::act::{Act, Action};
-use listed_points::{listed_after, next_listed};
-use logs::Log;
+use cut_logs::CutLog;
 use point_set::PointSet;
 use semantics::{Cell, Move};
 
 /// A point of a set and a field, by its place, at which an act is done next.
 #[derive(Clone, Copy)]
-pub(crate) struct Spot<'l, P: PointSet + Copy> {
+pub(crate) struct Spot<'l, S: PointSet + Copy> {
     pub(crate) act: Act,
-    pub(crate) set: &'l P,
+    pub(crate) set: S,
     pub(crate) fields: &'l [u32],
     pub(crate) point: u64,
     pub(crate) place: usize,
 }
 
-/// The first listed point of a set and the first field.
-pub(crate) fn first_spot<'l, P: PointSet + Copy>(
+/// The first point of a set and the first field.
+pub(crate) fn first_spot<'l, S: PointSet + Copy>(
     act: Act,
-    set: &'l P,
+    set: S,
     fields: &'l [u32],
-    listed: Option<&[u64]>,
-) -> Option<Spot<'l, P>>
-    requires { IsAscending listed }
-    ensures spot { IfSome result (IsSpot P.points (listed_of listed.entry)) }
+) -> Option<Spot<'l, S>>
+    ensures spot { IfSome result (IsSpot S.points) }
     ensures act { IfSome result (λ s. s.act ≡ act) }
-    ensures grid { spots_left P.points (listed_of listed.entry) result
-        ≡ grid (kept (listed_of listed.entry) (P.points set.now)) fields.now }
+    ensures grid { spots_left S.points result ≡ grid (S.points set) fields.now }
 {
     if fields.is_empty() {
         return None;
     }
-    match next_listed(set, listed, 0) {
+    match set.first() {
         Some(point) => Some(Spot {
             act,
             set,
@@ -51,17 +46,22 @@ pub(crate) fn first_spot<'l, P: PointSet + Copy>(
     }
 }
 
+/// The least point of a set after this one.
+fn next_after<S: PointSet>(set: &S, point: u64) -> Option<u64>
+    ensures { IsLeastFrom (S.points set.now) (point + 1) result }
+{
+    match point.checked_add(1) {
+        Some(from) => set.next_from(from),
+        None => None,
+    }
+}
+
 /// The field after this one, or the first field of the point after.
-pub(crate) fn next_spot<'l, P: PointSet + Copy>(
-    spot: &Spot<'l, P>,
-    listed: Option<&[u64]>,
-) -> Option<Spot<'l, P>>
-    requires ascending { IsAscending listed }
-    requires spot { IsSpot P.points (listed_of listed) spot.now }
-    ensures spot { IfSome result (IsSpot P.points (listed_of listed.entry)) }
+pub(crate) fn next_spot<'l, S: PointSet + Copy>(spot: &Spot<'l, S>) -> Option<Spot<'l, S>>
+    requires { IsSpot S.points spot.now }
+    ensures spot { IfSome result (IsSpot S.points) }
     ensures act { IfSome result (λ s. s.act ≡ spot.now.act) }
-    ensures grid { spot_grid P.points (listed_of listed.entry) spot.now
-        ≡ spot_here spot.now ∷ spots_left P.points (listed_of listed.entry) result }
+    ensures grid { spot_grid S.points spot.now ≡ spot_here spot.now ∷ spots_left S.points result }
 {
     if spot.place + 1 < spot.fields.len() {
         return Some(Spot {
@@ -72,7 +72,7 @@ pub(crate) fn next_spot<'l, P: PointSet + Copy>(
             place: spot.place + 1,
         });
     }
-    match listed_after(spot.set, listed, spot.point) {
+    match next_after(&spot.set, spot.point) {
         Some(point) => Some(Spot {
             act: spot.act,
             set: spot.set,
@@ -86,7 +86,7 @@ pub(crate) fn next_spot<'l, P: PointSet + Copy>(
 
 /// The cell to which a point and a field of a requirement are mapped.
 fn cell_of<P: PointSet + Copy>(
-    log: &Log<'_, P>,
+    log: &CutLog<'_, '_, '_, P>,
     item: usize,
     number: u32,
     point: u64,
@@ -109,7 +109,12 @@ fn cell_in(inst: u32, point: u64, field: u32) -> Cell
 }
 
 /// What an act does at a point and a field.
-fn move_at<P: PointSet + Copy>(log: &Log<'_, P>, act: Act, point: u64, field: u32) -> Move
+fn move_at<P: PointSet + Copy>(
+    log: &CutLog<'_, '_, '_, P>,
+    act: Act,
+    point: u64,
+    field: u32,
+) -> Move
     ensures { result ≡ move_at log.now act (point, field) }
 {
     match act {
@@ -176,7 +181,10 @@ fn req_in(act: Act) -> Option<usize>
 }
 
 /// What is done where a sweep stands.
-pub(crate) fn action_here<P: PointSet + Copy>(log: &Log<'_, P>, spot: &Spot<'_, P>) -> Action
+pub(crate) fn action_here<P: PointSet + Copy, S: PointSet + Copy>(
+    log: &CutLog<'_, '_, '_, P>,
+    spot: &Spot<'_, S>,
+) -> Action
     requires { IsWithin spot.now }
     ensures { result ≡ action_at log.now spot.now.act (spot_here spot.now) }
 {

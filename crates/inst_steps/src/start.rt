@@ -1,17 +1,16 @@
 //! What instances hold at the start.
 
-ghost use Rattle.std.specs.Prelude.{◌≡◌, ◌^◌, ◌<◌, ◌&&◌, nat_lt, IfOk, OnOk};
+ghost use Rattle.std.specs.Prelude.{◌≡◌, IfOk, OnOk};
 ghost use Rattle.std.specs.List.Sorted.{IsStrictlyIncreasing};
 ghost use Rattle.vocabulary.specs.Prelude.{plain, is_in};
 ghost use Rattle.semantics.specs.Execution as says;
-ghost use Rattle.point_laws.specs.Cut.{cut, cut_to, kept};
-ghost use Rattle.listed_points.specs.Listed.{IsAscending, listed_of};
+ghost use Rattle.point_laws.specs.Cut.{cut};
 ghost use Rattle.inst_steps.specs.Stores.{HoldsMore, IsStart, base_of, is_at_point, is_at_points, is_of, is_of_some};
 
 use crate::store::Store;
-use listed_points::next_listed;
+use cut_logs::CutLog;
 use logs::Log;
-use point_set::PointSet;
+use point_set::{PointSet, points_in};
 use semantics::Cell;
 use spy_grammar::InstKind;
 use std::alloc::Global;
@@ -49,88 +48,64 @@ fn hold_fields(
     Ok(())
 }
 
-/// Holds a base at the listed points of an instance.
+/// Holds a base at these points of an instance.
 fn hold_points<P: PointSet>(
     store: &mut Store,
     inst: u32,
     set: &P,
-    listed: Option<&[u64]>,
     fields: &[u32],
     base: Base,
 ) -> Result<(), Memory>
-    requires { IsAscending listed }
-    ensures { OnOk result (HoldsMore
-        (is_at_points inst (is_in (kept (listed_of listed.entry) (P.points set.now))) fields.now)
+    ensures { OnOk result (HoldsMore (is_at_points inst (is_in (P.points set.now)) fields.now)
         (λ c. plain base) store.old store.new) }
 {
-    let mut low = 0;
-    loop {
-        let Some(point) = next_listed(set, listed, low) else {
-            return Ok(());
-        };
+    for point in points_in(set) {
         hold_fields(store, inst, point, fields, base)?;
-        let Some(behind) = point.checked_add(1) else {
-            return Ok(());
-        };
-        low = behind;
     }
+    Ok(())
 }
 
-/// Holds what the instance with an id has at the start, at listed points.
+/// Holds what the instance with an id has at the start.
 fn hold_inst<P: PointSet + Copy>(
     store: &mut Store,
-    log: &Log<'_, P>,
+    log: &CutLog<'_, '_, '_, P>,
     id: u32,
-    listed: Option<&[u64]>,
 ) -> Result<(), Memory>
-    requires { IsAscending listed }
-    ensures { OnOk result (HoldsMore (is_of (cut_to (listed_of listed.entry) log.now) id)
-        (says.start (cut_to (listed_of listed.entry) log.now)) store.old store.new) }
+    ensures { OnOk result (HoldsMore (is_of log.now id) (says.start log.now) store.old store.new) }
 {
     let Some(inst) = log.inst(id) else {
         return Ok(());
     };
     match log.set(inst.space) {
-        Some(set) => hold_points(
-            store,
-            id,
-            set,
-            listed,
-            inst.fields.as_slice(),
-            base_of(inst.kind),
-        ),
+        Some(set) => hold_points(store, id, &set, inst.fields.as_slice(), base_of(inst.kind)),
         None => Ok(()),
     }
 }
 
-/// Holds what all instances have at the start, at listed points.
+/// Holds what all instances have at the start.
 fn hold_insts<P: PointSet + Copy>(
     store: &mut Store,
-    log: &Log<'_, P>,
-    listed: Option<&[u64]>,
+    log: &CutLog<'_, '_, '_, P>,
 ) -> Result<(), Memory>
-    requires { IsAscending listed }
-    ensures { OnOk result (HoldsMore (is_of_some (cut_to (listed_of listed.entry) log.now) log.now.insts)
-        (says.start (cut_to (listed_of listed.entry) log.now)) store.old store.new) }
+    ensures { OnOk result (HoldsMore (is_of_some log.now log.now.insts)
+        (says.start log.now) store.old store.new) }
 {
     for inst in log.insts() {
-        hold_inst(store, log, inst.id, listed)?;
+        hold_inst(store, log, inst.id)?;
     }
     Ok(())
 }
 
 impl Store {
-    /// What instances have at the start, at listed points where there is a list.
-    fn start_at<P: PointSet + Copy>(
+    /// What instances of a log hold at the start that may be cut: the store has each of their cells, and no other.
+    pub fn start_of<P: PointSet + Copy>(
         alloc: Global,
-        log: &Log<'_, P>,
-        listed: Option<&[u64]>,
+        log: &CutLog<'_, '_, '_, P>,
     ) -> Result<Store, Memory>
-        requires { IsAscending listed }
-        ensures { IfOk result (λ store. IsStart (cut_to (listed_of listed.entry) log.now) store) }
+        ensures { IfOk result (IsStart log.now) }
     {
         let mut store = Store::new(alloc);
-        match hold_insts(&mut store, log, listed) {
+        match hold_insts(&mut store, log) {
             Ok(()) => Ok(store),
             Err(memory) => Err(memory),
         }
@@ -138,9 +113,10 @@ impl Store {
 
     /// What instances hold at the start: the store has each of their cells, and no other.
     pub fn start<P: PointSet + Copy>(alloc: Global, log: &Log<'_, P>) -> Result<Store, Memory>
-        ensures { IfOk result (λ store. IsStart log.now store) }
+        ensures { IfOk result (IsStart log.now) }
     {
-        Store::start_at(alloc, log, None)
+        let log = CutLog::whole(log);
+        Store::start_of(alloc, &log)
     }
 
     /// What instances hold at the start at listed points: the store has each of their cells there, and no other.
@@ -150,8 +126,9 @@ impl Store {
         points: &[u64],
     ) -> Result<Store, Memory>
         requires { IsStrictlyIncreasing points.now }
-        ensures { IfOk result (λ store. IsStart (cut points.now log.now) store) }
+        ensures { IfOk result (IsStart (cut points.now log.now)) }
     {
-        Store::start_at(alloc, log, Some(points))
+        let log = CutLog::at(log, points);
+        Store::start_of(alloc, &log)
     }
 }

@@ -7,7 +7,7 @@ ghost use Rattle.inst_steps.specs.Stepping.{AreNumbered, pass_seen};
 ghost use Rattle.inst_steps.specs.Sweeps.{reading, changing, pass_for, passes_of, pass_at};
 
 use crate::act::Act;
-use logs::Log;
+use cut_logs::CutLog;
 use point_set::PointSet;
 use privilege::Priv;
 use semantics::{Op, Req};
@@ -22,7 +22,7 @@ pub(crate) struct Sweep<'l> {
 }
 
 /// How a task reads for a requirement.
-fn reading<P: PointSet + Copy>(log: &Log<'_, P>, task: u32, req: &Req) -> Option<Act>
+fn reading<P: PointSet + Copy>(log: &CutLog<'_, '_, '_, P>, task: u32, req: &Req) -> Option<Act>
     ensures { result ≡ reading log.now task req.now }
 {
     match req.access {
@@ -37,7 +37,7 @@ fn reading<P: PointSet + Copy>(log: &Log<'_, P>, task: u32, req: &Req) -> Option
 }
 
 /// How a task changes for a requirement.
-fn changing<P: PointSet + Copy>(log: &Log<'_, P>, task: u32, req: &Req) -> Option<Act>
+fn changing<P: PointSet + Copy>(log: &CutLog<'_, '_, '_, P>, task: u32, req: &Req) -> Option<Act>
     ensures { result ≡ changing log.now task req.now }
 {
     match req.access {
@@ -71,7 +71,7 @@ fn sweep_for(req: &Req, act: Option<Act>) -> Option<Sweep<'_>>
 }
 
 /// The id of the item at a position.
-fn id_of<P: PointSet + Copy>(log: &Log<'_, P>, item: usize) -> u32
+fn id_of<P: PointSet + Copy>(log: &CutLog<'_, '_, '_, P>, item: usize) -> u32
     ensures { result ≡ id_of log.now item }
 {
     match log.items().get(item) {
@@ -81,7 +81,7 @@ fn id_of<P: PointSet + Copy>(log: &Log<'_, P>, item: usize) -> u32
 }
 
 /// The operator of a reduction instance.
-fn operator_of<P: PointSet + Copy>(log: &Log<'_, P>, inst: u32) -> u32
+fn operator_of<P: PointSet + Copy>(log: &CutLog<'_, '_, '_, P>, inst: u32) -> u32
     ensures { result ≡ operator_of log.now inst }
 {
     match log.inst(inst) {
@@ -94,7 +94,11 @@ fn operator_of<P: PointSet + Copy>(log: &Log<'_, P>, inst: u32) -> u32
 }
 
 /// A requirement of an item, by its place among those of the item.
-fn own_req<'l, P: PointSet + Copy>(log: &'l Log<'_, P>, item: usize, k: usize) -> Option<&'l Req>
+fn own_req<'l, P: PointSet + Copy>(
+    log: &CutLog<'l, '_, '_, P>,
+    item: usize,
+    k: usize,
+) -> Option<&'l Req>
     requires numbers { AreNumbered log.now }
     requires place { k < length (reqs_of log.now item) }
     ensures { option_copied result ≡ slice_get (reqs_of log.now item) k }
@@ -103,14 +107,14 @@ fn own_req<'l, P: PointSet + Copy>(log: &'l Log<'_, P>, item: usize, k: usize) -
 }
 
 /// How many requirements an item has.
-fn own_count<P: PointSet + Copy>(log: &Log<'_, P>, item: usize) -> usize
+fn own_count<P: PointSet + Copy>(log: &CutLog<'_, '_, '_, P>, item: usize) -> usize
     ensures { result ≡ length (reqs_of log.now item) }
 {
     log.req_count(item)
 }
 
 /// How many sweeps an operation has.
-pub(crate) fn sweep_count<P: PointSet + Copy>(log: &Log<'_, P>, op: &Op) -> usize
+pub(crate) fn sweep_count<P: PointSet + Copy>(log: &CutLog<'_, '_, '_, P>, op: &Op) -> usize
     requires { AreNumbered log.now }
     ensures { result ≡ length (passes_of log.now op.now) }
 {
@@ -123,7 +127,7 @@ pub(crate) fn sweep_count<P: PointSet + Copy>(log: &Log<'_, P>, op: &Op) -> usiz
 
 /// The sweep of a run at a place.
 fn sweep_of_run<'l, P: PointSet + Copy>(
-    log: &'l Log<'_, P>,
+    log: &CutLog<'l, '_, '_, P>,
     item: usize,
     k: usize,
 ) -> Option<Sweep<'l>>
@@ -144,7 +148,7 @@ fn sweep_of_run<'l, P: PointSet + Copy>(
 }
 
 /// The sweep of an operation other than a run.
-fn only_sweep<'l, P: PointSet + Copy>(log: &'l Log<'_, P>, op: &'l Op) -> Option<Sweep<'l>>
+fn only_sweep<'l, P: PointSet + Copy>(log: &CutLog<'l, '_, '_, P>, op: &'l Op) -> Option<Sweep<'l>>
     requires { (item : ℕ) → op.now ≢ Op.Run item }
     ensures { option_map pass_seen result ≡ pass_at (passes_of log.now op.now) 0 }
 {
@@ -198,7 +202,7 @@ fn only_sweep<'l, P: PointSet + Copy>(log: &'l Log<'_, P>, op: &'l Op) -> Option
 
 /// The sweep of an operation at a place, if there is one and it does something.
 pub(crate) fn sweep_at<'l, P: PointSet + Copy>(
-    log: &'l Log<'_, P>,
+    log: &CutLog<'l, '_, '_, P>,
     op: &'l Op,
     k: usize,
 ) -> Option<Sweep<'l>>

@@ -1,13 +1,11 @@
 //! The steps of a replay at a point and a field, as a list.
 
 ghost use Rattle.std.specs.Prelude.{◌≡◌, ◌<◌, ◌++◌, All, IfOk, OnOk, length};
-ghost use Rattle.std.specs.List.Sorted.{IsStrictlyIncreasing};
 ghost use Rattle.point_laws.specs.Alike.{target};
-ghost use Rattle.point_laws.specs.Cut.{cut};
 ghost use Rattle.provenance.specs.Listing.{kept_of, taken_by, taken_before};
 
-use inst_steps::steps_on;
-use logs::Log;
+use cut_logs::CutLog;
+use inst_steps::steps_of;
 use region_tree::ArenaSet;
 use semantics::{Cell, Move};
 use std::alloc::{AllocError, Global};
@@ -44,40 +42,35 @@ fn push_step(taken: &mut Vec<Taken>, field: u32, node: usize, step: Move) -> Res
     Ok(())
 }
 
-/// Adds the steps of a node at some points and a field.
+/// Adds the steps of a node at a field.
 fn push_node<'a, P: ArenaSet<'a>>(
     taken: &mut Vec<Taken>,
-    log: &Log<'a, P>,
-    points: &[u64],
+    log: &CutLog<'_, 'a, '_, P>,
     field: u32,
     node: usize,
 ) -> Result<(), AllocError>
-    requires node { node < length log.now.nodes }
-    requires ascend { IsStrictlyIncreasing points.now }
-    ensures { OnOk result (taken.new.items ≡ taken.old.items ++ taken_by (cut points.now log.now) field node) }
+    requires { node < length log.now.nodes }
+    ensures { OnOk result (taken.new.items ≡ taken.old.items ++ taken_by log.now field node) }
 {
-    for step in steps_on(log, node, points) {
+    for step in steps_of(log, node) {
         push_step(taken, field, node, step)?;
     }
     Ok(())
 }
 
-/// The steps of all nodes at some points and a field, node by node in the order.
-pub(crate) fn taken_on<'a, P: ArenaSet<'a>>(
+/// The steps of all nodes at a field, node by node in the order.
+pub(crate) fn taken_of<'a, P: ArenaSet<'a>>(
     alloc: Global,
-    log: &Log<'a, P>,
+    log: &CutLog<'_, 'a, '_, P>,
     order: &[usize],
-    points: &[u64],
     field: u32,
 ) -> Result<Vec<Taken>, AllocError>
-    requires nodes { All (λ k. k < length log.now.nodes) order.now }
-    requires ascend { IsStrictlyIncreasing points.now }
-    ensures { IfOk result (λ v. v.items
-        ≡ taken_before (cut points.now log.now) field order.now (length order.now)) }
+    requires { All (λ k. k < length log.now.nodes) order.now }
+    ensures { IfOk result (λ v. v.items ≡ taken_before log.now field order.now (length order.now)) }
 {
     let mut taken = Vec::new(alloc);
     for place in 0..order.len() {
-        push_node(&mut taken, log, points, field, order[place])?;
+        push_node(&mut taken, log, field, order[place])?;
     }
     Ok(taken)
 }

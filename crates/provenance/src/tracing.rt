@@ -11,8 +11,9 @@ ghost use Rattle.provenance.specs.declared.ends.TraceEnd.{TraceEnd};
 ghost use Rattle.provenance.specs.Listing.{at_field, step_of};
 
 use crate::ends::TraceEnd;
-use crate::taking::{Taken, taken_on};
+use crate::taking::{Taken, taken_of};
 use crate::walking::{place_asked, walk};
+use cut_logs::CutLog;
 use event_graph::Order;
 use logs::Log;
 use region_tree::ArenaSet;
@@ -34,7 +35,8 @@ fn taken_back<'a, P: ArenaSet<'a>>(
 {
     log.is_declared();
     let points = [point];
-    let mut taken = taken_on(alloc, log, order.as_slice(), &points, field)?;
+    let cut = CutLog::at(log, &points);
+    let mut taken = taken_of(alloc, &cut, order.as_slice(), field)?;
     taken.reverse();
     Ok(taken)
 }

@@ -1,19 +1,18 @@
 //! The race of a log that is shown.
 
 ghost use Rattle.std.specs.Prelude.{◌≡◌, ◌<◌, Contains, IfErr, IfOk, MatchOption, None, OnOk};
-ghost use Rattle.std.specs.List.Sorted.{IsStrictlyIncreasing};
 ghost use Rattle.vocabulary.specs.Prelude.{Cell, graph_of, IsRaceFree};
 ghost use Rattle.semantics.specs.Faults.{unmapped_fault};
 ghost use Rattle.event_graph.specs.Orders.{IsOrderOf};
 ghost use Rattle.reach_marks.specs.Reached.{AreMarksOf};
 ghost use Rattle.point_laws.specs.Alike.{AreFirsts};
 ghost use Rattle.atoms.specs.Atoms.{first_points};
-ghost use Rattle.point_laws.specs.Cut.{cut};
 ghost use Rattle.race_scan.specs.Ends.{IsEndOf, IsShownIn};
 
-use crate::gathering::touches_on;
+use crate::gathering::touches_of;
 use atoms::Atoms;
 use cell_races::{Clashing, shown_clash};
+use cut_logs::CutLog;
 use event_graph::{Graph, Order};
 use logs::Log;
 use reach_marks::Reach;
@@ -41,24 +40,21 @@ impl From<AllocError> for ScanEnd {
     }
 }
 
-/// The race that is shown of what nodes do at listed points.
-fn race_on<'a, P: ArenaSet<'a>>(
+/// The race that is shown of a log that may be cut.
+fn race_of<'a, P: ArenaSet<'a>>(
     alloc: Global,
-    log: &Log<'a, P>,
+    log: &CutLog<'_, 'a, '_, P>,
     graph: &Graph,
     order: &Order,
     reach: &Reach,
-    points: &[u64],
 ) -> Result<Option<Clashing>, AllocError>
     requires graph { graph.now ≡ graph_of log.now.nodes }
     requires order { IsOrderOf graph.now order.now }
     requires reach { AreMarksOf graph.now reach.now }
-    requires ascend { IsStrictlyIncreasing points.now }
-    ensures { IfOk result (λ r. MatchOption r (IsRaceFree (cut points.now log.now))
-        (IsShownIn (cut points.now log.now))) }
+    ensures { IfOk result (λ r. MatchOption r (IsRaceFree log.now) (IsShownIn log.now)) }
 {
     let _linked = graph.len();
-    let touches = touches_on(alloc, log, order.as_slice(), points)?;
+    let touches = touches_of(alloc, log, order.as_slice())?;
     let clash = shown_clash(alloc, graph, order, reach, touches)?;
     Ok(clash)
 }
@@ -80,7 +76,8 @@ pub fn scan<'a, P: ArenaSet<'a>>(
     ensures free { OnOk result (IsRaceFree log.now) }
     ensures race { IfErr result (IsEndOf log.now) }
 {
-    match race_on(alloc, log, graph, order, reach, atoms.firsts())? {
+    let log = CutLog::at(log, atoms.firsts());
+    match race_of(alloc, &log, graph, order, reach)? {
         None => Ok(()),
         Some(Clashing { a, b, cell }) => Err(ScanEnd::Race { a, b, cell }),
     }

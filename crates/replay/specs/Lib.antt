@@ -2,10 +2,9 @@ pub mod Counts
 pub mod Ends
 pub mod Fitting
 pub mod Standing
-pub mod Replaying
+pub mod Versioned
 pub use Rattle.point_laws.specs.Alike
 pub use Rattle.atoms.specs.Atoms
-pub use Rattle.point_laws.specs.Cut
 pub use Rattle.semantics.specs.Events
 pub use Rattle.semantics.specs.Faults
 pub use Rattle.serial_exec.specs.Kept

@@ -1,17 +1,18 @@
 //! One move of a replay.
 
 ghost use Rattle.std.specs.Prelude.{◌≡◌, ◌<◌, length, option_map, slice_get, IfErr, IfOk, MatchOption, None, OnErr, OnOk};
-ghost use Rattle.std.specs.List.Sorted.{IsStrictlyIncreasing};
 ghost use Rattle.std.specs.Option.{option_map_or};
 ghost use Rattle.vocabulary.specs.Prelude.{Req, difference, req_at};
-ghost use Rattle.serial_exec.specs.Kept.{AreVersionsOf, value_at};
+ghost use Rattle.serial_exec.specs.Kept.{value_at};
 ghost use Rattle.inst_steps.specs.Acting.{IsAllowed, IsBy};
+ghost use Rattle.inst_steps.specs.Celled.{AreOfInsts};
 ghost use Rattle.inst_steps.specs.Stores.{HasCells, IsLight, after_move, value_in};
 ghost use Rattle.replay.specs.Ends.{IsUnlike, Tells};
 ghost use Rattle.replay.specs.Fitting.{IsOfItem, item_at};
-ghost use Rattle.replay.specs.Replaying.{cut_tables};
+ghost use Rattle.replay.specs.Versioned.{AreVersionsIn};
 
 use crate::ends::ReplayEnd;
+use cut_logs::CutLog;
 use inst_steps::{Action, Store};
 use logs::Log;
 use point_set::PointSet;
@@ -28,17 +29,17 @@ pub(crate) struct Unlike {
     pub(crate) want: Value,
 }
 
-/// What a replay goes by: a log, what its items want at some points, and these points.
+/// What a replay goes by: a log, the same cut to the points at which it is replayed, and what its items want there.
 #[derive(Drop)]
 pub(crate) struct Replay<'r, 'a, P: PointSet + Copy> {
     pub(crate) alloc: Global,
     pub(crate) log: &'r Log<'a, P>,
+    pub(crate) cut: &'r CutLog<'r, 'a, 'r, P>,
     pub(crate) versions: &'r Versions,
-    pub(crate) points: &'r [u64],
 }
 
 /// The tree of a requirement.
-fn tree_of<P: PointSet + Copy>(log: &Log<'_, P>, item: usize, number: u32) -> u32
+fn tree_of<P: PointSet + Copy>(log: &CutLog<'_, '_, '_, P>, item: usize, number: u32) -> u32
     ensures { result ≡ option_map_or (λ (r : Req). r.tree) (req_at log.now item number) 0 }
 {
     match log.req(item, number) {
@@ -80,10 +81,10 @@ fn unlike_at(
 impl<'r, 'a, P: PointSet + Copy> Replay<'r, 'a, P> {
     /// The item that a node runs.
     pub(crate) fn item_at(&self, node: usize) -> usize
-        requires { node < length self.now.log.now.nodes }
-        ensures { result ≡ item_at self.now.log.now node }
+        requires { node < length self.now.cut.now.nodes }
+        ensures { result ≡ item_at self.now.cut.now node }
     {
-        match self.log.nodes()[node].op {
+        match self.cut.nodes()[node].op {
             Op::Run { item } => item,
             _ => 0,
         }
@@ -98,15 +99,16 @@ impl<'r, 'a, P: PointSet + Copy> Replay<'r, 'a, P> {
         cell: &Cell,
         value: &Value,
     ) -> Result<(), ReplayEnd>
-        requires item { IsOfItem self.now.log.now item (Move.Read task req cell.now) }
-        requires versions { AreVersionsOf (cut_tables self.now) self.now.versions.now }
-        ensures right { OnOk result (difference (cut_tables self.now)
+        requires item { IsOfItem self.now.cut.now item (Move.Read task req cell.now) }
+        requires inst { AreOfInsts self.now.cut.now (Move.Read task req cell.now) }
+        requires versions { AreVersionsIn self.now.cut.now self.now.versions.now }
+        ensures right { OnOk result (difference self.now.cut.now
             (Move.Read task req cell.now) (λ c. value.now) ≡ None) }
-        ensures end { IfErr result (Tells (cut_tables self.now)
-            (difference (cut_tables self.now) (Move.Read task req cell.now) (λ c. value.now))) }
+        ensures end { IfErr result (Tells self.now.cut.now
+            (difference self.now.cut.now (Move.Read task req cell.now) (λ c. value.now))) }
     {
         let place = Place {
-            tree: tree_of(self.log, item, req),
+            tree: tree_of(self.cut, item, req),
             point: cell.point,
             field: cell.field,
         };
@@ -134,14 +136,15 @@ impl<'r, 'a, P: PointSet + Copy> Replay<'r, 'a, P> {
         cell: &Cell,
     ) -> Result<(), ReplayEnd>
         requires allowed { IsAllowed self.now.log.now (Move.Read task number cell.now) req }
-        requires item { IsOfItem self.now.log.now item (Move.Read task number cell.now) }
-        requires versions { AreVersionsOf (cut_tables self.now) self.now.versions.now }
+        requires item { IsOfItem self.now.cut.now item (Move.Read task number cell.now) }
+        requires inst { AreOfInsts self.now.cut.now (Move.Read task number cell.now) }
+        requires versions { AreVersionsIn self.now.cut.now self.now.versions.now }
         requires cell { HasCells store.old (Move.Read task number cell.now) }
-        ensures right { OnOk result (difference (cut_tables self.now)
+        ensures right { OnOk result (difference self.now.cut.now
             (Move.Read task number cell.now) (value_in store.old) ≡ None) }
         ensures kept { store.new ≡ store.old }
-        ensures end { IfErr result (Tells (cut_tables self.now)
-            (difference (cut_tables self.now) (Move.Read task number cell.now) (value_in store.old))) }
+        ensures end { IfErr result (Tells self.now.cut.now
+            (difference self.now.cut.now (Move.Read task number cell.now) (value_in store.old))) }
     {
         match privilege_of(self.log, req) {
             Some(Priv::Ro) => {
@@ -185,15 +188,16 @@ impl<'r, 'a, P: PointSet + Copy> Replay<'r, 'a, P> {
         step: &Move,
     ) -> Result<(), ReplayEnd>
         requires allowed { IsAllowed self.now.log.now step.now req }
-        requires item { IsOfItem self.now.log.now item step.now }
-        requires versions { AreVersionsOf (cut_tables self.now) self.now.versions.now }
+        requires item { IsOfItem self.now.cut.now item step.now }
+        requires insts { AreOfInsts self.now.cut.now step.now }
+        requires versions { AreVersionsIn self.now.cut.now self.now.versions.now }
         requires cells { HasCells store.old step.now }
         requires light { IsLight store.old step.now }
-        ensures right { OnOk result (difference (cut_tables self.now)
+        ensures right { OnOk result (difference self.now.cut.now
             step.now (value_in store.old) ≡ None) }
         ensures moved { OnOk result (store.new ≡ after_move step.now store.old) }
-        ensures end { IfErr result (Tells (cut_tables self.now)
-            (difference (cut_tables self.now) step.now (value_in store.old))) }
+        ensures end { IfErr result (Tells self.now.cut.now
+            (difference self.now.cut.now step.now (value_in store.old))) }
     {
         match *step {
             Move::Read {
@@ -227,15 +231,16 @@ impl<'r, 'a, P: PointSet + Copy> Replay<'r, 'a, P> {
         action: &Action,
     ) -> Result<(), ReplayEnd>
         requires by { IsBy self.now.log.now action.now }
-        requires item { IsOfItem self.now.log.now item action.now.step }
-        requires versions { AreVersionsOf (cut_tables self.now) self.now.versions.now }
+        requires item { IsOfItem self.now.cut.now item action.now.step }
+        requires insts { AreOfInsts self.now.cut.now action.now.step }
+        requires versions { AreVersionsIn self.now.cut.now self.now.versions.now }
         requires cells { HasCells store.old action.now.step }
         requires light { IsLight store.old action.now.step }
-        ensures right { OnOk result (difference (cut_tables self.now)
+        ensures right { OnOk result (difference self.now.cut.now
             action.now.step (value_in store.old) ≡ None) }
         ensures moved { OnOk result (store.new ≡ after_move action.now.step store.old) }
-        ensures end { IfErr result (Tells (cut_tables self.now)
-            (difference (cut_tables self.now) action.now.step (value_in store.old))) }
+        ensures end { IfErr result (Tells self.now.cut.now
+            (difference self.now.cut.now action.now.step (value_in store.old))) }
     {
         match action.req {
             Some(req) => self.take_by(store, item, req, &action.step),

@@ -1,25 +1,25 @@
 //! The replay of a log.
 
 ghost use Rattle.std.specs.Prelude.{◌≡◌, ◌+◌, ◌<◌, drop, length, All, IfErr, IfOk, None, OnErr, OnOk};
-ghost use Rattle.std.specs.List.Sorted.{IsStrictlyIncreasing};
 ghost use Rattle.vocabulary.specs.Prelude.{graph_of, replay_steps, shown_difference, steps_by};
 ghost use Rattle.semantics.specs.Faults.{unmapped_fault};
 ghost use Rattle.semantics.specs.Counts.{read_count};
 ghost use Rattle.event_graph.specs.Orders.{IsOrderOf};
 ghost use Rattle.point_laws.specs.Alike.{AreFirsts};
-ghost use Rattle.point_laws.specs.Cut.{cut};
 ghost use Rattle.atoms.specs.Atoms.{first_points};
-ghost use Rattle.serial_exec.specs.Kept.{AreVersionsOf};
+ghost use Rattle.cut_logs.specs.Cutting.{IsCutOf};
+ghost use Rattle.serial_exec.specs.Kept.{AreVersionsAt};
 ghost use Rattle.replay.specs.Ends.{IsEndOf};
 ghost use Rattle.replay.specs.Standing.{Stands};
-ghost use Rattle.replay.specs.Replaying.{cut_tables};
+ghost use Rattle.replay.specs.Versioned.{AreVersionsIn};
 
 use crate::counting::count_reads;
 use crate::ends::{Reads, ReplayEnd};
 use crate::moving::Replay;
 use atoms::Atoms;
+use cut_logs::CutLog;
 use event_graph::Order;
-use inst_steps::{Store, actions_on};
+use inst_steps::{Store, actions_of};
 use logs::Log;
 use point_set::PointSet;
 use region_tree::ArenaSet;
@@ -30,19 +30,19 @@ impl<'r, 'a, P: PointSet + Copy> Replay<'r, 'a, P> {
     /// Takes the moves of the node at a place of the replay order.
     #[tactic(auto, using(crate::proofs::Laws::stand_cells, crate::proofs::Stood::stand_light, crate::proofs::Stood::stand_end))]
     fn take_node(&self, store: &mut Store, order: &[usize], place: usize) -> Result<(), ReplayEnd>
-        requires nodes { All (λ k. k < length self.now.log.now.nodes) order.now }
+        requires nodes { All (λ k. k < length self.now.cut.now.nodes) order.now }
+        requires cut { IsCutOf self.now.log.now self.now.cut.now }
         requires place { place < length order.now }
-        requires ascend { IsStrictlyIncreasing self.now.points.now }
-        requires versions { AreVersionsOf (cut_tables self.now) self.now.versions.now }
-        requires stands { Stands (cut_tables self.now)
-            (steps_by (cut_tables self.now) (drop place order.now)) store.old }
-        ensures stands { OnOk result (Stands (cut_tables self.now)
-            (steps_by (cut_tables self.now) (drop (place + 1) order.now)) store.new) }
-        ensures end { IfErr result (IsEndOf (cut_tables self.now)) }
+        requires versions { AreVersionsIn self.now.cut.now self.now.versions.now }
+        requires stands { Stands self.now.cut.now
+            (steps_by self.now.cut.now (drop place order.now)) store.old }
+        ensures stands { OnOk result (Stands self.now.cut.now
+            (steps_by self.now.cut.now (drop (place + 1) order.now)) store.new) }
+        ensures end { IfErr result (IsEndOf self.now.cut.now) }
     {
         let node = order[place];
         let item = self.item_at(node);
-        for action in actions_on(self.log, node, self.points) {
+        for action in actions_of(self.cut, node) {
             self.take(store, item, &action)?;
         }
         Ok(())
@@ -50,13 +50,13 @@ impl<'r, 'a, P: PointSet + Copy> Replay<'r, 'a, P> {
 
     /// Takes the moves of all nodes, in replay order.
     fn take_nodes(&self, store: &mut Store, order: &[usize]) -> Result<(), ReplayEnd>
-        requires nodes { All (λ k. k < length self.now.log.now.nodes) order.now }
-        requires ascend { IsStrictlyIncreasing self.now.points.now }
-        requires versions { AreVersionsOf (cut_tables self.now) self.now.versions.now }
-        requires stands { Stands (cut_tables self.now)
-            (steps_by (cut_tables self.now) order.now) store.old }
-        ensures right { OnOk result (shown_difference (cut_tables self.now) ≡ None) }
-        ensures end { IfErr result (IsEndOf (cut_tables self.now)) }
+        requires cut { IsCutOf self.now.log.now self.now.cut.now }
+        requires nodes { All (λ k. k < length self.now.cut.now.nodes) order.now }
+        requires versions { AreVersionsIn self.now.cut.now self.now.versions.now }
+        requires stands { Stands self.now.cut.now
+            (steps_by self.now.cut.now order.now) store.old }
+        ensures right { OnOk result (shown_difference self.now.cut.now ≡ None) }
+        ensures end { IfErr result (IsEndOf self.now.cut.now) }
     {
         for place in 0..order.len() {
             self.take_node(store, order, place)?;
@@ -64,22 +64,22 @@ impl<'r, 'a, P: PointSet + Copy> Replay<'r, 'a, P> {
         Ok(())
     }
 
-    /// Replays the log at the points, from the start.
+    /// Replays the cut log, from the start.
     fn run(&self, order: &Order) -> Result<(), ReplayEnd>
+        requires cut { IsCutOf self.now.log.now self.now.cut.now }
         requires mapped { unmapped_fault self.now.log.now ≡ None }
         requires order { IsOrderOf (graph_of self.now.log.now.nodes) order.now }
-        requires ascend { IsStrictlyIncreasing self.now.points.now }
-        requires versions { AreVersionsOf (cut_tables self.now) self.now.versions.now }
-        ensures right { OnOk result (shown_difference (cut_tables self.now) ≡ None) }
-        ensures end { IfErr result (IsEndOf (cut_tables self.now)) }
+        requires versions { AreVersionsIn self.now.cut.now self.now.versions.now }
+        ensures right { OnOk result (shown_difference self.now.cut.now ≡ None) }
+        ensures end { IfErr result (IsEndOf self.now.cut.now) }
     {
         self.log.is_declared();
-        let mut store = Store::start_on(self.alloc, self.log, self.points)?;
+        let mut store = Store::start_of(self.alloc, self.cut)?;
         self.take_nodes(&mut store, order.as_slice())
     }
 }
 
-/// Replays a log, and judges each read. Goes over the first point of each atom alone, and takes memory for what the instances hold there.
+/// Replays a log, and judges each read. Goes over the first point of each atom alone, and takes memory for what the instances hold there. Whatever the versions say elsewhere is of no account.
 pub fn replay<'a, P: ArenaSet<'a>>(
     alloc: Global,
     log: &Log<'a, P>,
@@ -89,19 +89,19 @@ pub fn replay<'a, P: ArenaSet<'a>>(
 ) -> Result<Reads, ReplayEnd>
     requires mapped { unmapped_fault log.now ≡ None }
     requires order { IsOrderOf (graph_of log.now.nodes) order.now }
-    requires versions { AreVersionsOf (cut (first_points atoms.now) log.now) versions.now }
+    requires versions { AreVersionsAt (first_points atoms.now) log.now versions.now }
     requires atoms { AreFirsts log.now (first_points atoms.now) }
     ensures right { OnOk result (shown_difference log.now ≡ None) }
     ensures count { IfOk result (λ reads. reads.count ≡ read_count log.now) }
     ensures end { IfErr result (IsEndOf log.now) }
 {
     log.is_declared();
-    let points = atoms.firsts();
+    let cut = CutLog::at(log, atoms.firsts());
     let replay = Replay {
         alloc,
         log,
+        cut: &cut,
         versions,
-        points,
     };
     match replay.run(order) {
         Ok(()) => Ok(Reads {

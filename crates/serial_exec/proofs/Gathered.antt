@@ -1,4 +1,4 @@
--- What items do, gathered in serial order from tables that are cut to listed points.
+-- What items do, gathered in serial order.
 use Rattle.std.proofs.Common.{◌≡◌, ℕ, zero, suc, ◌+◌, ◌<◌, ◌≤◌, ◌==◌, cond, List, [], ◌∷◌, ◌++◌, take, length, get_or, slice_get, All, Option, Some, None, Result, Ok, Err, OnOk, refl, sym, ap, subst, ◌∙◌, arith}
 use Rattle.std.specs.Option.{option_map_or}
 use Rattle.std.proofs.lemmas.List.Elements.{filter_map-append}
@@ -10,31 +10,18 @@ use Rattle.log_tables.specs.Ascending.{body_fields}
 use Rattle.std.specs.List.Sorted.{IsStrictlyIncreasing}
 use Rattle.std.proofs.lemmas.List.{append_assoc, take_more, append-nil}
 use Rattle.std.proofs.Math.Bool.{and-false}
-use Rattle.semantics.specs.SerialOrder.{serial}
-use Rattle.point_laws.specs.Cut.{cut, kept, cut_to}
-use Rattle.point_laws.proofs.lemmas.Cuts.{points_cut_to, kept_nothing}
 use Rattle.serial_exec.specs.declared.change.Action.{Action}
 use Rattle.serial_exec.specs.declared.change.Action.TheVariants.{Put}
 use Rattle.serial_exec.specs.declared.change.Change.{Change}
 use Rattle.serial_exec.specs.Changes.{action_of, by_task, covered, use_changes, uses_changes, item_changes, items_changes}
 use Rattle.serial_exec.specs.OwnReqs.{reqs_at}
 
--- ---- cut tables
-
-pub serial_cut : (on : Option (List ℕ)) (t : Tables) → serial (cut_to on t) ≡ serial t
-serial_cut None t = refl
-serial_cut (Some listed) t = refl
-
-pub items_cut : (on : Option (List ℕ)) (t : Tables) → (cut_to on t).items ≡ t.items
-items_cut None t = refl
-items_cut (Some listed) t = refl
-
 -- A set without points covers nothing.
-pub nothing-covered : (on : Option (List ℕ)) (t : Tables) (space tree : ℕ) (fields : List ℕ) (c : Change) (old : List Change) (p : Place) → points_in t space ≡ []
-    → old ≡ old ++ cond (covered tree (points_in (cut_to on t) space) fields p) (c ∷ []) []
-nothing-covered on t space tree fields c old p none =
+pub nothing-covered : (t : Tables) (space tree : ℕ) (fields : List ℕ) (c : Change) (old : List Change) (p : Place) → points_in t space ≡ []
+    → old ≡ old ++ cond (covered tree (points_in t space) fields p) (c ∷ []) []
+nothing-covered t space tree fields c old p none =
     sym (append-nil old)
-    ∙ ap (λ b. old ++ cond b (c ∷ []) []) (sym (ap (λ points. covered tree points fields p) (points_cut_to on t space ∙ ap (kept on) none ∙ kept_nothing on) ∙ and-false (tree == p.tree)))
+    ∙ ap (λ b. old ++ cond b (c ∷ []) []) (sym (ap (λ points. covered tree points fields p) none ∙ and-false (tree == p.tree)))
 
 -- ---- requirement by requirement
 
@@ -63,16 +50,11 @@ uses-more t moment act all own i k p old mid new lt is before after =
 
 -- ---- item by item
 
-pub item-of : (on : Option (List ℕ)) (t : Tables) (moment item : ℕ) (p : Place) (o : Option Item) → slice_get t.items item ≡ o
-    → item_changes (cut_to on t) moment item p ≡ option_map_or (λ i. uses_changes (cut_to on t) moment (action_of i) (uses_of_item t item i) p) o []
-item-of None t moment item p o at = rw at (by_option o)
+pub item-of : (t : Tables) (moment item : ℕ) (p : Place) (o : Option Item) → slice_get t.items item ≡ o
+    → item_changes t moment item p ≡ option_map_or (λ i. uses_changes t moment (action_of i) (uses_of_item t item i) p) o []
+item-of t moment item p o at = rw at (by_option o)
   where
     by_option : (o : Option Item) → option_map_or (λ i. uses_changes t moment (action_of i) (option_map_or (uses_of_item t item) o []) p) o [] ≡ option_map_or (λ i. uses_changes t moment (action_of i) (uses_of_item t item i) p) o []
-    by_option None = refl
-    by_option (Some i) = refl
-item-of (Some listed) t moment item p o at = rw at (by_option o)
-  where
-    by_option : (o : Option Item) → option_map_or (λ i. uses_changes (cut listed t) moment (action_of i) (option_map_or (uses_of_item t item) o []) p) o [] ≡ option_map_or (λ i. uses_changes (cut listed t) moment (action_of i) (uses_of_item t item i) p) o []
     by_option None = refl
     by_option (Some i) = refl
 
@@ -97,22 +79,22 @@ items-more t order k item p mid new lt is before after =
     at_end (x ∷ xs) zero lt = refl
     at_end (x ∷ xs) (suc k) lt = let e : k ≡ 0 + length (take k xs) = at_end xs k (omega (arith, lt)) in omega (arith, e)
 
-pub no-item : (on : Option (List ℕ)) (t : Tables) (moment item : ℕ) (p : Place) (old : List Change) → slice_get t.items item ≡ None → old ≡ old ++ item_changes (cut_to on t) moment item p
-no-item on t moment item p old at = sym (append-nil old) ∙ ap (λ xs. old ++ xs) (sym (item-of on t moment item p None at))
+pub no-item : (t : Tables) (moment item : ℕ) (p : Place) (old : List Change) → slice_get t.items item ≡ None → old ≡ old ++ item_changes t moment item p
+no-item t moment item p old at = sym (append-nil old) ∙ ap (λ xs. old ++ xs) (sym (item-of t moment item p None at))
 
-pub task-item : (on : Option (List ℕ)) (t : Tables) (moment item : ℕ) (p : Place) (i : Item) (rs : List Req) → slice_get t.items item ≡ Some i → i.body ≡ Task → rs ≡ reqs_of t item
-    → uses_changes (cut_to on t) moment (by_task i.id) rs p ≡ item_changes (cut_to on t) moment item p
-task-item on t moment item p i rs at is own = ap (λ qs. uses_changes (cut_to on t) moment (by_task i.id) qs p) own ∙ sym (item-of on t moment item p (Some i) at ∙ by_body i.id i.line i.body is)
+pub task-item : (t : Tables) (moment item : ℕ) (p : Place) (i : Item) (rs : List Req) → slice_get t.items item ≡ Some i → i.body ≡ Task → rs ≡ reqs_of t item
+    → uses_changes t moment (by_task i.id) rs p ≡ item_changes t moment item p
+task-item t moment item p i rs at is own = ap (λ qs. uses_changes t moment (by_task i.id) qs p) own ∙ sym (item-of t moment item p (Some i) at ∙ by_body i.id i.line i.body is)
   where
-    by_body : (id line : ℕ) (body : ItemBody) → body ≡ Task → (let i : Item = record { id = id; line = line; body = body } in uses_changes (cut_to on t) moment (action_of i) (uses_of_item t item i) p) ≡ uses_changes (cut_to on t) moment (by_task id) (reqs_of t item) p
+    by_body : (id line : ℕ) (body : ItemBody) → body ≡ Task → (let i : Item = record { id = id; line = line; body = body } in uses_changes t moment (action_of i) (uses_of_item t item i) p) ≡ uses_changes t moment (by_task id) (reqs_of t item) p
     by_body id line Task e = refl
     by_body id line (Fill tree space fields n) e = absurd cc
 
-pub fill-item : (on : Option (List ℕ)) (t : Tables) (moment item : ℕ) (p : Place) (i : Item) (tree space : ℕ) (fields : List ℕ) (n : ℕ) → slice_get t.items item ≡ Some i → i.body ≡ Fill tree space fields n
-    → cond (covered tree (points_in (cut_to on t) space) fields p) ((let c : Change = record { moment = moment; action = Put (Const n) } in c) ∷ []) [] ≡ item_changes (cut_to on t) moment item p
-fill-item on t moment item p i tree space fields n at is = sym (item-of on t moment item p (Some i) at ∙ by_body i.id i.line i.body is)
+pub fill-item : (t : Tables) (moment item : ℕ) (p : Place) (i : Item) (tree space : ℕ) (fields : List ℕ) (n : ℕ) → slice_get t.items item ≡ Some i → i.body ≡ Fill tree space fields n
+    → cond (covered tree (points_in t space) fields p) ((let c : Change = record { moment = moment; action = Put (Const n) } in c) ∷ []) [] ≡ item_changes t moment item p
+fill-item t moment item p i tree space fields n at is = sym (item-of t moment item p (Some i) at ∙ by_body i.id i.line i.body is)
   where
-    by_body : (id line : ℕ) (body : ItemBody) → body ≡ Fill tree space fields n → (let i : Item = record { id = id; line = line; body = body } in uses_changes (cut_to on t) moment (action_of i) (uses_of_item t item i) p) ≡ cond (covered tree (points_in (cut_to on t) space) fields p) (record { moment = moment; action = Put (Const n) } ∷ []) []
+    by_body : (id line : ℕ) (body : ItemBody) → body ≡ Fill tree space fields n → (let i : Item = record { id = id; line = line; body = body } in uses_changes t moment (action_of i) (uses_of_item t item i) p) ≡ cond (covered tree (points_in t space) fields p) (record { moment = moment; action = Put (Const n) } ∷ []) []
     by_body id line Task e = absurd cc
     by_body id line (Fill tree_ space_ fields_ n_) e =
         let same_tree : tree_ ≡ tree = cc in

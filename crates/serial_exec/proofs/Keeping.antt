@@ -5,7 +5,7 @@ use Rattle.std.specs.List.Sorted.{IsNonDecreasingBy}
 use Rattle.std.specs.Map.{lookup}
 use Rattle.std.specs.Option.{option_map_or, unwrap_or}
 use Rattle.std.proofs.lemmas.Bool.{cases_Bool}
-use Rattle.vocabulary.specs.Prelude.{Base, Value, plain, Place, Tables, wanted, after_items, same_place}
+use Rattle.vocabulary.specs.Prelude.{Base, Value, plain, Place, Tables, same_place}
 use Rattle.value_terms.specs.declared.terms.Base.TheVariants.{Init}
 use Rattle.serial_exec.specs.declared.change.Action.TheVariants.{Put}
 use Rattle.semantics.specs.SerialOrder.{serial, serial_place}
@@ -13,11 +13,11 @@ use Rattle.logs.specs.Listing.{ArePlacesIn}
 use Rattle.serial_exec.specs.declared.change.Change.{Change}
 use Rattle.serial_exec.specs.declared.histories.Histories.{Histories}
 use Rattle.serial_exec.specs.Changes.{after_changes, acted_by, before, items_changes, IsAdded}
-use Rattle.point_laws.specs.Cut.{cut_to}
+use Rattle.point_laws.specs.Cut.{cut}
+use Rattle.point_laws.proofs.lemmas.Cuts.{wanted_cut}
 use Rattle.serial_exec.specs.Histories.{changes_at}
-use Rattle.serial_exec.specs.Kept.{kept, changes_in, AreInOrder, AreVersionsOf}
+use Rattle.serial_exec.specs.Kept.{Kept, kept, changes_in, AreInOrder, AreVersionsAt, AreVersionsOf}
 use Rattle.serial_exec.proofs.Changing.{before-items, items-changes, Rises, items-rise}
-use Rattle.serial_exec.proofs.Gathered.{items_cut}
 
 lookup-mapped : {V : Type 0} (items : V → List Change) (test : Place → Bool) (es : List (Place × V)) → unwrap_or (lookup test (map (λ e. (e.0, items e.1)) es)) [] ≡ option_map_or items (lookup test es) []
 lookup-mapped items test [] = refl
@@ -47,28 +47,21 @@ kept-in_order t moments h are p = subst (λ cs. IsNonDecreasingBy (λ c. c.momen
 
 -- ---- what is wanted
 
-pub versions-of : (on : Option (List ℕ)) (t : Tables) (moments : List ℕ) (h : Histories) → ArePlacesIn (serial t) (length t.items) moments
-    → ((p : Place) → changes_at h p ≡ items_changes (cut_to on t) 0 (serial t) p) → AreVersionsOf (cut_to on t) (kept moments h)
-versions-of on t moments h places are = record {
-  each = places.each ∙ ap (λ its. length its) (sym (items_cut on t));
+pub versions-of : (t : Tables) (moments : List ℕ) (h : Histories) → ArePlacesIn (serial t) (length t.items) moments
+    → ((p : Place) → changes_at h p ≡ items_changes t 0 (serial t) p) → AreVersionsOf t (kept moments h)
+versions-of t moments h places are = record {
+  each = places.each;
   value = λ item p lt.
-      let inside : item < length t.items = subst (λ its. item < length its) (items_cut on t) lt in
-      let moment : get_or moments item 0 ≡ serial_place t item = places.place item inside in
-      let same : serial_place (cut_to on t) item ≡ serial_place t item = places_cut on t item in
+      let moment : get_or moments item 0 ≡ serial_place t item = places.place item lt in
       ap (λ cs. after_changes (before (get_or moments item 0) cs) (plain Init)) (kept-changes moments h p ∙ are p)
-      ∙ ap (λ m. after_changes (before m (items_changes (cut_to on t) 0 (serial t) p)) (plain Init)) (moment ∙ sym (zero-add (serial_place t item)))
-      ∙ ap (λ cs. after_changes cs (plain Init)) (before-items (cut_to on t) 0 (serial_place t item) (serial t) p)
-      ∙ sym (items-changes (cut_to on t) 0 (take (serial_place t item) (serial t)) p (plain Init))
-      ∙ sym (wanted_cut on t item p);
+      ∙ ap (λ m. after_changes (before m (items_changes t 0 (serial t) p)) (plain Init)) (moment ∙ sym (zero-add (serial_place t item)))
+      ∙ ap (λ cs. after_changes cs (plain Init)) (before-items t 0 (serial_place t item) (serial t) p)
+      ∙ sym (items-changes t 0 (take (serial_place t item) (serial t)) p (plain Init));
 }
-  where
-    places_cut : (on : Option (List ℕ)) (t : Tables) (item : ℕ) → serial_place (cut_to on t) item ≡ serial_place t item
-    places_cut None t item = refl
-    places_cut (Some listed) t item = refl
 
-    wanted_cut : (on : Option (List ℕ)) (t : Tables) (item : ℕ) (p : Place) → wanted (cut_to on t) item p ≡ after_items (cut_to on t) (take (serial_place t item) (serial t)) p (plain Init)
-    wanted_cut None t item p = refl
-    wanted_cut (Some listed) t item p = refl
+-- Those of tables that are cut to some points are those of the whole at these points.
+pub versions_at : (points : List ℕ) (t : Tables) (k : Kept) → AreVersionsOf (cut points t) k → AreVersionsAt points t k
+versions_at points t k h = record { each = h.each; value = λ item p lt at. h.value item p lt ∙ wanted_cut points t item p at }
 
 -- ---- looking up
 

@@ -1,20 +1,20 @@
 -- One change more at some places.
-use Rattle.std.proofs.Common.{◌≡◌, ℕ, ◌+◌, ◌<◌, ◌≤◌, ◌==◌, nat_lt, Bool, true, false, ◌&&◌, ◌||◌, cond, List, [], ◌∷◌, ◌++◌, take, length, get_or, Contains, Option, Some, None, refl, sym, ap, subst, ◌∙◌, inl, inr, arith}
+use Rattle.std.proofs.Common.{◌≡◌, ℕ, suc, ◌+◌, ◌<◌, ◌==◌, Bool, true, false, ◌&&◌, ◌||◌, cond, List, [], ◌∷◌, ◌++◌, take, length, get_or, Option, Some, refl, sym, ap, ◌∙◌, inl, inr, arith}
 use Rattle.std.specs.Option.{option_map_or}
+use Rattle.std.specs.List.{AllPairs}
 use Rattle.std.specs.List.Sorted.{IsStrictlyIncreasing}
-use Rattle.std.proofs.lemmas.Bool.{cases_Bool, cases_eq, cases_lt, true≢false}
+use Rattle.std.proofs.Math.Bool.{and-false}
+use Rattle.std.proofs.lemmas.Bool.{cases_Bool, eqb-true, false_from_ne_true, true≢false}
 use Rattle.std.proofs.lemmas.Bool.Decides.{nat_tests}
 use Rattle.std.proofs.lemmas.Grind.{common_steps}
 use Rattle.std.proofs.lemmas.List.Folds.{list_any_more}
 use Rattle.std.proofs.lemmas.List.Kept.{AllPairs-from_increasing}
 use Rattle.std.proofs.lemmas.List.{append_assoc, append-nil}
-use Rattle.point_set.specs.Least.{IsLeastFrom}
 use Rattle.vocabulary.specs.Prelude.{Place, is_in, same_place}
 use Rattle.semantics.proofs.lemmas.SamePlaces.{same_place-true}
-use Rattle.log_tables.proofs.lemmas.Members.{has_in, in_has}
+use Rattle.log_tables.proofs.lemmas.Members.{has_in}
 use Rattle.serial_exec.specs.declared.change.Change.{Change}
 use Rattle.serial_exec.specs.Changes.{covered}
-use Rattle.serial_exec.specs.Listed.{is_behind, IsPoint}
 
 -- A list more at a place.
 pub list-put : {V : Type 0} (items : V → List Change) (old : Place → Option V) (new : Option V) (key k : Place) (list : V) (c : Change)
@@ -70,82 +70,29 @@ field-noted c old mid new tree point field fields i p up lt is before after =
 
 -- ---- point by point
 
--- Where a point stands to the one that was noted: before it, at it, or after it.
-data Stands (behind_old same has behind_new : Bool) : Type 0 where
-  earlier : behind_old ≡ true → same ≡ false → behind_new ≡ true → Stands behind_old same has behind_new
-  here : behind_old ≡ false → same ≡ true → has ≡ true → behind_new ≡ true → Stands behind_old same has behind_new
-  later : behind_old ≡ false → same ≡ false → (has ≡ true → behind_new ≡ false) → Stands behind_old same has behind_new
+one_point : {X : Type 0} (c : X) (t e h f : Bool) → (e ≡ true → h ≡ false) → cond (t && ((e || false) && f)) (c ∷ []) [] ++ cond (t && (h && f)) (c ∷ []) [] ≡ cond (t && ((e || h) && f)) (c ∷ []) []
+one_point c false e h f apart = refl
+one_point c true false h f apart = refl
+one_point c true true false f apart = append-nil _
+one_point c true true true f apart = absurd (true≢false (apart refl))
 
-one_point : {X : Type 0} (c : X) (t f b e h n : Bool) → Stands b e h n → cond (b && (t && (h && f))) (c ∷ []) [] ++ cond (t && ((e || false) && f)) (c ∷ []) [] ≡ cond (n && (t && (h && f))) (c ∷ []) []
-one_point c false f b e h n (earlier x y z) = rw (x, z) refl
-one_point c true f b e h n (earlier x y z) = rw (x, y, z) (append-nil _)
-one_point c false f b e h n (here x y z w) = rw (x, w) refl
-one_point c true f b e h n (here x y z w) = rw (x, y, z, w) refl
-one_point c t f b e h n (later x y z) = go t f h n x y z
-  where
-    nothing : (n : Bool) → [] ≡ cond (n && false) (c ∷ []) []
-    nothing true = refl
-    nothing false = refl
+-- A number that is below all others is none of them.
+not_behind : (x q : ℕ) (xs : List ℕ) → AllPairs (λ a b. a < b) (x ∷ xs) → (x == q) ≡ true → is_in xs q ≡ false
+not_behind x q xs up same = false_from_ne_true (is_in xs q) (λ e.
+    let c = has_in xs q e in
+    let less : x < get_or xs c.0 q = up 0 (suc c.0) q (omega arith) (omega (arith, c.1)) in
+    omega (arith, less, c.2, eqb-true x q same))
 
-    go : (t f h n : Bool) → b ≡ false → e ≡ false → (h ≡ true → n ≡ false) → cond (b && (t && (h && f))) (c ∷ []) [] ++ cond (t && ((e || false) && f)) (c ∷ []) [] ≡ cond (n && (t && (h && f))) (c ∷ []) []
-    go false f h n x y z = rw x (nothing n)
-    go true f true n x y z = rw (x, y, z refl) refl
-    go true f false n x y z = rw (x, y) (nothing n)
+-- Where a point is noted, the rest is left.
+pub point-noted : (c : Change) (all mid new : List Change) (tree x : ℕ) (xs fields : List ℕ) (p : Place) → AllPairs (λ a b. a < b) (x ∷ xs)
+    → mid ++ cond (covered tree (x ∷ xs) fields p) (c ∷ []) [] ≡ all → new ≡ mid ++ cond (covered tree (x ∷ []) fields p) (c ∷ []) []
+    → new ++ cond (covered tree xs fields p) (c ∷ []) [] ≡ all
+point-noted c all mid new tree x xs fields p up before after =
+    ap (λ cs. cs ++ cond (covered tree xs fields p) (c ∷ []) []) after
+    ∙ append_assoc mid _ _
+    ∙ ap (λ cs. mid ++ cs) (one_point c (tree == p.tree) (x == p.point) (is_in xs p.point) (is_in fields p.field) (not_behind x p.point xs up))
+    ∙ before
 
-least_is_point : (pts : List ℕ) (low : ℕ) (next : Option ℕ) → IsLeastFrom pts low next → IsPoint next pts
-least_is_point pts low None least = tt
-least_is_point pts low (Some x) least = least.0.0
-
-behind_later : (pts : List ℕ) (low q : ℕ) (next : Option ℕ) → IsLeastFrom pts low next → low ≤ q → is_in pts q ≡ true → is_behind next q ≡ false
-behind_later pts low q None least h has = absurd (least q (has_in pts q has, h))
-behind_later pts low q (Some x) least h has = let le : x ≤ q = least.1 q (has_in pts q has, h) in grind (arith, nat_tests)
-
-behind_earlier : (pts : List ℕ) (low q : ℕ) (next : Option ℕ) → IsLeastFrom pts low next → q < low → is_behind next q ≡ true
-behind_earlier pts low q None least h = refl
-behind_earlier pts low q (Some x) least h = let le : low ≤ x = least.0.1 in grind (arith, nat_tests)
-
-stands : (pts : List ℕ) (x q : ℕ) (next : Option ℕ) → Contains pts x → IsLeastFrom pts (x + 1) next → Stands (nat_lt q x) (x == q) (is_in pts q) (is_behind next q)
-stands pts x q next has least = elim (cases_lt q x) [
-  | inl less ↦ earlier (grind (arith, nat_tests)) (grind (arith, nat_tests)) (behind_earlier pts (x + 1) q next least (omega arith))
-  | inr more ↦ elim (cases_eq x q) [
-    | inl same ↦ here (grind (arith, nat_tests)) (grind (arith, nat_tests)) (in_has pts q (subst (Contains pts) same has)) (behind_earlier pts (x + 1) q next least (omega (arith, same)))
-    | inr differ ↦ later (grind (arith, nat_tests)) (grind (arith, nat_tests)) (behind_later pts (x + 1) q next least (omega (arith, differ)))
-  ]
-]
-
-pub points-first : (c : Change) (pts : List ℕ) (next : Option ℕ) (tree : ℕ) (fields : List ℕ) (old : Place → List Change) → IsLeastFrom pts 0 next
-    → IsPoint next pts × ((p : Place) → old p ≡ old p ++ cond (is_behind next p.point && covered tree pts fields p) (c ∷ []) [])
-points-first c pts next tree fields old least = (least_is_point pts 0 next least, λ p. sym (append-nil (old p)) ∙ ap (λ b. old p ++ cond b (c ∷ []) []) (sym (none p)))
-  where
-    closed : (b t h f : Bool) → (h ≡ true → b ≡ false) → (b && (t && (h && f))) ≡ false
-    closed false t h f shut = refl
-    closed true false h f shut = refl
-    closed true true false f shut = refl
-    closed true true true f shut = absurd (true≢false (shut refl))
-
-    none : (p : Place) → (is_behind next p.point && covered tree pts fields p) ≡ false
-    none p = closed (is_behind next p.point) (tree == p.tree) (is_in pts p.point) (is_in fields p.field) (behind_later pts 0 p.point next least (omega arith))
-
-pub points-more : (c : Change) (pts : List ℕ) (o next : Option ℕ) (x tree : ℕ) (fields : List ℕ) (old mid new : Place → List Change)
-    → o ≡ Some x
-    → IsPoint o pts × ((p : Place) → mid p ≡ old p ++ cond (is_behind o p.point && covered tree pts fields p) (c ∷ []) [])
-    → ((p : Place) → new p ≡ mid p ++ cond (covered tree (x ∷ []) fields p) (c ∷ []) [])
-    → IsLeastFrom pts (x + 1) next
-    → IsPoint next pts × ((p : Place) → new p ≡ old p ++ cond (is_behind next p.point && covered tree pts fields p) (c ∷ []) [])
-points-more c pts None next x tree fields old mid new is before after least = absurd (none_is_some is)
-  where
-    none_is_some : None ≡ Some x → ⊥
-    none_is_some e = cc
-points-more c pts (Some y) next x tree fields old mid new is before after least = (least_is_point pts (x + 1) next least, each)
-  where
-    same : y ≡ x
-    same = cc
-
-    each : (p : Place) → new p ≡ old p ++ cond (is_behind next p.point && covered tree pts fields p) (c ∷ []) []
-    each p =
-        after p
-        ∙ ap (λ xs. xs ++ cond (covered tree (x ∷ []) fields p) (c ∷ []) []) (before.1 p)
-        ∙ append_assoc (old p) _ _
-        ∙ ap (λ z. old p ++ (cond (nat_lt p.point z && covered tree pts fields p) (c ∷ []) [] ++ cond (covered tree (x ∷ []) fields p) (c ∷ []) [])) same
-        ∙ ap (λ xs. old p ++ xs) (one_point c (tree == p.tree) (is_in fields p.field) (nat_lt p.point x) (x == p.point) (is_in pts p.point) (is_behind next p.point)
-        (stands pts x p.point next (subst (Contains pts) same before.0) least))
+-- Where no point is left, all are noted.
+pub all-noted : (c : Change) (all new : List Change) (tree : ℕ) (fields : List ℕ) (p : Place) → new ++ cond (covered tree [] fields p) (c ∷ []) [] ≡ all → new ≡ all
+all-noted c all new tree fields p e = sym (append-nil new) ∙ ap (λ b. new ++ cond b (c ∷ []) []) (sym (and-false (tree == p.tree))) ∙ e

@@ -1,9 +1,9 @@
 -- What versions keep, and what they say.
-use Rattle.std.specs.Prelude.{◌≡◌, ℕ, ◌<◌, List, [], map, length, slice_index_or, unwrap_or}
+use Rattle.std.specs.Prelude.{◌≡◌, ℕ, ◌<◌, true, List, [], map, length, slice_index_or, unwrap_or}
 use Rattle.std.specs.Map.{lookup}
 use Rattle.std.specs.List.Sorted.{IsNonDecreasingBy}
 use Rattle.value_terms.specs.declared.terms.Base.TheVariants.{Init}
-use Rattle.vocabulary.specs.Prelude.{Value, plain, Place, Tables, same_place, wanted}
+use Rattle.vocabulary.specs.Prelude.{Value, plain, Place, Tables, is_in, same_place, wanted}
 use Rattle.serial_exec.specs.declared.change.Change.{Change}
 use Rattle.serial_exec.specs.declared.histories.Histories.{Histories}
 use Rattle.serial_exec.specs.Changes.{before, after_changes}
@@ -32,7 +32,12 @@ changes_before k item p = before (slice_index_or k.moments item 0) (changes_in k
 abbrev pub value_at : Kept → ℕ → Place → Value
 value_at k item p = after_changes (changes_before k item p) (plain Init)
 
--- The values are those of sequential execution.
+-- The values at these points are those of sequential execution.
+pub record AreVersionsAt (points : List ℕ) (t : Tables) (k : Kept) : Type 0 where
+  pub each : length k.moments ≡ length t.items
+  pub value : (item : ℕ) (p : Place) → item < length t.items → is_in points p.point ≡ true → value_at k item p ≡ wanted t item p
+
+-- The values at all points are.
 pub record AreVersionsOf (t : Tables) (k : Kept) : Type 0 where
   pub each : length k.moments ≡ length t.items
   pub value : (item : ℕ) (p : Place) → item < length t.items → value_at k item p ≡ wanted t item p

@@ -1,5 +1,4 @@
 pub mod Changes
-pub mod Listed
 pub mod Histories
 pub mod Kept
 pub mod Marks

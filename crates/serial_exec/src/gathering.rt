@@ -5,142 +5,120 @@ ghost use Rattle.std.specs.List.Sorted.{IsStrictlyIncreasing};
 ghost use Rattle.vocabulary.specs.Prelude.{Place, points_in};
 ghost use Rattle.semantics.specs.SerialOrder.{serial};
 ghost use Rattle.serial_exec.specs.Changes.{Adds, covered, by_task, use_changes, uses_changes, item_changes, items_changes};
-ghost use Rattle.point_laws.specs.Cut.{cut_to};
-ghost use Rattle.listed_points.specs.Listed.{listed_of, IsAscending};
 ghost use Rattle.serial_exec.specs.Histories.{changes_at};
 ghost use Rattle.serial_exec.specs.OwnReqs.{AreOwn, reqs_at};
 
 use crate::change::{Action, Change, task_action};
 use crate::histories::Histories;
 use crate::own_reqs::own_reqs;
-use logs::Log;
+use cut_logs::CutLog;
 use number_lists::NumberLists;
 use point_set::PointSet;
 use semantics::{ItemBody, Req};
 use std::alloc::{AllocError, Global};
 use value_terms::Base;
 
-/// One change more at these fields of the points of a space, or of those that are listed.
-fn note_in_space<'a, P: PointSet + Copy>(
+/// One change more at these fields of the points of a space.
+fn note_in_space<P: PointSet + Copy>(
     alloc: Global,
     histories: &mut Histories,
-    log: &Log<'a, P>,
-    listed: Option<&[u64]>,
+    log: &CutLog<'_, '_, '_, P>,
     tree: u32,
     space: u32,
     fields: &[u32],
     change: Change,
 ) -> Result<(), AllocError>
-    requires fields { IsStrictlyIncreasing fields.now }
-    requires ascending { IsAscending listed }
+    requires { IsStrictlyIncreasing fields.now }
     ensures { OnOk result (Adds change
-        (covered tree (points_in (cut_to (listed_of listed.entry) log.now) space) fields.now)
+        (covered tree (points_in log.now space) fields.now)
         (changes_at histories.old) (changes_at histories.new)) }
 {
     match log.set(space) {
-        Some(set) => histories.note_all(alloc, set, listed, tree, fields, change),
+        Some(set) => histories.note_all(alloc, &set, tree, fields, change),
         None => Ok(()),
     }
 }
 
 /// What a task does by a requirement.
-fn note_req<'a, P: PointSet + Copy>(
+fn note_req<P: PointSet + Copy>(
     alloc: Global,
     histories: &mut Histories,
-    log: &Log<'a, P>,
-    listed: Option<&[u64]>,
+    log: &CutLog<'_, '_, '_, P>,
     moment: usize,
     task: u32,
     req: &Req,
 ) -> Result<(), AllocError>
-    requires fields { IsStrictlyIncreasing req.now.fields }
-    requires ascending { IsAscending listed }
+    requires { IsStrictlyIncreasing req.now.fields }
     ensures { OnOk result ((p : Place) → changes_at histories.new p ≡ changes_at histories.old p ++
-        use_changes (cut_to (listed_of listed.entry) log.now) moment (by_task task) req.now p) }
+        use_changes log.now moment (by_task task) req.now p) }
 {
     match task_action(task, req.number, req.access) {
         Some(action) => {
             let change = Change { moment, action };
             let fields = req.fields.as_slice();
-            note_in_space(
-                alloc, histories, log, listed, req.tree, req.space, fields, change,
-            )
+            note_in_space(alloc, histories, log, req.tree, req.space, fields, change)
         }
         None => Ok(()),
     }
 }
 
 /// What a task does by the requirement at a position.
-fn note_req_at<'a, P: PointSet + Copy>(
+fn note_req_at<P: PointSet + Copy>(
     alloc: Global,
     histories: &mut Histories,
-    log: &Log<'a, P>,
-    listed: Option<&[u64]>,
+    log: &CutLog<'_, '_, '_, P>,
     moment: usize,
     task: u32,
     k: usize,
 ) -> Result<(), AllocError>
-    requires { IsAscending listed }
     ensures { OnOk result ((p : Place) → changes_at histories.new p ≡ changes_at histories.old p ++
-        uses_changes (cut_to (listed_of listed.entry) log.now) moment (by_task task)
+        uses_changes log.now moment (by_task task)
         (reqs_at log.now.reqs (k ∷ [])) p) }
 {
     match log.reqs().get(k) {
-        Some(req) => note_req(alloc, histories, log, listed, moment, task, req),
+        Some(req) => note_req(alloc, histories, log, moment, task, req),
         None => Ok(()),
     }
 }
 
 /// What a task does by the requirements at some positions.
-fn note_reqs<'a, P: PointSet + Copy>(
+fn note_reqs<P: PointSet + Copy>(
     alloc: Global,
     histories: &mut Histories,
-    log: &Log<'a, P>,
-    listed: Option<&[u64]>,
+    log: &CutLog<'_, '_, '_, P>,
     moment: usize,
     task: u32,
     own: &[usize],
 ) -> Result<(), AllocError>
-    requires { IsAscending listed }
     ensures { OnOk result ((p : Place) → changes_at histories.new p ≡ changes_at histories.old p ++
-        uses_changes (cut_to (listed_of listed.entry) log.now) moment (by_task task)
+        uses_changes log.now moment (by_task task)
         (reqs_at log.now.reqs own.now) p) }
 {
     for k in own {
-        note_req_at(alloc, histories, log, listed, moment, task, *k)?;
+        note_req_at(alloc, histories, log, moment, task, *k)?;
     }
     Ok(())
 }
 
 /// What an item does.
-fn note_item<'a, P: PointSet + Copy>(
+fn note_item<P: PointSet + Copy>(
     alloc: Global,
     histories: &mut Histories,
-    log: &Log<'a, P>,
-    listed: Option<&[u64]>,
+    log: &CutLog<'_, '_, '_, P>,
     own: &NumberLists,
     moment: usize,
     item: usize,
 ) -> Result<(), AllocError>
-    requires own { AreOwn log.now.reqs log.now.reqs (length log.now.items) own.now }
-    requires ascending { IsAscending listed }
+    requires { AreOwn log.now.reqs log.now.reqs (length log.now.items) own.now }
     ensures { OnOk result ((p : Place) → changes_at histories.new p ≡ changes_at histories.old p ++
-        item_changes (cut_to (listed_of listed.entry) log.now) moment item p) }
+        item_changes log.now moment item p) }
 {
     log.fill_fields_ascend();
     let Some(found) = log.items().get(item) else {
         return Ok(());
     };
     match &found.body {
-        ItemBody::Task => note_reqs(
-            alloc,
-            histories,
-            log,
-            listed,
-            moment,
-            found.id,
-            own.list(item),
-        ),
+        ItemBody::Task => note_reqs(alloc, histories, log, moment, found.id, own.list(item)),
         ItemBody::Fill {
             tree,
             space,
@@ -152,34 +130,24 @@ fn note_item<'a, P: PointSet + Copy>(
                 action: Action::Put(Base::Const(*n)),
             };
             let fields = fields.as_slice();
-            note_in_space(alloc, histories, log, listed, *tree, *space, fields, change)
+            note_in_space(alloc, histories, log, *tree, *space, fields, change)
         }
     }
 }
 
-/// What the items of a log do, in serial order: at all points, or at those that are listed.
-pub(crate) fn histories_of<'a, P: PointSet + Copy>(
+/// What the items of a log do, in serial order.
+pub(crate) fn histories_of<P: PointSet + Copy>(
     alloc: Global,
-    log: &Log<'a, P>,
-    listed: Option<&[u64]>,
+    log: &CutLog<'_, '_, '_, P>,
 ) -> Result<Histories, AllocError>
-    requires { IsAscending listed }
     ensures { IfOk result (λ h. (p : Place) → changes_at h p
-        ≡ items_changes (cut_to (listed_of listed.entry) log.now) 0 (serial log.now) p) }
+        ≡ items_changes log.now 0 (serial log.now) p) }
 {
     let own = own_reqs(alloc, log.items().len(), log.reqs())?;
     let mut histories = Histories::new(alloc);
     let order = log.serial();
     for moment in 0..order.len() {
-        note_item(
-            alloc,
-            &mut histories,
-            log,
-            listed,
-            &own,
-            moment,
-            order[moment],
-        )?;
+        note_item(alloc, &mut histories, log, &own, moment, order[moment])?;
     }
     Ok(histories)
 }

@@ -4,13 +4,10 @@ ghost use Rattle.std.specs.Prelude.{◌≡◌, ◌++◌, ◌∷◌, [], OnOk, if
 ghost use Rattle.std.specs.List.Sorted.{IsStrictlyIncreasing};
 ghost use Rattle.vocabulary.specs.Prelude.{Place, same_place};
 ghost use Rattle.serial_exec.specs.Changes.{Adds, covered};
-ghost use Rattle.point_laws.specs.Cut.{kept};
-ghost use Rattle.listed_points.specs.Listed.{listed_of, IsAscending};
 ghost use Rattle.serial_exec.specs.Histories.{changes_at};
 
 use crate::change::Change;
-use listed_points::{listed_after, next_listed};
-use point_set::PointSet;
+use point_set::{PointSet, points_in};
 use semantics::Place;
 use std::alloc::{AllocError, Global};
 use std::collections::HashMap;
@@ -70,26 +67,21 @@ impl Histories {
         Ok(())
     }
 
-    /// One change more at these fields of the points of a set, or of those that are listed.
+    /// One change more at these fields of the points of a set.
     pub(crate) fn note_all<P: PointSet>(
         &mut self,
         alloc: Global,
         set: &P,
-        listed: Option<&[u64]>,
         tree: u32,
         fields: &[u32],
         change: Change,
     ) -> Result<(), AllocError>
-        requires fields { IsStrictlyIncreasing fields.now }
-        requires ascending { IsAscending listed }
-        ensures { OnOk result (Adds change
-            (covered tree (kept (listed_of listed.entry) (P.points set.now)) fields.now)
+        requires { IsStrictlyIncreasing fields.now }
+        ensures { OnOk result (Adds change (covered tree (P.points set.now) fields.now)
             (changes_at self.old) (changes_at self.new)) }
     {
-        let mut next = next_listed(set, listed, 0);
-        while let Some(point) = next {
+        for point in points_in(set) {
             self.note_at_point(alloc, tree, point, fields, change)?;
-            next = listed_after(set, listed, point);
         }
         Ok(())
     }

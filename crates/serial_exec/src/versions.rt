@@ -1,13 +1,11 @@
 //! The values of sequential execution.
 
-ghost use Rattle.std.specs.Prelude.{◌≡◌, ◌↔◌, ℕ, ◌<◌, true, length, IfOk, IsTrue};
+ghost use Rattle.std.specs.Prelude.{◌≡◌, ◌↔◌, ◌<◌, length, IfOk, IsTrue};
 ghost use Rattle.std.specs.List.Sorted.{IsNonDecreasingBy, IsStrictlyIncreasing};
 ghost use Rattle.serial_exec.specs.Changes.{AreFirst, before};
-ghost use Rattle.vocabulary.specs.Prelude.{Place, is_in, wanted};
-ghost use Rattle.point_laws.specs.Cut.{cut, cut_to};
-ghost use Rattle.listed_points.specs.Listed.{listed_of, IsAscending};
+ghost use Rattle.point_laws.specs.Cut.{cut};
 ghost use Rattle.serial_exec.specs.Histories as says;
-ghost use Rattle.serial_exec.specs.Kept.{AreVersionsOf, changes_before, changes_in, value_at};
+ghost use Rattle.serial_exec.specs.Kept.{AreVersionsAt, AreVersionsOf, changes_before, changes_in, value_at};
 ghost use Rattle.serial_exec.specs.Marks.{AreMarksOf};
 
 use crate::agreeing::is_sum;
@@ -16,6 +14,7 @@ use crate::gathering::histories_of;
 use crate::histories::Histories;
 use crate::marks::{Mark, Marks};
 use crate::sums::{latest, sum_of};
+use cut_logs::CutLog;
 use logs::Log;
 use point_set::PointSet;
 use semantics::Place;
@@ -45,18 +44,15 @@ impl Model for Versions {
 }
 
 impl Versions {
-    /// The versions at all points, or at those that are listed.
-    fn of<'a, P: PointSet + Copy>(
+    /// The versions of a log that may be cut.
+    fn of<P: PointSet + Copy>(
         alloc: Global,
-        log: &Log<'a, P>,
-        listed: Option<&[u64]>,
+        log: &CutLog<'_, '_, '_, P>,
     ) -> Result<Versions, Memory>
-        requires { IsAscending listed }
-        ensures { IfOk result (λ v. AreVersionsOf
-            (cut_to (listed_of listed.entry) log.now) v) }
+        ensures { IfOk result (AreVersionsOf log.now) }
     {
         let moments = Vec::from_slice(alloc, log.serial_places())?;
-        let histories = histories_of(alloc, log, listed)?;
+        let histories = histories_of(alloc, log)?;
         let marks = Marks::of(alloc, &histories)?;
         Ok(Versions {
             moments,
@@ -70,24 +66,24 @@ impl Versions {
         alloc: Global,
         log: &Log<'a, P>,
     ) -> Result<Versions, Memory>
-        ensures { IfOk result (λ v. AreVersionsOf log.now v) }
+        ensures { IfOk result (AreVersionsOf log.now) }
     {
-        Versions::of(alloc, log, None)
+        let log = CutLog::whole(log);
+        Versions::of(alloc, &log)
     }
 
     /// The versions at the listed points: there they say what the whole log wants, and elsewhere what the tables want that are cut to these points.
-    #[tactic(auto, using(point_laws::proofs::lemmas::Cuts::wanted_cut))]
     pub fn build_on<'a, P: PointSet + Copy>(
         alloc: Global,
         log: &Log<'a, P>,
         points: &[u64],
     ) -> Result<Versions, Memory>
         requires { IsStrictlyIncreasing points.now }
-        ensures cut { IfOk result (λ v. AreVersionsOf (cut points.now log.now) v) }
-        ensures listed { IfOk result (λ v. (item : ℕ) (p : Place) → item < length log.now.items
-            → is_in points.now p.point ≡ true → value_at v item p ≡ wanted log.now item p) }
+        ensures cut { IfOk result (AreVersionsOf (cut points.now log.now)) }
+        ensures listed { IfOk result (AreVersionsAt points.now log.now) }
     {
-        Versions::of(alloc, log, Some(points))
+        let log = CutLog::at(log, points);
+        Versions::of(alloc, &log)
     }
 
     /// How many items the log has.

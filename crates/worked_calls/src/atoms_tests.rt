@@ -1,4 +1,4 @@
-//! The atoms of a log.
+//! The atoms of the spaces of a log.
 
 use crate::framed_logs::log_of;
 use atoms::Atoms;
@@ -23,7 +23,7 @@ fn atoms_of_a_log(rt: HostRuntime) -> Result<(), Fail> {
     let alloc = rt.alloc();
     let bump = Bump::new(alloc);
     let log = log_of::<RunSet>(alloc, &bump, b"ispace 6 20-25,30\nispace 7 22\n", 0)?;
-    let built = Atoms::build(alloc, &log);
+    let built = Atoms::build(alloc, log.space_sets());
     log.let_go();
     let atoms = built.ok().ok_or("no memory")?;
     assert_eq!(rt; atoms.len(), SPANS.len());

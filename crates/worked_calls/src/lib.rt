@@ -4,6 +4,8 @@
 #[cfg(test)]
 mod atoms_tests;
 #[cfg(test)]
+mod cut_logs_tests;
+#[cfg(test)]
 mod findings_tests;
 #[cfg(test)]
 mod framed_logs;
@@ -17,8 +19,6 @@ mod interference_tests;
 mod launch_claims_tests;
 #[cfg(test)]
 mod launches_tests;
-#[cfg(test)]
-mod listed_points_tests;
 #[cfg(test)]
 mod log_gen_tests;
 #[cfg(test)]

@@ -169,7 +169,7 @@ fn ask<'a, P: ArenaSet<'a>>(
     };
     let (Ok(reach), Ok(atoms)) = (
         Reach::build(alloc, &graph, &order),
-        Atoms::build(alloc, log),
+        Atoms::build(alloc, log.space_sets()),
     ) else {
         return Err("no memory".into());
     };

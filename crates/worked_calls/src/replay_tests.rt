@@ -5,9 +5,8 @@ ghost use Rattle.vocabulary.specs.Prelude.{graph_of};
 ghost use Rattle.semantics.specs.Faults.{unmapped_fault};
 ghost use Rattle.event_graph.specs.Orders.{IsOrderOf};
 ghost use Rattle.point_laws.specs.Alike.{AreFirsts};
-ghost use Rattle.point_laws.specs.Cut.{cut};
 ghost use Rattle.atoms.specs.Atoms.{first_points};
-ghost use Rattle.serial_exec.specs.Kept.{AreVersionsOf};
+ghost use Rattle.serial_exec.specs.Kept.{AreVersionsAt};
 
 use crate::framed_logs::log_of;
 use crate::graph_tests::graph_of;
@@ -64,25 +63,55 @@ fn versions_on<'a, P: ArenaSet<'a>>(
     log: &Log<'a, P>,
     atoms: &Atoms,
 ) -> Result<Versions, Memory>
-    ensures { IfOk result (λ v. AreVersionsOf (cut (first_points atoms.now) log.now) v) }
+    ensures { IfOk result (AreVersionsAt (first_points atoms.now) log.now) }
 {
     let points = atoms.firsts();
     let versions = Versions::build_on(alloc, log, points)?;
     Ok(versions)
 }
 
-/// Replays a log in its order, at the first points of its atoms.
+/// What a log wants at all points, these among them.
+fn versions_of<'a, P: ArenaSet<'a>>(
+    alloc: Global,
+    log: &Log<'a, P>,
+    atoms: &Atoms,
+) -> Result<Versions, Memory>
+    ensures { IfOk result (AreVersionsAt (first_points atoms.now) log.now) }
+{
+    let _points = atoms.firsts();
+    let versions = Versions::build(alloc, log)?;
+    Ok(versions)
+}
+
+/// What a log wants at the first points of its atoms, or at all points.
+fn versions_by<'a, P: ArenaSet<'a>>(
+    alloc: Global,
+    log: &Log<'a, P>,
+    atoms: &Atoms,
+    by_all: bool,
+) -> Result<Versions, Memory>
+    ensures { IfOk result (AreVersionsAt (first_points atoms.now) log.now) }
+{
+    if by_all {
+        versions_of(alloc, log, atoms)
+    } else {
+        versions_on(alloc, log, atoms)
+    }
+}
+
+/// Replays a log in its order, at the first points of its atoms, by what it wants there or at all points.
 fn replay_by<'a, P: ArenaSet<'a>>(
     alloc: Global,
     log: &Log<'a, P>,
     order: &Order,
     atoms: &Atoms,
+    by_all: bool,
 ) -> Result<Result<Reads, ReplayEnd>, Memory>
     requires mapped { unmapped_fault log.now ≡ None }
     requires order { IsOrderOf (graph_of log.now.nodes) order.now }
     requires atoms { AreFirsts log.now (first_points atoms.now) }
 {
-    let versions = versions_on(alloc, log, atoms)?;
+    let versions = versions_by(alloc, log, atoms, by_all)?;
     Ok(replay(alloc, log, order, &versions, atoms))
 }
 
@@ -127,15 +156,20 @@ fn ask<'a, P: ArenaSet<'a>>(
     };
     let (Ok(reach), Ok(atoms)) = (
         Reach::build(alloc, &graph, &order),
-        Atoms::build(alloc, log),
+        Atoms::build(alloc, log.space_sets()),
     ) else {
         return Err("no memory".into());
     };
     match scan(alloc, log, &graph, &order, &reach, &atoms) {
-        Ok(()) => match replay_by(alloc, log, &order, &atoms) {
-            Ok(end) => is_found(alloc, end, found),
-            Err(_) => Err("no memory".into()),
-        },
+        Ok(()) => {
+            let (Ok(first), Ok(all)) = (
+                replay_by(alloc, log, &order, &atoms, false),
+                replay_by(alloc, log, &order, &atoms, true),
+            ) else {
+                return Err("no memory".into());
+            };
+            Ok(is_found(alloc, first, found)? && is_found(alloc, all, found)?)
+        }
         Err(ScanEnd::Race { a, b, cell }) => match found {
             Found::Race(x, y, place) => Ok(
                 (a, b, (cell.inst, cell.point, cell.field)) == (*x, *y, *place),

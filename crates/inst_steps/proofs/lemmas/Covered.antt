@@ -24,13 +24,12 @@ use Rattle.log_laws.proofs.lemmas.Sane.{two_reqs}
 use Rattle.log_laws.proofs.lemmas.Admitted.{Unbroken, rule_kept, by_records, no_broken_rule, IsFaultless, sane, all_mapped}
 use Rattle.inst_steps.specs.declared.act.Act.{Act}
 use Rattle.inst_steps.specs.declared.act.Act.TheVariants as acts
-use Rattle.point_laws.specs.Cut.{kept, cut_to, cut}
+use Rattle.point_laws.specs.Cut.{kept, cut_to}
 use Rattle.point_laws.proofs.lemmas.Cuts.{points_cut_to}
 use Rattle.inst_steps.specs.Sweeps.{Pass, pass, move_at, moves_of_pass, reading, changing, pass_for, passes_of, cell_of}
 use Rattle.inst_steps.specs.Stores.{Contents, IsStart, HasCells, has_cell}
 use Rattle.inst_steps.specs.Celled.{AreOfInsts, HasCellsOf}
-use Rattle.inst_steps.proofs.Starting.{inst_cut}
-use Rattle.inst_steps.proofs.Sweeping.{pass_cut, sweeps_are, passes_cut, nodes_cut}
+use Rattle.inst_steps.proofs.Sweeping.{pass_cut, sweeps_are, passes_cut}
 use Rattle.inst_steps.specs.Stepping.{moves_at}
 
 -- ---- an instance has the points of a space, and fields
@@ -202,7 +201,7 @@ kept_in None xs ys p w m = all_at (is_in ys) xs p w m
 held : (t : Tables) (listed : Option (List ℕ)) (space : ℕ) (fields : List ℕ) (id : ℕ) → Within t.spaces t.insts space fields id → (q : ℕ × ℕ) → Member (kept listed (points_in t space)) q.0 → Member fields q.1
     → has_cell (cut_to listed t) (cell_in id q) ≡ true
 held t listed space fields id w q point field =
-    let here : inst_at (cut_to listed t) id ≡ Some w.i = inst_cut listed t id ∙ w.in_inst in
+    let here : inst_at (cut_to listed t) id ≡ Some w.i = w.in_inst in
     let there : points_in (cut_to listed t) w.i.space ≡ kept listed w.si.points = points_cut_to listed t w.i.space ∙ ap (λ o. kept listed (option_map_or (λ (s : Space). s.points) o [])) w.of_inst in
     let at : Member (kept listed w.s.points) q.0 = subst (λ o. Member (kept listed (option_map_or (λ (s : Space). s.points) o [])) q.0) w.in_space point in
     rw (here, there, kept_in listed w.s.points w.si.points q.0 w.points at, all_at (is_in w.i.fields) fields q.1 w.covered field) refl
@@ -288,23 +287,18 @@ module _ (log : List Lined) (f : IsFaultless Check log) (listed : Option (List �
   node_held node step m =
       let t = tables_of log in
       let of : Option LogNode → List Move = λ o. option_map_or (λ (n : LogNode). moves_of (cut_to listed t) n.op) o [] in
-      let same : slice_get (cut_to listed t).nodes node ≡ slice_get t.nodes node = ap (λ ns. slice_get ns node) (nodes_cut listed t) in
       elim (none_or_some (slice_get t.nodes node)) [
-        | inl missing ↦ absurd (subst (λ o. Member (of o) step) (same ∙ missing) m)
-        | inr some ↦ op_held some.0.op ((covers log f).nodes some.0 (member_at t.nodes node some.0 some.1)) step (subst (λ o. Member (of o) step) (same ∙ some.1) m)
+        | inl missing ↦ absurd (subst (λ o. Member (of o) step) missing m)
+        | inr some ↦ op_held some.0.op ((covers log f).nodes some.0 (member_at t.nodes node some.0 some.1)) step (subst (λ o. Member (of o) step) some.1 m)
       ]
 
 -- The steps of nodes touch cells of instances alone, at all points and at listed ones.
 sound : (t : Tables) (d : AreDeclared t) → unmapped_fault (tables_of d.log) ≡ None → IsFaultless Check d.log
 sound t d e = record { records = no_broken_rule d.lines d.log d.faultless; maps = e }
 
-pub steps_of_insts : (t : Tables) → AreDeclared t → unmapped_fault t ≡ None → (node : ℕ) (step : Move) → Contains (moves_at t node) step → AreOfInsts t step
-steps_of_insts t d e node step = subst (λ u. unmapped_fault u ≡ None → Contains (moves_at u node) step → AreOfInsts u step) (sym d.tables)
-    (λ e c. node_held d.log (sound t d e) None node step (member_of (moves_at (tables_of d.log) node) step c)) e
-
-pub listed_steps_of_insts : (t : Tables) → AreDeclared t → unmapped_fault t ≡ None → (points : List ℕ) (node : ℕ) (step : Move) → Contains (moves_at (cut points t) node) step → AreOfInsts (cut points t) step
-listed_steps_of_insts t d e points node step = subst (λ u. unmapped_fault u ≡ None → Contains (moves_at (cut points u) node) step → AreOfInsts (cut points u) step) (sym d.tables)
-    (λ e c. node_held d.log (sound t d e) (Some points) node step (member_of (moves_at (cut points (tables_of d.log)) node) step c)) e
+pub steps_of_insts : (t : Tables) → AreDeclared t → unmapped_fault t ≡ None → (listed : Option (List ℕ)) (node : ℕ) (step : Move) → Contains (moves_at (cut_to listed t) node) step → AreOfInsts (cut_to listed t) step
+steps_of_insts t d e listed node step = subst (λ u. unmapped_fault u ≡ None → Contains (moves_at (cut_to listed u) node) step → AreOfInsts (cut_to listed u) step) (sym d.tables)
+    (λ e c. node_held d.log (sound t d e) listed node step (member_of (moves_at (cut_to listed (tables_of d.log)) node) step c)) e
 
 -- ---- stores that have these cells
 

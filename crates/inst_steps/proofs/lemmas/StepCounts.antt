@@ -17,7 +17,7 @@ use Rattle.semantics.specs.declared.command.Command.TheVariants.{Deps}
 use Rattle.semantics.specs.ReplayOrder.{replay_order}
 use Rattle.semantics.specs.Rules.{size_of, runs_item, is_run_again}
 use Rattle.point_laws.specs.Alike.{is_at}
-use Rattle.point_laws.specs.Cut.{cut}
+use Rattle.point_laws.specs.Cut.{cut_to}
 use Rattle.point_laws.proofs.lemmas.Cuts.{steps_cut}
 use Rattle.logs.specs.Faultless.{AreDeclared}
 use Rattle.log_laws.proofs.lemmas.Members.{Member, contains_of, member_left, member_right, member_append, member_flat, member_filter, none_at, only}
@@ -231,18 +231,26 @@ steps_few t d =
     let same = by_places t 0 t.nodes (λ k. let e : 0 + k ≡ k = omega arith in ap (slice_get t.nodes) e) in
     omega (arith, all, own, nodes, same)
 
-replay_few : (t : Tables) → AreDeclared t → (points ks : List ℕ) → steps_by (cut points t) ks ≡ filter (is_at points) (steps_by t ks)
-    → AllPairs (λ a b. a ≢ b) ks → ((k : ℕ) → Contains ks k → k < length t.nodes) → length (steps_by (cut points t) ks) < 2 ^ 31
-replay_few t d points ks kept once within =
+replay_few : (t : Tables) → AreDeclared t → (ks : List ℕ) → AllPairs (λ a b. a ≢ b) ks → ((k : ℕ) → Contains ks k → k < length t.nodes) → length (steps_by t ks) < 2 ^ 31
+replay_few t d ks once within =
     let some = flat_few (steps_at t) ks (range_with_len 0 (length t.nodes)) (pairs_from (λ a b. a ≢ b) ks once) (λ k m. number_in (length t.nodes) k (within k (contains_of ks k m))) in
     let all = steps_few t d in
-    let same = ap length kept in
-    let fewer = length-filter (is_at points) (steps_by t ks) in
-    let bound = count_by-le-length (is_at points) (steps_by t ks) in
-    omega (arith, some, all, same, fewer, bound)
+    omega (arith, some, all)
 
--- Each node stands in the replay order once, and runs and operations make at most two steps of an access.
-pub steps_are_few : (t : Tables) → AreDeclared t → (points : List ℕ) → length (replay_steps (cut points t)) < 2 ^ 31
-steps_are_few t d points =
-    let ns = graph_of t.nodes in
-    replay_few t d points (replay_order ns) (steps_cut points t (replay_order ns)) (once (replay ns).taken) (λ k h. subst (λ n. k < n) (length-map t.nodes _) ((listed_decides ns k).0 h).0)
+-- Each node stands in the replay order once, and runs and operations make at most two steps of an access: so they are few, at all points and at listed ones.
+pub steps_are_few : (t : Tables) → AreDeclared t → (listed : Option (List ℕ)) → length (replay_steps (cut_to listed t)) < 2 ^ 31
+steps_are_few t d listed = by listed
+  where
+    few : length (steps_by t (replay_order (graph_of t.nodes))) < 2 ^ 31
+    few =
+        let ns = graph_of t.nodes in
+        replay_few t d (replay_order ns) (once (replay ns).taken) (λ k h. subst (λ n. k < n) (length-map t.nodes _) ((listed_decides ns k).0 h).0)
+
+    by : (listed : Option (List ℕ)) → length (replay_steps (cut_to listed t)) < 2 ^ 31
+    by None = few
+    by (Some points) =
+        let xs = steps_by t (replay_order (graph_of t.nodes)) in
+        let same = ap length (steps_cut points t (replay_order (graph_of t.nodes))) in
+        let fewer = length-filter (is_at points) xs in
+        let bound = count_by-le-length (is_at points) xs in
+        omega (arith, few, same, fewer, bound)

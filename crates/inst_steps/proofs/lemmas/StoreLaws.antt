@@ -44,7 +44,8 @@ not_kept ps points p none = false_from_ne_true (is_in (filter (is_in ps) points)
     let m = member_filter (is_in ps) points p (member_in (filter (is_in ps) points) p e) in
     true≢false (sym m.1 ∙ none))
 
-none_there : (ps : List ℕ) (t : Tables) (c : Cell) → is_in ps c.point ≡ false → has_cell (cut ps t) c ≡ false
+-- The cells of cut tables are at the points to which they are cut.
+pub none_there : (ps : List ℕ) (t : Tables) (c : Cell) → is_in ps c.point ≡ false → has_cell (cut ps t) c ≡ false
 none_there ps t c none = elim (none_or_some (inst_at t c.inst)) [
   | inl missing ↦ rw missing refl
   | inr some ↦ rw (some.1, points_cut ps t some.0.space, not_kept ps (points_in t some.0.space) c.point none) refl

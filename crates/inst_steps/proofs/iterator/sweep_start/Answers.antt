@@ -1,29 +1,24 @@
 use Rattle.std.proofs.Common.{map, sym, ap, ◌∙◌}
 use Rattle.std.specs.Option.{option_map}
 use Rattle.vocabulary.specs.Prelude.{grid}
-use Rattle.point_laws.specs.Cut.{kept, cut_to}
-use Rattle.listed_points.specs.Listed.{listed_of}
+use Rattle.cut_logs.specs.Meant.{listed_points}
 use Rattle.inst_steps.specs.Sweeps.{action_at, actions_of_pass}
 use Rattle.inst_steps.specs.Stepping.{pass_seen}
-use Rattle.inst_steps.proofs.Sweeping.{actions_cut, no_points, spot_actions_are}
+use Rattle.inst_steps.proofs.Sweeping.{no_points, spot_actions_are}
 use Rattle.inst_steps.proofs.iterator.sweep_start.Goals as goal
 
 pub returns-in-Some-clause-actions : goal.returns-in-Some-clause-actions
 returns-in-Some-clause-actions g c =
     let t = c.args.log.now in
-    let listed = listed_of c.args.listed in
     let sweep = c.in_ok-sweep.sweep in
-    let seen = pass_seen sweep in
-    spot_actions_are g.P.PointSet.points t listed sweep.act c.first_spot.result c.first_spot.ensures.act
+    spot_actions_are listed_points t sweep.act c.first_spot.result c.first_spot.ensures.act
     ∙ ap (map (action_at t sweep.act)) c.first_spot.ensures.grid
-    ∙ ap (λ points. map (action_at t sweep.act) (grid (kept listed points) sweep.fields.now)) (sym c.in-Some.ensures)
-    ∙ sym (actions_cut listed t seen)
-    ∙ ap (actions_of_pass (cut_to listed t)) (ap (option_map pass_seen) (sym c.in_ok-sweep.was) ∙ c.sweep_at.ensures)
+    ∙ ap (λ points. map (action_at t sweep.act) (grid points sweep.fields.now)) (sym c.in-Some.ensures)
+    ∙ ap (actions_of_pass t) (ap (option_map pass_seen) (sym c.in_ok-sweep.was) ∙ c.sweep_at.ensures)
 
 pub returns-in-None-clause-actions : goal.returns-in-None-clause-actions
 returns-in-None-clause-actions g c =
     let t = c.args.log.now in
-    let listed = listed_of c.args.listed in
     let sweep = c.in_ok-sweep.sweep in
-    sym (no_points listed t (pass_seen sweep) c.in-None.ensures)
-    ∙ ap (actions_of_pass (cut_to listed t)) (ap (option_map pass_seen) (sym c.in_ok-sweep.was) ∙ c.sweep_at.ensures)
+    sym (no_points t (pass_seen sweep) c.in-None.ensures)
+    ∙ ap (actions_of_pass t) (ap (option_map pass_seen) (sym c.in_ok-sweep.was) ∙ c.sweep_at.ensures)

@@ -1,14 +1,12 @@
 use Rattle.std.proofs.Common.{◌<◌, ap, subst, length, get_or}
 use Rattle.semantics.specs.SerialOrder.{serial}
-use Rattle.point_laws.specs.Cut.{cut_to}
-use Rattle.listed_points.specs.Listed.{listed_of}
 use Rattle.serial_exec.specs.Histories.{changes_at}
 use Rattle.serial_exec.proofs.Gathered.{items-more}
 use Rattle.serial_exec.proofs.gathering.histories_of.Goals as goal
 
 pub loop-moment-preserved : goal.loop-moment-preserved
 loop-moment-preserved g c = λ p.
-    let t = cut_to (listed_of c.args.listed) c.args.log.now in
+    let t = c.args.log.now in
     let order = serial c.args.log.now in
     let same = c.serial-order.ensures in
     let k = c.loop-moment.moment in

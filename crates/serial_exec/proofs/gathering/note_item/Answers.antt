@@ -2,11 +2,9 @@ use Rattle.std.proofs.Common.{◌≡◌, ◌++◌, ◌∙◌, [], ◌∷◌, sym
 use Rattle.std.specs.List.Sorted.{IsStrictlyIncreasing}
 use Rattle.log_tables.specs.Ascending.{body_fields}
 use Rattle.value_terms.specs.declared.terms.Base.TheVariants.{Const}
-use Rattle.listed_points.specs.Listed.{listed_of}
 use Rattle.serial_exec.specs.declared.change.Action.TheVariants.{Put}
 use Rattle.vocabulary.specs.Prelude.{points_in}
 use Rattle.serial_exec.specs.Changes.{covered}
-use Rattle.point_laws.specs.Cut.{cut_to}
 use Rattle.serial_exec.specs.Histories.{changes_at}
 use Rattle.serial_exec.specs.OwnReqs.{reqs_at}
 use Rattle.serial_exec.proofs.Gathered.{no-item, task-item, fill-item, fill-fields, item-here, item-past, on_ok}
@@ -14,37 +12,35 @@ use Rattle.serial_exec.proofs.gathering.note_item.Goals as goal
 
 pub returns-in_default : goal.returns-in_default
 returns-in_default g c = λ p.
-    no-item (listed_of c.args.listed) c.args.log.now c.args.moment c.args.item p (changes_at c.args.histories.now p)
+    no-item c.args.log.now c.args.moment c.args.item p (changes_at c.args.histories.now p)
     (item-past c.items.result.now c.args.log.now.items c.args.item c.items.ensures c.in_default.ensures.lookup.3)
 
-pub note_in_space-requires-clause-fields : goal.note_in_space-requires-clause-fields
-note_in_space-requires-clause-fields g c =
+pub note_in_space-requires : goal.note_in_space-requires
+note_in_space-requires g c =
     let all = subst (λ xs. All (λ i. IsStrictlyIncreasing (body_fields i.body)) xs) (sym c.items.ensures) c.fill_fields_ascend.ensures in
     subst IsStrictlyIncreasing (sym c.as_slice-fields.ensures)
     (fill-fields c.items.result.now c.args.item c.in-Some.found.now c.in-Fill.tree c.in-Fill.space c.in-Fill.fields c.in-Fill.n all c.in-Some.ensures.lookup.3.0 c.in-Some.ensures.lookup.1 c.in-Fill.is)
 
 pub returns-in-Task : goal.returns-in-Task
 returns-in-Task g c =
-    let on = listed_of c.args.listed in
     let t = c.args.log.now in
     let lt = c.in-Some.ensures.lookup.3.0 in
     let inside : c.args.item < length t.items = subst (λ xs. c.args.item < length xs) c.items.ensures lt in
     let mine : c.list.result.now ≡ get_or c.args.own.now c.args.item [] = c.list.ensures in
     on_ok c.note_reqs.result (λ h p. h p
     ∙ ap (λ xs. changes_at c.args.histories.now p ++ xs)
-    (task-item on t c.args.moment c.args.item p c.in-Some.found.now (reqs_at t.reqs c.list.result.now)
+    (task-item t c.args.moment c.args.item p c.in-Some.found.now (reqs_at t.reqs c.list.result.now)
     (item-here c.items.result.now t.items c.args.item c.in-Some.found.now c.items.ensures lt c.in-Some.ensures.lookup.1)
     c.in-Task.is
-    (ap (reqs_at t.reqs) mine ∙ c.requires.own.own c.args.item inside))) c.note_reqs.ensures
+    (ap (reqs_at t.reqs) mine ∙ c.requires.own c.args.item inside))) c.note_reqs.ensures
 
 pub returns-in-Fill : goal.returns-in-Fill
 returns-in-Fill g c =
-    let on = listed_of c.args.listed in
     let t = c.args.log.now in
     let lt = c.in-Some.ensures.lookup.3.0 in
     on_ok c.note_in_space.result (λ h p. h p
-    ∙ ap (λ fields. changes_at c.args.histories.now p ++ cond (covered c.in-Fill.tree (points_in (cut_to on t) c.in-Fill.space) fields p) (record { moment = c.args.moment; action = Put (Const c.in-Fill.n) } ∷ []) []) c.as_slice-fields.ensures
+    ∙ ap (λ fields. changes_at c.args.histories.now p ++ cond (covered c.in-Fill.tree (points_in t c.in-Fill.space) fields p) (record { moment = c.args.moment; action = Put (Const c.in-Fill.n) } ∷ []) []) c.as_slice-fields.ensures
     ∙ ap (λ xs. changes_at c.args.histories.now p ++ xs)
-    (fill-item on t c.args.moment c.args.item p c.in-Some.found.now c.in-Fill.tree c.in-Fill.space c.in-Fill.fields c.in-Fill.n
+    (fill-item t c.args.moment c.args.item p c.in-Some.found.now c.in-Fill.tree c.in-Fill.space c.in-Fill.fields c.in-Fill.n
     (item-here c.items.result.now t.items c.args.item c.in-Some.found.now c.items.ensures lt c.in-Some.ensures.lookup.1)
     c.in-Fill.is)) c.note_in_space.ensures

@@ -1,12 +1,10 @@
 use Rattle.std.proofs.Common.{◌≡◌, ◌++◌, take}
 use Rattle.vocabulary.specs.Prelude.{Place}
-use Rattle.listed_points.specs.Listed.{listed_of}
 use Rattle.serial_exec.specs.Changes.{by_task, uses_changes}
-use Rattle.point_laws.specs.Cut.{cut_to}
 use Rattle.serial_exec.specs.Histories.{changes_at}
 use Rattle.serial_exec.specs.OwnReqs.{reqs_at}
 use Rattle.serial_exec.proofs.gathering.note_reqs.Given as goal
 
 abbrev pub invariant-loop-k : goal.invariant-loop-k
 invariant-loop-k g l = (p : Place) → changes_at l.histories p
-    ≡ changes_at l.initial.histories p ++ uses_changes (cut_to (listed_of l.listed) l.log) l.moment (by_task l.task) (reqs_at l.log.reqs (take l.k-index l.own)) p
+    ≡ changes_at l.initial.histories p ++ uses_changes l.log l.moment (by_task l.task) (reqs_at l.log.reqs (take l.k-index l.own)) p

@@ -1,7 +1,6 @@
 use Rattle.std.proofs.Common.{subst}
-use Rattle.point_laws.specs.Cut.{cut}
-use Rattle.serial_exec.specs.Kept.{AreVersionsOf}
+use Rattle.serial_exec.specs.Kept.{AreVersionsAt}
 use Rattle.worked_calls.proofs.replay_tests.versions_on.Goals as goal
 
 pub returns : goal.returns
-returns g c = subst (λ ps. AreVersionsOf (cut ps c.args.log.now) c.in_ok-versions.versions) c.firsts-points.ensures.firsts c.in_ok-versions.ensures.cut
+returns g c = subst (λ ps. AreVersionsAt ps c.args.log.now c.in_ok-versions.versions) c.firsts-points.ensures.firsts c.in_ok-versions.ensures.listed

@@ -1,15 +1,24 @@
-use Rattle.std.proofs.Common.{slice_index, sym, subst}
+use Rattle.std.proofs.Common.{slice_index, sym, ap, ◌∙◌, subst}
 use Rattle.std.specs.List.{AllByRecursion}
-use Rattle.vocabulary.specs.Prelude.{Tables}
-use Rattle.point_laws.specs.Cut.{cut}
 use Rattle.inst_steps.specs.Acting.{IsBy, steps_in}
 use Rattle.replay.specs.Standing.{Stands, left_in}
-use Rattle.replay.proofs.Laws.{stands_on}
+use Rattle.replay.proofs.Laws.{cut_by, stands_in, stands_on}
 use Rattle.replay.proofs.moving.Replay.take_node.Goals as goal
+
+pub loop-action-init : goal.loop-action-init
+loop-action-init g c =
+    let t = c.args.self.now.log.now in
+    let of = c.into_iter-action-iterator.ensures.into_iter_gives in
+    let by = cut_by t c.args.self.now.cut.now c.requires.cut c.actions_of-action-items.result c.actions_of-action-items.ensures.by in (
+      tt,
+      tt,
+      subst (AllByRecursion (IsBy t)) (sym of) by,
+      stands_in c.args.self.now.cut.now c.args.order.now c.args.place (steps_in c.into_iter-action-iterator.result) c.args.store.now c.requires.place (ap steps_in of ∙ c.actions_of-action-items.ensures.steps) c.requires.stands,
+    )
 
 pub loop-action-preserved : goal.loop-action-preserved
 loop-action-preserved g c =
-    let t : Tables = cut c.args.self.now.points.now c.args.self.now.log.now in
+    let t = c.args.self.now.cut.now in
     let order = c.args.order.now in
     let node = slice_index order c.args.place in
     let left = left_in t order c.args.place node (steps_in c.next.new.self) in

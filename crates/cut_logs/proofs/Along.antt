@@ -1,0 +1,59 @@
+-- Common points, gathered along an ascending list.
+use Rattle.std.proofs.Common.{◌≡◌, ℕ, zero, suc, ◌+◌, ◌<◌, ◌≤◌, Bool, true, false, cond, List, [], ◌∷◌, ◌++◌, filter, take, length, get_or, slice_get, Option, Some, None, Contains, refl, sym, ap, ◌∙◌, subst, inl, inr, arith}
+use Rattle.std.specs.List.Sorted.{IsStrictlyIncreasing}
+use Rattle.std.proofs.lemmas.Bool.{cases_Bool}
+use Rattle.std.proofs.lemmas.Grind.{common_steps}
+use Rattle.std.proofs.lemmas.List.{append-nil, get_or_default}
+use Rattle.std.proofs.lemmas.List.Elements.{filter_more}
+use Rattle.std.proofs.lemmas.List.Filters.{length-filter_more}
+use Rattle.std.proofs.lemmas.List.Sums.{length-filter, count_by-le-length}
+use Rattle.std.proofs.lemmas.Option.{slice_get_past}
+use Rattle.point_set.specs.Least.{IsGreatestOf}
+use Rattle.point_set.proofs.lemmas.Ahead.{spread}
+use Rattle.log_laws.proofs.lemmas.Members.{Member, member_of, contains_of, member_filter, member_right}
+
+-- What is not below the last of the numbers so far is none of them.
+so_far : (xs : List ℕ) (i q : ℕ) → IsStrictlyIncreasing xs → i < length xs → Contains (take (i + 1) xs) q → q ≤ get_or xs i 0
+so_far xs i q up lt c =
+    let k = c.0 in
+    let below : k < i + 1 = grind (arith, common_steps, c.1) in
+    let is : get_or xs k q ≡ q = grind (arith, common_steps, c.2, below) in
+    let same : get_or xs k q ≡ get_or xs k 0 = get_or_default xs k q 0 (omega (arith, below, lt)) in
+    let far = spread xs k i up (omega (arith, below)) lt in
+    omega (arith, far, is, same)
+
+module _ (p : ℕ → Bool) (xs : List ℕ) (i : ℕ) (lt : i < length xs) where
+  pub one_more : p (get_or xs i 0) ≡ true → filter p (take (i + 1) xs) ≡ filter p (take i xs) ++ get_or xs i 0 ∷ []
+  one_more e = filter_more p xs i 0 lt ∙ ap (λ b. filter p (take i xs) ++ cond b (get_or xs i 0 ∷ []) []) e
+
+  pub none_more : p (get_or xs i 0) ≡ false → filter p (take (i + 1) xs) ≡ filter p (take i xs)
+  none_more e = filter_more p xs i 0 lt ∙ ap (λ b. filter p (take i xs) ++ cond b (get_or xs i 0 ∷ []) []) e ∙ append-nil (filter p (take i xs))
+
+  pub last_more : IsStrictlyIncreasing xs → p (get_or xs i 0) ≡ true → IsGreatestOf (filter p (take (i + 1) xs)) (Some (get_or xs i 0))
+  last_more up e = (
+    subst (λ ys. Contains ys (get_or xs i 0)) (sym (one_more e)) (contains_of _ _ (member_right (filter p (take i xs)) (get_or xs i 0 ∷ []) (get_or xs i 0) (inl refl))),
+    λ q c. so_far xs i q up lt (contains_of (take (i + 1) xs) q (member_filter p (take (i + 1) xs) q (member_of (filter p (take (i + 1) xs)) q c)).0),
+  )
+
+  pub last_still : (last : Option ℕ) → p (get_or xs i 0) ≡ false → IsGreatestOf (filter p (take i xs)) last → IsGreatestOf (filter p (take (i + 1) xs)) last
+  last_still last e h = subst (λ ys. IsGreatestOf ys last) (sym (none_more e)) h
+
+  pub count_more : p (get_or xs i 0) ≡ true → length (filter p (take (i + 1) xs)) ≡ length (filter p (take i xs)) + 1
+  count_more e = length-filter_more p xs i 0 lt ∙ ap (λ b. length (filter p (take i xs)) + cond b 1 0) e
+
+pub few_so_far : (p : ℕ → Bool) (xs : List ℕ) (i : ℕ) → i < length xs → length (filter p (take i xs)) ≤ i
+few_so_far p xs i lt =
+    let taken : length (take i xs) ≡ i = grind (arith, common_steps, lt) in
+    omega (arith, length-filter p (take i xs), count_by-le-length p (take i xs), taken)
+
+-- A number that passes has as many others before it as pass so far.
+pub nth_here : (p : ℕ → Bool) (xs : List ℕ) (i : ℕ) → i < length xs → p (get_or xs i 0) ≡ true → slice_get (filter p xs) (length (filter p (take i xs))) ≡ Some (get_or xs i 0)
+nth_here p [] i lt e = absurd (omega (arith, lt))
+nth_here p (x ∷ xs) zero lt e = ap (λ b. slice_get (cond b (x ∷ filter p xs) (filter p xs)) 0) e
+nth_here p (x ∷ xs) (suc i) lt e = elim (cases_Bool (p x)) [
+  | inl yes_here ↦ rw yes_here (nth_here p xs i (omega (arith, lt)) e)
+  | inr not_here ↦ rw not_here (nth_here p xs i (omega (arith, lt)) e)
+]
+
+pub nth_past : (xs : List ℕ) (k : ℕ) → length xs ≤ k → slice_get xs k ≡ None
+nth_past xs k le = slice_get_past xs k le

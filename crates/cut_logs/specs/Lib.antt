@@ -1,0 +1,6 @@
+pub mod Cutting
+pub mod Listed
+pub mod Meant
+pub use Rattle.point_laws.specs.Cut
+pub use Rattle.point_set.specs.Least
+pub use Rattle.point_set.specs.Runs

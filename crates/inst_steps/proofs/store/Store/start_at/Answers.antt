@@ -1,6 +1,0 @@
-use Rattle.listed_points.specs.Listed.{listed_of}
-use Rattle.inst_steps.proofs.Starting.{all_started}
-use Rattle.inst_steps.proofs.store.Store.start_at.Goals as goal
-
-pub returns-in-Ok : goal.returns-in-Ok
-returns-in-Ok g c = all_started c.args.log.now (listed_of c.args.listed) c.new-store.result c.hold_insts.new.store c.new-store.ensures c.in-Ok.ensures

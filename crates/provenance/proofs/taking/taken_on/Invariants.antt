@@ -1,7 +1,0 @@
-use Rattle.std.proofs.Common.{◌≡◌}
-use Rattle.point_laws.specs.Cut.{cut}
-use Rattle.provenance.specs.Listing.{taken_before}
-use Rattle.provenance.proofs.taking.taken_on.Given as goal
-
-abbrev pub invariant-loop-place : goal.invariant-loop-place
-invariant-loop-place g l = l.taken.items ≡ taken_before (cut l.points l.log) l.field l.order l.place

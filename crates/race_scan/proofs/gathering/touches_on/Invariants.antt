@@ -1,7 +1,0 @@
-use Rattle.std.proofs.Common.{◌≡◌}
-use Rattle.point_laws.specs.Cut.{cut}
-use Rattle.race_scan.specs.Gathered.{touches_before}
-use Rattle.race_scan.proofs.gathering.touches_on.Given as goal
-
-abbrev pub invariant-loop-place : goal.invariant-loop-place
-invariant-loop-place g l = l.touches.items ≡ touches_before (cut l.points l.log) l.order l.place

@@ -1,0 +1,90 @@
+//! Sets and logs that are cut to listed points, and sets and logs at all of their points.
+
+use crate::framed_logs::log_of;
+use bumpalo::Bump;
+use cut_logs::{CutLog, Listed};
+use inst_steps::{Store, actions_of, steps_of};
+use point_set::{PointList, PointSet, RunSet, points_in};
+use region_tree::ArenaSet;
+use semantics::Cell;
+use std::alloc::Global;
+use std::process::Abort;
+use std::test::Fail;
+
+/// Asks a set of the points 2, 3 and 7, where all count and where some are listed.
+fn ask<P: PointSet>(rt: &impl Abort, set: &P) {
+    let all = Listed::at(set, None);
+    assert_eq!(rt; all.next_from(2), Some(2));
+    assert_eq!(rt; all.next_from(4), Some(7));
+    assert_eq!(rt; all.gap_from(2), Some(4));
+    assert_eq!(rt; all.count(), 3);
+    assert_eq!(rt; all.last(), Some(7));
+    assert_eq!(rt; all.run(1), Some((7, 7)));
+    assert_eq!(rt; all.run_count(), 2);
+    let listed = Listed::at(set, Some(&[0, 3, 5]));
+    assert_eq!(rt; listed.next_from(0), Some(3));
+    assert_eq!(rt; listed.next_from(4), None);
+    assert_eq!(rt; listed.gap_from(3), Some(4));
+    assert_eq!(rt; listed.gap_from(7), Some(7));
+    assert_eq!(rt; listed.count(), 1);
+    assert_eq!(rt; listed.last(), Some(3));
+    assert_eq!(rt; listed.run(0), Some((3, 3)));
+    assert_eq!(rt; listed.run(1), None);
+    assert_eq!(rt; listed.run_count(), 1);
+}
+
+#[test]
+fn sets_at_listed_points(rt: HostRuntime) -> Result<(), Fail> {
+    ask(&rt, &PointList::over(&[2, 3, 7]).ok_or("points ascend")?);
+    ask(
+        &rt,
+        &RunSet::over(&[(2, 3), (7, 7)]).ok_or("runs in order")?,
+    );
+    Ok(())
+}
+
+/// A task that reads and writes space 2, whose points are 0 to 4.
+const RECORDS: &[u8] = b"task 1\nreq 1 1 2 1 rw ex\ninst 1 1 1 1 home\nmap 1 1 1 1\n";
+
+/// Whether space 2 of a log has so many points, the task at node 0 makes two moves at each, and an instance has a cell at the last of these points, and at point 1 only if the log is not cut.
+fn has_points<P: PointSet + Copy>(
+    alloc: Global,
+    log: &CutLog<'_, '_, '_, P>,
+    count: usize,
+    is_whole: bool,
+) -> bool {
+    let Some(set) = log.set(2) else {
+        return false;
+    };
+    let Ok(store) = Store::start_of(alloc, log) else {
+        return false;
+    };
+    let cell = |point| Cell {
+        inst: 1,
+        point,
+        field: 1,
+    };
+    log.nodes().len() > 0
+        && points_in(&set).count() == count
+        && steps_of(log, 0).count() == 2 * count
+        && actions_of(log, 0).count() == 2 * count
+        && store.value(&cell(4)).is_some()
+        && store.value(&cell(1)).is_some() == is_whole
+}
+
+/// Whether a log has all of its points, and one that is cut has those that are listed.
+fn is_as_wanted<'a, P: ArenaSet<'a> + 'a>(alloc: Global, bump: &'a Bump) -> Result<bool, Fail> {
+    let log = log_of::<P>(alloc, bump, RECORDS, 1)?;
+    let all = has_points(alloc, &CutLog::whole(&log), 5, true);
+    let some = has_points(alloc, &CutLog::at(&log, &[0, 4, 7]), 2, false);
+    log.let_go();
+    Ok(all && some)
+}
+
+#[test]
+fn logs_at_listed_points(rt: HostRuntime) -> Result<(), Fail> {
+    let bump = Bump::new(rt.alloc());
+    assert!(rt; is_as_wanted::<PointList>(rt.alloc(), &bump)?, "lists");
+    assert!(rt; is_as_wanted::<RunSet>(rt.alloc(), &bump)?, "runs");
+    Ok(())
+}
