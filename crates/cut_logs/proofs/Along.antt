@@ -10,7 +10,7 @@ use Rattle.std.proofs.lemmas.List.Sums.{length-filter, count_by-le-length}
 use Rattle.std.proofs.lemmas.Option.{slice_get_past}
 use Rattle.point_set.specs.Least.{IsGreatestOf}
 use Rattle.point_set.proofs.lemmas.Ahead.{spread}
-use Rattle.log_laws.proofs.lemmas.Members.{Member, member_of, contains_of, member_filter, member_right}
+use Rattle.log_laws.proofs.lemmas.Members.{member_of, contains_of, member_filter, member_right}
 
 -- What is not below the last of the numbers so far is none of them.
 so_far : (xs : List ℕ) (i q : ℕ) → IsStrictlyIncreasing xs → i < length xs → Contains (take (i + 1) xs) q → q ≤ get_or xs i 0

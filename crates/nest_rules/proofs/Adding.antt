@@ -1,8 +1,8 @@
 -- What is nested, one record more.
-use Rattle.std.proofs.Common.{◌≡◌, ℕ, zero, suc, ◌+◌, ◌^◌, ◌-◌, ◌<◌, ◌≤◌, ◌==◌, Bool, true, false, not, ◌&&◌, if◌then◌else◌, nat_lt, nat_le, min, inl, inr, List, [], ◌∷◌, ◌++◌, length, get_or, Option, Some, None, map, refl, sym, ap, ◌∙◌, subst, arith, length-append}
+use Rattle.std.proofs.Common.{◌≡◌, ℕ, zero, suc, ◌+◌, ◌<◌, ◌≤◌, ◌==◌, Bool, true, false, not, ◌&&◌, if◌then◌else◌, nat_lt, inl, inr, List, [], ◌∷◌, ◌++◌, length, get_or, Option, Some, None, map, refl, sym, subst, arith, length-append}
 use Rattle.std.specs.List.{position_from, list_all}
 use Rattle.std.specs.List.Sorted.{IsStrictlyIncreasing}
-use Rattle.std.proofs.lemmas.Bool.{cases_Bool, and_parts, ltb-true, ltb-false, false≢true}
+use Rattle.std.proofs.lemmas.Bool.{cases_Bool, and_parts, ltb-true, ltb-false}
 use Rattle.std.proofs.lemmas.Option.{none-some}
 use Rattle.list_lemmas.proofs.lemmas.Firsts.{position_from-map}
 use Rattle.vocabulary.specs.Prelude.{Code, Tables, ascends, PrivWord, privilege_of}
@@ -11,7 +11,6 @@ use Rattle.spy_grammar.specs.declared.nested.NRecord.{NRecord}
 use Rattle.spy_grammar.specs.declared.nested.NRecord.TheVariants as records
 use Rattle.spy_grammar.specs.Nested.{GoodNested}
 use Rattle.semantics.specs.declared.groups.Group.{Group}
-use Rattle.semantics.specs.declared.groups.GroupMember.{GroupMember}
 use Rattle.semantics.specs.declared.limits.TheConstants.{MOST_RECORDS, MOST_GROUPS}
 use Rattle.semantics.specs.Nesting.{Nesting, with_nested, is_group, is_late_nested, is_late_group, repeats_group, named_groups, privileges_before}
 use Rattle.nest_rules.specs.declared.pending.Pending.{Pending}

@@ -1,6 +1,6 @@
 -- A nested log in its parts, one record more.
-use Rattle.std.proofs.Common.{◌≡◌, ℕ, ◌==◌, Bool, true, false, ◌&&◌, ◌||◌, inl, inr, List, [], ◌∷◌, ◌++◌, map, refl, sym, ap, ◌∙◌, subst, append_assoc}
-use Rattle.std.specs.List.{list_any, list_all, filter_map}
+use Rattle.std.proofs.Common.{◌≡◌, ℕ, ◌==◌, Bool, true, false, ◌&&◌, inl, inr, List, [], ◌∷◌, ◌++◌, map, refl, sym, ap, ◌∙◌, append_assoc}
+use Rattle.std.specs.List.{list_any, filter_map}
 use Rattle.std.proofs.lemmas.Bool.{cases_Bool}
 use Rattle.std.proofs.lemmas.List.Elements.{filter_map-append}
 use Rattle.list_lemmas.proofs.lemmas.Places.{list_any_map}
@@ -10,7 +10,7 @@ use Rattle.spy_grammar.specs.declared.nested.NRecord.{NRecord}
 use Rattle.spy_grammar.specs.declared.nested.NRecord.TheVariants as records
 use Rattle.spy_grammar.specs.declared.nested.NLined.{NLined}
 use Rattle.semantics.specs.declared.tables.Tree as trees
-use Rattle.semantics.specs.Rules.{is_declared, is_task, task_id}
+use Rattle.semantics.specs.Rules.{is_task}
 use Rattle.semantics.specs.Nesting.{plain_line, plain_log}
 use Rattle.log_tables.specs.Runs.{task_named}
 use Rattle.nest_rules.specs.declared.pending.Pending.{Pending}

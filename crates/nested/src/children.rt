@@ -95,10 +95,7 @@ fn refused_groups<P: PointSet + Copy>(
 }
 
 /// The row at a place.
-fn row_of_place<'r, 'a, P: PointSet + Copy>(
-    rows: &'r [Row<'a, P>],
-    place: usize,
-) -> &'r Row<'a, P>
+fn row_of_place<'r, 'a, P: PointSet + Copy>(rows: &'r [Row<'a, P>], place: usize) -> &'r Row<'a, P>
     requires { place < length rows.now }
     ensures { result.now ≡ get_or rows.now place [] }
 {

@@ -18,9 +18,9 @@ mod hostile;
 #[cfg(test)]
 mod launched;
 #[cfg(test)]
-mod nested;
-#[cfg(test)]
 mod lines;
+#[cfg(test)]
+mod nested;
 #[cfg(test)]
 mod printed;
 #[cfg(test)]

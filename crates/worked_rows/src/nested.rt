@@ -177,7 +177,9 @@ fn groups_at_their_limits(rt: HostRuntime) -> Result<(), Fail> {
 #[test]
 fn nested_lines_are_those_of_nested(rt: HostRuntime) -> Result<(), Fail> {
     let alloc = rt.alloc();
-    for command in ["check", "ordered", "deps", "spare", "print", "expand", "launched"] {
+    for command in [
+        "check", "ordered", "deps", "spare", "print", "expand", "launched",
+    ] {
         let (status, said) = answer(alloc, command, BELOW)?;
         assert_eq!(rt; said.as_slice(), b"fault 9 word\n");
         assert!(rt; status == Status::Fault);

@@ -1,11 +1,11 @@
 -- The records of a nested log that are not plain, judged one by one, show the fault that is shown of the log.
-use Rattle.std.proofs.Common.{◌≡◌, ℕ, Bool, true, false, not, ◌&&◌, List, [], ◌∷◌, ◌++◌, refl, sym, ap, ◌∙◌, subst, Option, Some, None, find, fold, append_assoc, append-nil, if◌then◌else◌, All}
+use Rattle.std.proofs.Common.{◌≡◌, ℕ, Bool, true, false, not, ◌&&◌, List, [], ◌∷◌, ◌++◌, refl, sym, ap, ◌∙◌, subst, Option, Some, None, find, fold, append_assoc, if◌then◌else◌, All}
 use Rattle.std.specs.List.{list_all, AllByRecursion}
 use Rattle.std.specs.Option.{option_or, option_map}
 use Rattle.std.proofs.lemmas.Bool.{and_parts, not-false}
 use Rattle.std.proofs.lemmas.List.Elements.{filter_map-append, recursion_from_All, All-from_recursion}
 use Rattle.std.proofs.lemmas.List.Sums.{fold-append}
-use Rattle.vocabulary.specs.Prelude.{Code, Record, Lined, Good, Tables, records_of, with_record, no_tables, tables_of, Fault}
+use Rattle.vocabulary.specs.Prelude.{Code, Lined, Good, Tables, records_of, with_record, no_tables, tables_of, Fault}
 use Rattle.spy_grammar.specs.declared.code.Code.TheVariants as codes
 use Rattle.spy_grammar.specs.declared.nested.NRecord.{NRecord}
 use Rattle.spy_grammar.specs.declared.nested.NRecord.TheVariants as records
@@ -15,7 +15,7 @@ use Rattle.semantics.specs.Rules.{is_declared, tree_id, exceeds_tree}
 use Rattle.semantics.specs.Faults.{at_line, records_fault}
 use Rattle.semantics.specs.Nesting.{Nesting, no_nesting, with_nested, nesting_of, plain_line, plain_log, nested_tables, is_group, named_groups, is_late_nested, repeats_group, is_late_group, is_outside_tree, has_other_fields, nested_rules, breaks_nested, nested_in, groups_fault}
 use Rattle.nest_rules.specs.declared.pending.Pending.{Pending}
-use Rattle.nest_rules.specs.Pending.{knows, pending_with, pending_from, with_plain, broken, with_pending, pending_fault}
+use Rattle.nest_rules.specs.Pending.{knows, pending_from, with_plain, broken, with_pending, pending_fault}
 use Rattle.nest_rules.proofs.lemmas.KeptFields.{same_fields}
 
 nested_more : (earlier : List NLined) (l : NLined) → nesting_of (earlier ++ l ∷ []) ≡ with_nested (nesting_of earlier) l.rec

@@ -1,18 +1,18 @@
 -- The fields of a tree that is declared stay, as a log without a fault goes on.
-use Rattle.std.proofs.Common.{◌≡◌, ℕ, ◌==◌, Bool, true, false, ◌||◌, not, inl, inr, List, [], ◌∷◌, ◌++◌, refl, sym, ap, ◌∙◌, subst, Option, Some, None, find, append_assoc}
-use Rattle.std.specs.List.{list_any, AllByRecursion}
+use Rattle.std.proofs.Common.{◌≡◌, ℕ, ◌==◌, true, List, [], ◌∷◌, ◌++◌, refl, sym, ap, ◌∙◌, subst, Some, None, append_assoc}
+use Rattle.std.specs.List.{list_any}
 use Rattle.std.specs.Option.{option_map_or}
 use Rattle.std.proofs.lemmas.Bool.{and_parts}
 use Rattle.std.proofs.lemmas.List.Elements.{recursion_from_All}
 use Rattle.std.proofs.lemmas.List.Folds.{list_any-append}
-use Rattle.vocabulary.specs.Prelude.{Record, Lined, Tables, records_of, with_record, tables_of, no_tables, is_within, fields_in, tree_at}
+use Rattle.vocabulary.specs.Prelude.{Record, Lined, Tables, records_of, with_record, tables_of, fields_in, tree_at}
 use Rattle.spy_grammar.specs.declared.record.Record.TheVariants.{Fields, Tree}
 use Rattle.semantics.specs.declared.tables.Tree as trees
 use Rattle.semantics.specs.declared.tables.FieldSpace as fspaces
 use Rattle.semantics.specs.Rules.{is_declared, tree_id, field_space_id, space_id, exceeds_tree}
 use Rattle.semantics.specs.Faults.{records_fault}
-use Rattle.log_laws.proofs.lemmas.Members.{Member, Each, each_more, member_append, only, found_at, find_any, find_still, both_none}
-use Rattle.log_laws.proofs.lemmas.Admitted.{Unbroken, unbroken, by_records, keeps_of}
+use Rattle.log_laws.proofs.lemmas.Members.{Each, each_more, found_at, find_any, find_still, both_none}
+use Rattle.log_laws.proofs.lemmas.Admitted.{Unbroken, by_records, keeps_of}
 
 -- The field space of each tree is declared.
 abbrev AreFielded : Tables → Type 0

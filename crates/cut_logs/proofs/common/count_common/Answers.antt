@@ -1,4 +1,4 @@
-use Rattle.std.proofs.Common.{◌+◌, length, filter, take, sym, ap, ◌∙◌, arith}
+use Rattle.std.proofs.Common.{◌+◌, length, filter, sym, ap, ◌∙◌, arith}
 use Rattle.std.proofs.lemmas.List.{take_all}
 use Rattle.vocabulary.specs.Prelude.{is_in}
 use Rattle.cut_logs.proofs.Along.{count_more, few_so_far, none_more}

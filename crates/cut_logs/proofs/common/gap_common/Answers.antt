@@ -1,4 +1,4 @@
-use Rattle.std.proofs.Common.{None, Some, sym, subst}
+use Rattle.std.proofs.Common.{subst}
 use Rattle.point_set.specs.Least.{IsLeastGap}
 use Rattle.cut_logs.proofs.Keeping.{gap_both, gap_set, gap_list}
 use Rattle.cut_logs.proofs.common.gap_common.Goals as goal

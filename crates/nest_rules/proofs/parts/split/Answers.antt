@@ -1,11 +1,10 @@
-use Rattle.std.proofs.Common.{◌≡◌, ◌++◌, List, [], ◌∷◌, refl, sym, ap, ◌∙◌, subst}
+use Rattle.std.proofs.Common.{◌≡◌, ◌++◌, List, refl, sym, ap, ◌∙◌, subst}
 use Rattle.std.specs.Vec.Iter.{into_iter_items}
-use Rattle.vocabulary.specs.Prelude.{Lined, Tables, no_tables}
+use Rattle.vocabulary.specs.Prelude.{Lined, no_tables}
 use Rattle.spy_grammar.specs.declared.nested.NLined.{NLined}
 use Rattle.semantics.specs.Nesting.{plain_log}
 use Rattle.nest_rules.specs.declared.pending.Pending.{Pending}
-use Rattle.nest_rules.specs.declared.ids.Ids.{Ids}
-use Rattle.nest_rules.specs.Pending.{AreIds, pending_from, with_plain, with_ids_of}
+use Rattle.nest_rules.specs.Pending.{AreIds, pending_from, with_plain}
 use Rattle.nest_rules.proofs.Parting.{ids_more, nested_step, plain_step}
 use Rattle.nest_rules.proofs.parts.split.Goals as goal
 

@@ -1,4 +1,4 @@
-use Rattle.std.proofs.Common.{◌≡◌, List, map, refl, ap, ◌∙◌}
+use Rattle.std.proofs.Common.{List, map, refl, ap, ◌∙◌}
 use Rattle.vocabulary.specs.Prelude.{Tables, Space, no_tables}
 use Rattle.log_tables.specs.Views.{space_seen}
 use Rattle.atoms.specs.Atoms.{AreAtomsOf, first_points}
