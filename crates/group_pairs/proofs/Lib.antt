@@ -1,0 +1,4 @@
+pub mod lemmas
+mod Tables
+mod Bounded
+mod Pairing

@@ -1,0 +1,3 @@
+pub mod Sides
+pub mod Sites
+pub mod Outlines
