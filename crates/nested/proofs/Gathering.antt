@@ -1,14 +1,13 @@
 -- Rows of claims, one after the other, and the row of a group.
 use Rattle.std.proofs.Common.{◌≡◌, ℕ, ◌+◌, ◌<◌, ◌==◌, Bool, true, false, inl, inr, List, [], ◌∷◌, ◌++◌, map, filter, take, length, get_or, slice_get, Option, Some, None, is_some, option_map, refl, sym, ap, ◌∙◌, subst, All}
-use Rattle.std.specs.List.{list_any, list_all, position_from}
+use Rattle.std.specs.List.{list_all, position_from}
 use Rattle.std.proofs.lemmas.Bool.{cases_Bool, and_parts, false≢true, eqb-true}
 use Rattle.std.proofs.lemmas.List.{take_more}
 use Rattle.std.proofs.lemmas.List.Elements.{All-map}
 use Rattle.std.specs.Borrow.{Bor}
 use Rattle.std.specs.Option.{option_copied, option_map_or}
 use Rattle.std.proofs.lemmas.Option.{slice_get-map, none-some, same_Some}
-use Rattle.list_lemmas.proofs.lemmas.Firsts.{find_place}
-use Rattle.log_laws.proofs.lemmas.Members.{find_any, found_at}
+use Rattle.group_pairs.proofs.lemmas.Places.{place_found}
 use Rattle.list_lemmas.proofs.lemmas.Places.{is_some-position}
 use Rattle.vocabulary.specs.Prelude.{Req, Tables, points_in}
 use Rattle.semantics.specs.declared.groups.Group as groups
@@ -43,12 +42,6 @@ left_more f p xs i x now lt is miss so_far =
     so_far ∙ sym (ap (λ ys. map f (filter p ys)) step ∙ ap (map f) (filter_left p (take i xs) x miss))
 
 -- ---- the row of a group
-
-place_found : {X : Type 0} (p : X → Bool) (xs : List X) (k : ℕ) → position_from p 0 xs ≡ Some k → (x : X) × (slice_get xs k ≡ Some x) × (p x ≡ true)
-place_found p xs k e =
-    let any : list_any p xs ≡ true = sym (is_some-position p 0 xs) ∙ ap is_some e in
-    let found = find_any p xs any in
-    (found.0, sym (find_place p k xs e) ∙ found.1, (found_at p xs found.0 found.1).1)
 
 pub row_found : (t : Tables) (n : Nesting) (id k : ℕ) → position_from (λ (g : groups.Group). g.id == id) 0 n.groups ≡ Some k → slice_get (rows_in t n) k ≡ Some (row_in t n id)
 row_found t n id k at =

@@ -4,5 +4,6 @@ mod Freeing
 mod Gathering
 mod Naming
 mod Origins
+mod Pairs
 mod Asking
 mod Showing

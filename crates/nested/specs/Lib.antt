@@ -1,4 +1,5 @@
 pub mod Nested
 pub mod Rows
+pub mod Sides
 pub use Rattle.outcomes.specs.NestedOutcome
 pub use Rattle.semantics.specs.Nesting

@@ -1,6 +1,6 @@
 -- What a nested log is seen as.
 use Rattle.std.specs.Prelude.{◌≡◌, ℕ, true, List, Contains, Some, None, fold, length}
-use Rattle.vocabulary.specs.Prelude.{Place, Req, Tables, AreLinesBy, covers, item_kind, no_tables, reqs_of}
+use Rattle.vocabulary.specs.Prelude.{Place, Req, Tables, covers, item_kind, no_tables, reqs_of}
 use Rattle.privilege.specs.declared.kinds.Kind.TheVariants.{Free}
 use Rattle.spy_grammar.specs.declared.record.Lined.{Lined}
 use Rattle.spy_grammar.specs.declared.nested.NLined.{NLined}

@@ -1,11 +1,12 @@
 //! Which groups stand above a group.
 
-ghost use Rattle.std.specs.Prelude.{◌≡◌};
-ghost use Rattle.semantics.specs.Nesting.{group_above, is_ancestor, parent_of};
+ghost use Rattle.std.specs.Prelude.{◌≡◌, IfOk};
+ghost use Rattle.semantics.specs.Nesting.{ancestors, group_above, is_ancestor, parent_of};
 
 use crate::rows::row_in_place;
 use nest_rules::Groups;
 use semantics::Group;
+use std::alloc::{AllocError, Global};
 
 /// The group that a group is a child of, if it names one.
 fn parent_of(group: Group) -> Option<u32>
@@ -29,6 +30,28 @@ fn group_above(groups: &Groups, id: u32) -> Option<u32>
         return None;
     };
     parent_of(*group)
+}
+
+/// The ancestors of a group, the nearest first. No group has more ancestors than there are groups.
+pub(crate) fn ancestors_of(
+    alloc: Global,
+    groups: &Groups,
+    group: u32,
+) -> Result<Vec<u32>, AllocError>
+    ensures { IfOk result (λ above. above.items ≡ ancestors groups.now group) }
+{
+    let mut all = Vec::new(alloc);
+    let mut above = group_above(groups, group);
+    let mut left = groups.groups().len();
+    while left > 0 {
+        let Some(id) = above else {
+            return Ok(all);
+        };
+        all.push(id)?;
+        above = group_above(groups, id);
+        left -= 1;
+    }
+    Ok(all)
 }
 
 /// Whether the first group is an ancestor of the second. No group has more ancestors than there are groups.

@@ -19,15 +19,18 @@ use spy_grammar::NLined;
 use std::alloc::Global;
 
 /// What is found in a nested log that keeps all rules, and of which no child asks for more than its group licenses.
-fn licensed_finding<P: PointSet + Copy>(nest: &Nest<'_, P>) -> Finding
-    ensures found { FindsLicensed nest.now.tables nest.now.nesting result }
-    ensures text { texts.Good result }
+fn licensed_finding<P: PointSet + Copy>(
+    alloc: Global,
+    nest: &Nest<'_, P>,
+) -> Result<Finding, Memory>
+    ensures found { IfOk result (FindsLicensed nest.now.tables nest.now.nesting) }
+    ensures text { IfOk result texts.Good }
 {
-    Finding::Nested {
+    Ok(Finding::Nested {
         tasks: nest.task_count() as u32,
         groups: nest.group_count() as u32,
-        free: nest.free_pairs(),
-    }
+        free: nest.free_pairs(alloc)?,
+    })
 }
 
 /// What is found where a child asks for more than its group licenses.
@@ -56,9 +59,9 @@ pub fn find(alloc: Global, records: Vec<NLined>, lines: u32) -> Result<Finding, 
     let bump = Bump::new(alloc);
     match build::<RunSet<'_>>(alloc, &bump, records, lines) {
         Ok(nest) => {
-            let finding = licensed_finding(&nest);
+            let found = licensed_finding(alloc, &nest);
             nest.let_go();
-            Ok(finding)
+            found
         }
         Err(NestEnd::Fault { line, code }) => Ok(Finding::Fault { line, code }),
         Err(NestEnd::Unlicensed(shown)) => Ok(unlicensed_finding(shown)),

@@ -1,6 +1,6 @@
 //! What is asked of a nested log.
 
-ghost use Rattle.std.specs.Prelude.{◌≡◌, ◌≤◌, [], not, true, length};
+ghost use Rattle.std.specs.Prelude.{◌≡◌, ◌≤◌, [], not, true, length, IfOk};
 ghost use Rattle.std.specs.List.{list_any};
 ghost use Rattle.std.specs.Option.{option_map_or};
 ghost use Rattle.vocabulary.specs.Prelude.{Tables};
@@ -12,14 +12,16 @@ ghost use Rattle.nested.specs.Nested.{IsLicensed, TasksAreApart};
 ghost use Rattle.nested.specs.Rows.{AreNamed, rows_in};
 
 use crate::apart::is_above;
-use crate::counting::pairs_apart;
+use crate::counting::count_free;
 use crate::finding::Found;
 use crate::row::Row;
 use crate::rows::row_at;
 use licences::are_free;
 use log_decl::Log;
+use memory::Memory;
 use nest_rules::Groups;
 use point_set::PointSet;
+use std::alloc::Global;
 use std::marker::Model;
 
 /// A nested log of which no fault is shown, and no child of which asks for more than its group licenses. Contracts see it as what its plain records declare, and what is nested.
@@ -117,10 +119,10 @@ impl<'a, P: PointSet + Copy> Nest<'a, P> {
     }
 
     /// How many pairs of groups are free of each other, of which neither is an ancestor of the other.
-    pub fn free_pairs(&self) -> u64
-        ensures { result ≡ free_pairs self.now.tables self.now.nesting }
+    pub fn free_pairs(&self, alloc: Global) -> Result<u64, Memory>
+        ensures { IfOk result (λ count. count ≡ free_pairs self.now.tables self.now.nesting) }
     {
-        pairs_apart(self, self.found.groups.groups())
+        count_free(alloc, &self.log, &self.found)
     }
 
     /// Whether the first group is an ancestor of the second.

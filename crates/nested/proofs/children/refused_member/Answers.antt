@@ -1,8 +1,6 @@
-use Rattle.std.proofs.Common.{◌≡◌, ◌<◌, ◌∙◌, ℕ, List, [], All, get_or, length, ap, sym, subst}
-use Rattle.std.specs.Option.{option_map_or}
+use Rattle.std.proofs.Common.{◌<◌, ◌∙◌, ℕ, List, [], get_or, length, ap, sym, subst}
 use Rattle.vocabulary.specs.Prelude.{place_of}
 use Rattle.licences.specs.Claims.{Claimed}
-use Rattle.nested.specs.Rows.{own_by}
 use Rattle.nested.proofs.Asking.{has_row, row_at_place}
 use Rattle.nested.proofs.Gathering.{own_in_spaces, row_in_spaces, spaces_alike}
 use Rattle.nested.proofs.Showing.{member_told}
