@@ -20,7 +20,7 @@ mod launched;
 #[cfg(test)]
 mod lines;
 #[cfg(test)]
-mod nested;
+mod nests;
 #[cfg(test)]
 mod printed;
 #[cfg(test)]
