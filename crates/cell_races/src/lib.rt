@@ -1,4 +1,9 @@
 //! The race that is shown of what the nodes of a replay do at cells: two that conflict at a cell, neither before the other.
+//!
+//! Whoever goes over the steps of nodes adds what each touches (`push_touches`), and `shown_clash` gives the
+//! race at the least cell, exactly where there is one. At one cell neighbours that do not conflict form
+//! groups, and a node is compared with a whole group at once; that this finds the same race is the law
+//! `groups_tell`. Begin with `scan.rt`; `frontier.rt` has the groups of one cell.
 #![tactic(auto)]
 
 mod access;

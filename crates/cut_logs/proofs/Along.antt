@@ -45,15 +45,3 @@ pub few_so_far : (p : ℕ → Bool) (xs : List ℕ) (i : ℕ) → i < length xs 
 few_so_far p xs i lt =
     let taken : length (take i xs) ≡ i = grind (arith, common_steps, lt) in
     omega (arith, length-filter p (take i xs), count_by-le-length p (take i xs), taken)
-
--- A number that passes has as many others before it as pass so far.
-pub nth_here : (p : ℕ → Bool) (xs : List ℕ) (i : ℕ) → i < length xs → p (get_or xs i 0) ≡ true → slice_get (filter p xs) (length (filter p (take i xs))) ≡ Some (get_or xs i 0)
-nth_here p [] i lt e = absurd (omega (arith, lt))
-nth_here p (x ∷ xs) zero lt e = ap (λ b. slice_get (cond b (x ∷ filter p xs) (filter p xs)) 0) e
-nth_here p (x ∷ xs) (suc i) lt e = elim (cases_Bool (p x)) [
-  | inl yes_here ↦ rw yes_here (nth_here p xs i (omega (arith, lt)) e)
-  | inr not_here ↦ rw not_here (nth_here p xs i (omega (arith, lt)) e)
-]
-
-pub nth_past : (xs : List ℕ) (k : ℕ) → length xs ≤ k → slice_get xs k ≡ None
-nth_past xs k le = slice_get_past xs k le

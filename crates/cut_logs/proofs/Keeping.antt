@@ -7,13 +7,11 @@ use Rattle.std.proofs.lemmas.List.Elements.{All-filter}
 use Rattle.std.proofs.lemmas.List.Kept.{IsStrictlyIncreasing-filter}
 use Rattle.vocabulary.specs.Prelude.{is_in}
 use Rattle.point_set.specs.Least.{IsLeast, IsLeastFrom, IsLeastGap}
-use Rattle.point_set.specs.Runs.{AreRuns, points_of, run_points}
 use Rattle.point_set.proofs.lemmas.Ahead.{in_or_not, spread}
 use Rattle.log_laws.proofs.lemmas.Members.{Member, member_of, contains_of, member_filter, filter_member, is_in_of, member_in}
 use Rattle.log_laws.proofs.lemmas.Apart.{Rise}
 use Rattle.point_laws.specs.Cut.{kept}
 use Rattle.point_laws.proofs.lemmas.Cuts.{in_both, in_kept}
-use Rattle.cut_logs.specs.Listed.{kept_runs}
 use Rattle.cut_logs.proofs.lemmas.Rising.{rise}
 
 -- The least common number is the least of those that are kept.
@@ -33,44 +31,6 @@ kept_ascends None xs up = up
 pub kept_bounded : (listed : Option (List ℕ)) (xs : List ℕ) → All (λ p. p < 2 ^ 64) xs → All (λ p. p < 2 ^ 64) (kept listed xs)
 kept_bounded (Some listed) xs low = All-filter (is_in listed) (λ p. p < 2 ^ 64) xs low
 kept_bounded None xs low = low
-
-abbrev singles : List ℕ → List (ℕ × ℕ)
-singles xs = map (λ p. (p, p)) xs
-
-single_at : (xs : List ℕ) (k : ℕ) (d : ℕ × ℕ) → k < length (singles xs) → get_or (singles xs) k d ≡ (get_or xs k 0, get_or xs k 0)
-single_at [] k d lt = absurd (omega (arith, lt))
-single_at (x ∷ xs) zero d lt = refl
-single_at (x ∷ xs) (suc k) d lt = single_at xs k d (omega (arith, lt))
-
-many_singles : (xs : List ℕ) → length (singles xs) ≡ length xs
-many_singles [] = refl
-many_singles (x ∷ xs) = ap suc (many_singles xs)
-
-single_runs : (xs : List ℕ) → IsStrictlyIncreasing xs → AreRuns (singles xs)
-single_runs xs up = (
-  λ k d lt. let e = single_at xs k d lt in subst (λ (run : ℕ × ℕ). run.0 ≤ run.1) (sym e) (omega arith),
-  λ k d lt.
-      let one = single_at xs k d (omega (arith, lt)) in
-      let next = single_at xs (k + 1) d lt in
-      let many = many_singles xs in
-      let far = spread xs k (k + 1) up (omega arith) (omega (arith, lt, many)) in
-      rw (one, next) (omega (arith, far)),
-)
-
-single_points : (xs : List ℕ) → points_of (singles xs) ≡ xs
-single_points [] = refl
-single_points (x ∷ xs) = ap₂ (λ ps qs. ps ++ qs) (one x) (single_points xs)
-  where
-    one : (x : ℕ) → run_points (x, x) ≡ x ∷ []
-    one x = ap (λ n. range_with_len x n) (let e : x + 1 - x ≡ 1 = omega arith in e)
-
-pub kept_are_runs : (listed : Option (List ℕ)) (xs : List ℕ) (runs : List (ℕ × ℕ)) → IsStrictlyIncreasing xs → AreRuns runs → AreRuns (kept_runs listed xs runs)
-kept_are_runs (Some listed) xs runs up are = single_runs (filter (is_in listed) xs) (IsStrictlyIncreasing-filter (is_in listed) xs up)
-kept_are_runs None xs runs up are = are
-
-pub kept_joined : (listed : Option (List ℕ)) (xs : List ℕ) (runs : List (ℕ × ℕ)) → points_of runs ≡ xs → points_of (kept_runs listed xs runs) ≡ kept listed xs
-kept_joined (Some listed) xs runs joined = single_points (filter (is_in listed) xs)
-kept_joined None xs runs joined = joined
 
 -- ---- gathered along the list
 

@@ -1,6 +1,6 @@
 //! What a set and an ascending list have in common.
 
-ghost use Rattle.std.specs.Prelude.{◌≡◌, ◌≤◌, ◌+◌, Contains, filter, length, slice_get};
+ghost use Rattle.std.specs.Prelude.{◌≡◌, ◌≤◌, ◌+◌, Contains, filter, length};
 ghost use Rattle.std.specs.List.Sorted.{IsStrictlyIncreasing};
 ghost use Rattle.point_set.specs.Least.{IsGreatestOf, IsLeast, IsLeastGap};
 ghost use Rattle.vocabulary.specs.Prelude.{is_in};
@@ -53,23 +53,6 @@ pub(crate) fn count_common<P: PointSet>(set: &P, listed: &[u64]) -> usize
         }
     }
     count
-}
-
-/// The common point with `k` others before it, by one pass over the list.
-pub(crate) fn nth_common<P: PointSet>(set: &P, listed: &[u64], k: usize) -> Option<u64>
-    requires { IsStrictlyIncreasing listed.now }
-    ensures { result ≡ slice_get (filter (is_in listed.now) (P.points set.now)) k }
-{
-    let mut left = k;
-    for point in listed {
-        if set.has(*point) {
-            if left == 0 {
-                return Some(*point);
-            }
-            left -= 1;
-        }
-    }
-    None
 }
 
 /// The least number from `p` on that is not common: the lesser of the gaps of the set and of the list.

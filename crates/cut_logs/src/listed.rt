@@ -1,17 +1,16 @@
 ghost use Rattle.std.specs.Prelude.{◌≡◌, ◌^◌, ◌<◌, All, ⊤};
 ghost use Rattle.std.proofs.Props.{props};
 ghost use Rattle.std.specs.List.Sorted.{IsStrictlyIncreasing};
-ghost use Rattle.point_set.specs.Runs.{AreRuns, points_of};
 ghost use Rattle.point_laws.specs.Cut.{kept};
-ghost use Rattle.cut_logs.specs.Listed.{IsAscending, kept_runs, listed_of};
+ghost use Rattle.cut_logs.specs.Listed.{IsAscending, listed_of};
 
-use crate::common::{count_common, gap_common, last_common, next_common, nth_common};
+use crate::common::{count_common, gap_common, last_common, next_common};
 use point_set::PointSet;
 use std::alloc::AllocError;
 
 /// The points of a set that are listed, or all of them where there is no list.
 ///
-/// `has`, `first` and `next_from` take searches, in the set and in the list, for each gap that they pass over. Where there is a list, any other call takes a pass over it, and each point is a run; where there is none, a call takes what it takes of the set.
+/// `has`, `first` and `next_from` take searches, in the set and in the list, for each gap that they pass over. `gap_from` takes a search in each. Where there is a list, `count` and `last` take a pass over it; where there is none, a call takes what it takes of the set.
 #[derive(Copy)]
 pub struct Listed<'s, 'p, S: PointSet> {
     set: &'s S,
@@ -20,9 +19,6 @@ pub struct Listed<'s, 'p, S: PointSet> {
     // What the laws of `PointSet` say of each set.
     ghost ascends: { IsStrictlyIncreasing (kept (listed_of listed) (S.points set.now)) },
     ghost bounded: { All (λ p. p < 2 ^ 64) (kept (listed_of listed) (S.points set.now)) },
-    ghost are_runs: { AreRuns (kept_runs (listed_of listed) (S.points set.now) (S.runs set.now)) },
-    ghost joined: { points_of (kept_runs (listed_of listed) (S.points set.now) (S.runs set.now))
-        ≡ kept (listed_of listed) (S.points set.now) },
 }
 
 impl<'s, 'p, S: PointSet> Listed<'s, 'p, S> {
@@ -48,15 +44,9 @@ impl<'s, 'p, S: PointSet + Copy> Clone for Listed<'s, 'p, S> {
 impl<'s, 'p, S: PointSet> PointSet for Listed<'s, 'p, S> {
     ghost points = { λ s. kept (listed_of s.listed) (S.points s.set.now) };
 
-    ghost runs = { λ s. kept_runs (listed_of s.listed) (S.points s.set.now) (S.runs s.set.now) };
-
     ghost ascends = { λ s. s.ascends };
 
     ghost bounded = { λ s. s.bounded };
-
-    ghost are_runs = { λ s. s.are_runs };
-
-    ghost joined = { λ s. s.joined };
 
     fn count(&self) -> u128 {
         match self.listed {
@@ -83,23 +73,6 @@ impl<'s, 'p, S: PointSet> PointSet for Listed<'s, 'p, S> {
         match self.listed {
             Some(listed) => gap_common(self.set, listed, p),
             None => self.set.gap_from(p),
-        }
-    }
-
-    fn run_count(&self) -> usize {
-        match self.listed {
-            Some(listed) => count_common(self.set, listed),
-            None => self.set.run_count(),
-        }
-    }
-
-    fn run(&self, k: usize) -> Option<(u64, u64)> {
-        match self.listed {
-            Some(listed) => {
-                let point = nth_common(self.set, listed, k)?;
-                Some((point, point))
-            }
-            None => self.set.run(k),
         }
     }
 }

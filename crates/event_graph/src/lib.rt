@@ -1,4 +1,9 @@
 //! The graph of the nodes of a recorded run, and the order in which they are replayed.
+//!
+//! `Graph::order` gives the replay order of the nodes, or the cycle that is shown, each exactly where there
+//! is one: the least node whose waits are all met is taken next, and from the first node that is never taken
+//! a walk along stuck waits comes to a cycle. The definitions are in `ReplayOrder` of `semantics`. Begin
+//! with `graph.rt`; `order.rt` has the order, and `stuck.rt` the cycle.
 #![tactic(auto)]
 
 mod cycle_walk;

@@ -1,4 +1,9 @@
 //! Reports: each has one text.
+//!
+//! `text` writes the one text of a finding, `good_finding` says exactly which findings have one, and
+//! `code_text` gives the code of a fault. A report is its own line and those that it lists, both by one
+//! table: `specs/Texts.antt` has what each looks like, and nothing else has to be read for that. Begin
+//! there, or with `finding.rt`. `report_reading` reads the texts back.
 #![tactic(auto)]
 
 mod cells;

@@ -1,4 +1,10 @@
 //! The steps of the nodes of a log, what instances hold, and views of that by a privilege.
+//!
+//! `steps_of` goes over the moves of a node in the order in which they are made, of a whole log or of a cut
+//! one, exactly as `Steps` of `semantics` defines them; `actions_of` says besides by which requirement each
+//! is made. `Store` is what the cells of instances hold, seen as a map from cells to values, and a `View` of
+//! it reads, writes or reduces only as its privilege allows. Begin with `of_nodes.rt` for the steps and with
+//! `store.rt` for the store.
 #![tactic(auto)]
 
 mod act;

@@ -12,7 +12,7 @@ use cut_logs::CutLog;
 use logs::Log;
 use point_set::PointSet;
 
-/// What a node of a log does that may be cut, move by move: of a run all its reads, and then all its changes, each by requirement, point and field; of another operation by point and field. It passes over points that are not listed by searches, and takes no memory.
+/// What a node does of a log that may be cut, move by move: of a run all its reads, and then all its changes, each by requirement, point and field; of another operation by point and field. It passes over points that are not listed by searches, and takes no memory.
 pub fn steps_of<'l, 'a, 'p, P: PointSet + Copy>(
     log: &CutLog<'l, 'a, 'p, P>,
     node: usize,

@@ -1,14 +1,13 @@
 //! Where a sweep stands.
 
-ghost use Rattle.std.specs.Prelude.{◌≡◌, [], ◌+◌, ◌∷◌, ◌++◌, IfSome, IfNone};
+ghost use Rattle.std.specs.Prelude.{◌≡◌, [], ◌∷◌, ◌++◌, IfSome, IfNone};
 ghost use Rattle.vocabulary.specs.Prelude.{grid};
-ghost use Rattle.point_set.specs.Least.{IsLeastFrom};
 ghost use Rattle.inst_steps.specs.Stepping.{IsSpot, spot_here, spot_grid, spots_left, IsWithin};
 ghost use Rattle.inst_steps.specs.Sweeps.{action_at, move_at, cell_of, req_in};
 
 use crate::act::{Act, Action};
 use cut_logs::CutLog;
-use point_set::PointSet;
+use point_set::{PointSet, next_after};
 use semantics::{Cell, Move};
 
 /// A point of a set and a field, by its place, at which an act is done next.
@@ -42,16 +41,6 @@ pub(crate) fn first_spot<'l, S: PointSet + Copy>(
             point,
             place: 0,
         }),
-        None => None,
-    }
-}
-
-/// The least point of a set after this one.
-fn next_after<S: PointSet>(set: &S, point: u64) -> Option<u64>
-    ensures { IsLeastFrom (S.points set.now) (point + 1) result }
-{
-    match point.checked_add(1) {
-        Some(from) => set.next_from(from),
         None => None,
     }
 }

@@ -97,7 +97,7 @@ fn hold_insts<P: PointSet + Copy>(
 }
 
 impl Store {
-    /// What instances of a log hold at the start that may be cut: the store has each of their cells, and no other.
+    /// What instances hold at the start of a log that may be cut: the store has each of their cells, and no other.
     pub fn start_of<P: PointSet + Copy>(
         alloc: Global,
         log: &CutLog<'_, '_, '_, P>,

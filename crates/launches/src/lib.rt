@@ -1,6 +1,10 @@
 //! The log that a launch log stands for, or the fault that is shown of it.
 //!
-//! `expanding.rt` has the call, `walk.rt` the walk over the records, `writing.rt` the records that are written, as they grow, `step.rt` what one record more writes, `rules.rt` the rules that are tried of it by itself, `interference.rt` the rule on interference, which is judged once after the walk, and `uses.rt` the requirements and launches of which it is judged.
+//! `expand` gives that log, each record with a spelling, exactly where the launch log breaks no rule, and
+//! else the one fault that is shown. `expanding.rt` has the call; begin there. `walk.rt` has the walk over
+//! the records, `writing.rt` the records that are written, as they grow, `step.rt` what one record more
+//! writes, `rules.rt` the rules that are tried of it by itself, and `interference.rt` the rule on
+//! interference.
 #![tactic(auto)]
 
 mod declaring;

@@ -1,6 +1,6 @@
 //! Where none of some claims allows what another asks for.
 
-ghost use Rattle.std.specs.Prelude.{◌≡◌, ◌∷◌, [], All};
+ghost use Rattle.std.specs.Prelude.{◌≡◌, ◌∷◌, [], All, Some};
 ghost use Rattle.std.specs.List.{list_any};
 ghost use Rattle.point_set.specs.Least.{IsLeast};
 ghost use Rattle.licences.specs.Claims.{AreOfSpaces, first_refused, lesser_place, refused};
@@ -44,21 +44,72 @@ fn first_reach<P: PointSet + Copy>(
     (Some(from), 0)
 }
 
-/// How far what is asked for is allowed from a point on by one claim, and the place of that one. What allowed it before is asked first.
+/// How far the claim at a place allows what is asked for, from a point on.
+fn reach_by<P: PointSet + Copy>(
+    all: &[Claim<'_, P>],
+    place: usize,
+    asked: &Claim<'_, P>,
+    field: u32,
+    from: u64,
+) -> Option<u64>
+    ensures { (result ≡ Some from → ⊥) → Reaches (allows_at all.now asked.now field) from result }
+{
+    match all.get(place) {
+        Some(one) => end_by(one, asked, field, from),
+        None => Some(from),
+    }
+}
+
+/// The places of the two claims that reached last, the later one in front.
+#[derive(Clone, Copy)]
+struct Recent {
+    last: usize,
+    before: usize,
+}
+
+impl Recent {
+    /// In the order in which they are asked. A claim does not reach beyond its end: where what is asked for goes on at that end, the other one is asked first.
+    fn in_turn(self, goes_on: bool) -> Recent {
+        if goes_on {
+            Recent {
+                last: self.before,
+                before: self.last,
+            }
+        } else {
+            self
+        }
+    }
+
+    /// With the one that reached now.
+    fn with(self, by: usize) -> Recent {
+        if by == self.last {
+            self
+        } else {
+            Recent {
+                last: by,
+                before: self.last,
+            }
+        }
+    }
+}
+
+/// How far what is asked for is allowed from a point on by one claim, and the place of that one. The two that allowed it before are asked first.
 fn reach<P: PointSet + Copy>(
     all: &[Claim<'_, P>],
     asked: &Claim<'_, P>,
     field: u32,
     from: u64,
-    last: usize,
+    recent: Recent,
 ) -> (Option<u64>, usize)
     ensures { Reaches (allows_at all.now asked.now field) from result.0 }
 {
-    if let Some(one) = all.get(last) {
-        let end = end_by(one, asked, field, from);
-        if end != Some(from) {
-            return (end, last);
-        }
+    let end = reach_by(all, recent.last, asked, field, from);
+    if end != Some(from) {
+        return (end, recent.last);
+    }
+    let end = reach_by(all, recent.before, asked, field, from);
+    if end != Some(from) {
+        return (end, recent.before);
     }
     first_reach(all, asked, field, from)
 }
@@ -73,12 +124,12 @@ fn refused_point<P: PointSet + Copy>(
 {
     asked.points_are_bounded();
     let mut from = 0;
-    let mut last = 0;
+    let mut recent = Recent { last: 0, before: 0 };
     loop {
         let Some(point) = asked.next_from(from) else {
             return None;
         };
-        let (reached, by) = reach(all, asked, field, point, last);
+        let (reached, by) = reach(all, asked, field, point, recent.in_turn(point == from));
         let Some(end) = reached else {
             return None;
         };
@@ -86,7 +137,7 @@ fn refused_point<P: PointSet + Copy>(
             return Some(point);
         }
         from = end;
-        last = by;
+        recent = recent.with(by);
     }
 }
 

@@ -1,6 +1,8 @@
 //! What is found in a log by its items and events alone: the fault of its serial order, the order of its nodes, whether its tasks are run in serial order, which of its items interfere, and which of its waits others imply.
 //!
-//! `ordered_finding`, `deps_finding` and `spare_finding` are what the commands `ordered`, `deps` and `spare` find; begin there. `sort_log` is the first stage of `check` too, and `reports` makes the findings of all commands.
+//! `ordered_finding`, `deps_finding` and `spare_finding` are what the commands `ordered`, `deps` and `spare`
+//! find; begin there. Each is exactly what `Outcome` of `outcomes` says of its command. `sort_log` is the
+//! first stage of `check` too, and `reports` makes the findings of all commands.
 #![tactic(auto)]
 
 mod dependences;

@@ -1,4 +1,9 @@
 //! Laws of what a log means, on which the program's parts rest. Each is the contract of a function with nothing to do.
+//!
+//! The main ones: in a log without a race two steps that nothing orders may change places (`swap_law`,
+//! `neighbours_may_change_places`), so all interleavings end in one state and read the same (`one_answer`,
+//! `faultless_logs_have_one_answer`); the replay order is an interleaving, and lists each node once; a text
+//! spells one log. Begin with `answer_laws.rt` and `step_laws.rt`.
 #![tactic(auto)]
 
 mod answer_laws;

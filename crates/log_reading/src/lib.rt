@@ -1,4 +1,8 @@
 //! From bytes to the records of a log: an input is cut into lines, and each line read.
+//!
+//! `input_in` gives the records of an input with their lines, or its first fault, exactly where it has one;
+//! `launch_input_in` and `nested_input_in` do so for the other two kinds of log, by the same code over a
+//! `LogLine`. The definitions are in `Records` and `TextFaults` of `semantics`. Begin with `input.rt`.
 #![tactic(auto)]
 
 mod input;

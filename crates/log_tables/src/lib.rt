@@ -1,4 +1,9 @@
 //! What a log declares, as it is looked up.
+//!
+//! `Draft` is the tables of the records so far. `Draft::add` adds one record to them, exactly as `Tables` of
+//! `semantics` says, and changes nothing where memory runs out; each look-up is its definition. `Decls` is
+//! what of it declares regions. One way to tie an index to a list serves all of them (`Rows`). Begin with
+//! `draft.rt` and `lookups.rt`.
 #![tactic(auto)]
 
 mod adding;

@@ -1,6 +1,8 @@
 //! The log of a recorded run: its tables, its forest, and what the parts above look up in them.
 //!
-//! `log_decl` makes logs of records that have no fault. What a log says of its tables is in `log.rt`; begin there.
+//! A `Log` keeps that its tables are those of records on ascending lines that break no rule, so that
+//! whatever holds of such records holds of each log; each look-up is its definition. `log_decl` makes logs
+//! of records that have no fault. Begin with `log.rt`.
 #![tactic(auto)]
 
 mod found;

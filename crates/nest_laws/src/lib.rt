@@ -1,4 +1,9 @@
 //! Laws of groups: what their members may do, and what groups that are free of each other may do side by side.
+//!
+//! `children_are_licensed`: where no child asks for more than its group licenses, all groups above a task
+//! license what it asks for. `free_groups_are_apart`: then no task below a group interferes with one below a
+//! group that is free of it. The rest tries the definitions (`Nesting` of `semantics`) on nested logs that
+//! are written out. There is no code; begin with `laws.rt`.
 #![tactic(auto)]
 
 mod laws;

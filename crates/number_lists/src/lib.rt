@@ -1,4 +1,6 @@
 //! Lists of numbers, each of which grows at its end.
+//!
+//! `NumberLists` is seen as a list of lists: `push` adds a number to one of them and changes no other.
 #![tactic(auto)]
 
 ghost use Rattle.std.specs.Prelude.{◌≡◌, ◌<◌, ◌++◌, ◌∷◌, [], length, map, slice_index_or, IfOk, OnErr, OnOk, replicate, set};

@@ -1,3 +1,6 @@
 pub mod lemmas
+mod Compared
 mod Defaults
 mod Left
+mod Numbers
+mod Strips

@@ -1,2 +1,3 @@
 pub mod Least
+pub mod Rects
 pub mod Runs

@@ -5,6 +5,7 @@ ghost use Rattle.point_set.specs.Runs.{AreRuns, points_of, maximal_runs};
 use crate::ascending::{gap_from, is_ascending, last, next_from};
 use crate::runs::{run_at, run_count};
 use crate::set::PointSet;
+use crate::set_of_runs::SetOfRuns;
 
 /// The points themselves, in an ascending slice, cut into runs that are as long as can be.
 ///
@@ -36,15 +37,9 @@ impl<'a> PointList<'a> {
 impl<'a> PointSet for PointList<'a> {
     ghost points = { λ s. s.points.now };
 
-    ghost runs = { λ s. maximal_runs s.points.now };
-
     ghost ascends = { λ s. s.ascends };
 
     ghost bounded = { λ s. s.bounded };
-
-    ghost are_runs = { λ s. s.are_runs };
-
-    ghost joined = { λ s. s.joined };
 
     fn count(&self) -> u128 {
         self.points.len() as u128
@@ -61,6 +56,14 @@ impl<'a> PointSet for PointList<'a> {
     fn gap_from(&self, p: u64) -> Option<u64> {
         gap_from(self.points, p)
     }
+}
+
+impl<'a> SetOfRuns for PointList<'a> {
+    ghost runs = { λ s. maximal_runs s.points.now };
+
+    ghost are_runs = { λ s. s.are_runs };
+
+    ghost joined = { λ s. s.joined };
 
     fn run_count(&self) -> usize {
         run_count(self.points)

@@ -4,6 +4,7 @@ ghost use Rattle.point_set.specs.Runs.{AreRuns, points_of};
 
 use crate::run_slice;
 use crate::set::PointSet;
+use crate::set_of_runs::SetOfRuns;
 
 /// Runs of points in a slice, each a pair of its first and its last point. The set is cut into just these runs, two of which may touch.
 ///
@@ -22,7 +23,7 @@ impl<'a> RunSet<'a> {
     pub fn over(runs: &'a [(u64, u64)]) -> Option<RunSet<'a>>
         ensures ordered { IsSome result ↔ AreRuns runs.now }
         ensures points { IfSome result (λ s. ⟦<RunSet<'a> as PointSet>⟧.points s ≡ points_of runs.now) }
-        ensures runs { IfSome result (λ s. ⟦<RunSet<'a> as PointSet>⟧.runs s ≡ runs.now) }
+        ensures runs { IfSome result (λ s. ⟦<RunSet<'a> as SetOfRuns>⟧.runs s ≡ runs.now) }
     {
         if run_slice::are_runs(runs) {
             Some(RunSet { runs })
@@ -35,15 +36,9 @@ impl<'a> RunSet<'a> {
 impl<'a> PointSet for RunSet<'a> {
     ghost points = { λ s. points_of s.runs.now };
 
-    ghost runs = { λ s. s.runs.now };
-
     ghost ascends = { λ s. s.ascends };
 
     ghost bounded = { λ s. s.bounded };
-
-    ghost are_runs = { λ s. s.are_runs };
-
-    ghost joined = { λ s. refl };
 
     fn has(&self, p: u64) -> bool {
         run_slice::has(self.runs, p)
@@ -64,6 +59,14 @@ impl<'a> PointSet for RunSet<'a> {
     fn gap_from(&self, p: u64) -> Option<u64> {
         run_slice::gap_from(self.runs, p)
     }
+}
+
+impl<'a> SetOfRuns for RunSet<'a> {
+    ghost runs = { λ s. s.runs.now };
+
+    ghost are_runs = { λ s. s.are_runs };
+
+    ghost joined = { λ s. refl };
 
     fn run_count(&self) -> usize {
         self.runs.len()

@@ -1,20 +1,14 @@
-ghost use Rattle.std.specs.Prelude.{◌≡◌, ℕ, ◌^◌, ◌<◌, ◌↔◌, List, length, slice_get, All, Contains, IsTrue};
+ghost use Rattle.std.specs.Prelude.{◌≡◌, ℕ, ◌^◌, ◌<◌, ◌↔◌, List, length, All, Contains, IsTrue};
 ghost use Rattle.std.specs.List.{Any};
 ghost use Rattle.std.specs.List.Sorted.{IsStrictlyIncreasing};
 ghost use Rattle.point_set.specs.Least.{IsLeastOf, IsGreatestOf, IsLeastFrom, IsLeastGap, IsLeastCommon, IsLeastOutside};
-ghost use Rattle.point_set.specs.Runs.{AreRuns, points_of};
 
 /// A set of points, which contracts see as the ascending list of them. No call takes memory.
 ///
-/// The points are also cut into runs of consecutive numbers. Where to cut is for the implementation to choose, so two runs may touch.
-///
-/// What a call costs is for the implementation to say. A call of `run` may take a pass over the points, so code that serves any set goes over its points by `first` and `next_from`, and over its runs by `next_from` and `gap_from`.
+/// What a call costs is for the implementation to say. Code that serves any set goes over its points by `first` and `next_from`, and over those that follow one another by `next_from` and `gap_from`.
 pub trait PointSet: Sized {
     // The points, in ascending order.
     ghost points: { Self → List ℕ };
-
-    // The runs, each a pair of its first and its last point, in ascending order.
-    ghost runs: { Self → List (ℕ × ℕ) };
 
     /// Whether `p` is a point of the set.
     fn has(&self, p: u64) -> bool
@@ -102,22 +96,8 @@ pub trait PointSet: Sized {
         self.outside(other).is_none()
     }
 
-    /// How many runs there are.
-    fn run_count(&self) -> usize
-        ensures { result ≡ length (runs self.now) };
-
-    /// The first and the last point of run `k`, from 0, or `None` past the last run.
-    fn run(&self, k: usize) -> Option<(u64, u64)>
-        ensures { result ≡ slice_get (runs self.now) k };
-
     // Each point is below the next.
     ghost ascends: { (s : Self) → IsStrictlyIncreasing (points s) };
 
     ghost bounded: { (s : Self) → All (λ p. p < 2 ^ 64) (points s) };
-
-    // Each run has a point, and ends before the next begins.
-    ghost are_runs: { (s : Self) → AreRuns (runs s) };
-
-    // The runs hold each point once, and no other number.
-    ghost joined: { (s : Self) → points_of (runs s) ≡ points s };
 }

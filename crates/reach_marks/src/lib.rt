@@ -1,4 +1,9 @@
 //! Which nodes of a graph are before which, marked in blocks of 1,024 by their places in the replay order.
+//!
+//! `Reach::before` says exactly whether a chain of waits leads from one node to another, at once;
+//! `first_not_before` and `before_some` ask it of many. A node's row of marks is joined from the rows of
+//! those that it waits for, and blocks that are none or all take no room. Begin with `reach.rt`; `rows.rt`
+//! and `joining.rt` make the rows.
 #![tactic(auto)]
 
 mod bits;

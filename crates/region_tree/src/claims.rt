@@ -3,13 +3,12 @@
 ghost use Rattle.std.specs.Prelude.{◌≡◌, ◌+◌, false, ◌↔◌, length, Contains, IfOk, OnOk, IsTrue, MatchOption};
 ghost use Rattle.std.specs.Bool.{OnTrue, OnFalse};
 ghost use Rattle.std.specs.List.Sorted.{IsPermutation};
-ghost use Rattle.point_set.specs.Least.{IsLeastFrom};
 ghost use Rattle.region_tree.specs.Claims.{IsRunEnd, AddsRuns, IsClaimOf, AreClaims, AreInOrder, AreOwn};
 ghost use Rattle.region_tree.specs.Claims.{Clash, AreApart, SomeOverlap, IsFirstOverlap, IsFirstMeeting};
 
 use crate::lookups::{is_disjoint, sub_at, subs};
 use log_tables::Decls;
-use point_set::PointSet;
+use point_set::{PointSet, next_after};
 use std::alloc::{AllocError, Global};
 
 /// The points from `first` to `last` that the subspace at place `sub` claims for its partition.
@@ -19,16 +18,6 @@ pub(crate) struct Claim {
     pub first: u64,
     pub last: u64,
     pub sub: usize,
-}
-
-/// The least point after this one.
-fn next_after<P: PointSet>(set: &P, point: u64) -> Option<u64>
-    ensures { IsLeastFrom (P.points set.now) (point + 1) result }
-{
-    match point.checked_add(1) {
-        Some(from) => set.next_from(from),
-        None => None,
-    }
 }
 
 /// The last of the points that follow one another from this one on.

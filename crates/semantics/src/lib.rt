@@ -1,4 +1,10 @@
 //! What a log means: definitions, and no algorithm. `log_laws` has laws over them.
+//!
+//! Whoever wants to trust the program reads `specs` here, in the order of `specs/Lib.antt`: what a log
+//! declares, points and places, how items interfere, the sequential program, events and their order, steps,
+//! executions, interleavings, races, reads, and then the faults of a log and what is shown. Each definition
+//! has a sentence above it, and none knows how the program finds what it finds. The `src` has the plain
+//! types that they speak of.
 #![tactic(auto)]
 
 mod command;

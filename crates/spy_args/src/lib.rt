@@ -1,6 +1,8 @@
 //! What the words of a command line ask for.
 //!
-//! `clap` decides which words are taken; the rules on the commands, and on which of them has which options, come after it.
+//! `request_in` says it exactly, or that they ask for no command. `clap` decides which words are taken; the
+//! rules on the commands, and on which of them has which options, come after it. Begin with `asking.rt` and
+//! `specs/Asked.antt`.
 #![tactic(auto)]
 
 mod asking;

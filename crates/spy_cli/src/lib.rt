@@ -1,4 +1,9 @@
 //! The commands of `spy`: from bytes to a report.
+//!
+//! `run` is the call of the whole program: it takes the words, a source and a sink, and its clauses say what
+//! it answers, in the definitions of `semantics` and `outcomes`; the headline stands on it. Begin with
+//! `top.rt`; `judging.rt`, `launching.rt` and `nesting.rt` have the commands, and `report_laws.rt` what
+//! follows from their answers.
 #![tactic(auto)]
 
 mod answering;

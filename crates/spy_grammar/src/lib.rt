@@ -1,4 +1,9 @@
 //! The records of a log, and how a line spells each: reading a line, and writing a record.
+//!
+//! `read_line` reads a line as the one record that it spells, or gives its one fault; `write_record` writes
+//! the one spelling of a record, and `good` says which records have one. `specs/Rows.antt` has the table of
+//! the format, a line for each kind of record, and everything here goes by it; begin there. Launch logs and
+//! nested logs have a table each (`Launches`, `Nested`), with the same promises.
 #![tactic(auto)]
 
 mod cells;

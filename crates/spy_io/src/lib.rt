@@ -1,7 +1,9 @@
 //! Bytes that come from a source and go to a sink, each with a count of its faults.
 //!
-//! `read_all` and `write_all` are generic over the two. `RealSource` and `RealSink` stand over a reader and
-//! a writer of std, and `MemSource` and `MemSink` over memory, with faults where a test wants them.
+//! `read_all` takes all bytes of a source, or says exactly when there were too many or the source failed;
+//! `write_all` adds all bytes to a sink or, after a failure, a part of them. Both are generic over the two.
+//! `RealSource` and `RealSink` stand over a reader and a writer of std, and `MemSource` and `MemSink` over
+//! memory, with faults where a test wants them. Begin with `source.rt` and `sink.rt`.
 #![tactic(auto)]
 
 mod counts;

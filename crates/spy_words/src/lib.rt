@@ -1,4 +1,8 @@
 //! The words of a log's lines, by their classes: reading, writing and testing each.
+//!
+//! `specs/Classes.antt` has what a word of each class means and how it is spelled, and `specs/Reading.antt`
+//! what a word says or its fault; begin there. The laws that tie the two are proved once for each class.
+//! `spy_grammar` makes lines of such words.
 #![tactic(auto)]
 
 mod access;

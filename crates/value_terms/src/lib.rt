@@ -1,4 +1,9 @@
 //! Values as terms: what a place got last, and what reductions have added to it since.
+//!
+//! A value is a base and groups of counted contributions, one operator each. `add`, `add_many` and `fold`
+//! give exactly their definitions, and `same` says whether two values are equal; the laws say that
+//! contributions of one operator commute, and what equal values are. Begin with `value.rt` and
+//! `specs/Values.antt`.
 #![tactic(auto)]
 
 mod bag;

@@ -1,4 +1,9 @@
 //! What each command finds in the records of a log.
+//!
+//! `find` gives it (`IsFound`), for every command that is asked of a log. `check` goes through stages, each
+//! a type that keeps what is known: `Declared` keeps the rules, `Sorted` has no cycle, `Clean` has no race,
+//! and `Judged` has no differing read in any interleaving. Begin with `commands.rt`, and then the stages in
+//! that order.
 #![tactic(auto)]
 
 mod asking;

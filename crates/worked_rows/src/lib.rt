@@ -1,4 +1,7 @@
 //! Worked examples of the whole program, as tests: each a log, the words, and the report and status that they give.
+//!
+//! Begin with `examples.rt`, whose logs lie in the folder `examples` too, and `rows.rt`. `devices.rt` has
+//! sources and sinks that fail, and `hostile.rt` logs at the limits.
 #![tactic(auto)]
 
 #[cfg(test)]

@@ -1,5 +1,5 @@
 use Rattle.cut_logs.specs.Listed.{listed_of}
-use Rattle.cut_logs.proofs.Keeping.{kept_ascends, kept_bounded, kept_are_runs, kept_joined}
+use Rattle.cut_logs.proofs.Keeping.{kept_ascends, kept_bounded}
 use Rattle.cut_logs.proofs.listed.Listed.at.Goals as goal
 
 pub invariant_of-result-clause-ascends : goal.invariant_of-result-clause-ascends
@@ -7,9 +7,3 @@ invariant_of-result-clause-ascends g c = kept_ascends (listed_of c.args.listed) 
 
 pub invariant_of-result-clause-bounded : goal.invariant_of-result-clause-bounded
 invariant_of-result-clause-bounded g c = kept_bounded (listed_of c.args.listed) (g.S.PointSet.points c.args.set.now) (g.met.S.PointSet.bounded c.args.set.now)
-
-pub invariant_of-result-clause-are_runs : goal.invariant_of-result-clause-are_runs
-invariant_of-result-clause-are_runs g c = kept_are_runs (listed_of c.args.listed) (g.S.PointSet.points c.args.set.now) (g.S.PointSet.runs c.args.set.now) (g.met.S.PointSet.ascends c.args.set.now) (g.met.S.PointSet.are_runs c.args.set.now)
-
-pub invariant_of-result-clause-joined : goal.invariant_of-result-clause-joined
-invariant_of-result-clause-joined g c = kept_joined (listed_of c.args.listed) (g.S.PointSet.points c.args.set.now) (g.S.PointSet.runs c.args.set.now) (g.met.S.PointSet.joined c.args.set.now)
