@@ -1,2 +1,3 @@
-mod RunPoints
+mod Cutting
 mod Joining
+mod RunPoints

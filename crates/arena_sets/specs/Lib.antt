@@ -1,2 +1,4 @@
+pub mod Pieces
 pub mod RunsFrom
+pub use Rattle.point_set.specs.Rects
 pub use Rattle.point_set.specs.Runs

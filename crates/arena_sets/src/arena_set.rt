@@ -4,13 +4,15 @@ ghost use Rattle.std.specs.Prelude.{◌≡◌, ◌+◌, ◌<◌, ◌↔◌, [], 
 ghost use Rattle.point_set.specs.Runs.{AreRuns, points_of, run_points};
 ghost use Rattle.arena_sets.specs.RunsFrom.{AreRunsFrom, BeginAs};
 
+use crate::pieces;
+use crate::set_of_rects::SetOfRects;
 use bumpalo::Bump;
 use bumpalo::collections::into_bump_slice;
 use memory::Memory;
-use point_set::{PointList, PointSet, RunSet};
+use point_set::{PointList, PointSet, RectSet, RunSet};
 
-/// A set of points that is made from runs, and lies in an arena as long as the arena is not reset.
-pub trait ArenaSet<'a>: PointSet + Copy {
+/// A set of points that is made from runs and told as rectangles, and lies in an arena as long as the arena is not reset.
+pub trait ArenaSet<'a>: SetOfRects + Copy {
     /// The set of just the points of `runs`, each run a pair of its first and its last point.
     ///
     /// Each run has a point, and ends before the next begins. The only error is that memory ran out.
@@ -78,6 +80,19 @@ impl<'a> ArenaSet<'a> for RunSet<'a> {
             rest = behind;
         }
         match RunSet::over(into_bump_slice(joined)) {
+            Some(set) => Ok(set),
+            None => unreachable!(),
+        }
+    }
+}
+
+impl<'a> ArenaSet<'a> for RectSet<'a> {
+    fn place(bump: &'a Bump, runs: &[(u64, u64)]) -> Result<RectSet<'a>, Memory> {
+        let mut rects = Vec::new(bump);
+        for run in runs {
+            pieces::push_run(&mut rects, run.0, run.1)?;
+        }
+        match RectSet::over(into_bump_slice(rects)) {
             Some(set) => Ok(set),
             None => unreachable!(),
         }

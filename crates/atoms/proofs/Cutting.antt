@@ -22,7 +22,10 @@ rises_all n (e ∷ es) d up (inr m) = omega (arith, up.0, rises_all e.at es d up
 
 rises_from : (e : Edge) (es : List Edge) → IsNonDecreasingBy (λ (e : Edge). e.at) (e ∷ es) → Rises e.at es
 rises_from e [] up = tt
-rises_from e (f ∷ es) up = (up 0 1 e (omega arith) (omega arith), rises_from f es (λ i j d le lt. up (suc i) (suc j) d (omega arith) (omega arith)))
+rises_from e (f ∷ es) up = (
+  up 0 1 e (omega arith) (omega arith),
+  rises_from f es (λ i j d le lt. up (suc i) (suc j) d (omega arith) (omega arith)),
+)
 
 -- some run of the edges goes over the number
 pub record Reaches (edges : List Edge) (p : ℕ) : Type 0 where
@@ -33,7 +36,8 @@ pub record Reaches (edges : List Edge) (p : ℕ) : Type 0 where
 
 -- after a run that ends before some edge there is an edge
 abbrev pub IsClosed : List Edge → Type 0
-IsClosed edges = (d c : Edge) → Member edges d → Member edges c → d.at ≤ d.last → d.last < c.at → (b : Edge) × Member edges b × (b.at ≡ d.last + 1)
+IsClosed edges = (d c : Edge) → Member edges d → Member edges c → d.at ≤ d.last → d.last < c.at → (b : Edge) × Member edges b
+    × (b.at ≡ d.last + 1)
 
 -- the spans stand from a number on: they begin at edges, no edge is after the first point of one up to its last, and they have the points over which runs of the edges go
 pub record AreCut (low : ℕ) (edges : List Edge) (spans : List (ℕ × ℕ)) : Type 0 where
@@ -47,7 +51,8 @@ pub record AreCut (low : ℕ) (edges : List Edge) (spans : List (ℕ × ℕ)) : 
 no_runs : AreRuns []
 no_runs = (λ k d lt. absurd (omega arith), λ k d lt. absurd (omega arith))
 
-runs_cons : (run : ℕ × ℕ) (runs : List (ℕ × ℕ)) → run.0 ≤ run.1 → AreRuns runs → ((s : ℕ × ℕ) → Member runs s → run.1 < s.0) → AreRuns (run ∷ runs)
+runs_cons : (run : ℕ × ℕ) (runs : List (ℕ × ℕ)) → run.0 ≤ run.1 → AreRuns runs → ((s : ℕ × ℕ) → Member runs s → run.1 < s.0)
+    → AreRuns (run ∷ runs)
 runs_cons run runs some up behind = (All-cons (λ (r : ℕ × ℕ). r.0 ≤ r.1) run runs some up.0, λ k d lt. next k d lt)
   where
     next : (k : ℕ) (d : ℕ × ℕ) → k + 1 < length (run ∷ runs) → (get_or (run ∷ runs) k d).1 < (get_or (run ∷ runs) (k + 1) d).0
@@ -57,7 +62,8 @@ runs_cons run runs some up behind = (All-cons (λ (r : ℕ × ℕ). r.0 ≤ r.1)
         subst (λ i. (get_or runs k d).1 < (get_or (run ∷ runs) i d).0) (sym e) (up.1 k d (omega arith))
 
 -- what is joined into one edge
-lifted : (e f : Edge) (es : List Edge) (d : Edge) → e.at ≤ f.at → Member (joined e f ∷ es) d → (c : Edge) × Member (e ∷ f ∷ es) c × (c.at ≤ d.at) × (c.last ≡ d.last)
+lifted : (e f : Edge) (es : List Edge) (d : Edge) → e.at ≤ f.at → Member (joined e f ∷ es) d → (c : Edge) × Member (e ∷ f ∷ es) c
+    × (c.at ≤ d.at) × (c.last ≡ d.last)
 lifted e f es d le (inl is) = subst (λ (g : Edge). (c : Edge) × Member (e ∷ f ∷ es) c × (c.at ≤ g.at) × (c.last ≡ g.last)) (sym is)
     (elim (cases_lt e.last f.last) [
       | inl less ↦ (f, inr (inl refl), omega arith, omega arith)
@@ -105,7 +111,8 @@ closed_on e f es le up closed d c here there some ends =
     ]
 
 -- spans from an edge on, where the edge before it stands too
-shift : (e f : Edge) (es : List Edge) (spans : List (ℕ × ℕ)) → e.at ≤ f.at → AreCut f.at (joined e f ∷ es) spans → AreCut f.at (e ∷ f ∷ es) spans
+shift : (e f : Edge) (es : List Edge) (spans : List (ℕ × ℕ)) → e.at ≤ f.at → AreCut f.at (joined e f ∷ es) spans
+    → AreCut f.at (e ∷ f ∷ es) spans
 shift e f es spans le h = record {
   above = h.above;
   runs = h.runs;
@@ -131,7 +138,8 @@ nothing low edges none = record {
 }
 
 -- no run goes over a number before the spans
-pass : (low next : ℕ) (edges : List Edge) (spans : List (ℕ × ℕ)) → low ≤ next → ((p : ℕ) → low ≤ p → p < next → Reaches edges p → ⊥) → AreCut next edges spans → AreCut low edges spans
+pass : (low next : ℕ) (edges : List Edge) (spans : List (ℕ × ℕ)) → low ≤ next → ((p : ℕ) → low ≤ p → p < next → Reaches edges p → ⊥)
+    → AreCut next edges spans → AreCut low edges spans
 pass low next edges spans le none h = record {
   above = λ s m. omega (arith, h.above s m);
   runs = h.runs;
@@ -142,15 +150,33 @@ pass low next edges spans le none h = record {
 }
 
 -- one span more, which some run goes over whole
-add : (low next : ℕ) (edges : List Edge) (spans : List (ℕ × ℕ)) → low < next → (d : Edge) × Member edges d × (d.at ≡ low) → ((d : Edge) → Member edges d → low < d.at → next ≤ d.at) → ((p : ℕ) → low ≤ p → p < next → Reaches edges p) → AreCut next edges spans → AreCut low edges ((low, next - 1) ∷ spans)
+add : (low next : ℕ) (edges : List Edge) (spans : List (ℕ × ℕ)) → low < next → (d : Edge) × Member edges d × (d.at ≡ low)
+    → ((d : Edge) → Member edges d → low < d.at → next ≤ d.at) → ((p : ℕ) → low ≤ p → p < next → Reaches edges p) → AreCut next edges spans
+    → AreCut low edges ((low, next - 1) ∷ spans)
 add low next edges spans lt first clear reaches h =
     let span : ℕ × ℕ = (low, next - 1) in
     record {
-      above = λ s m. elim m [ inl is ↦ subst (λ (r : ℕ × ℕ). low ≤ r.0) (sym is) (omega arith) | inr later ↦ omega (arith, h.above s later) ];
+      above = λ s m. elim m [
+        | inl is ↦ subst (λ (r : ℕ × ℕ). low ≤ r.0) (sym is) (omega arith)
+        | inr later ↦
+            omega (arith, h.above s later)
+      ];
       runs = runs_cons span spans (omega arith) h.runs (λ s m. omega (arith, h.above s m));
-      begun = λ s m. elim m [ inl is ↦ subst (λ (r : ℕ × ℕ). (d : Edge) × Member edges d × (d.at ≡ r.0)) (sym is) first | inr later ↦ h.begun s later ];
-      whole = λ s d m n. elim m [ inl is ↦ subst (λ (r : ℕ × ℕ). r.0 < d.at → r.1 < d.at) (sym is) (λ behind. omega (arith, clear d n behind)) | inr later ↦ h.whole s d later n ];
-      reached = λ s p m. elim m [ inl is ↦ subst (λ (r : ℕ × ℕ). HasPoint r p → Reaches edges p) (sym is) (λ has. reaches p has.low (omega (arith, has.high))) | inr later ↦ h.reached s p later ];
+      begun = λ s m. elim m [
+        | inl is ↦ subst (λ (r : ℕ × ℕ). (d : Edge) × Member edges d × (d.at ≡ r.0)) (sym is) first
+        | inr later ↦
+            h.begun s later
+      ];
+      whole = λ s d m n. elim m [
+        | inl is ↦ subst (λ (r : ℕ × ℕ). r.0 < d.at → r.1 < d.at) (sym is)
+            (λ behind. omega (arith, clear d n behind))
+        | inr later ↦ h.whole s d later n
+      ];
+      reached = λ s p m. elim m [
+        | inl is ↦ subst (λ (r : ℕ × ℕ). HasPoint r p → Reaches edges p) (sym is)
+            (λ has. reaches p has.low (omega (arith, has.high)))
+        | inr later ↦ h.reached s p later
+      ];
       held = λ p from r. elim (cases_lt p next) [
         | inl before ↦ (span, inl refl, record { low = from; high = omega arith })
         | inr behind ↦ let s = h.held p behind r in (s.0, inr s.1, s.2)
@@ -158,7 +184,8 @@ add low next edges spans lt first clear reaches h =
     }
 
 -- the part before an edge
-part_cases : (e : Edge) (n : ℕ) → ((part_before e n ≡ (e.at, n - 1) ∷ []) × (e.at < n) × (e.at ≤ e.last)) ⊎ ((part_before e n ≡ []) × (e.at < n → e.at ≤ e.last → ⊥))
+part_cases : (e : Edge) (n : ℕ) → ((part_before e n ≡ (e.at, n - 1) ∷ []) × (e.at < n) × (e.at ≤ e.last))
+    ⊎ ((part_before e n ≡ []) × (e.at < n → e.at ≤ e.last → ⊥))
 part_cases e n = elim (cases_lt e.at n) [
   | inl lt ↦ elim (cases_lt e.last e.at) [
     | inl less ↦ inr (grind (arith, nat_tests), λ _ le. omega arith)
@@ -179,7 +206,11 @@ cut_last e =
     elim (last_cases e) [
       | inl some ↦
           let back : e.last + 1 - 1 ≡ e.last = omega arith in
-          rw some.0 (subst (λ n. AreCut e.at (e ∷ []) ((e.at, n) ∷ [])) back (add e.at (e.last + 1) (e ∷ []) [] (omega (arith, some.1)) (e, inl refl, refl) (λ d m lt. absurd (omega (arith, subst (λ (g : Edge). e.at < g.at) (only m) lt))) (λ p low lt. record { edge = e; listed = inl refl; low = low; high = omega arith }) (nothing (e.last + 1) (e ∷ []) (λ p le r. omega (arith, high p r)))))
+          rw some.0 (subst (λ n. AreCut e.at (e ∷ []) ((e.at, n) ∷ [])) back
+          (add e.at (e.last + 1) (e ∷ []) [] (omega (arith, some.1)) (e, inl refl, refl)
+          (λ d m lt. absurd (omega (arith, subst (λ (g : Edge). e.at < g.at) (only m) lt)))
+          (λ p low lt. record { edge = e; listed = inl refl; low = low; high = omega arith })
+          (nothing (e.last + 1) (e ∷ []) (λ p le r. omega (arith, high p r)))))
       | inr none ↦ rw none.0 (nothing e.at (e ∷ []) (λ p le r. omega (arith, high p r, none.1)))
     ]
 
@@ -207,13 +238,16 @@ cut e (f ∷ es) up closed =
     clear e f es up d (inr (inl is)) lt = subst (λ (g : Edge). f.at ≤ g.at) (sym is) (omega arith)
     clear e f es up d (inr (inr m)) lt = rises_all f.at es d up m
 
-    next_part : (e f : Edge) (es : List Edge) (spans : List (ℕ × ℕ)) → Rises e.at (f ∷ es) → IsClosed (e ∷ f ∷ es) → AreCut f.at (e ∷ f ∷ es) spans → AreCut e.at (e ∷ f ∷ es) (part_before e f.at ++ spans)
+    next_part : (e f : Edge) (es : List Edge) (spans : List (ℕ × ℕ)) → Rises e.at (f ∷ es) → IsClosed (e ∷ f ∷ es)
+        → AreCut f.at (e ∷ f ∷ es) spans → AreCut e.at (e ∷ f ∷ es) (part_before e f.at ++ spans)
     next_part e f es spans up closed rest = elim (part_cases e f.at) [
       | inl some ↦
           let end = end_behind e f es up.1 closed some.2 in
-          rw some.0 (add e.at f.at (e ∷ f ∷ es) spans some.1 (e, inl refl, refl) (clear e f es up.1) (λ p low lt. record { edge = e; listed = inl refl; low = low; high = omega (arith, end) }) rest)
+          rw some.0 (add e.at f.at (e ∷ f ∷ es) spans some.1 (e, inl refl, refl) (clear e f es up.1)
+          (λ p low lt. record { edge = e; listed = inl refl; low = low; high = omega (arith, end) }) rest)
       | inr none ↦
-          rw none.0 (pass e.at f.at (e ∷ f ∷ es) spans up.0 (λ p low lt r. let now = reach_now e f es p up.1 lt r in none.1 (omega arith) (omega (arith, now.low, now.high))) rest)
+          rw none.0 (pass e.at f.at (e ∷ f ∷ es) spans up.0 (λ p low lt r. let now = reach_now e f es p up.1 lt r in
+          none.1 (omega arith) (omega (arith, now.low, now.high))) rest)
     ]
 
 -- all parts
@@ -221,4 +255,5 @@ pub cut_parts : (edges : List Edge) → IsNonDecreasingBy (λ (e : Edge). e.at) 
 cut_parts [] up closed = nothing 0 [] (λ p le r. absurd r.listed)
 cut_parts (e ∷ es) up closed =
     let rise = rises_from e es up in
-    pass 0 e.at (e ∷ es) (parts_from e es) (omega arith) (λ p le lt r. omega (arith, r.low, rises_all e.at (e ∷ es) r.edge (omega arith, rise) r.listed)) (cut e es rise closed)
+    pass 0 e.at (e ∷ es) (parts_from e es) (omega arith)
+    (λ p le lt r. omega (arith, r.low, rises_all e.at (e ∷ es) r.edge (omega arith, rise) r.listed)) (cut e es rise closed)

@@ -19,7 +19,8 @@ pub record AreAdded (points : List ℕ) (old new : List Edge) (from : ℕ) : Typ
   pub whole : (p : ℕ) → Contains points p → p < from → HasEdges points new p
 
 -- what is in a list stays in one with more
-pub has_still : (points : List ℕ) (old new : List Edge) → ((e : Edge) → Contains old e → Contains new e) → (p : ℕ) → HasEdges points old p → HasEdges points new p
+pub has_still : (points : List ℕ) (old new : List Edge) → ((e : Edge) → Contains old e → Contains new e) → (p : ℕ) → HasEdges points old p
+    → HasEdges points new p
 has_still points old new kept p h = record {
   run = h.run;
   is_run = h.is_run;
@@ -29,32 +30,38 @@ has_still points old new kept p h = record {
 }
 
 -- one edge more
-sound_more : (points : List ℕ) (old new : List Edge) (e : Edge) → ((d : Edge) → Contains new d → Contains old d ⊎ IsEdgeOf points d) → IsEdgeOf points e → (d : Edge) → Contains (new ++ e ∷ []) d → Contains old d ⊎ IsEdgeOf points d
+sound_more : (points : List ℕ) (old new : List Edge) (e : Edge) → ((d : Edge) → Contains new d → Contains old d ⊎ IsEdgeOf points d)
+    → IsEdgeOf points e → (d : Edge) → Contains (new ++ e ∷ []) d → Contains old d ⊎ IsEdgeOf points d
 sound_more points old new e sound is d h = elim (Contains-push_cases new e d h) [
   | inl before ↦ sound d before
   | inr last ↦ inr (subst (IsEdgeOf points) last is)
 ]
 
-first_edge : (points : List ℕ) (run : ℕ × ℕ) → All (λ p. p < 2 ^ 64) points → IsRunOf points run → IsEdgeOf points (record { at = run.0; last = run.1 })
+first_edge : (points : List ℕ) (run : ℕ × ℕ) → All (λ p. p < 2 ^ 64) points → IsRunOf points run
+    → IsEdgeOf points (record { at = run.0; last = run.1 })
 first_edge points run fits is =
     let end = All-contains (λ p. p < 2 ^ 64) points run.1 fits (is.inside run.1 (record { low = is.some; high = omega arith })) in
     record { first = run.0; run = is; place = inl refl; at_fits = omega (arith, is.some, end); last_fits = end }
 
-last_edge : (points : List ℕ) (run : ℕ × ℕ) → run.1 + 1 < 2 ^ 64 → IsRunOf points run → IsEdgeOf points (record { at = run.1 + 1; last = run.1 })
+last_edge : (points : List ℕ) (run : ℕ × ℕ) → run.1 + 1 < 2 ^ 64 → IsRunOf points run
+    → IsEdgeOf points (record { at = run.1 + 1; last = run.1 })
 last_edge points run room is = record { first = run.0; run = is; place = inr refl; at_fits = room; last_fits = omega arith }
 
-pub added_more : (points : List ℕ) (old new : List Edge) (from : ℕ) (run : ℕ × ℕ) → All (λ p. p < 2 ^ 64) points → AreAdded points old new from → IsFirstRun points from (Some run) → run.1 + 1 < 2 ^ 64
+pub added_more : (points : List ℕ) (old new : List Edge) (from : ℕ) (run : ℕ × ℕ) → All (λ p. p < 2 ^ 64) points
+    → AreAdded points old new from → IsFirstRun points from (Some run) → run.1 + 1 < 2 ^ 64
     → AreAdded points old ((new ++ record { at = run.0; last = run.1 } ∷ []) ++ record { at = run.1 + 1; last = run.1 } ∷ []) (run.1 + 1)
 added_more points old new from run fits h is room =
     let begin : Edge = record { at = run.0; last = run.1 } in
     let end : Edge = record { at = run.1 + 1; last = run.1 } in
     let one = new ++ begin ∷ [] in
     let two = one ++ end ∷ [] in
-    let stays : (e : Edge) → Contains new e → Contains two e = λ e k. Contains-append_left one (end ∷ []) e (Contains-append_left new (begin ∷ []) e k) in
+    let stays : (e : Edge) → Contains new e → Contains two e =
+    λ e k. Contains-append_left one (end ∷ []) e (Contains-append_left new (begin ∷ []) e k) in
     record {
       outside = λ k. absurd (is.0.behind k);
       kept = λ e k. stays e (h.kept e k);
-      sound = sound_more points old one end (sound_more points old new begin h.sound (first_edge points run fits is.0)) (last_edge points run room is.0);
+      sound = sound_more points old one end (sound_more points old new begin h.sound (first_edge points run fits is.0))
+          (last_edge points run room is.0);
       whole = λ p k lt. elim (cases_lt p from) [
         | inl before ↦ has_still points new two stays p (h.whole p k before)
         | inr behind ↦ record {
@@ -68,14 +75,16 @@ added_more points old new from run fits h is room =
     }
 
 -- all is added where no point is left, or the last run goes on to the last `u64`
-pub added_all : (points : List ℕ) (old new : List Edge) (from : ℕ) → AreAdded points old new from → IsFirstRun points from None → AddsEdges points old new
+pub added_all : (points : List ℕ) (old new : List Edge) (from : ℕ) → AreAdded points old new from → IsFirstRun points from None
+    → AddsEdges points old new
 added_all points old new from h none = record {
   kept = h.kept;
   sound = h.sound;
   whole = λ p k. elim (cases_lt p from) [ inl before ↦ h.whole p k before | inr behind ↦ absurd (none p k behind) ];
 }
 
-pub added_last : (points : List ℕ) (old new : List Edge) (from : ℕ) (run : ℕ × ℕ) → All (λ p. p < 2 ^ 64) points → AreAdded points old new from → IsFirstRun points from (Some run) → (run.1 + 1 < 2 ^ 64 → ⊥)
+pub added_last : (points : List ℕ) (old new : List Edge) (from : ℕ) (run : ℕ × ℕ) → All (λ p. p < 2 ^ 64) points
+    → AreAdded points old new from → IsFirstRun points from (Some run) → (run.1 + 1 < 2 ^ 64 → ⊥)
     → AddsEdges points old (new ++ record { at = run.0; last = run.1 } ∷ [])
 added_last points old new from run fits h is full =
     let begin : Edge = record { at = run.0; last = run.1 } in
@@ -101,17 +110,21 @@ pub record AreGathered {X : Type 0} (seen : X → Space) (all passed : List X) (
   pub sound : (e : Edge) → Contains edges e → Any (λ x. IsEdgeOf (seen x).points e) all
   pub whole : All (λ x. (p : ℕ) → Contains (seen x).points p → HasEdges (seen x).points edges p) passed
 
-pub gathered_more : {X : Type 0} (seen : X → Space) (all : List X) (old new : List Edge) (i : ℕ) (x : X) → i < length all → x ≡ get_or all i x → AreGathered seen all (take i all) old → AddsEdges (seen x).points old new → AreGathered seen all (take (i + 1) all) new
+pub gathered_more : {X : Type 0} (seen : X → Space) (all : List X) (old new : List Edge) (i : ℕ) (x : X) → i < length all
+    → x ≡ get_or all i x → AreGathered seen all (take i all) old → AddsEdges (seen x).points old new
+    → AreGathered seen all (take (i + 1) all) new
 gathered_more {X} seen all old new i x lt at h adds =
     let Passed : List Edge → X → Type 0 = λ es y. (p : ℕ) → Contains (seen y).points p → HasEdges (seen y).points es p in
     record {
       sound = λ e k. elim (adds.sound e k) [ inl before ↦ h.sound e before | inr is ↦ (i, x, lt, sym at, is) ];
       whole = All-more (Passed new) all i x lt
-          (All-weaker (Passed old) (Passed new) (λ y before p k. has_still (seen y).points old new adds.kept p (before p k)) (take i all) h.whole)
+          (All-weaker (Passed old) (Passed new) (λ y before p k. has_still (seen y).points old new adds.kept p (before p k))
+          (take i all) h.whole)
           (subst (Passed new) at adds.whole);
     }
 
-pub gathered_all : {X : Type 0} (seen : X → Space) (all : List X) (edges : List Edge) → AreGathered seen all all edges → AreEdgesOf (map seen all) edges
+pub gathered_all : {X : Type 0} (seen : X → Space) (all : List X) (edges : List Edge) → AreGathered seen all all edges
+    → AreEdgesOf (map seen all) edges
 gathered_all {X} seen all edges h = record {
   sound = λ e k.
       let r = h.sound e k in

@@ -15,7 +15,9 @@ not_missing xs x h = elim (cases_Bool (is_in xs x)) [
 ]
 
 -- the run from the first point up to a point after which there is none
-run_up_to : (points : List ℕ) (from first last : ℕ) → (Contains points from → from ≡ 0) → IsLeastFrom points from (Some first) → first ≤ last → ((q : ℕ) → first ≤ q → q ≤ last → Contains points q) → (Contains points (last + 1) → ⊥) → IsFirstRun points from (Some (first, last))
+run_up_to : (points : List ℕ) (from first last : ℕ) → (Contains points from → from ≡ 0) → IsLeastFrom points from (Some first)
+    → first ≤ last → ((q : ℕ) → first ≤ q → q ≤ last → Contains points q) → (Contains points (last + 1) → ⊥)
+    → IsFirstRun points from (Some (first, last))
 run_up_to points from first last outside least some inside behind = (
   record {
     some = some;
@@ -33,7 +35,8 @@ run_up_to points from first last outside least some inside behind = (
   λ q h le. least.1 q (h, le),
 )
 
-pub run_before : (points : List ℕ) (from first gap : ℕ) → (Contains points from → from ≡ 0) → IsLeastFrom points from (Some first) → IsLeastGap points first (Some gap) → IsFirstRun points from (Some (first, gap - 1))
+pub run_before : (points : List ℕ) (from first gap : ℕ) → (Contains points from → from ≡ 0) → IsLeastFrom points from (Some first)
+    → IsLeastGap points first (Some gap) → IsFirstRun points from (Some (first, gap - 1))
 run_before points from first gap outside least next =
     let apart : (first ≡ gap → ⊥) = λ e. next.0.0 (subst (Contains points) e least.0.0) in
     let fits : gap < 2 ^ 64 = next.0.2 in
@@ -42,8 +45,10 @@ run_before points from first gap outside least next =
     (λ q low high. not_missing points q (λ missed. omega (arith, next.1 q (missed, low, omega arith), e)))
     (λ h. next.0.0 (subst (Contains points) e h))
 
-pub run_to_end : (points : List ℕ) (from first : ℕ) → All (λ p. p < 2 ^ 64) points → (Contains points from → from ≡ 0) → IsLeastFrom points from (Some first) → IsLeastGap points first None → IsFirstRun points from (Some (first, 18446744073709551615))
+pub run_to_end : (points : List ℕ) (from first : ℕ) → All (λ p. p < 2 ^ 64) points → (Contains points from → from ≡ 0)
+    → IsLeastFrom points from (Some first) → IsLeastGap points first None → IsFirstRun points from (Some (first, 18446744073709551615))
 run_to_end points from first fits outside least none =
-    run_up_to points from first 18446744073709551615 outside least (omega (arith, All-contains (λ p. p < 2 ^ 64) points first fits least.0.0))
+    run_up_to points from first 18446744073709551615 outside least
+    (omega (arith, All-contains (λ p. p < 2 ^ 64) points first fits least.0.0))
     (λ q low high. not_missing points q (λ missed. none q (missed, low, omega arith)))
     (λ h. omega (arith, All-contains (λ p. p < 2 ^ 64) points (18446744073709551615 + 1) fits h))

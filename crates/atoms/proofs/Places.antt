@@ -8,11 +8,14 @@ use Rattle.point_set.specs.Runs.{AreRuns, points_of}
 use Rattle.point_set.proofs.lemmas.InRuns.{Parts, has_here, has_point, ends_before}
 use Rattle.atoms.specs.Atoms.{HasPoint, IsAtomAt, first_points}
 
-pub found_at : (spans : List (ℕ × ℕ)) (p k : ℕ) → Parts spans p k → k < length spans → (get_or spans k (0, 0)).0 ≤ p → IsAtomAt spans p (Some k)
+pub found_at : (spans : List (ℕ × ℕ)) (p k : ℕ) → Parts spans p k → k < length spans → (get_or spans k (0, 0)).0 ≤ p
+    → IsAtomAt spans p (Some k)
 found_at spans p k parts lt low =
-    subst (λ o. IsSomeAnd o (λ span. HasPoint span p)) (sym (slice_get-get_or spans k (0, 0) lt)) (record { low = low; high = parts.1 k (0, 0) (omega arith) lt })
+    subst (λ o. IsSomeAnd o (λ span. HasPoint span p)) (sym (slice_get-get_or spans k (0, 0) lt))
+    (record { low = low; high = parts.1 k (0, 0) (omega arith) lt })
 
-pub none_at : (spans : List (ℕ × ℕ)) (p k : ℕ) → AreRuns spans → Parts spans p k → k < length spans → p < (get_or spans k (0, 0)).0 → Contains (points_of spans) p → ⊥
+pub none_at : (spans : List (ℕ × ℕ)) (p k : ℕ) → AreRuns spans → Parts spans p k → k < length spans → p < (get_or spans k (0, 0)).0
+    → Contains (points_of spans) p → ⊥
 none_at spans p k up parts lt above h = omega (arith, (has_here spans p k up parts lt).1 h)
 
 -- the first points of runs ascend

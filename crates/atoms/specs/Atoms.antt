@@ -22,8 +22,10 @@ AreToldApart t p q = Any (λ (s : Space). is_in s.points p ≢ is_in s.points q)
 pub record AreAtomsOf (t : Tables) (spans : List (ℕ × ℕ)) : Type 0 where
   pub runs : AreRuns spans
   pub points : (p : ℕ) → Contains (points_of spans) p ↔ IsDeclared t p
-  pub alike : (span : ℕ × ℕ) → Contains spans span → (p q : ℕ) → HasPoint span p → HasPoint span q → AreAlike t p q
-  pub apart : (span other : ℕ × ℕ) → Contains spans span → Contains spans other → span ≢ other → (p : ℕ) → HasPoint span p → HasPoint other (p + 1) → AreToldApart t p (p + 1)
+  pub alike : (span : ℕ × ℕ) → Contains spans span → (p q : ℕ) → HasPoint span p → HasPoint span q
+      → AreAlike t p q
+  pub apart : (span other : ℕ × ℕ) → Contains spans span → Contains spans other → span ≢ other → (p : ℕ)
+      → HasPoint span p → HasPoint other (p + 1) → AreToldApart t p (p + 1)
 
 -- The place of the span that has a point: none exactly where no span has it.
 abbrev pub IsAtomAt : List (ℕ × ℕ) → ℕ → Option ℕ → Type 0

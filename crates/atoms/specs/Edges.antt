@@ -14,7 +14,8 @@ pub record IsRunOf (points : List ℕ) (run : ℕ × ℕ) : Type 0 where
 
 -- The maximal run that has the first point from a number on, or none where there is no such point.
 abbrev pub IsFirstRun : List ℕ → ℕ → Option (ℕ × ℕ) → Type 0
-IsFirstRun points from (Some run) = IsRunOf points run × (from ≤ run.0) × ((q : ℕ) → Contains points q → from ≤ q → run.0 ≤ q)
+IsFirstRun points from (Some run) = IsRunOf points run × (from ≤ run.0)
+    × ((q : ℕ) → Contains points q → from ≤ q → run.0 ≤ q)
 IsFirstRun points from None = (q : ℕ) → Contains points q → ¬ (from ≤ q)
 
 -- A maximal run of the set begins at the edge, or ends before it.

@@ -4,7 +4,8 @@ use Rattle.atoms.specs.declared.edges.Edge.{Edge}
 
 -- The part from an edge to the number before the next edge, where some run goes over it.
 abbrev pub part_before : Edge → ℕ → List (ℕ × ℕ)
-part_before begin next = if nat_lt begin.at next && nat_le begin.at begin.last then (begin.at, next - 1) ∷ [] else []
+part_before begin next = if nat_lt begin.at next && nat_le begin.at begin.last then (begin.at, next - 1) ∷ []
+    else []
 
 -- The next edge, with the greatest last point so far.
 abbrev pub joined : Edge → Edge → Edge

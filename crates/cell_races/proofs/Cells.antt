@@ -39,7 +39,8 @@ neither_first a b e f = rw (inst_is a b e f, point_is a b e f, field_is a b e f)
 place_after : (x y : Touch) → x.cell ≡ y.cell → comes_before y x ≡ false → x.place ≤ y.place
 place_after x y same e =
     let at : same_cell y.cell x.cell ≡ true = rw same (same_itself y.cell) in
-    ltb-false y.place x.place (sym (ap (λ b. b && nat_lt y.place x.place) at) ∙ (or_parts _ (same_cell y.cell x.cell && nat_lt y.place x.place) e).1)
+    ltb-false y.place x.place (sym (ap (λ b. b && nat_lt y.place x.place) at)
+    ∙ (or_parts _ (same_cell y.cell x.cell && nat_lt y.place x.place) e).1)
 
 -- ---- the touches of one cell, those before and those after them
 
@@ -62,14 +63,17 @@ abbrev pub BeginsElsewhere : Cell → List Touch → Type 0
 BeginsElsewhere c [] = Unit {0}
 BeginsElsewhere c (x ∷ xs) = x.cell ≡ c → ⊥
 
-gone : (r : Touch) (back : List Touch) → ((y : Touch) → Member back y → NotAfter r y) → Ordered NotAfter back → BeginsElsewhere r.cell back → (y : Touch) → Member back y → y.cell ≡ r.cell → ⊥
+gone : (r : Touch) (back : List Touch) → ((y : Touch) → Member back y → NotAfter r y) → Ordered NotAfter back → BeginsElsewhere r.cell back
+    → (y : Touch) → Member back y → y.cell ≡ r.cell → ⊥
 gone r [] after o begins y m at = absurd m
 gone r (e ∷ back) after o begins y (inl here) at = begins (ap (λ (x : Touch). x.cell) (sym here) ∙ at)
 gone r (e ∷ back) after o begins y (inr later) at =
     begins (neither_first e.cell r.cell (or_parts _ (same_cell e.cell r.cell && nat_lt e.place r.place) (after e (inl refl))).0
-    (subst (λ c. comes_first (key c) (key e.cell) ≡ false) at (or_parts _ (same_cell y.cell e.cell && nat_lt y.place e.place) (o.0 y later)).0))
+    (subst (λ c. comes_first (key c) (key e.cell) ≡ false) at
+    (or_parts _ (same_cell y.cell e.cell && nat_lt y.place e.place) (o.0 y later)).0))
 
-pub cell_of : (front : List Touch) (r : Touch) (here back : List Touch) → Ordered NotAfter (front ++ ((r ∷ here) ++ back)) → IsApart front ((r ∷ here) ++ back)
+pub cell_of : (front : List Touch) (r : Touch) (here back : List Touch) → Ordered NotAfter (front ++ ((r ∷ here) ++ back))
+    → IsApart front ((r ∷ here) ++ back)
     → ((x : Touch) → Member (r ∷ here) x → x.cell ≡ r.cell) → BeginsElsewhere r.cell back → IsCellOf r.cell front (r ∷ here) back
 cell_of front r here back o apart at begins =
     let rest = (ordered_append NotAfter front ((r ∷ here) ++ back) o).1 in
@@ -90,7 +94,8 @@ module _ (before : ℕ → ℕ → Bool) (order : List ℕ) where
   side : (front here back : List Touch) (x : Touch) → Member (front ++ (here ++ back)) x → Member front x ⊎ (Member here x ⊎ Member back x)
   side front here back x m = elim (member_append front (here ++ back) x m) [ inl f ↦ inl f | inr r ↦ inr (member_append here back x r) ]
 
-  clash_among : (some all : List Touch) (a b : ℕ) (cell : Cell) (k : Clash before order all a b cell) → Member some k.one → Member some k.other → Clash before order some a b cell
+  clash_among : (some all : List Touch) (a b : ℕ) (cell : Cell) (k : Clash before order all a b cell) → Member some k.one
+      → Member some k.other → Clash before order some a b cell
   clash_among some all a b cell k m n = record {
     differ = k.differ;
     one = k.one;
@@ -108,7 +113,8 @@ module _ (before : ℕ → ℕ → Bool) (order : List ℕ) where
 
   -- A clash stands in one of the three parts.
   clash_in : (c : Cell) (front here back : List Touch) → IsCellOf c front here back → IsFree before order front
-      → (a b : ℕ) (cell : Cell) → (k : Clash before order (front ++ (here ++ back)) a b cell) → (Member here k.one × Member here k.other) ⊎ (Member back k.one × Member back k.other)
+      → (a b : ℕ) (cell : Cell) → (k : Clash before order (front ++ (here ++ back)) a b cell) → (Member here k.one × Member here k.other)
+      ⊎ (Member back k.one × Member back k.other)
   clash_in c front here back h free a b cell k =
       let same = k.one_at ∙ sym k.other_at in
       elim (side front here back k.one (member_of _ k.one k.one_in)) [
@@ -129,7 +135,8 @@ module _ (before : ℕ → ℕ → Bool) (order : List ℕ) where
         ]
       ]
 
-  race_of : (here all : List Touch) (a b : ℕ) (cell : Cell) (k : Clash before order all a b cell) → Member here k.one → Member here k.other → RaceOf before (map (visit_of order) here) a b
+  race_of : (here all : List Touch) (a b : ℕ) (cell : Cell) (k : Clash before order all a b cell) → Member here k.one → Member here k.other
+      → RaceOf before (map (visit_of order) here) a b
   race_of here all a b cell k m n = record {
     one = visit_of order k.one;
     other = visit_of order k.other;
@@ -162,12 +169,14 @@ module _ (before : ℕ → ℕ → Bool) (order : List ℕ) where
         other_at = at other.0 other.1;
         one_by = one_by;
         other_by = other_by;
-        conflict = subst (λ (v : Visit). conflicts one.0.access v.access ≡ true) other.2 (subst (λ (v : Visit). conflicts v.access r.other.access ≡ true) one.2 r.races.1);
+        conflict = subst (λ (v : Visit). conflicts one.0.access v.access ≡ true) other.2
+            (subst (λ (v : Visit). conflicts v.access r.other.access ≡ true) one.2 r.races.1);
         not_before = subst (λ n. before a n ≡ false) r.other_by (subst (λ m. before m r.other.node ≡ false) r.one_by r.races.2);
         not_after = subst (λ n. before b n ≡ false) r.one_by (subst (λ m. before m r.one.node ≡ false) r.other_by r.races.3);
       }
 
-  pub free_more : (c : Cell) (front here : List Touch) → IsCellOf c front here [] → IsFree before order front → race_in before (visits_of order here) ≡ None → IsFree before order (front ++ here)
+  pub free_more : (c : Cell) (front here : List Touch) → IsCellOf c front here [] → IsFree before order front
+      → race_in before (visits_of order here) ≡ None → IsFree before order (front ++ here)
   free_more c front here h free e a b cell k =
       let all = subst (λ zs. Clash before order (front ++ zs) a b cell) (sym (append-nil here)) k in
       elim (clash_in c front here [] h free a b cell all) [
@@ -175,25 +184,31 @@ module _ (before : ℕ → ℕ → Bool) (order : List ℕ) where
         | inr none ↦ absurd none.0
       ]
 
-  module _ (rank : ℕ → ℕ) (later : (a b : ℕ) → before a b ≡ true → rank a < rank b) (placed : (p : ℕ) → p < length order → rank (slice_index order p) ≡ p) where
-    climbs : (c : Cell) (here : List Touch) → ((x : Touch) → Member here x → x.cell ≡ c) → All (λ (x : Touch). x.place < length order) here → Ordered NotAfter here → Ordered (Climbs rank) (map (visit_of order) here)
+  module _ (rank : ℕ → ℕ) (later : (a b : ℕ) → before a b ≡ true → rank a < rank b) (placed : (p : ℕ) → p < length order
+      → rank (slice_index order p) ≡ p) where
+    climbs : (c : Cell) (here : List Touch) → ((x : Touch) → Member here x → x.cell ≡ c) → All (λ (x : Touch). x.place < length order) here
+        → Ordered NotAfter here → Ordered (Climbs rank) (map (visit_of order) here)
     climbs c here at within o = ordered_map (visit_of order) NotAfter (Climbs rank) here (λ x y m n not_after.
         let first = placed x.place (all_at (λ (z : Touch). z.place < length order) here x within m) in
         let second = placed y.place (all_at (λ (z : Touch). z.place < length order) here y within n) in
         (rw (first, second) (place_after x y (at x m ∙ sym (at y n)) not_after), λ e. ap (slice_index order) (sym first ∙ (e ∙ second)))) o
 
-    pub shown_of : (c : Cell) (front here back : List Touch) → IsCellOf c front here back → IsFree before order front → All (λ (x : Touch). x.place < length order) here → Ordered NotAfter here
-        → (a b : ℕ) → race_in before (visits_of order here) ≡ Some (a, b) → IsShown before rank order (front ++ (here ++ back)) (record { a = a; b = b; cell = c })
+    pub shown_of : (c : Cell) (front here back : List Touch) → IsCellOf c front here back → IsFree before order front
+        → All (λ (x : Touch). x.place < length order) here → Ordered NotAfter here
+        → (a b : ℕ) → race_in before (visits_of order here) ≡ Some (a, b)
+        → IsShown before rank order (front ++ (here ++ back)) (record { a = a; b = b; cell = c })
     shown_of c front here back h free within o a b e =
         let s = shown_at before rank later (map (visit_of order) here) (climbs c here h.at within o) a b e in
-        let inside : (x : Touch) → Member here x → Member (front ++ (here ++ back)) x = λ x m. member_right front (here ++ back) x (member_left here back x m) in
+        let inside : (x : Touch) → Member here x → Member (front ++ (here ++ back)) x =
+        λ x m. member_right front (here ++ back) x (member_left here back x m) in
         record {
           clash = clash_of c here (front ++ (here ++ back)) h.at inside a b s.race;
           in_order = s.in_order;
-          least_cell = λ m n other k. subst (λ d. comes_first (key d) (key c) ≡ false) k.one_at (elim (clash_in c front here back h free m n other k) [
-            | inl both ↦ h.least k.one (inl both.0)
-            | inr both ↦ h.least k.one (inr both.0)
-          ]);
+          least_cell = λ m n other k. subst (λ d. comes_first (key d) (key c) ≡ false) k.one_at
+              (elim (clash_in c front here back h free m n other k) [
+                | inl both ↦ h.least k.one (inl both.0)
+                | inr both ↦ h.least k.one (inr both.0)
+              ]);
           first_later = λ m n k less. elim (clash_in c front here back h free m n c k) [
             | inl both ↦ s.first_later m n (race_of here _ m n c k both.0 both.1) less
             | inr both ↦ absurd (h.not_back k.one both.0 k.one_at)

@@ -20,7 +20,8 @@ module _ (touches : List Touch) (from end : ℕ) (behind : from < end) (within :
   drop_parts : drop from touches ≡ run ++ drop end touches
   drop_parts =
       let e : from + (end - from) ≡ end = omega (arith, behind) in
-      sym (take-append-drop (end - from) (drop from touches)) ∙ ap (λ zs. run ++ zs) (drop-drop (end - from) from touches ∙ ap (λ n. drop n touches) e)
+      sym (take-append-drop (end - from) (drop from touches))
+      ∙ ap (λ zs. run ++ zs) (drop-drop (end - from) from touches ∙ ap (λ n. drop n touches) e)
 
   whole : touches ≡ take from touches ++ (run ++ drop end touches)
   whole = sym (take-append-drop from touches) ∙ ap (λ zs. take from touches ++ zs) drop_parts
@@ -32,8 +33,15 @@ module _ (touches : List Touch) (from end : ℕ) (behind : from < end) (within :
 
   take_end : take end touches ≡ take from touches ++ run
   take_end =
-      let long : length (take from touches ++ run) ≡ end = rw (length-append (take from touches) run, length-take from touches, length-take (end - from) (drop from touches), length-drop from touches) (omega (arith, behind, within)) in
-      ap (take end) (whole ∙ sym (append_assoc (take from touches) run (drop end touches))) ∙ take_at (take from touches ++ run) (drop end touches) end long
+      let long : length (take from touches ++ run) ≡ end =
+      rw (
+        length-append (take from touches) run,
+        length-take from touches,
+        length-take (end - from) (drop from touches),
+        length-drop from touches,
+      ) (omega (arith, behind, within)) in
+      ap (take end) (whole ∙ sym (append_assoc (take from touches) run (drop end touches)))
+      ∙ take_at (take from touches ++ run) (drop end touches) end long
 
   module _ (d : Touch) (same : (k : ℕ) (d : Touch) → from ≤ k → k < end → (get_or touches k d).cell ≡ (get_or touches from d).cell)
       (other : (d : Touch) → end < length touches → (get_or touches end d).cell ≡ (get_or touches from d).cell → ⊥)
@@ -51,8 +59,10 @@ module _ (touches : List Touch) (from end : ℕ) (behind : from < end) (within :
     at x m =
         let c = contains_of run x m in
         let n : c.0 < end - from = subst (λ n. c.0 < n) (length-take (end - from) (drop from touches) ∙ short) c.1 in
-        let is : get_or touches (from + c.0) x ≡ x = sym (get_or-take (end - from) (drop from touches) c.0 x n ∙ get_or-drop from touches c.0 x) ∙ c.2 in
-        ap (λ (y : Touch). y.cell) (sym is) ∙ (same (from + c.0) x (omega arith) (omega (arith, n, behind)) ∙ ap (λ (y : Touch). y.cell) (same_first x))
+        let is : get_or touches (from + c.0) x ≡ x =
+        sym (get_or-take (end - from) (drop from touches) c.0 x n ∙ get_or-drop from touches c.0 x) ∙ c.2 in
+        ap (λ (y : Touch). y.cell) (sym is) ∙ (same (from + c.0) x (omega arith) (omega (arith, n, behind))
+        ∙ ap (λ (y : Touch). y.cell) (same_first x))
       where
         short : min (end - from) (length (drop from touches)) ≡ end - from
         short = rw (length-drop from touches) (omega (arith, behind, within))
@@ -89,12 +99,17 @@ module _ (touches : List Touch) (from end : ℕ) (behind : from < end) (within :
         least = λ x m. elim m [ inl here ↦ is_cell.least x (inl here) | inr none ↦ absurd none ];
       }) free e)
 
-      pub shown_here : (rank : ℕ → ℕ) → ((a b : ℕ) → before a b ≡ true → rank a < rank b) → ((p : ℕ) → p < length order → rank (slice_index order p) ≡ p)
-          → All (λ (x : Touch). x.place < length order) touches → (a b : ℕ) → race_in before (visits_of order run) ≡ Some (a, b) → IsShown before rank order touches (record { a = a; b = b; cell = first.cell })
-      shown_here rank later placed placed_in a b e = subst (λ zs. IsShown before rank order zs (record { a = a; b = b; cell = first.cell })) (sym whole)
+      pub shown_here : (rank : ℕ → ℕ) → ((a b : ℕ) → before a b ≡ true → rank a < rank b)
+          → ((p : ℕ) → p < length order → rank (slice_index order p) ≡ p)
+          → All (λ (x : Touch). x.place < length order) touches → (a b : ℕ) → race_in before (visits_of order run) ≡ Some (a, b)
+          → IsShown before rank order touches (record { a = a; b = b; cell = first.cell })
+      shown_here rank later placed placed_in a b e =
+          subst (λ zs. IsShown before rank order zs (record { a = a; b = b; cell = first.cell })) (sym whole)
           (shown_of before order rank later placed first.cell (take from touches) run (drop end touches) is_cell free
-          (All-take (λ (x : Touch). x.place < length order) (end - from) (drop from touches) (All-drop (λ (x : Touch). x.place < length order) from touches placed_in))
-          (ordered_append NotAfter run (drop end touches) (ordered_append NotAfter (take from touches) (run ++ drop end touches) (subst (Ordered NotAfter) whole ordered)).1).0
+          (All-take (λ (x : Touch). x.place < length order) (end - from) (drop from touches)
+          (All-drop (λ (x : Touch). x.place < length order) from touches placed_in))
+          (ordered_append NotAfter run (drop end touches)
+          (ordered_append NotAfter (take from touches) (run ++ drop end touches) (subst (Ordered NotAfter) whole ordered)).1).0
           a b e)
 
 -- No touch is passed over yet, and none is left.

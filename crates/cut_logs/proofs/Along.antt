@@ -27,15 +27,19 @@ module _ (p : ℕ → Bool) (xs : List ℕ) (i : ℕ) (lt : i < length xs) where
   one_more e = filter_more p xs i 0 lt ∙ ap (λ b. filter p (take i xs) ++ cond b (get_or xs i 0 ∷ []) []) e
 
   pub none_more : p (get_or xs i 0) ≡ false → filter p (take (i + 1) xs) ≡ filter p (take i xs)
-  none_more e = filter_more p xs i 0 lt ∙ ap (λ b. filter p (take i xs) ++ cond b (get_or xs i 0 ∷ []) []) e ∙ append-nil (filter p (take i xs))
+  none_more e = filter_more p xs i 0 lt ∙ ap (λ b. filter p (take i xs) ++ cond b (get_or xs i 0 ∷ []) []) e
+      ∙ append-nil (filter p (take i xs))
 
   pub last_more : IsStrictlyIncreasing xs → p (get_or xs i 0) ≡ true → IsGreatestOf (filter p (take (i + 1) xs)) (Some (get_or xs i 0))
   last_more up e = (
-    subst (λ ys. Contains ys (get_or xs i 0)) (sym (one_more e)) (contains_of _ _ (member_right (filter p (take i xs)) (get_or xs i 0 ∷ []) (get_or xs i 0) (inl refl))),
-    λ q c. so_far xs i q up lt (contains_of (take (i + 1) xs) q (member_filter p (take (i + 1) xs) q (member_of (filter p (take (i + 1) xs)) q c)).0),
+    subst (λ ys. Contains ys (get_or xs i 0)) (sym (one_more e))
+        (contains_of _ _ (member_right (filter p (take i xs)) (get_or xs i 0 ∷ []) (get_or xs i 0) (inl refl))),
+    λ q c. so_far xs i q up lt (contains_of (take (i + 1) xs) q
+        (member_filter p (take (i + 1) xs) q (member_of (filter p (take (i + 1) xs)) q c)).0),
   )
 
-  pub last_still : (last : Option ℕ) → p (get_or xs i 0) ≡ false → IsGreatestOf (filter p (take i xs)) last → IsGreatestOf (filter p (take (i + 1) xs)) last
+  pub last_still : (last : Option ℕ) → p (get_or xs i 0) ≡ false → IsGreatestOf (filter p (take i xs)) last
+      → IsGreatestOf (filter p (take (i + 1) xs)) last
   last_still last e h = subst (λ ys. IsGreatestOf ys last) (sym (none_more e)) h
 
   pub count_more : p (get_or xs i 0) ≡ true → length (filter p (take (i + 1) xs)) ≡ length (filter p (take i xs)) + 1

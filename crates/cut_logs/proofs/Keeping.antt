@@ -15,7 +15,8 @@ use Rattle.point_laws.proofs.lemmas.Cuts.{in_both, in_kept}
 use Rattle.cut_logs.proofs.lemmas.Rising.{rise}
 
 -- The least common number is the least of those that are kept.
-pub kept_least : (listed xs : List ℕ) (low : ℕ) (o : Option ℕ) → IsLeast (λ q. Contains xs q × Contains listed q × (low ≤ q)) o → IsLeastFrom (filter (is_in listed) xs) low o
+pub kept_least : (listed xs : List ℕ) (low : ℕ) (o : Option ℕ) → IsLeast (λ q. Contains xs q × Contains listed q × (low ≤ q)) o
+    → IsLeastFrom (filter (is_in listed) xs) low o
 kept_least listed xs low (Some p) least = (
   (in_kept listed xs p least.0.0 least.0.1, least.0.2),
   λ q h. let both = in_both listed xs q h.0 in least.1 q (both.0, both.1, h.1),
@@ -39,7 +40,8 @@ same_test xs q true h = is_in_of xs q (member_of xs q (h.0 refl))
 same_test xs q false h = false_from_ne_true (is_in xs q) (λ e. true≢false (sym (h.1 (contains_of xs q (member_in xs q e)))))
 
 -- Numbers that rise are those that they are.
-same_numbers : (xs ys : List ℕ) → Rise xs → Rise ys → ((q : ℕ) → Member xs q → Member ys q) → ((q : ℕ) → Member ys q → Member xs q) → xs ≡ ys
+same_numbers : (xs ys : List ℕ) → Rise xs → Rise ys → ((q : ℕ) → Member xs q → Member ys q) → ((q : ℕ) → Member ys q → Member xs q)
+    → xs ≡ ys
 same_numbers [] [] a b on back = refl
 same_numbers [] (y ∷ ys) a b on back = absurd (back y (inl refl))
 same_numbers (x ∷ xs) [] a b on back = absurd (on x (inl refl))
@@ -53,12 +55,14 @@ same_numbers (x ∷ xs) (y ∷ ys) a b on back =
     later y q ys lt (inl is) = absurd (omega (arith, lt, is))
     later y q ys lt (inr m) = m
 
-    first : (x y : ℕ) (xs ys : List ℕ) → ((q : ℕ) → Member xs q → x < q) → ((q : ℕ) → Member ys q → y < q) → Member (y ∷ ys) x → Member (x ∷ xs) y → x ≡ y
+    first : (x y : ℕ) (xs ys : List ℕ) → ((q : ℕ) → Member xs q → x < q) → ((q : ℕ) → Member ys q → y < q) → Member (y ∷ ys) x
+        → Member (x ∷ xs) y → x ≡ y
     first x y xs ys a b (inl is) m = is
     first x y xs ys a b (inr m) (inl is) = sym is
     first x y xs ys a b (inr m) (inr n) = let p = b x m in let q = a y n in absurd (omega (arith, p, q))
 
-pub turned : (listed xs : List ℕ) → IsStrictlyIncreasing listed → IsStrictlyIncreasing xs → filter (is_in xs) listed ≡ filter (is_in listed) xs
+pub turned : (listed xs : List ℕ) → IsStrictlyIncreasing listed → IsStrictlyIncreasing xs
+    → filter (is_in xs) listed ≡ filter (is_in listed) xs
 turned listed xs up rises =
     same_numbers (filter (is_in xs) listed) (filter (is_in listed) xs)
     (rise (filter (is_in xs) listed) (IsStrictlyIncreasing-filter (is_in xs) listed up))
@@ -93,15 +97,35 @@ module _ (listed xs : List ℕ) (p : ℕ) where
   gap_both a b r one other is = elim (cases_lt a b) [
     | inl less ↦
         let e : a ≡ r = omega (arith, is, less) in
-        subst (λ n. Gap (Some n)) e ((by_set a one.0.0, one.0.1, one.0.2), λ q h. elim (in_gap listed xs q h.0) [ inl g ↦ one.1 q (g, h.1, h.2) | inr g ↦ let far = other.1 q (g, h.1, h.2) in omega (arith, far, less) ])
+        subst (λ n. Gap (Some n)) e (
+          (by_set a one.0.0, one.0.1, one.0.2),
+          λ q h. elim (in_gap listed xs q h.0) [
+            | inl g ↦ one.1 q (g, h.1, h.2)
+            | inr g ↦ let far = other.1 q (g, h.1, h.2) in
+                omega (arith, far, less)
+          ],
+        )
     | inr more ↦
         let e : b ≡ r = omega (arith, is, more) in
-        subst (λ n. Gap (Some n)) e ((by_list b other.0.0, other.0.1, other.0.2), λ q h. elim (in_gap listed xs q h.0) [ inl g ↦ let far = one.1 q (g, h.1, h.2) in omega (arith, far, more) | inr g ↦ other.1 q (g, h.1, h.2) ])
+        subst (λ n. Gap (Some n)) e (
+          (by_list b other.0.0, other.0.1, other.0.2),
+          λ q h. elim (in_gap listed xs q h.0) [
+            | inl g ↦ let far = one.1 q (g, h.1, h.2) in
+                omega (arith, far, more)
+            | inr g ↦ other.1 q (g, h.1, h.2)
+          ],
+        )
   ]
 
   pub gap_set : (a : ℕ) → IsLeastGap xs p (Some a) → IsLeastGap listed p None → Gap (Some a)
-  gap_set a one other = ((by_set a one.0.0, one.0.1, one.0.2), λ q h. elim (in_gap listed xs q h.0) [ inl g ↦ one.1 q (g, h.1, h.2) | inr g ↦ absurd (other q (g, h.1, h.2)) ])
+  gap_set a one other = (
+    (by_set a one.0.0, one.0.1, one.0.2),
+    λ q h. elim (in_gap listed xs q h.0) [ inl g ↦ one.1 q (g, h.1, h.2) | inr g ↦ absurd (other q (g, h.1, h.2)) ],
+  )
 
   pub gap_list : (b : Option ℕ) → IsLeastGap xs p None → IsLeastGap listed p b → Gap b
-  gap_list (Some b) one other = ((by_list b other.0.0, other.0.1, other.0.2), λ q h. elim (in_gap listed xs q h.0) [ inl g ↦ absurd (one q (g, h.1, h.2)) | inr g ↦ other.1 q (g, h.1, h.2) ])
+  gap_list (Some b) one other = (
+    (by_list b other.0.0, other.0.1, other.0.2),
+    λ q h. elim (in_gap listed xs q h.0) [ inl g ↦ absurd (one q (g, h.1, h.2)) | inr g ↦ other.1 q (g, h.1, h.2) ],
+  )
   gap_list None one other = λ q h. elim (in_gap listed xs q h.0) [ inl g ↦ one q (g, h.1, h.2) | inr g ↦ other q (g, h.1, h.2) ]

@@ -8,10 +8,12 @@ use Rattle.semantics.specs.ReplayOrder.{is_stuck}
 use Rattle.log_laws.proofs.lemmas.Members.{Member, member_of, contains_of}
 
 -- What is waited on along a chain is a node.
-chain_within : (nodes : List Node) (start : ℕ) (between : List ℕ) (end : ℕ) → IsChain nodes start between end → (k : ℕ) → Member (start ∷ between) k → k < length nodes
+chain_within : (nodes : List Node) (start : ℕ) (between : List ℕ) (end : ℕ) → IsChain nodes start between end → (k : ℕ)
+    → Member (start ∷ between) k → k < length nodes
 chain_within nodes start [] end w k (inl is) = subst (λ j. j < length nodes) (sym is) (slice_get_within nodes start w.on w.on_is)
 chain_within nodes start [] end w k (inr none) = absurd none
-chain_within nodes start (next ∷ between) end chain k (inl is) = subst (λ j. j < length nodes) (sym is) (slice_get_within nodes start chain.0.on chain.0.on_is)
+chain_within nodes start (next ∷ between) end chain k (inl is) =
+    subst (λ j. j < length nodes) (sym is) (slice_get_within nodes start chain.0.on chain.0.on_is)
 chain_within nodes start (next ∷ between) end chain k (inr later) = chain_within nodes next between end chain.1 k later
 
 pub cycle_within : (nodes : List Node) (cycle : List ℕ) → IsCycle nodes cycle → All (λ k. k < length nodes) cycle
@@ -21,7 +23,8 @@ cycle_within nodes (first ∷ rest) is = λ i d lt.
     chain_within nodes first rest first is.1 k (member_of (first ∷ rest) k (Contains-get_or (first ∷ rest) i d lt))
 
 -- Where no node is stuck, and each node of a cycle would be, there is no cycle.
-pub no_cycle : (nodes : List Node) → ((k : ℕ) → k < length nodes → is_stuck nodes k ≡ false) → ((cycle : List ℕ) → IsCycle nodes cycle → (k : ℕ) → Contains cycle k → is_stuck nodes k ≡ true)
+pub no_cycle : (nodes : List Node) → ((k : ℕ) → k < length nodes → is_stuck nodes k ≡ false)
+    → ((cycle : List ℕ) → IsCycle nodes cycle → (k : ℕ) → Contains cycle k → is_stuck nodes k ≡ true)
     → (cycle : List ℕ) → IsCycle nodes cycle → ⊥
 no_cycle nodes free stuck [] is = is
 no_cycle nodes free stuck (first ∷ rest) is =

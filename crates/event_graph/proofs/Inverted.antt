@@ -10,7 +10,8 @@ use Rattle.log_laws.proofs.lemmas.Lists.{few}
 use Rattle.event_graph.specs.Inverse.{AreInverse}
 use Rattle.event_graph.proofs.lemmas.Placed.{stands, finds}
 
-module _ (count : ℕ) (nodes places : List ℕ) (within : All (λ n. n < count) nodes) (apart : AllPairs (λ m n. m ≢ n) nodes) (whole : (n : ℕ) → n < count → Contains nodes n)
+module _ (count : ℕ) (nodes places : List ℕ) (within : All (λ n. n < count) nodes) (apart : AllPairs (λ m n. m ≢ n) nodes) (whole : (n : ℕ)
+    → n < count → Contains nodes n)
     (each : length places ≡ count) (placed : (p : ℕ) → p < length nodes → get_or places (get_or nodes p 0) 0 ≡ p) where
   place_of : (n : ℕ) → n < count → (get_or places n 0 < length nodes) × (get_or nodes (get_or places n 0) 0 ≡ n)
   place_of n lt =
@@ -23,12 +24,14 @@ module _ (count : ℕ) (nodes places : List ℕ) (within : All (λ n. n < count)
   places_apart i j d lt less e =
       let a = place_of i (omega (arith, lt, less, each)) in
       let b = place_of j (omega (arith, less, each)) in
-      let same : get_or places i 0 ≡ get_or places j 0 = get_or_default places i 0 d (omega (arith, lt, less)) ∙ (e ∙ sym (get_or_default places j 0 d less)) in
+      let same : get_or places i 0 ≡ get_or places j 0 =
+      get_or_default places i 0 d (omega (arith, lt, less)) ∙ (e ∙ sym (get_or_default places j 0 d less)) in
       omega (arith, lt, sym a.1 ∙ (ap (λ k. get_or nodes k 0) same ∙ b.1))
 
   as_many : length places ≡ length nodes
   as_many =
-      let one = few nodes count (pairs_from _ nodes apart) (λ n m. let c = contains_of nodes n m in subst (λ k. k < count) c.2 (within c.0 n c.1)) in
+      let one = few nodes count (pairs_from _ nodes apart) (λ n m. let c = contains_of nodes n m in
+      subst (λ k. k < count) c.2 (within c.0 n c.1)) in
       let other = few places (length nodes) (pairs_from _ places places_apart) (λ p m. let c = contains_of places p m in
       let at = place_of c.0 (omega (arith, c.1, each)) in
       subst (λ k. k < length nodes) (get_or_default places c.0 0 p c.1 ∙ c.2) at.0) in

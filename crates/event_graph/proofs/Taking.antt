@@ -22,34 +22,41 @@ unmet nodes taken (e ∷ es) = (if is_met nodes taken e then 0 else 1) + unmet n
 -- ---- least ready node
 
 -- The first number of a range that passes.
-find_number : (p : ℕ → Bool) (first n k : ℕ) → first ≤ k → k < first + n → p k ≡ true → ((j : ℕ) → first ≤ j → j < k → p j ≡ false) → find p (range_with_len first n) ≡ Some k
+find_number : (p : ℕ → Bool) (first n k : ℕ) → first ≤ k → k < first + n → p k ≡ true → ((j : ℕ) → first ≤ j → j < k → p j ≡ false)
+    → find p (range_with_len first n) ≡ Some k
 find_number p first zero k low high passes below = absurd (omega (arith, low, high))
 find_number p first (suc n) k low high passes below = elim (cases_eq first k) [
   | inl e ↦ let here : p first ≡ true = subst (λ j. p j ≡ true) (sym e) passes in rw here (ap (λ j. Some j) e)
-  | inr ne ↦ rw (below first (omega arith) (omega (arith, low, ne))) (find_number p (first + 1) n k (omega (arith, low, ne)) (omega (arith, high)) passes (λ j from lt. below j (omega (arith, from)) lt))
+  | inr ne ↦ rw (below first (omega arith) (omega (arith, low, ne)))
+      (find_number p (first + 1) n k (omega (arith, low, ne)) (omega (arith, high)) passes (λ j from lt. below j (omega (arith, from)) lt))
 ]
 
-pub find_least : (nodes : List Node) (p : ℕ → Bool) (k : ℕ) → k < length nodes → p k ≡ true → ((j : ℕ) → j < k → p j ≡ false) → find p (positions nodes) ≡ Some k
+pub find_least : (nodes : List Node) (p : ℕ → Bool) (k : ℕ) → k < length nodes → p k ≡ true → ((j : ℕ) → j < k → p j ≡ false)
+    → find p (positions nodes) ≡ Some k
 find_least nodes p k lt passes below = find_number p 0 (length nodes) k (omega arith) (omega (arith, lt)) passes (λ j _ h. below j h)
 
 pub find_nothing : (nodes : List Node) (p : ℕ → Bool) → ((k : ℕ) → k < length nodes → p k ≡ false) → find p (positions nodes) ≡ None
 find_nothing nodes p none = elim (none_or_some (find p (positions nodes))) [
   | inl e ↦ e
-  | inr some ↦ let r = found_at p (positions nodes) some.0 some.1 in absurd (true≢false (sym r.1 ∙ none some.0 (number_within (length nodes) some.0 r.0)))
+  | inr some ↦ let r = found_at p (positions nodes) some.0 some.1 in
+      absurd (true≢false (sym r.1 ∙ none some.0 (number_within (length nodes) some.0 r.0)))
 ]
 
 -- Where nothing may be taken, no more rounds change anything.
-pub rounds_stop : (nodes : List Node) (n : ℕ) (taken : List ℕ) → find (is_ready nodes taken) (positions nodes) ≡ None → after_rounds nodes n taken ≡ taken
+pub rounds_stop : (nodes : List Node) (n : ℕ) (taken : List ℕ) → find (is_ready nodes taken) (positions nodes) ≡ None
+    → after_rounds nodes n taken ≡ taken
 rounds_stop nodes zero taken e = refl
 rounds_stop nodes (suc n) taken e = rw e (rounds_stop nodes n taken e)
 
-pub round_next : (nodes : List Node) (n m : ℕ) (taken : List ℕ) (k : ℕ) → n ≡ m + 1 → find (is_ready nodes taken) (positions nodes) ≡ Some k → after_rounds nodes n taken ≡ after_rounds nodes m (taken ++ k ∷ [])
+pub round_next : (nodes : List Node) (n m : ℕ) (taken : List ℕ) (k : ℕ) → n ≡ m + 1 → find (is_ready nodes taken) (positions nodes) ≡ Some k
+    → after_rounds nodes n taken ≡ after_rounds nodes m (taken ++ k ∷ [])
 round_next nodes n m taken k is e = rw (is, add-one m, e) refl
 
 -- ---- waits
 
 -- A node's event is met by no node that was taken before it.
-pub fresh : (nodes : List Node) → AllPairs (λ (m : Node) (n : Node). m.done ≢ n.done) nodes → (taken : List ℕ) (k : ℕ) (n : Node) → slice_get nodes k ≡ Some n → is_in taken k ≡ false → is_met nodes taken n.done ≡ false
+pub fresh : (nodes : List Node) → AllPairs (λ (m : Node) (n : Node). m.done ≢ n.done) nodes → (taken : List ℕ) (k : ℕ) (n : Node)
+    → slice_get nodes k ≡ Some n → is_in taken k ≡ false → is_met nodes taken n.done ≡ false
 fresh nodes apart taken k n at out = false_from_ne_true (is_met nodes taken n.done) (λ met.
     let found = any_found (has_event nodes n.done) taken met in
     let same : found.0 ≡ k = one_place found.0 found.2 in
@@ -58,10 +65,13 @@ fresh nodes apart taken k n at out = false_from_ne_true (is_met nodes taken n.do
     one_place : (i : ℕ) → has_event nodes n.done i ≡ true → i ≡ k
     one_place i has = grind (arith, nat_tests, gets, slice_get_cases nodes i, apart i k n, apart k i n)
 
-met_more : (nodes : List Node) (taken : List ℕ) (k : ℕ) (n : Node) (e : ℕ) → slice_get nodes k ≡ Some n → is_met nodes (taken ++ k ∷ []) e ≡ (is_met nodes taken e || (n.done == e))
-met_more nodes taken k n e at = list_any-append (has_event nodes e) taken (k ∷ []) ∙ rw at (ap (λ b. is_met nodes taken e || b) (or-false (n.done == e)))
+met_more : (nodes : List Node) (taken : List ℕ) (k : ℕ) (n : Node) (e : ℕ) → slice_get nodes k ≡ Some n
+    → is_met nodes (taken ++ k ∷ []) e ≡ (is_met nodes taken e || (n.done == e))
+met_more nodes taken k n e at = list_any-append (has_event nodes e) taken (k ∷ [])
+    ∙ rw at (ap (λ b. is_met nodes taken e || b) (or-false (n.done == e)))
 
-pub unmet_more : (nodes : List Node) (taken : List ℕ) (k : ℕ) (n : Node) → slice_get nodes k ≡ Some n → is_met nodes taken n.done ≡ false → (ws : List ℕ) → unmet nodes (taken ++ k ∷ []) ws + times n.done ws ≡ unmet nodes taken ws
+pub unmet_more : (nodes : List Node) (taken : List ℕ) (k : ℕ) (n : Node) → slice_get nodes k ≡ Some n → is_met nodes taken n.done ≡ false
+    → (ws : List ℕ) → unmet nodes (taken ++ k ∷ []) ws + times n.done ws ≡ unmet nodes taken ws
 unmet_more nodes taken k n at new [] = omega arith
 unmet_more nodes taken k n at new (e ∷ ws) = grind (arith, nat_tests, met_more nodes taken k n e at, unmet_more nodes taken k n at new ws)
 
@@ -71,7 +81,8 @@ unmet_none nodes taken (w ∷ ws) e = grind (arith, unmet_none nodes taken ws)
 
 pub all_met : (nodes : List Node) (taken ws : List ℕ) → list_all (is_met nodes taken) ws ≡ true → unmet nodes taken ws ≡ 0
 all_met nodes taken [] e = refl
-all_met nodes taken (w ∷ ws) e = let r = and_parts (is_met nodes taken w) (list_all (is_met nodes taken) ws) e in rw r.0 (omega (arith, all_met nodes taken ws r.1))
+all_met nodes taken (w ∷ ws) e = let r = and_parts (is_met nodes taken w) (list_all (is_met nodes taken) ws) e in
+    rw r.0 (omega (arith, all_met nodes taken ws r.1))
 
 pub unmet_at_first : (nodes : List Node) (ws : List ℕ) → unmet nodes [] ws ≡ length ws
 unmet_at_first nodes [] = refl
@@ -82,10 +93,13 @@ unmet_at_first nodes (w ∷ ws) = omega (arith, unmet_at_first nodes ws)
 pub slice_get_some : {X : Type 0} (xs : List X) (k : ℕ) → k < length xs → (x : X) × (slice_get xs k ≡ Some x)
 slice_get_some xs k lt = elim (slice_get_cases xs k).1 [ inl some ↦ (some.0, some.2) | inr none ↦ absurd (omega (arith, lt, none.0)) ]
 
-ready_parts : (nodes : List Node) (taken : List ℕ) (k : ℕ) → is_ready nodes taken k ≡ true → (is_in taken k ≡ false) × (unmet nodes taken (waits_at nodes k) ≡ 0)
-ready_parts nodes taken k e = let r = and_parts (not (is_in taken k)) (list_all (is_met nodes taken) (waits_at nodes k)) e in (not-true (is_in taken k) r.0, all_met nodes taken (waits_at nodes k) r.1)
+ready_parts : (nodes : List Node) (taken : List ℕ) (k : ℕ) → is_ready nodes taken k ≡ true → (is_in taken k ≡ false)
+    × (unmet nodes taken (waits_at nodes k) ≡ 0)
+ready_parts nodes taken k e = let r = and_parts (not (is_in taken k)) (list_all (is_met nodes taken) (waits_at nodes k)) e in
+    (not-true (is_in taken k) r.0, all_met nodes taken (waits_at nodes k) r.1)
 
-ready_of : (nodes : List Node) (taken : List ℕ) (k : ℕ) → is_in taken k ≡ false → unmet nodes taken (waits_at nodes k) ≡ 0 → is_ready nodes taken k ≡ true
+ready_of : (nodes : List Node) (taken : List ℕ) (k : ℕ) → is_in taken k ≡ false → unmet nodes taken (waits_at nodes k) ≡ 0
+    → is_ready nodes taken k ≡ true
 ready_of nodes taken k out none = rw out (unmet_none nodes taken (waits_at nodes k) none)
 
 -- A node that waits is a node.
@@ -101,7 +115,9 @@ pub record IsQueue (nodes : List Node) (taken pending : List ℕ) (ready : ℕ �
   pub queued : (k : ℕ) → (ready k ≡ true) ↔ ((k < length nodes) × (is_ready nodes taken k ≡ true))
   pub met : (k : ℕ) → Member taken k → unmet nodes taken (waits_at nodes k) ≡ 0
 
-module _ {nodes : List Node} (apart : AllPairs (λ (m : Node) (n : Node). m.done ≢ n.done) nodes) {waiters : List (List ℕ)} (w : AreWaiters nodes waiters) {taken pending : List ℕ} {ready : ℕ → Bool} (h : IsQueue nodes taken pending ready) (k : ℕ) (is : ready k ≡ true) where
+module _ {nodes : List Node} (apart : AllPairs (λ (m : Node) (n : Node). m.done ≢ n.done) nodes) {waiters : List (List ℕ)}
+    (w : AreWaiters nodes waiters) {taken pending : List ℕ} {ready : ℕ → Bool} (h : IsQueue nodes taken pending ready) (k : ℕ)
+    (is : ready k ≡ true) where
   pub taken_within : k < length nodes
   taken_within = ((h.queued k).0 is).0
 
@@ -110,7 +126,8 @@ module _ {nodes : List Node} (apart : AllPairs (λ (m : Node) (n : Node). m.done
 
   -- The waits of each node that this node meets are among those that are left.
   left : (s : ℕ) → unmet nodes (taken ++ k ∷ []) (waits_at nodes s) + times s (get_or waiters k []) ≡ unmet nodes taken (waits_at nodes s)
-  left s = let n = slice_get_some nodes k taken_within in rw (w.listed k n.0 n.1 s) (unmet_more nodes taken k n.0 n.1 (fresh nodes apart taken k n.0 n.1 k_parts.0) (waits_at nodes s))
+  left s = let n = slice_get_some nodes k taken_within in
+      rw (w.listed k n.0 n.1 s) (unmet_more nodes taken k n.0 n.1 (fresh nodes apart taken k n.0 n.1 k_parts.0) (waits_at nodes s))
 
   pub enough : (s : ℕ) → times s (get_or waiters k []) ≤ get_or pending s 0
   enough s = omega (arith, left s, h.counts s)
@@ -119,14 +136,16 @@ module _ {nodes : List Node} (apart : AllPairs (λ (m : Node) (n : Node). m.done
   in_more q = list_any-append (λ m. m == q) taken (k ∷ []) ∙ ap (λ b. is_in taken q || b) (or-false (k == q))
 
   module _ (after : List ℕ) (counts : (s : ℕ) → get_or after s 0 + times s (get_or waiters k []) ≡ get_or pending s 0)
-      (rest next : ℕ → Bool) (popped : (q : ℕ) → rest q ≡ (ready q && not (k == q))) (queue : (q : ℕ) → next q ≡ (rest q || (not (get_or pending q 0 == 0) && (get_or after q 0 == 0)))) where
+      (rest next : ℕ → Bool) (popped : (q : ℕ) → rest q ≡ (ready q && not (k == q))) (queue : (q : ℕ)
+      → next q ≡ (rest q || (not (get_or pending q 0 == 0) && (get_or after q 0 == 0)))) where
     counts_next : (q : ℕ) → get_or after q 0 ≡ unmet nodes (taken ++ k ∷ []) (waits_at nodes q)
     counts_next q = omega (arith, counts q, left q, h.counts q)
 
     met_next : (q : ℕ) → Member (taken ++ k ∷ []) q → unmet nodes (taken ++ k ∷ []) (waits_at nodes q) ≡ 0
     met_next q m = elim (member_append taken (k ∷ []) q m) [
       | inl old ↦ omega (arith, left q, h.met q old)
-      | inr new ↦ let none : unmet nodes taken (waits_at nodes q) ≡ 0 = subst (λ j. unmet nodes taken (waits_at nodes j) ≡ 0) (sym (only new)) k_parts.1 in omega (arith, left q, none)
+      | inr new ↦ let none : unmet nodes taken (waits_at nodes q) ≡ 0 =
+          subst (λ j. unmet nodes taken (waits_at nodes j) ≡ 0) (sym (only new)) k_parts.1 in omega (arith, left q, none)
     ]
 
     queued_there : (q : ℕ) → next q ≡ true → (q < length nodes) × (is_ready nodes (taken ++ k ∷ []) q ≡ true)
@@ -134,16 +153,23 @@ module _ {nodes : List Node} (apart : AllPairs (λ (m : Node) (n : Node). m.done
       | inl old ↦
           let both = and_parts (ready q) (not (k == q)) (sym (popped q) ∙ old) in
           let was = (h.queued q).0 both.0 in
-          let parts = ready_parts nodes taken q was.1 in
-          (was.0, ready_of nodes (taken ++ k ∷ []) q (in_more q ∙ rw (parts.0, not-true (k == q) both.1) refl) (omega (arith, left q, parts.1)))
+          let parts = ready_parts nodes taken q was.1 in (
+            was.0,
+            ready_of nodes (taken ++ k ∷ []) q (in_more q ∙ rw (parts.0, not-true (k == q) both.1) refl)
+                (omega (arith, left q, parts.1)),
+          )
       | inr new ↦
           let both = and_parts (not (get_or pending q 0 == 0)) (get_or after q 0 == 0) new in
           let some : get_or pending q 0 ≢ 0 = grind (arith, nat_tests, both.0) in
           let none : get_or after q 0 ≡ 0 = grind (arith, nat_tests, both.1) in
           let waits : unmet nodes taken (waits_at nodes q) ≢ 0 = λ bad. some (h.counts q ∙ bad) in
           let out : is_in taken q ≡ false = false_from_ne_true (is_in taken q) (λ inside. waits (h.met q (member_in taken q inside))) in
-          let other : (k == q) ≡ false = false_from_ne_true (k == q) (λ same. waits (subst (λ j. unmet nodes taken (waits_at nodes j) ≡ 0) (eqb-true k q same) k_parts.1)) in
-          (waits_within nodes taken q waits, ready_of nodes (taken ++ k ∷ []) q (in_more q ∙ rw (out, other) refl) (sym (counts_next q) ∙ none))
+          let other : (k == q) ≡ false = false_from_ne_true (k == q)
+          (λ same. waits (subst (λ j. unmet nodes taken (waits_at nodes j) ≡ 0) (eqb-true k q same) k_parts.1)) in (
+            waits_within nodes taken q waits,
+            ready_of nodes (taken ++ k ∷ []) q (in_more q ∙ rw (out, other) refl) (sym (counts_next q)
+                ∙ none),
+          )
     ]
 
     queued_back : (q : ℕ) → q < length nodes → is_ready nodes (taken ++ k ∷ []) q ≡ true → next q ≡ true
@@ -165,24 +191,38 @@ module _ {nodes : List Node} (apart : AllPairs (λ (m : Node) (n : Node). m.done
 
   pub find_next : ((q : ℕ) → q < k → ready q ≡ false) → find (is_ready nodes taken) (positions nodes) ≡ Some k
   find_next below = find_least nodes (is_ready nodes taken) k taken_within ((h.queued k).0 is).1
-      (λ j lt. false_from_ne_true (is_ready nodes taken j) (λ yes_ready. true≢false (sym ((h.queued j).1 (omega (arith, lt, taken_within), yes_ready)) ∙ below j lt)))
+      (λ j lt. false_from_ne_true (is_ready nodes taken j)
+      (λ yes_ready. true≢false (sym ((h.queued j).1 (omega (arith, lt, taken_within), yes_ready)) ∙ below j lt)))
 
-pub find_no_more : {nodes : List Node} {taken pending : List ℕ} {ready : ℕ → Bool} → IsQueue nodes taken pending ready → ((q : ℕ) → ready q ≡ false) → find (is_ready nodes taken) (positions nodes) ≡ None
-find_no_more {nodes} {taken} {pending} {ready} h none = find_nothing nodes (is_ready nodes taken) (λ j lt. false_from_ne_true (is_ready nodes taken j) (λ is. true≢false (sym ((h.queued j).1 (lt, is)) ∙ none j)))
+pub find_no_more : {nodes : List Node} {taken pending : List ℕ} {ready : ℕ → Bool} → IsQueue nodes taken pending ready
+    → ((q : ℕ) → ready q ≡ false) → find (is_ready nodes taken) (positions nodes) ≡ None
+find_no_more {nodes} {taken} {pending} {ready} h none =
+    find_nothing nodes (is_ready nodes taken) (λ j lt. false_from_ne_true (is_ready nodes taken j)
+    (λ is. true≢false (sym ((h.queued j).1 (lt, is)) ∙ none j)))
 
-pub queue_first : (nodes : List Node) (pending : List ℕ) (ready : ℕ → Bool) → ((k : ℕ) → get_or pending k 0 ≡ length (waits_at nodes k)) → length pending ≡ length nodes
+pub queue_first : (nodes : List Node) (pending : List ℕ) (ready : ℕ → Bool) → ((k : ℕ) → get_or pending k 0 ≡ length (waits_at nodes k))
+    → length pending ≡ length nodes
     → ((q : ℕ) → (ready q ≡ true) ↔ ((q < length pending) × (get_or pending q 0 ≡ 0))) → IsQueue nodes [] pending ready
 queue_first nodes pending ready counts long queued = record {
   counts = λ k. counts k ∙ sym (unmet_at_first nodes (waits_at nodes k));
   queued = λ q. (
-    λ is. let r = (queued q).0 is in (omega (arith, r.0, long), ready_of nodes [] q refl (unmet_at_first nodes (waits_at nodes q) ∙ (sym (counts q) ∙ r.1))),
-    λ r. (queued q).1 (omega (arith, r.0, long), counts q ∙ (sym (unmet_at_first nodes (waits_at nodes q)) ∙ (ready_parts nodes [] q r.1).1)),
+    λ is. let r = (queued q).0 is in (
+      omega (arith, r.0, long),
+      ready_of nodes [] q refl (unmet_at_first nodes (waits_at nodes q) ∙ (sym (counts q) ∙ r.1)),
+    ),
+    λ r. (queued q).1 (
+      omega (arith, r.0, long),
+      counts q
+          ∙ (sym (unmet_at_first nodes (waits_at nodes q)) ∙ (ready_parts nodes [] q r.1).1),
+    ),
   );
   met = λ k m. absurd m;
 }
 
 pub counts_of : (nodes : List Node) (k : ℕ) → get_or (map (λ (n : Node). length n.waits) nodes) k 0 ≡ length (waits_at nodes k)
 counts_of nodes k = elim (slice_get_cases nodes k).1 [
-  | inl some ↦ rw some.2 (get_or_from_slice_get (map (λ (n : Node). length n.waits) nodes) k (length some.0.waits) 0 (slice_get-map (λ (n : Node). length n.waits) nodes k ∙ rw some.2 refl))
-  | inr none ↦ rw none.1 (get_or_past (map (λ (n : Node). length n.waits) nodes) k 0 (omega (arith, none.0, length-map nodes (λ (n : Node). length n.waits))))
+  | inl some ↦ rw some.2 (get_or_from_slice_get (map (λ (n : Node). length n.waits) nodes) k (length some.0.waits) 0
+      (slice_get-map (λ (n : Node). length n.waits) nodes k ∙ rw some.2 refl))
+  | inr none ↦ rw none.1 (get_or_past (map (λ (n : Node). length n.waits) nodes) k 0
+      (omega (arith, none.0, length-map nodes (λ (n : Node). length n.waits))))
 ]

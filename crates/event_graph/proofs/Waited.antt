@@ -24,27 +24,42 @@ module _ (nodes : List Node) (place : ℕ → Option ℕ) (h : IsIndexed nodes p
         let known : All (λ e. is_some (place e) ≡ true) n.waits = rw (slice_get-get_or nodes k n lt, at) at (h.waits k) in
         elim (none_or_some (place event)) [
           | inl none ↦ let bad = sym (ap (λ (o : Option ℕ). is_some o) (ap place it ∙ none)) ∙ known w event less in absurd cc
-          | inr some ↦ let m = node_at nodes some.0 event (h.places.found event some.0 some.1) in (m.0, (some.0, slice_get_within nodes some.0 m.0 m.1, get_or_from_slice_get nodes some.0 m.0 m.0 m.1), m.2)
+          | inr some ↦ let m = node_at nodes some.0 event (h.places.found event some.0 some.1) in
+              (m.0, (some.0, slice_get_within nodes some.0 m.0 m.1, get_or_from_slice_get nodes some.0 m.0 m.0 m.1), m.2)
         ];
   }
 
   pub waited : (k : ℕ) → k < length nodes → (found : List ℕ) → length found ≡ length (waits_at nodes k)
-      → ((i : ℕ) → i < length (waits_at nodes k) → place (get_or (waits_at nodes k) i 0) ≡ Some (get_or found i 0)) → (j : ℕ) → Contains found j ↔ WaitsOn nodes k j
+      → ((i : ℕ) → i < length (waits_at nodes k) → place (get_or (waits_at nodes k) i 0) ≡ Some (get_or found i 0)) → (j : ℕ)
+      → Contains found j ↔ WaitsOn nodes k j
   waited k lt found each places j =
       let by = waits_here nodes k lt in (
         λ (i, within, is).
             let e = get_or (waits_at nodes k) i 0 in
             let less : i < length (waits_at nodes k) = subst (λ n. i < n) each within in
             let on = node_at nodes j e (h.places.found e j (places i less ∙ ap (λ p. Some p) (get_or_default found i 0 j within ∙ is))) in
-            record { on = on.0; by = by.0; on_is = on.1; by_is = by.1; listed = subst (λ d. Contains by.0.waits d) (sym on.2) (subst (λ ws. Contains ws e) by.2 (Contains-get_or (waits_at nodes k) i 0 less)) },
+            record {
+              on = on.0;
+              by = by.0;
+              on_is = on.1;
+              by_is = by.1;
+              listed =
+                  subst (λ d. Contains by.0.waits d) (sym on.2)
+                  (subst (λ ws. Contains ws e) by.2 (Contains-get_or (waits_at nodes k) i 0 less));
+            },
         λ w.
             let waits : waits_at nodes k ≡ w.by.waits = rw w.by_is refl in
             let i = w.listed.0 in
             let less : i < length (waits_at nodes k) = subst (λ ws. i < length ws) (sym waits) w.listed.1 in
-            let event : get_or (waits_at nodes k) i 0 ≡ w.on.done = ap (λ ws. get_or ws i 0) waits ∙ (get_or_default w.by.waits i 0 w.on.done w.listed.1 ∙ w.listed.2) in
+            let event : get_or (waits_at nodes k) i 0 ≡ w.on.done =
+            ap (λ ws. get_or ws i 0) waits ∙ (get_or_default w.by.waits i 0 w.on.done w.listed.1 ∙ w.listed.2) in
             let there : place w.on.done ≡ Some j = h.places.known w.on.done j (rw w.on_is refl) in
-            let within : i < length found = subst (λ n. i < n) (sym each) less in
-            (i, within, get_or_default found i j 0 within ∙ same_Some (get_or found i 0) j (sym (places i less) ∙ (ap place event ∙ there))),
+            let within : i < length found = subst (λ n. i < n) (sym each) less in (
+              i,
+              within,
+              get_or_default found i j 0 within
+                  ∙ same_Some (get_or found i 0) j (sym (places i less) ∙ (ap place event ∙ there)),
+            ),
       )
 
 -- A position that is no node's waits on nothing.
@@ -55,7 +70,8 @@ no_waits nodes k past = elim (none_or_some (slice_get nodes k)) [
 ]
 
 -- What a node lists in a place, looked up.
-pub wait_found : (nodes : List Node) (place : ℕ → Option ℕ) → IsIndexed nodes place → (node k on : ℕ) (events : List ℕ) → events ≡ waits_at nodes node → k < length events → place (get_or events k 0) ≡ Some on → IsWait nodes node k on
+pub wait_found : (nodes : List Node) (place : ℕ → Option ℕ) → IsIndexed nodes place → (node k on : ℕ) (events : List ℕ)
+    → events ≡ waits_at nodes node → k < length events → place (get_or events k 0) ≡ Some on → IsWait nodes node k on
 wait_found nodes place h node k on events is lt at = record {
   event = get_or events k 0;
   listed = rw (← is) (slice_get-get_or events k 0 lt);

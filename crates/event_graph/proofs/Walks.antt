@@ -15,15 +15,18 @@ use Rattle.event_graph.specs.Marked.{AreMarked}
 use Rattle.event_graph.proofs.Taking.{find_least, find_nothing}
 
 -- Whether a node has an event is read off the place of the event.
-not_there : (nodes : List Node) (place : ℕ → Option ℕ) → ArePlaces nodes place → (j e : ℕ) → (done_at nodes j ≡ Some e → ⊥) → is_place j (place e) ≡ false
+not_there : (nodes : List Node) (place : ℕ → Option ℕ) → ArePlaces nodes place → (j e : ℕ) → (done_at nodes j ≡ Some e → ⊥)
+    → is_place j (place e) ≡ false
 not_there nodes place are j e bad = elim (none_or_some (place e)) [
   | inl none ↦ ap (is_place j) none
-  | inr some ↦ ap (is_place j) some.1 ∙ ne_eqb some.0 j (λ same. bad (subst (λ q. done_at nodes q ≡ Some e) same (are.found e some.0 some.1)))
+  | inr some ↦ ap (is_place j) some.1 ∙ ne_eqb some.0 j
+      (λ same. bad (subst (λ q. done_at nodes q ≡ Some e) same (are.found e some.0 some.1)))
 ]
 
 event_place : (nodes : List Node) (place : ℕ → Option ℕ) → ArePlaces nodes place → (j e : ℕ) → has_event nodes e j ≡ is_place j (place e)
 event_place nodes place are j e = elim (none_or_some (done_at nodes j)) [
-  | inl none ↦ ap (λ o. unwrap_or (option_map (λ d. d == e) o) false) none ∙ sym (not_there nodes place are j e (λ at. let bad = sym none ∙ at in absurd cc))
+  | inl none ↦ ap (λ o. unwrap_or (option_map (λ d. d == e) o) false) none
+      ∙ sym (not_there nodes place are j e (λ at. let bad = sym none ∙ at in absurd cc))
   | inr some ↦ ap (λ o. unwrap_or (option_map (λ d. d == e) o) false) some.1 ∙ elim (cases_eq some.0 e) [
     | inl same ↦ eq-eqb some.0 e same ∙ sym (ap (is_place j) (are.known e j (some.1 ∙ ap (λ d. Some d) same)) ∙ eq-eqb j j refl)
     | inr other ↦ ne_eqb some.0 e other ∙ sym (not_there nodes place are j e (λ at. other (same_Some some.0 e (sym some.1 ∙ at))))
@@ -32,11 +35,20 @@ event_place nodes place are j e = elim (none_or_some (done_at nodes j)) [
 
 find_filter : {X : Type 0} (s p : X → Bool) (xs : List X) → find p (filter s xs) ≡ find (λ x. s x && p x) xs
 find_filter s p [] = refl
-find_filter s p (x ∷ xs) = elim (cases_Bool (s x)) [ inl yes_s ↦ rw yes_s (ap (λ o. cond (p x) (Some x) o) (find_filter s p xs)) | inr no_s ↦ rw no_s (find_filter s p xs) ]
+find_filter s p (x ∷ xs) =
+    elim (cases_Bool (s x)) [
+      | inl yes_s ↦ rw yes_s (ap (λ o. cond (p x) (Some x) o) (find_filter s p xs))
+      | inr no_s ↦
+          rw no_s (find_filter s p xs)
+    ]
 
 filter_none : {X : Type 0} (s : X → Bool) (xs : List X) → find s xs ≡ None → filter s xs ≡ []
 filter_none s [] e = refl
-filter_none s (x ∷ xs) e = elim (cases_Bool (s x)) [ inl yes_s ↦ let bad = rw yes_s at e in absurd cc | inr no_s ↦ rw no_s (filter_none s xs (rw no_s at e)) ]
+filter_none s (x ∷ xs) e = elim (cases_Bool (s x)) [
+  | inl yes_s ↦ let bad = rw yes_s at e in
+      absurd cc
+  | inr no_s ↦ rw no_s (filter_none s xs (rw no_s at e))
+]
 
 filter_some : {X : Type 0} (s : X → Bool) (xs : List X) (x : X) → find s xs ≡ Some x → (rest : List X) × (filter s xs ≡ x ∷ rest)
 filter_some s [] x e = absurd cc
@@ -54,13 +66,18 @@ module _ (nodes : List Node) (marks : List Bool) (marked : AreMarked marks (leng
 
   pub none_stuck : ((j : ℕ) → j < length marks → get_or marks j false ≡ true) → shown_cycle nodes ≡ None
   unfolding shown_cycle
-  none_stuck all = ap (cycle_from nodes) (filter_none (is_stuck nodes) (positions nodes) (find_nothing nodes (is_stuck nodes) (λ j lt. false_from_ne_true (is_stuck nodes j) (λ stuck. true≢false (sym (all j (omega (arith, lt, marked.each))) ∙ stuck_unmarked j lt stuck)))))
+  none_stuck all = ap (cycle_from nodes) (filter_none (is_stuck nodes) (positions nodes)
+      (find_nothing nodes (is_stuck nodes) (λ j lt. false_from_ne_true (is_stuck nodes j)
+      (λ stuck. true≢false (sym (all j (omega (arith, lt, marked.each))) ∙ stuck_unmarked j lt stuck)))))
 
-  pub first_stuck : (k : ℕ) → k < length marks → get_or marks k false ≡ false → ((j : ℕ) → j < k → get_or marks j false ≡ true) → shown_cycle nodes ≡ Some (from_least (walk nodes (length nodes + 1) [] k))
+  pub first_stuck : (k : ℕ) → k < length marks → get_or marks k false ≡ false → ((j : ℕ) → j < k → get_or marks j false ≡ true)
+      → shown_cycle nodes ≡ Some (from_least (walk nodes (length nodes + 1) [] k))
   unfolding shown_cycle
   first_stuck k lt is below =
       let in_nodes : k < length nodes = omega (arith, lt, marked.each) in
-      let first = find_least nodes (is_stuck nodes) k in_nodes (unmarked k in_nodes is) (λ j less. false_from_ne_true (is_stuck nodes j) (λ stuck. true≢false (sym (below j less) ∙ stuck_unmarked j (omega (arith, less, in_nodes)) stuck))) in
+      let first = find_least nodes (is_stuck nodes) k in_nodes (unmarked k in_nodes is)
+      (λ j less. false_from_ne_true (is_stuck nodes j)
+      (λ stuck. true≢false (sym (below j less) ∙ stuck_unmarked j (omega (arith, less, in_nodes)) stuck))) in
       ap (cycle_from nodes) (filter_some (is_stuck nodes) (positions nodes) k first).1
 
   module _ (place : ℕ → Option ℕ) (are : ArePlaces nodes place) (k : ℕ) where
@@ -70,7 +87,8 @@ module _ (nodes : List Node) (marks : List Bool) (marked : AreMarked marks (leng
     lists_is : (j : ℕ) → list_any (λ e. has_event nodes e j) (waits_at nodes k) ≡ waits_there j
     lists_is j = ap (λ p. list_any p (waits_at nodes k)) (fun_ext (event_place nodes place are j))
 
-    pub stuck_wait_some : (best : ℕ) → best < length nodes → get_or marks best false ≡ false → waits_there best ≡ true → ((j : ℕ) → j < best → get_or marks j false ≡ false → waits_there j ≡ false) → stuck_wait nodes k ≡ Some best
+    pub stuck_wait_some : (best : ℕ) → best < length nodes → get_or marks best false ≡ false → waits_there best ≡ true
+        → ((j : ℕ) → j < best → get_or marks j false ≡ false → waits_there j ≡ false) → stuck_wait nodes k ≡ Some best
     stuck_wait_some best lt un there least =
         find_filter (is_stuck nodes) (λ j. list_any (λ e. has_event nodes e j) (waits_at nodes k)) (positions nodes)
         ∙ find_least nodes (λ j. is_stuck nodes j && list_any (λ e. has_event nodes e j) (waits_at nodes k)) best lt
@@ -90,18 +108,22 @@ module _ (nodes : List Node) (marks : List Bool) (marked : AreMarked marks (leng
         ])
 
 -- One step of the walk.
-pub walk_on : (nodes : List Node) (n m : ℕ) (walked : List ℕ) (k : ℕ) → n ≡ m + 1 → is_in walked k ≡ false → walk nodes n walked k ≡ walk nodes m (k ∷ walked) (unwrap_or (stuck_wait nodes k) k)
+pub walk_on : (nodes : List Node) (n m : ℕ) (walked : List ℕ) (k : ℕ) → n ≡ m + 1 → is_in walked k ≡ false
+    → walk nodes n walked k ≡ walk nodes m (k ∷ walked) (unwrap_or (stuck_wait nodes k) k)
 walk_on nodes n m walked k is new = rw (is, add-one m, new) refl
 
-pub walk_back : (nodes : List Node) (n m : ℕ) (walked : List ℕ) (k : ℕ) → n ≡ m + 1 → is_in walked k ≡ true → walk nodes n walked k ≡ up_to k walked
+pub walk_back : (nodes : List Node) (n m : ℕ) (walked : List ℕ) (k : ℕ) → n ≡ m + 1 → is_in walked k ≡ true
+    → walk nodes n walked k ≡ up_to k walked
 walk_back nodes n m walked k is old = rw (is, add-one m, old) refl
 
 -- One more number is marked.
-pub marked_more : (marks more : List Bool) (count : ℕ) (ks : List ℕ) (k : ℕ) → AreMarked marks count ks → length more ≡ length marks → ((j : ℕ) → j < length marks → get_or more j false ≡ (get_or marks j false || (k == j))) → AreMarked more count (k ∷ ks)
+pub marked_more : (marks more : List Bool) (count : ℕ) (ks : List ℕ) (k : ℕ) → AreMarked marks count ks → length more ≡ length marks
+    → ((j : ℕ) → j < length marks → get_or more j false ≡ (get_or marks j false || (k == j))) → AreMarked more count (k ∷ ks)
 marked_more marks more count ks k h each is = record {
   each = each ∙ h.each;
   marked = λ j lt. is j (omega (arith, lt, h.each)) ∙ (ap (λ b. b || (k == j)) (h.marked j lt) ∙ or_comm (is_in ks j) (k == j));
 }
 
 pub order_within : (nodes : List Node) → All (λ k. k < length nodes) (replay_order nodes)
-order_within nodes i d lt = taken_within (replay nodes).taken (get_or (replay_order nodes) i d) (member_of (replay_order nodes) (get_or (replay_order nodes) i d) (Contains-get_or (replay_order nodes) i d lt))
+order_within nodes i d lt = taken_within (replay nodes).taken (get_or (replay_order nodes) i d)
+    (member_of (replay_order nodes) (get_or (replay_order nodes) i d) (Contains-get_or (replay_order nodes) i d lt))

@@ -13,8 +13,10 @@ with_cell (cells.Large n) ws = large n ∷ ws
 with_cell (cells.Names c) ws = names c ∷ ws
 with_cell (cells.Numbered w n) ws = says w.now ∷ small n ∷ ws
 with_cell (cells.Events ns) ws = map small ns.now ++ ws
-with_cell (cells.At point field) ws = says (codes "point") ∷ large point ∷ says (codes "field") ∷ small field ∷ ws
-with_cell (cells.Differs got want) ws = says (codes "got") ∷ holds got.now ∷ says (codes "want") ∷ holds want.now ∷ ws
+with_cell (cells.At point field) ws =
+    says (codes "point") ∷ large point ∷ says (codes "field") ∷ small field ∷ ws
+with_cell (cells.Differs got want) ws =
+    says (codes "got") ∷ holds got.now ∷ says (codes "want") ∷ holds want.now ∷ ws
 
 -- What cells hold.
 abbrev pub words_in : List ReportCell → List Word

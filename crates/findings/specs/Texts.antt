@@ -27,25 +27,97 @@ pub record Line : Type 0 where
 
 -- The table: each report's own line.
 abbrev pub own_line : Finding → Line
-own_line (Accepted tasks operations reads) = record { name = codes "accepted"; row = says (codes "tasks") ∷ small tasks ∷ says (codes "operations") ∷ small operations ∷ says (codes "reads") ∷ large reads ∷ [] }
-own_line (Ordered tasks pairs) = record { name = codes "ordered"; row = says (codes "tasks") ∷ small tasks ∷ says (codes "pairs") ∷ large pairs ∷ [] }
-own_line (Deps list items before turn) = record { name = codes "deps"; row = says (codes "items") ∷ small items ∷ says (codes "before") ∷ large before ∷ says (codes "turn") ∷ large turn ∷ [] }
-own_line (Spare list waits) = record { name = codes "spare"; row = says (codes "waits") ∷ large (length list) ∷ says (codes "of") ∷ large waits ∷ [] }
-own_line (Nested tasks groups free) = record { name = codes "nested"; row = says (codes "tasks") ∷ small tasks ∷ says (codes "groups") ∷ small groups ∷ says (codes "free") ∷ large free ∷ [] }
+own_line (Accepted tasks operations reads) =
+    record {
+      name = codes "accepted";
+      row =
+          says (codes "tasks") ∷ small tasks ∷ says (codes "operations") ∷ small operations
+          ∷ says (codes "reads")
+          ∷ large reads ∷ [];
+    }
+own_line (Ordered tasks pairs) = record {
+  name = codes "ordered";
+  row =
+      says (codes "tasks") ∷ small tasks ∷ says (codes "pairs") ∷ large pairs ∷ [];
+}
+own_line (Deps list items before turn) =
+    record {
+      name = codes "deps";
+      row =
+          says (codes "items") ∷ small items ∷ says (codes "before") ∷ large before ∷ says (codes "turn")
+          ∷ large turn ∷ [];
+    }
+own_line (Spare list waits) = record {
+  name = codes "spare";
+  row =
+      says (codes "waits") ∷ large (length list) ∷ says (codes "of") ∷ large waits ∷ [];
+}
+own_line (Nested tasks groups free) =
+    record {
+      name = codes "nested";
+      row =
+          says (codes "tasks") ∷ small tasks ∷ says (codes "groups") ∷ small groups ∷ says (codes "free")
+          ∷ large free ∷ [];
+    }
 own_line (Cycle events) = record { name = codes "cycle"; row = map small events }
-own_line (Race a b inst point field) = record { name = codes "race"; row = small a ∷ small b ∷ says (codes "inst") ∷ small inst ∷ says (codes "point") ∷ large point ∷ says (codes "field") ∷ small field ∷ [] }
-own_line (Unordered t u tree point field) = record { name = codes "unordered"; row = small t ∷ small u ∷ says (codes "tree") ∷ small tree ∷ says (codes "point") ∷ large point ∷ says (codes "field") ∷ small field ∷ [] }
-own_line (Differ task req point field got want) = record { name = codes "differ"; row = says (codes "task") ∷ small task ∷ says (codes "req") ∷ small req ∷ says (codes "point") ∷ large point ∷ says (codes "field") ∷ small field ∷ says (codes "got") ∷ holds got ∷ says (codes "want") ∷ holds want ∷ [] }
-own_line (NoRead task req point field) = record { name = codes "no"; row = says (codes "read") ∷ says (codes "task") ∷ small task ∷ says (codes "req") ∷ small req ∷ says (codes "point") ∷ large point ∷ says (codes "field") ∷ small field ∷ [] }
-own_line (Unlicensed leaf child req group tree point field) = record { name = codes "unlicensed"; row = says (if leaf then codes "task" else codes "group") ∷ small child ∷ says (codes "req") ∷ small req ∷ says (codes "group") ∷ small group ∷ says (codes "tree") ∷ small tree ∷ says (codes "point") ∷ large point ∷ says (codes "field") ∷ small field ∷ [] }
-own_line (Why ask links) = record { name = codes "why"; row = says (codes "task") ∷ small ask.task ∷ says (codes "req") ∷ small ask.req ∷ says (codes "point") ∷ large ask.point ∷ says (codes "field") ∷ small ask.field ∷ [] }
+own_line (Race a b inst point field) =
+    record {
+      name = codes "race";
+      row =
+          small a ∷ small b ∷ says (codes "inst") ∷ small inst ∷ says (codes "point") ∷ large point
+          ∷ says (codes "field") ∷ small field ∷ [];
+    }
+own_line (Unordered t u tree point field) =
+    record {
+      name = codes "unordered";
+      row =
+          small t ∷ small u ∷ says (codes "tree") ∷ small tree ∷ says (codes "point") ∷ large point
+          ∷ says (codes "field") ∷ small field ∷ [];
+    }
+own_line (Differ task req point field got want) =
+    record {
+      name = codes "differ";
+      row =
+          says (codes "task") ∷ small task ∷ says (codes "req") ∷ small req ∷ says (codes "point")
+          ∷ large point
+          ∷ says (codes "field") ∷ small field ∷ says (codes "got") ∷ holds got ∷ says (codes "want")
+          ∷ holds want
+          ∷ [];
+    }
+own_line (NoRead task req point field) =
+    record {
+      name = codes "no";
+      row = says (codes "read") ∷ says (codes "task") ∷ small task
+          ∷ says (codes "req") ∷ small req ∷ says (codes "point") ∷ large point ∷ says (codes "field")
+          ∷ small field
+          ∷ [];
+    }
+own_line (Unlicensed leaf child req group tree point field) =
+    record {
+      name = codes "unlicensed";
+      row =
+          says (if leaf then codes "task" else codes "group") ∷ small child ∷ says (codes "req") ∷ small req
+          ∷ says (codes "group") ∷ small group ∷ says (codes "tree") ∷ small tree ∷ says (codes "point")
+          ∷ large point ∷ says (codes "field") ∷ small field ∷ [];
+    }
+own_line (Why ask links) = record {
+  name = codes "why";
+  row =
+      says (codes "task") ∷ small ask.task ∷ says (codes "req") ∷ small ask.req ∷ says (codes "point")
+      ∷ large ask.point ∷ says (codes "field") ∷ small ask.field ∷ [];
+}
 own_line (Fault line code) = record { name = codes "fault"; row = small line ∷ names code ∷ [] }
 own_line Usage = record { name = codes "usage"; row = [] }
 own_line CannotRead = record { name = codes "cannot"; row = says (codes "read") ∷ [] }
 
 -- The line of a pair of items.
 abbrev pub dep_line : Dep → Line
-dep_line d = record { name = if d.before then codes "before" else codes "turn"; row = small d.a ∷ small d.b ∷ says (codes "tree") ∷ small d.tree ∷ says (codes "point") ∷ large d.point ∷ says (codes "field") ∷ small d.field ∷ [] }
+dep_line d = record {
+  name = if d.before then codes "before" else codes "turn";
+  row =
+      small d.a ∷ small d.b ∷ says (codes "tree") ∷ small d.tree ∷ says (codes "point") ∷ large d.point
+      ∷ says (codes "field") ∷ small d.field ∷ [];
+}
 
 -- The line of a wait that others imply: the event of its node, and the one that is waited for.
 abbrev pub spare_line : ℕ × ℕ → Line
@@ -65,7 +137,12 @@ event_words kind done ws = small done ∷ ws
 
 -- The line of a link: it names its event, which the start has not, the instance, and how often something was added.
 abbrev pub link_line : WhyLink → Line
-link_line l = record { name = kind_text l.kind; row = event_words l.kind l.done (says (codes "inst") ∷ small l.inst ∷ says (codes "adds") ∷ small l.adds ∷ []) }
+link_line l = record {
+  name = kind_text l.kind;
+  row =
+      event_words l.kind l.done (says (codes "inst") ∷ small l.inst ∷ says (codes "adds") ∷ small l.adds
+      ∷ []);
+}
 
 -- The lines that a report lists beside its own.
 abbrev pub listed_lines : Finding → List Line
@@ -143,7 +220,8 @@ is_chain (l ∷ ls) = has_its_event l && (elim l.kind [
 
 -- Where a report counts what it lists, the counts are right; no more waits are listed as spare than there are; a cycle has an event; and links are a chain.
 abbrev pub IsWhole : Finding → Type 0
-IsWhole (Deps list items before turn) = (before ≡ count_by (λ d. d.before) list) × (turn ≡ count_by (λ d. not d.before) list)
+IsWhole (Deps list items before turn) =
+    (before ≡ count_by (λ d. d.before) list) × (turn ≡ count_by (λ d. not d.before) list)
 IsWhole (Spare list waits) = length list ≤ waits
 IsWhole (Cycle events) = events ≢ []
 IsWhole (Why ask links) = is_chain links ≡ true

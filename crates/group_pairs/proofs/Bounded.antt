@@ -15,7 +15,9 @@ use Rattle.group_pairs.specs.Outlines.{AreWithin, Grounded, HaveOnly, IsOutline,
 use Rattle.group_pairs.proofs.Tables.{far, no_meeting}
 
 none_clash : (cs ds : List Claimed) → ((c d : Claimed) → Contains cs c → Contains ds d → conflict c d ≡ false) → clash cs ds ≡ false
-none_clash cs ds h = list_any_none (λ c. list_any (conflict c) ds) cs (λ k e lt. list_any_none (conflict (get_or cs k e)) ds (λ m f le. h (get_or cs k e) (get_or ds m f) (All-contains_itself cs k e lt) (All-contains_itself ds m f le)))
+none_clash cs ds h = list_any_none (λ c. list_any (conflict c) ds) cs
+    (λ k e lt. list_any_none (conflict (get_or cs k e)) ds
+    (λ m f le. h (get_or cs k e) (get_or ds m f) (All-contains_itself cs k e lt) (All-contains_itself ds m f le)))
 
 -- ---- the three parts of a conflict
 
@@ -45,32 +47,54 @@ by_access c d e = rw e (not_apart (c.tree == d.tree) (meets c.fields d.fields) (
 
 -- ---- each bound
 
-agreeing : (o p : Option Priv) (c d : Claimed) (cs ds : List Claimed) → HaveOnly o cs → HaveOnly p ds → Contains cs c → Contains ds d → agree_all o p ≡ true → agree c.access d.access ≡ true
+agreeing : (o p : Option Priv) (c d : Claimed) (cs ds : List Claimed) → HaveOnly o cs → HaveOnly p ds → Contains cs c → Contains ds d
+    → agree_all o p ≡ true → agree c.access d.access ≡ true
 agreeing None p c d cs ds a b of in_d e = absurd cc
 agreeing (Some x) None c d cs ds a b of in_d e = absurd cc
 agreeing (Some x) (Some y) c d cs ds a b of in_d e =
     ap₂ agree (All-contains (λ (c : Claimed). c.access ≡ x) cs c a of) (All-contains (λ (c : Claimed). c.access ≡ y) ds d b in_d) ∙ e
 
-within : (low high : ℕ) (cs : List Claimed) (c : Claimed) (f : ℕ) → AreWithin low high cs → Contains cs c → Contains c.fields f → (low ≤ f) × (f ≤ high)
-within low high cs c f all of has = All-contains (λ f. (low ≤ f) × (f ≤ high)) c.fields f (All-contains (λ (c : Claimed). All (λ f. (low ≤ f) × (f ≤ high)) c.fields) cs c all of) has
+within : (low high : ℕ) (cs : List Claimed) (c : Claimed) (f : ℕ) → AreWithin low high cs → Contains cs c → Contains c.fields f → (low ≤ f)
+    × (f ≤ high)
+within low high cs c f all of has = All-contains (λ f. (low ≤ f) × (f ≤ high)) c.fields f
+    (All-contains (λ (c : Claimed). All (λ f. (low ≤ f) × (f ≤ high)) c.fields) cs c all of) has
 
-pub no_clash : (g : Grounded) (cs ds : List Claimed) (a b : Outline) → IsOutline g cs a → IsOutline g ds b → may_clash a b ≡ false → clash cs ds ≡ false
+pub no_clash : (g : Grounded) (cs ds : List Claimed) (a b : Outline) → IsOutline g cs a → IsOutline g ds b → may_clash a b ≡ false
+    → clash cs ds ≡ false
 no_clash g cs ds a b ours theirs none =
-    elim (and_cases ((not (agree_all a.only b.only) && not (nat_lt b.high a.low)) && not (nat_lt a.high b.low)) (list_any (marked b.near) a.places.items) none) [
+    elim (and_cases ((not (agree_all a.only b.only) && not (nat_lt b.high a.low)) && not (nat_lt a.high b.low))
+    (list_any (marked b.near) a.places.items) none) [
       | inl first ↦ elim (and_cases (not (agree_all a.only b.only) && not (nat_lt b.high a.low)) (not (nat_lt a.high b.low)) first) [
         | inl begin ↦ elim (and_cases (not (agree_all a.only b.only)) (not (nat_lt b.high a.low)) begin) [
-          | inl agreed ↦ none_clash cs ds (λ c d of in_d. by_access c d (agreeing a.only b.only c d cs ds ours.only theirs.only of in_d (not-false (agree_all a.only b.only) agreed)))
+          | inl agreed ↦ none_clash cs ds (λ c d of in_d. by_access c d
+              (agreeing a.only b.only c d cs ds ours.only theirs.only of in_d (not-false (agree_all a.only b.only) agreed)))
           | inr above ↦
               let lt : b.high < a.low = ltb-true b.high a.low (not-false (nat_lt b.high a.low) above) in
-              none_clash cs ds (λ c d of in_d. by_fields c d (no_meeting c.fields d.fields (λ f one other. omega (arith, lt, (within a.low a.high cs c f ours.fields of one).0, (within b.low b.high ds d f theirs.fields in_d other).1))))
+              none_clash cs ds (λ c d of in_d. by_fields c d
+              (no_meeting c.fields d.fields (λ f one other. omega (
+                arith,
+                lt,
+                (within a.low a.high cs c f ours.fields of one).0,
+                (within b.low b.high ds d f theirs.fields in_d other).1,
+              ))))
         ]
         | inr below ↦
             let lt : a.high < b.low = ltb-true a.high b.low (not-false (nat_lt a.high b.low) below) in
-            none_clash cs ds (λ c d of in_d. by_fields c d (no_meeting c.fields d.fields (λ f one other. omega (arith, lt, (within a.low a.high cs c f ours.fields of one).1, (within b.low b.high ds d f theirs.fields in_d other).0))))
+            none_clash cs ds (λ c d of in_d. by_fields c d
+            (no_meeting c.fields d.fields (λ f one other. omega (
+              arith,
+              lt,
+              (within a.low a.high cs c f ours.fields of one).1,
+              (within b.low b.high ds d f theirs.fields in_d other).0,
+            ))))
       ]
       | inr apart ↦ none_clash cs ds (λ c d of in_d. by_points c d (
           let places = subst (λ ps. list_any (marked b.near) ps ≡ false) ours.placed.at apart in
-          let near = subst (λ row. list_any (marked row) (map (site_place g.sites) cs) ≡ false) (theirs.near ∙ ap (near_row (table_in g)) theirs.placed.at) places in
-          far g c ds d (member_of ds d in_d) (All-contains (λ (c : Claimed). c.points ≡ space_points g.regions c.space) cs c ours.placed.points of) (All-contains (λ (c : Claimed). c.points ≡ space_points g.regions c.space) ds d theirs.placed.points in_d)
-          (none_at (marked (near_row (table_in g) (map (site_place g.sites) ds))) (map (site_place g.sites) cs) (site_place g.sites c) near (map_member (site_place g.sites) cs c (member_of cs c of)))))
+          let near = subst (λ row. list_any (marked row) (map (site_place g.sites) cs) ≡ false) (theirs.near
+          ∙ ap (near_row (table_in g)) theirs.placed.at) places in
+          far g c ds d (member_of ds d in_d) (All-contains
+          (λ (c : Claimed). c.points ≡ space_points g.regions c.space) cs c ours.placed.points of)
+          (All-contains (λ (c : Claimed). c.points ≡ space_points g.regions c.space) ds d theirs.placed.points in_d)
+          (none_at (marked (near_row (table_in g) (map (site_place g.sites) ds))) (map (site_place g.sites) cs) (site_place g.sites c) near
+          (map_member (site_place g.sites) cs c (member_of cs c of)))))
     ]

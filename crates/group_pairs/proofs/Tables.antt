@@ -31,50 +31,67 @@ map_at : {X Y : Type 0} (f : X → Y) (xs : List X) (k : ℕ) (x : X) → slice_
 map_at f xs k x e = slice_get-map f xs k ∙ ap (option_map f) e
 
 -- Sites that stand for two claims share a point exactly where the claims do.
-sharing_is : (g : Grounded) (c d : Claimed) (i j : ℕ) → (s : Stands g.sites c i) → (z : Stands g.sites d j) → c.points ≡ space_points g.regions c.space → d.points ≡ space_points g.regions d.space
+sharing_is : (g : Grounded) (c d : Claimed) (i j : ℕ) → (s : Stands g.sites c i) → (z : Stands g.sites d j)
+    → c.points ≡ space_points g.regions c.space → d.points ≡ space_points g.regions d.space
     → sharing g.regions s.site z.site ≡ meets c.points d.points
-sharing_is g c d i j s z ours theirs = ap₂ meets (ap (space_points g.regions) s.space ∙ sym ours) (ap (space_points g.regions) z.space ∙ sym theirs)
+sharing_is g c d i j s z ours theirs = ap₂ meets (ap (space_points g.regions) s.space ∙ sym ours) (ap (space_points g.regions) z.space
+    ∙ sym theirs)
 
-row_at : (g : Grounded) (s : Site) (d : Claimed) (j : ℕ) → (z : Stands g.sites d j) → marked (shared_row g.regions g.sites s) (Some j) ≡ sharing g.regions s z.site
-row_at g s d j z = get_or_from_slice_get (shared_row g.regions g.sites s) j (sharing g.regions s z.site) true (map_at (sharing g.regions s) g.sites j z.site z.at)
+row_at : (g : Grounded) (s : Site) (d : Claimed) (j : ℕ) → (z : Stands g.sites d j)
+    → marked (shared_row g.regions g.sites s) (Some j) ≡ sharing g.regions s z.site
+row_at g s d j z = get_or_from_slice_get (shared_row g.regions g.sites s) j (sharing g.regions s z.site) true
+    (map_at (sharing g.regions s) g.sites j z.site z.at)
 
-pub met : (g : Grounded) (c d : Claimed) (i j : Option ℕ) (shared : Bool) → IsPlaced g c i → IsPlaced g d j → looked_up (table_in g) i j ≡ Some shared → shared ≡ meets c.points d.points
+pub met : (g : Grounded) (c d : Claimed) (i j : Option ℕ) (shared : Bool) → IsPlaced g c i → IsPlaced g d j
+    → looked_up (table_in g) i j ≡ Some shared → shared ≡ meets c.points d.points
 met g c d None j shared a b e = absurd cc
 met g c d (Some i) None shared a b e = absurd cc
 met g c d (Some i) (Some j) shared a b e =
     let s = stands g.sites c i (sym a.1) in
     let z = stands g.sites d j (sym b.1) in
-    let row : slice_get (table_in g) i ≡ Some (shared_row g.regions g.sites s.site) = map_at (shared_row g.regions g.sites) g.sites i s.site s.at in
-    same_Some shared (marked (shared_row g.regions g.sites s.site) (Some j)) (sym e ∙ ap (option_map (λ row. marked row (Some j))) row) ∙ row_at g s.site d j z ∙ sharing_is g c d i j s z a.0 b.0
+    let row : slice_get (table_in g) i ≡ Some (shared_row g.regions g.sites s.site) =
+    map_at (shared_row g.regions g.sites) g.sites i s.site s.at in
+    same_Some shared (marked (shared_row g.regions g.sites s.site) (Some j)) (sym e ∙ ap (option_map (λ row. marked row (Some j))) row)
+    ∙ row_at g s.site d j z ∙ sharing_is g c d i j s z a.0 b.0
 
 -- Where no site of the one is near to one of the other, no points meet.
-pub far : (g : Grounded) (c : Claimed) (ds : List Claimed) (d : Claimed) → Member ds d → c.points ≡ space_points g.regions c.space → d.points ≡ space_points g.regions d.space
+pub far : (g : Grounded) (c : Claimed) (ds : List Claimed) (d : Claimed) → Member ds d → c.points ≡ space_points g.regions c.space
+    → d.points ≡ space_points g.regions d.space
     → marked (near_row (table_in g) (map (site_place g.sites) ds)) (site_place g.sites c) ≡ false → meets c.points d.points ≡ false
 far g c ds d of ours theirs none = at_place (site_place g.sites c) refl none
   where
     places : List (Option ℕ)
     places = map (site_place g.sites) ds
 
-    in_row : (i : ℕ) (s : Stands g.sites c i) → list_any (marked (shared_row g.regions g.sites s.site)) places ≡ false → (o : Option ℕ) → site_place g.sites d ≡ o → meets c.points d.points ≡ false
-    in_row i s apart None e = absurd (true≢false (ap (marked (shared_row g.regions g.sites s.site)) (sym e) ∙ none_at (marked (shared_row g.regions g.sites s.site)) places (site_place g.sites d) apart (map_member (site_place g.sites) ds d of)))
+    in_row : (i : ℕ) (s : Stands g.sites c i) → list_any (marked (shared_row g.regions g.sites s.site)) places ≡ false → (o : Option ℕ)
+        → site_place g.sites d ≡ o → meets c.points d.points ≡ false
+    in_row i s apart None e =
+        absurd (true≢false (ap (marked (shared_row g.regions g.sites s.site)) (sym e)
+        ∙ none_at (marked (shared_row g.regions g.sites s.site)) places (site_place g.sites d) apart
+        (map_member (site_place g.sites) ds d of)))
     in_row i s apart (Some j) e =
         let z = stands g.sites d j e in
         sym (sharing_is g c d i j s z ours theirs) ∙ sym (row_at g s.site d j z) ∙ ap (marked (shared_row g.regions g.sites s.site)) (sym e)
-        ∙ none_at (marked (shared_row g.regions g.sites s.site)) places (site_place g.sites d) apart (map_member (site_place g.sites) ds d of)
+        ∙ none_at (marked (shared_row g.regions g.sites s.site)) places (site_place g.sites d) apart
+        (map_member (site_place g.sites) ds d of)
 
     at_place : (o : Option ℕ) → site_place g.sites c ≡ o → marked (near_row (table_in g) places) o ≡ false → meets c.points d.points ≡ false
     at_place None e far = absurd (true≢false far)
     at_place (Some i) e far =
         let s = stands g.sites c i e in
-        let row : slice_get (table_in g) i ≡ Some (shared_row g.regions g.sites s.site) = map_at (shared_row g.regions g.sites) g.sites i s.site s.at in
-        let mark = get_or_from_slice_get (near_row (table_in g) places) i (list_any (marked (shared_row g.regions g.sites s.site)) places) true (map_at (λ row. list_any (marked row) places) (table_in g) i (shared_row g.regions g.sites s.site) row) in
+        let row : slice_get (table_in g) i ≡ Some (shared_row g.regions g.sites s.site) =
+        map_at (shared_row g.regions g.sites) g.sites i s.site s.at in
+        let mark = get_or_from_slice_get (near_row (table_in g) places) i
+        (list_any (marked (shared_row g.regions g.sites s.site)) places) true
+        (map_at (λ row. list_any (marked row) places) (table_in g) i (shared_row g.regions g.sites s.site) row) in
         in_row i s (sym mark ∙ far) (site_place g.sites d) refl
 
 -- ---- paths
 
 pub no_meeting : (xs ys : List ℕ) → ((x : ℕ) → Contains xs x → Contains ys x → ⊥) → meets xs ys ≡ false
 no_meeting xs ys h = elim (cases_Bool (meets xs ys)) [
-  | inl some ↦ let found = Any-from_list_any (is_in ys) xs some in absurd (h found.1 (found.0, found.2, found.3) (has_in ys found.1 found.4))
+  | inl some ↦ let found = Any-from_list_any (is_in ys) xs some in
+      absurd (h found.1 (found.0, found.2, found.3) (has_in ys found.1 found.4))
   | inr none ↦ none
 ]
 
@@ -85,14 +102,16 @@ common_is xs ys (Some p) h = sym (list_any-from_Any (is_in ys) xs (h.0.0.0, p, h
 
 -- A space that is not declared shares no points.
 pub unknown_first : (d : Regions) (a b : Site) → space_of d a.space ≡ None → false ≡ sharing d a b
-unknown_first d a b none = sym (no_meeting (space_points d a.space) (space_points d b.space) (λ x one other. no_point (space_of d a.space) none x one))
+unknown_first d a b none =
+    sym (no_meeting (space_points d a.space) (space_points d b.space) (λ x one other. no_point (space_of d a.space) none x one))
   where
     no_point : (o : Option Space) → o ≡ None → (x : ℕ) → Contains (option_map_or (λ (s : Space). s.points) o []) x → ⊥
     no_point None e x has = omega (arith, has.1)
     no_point (Some s) e x has = absurd cc
 
 pub unknown_second : (d : Regions) (a b : Site) → space_of d b.space ≡ None → false ≡ sharing d a b
-unknown_second d a b none = sym (no_meeting (space_points d a.space) (space_points d b.space) (λ x one other. no_point (space_of d b.space) none x other))
+unknown_second d a b none =
+    sym (no_meeting (space_points d a.space) (space_points d b.space) (λ x one other. no_point (space_of d b.space) none x other))
   where
     no_point : (o : Option Space) → o ≡ None → (x : ℕ) → Contains (option_map_or (λ (s : Space). s.points) o []) x → ⊥
     no_point None e x has = omega (arith, has.1)

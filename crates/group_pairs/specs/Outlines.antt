@@ -58,4 +58,5 @@ agree_all _ _ = false
 
 -- Whether bounds leave room for a conflict.
 abbrev pub may_clash : Outline → Outline → Bool
-may_clash a b = ((not (agree_all a.only b.only) && not (nat_lt b.high a.low)) && not (nat_lt a.high b.low)) && list_any (marked b.near) a.places.items
+may_clash a b = ((not (agree_all a.only b.only) && not (nat_lt b.high a.low)) && not (nat_lt a.high b.low))
+    && list_any (marked b.near) a.places.items

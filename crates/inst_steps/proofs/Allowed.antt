@@ -55,27 +55,34 @@ module _ (t : Tables) where
         | inr some ↦ (some.0, some.1, sym (ap (option_and_then (slice_get t.reqs)) some.1) ∙ same)
       ]
 
-  read_suits : (task : ℕ) (r : Req) → id_of t r.item ≡ task → req_at t r.item r.number ≡ Some r → (a : Priv) → r.access ≡ a → IfSome (reading t task r) Suits
+  read_suits : (task : ℕ) (r : Req) → id_of t r.item ≡ task → req_at t r.item r.number ≡ Some r → (a : Priv) → r.access ≡ a
+      → IfSome (reading t task r) Suits
   read_suits task r own_task found privileges.Ro e =
       let o = own r found in
-      rw e (λ p. subst (λ q. IsFit (action_at t (acts.Read task r.item r.number q) p)) (sym o.1) ((inl (has r o.0 privileges.Ro o.2 e), mapped_to r o.0 o.2 p), (of_task task r o.0 o.2 own_task, numbered_so r o.0 o.2)))
+      rw e (λ p. subst (λ q. IsFit (action_at t (acts.Read task r.item r.number q) p)) (sym o.1)
+      ((inl (has r o.0 privileges.Ro o.2 e), mapped_to r o.0 o.2 p), (of_task task r o.0 o.2 own_task, numbered_so r o.0 o.2)))
   read_suits task r own_task found privileges.Rw e =
       let o = own r found in
-      rw e (λ p. subst (λ q. IsFit (action_at t (acts.Read task r.item r.number q) p)) (sym o.1) ((inr (has r o.0 privileges.Rw o.2 e), mapped_to r o.0 o.2 p), (of_task task r o.0 o.2 own_task, numbered_so r o.0 o.2)))
+      rw e (λ p. subst (λ q. IsFit (action_at t (acts.Read task r.item r.number q) p)) (sym o.1)
+      ((inr (has r o.0 privileges.Rw o.2 e), mapped_to r o.0 o.2 p), (of_task task r o.0 o.2 own_task, numbered_so r o.0 o.2)))
   read_suits task r own_task found privileges.Wd e = rw e tt
   read_suits task r own_task found (privileges.Red op) e = rw e tt
 
-  change_suits : (task : ℕ) (r : Req) → id_of t r.item ≡ task → req_at t r.item r.number ≡ Some r → (a : Priv) → r.access ≡ a → IfSome (changing t task r) Suits
+  change_suits : (task : ℕ) (r : Req) → id_of t r.item ≡ task → req_at t r.item r.number ≡ Some r → (a : Priv) → r.access ≡ a
+      → IfSome (changing t task r) Suits
   change_suits task r own_task found privileges.Ro e = rw e tt
   change_suits task r own_task found privileges.Rw e =
       let o = own r found in
-      rw e (λ p. subst (λ q. IsFit (action_at t (acts.Write task r.item r.number q) p)) (sym o.1) ((inl (has r o.0 privileges.Rw o.2 e), mapped_to r o.0 o.2 p), of_task task r o.0 o.2 own_task))
+      rw e (λ p. subst (λ q. IsFit (action_at t (acts.Write task r.item r.number q) p)) (sym o.1)
+      ((inl (has r o.0 privileges.Rw o.2 e), mapped_to r o.0 o.2 p), of_task task r o.0 o.2 own_task))
   change_suits task r own_task found privileges.Wd e =
       let o = own r found in
-      rw e (λ p. subst (λ q. IsFit (action_at t (acts.Write task r.item r.number q) p)) (sym o.1) ((inr (has r o.0 privileges.Wd o.2 e), mapped_to r o.0 o.2 p), of_task task r o.0 o.2 own_task))
+      rw e (λ p. subst (λ q. IsFit (action_at t (acts.Write task r.item r.number q) p)) (sym o.1)
+      ((inr (has r o.0 privileges.Wd o.2 e), mapped_to r o.0 o.2 p), of_task task r o.0 o.2 own_task))
   change_suits task r own_task found (privileges.Red op) e =
       let o = own r found in
-      rw e (λ p. subst (λ q. IsFit (action_at t (acts.Reduce task r.item r.number q op) p)) (sym o.1) ((has r o.0 (privileges.Red op) o.2 e, mapped_to r o.0 o.2 p), (of_task task r o.0 o.2 own_task, numbered_so r o.0 o.2)))
+      rw e (λ p. subst (λ q. IsFit (action_at t (acts.Reduce task r.item r.number q op) p)) (sym o.1)
+      ((has r o.0 (privileges.Red op) o.2 e, mapped_to r o.0 o.2 p), (of_task task r o.0 o.2 own_task, numbered_so r o.0 o.2)))
 
   pass_suits : (r : Req) (o : Option Act) → IfSome o Suits → IfSome (pass_for r o) (λ (p : Pass). Suits p.act)
   pass_suits r None h = tt
@@ -89,7 +96,8 @@ module _ (t : Tables) where
         let c = contains_of (reqs_of t item) r m in
         let here : slice_get (reqs_of t item) c.0 ≡ Some r = slice_get-get_or (reqs_of t item) c.0 r c.1 ∙ ap (λ x. Some x) c.2 in
         let at = numbered.found item c.0 c.1 ∙ here in
-        let both = and_parts (r.item == item) (r.number == c.0 + 1) (found_at (λ (q : Req). (q.item == item) && (q.number == c.0 + 1)) t.reqs r at).1 in
+        let both = and_parts (r.item == item) (r.number == c.0 + 1)
+        (found_at (λ (q : Req). (q.item == item) && (q.number == c.0 + 1)) t.reqs r at).1 in
         ap₂ (λ i n. req_at t i n) (eqb-true r.item item both.0) (eqb-true r.number (c.0 + 1) both.1) ∙ at
 
     task_of : (item : ℕ) (r : Req) → Member (reqs_of t item) r → id_of t r.item ≡ id_of t item
@@ -103,20 +111,25 @@ module _ (t : Tables) where
         elim (member_append (map reads (reqs_of t item)) (map changes (reqs_of t item)) o m) [
           | inl a ↦
               let r = member_map reads (reqs_of t item) o a in
-              subst (λ o. IfSome o (λ (p : Pass). Suits p.act)) (sym r.2) (pass_suits r.0 (reading t task r.0) (read_suits task r.0 (task_of item r.0 r.1) (found item r.0 r.1) r.0.access refl))
+              subst (λ o. IfSome o (λ (p : Pass). Suits p.act)) (sym r.2)
+              (pass_suits r.0 (reading t task r.0) (read_suits task r.0 (task_of item r.0 r.1) (found item r.0 r.1) r.0.access refl))
           | inr b ↦
               let r = member_map changes (reqs_of t item) o b in
-              subst (λ o. IfSome o (λ (p : Pass). Suits p.act)) (sym r.2) (pass_suits r.0 (changing t task r.0) (change_suits task r.0 (task_of item r.0 r.1) (found item r.0 r.1) r.0.access refl))
+              subst (λ o. IfSome o (λ (p : Pass). Suits p.act)) (sym r.2)
+              (pass_suits r.0 (changing t task r.0) (change_suits task r.0 (task_of item r.0 r.1) (found item r.0 r.1) r.0.access refl))
         ]
-    sweep_suits (operations.Copy src dst space fields) o m = subst (λ o. IfSome o (λ (p : Pass). Suits p.act)) (sym (only m)) (λ p. (tt, tt))
+    sweep_suits (operations.Copy src dst space fields) o m =
+        subst (λ o. IfSome o (λ (p : Pass). Suits p.act)) (sym (only m)) (λ p. (tt, tt))
     sweep_suits (operations.Put inst space fields n) o m = subst (λ o. IfSome o (λ (p : Pass). Suits p.act)) (sym (only m)) (λ p. (tt, tt))
     sweep_suits (operations.Reset inst space fields) o m = subst (λ o. IfSome o (λ (p : Pass). Suits p.act)) (sym (only m)) (λ p. (tt, tt))
-    sweep_suits (operations.Fold src dst space fields) o m = subst (λ o. IfSome o (λ (p : Pass). Suits p.act)) (sym (only m)) (λ p. (tt, tt))
+    sweep_suits (operations.Fold src dst space fields) o m =
+        subst (λ o. IfSome o (λ (p : Pass). Suits p.act)) (sym (only m)) (λ p. (tt, tt))
     sweep_suits operations.Merge o m = absurd m
 
     one_by : (o : Option Pass) → IfSome o (λ (p : Pass). Suits p.act) → (a : Action) → Member (actions_of_pass t o) a → IsFit a
     one_by None h a m = absurd m
-    one_by (Some p) h a m = let q = member_map (action_at t p.act) (grid (points_in t p.space) p.fields) a m in subst IsFit (sym q.2) (h q.0)
+    one_by (Some p) h a m = let q = member_map (action_at t p.act) (grid (points_in t p.space) p.fields) a m in
+        subst IsFit (sym q.2) (h q.0)
 
     each_fit : (op : Op) (a : Action) → Member (rest_actions t op 0) a → IsFit a
     each_fit op a m = let o = member_flat (actions_of_pass t) (passes_of t op) a m in one_by o.0 (sweep_suits op o.0 o.1) a o.2

@@ -37,14 +37,16 @@ from_least xs low None least = filter_none (λ q. nat_le low q) xs (λ q m. elim
 first_in_rise : (xs : List ℕ) (p : ℕ) → Rise xs → Member xs p → filter (λ q. nat_le p q) xs ≡ p ∷ behind xs p
 first_in_rise [] p up m = absurd m
 first_in_rise (x ∷ xs) p up (inl is) = subst (λ p. filter (λ q. nat_le p q) (x ∷ xs) ≡ p ∷ behind (x ∷ xs) p) (sym is)
-    (rw (le-leb x x (omega arith), lt-leb (x + 1) x (omega arith)) (ap (λ ys. x ∷ ys) (filter_same (λ q. nat_le x q) (λ q. nat_le (x + 1) q) xs
+    (rw (le-leb x x (omega arith), lt-leb (x + 1) x (omega arith))
+    (ap (λ ys. x ∷ ys) (filter_same (λ q. nat_le x q) (λ q. nat_le (x + 1) q) xs
     (λ q m. le-leb x q (let a = up.0 q m in omega (arith, a)) ∙ sym (le-leb (x + 1) q (let a = up.0 q m in omega (arith, a)))))))
 first_in_rise (x ∷ xs) p up (inr m) =
     let lt = up.0 p m in
     rw (lt-leb p x lt, lt-leb (p + 1) x (omega (arith, lt))) (first_in_rise xs p up.1 m)
 
 -- The grid of what is left from a point on begins at the point.
-pub grid_first : (xs fields : List ℕ) (p : ℕ) → IsStrictlyIncreasing xs → Contains xs p → grid (filter (λ q. nat_le p q) xs) fields ≡ grid_from xs fields p 0
+pub grid_first : (xs fields : List ℕ) (p : ℕ) → IsStrictlyIncreasing xs → Contains xs p
+    → grid (filter (λ q. nat_le p q) xs) fields ≡ grid_from xs fields p 0
 grid_first xs fields p up has = ap (λ ps. grid ps fields) (first_in_rise xs p (rise xs up) (member_of xs p has))
 
 everything : (xs : List ℕ) → filter (λ q. nat_le 0 q) xs ≡ xs
@@ -52,7 +54,8 @@ everything [] = refl
 everything (x ∷ xs) = rw (le-leb 0 x (omega arith)) (ap (λ ys. x ∷ ys) (everything xs))
 
 pub grid_all : (xs fields : List ℕ) (p : ℕ) → IsStrictlyIncreasing xs → IsLeastOf xs (Some p) → grid xs fields ≡ grid_from xs fields p 0
-grid_all xs fields p up least = ap (λ ps. grid ps fields) (sym (everything xs) ∙ from_least xs 0 (Some p) ((least.0, omega arith), λ q h. least.1 q h.0)) ∙ grid_first xs fields p up least.0
+grid_all xs fields p up least = ap (λ ps. grid ps fields) (sym (everything xs)
+    ∙ from_least xs 0 (Some p) ((least.0, omega arith), λ q h. least.1 q h.0)) ∙ grid_first xs fields p up least.0
 
 pub grid_none : (xs fields : List ℕ) → IsLeastOf xs None → grid xs fields ≡ []
 grid_none [] fields least = refl
@@ -63,13 +66,17 @@ grid_no_fields [] = refl
 grid_no_fields (x ∷ xs) = grid_no_fields xs
 
 -- One field on, and from the last field on to the next point.
-pub grid_field : (xs fields : List ℕ) (p k : ℕ) → k < length fields → grid_from xs fields p k ≡ (p, get_or fields k 0) ∷ grid_from xs fields p (k + 1)
+pub grid_field : (xs fields : List ℕ) (p k : ℕ) → k < length fields
+    → grid_from xs fields p k ≡ (p, get_or fields k 0) ∷ grid_from xs fields p (k + 1)
 grid_field xs fields p k lt = ap (λ fs. map (λ f. (p, f)) fs ++ grid (behind xs p) fields) (drop_more fields k 0 lt)
 
-pub grid_last : (xs fields : List ℕ) (p k : ℕ) → k < length fields → length fields ≤ k + 1 → grid_from xs fields p k ≡ (p, get_or fields k 0) ∷ grid (behind xs p) fields
-grid_last xs fields p k lt last = grid_field xs fields p k lt ∙ ap (λ fs. (p, get_or fields k 0) ∷ (map (λ f. (p, f)) fs ++ grid (behind xs p) fields)) (drop_all (k + 1) fields last)
+pub grid_last : (xs fields : List ℕ) (p k : ℕ) → k < length fields → length fields ≤ k + 1
+    → grid_from xs fields p k ≡ (p, get_or fields k 0) ∷ grid (behind xs p) fields
+grid_last xs fields p k lt last = grid_field xs fields p k lt
+    ∙ ap (λ fs. (p, get_or fields k 0) ∷ (map (λ f. (p, f)) fs ++ grid (behind xs p) fields)) (drop_all (k + 1) fields last)
 
-pub grid_next : (xs fields : List ℕ) (p q : ℕ) → IsStrictlyIncreasing xs → IsLeastFrom xs (p + 1) (Some q) → grid (behind xs p) fields ≡ grid_from xs fields q 0
+pub grid_next : (xs fields : List ℕ) (p q : ℕ) → IsStrictlyIncreasing xs → IsLeastFrom xs (p + 1) (Some q)
+    → grid (behind xs p) fields ≡ grid_from xs fields q 0
 grid_next xs fields p q up least = ap (λ ps. grid ps fields) (from_least xs (p + 1) (Some q) least) ∙ grid_first xs fields q up least.0.0
 
 pub grid_over : (xs fields : List ℕ) (p : ℕ) → IsLeastFrom xs (p + 1) None → grid (behind xs p) fields ≡ []

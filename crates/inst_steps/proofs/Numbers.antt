@@ -41,11 +41,14 @@ one_req rs r is h item =
           let all : of_item item (rs ++ r ∷ []) ≡ of_item item rs ++ r ∷ [] = split ∙ ap (λ xs. of_item item rs ++ xs) one in
           let n = length (of_item item rs) in
           let long : length (of_item item rs ++ r ∷ []) ≡ suc n = length-append (of_item item rs) (r ∷ []) ∙ omega arith in
-          let number : r.number ≡ 1 + n = is ∙ ap (λ i. count_by (λ (q : Req). q.item == i) rs + 1) (eqb-true r.item item own) ∙ ap (λ m. m + 1) (counted item rs) ∙ omega arith in
-          rw (all, long) (map-append (λ (q : Req). q.number) (of_item item rs) (r ∷ []) ∙ ap (λ ns. ns ++ r.number ∷ []) (h item) ∙ ap (λ m. range_with_len 1 n ++ m ∷ []) number ∙ sym (range-more 1 n))
+          let number : r.number ≡ 1 + n = is ∙ ap (λ i. count_by (λ (q : Req). q.item == i) rs + 1) (eqb-true r.item item own)
+          ∙ ap (λ m. m + 1) (counted item rs) ∙ omega arith in
+          rw (all, long) (map-append (λ (q : Req). q.number) (of_item item rs) (r ∷ []) ∙ ap (λ ns. ns ++ r.number ∷ []) (h item)
+          ∙ ap (λ m. range_with_len 1 n ++ m ∷ []) number ∙ sym (range-more 1 n))
       | inr other ↦
           let none : of_item item (r ∷ []) ≡ [] = rw other refl in
-          let all : of_item item (rs ++ r ∷ []) ≡ of_item item rs = split ∙ ap (λ xs. of_item item rs ++ xs) none ∙ append-nil (of_item item rs) in
+          let all : of_item item (rs ++ r ∷ []) ≡ of_item item rs =
+          split ∙ ap (λ xs. of_item item rs ++ xs) none ∙ append-nil (of_item item rs) in
           rw all (h item)
     ]
 
@@ -66,35 +69,48 @@ within_one : (t : Tables) (line : ℕ) (r : Record) → length (with_record t li
 within_one t line (records.Req task tree space fields access atomic) = longer t.reqs _
 within_one t line _ = omega arith
 
-within_all : (t : Tables) (log : List Lined) → length (fold (λ t (l : Lined). with_record t l.line l.rec) t log).reqs ≤ length t.reqs + length log
+within_all : (t : Tables) (log : List Lined) → length
+    (fold (λ t (l : Lined). with_record t l.line l.rec) t log).reqs ≤ length t.reqs + length log
 within_all t [] = omega arith
 within_all t (l ∷ log) = omega (arith, within_all (with_record t l.line l.rec) log, within_one t l.line l.rec)
 
 abbrev Few : Tables → Type 0
 Few t = length t.reqs ≤ 131073
 
-few_more : (log : List Record) (earlier : List Lined) (l : Lined) → Unbroken log earlier l.rec → Few (tables_of earlier) → Few (with_record (tables_of earlier) l.line l.rec)
+few_more : (log : List Record) (earlier : List Lined) (l : Lined) → Unbroken log earlier l.rec → Few (tables_of earlier)
+    → Few (with_record (tables_of earlier) l.line l.rec)
 few_more log earlier l u few = by l.rec refl
   where
     by : (r : Record) → l.rec ≡ r → Few (with_record (tables_of earlier) l.line r)
     by (records.Req task tree space fields access atomic) e =
-        let early : nat_lt 131072 (length (records_of earlier)) ≡ false = subst (λ r. rules.is_late (length (records_of earlier)) r ≡ false) e (rule_kept codes.TooManyRecords refl u) in
-        omega (arith, ltb-false 131072 (length (records_of earlier)) early, length-map earlier (λ (l : Lined). l.rec), within_all no_tables earlier, within_one (tables_of earlier) l.line (records.Req task tree space fields access atomic))
+        let early : nat_lt 131072 (length (records_of earlier)) ≡ false =
+        subst (λ r. rules.is_late (length (records_of earlier)) r ≡ false) e (rule_kept codes.TooManyRecords refl u) in
+        omega (
+          arith,
+          ltb-false 131072 (length (records_of earlier)) early,
+          length-map earlier (λ (l : Lined). l.rec),
+          within_all no_tables earlier,
+          within_one (tables_of earlier) l.line (records.Req task tree space fields access atomic),
+        )
     by _ e = few
 
-few_reqs : (lines : ℕ) (log : List Lined) → AllByRecursion (λ r. Unit {0}) (records_of log) → declaration_fault lines log ≡ None → Few (tables_of log)
-few_reqs lines log all e = by_records (λ r. Unit {0}) Few (records_of log) (λ earlier l u _ few. few_more (records_of log) earlier l u few) [] log all (no_broken_rule lines log e) (omega arith)
+few_reqs : (lines : ℕ) (log : List Lined) → AllByRecursion (λ r. Unit {0}) (records_of log) → declaration_fault lines log ≡ None
+    → Few (tables_of log)
+few_reqs lines log all e = by_records (λ r. Unit {0}) Few (records_of log)
+    (λ earlier l u _ few. few_more (records_of log) earlier l u few) [] log all (no_broken_rule lines log e) (omega arith)
 
 -- ---- looked up by number
 
-find_filtered : (item n : ℕ) (rs : List Req) → find (λ (r : Req). (r.item == item) && (r.number == n)) rs ≡ find (λ (r : Req). r.number == n) (of_item item rs)
+find_filtered : (item n : ℕ) (rs : List Req) → find (λ (r : Req). (r.item == item) && (r.number == n)) rs
+    ≡ find (λ (r : Req). r.number == n) (of_item item rs)
 find_filtered item n [] = refl
 find_filtered item n (r ∷ rs) = elim (cases_Bool (r.item == item)) [
   | inl own ↦ elim (cases_Bool (r.number == n)) [ inl here ↦ rw (own, here) refl | inr there ↦ rw (own, there) (find_filtered item n rs) ]
   | inr other ↦ rw other (find_filtered item n rs)
 ]
 
-found_at : (rs : List Req) (first k : ℕ) → numbers rs ≡ range_with_len first (length rs) → find (λ (r : Req). r.number == first + k) rs ≡ slice_get rs k
+found_at : (rs : List Req) (first k : ℕ) → numbers rs ≡ range_with_len first (length rs)
+    → find (λ (r : Req). r.number == first + k) rs ≡ slice_get rs k
 found_at [] first k e = refl
 found_at (r ∷ rs) first zero e =
     let here : r.number ≡ first + 0 = ap (λ ns. get_or ns 0 0) e ∙ omega arith in
@@ -102,7 +118,8 @@ found_at (r ∷ rs) first zero e =
 found_at (r ∷ rs) first (suc k) e =
     let here : r.number ≡ first = ap (λ ns. get_or ns 0 0) e in
     let far : first + 1 + k ≡ first + suc k = omega arith in
-    rw (ne_eqb r.number (first + suc k) (λ same. omega (arith, same, here))) (ap (λ n. find (λ (r : Req). r.number == n) rs) (sym far) ∙ found_at rs (first + 1) k (ap (drop 1) e))
+    rw (ne_eqb r.number (first + suc k) (λ same. omega (arith, same, here))) (ap (λ n. find (λ (r : Req). r.number == n) rs) (sym far)
+    ∙ found_at rs (first + 1) k (ap (drop 1) e))
 
 pub numbered : (t : Tables) → AreDeclared t → AreNumbered t
 numbered t d =
@@ -111,8 +128,15 @@ numbered t d =
     subst AreNumbered (sym d.tables) (record {
       found = λ item k lt.
           let one : k + 1 ≡ 1 + k = omega arith in
-          find_filtered item (k + 1) (tables_of d.log).reqs ∙ ap (λ n. find (λ (r : Req). r.number == n) (of_item item (tables_of d.log).reqs)) one ∙ found_at (of_item item (tables_of d.log).reqs) 1 k (all item);
-      small = λ item. omega (arith, few, length-filter (λ (r : Req). r.item == item) (tables_of d.log).reqs, count_by-le-length (λ (r : Req). r.item == item) (tables_of d.log).reqs);
+          find_filtered item (k + 1) (tables_of d.log).reqs
+          ∙ ap (λ n. find (λ (r : Req). r.number == n) (of_item item (tables_of d.log).reqs)) one
+          ∙ found_at (of_item item (tables_of d.log).reqs) 1 k (all item);
+      small = λ item. omega (
+        arith,
+        few,
+        length-filter (λ (r : Req). r.item == item) (tables_of d.log).reqs,
+        count_by-le-length (λ (r : Req). r.item == item) (tables_of d.log).reqs,
+      );
     })
 
 -- What is said of requirements says the same of tables that are cut.

@@ -53,7 +53,8 @@ more_field inst point fields i d b m n o lt so_far is c =
     ap (λ m. get m c) is ∙ get_put n cell (plain b) c
     ∙ ap₂ (λ e rest. cond ((c.inst == inst) && ((c.point == point) && e)) (Some (plain b)) rest) (same_turned c.field f) (so_far c)
     ∙ join (c.inst == inst) (c.point == point) (is_in (take i fields) c.field) (f == c.field) (Some (plain b)) (get m c)
-    ∙ ap (λ e. cond ((c.inst == inst) && ((c.point == point) && e)) (Some (plain b)) (get m c)) (sym (one_in (λ m. m == c.field) (take i fields) f) ∙ ap (λ fs. is_in fs c.field) (sym (take_more fields i d lt)))
+    ∙ ap (λ e. cond ((c.inst == inst) && ((c.point == point) && e)) (Some (plain b)) (get m c))
+    (sym (one_in (λ m. m == c.field) (take i fields) f) ∙ ap (λ fs. is_in fs c.field) (sym (take_more fields i d lt)))
 
 -- Where the fields at a point are held, the rest of the points is left.
 pub more_points : (inst x : ℕ) (xs fields : List ℕ) (b : Base) (mid new : Contents) (all : Cell → Option Value)
@@ -63,7 +64,8 @@ pub more_points : (inst x : ℕ) (xs fields : List ℕ) (b : Base) (mid new : Co
 more_points inst x xs fields b mid new all before here c =
     ap (cond (is_at_points inst (is_in xs) fields c) (Some (plain b))) (here c)
     ∙ join_front (c.inst == inst) (is_in xs c.point) (c.point == x) (is_in fields c.field) (Some (plain b)) (get mid c)
-    ∙ ap (λ e. cond ((c.inst == inst) && ((e || is_in xs c.point) && is_in fields c.field)) (Some (plain b)) (get mid c)) (eq_turned c.point x)
+    ∙ ap (λ e. cond ((c.inst == inst) && ((e || is_in xs c.point) && is_in fields c.field)) (Some (plain b)) (get mid c))
+    (eq_turned c.point x)
     ∙ before c
 
 -- Where no point is left, all hold the base.
@@ -74,7 +76,8 @@ all_points inst fields b test old new h c = sym (ap (λ e. cond e (Some (plain b
 
 -- ---- one instance more
 
-held_value : (k : InstKind) (h : Bool) (y : Option Value) → cond h (Some (plain (base_of k))) y ≡ cond h (Some (cond (is_home k && h) (plain Init) (plain Raw))) y
+held_value : (k : InstKind) (h : Bool) (y : Option Value)
+    → cond h (Some (plain (base_of k))) y ≡ cond h (Some (cond (is_home k && h) (plain Init) (plain Raw))) y
 held_value k h y = by (is_home k) h
   where
     by : (a h : Bool) → cond h (Some (plain (cond a Init Raw))) y ≡ cond h (Some (cond (a && h) (plain Init) (plain Raw))) y
@@ -90,15 +93,19 @@ one_inst t id i m n found held c = elim (cases_Bool (c.inst == id)) [
   | inl own ↦
       let here : inst_at t c.inst ≡ Some i = ap (inst_at t) (eqb-true c.inst id own) ∙ found in
       let has = is_in (points_in t i.space) c.point && is_in i.fields c.field in
-      let before : get n c ≡ cond has (Some (plain (base_of i.kind))) (get m c) = held c ∙ ap (λ e. cond (e && has) (Some (plain (base_of i.kind))) (get m c)) own in
+      let before : get n c ≡ cond has (Some (plain (base_of i.kind))) (get m c) =
+      held c ∙ ap (λ e. cond (e && has) (Some (plain (base_of i.kind))) (get m c)) own in
       rw (own, here) (before ∙ held_value i.kind has (get m c))
   | inr other ↦
-      rw other (held c ∙ ap (λ e. cond (e && (is_in (points_in t i.space) c.point && is_in i.fields c.field)) (Some (plain (base_of i.kind))) (get m c)) other)
+      rw other (held c ∙ ap (λ e. cond (e && (is_in (points_in t i.space) c.point && is_in i.fields c.field))
+      (Some (plain (base_of i.kind))) (get m c)) other)
 ]
 
-pub no_points_held : (t : Tables) (id : ℕ) (i : Inst) (m : Contents) → inst_at t id ≡ Some i → points_in t i.space ≡ [] → HoldsMore (is_of t id) (start t) m m
+pub no_points_held : (t : Tables) (id : ℕ) (i : Inst) (m : Contents) → inst_at t id ≡ Some i → points_in t i.space ≡ []
+    → HoldsMore (is_of t id) (start t) m m
 no_points_held t id i m found none = one_inst t id i m m found
-    (λ c. sym (ap (λ points. cond ((c.inst == id) && (is_in points c.point && is_in i.fields c.field)) (Some (plain (base_of i.kind))) (get m c)) none
+    (λ c. sym (ap (λ points. cond ((c.inst == id) && (is_in points c.point && is_in i.fields c.field)) (Some (plain (base_of i.kind)))
+    (get m c)) none
     ∙ ap (λ e. cond e (Some (plain (base_of i.kind))) (get m c)) (and-false (c.inst == id))))
 
 -- ---- all instances
@@ -114,7 +121,8 @@ all_started t m n none held c =
           rw (missing, here) refl
     ]
 
-pub one_inst_by : (t : Tables) (id : ℕ) (i : Inst) (points fields : List ℕ) (b : Base) (m n : Contents) → inst_at t id ≡ Some i → points_in t i.space ≡ points
+pub one_inst_by : (t : Tables) (id : ℕ) (i : Inst) (points fields : List ℕ) (b : Base) (m n : Contents) → inst_at t id ≡ Some i
+    → points_in t i.space ≡ points
     → fields ≡ i.fields → b ≡ base_of i.kind
     → HoldsMore (is_at_points id (is_in points) fields) (λ c. plain b) m n
     → HoldsMore (is_of t id) (start t) m n

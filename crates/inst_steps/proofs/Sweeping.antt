@@ -25,19 +25,24 @@ none_of : {X Y : Type 0} (xs : List X) → ◌≡◌ {A = List Y} (flat_map (λ 
 none_of [] = refl
 none_of (x ∷ xs) = none_of xs
 
-reads_are : (t : Tables) (task : ℕ) (r : Req) → (a : Priv) → r.access ≡ a → flat_map (λ p. reads_by task r.number r.access (mapped_cell t r p)) (req_grid t r) ≡ moves_of_pass t (pass_for r (reading t task r))
+reads_are : (t : Tables) (task : ℕ) (r : Req) → (a : Priv) → r.access ≡ a
+    → flat_map (λ p. reads_by task r.number r.access (mapped_cell t r p)) (req_grid t r) ≡ moves_of_pass t (pass_for r (reading t task r))
 reads_are t task r privileges.Ro e = rw e (flat_map_single (move_at t (acts.Read task r.item r.number (own_place t r))) (req_grid t r))
 reads_are t task r privileges.Rw e = rw e (flat_map_single (move_at t (acts.Read task r.item r.number (own_place t r))) (req_grid t r))
 reads_are t task r privileges.Wd e = rw e (none_of (req_grid t r))
 reads_are t task r (privileges.Red op) e = rw e (none_of (req_grid t r))
 
-changes_are : (t : Tables) (task : ℕ) (r : Req) → (a : Priv) → r.access ≡ a → flat_map (λ p. changes_by task r.number r.access (mapped_cell t r p)) (req_grid t r) ≡ moves_of_pass t (pass_for r (changing t task r))
+changes_are : (t : Tables) (task : ℕ) (r : Req) → (a : Priv) → r.access ≡ a
+    → flat_map (λ p. changes_by task r.number r.access (mapped_cell t r p)) (req_grid t r)
+    ≡ moves_of_pass t (pass_for r (changing t task r))
 changes_are t task r privileges.Ro e = rw e (none_of (req_grid t r))
 changes_are t task r privileges.Rw e = rw e (flat_map_single (move_at t (acts.Write task r.item r.number (own_place t r))) (req_grid t r))
 changes_are t task r privileges.Wd e = rw e (flat_map_single (move_at t (acts.Write task r.item r.number (own_place t r))) (req_grid t r))
-changes_are t task r (privileges.Red op) e = rw e (flat_map_single (move_at t (acts.Reduce task r.item r.number (own_place t r) op)) (req_grid t r))
+changes_are t task r (privileges.Red op) e = rw e
+    (flat_map_single (move_at t (acts.Reduce task r.item r.number (own_place t r) op)) (req_grid t r))
 
-flat_of_map : {X Y Z : Type 0} (g : Y → List Z) (f : X → Y) (h : X → List Z) → ((x : X) → h x ≡ g (f x)) → (xs : List X) → flat_map h xs ≡ flat_map g (map f xs)
+flat_of_map : {X Y Z : Type 0} (g : Y → List Z) (f : X → Y) (h : X → List Z) → ((x : X) → h x ≡ g (f x)) → (xs : List X)
+    → flat_map h xs ≡ flat_map g (map f xs)
 flat_of_map g f h e [] = refl
 flat_of_map g f h e (x ∷ xs) = ap₂ (λ a b. a ++ b) (e x) (flat_of_map g f h e xs)
 
@@ -50,12 +55,14 @@ sweeps_are t (operations.Run item) =
     let reads = map (λ r. pass_for r (reading t task r)) (reqs_of t item) in
     let changes = map (λ r. pass_for r (changing t task r)) (reqs_of t item) in
     flat_map-append (moves_of_pass t) reads changes
-    ∙ sym (ap₂ (λ a b. a ++ b) (flat_of_map (moves_of_pass t) (λ r. pass_for r (reading t task r)) _ (λ r. reads_are t task r r.access refl) (reqs_of t item))
+    ∙ sym (ap₂ (λ a b. a ++ b) (flat_of_map (moves_of_pass t) (λ r. pass_for r (reading t task r)) _ (λ r. reads_are t task r r.access refl)
+    (reqs_of t item))
     (flat_of_map (moves_of_pass t) (λ r. pass_for r (changing t task r)) _ (λ r. changes_are t task r r.access refl) (reqs_of t item)))
 sweeps_are t (operations.Copy src dst space fields) = only_one (moves_of_pass t) (Some (pass (acts.Copy src dst) space fields))
 sweeps_are t (operations.Put inst space fields n) = only_one (moves_of_pass t) (Some (pass (acts.Put inst n) space fields))
 sweeps_are t (operations.Reset inst space fields) = only_one (moves_of_pass t) (Some (pass (acts.Reset inst) space fields))
-sweeps_are t (operations.Fold src dst space fields) = only_one (moves_of_pass t) (Some (pass (acts.Fold (operator_of t src) src dst) space fields))
+sweeps_are t (operations.Fold src dst space fields) =
+    only_one (moves_of_pass t) (Some (pass (acts.Fold (operator_of t src) src dst) space fields))
 sweeps_are t operations.Merge = refl
 
 -- ---- cut tables
@@ -77,7 +84,8 @@ act_cut listed t (acts.Put inst n) p = refl
 act_cut listed t (acts.Reset inst) p = refl
 act_cut listed t (acts.Fold op src dst) p = refl
 
-pub pass_cut : (listed : Option (List ℕ)) (t : Tables) (p : Pass) → pass_moves (cut_to listed t) p ≡ map (move_at t p.act) (grid (kept listed (points_in t p.space)) p.fields)
+pub pass_cut : (listed : Option (List ℕ)) (t : Tables) (p : Pass)
+    → pass_moves (cut_to listed t) p ≡ map (move_at t p.act) (grid (kept listed (points_in t p.space)) p.fields)
 pass_cut listed t p =
     ap (λ (f : ℕ × ℕ → Move). map f (grid (points_in (cut_to listed t) p.space) p.fields)) (fun_ext (act_cut listed t p.act))
     ∙ ap (λ points. map (move_at t p.act) (grid points p.fields)) (points_cut_to listed t p.space)
@@ -94,20 +102,24 @@ pass_steps t (Some p) = steps_at t p.act (grid (points_in t p.space) p.fields)
 
 passes_steps : (t : Tables) (ps : List (Option Pass)) → steps_in (flat_map (actions_of_pass t) ps) ≡ flat_map (moves_of_pass t) ps
 passes_steps t [] = refl
-passes_steps t (o ∷ ps) = map-append (λ (a : Action). a.step) (actions_of_pass t o) (flat_map (actions_of_pass t) ps) ∙ ap₂ (λ xs ys. xs ++ ys) (pass_steps t o) (passes_steps t ps)
+passes_steps t (o ∷ ps) = map-append (λ (a : Action). a.step) (actions_of_pass t o) (flat_map (actions_of_pass t) ps)
+    ∙ ap₂ (λ xs ys. xs ++ ys) (pass_steps t o) (passes_steps t ps)
 
 pub all_steps : (t : Tables) (op : Op) → steps_in (rest_actions t op 0) ≡ moves_of t op
 all_steps t op = passes_steps t (passes_of t op) ∙ sweeps_are t op
 
 -- ---- one sweep on
 
-at_place : {X Y : Type 0} (g : Option X → List Y) → g None ≡ [] → (ps : List (Option X)) (k : ℕ) → flat_map g (drop k ps) ≡ g (unwrap_or (slice_get ps k) None) ++ flat_map g (drop (k + 1) ps)
+at_place : {X Y : Type 0} (g : Option X → List Y) → g None ≡ [] → (ps : List (Option X)) (k : ℕ)
+    → flat_map g (drop k ps) ≡ g (unwrap_or (slice_get ps k) None) ++ flat_map g (drop (k + 1) ps)
 at_place g none [] zero = sym (ap₂ (λ xs ys. xs ++ flat_map g ys) none (drop_all (zero + 1) [] (omega arith)))
 at_place g none [] (suc k) = sym (ap₂ (λ xs ys. xs ++ flat_map g ys) none (drop_all (suc k + 1) [] (omega arith)))
 at_place g none (p ∷ ps) zero = refl
-at_place g none (p ∷ ps) (suc k) = at_place g none ps k ∙ ap (λ n. g (unwrap_or (slice_get ps k) None) ++ flat_map g (drop n (p ∷ ps))) (let e : suc (k + 1) ≡ suc k + 1 = omega arith in e)
+at_place g none (p ∷ ps) (suc k) = at_place g none ps k
+    ∙ ap (λ n. g (unwrap_or (slice_get ps k) None) ++ flat_map g (drop n (p ∷ ps))) (let e : suc (k + 1) ≡ suc k + 1 = omega arith in e)
 
-pub one_sweep : (t : Tables) (op : Op) (k : ℕ) → rest_actions t op k ≡ actions_of_pass t (pass_at (passes_of t op) k) ++ rest_actions t op (k + 1)
+pub one_sweep : (t : Tables) (op : Op) (k : ℕ)
+    → rest_actions t op k ≡ actions_of_pass t (pass_at (passes_of t op) k) ++ rest_actions t op (k + 1)
 one_sweep t op k = at_place (actions_of_pass t) refl (passes_of t op) k
 
 -- ---- where a sweep stands
@@ -116,17 +128,21 @@ pub no_points : (t : Tables) (p : Pass) → points_in t p.space ≡ [] → pass_
 no_points t p none = ap (λ points. map (action_at t p.act) (grid points p.fields)) none
 
 module _ {S : Type 0} (points : S → List ℕ) (t : Tables) where
-  pub spot_actions_are : (act : Act) (o : Option (Spot S)) → IfSome o (λ (s : Spot S). s.act ≡ act) → spot_actions points t o ≡ map (action_at t act) (spots_left points o)
+  pub spot_actions_are : (act : Act) (o : Option (Spot S)) → IfSome o (λ (s : Spot S). s.act ≡ act)
+      → spot_actions points t o ≡ map (action_at t act) (spots_left points o)
   spot_actions_are act None h = refl
   spot_actions_are act (Some s) h = ap (λ a. map (action_at t a) (spot_grid points s)) h
 
-  pub spot_step : (s : Spot S) (o : Option (Spot S)) → spot_grid points s ≡ spot_here s ∷ spots_left points o → IfSome o (λ (n : Spot S). n.act ≡ s.act)
+  pub spot_step : (s : Spot S) (o : Option (Spot S)) → spot_grid points s ≡ spot_here s ∷ spots_left points o
+      → IfSome o (λ (n : Spot S). n.act ≡ s.act)
       → actions_from points t s ≡ action_at t s.act (spot_here s) ∷ spot_actions points t o
-  spot_step s o e h = ap (map (action_at t s.act)) e ∙ ap (λ rest. action_at t s.act (spot_here s) ∷ rest) (sym (spot_actions_are s.act o h))
+  spot_step s o e h = ap (map (action_at t s.act)) e
+      ∙ ap (λ rest. action_at t s.act (spot_here s) ∷ rest) (sym (spot_actions_are s.act o h))
 
 -- ---- the moves of a node
 
-pub node_moves : (t : Tables) (nodes : List LogNode) (node : ℕ) (d : LogNode) → nodes ≡ t.nodes → node < length t.nodes → moves_of t (get_or nodes node d).op ≡ moves_at t node
+pub node_moves : (t : Tables) (nodes : List LogNode) (node : ℕ) (d : LogNode) → nodes ≡ t.nodes → node < length t.nodes
+    → moves_of t (get_or nodes node d).op ≡ moves_at t node
 node_moves t nodes node d same lt =
     ap (λ ns. moves_of t (get_or ns node d).op) same
     ∙ sym (ap (λ (o : Option LogNode). option_map_or (λ (n : LogNode). moves_of t n.op) o []) (slice_get-get_or t.nodes node d lt))

@@ -16,8 +16,10 @@ IsMappedTo t req c = viewed_cell t req c.point c.field ≡ c
 
 -- The requirement at a position allows a move: its privilege does, and it is mapped to the cell.
 abbrev pub IsAllowed : Tables → Move → ℕ → Type 0
-IsAllowed t (moves.Read task number cell) req = (HasPrivilege t req Ro ⊎ HasPrivilege t req Rw) × IsMappedTo t req cell
-IsAllowed t (moves.Write task cell) req = (HasPrivilege t req Rw ⊎ HasPrivilege t req Wd) × IsMappedTo t req cell
+IsAllowed t (moves.Read task number cell) req =
+    (HasPrivilege t req Ro ⊎ HasPrivilege t req Rw) × IsMappedTo t req cell
+IsAllowed t (moves.Write task cell) req =
+    (HasPrivilege t req Rw ⊎ HasPrivilege t req Wd) × IsMappedTo t req cell
 IsAllowed t (moves.Reduce task number op cell) req = HasPrivilege t req (Red op) × IsMappedTo t req cell
 IsAllowed t _ req = ⊥
 

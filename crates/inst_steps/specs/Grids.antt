@@ -8,4 +8,5 @@ behind points point = filter (λ q. nat_le (point + 1) q) points
 
 -- What is left of a grid from a point and the place of a field on.
 abbrev pub grid_from : List ℕ → List ℕ → ℕ → ℕ → List (ℕ × ℕ)
-grid_from points fields point place = map (λ f. (point, f)) (drop place fields) ++ grid (behind points point) fields
+grid_from points fields point place =
+    map (λ f. (point, f)) (drop place fields) ++ grid (behind points point) fields

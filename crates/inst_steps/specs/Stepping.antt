@@ -15,7 +15,8 @@ moves_at t node = option_map_or (λ (n : LogNode). moves_of t n.op) (slice_get t
 
 -- The requirements of each item are found by their numbers, from 1 on.
 pub record AreNumbered (t : Tables) : Type 0 where
-  pub found : (item k : ℕ) → k < length (reqs_of t item) → req_at t item (k + 1) ≡ slice_get (reqs_of t item) k
+  pub found : (item k : ℕ) → k < length (reqs_of t item)
+      → req_at t item (k + 1) ≡ slice_get (reqs_of t item) k
   pub small : (item : ℕ) → length (reqs_of t item) < 2 ^ 32
 
 -- A sweep, as it is seen.

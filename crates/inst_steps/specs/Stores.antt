@@ -13,10 +13,12 @@ use Rattle.semantics.specs.declared.moves.Move.TheVariants as moves
 -- ---- cells in order: by instance, then point, then field
 
 abbrev pub cell_cmp : Cell → Cell → Ordering
-cell_cmp a b = ordering_then (nat_cmp a.inst b.inst) (ordering_then (nat_cmp a.point b.point) (nat_cmp a.field b.field))
+cell_cmp a b = ordering_then (nat_cmp a.inst b.inst)
+    (ordering_then (nat_cmp a.point b.point) (nat_cmp a.field b.field))
 
 abbrev pub coded_cell : Coded Cell
-coded_cell = code_by (ℕ × (ℕ × ℕ)) (coded× coded_ℕ (coded× coded_ℕ coded_ℕ)) (λ c. (c.inst, (c.point, c.field))) (λ p. record { inst = p.0; point = p.1.0; field = p.1.1 }) (λ _. refl)
+coded_cell = code_by (ℕ × (ℕ × ℕ)) (coded× coded_ℕ (coded× coded_ℕ coded_ℕ))
+    (λ c. (c.inst, (c.point, c.field))) (λ p. record { inst = p.0; point = p.1.0; field = p.1.1 }) (λ _. refl)
 
 -- ---- the code of a value, by which a proof tells values apart
 
@@ -45,13 +47,16 @@ abbrev pub coded_base : Coded Base
 coded_base = code_by (ℕ × ℕ) (coded× coded_ℕ coded_ℕ) base_numbers (λ p. base_at p.0 p.1) same_base_again
 
 abbrev pub coded_contribution : Coded Contribution
-coded_contribution = code_by (ℕ × ℕ) (coded× coded_ℕ coded_ℕ) (λ c. (c.task, c.req)) (λ p. record { task = p.0; req = p.1 }) (λ _. refl)
+coded_contribution = code_by (ℕ × ℕ) (coded× coded_ℕ coded_ℕ) (λ c. (c.task, c.req))
+    (λ p. record { task = p.0; req = p.1 }) (λ _. refl)
 
 abbrev pub coded_group : Coded Group
-coded_group = code_by (ℕ × Bag) (coded× coded_ℕ (coded_list (coded× coded_contribution coded_ℕ))) (λ g. (g.op, g.bag)) (λ p. record { op = p.0; bag = p.1 }) (λ _. refl)
+coded_group = code_by (ℕ × Bag) (coded× coded_ℕ (coded_list (coded× coded_contribution coded_ℕ)))
+    (λ g. (g.op, g.bag)) (λ p. record { op = p.0; bag = p.1 }) (λ _. refl)
 
 abbrev pub coded_value : Coded Value
-coded_value = code_by (Base × List Group) (coded× coded_base (coded_list coded_group)) (λ v. (v.base, v.groups)) (λ p. value_of p.0 p.1) (λ _. refl)
+coded_value = code_by (Base × List Group) (coded× coded_base (coded_list coded_group))
+    (λ v. (v.base, v.groups)) (λ p. value_of p.0 p.1) (λ _. refl)
 
 -- ---- stores
 
@@ -60,7 +65,8 @@ Contents = FinMap cell_cmp Value
 
 -- Whether an instance has a cell.
 abbrev pub has_cell : Tables → Cell → Bool
-has_cell t c = option_map_or (λ (i : Inst). is_in (points_in t i.space) c.point && is_in i.fields c.field) (inst_at t c.inst) false
+has_cell t c = option_map_or (λ (i : Inst). is_in (points_in t i.space) c.point && is_in i.fields c.field)
+    (inst_at t c.inst) false
 
 -- At the start a store has each cell of an instance and no other, each with its value at the start.
 abbrev pub at_start : Tables → Cell → Option Value
@@ -109,7 +115,8 @@ Holds m s = (c : Cell) → contains_key m c ≡ true → get m c ≡ Some (s c)
 
 -- A store holds more: these values at the cells that pass a test.
 abbrev pub HoldsMore : (Cell → Bool) → (Cell → Value) → Contents → Contents → Type 0
-HoldsMore test value before after = (c : Cell) → get after c ≡ (if test c then Some (value c) else get before c)
+HoldsMore test value before after = (c : Cell)
+    → get after c ≡ (if test c then Some (value c) else get before c)
 
 -- Whether a cell is of an instance, at a point or some points, and of some fields.
 abbrev pub is_at_point : ℕ → ℕ → List ℕ → Cell → Bool

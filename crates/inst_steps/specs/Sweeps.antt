@@ -12,7 +12,8 @@ use Rattle.inst_steps.specs.declared.act.Act.TheVariants as acts
 
 -- The cell to which a point and a field of a requirement are mapped. The requirement is named by its item and number.
 abbrev pub cell_of : Tables → ℕ → ℕ → ℕ × ℕ → Cell
-cell_of t item number p = cell_in (unwrap_or (inst_mapped t.maps (record { item = item; number = number; field = p.1 })) 0) p
+cell_of t item number p =
+    cell_in (unwrap_or (inst_mapped t.maps (record { item = item; number = number; field = p.1 })) 0) p
 
 -- What an act does at a point and a field.
 abbrev pub move_at : Tables → Act → ℕ × ℕ → Move
@@ -76,11 +77,13 @@ pass_for r act = option_map (λ (a : Act). pass a r.space r.fields) act
 
 -- The sweeps of an operation. A run reads for each requirement, and then changes for each.
 abbrev pub passes_of : Tables → Op → List (Option Pass)
-passes_of t (operations.Run item) = map (λ r. pass_for r (reading t (id_of t item) r)) (reqs_of t item) ++ map (λ r. pass_for r (changing t (id_of t item) r)) (reqs_of t item)
+passes_of t (operations.Run item) = map (λ r. pass_for r (reading t (id_of t item) r)) (reqs_of t item)
+    ++ map (λ r. pass_for r (changing t (id_of t item) r)) (reqs_of t item)
 passes_of t (operations.Copy src dst space fields) = Some (pass (acts.Copy src dst) space fields) ∷ []
 passes_of t (operations.Put inst space fields n) = Some (pass (acts.Put inst n) space fields) ∷ []
 passes_of t (operations.Reset inst space fields) = Some (pass (acts.Reset inst) space fields) ∷ []
-passes_of t (operations.Fold src dst space fields) = Some (pass (acts.Fold (operator_of t src) src dst) space fields) ∷ []
+passes_of t (operations.Fold src dst space fields) =
+    Some (pass (acts.Fold (operator_of t src) src dst) space fields) ∷ []
 passes_of t operations.Merge = []
 
 -- The sweep at a place, if there is one and it does something.

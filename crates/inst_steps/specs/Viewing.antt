@@ -9,4 +9,5 @@ HasPrivilege t req access = option_map (λ (r : Req). r.access) (slice_get t.req
 
 -- The cell to which a point and a field of the requirement at a position are mapped.
 abbrev pub viewed_cell : Tables → ℕ → ℕ → ℕ → Cell
-viewed_cell t req point field = cell_in (unwrap_or (option_and_then (λ (r : Req). mapped t r field) (slice_get t.reqs req)) 0) (point, field)
+viewed_cell t req point field = cell_in
+    (unwrap_or (option_and_then (λ (r : Req). mapped t r field) (slice_get t.reqs req)) 0) (point, field)

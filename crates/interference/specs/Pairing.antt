@@ -13,7 +13,13 @@ no_place = record { tree = 0; point = 0; field = 0 }
 
 -- A pair of items, with its kind and its least place. (Two items that interfere have one.)
 abbrev pub pair_of : Tables → ℕ × ℕ → Pair
-pair_of t p = record { a = p.0; b = p.1; kind = item_kind t p.0 p.1; place = unwrap_or (least_place t p.0 p.1) no_place }
+pair_of t p = record {
+  a = p.0;
+  b = p.1;
+  kind = item_kind t p.0 p.1;
+  place =
+      unwrap_or (least_place t p.0 p.1) no_place;
+}
 
 -- All pairs of items that interfere, in order.
 abbrev pub all_pairs : Tables → List Pair
@@ -21,7 +27,13 @@ all_pairs t = map (pair_of t) (kinds.pairs t)
 
 -- The same from what the two items ask for.
 abbrev pub pair_between : ℕ → ℕ → List Usage → List Usage → Pair
-pair_between a b qs rs = record { a = a; b = b; kind = kind_between qs rs; place = unwrap_or (place_between qs rs) no_place }
+pair_between a b qs rs = record {
+  a = a;
+  b = b;
+  kind = kind_between qs rs;
+  place =
+      unwrap_or (place_between qs rs) no_place;
+}
 
 -- Which pairs are asked for: all, or those of which the second item comes before the first by these places.
 abbrev pub is_asked : Option (List ℕ) → ℕ → ℕ → Bool
@@ -50,7 +62,9 @@ pub record IsMeeting (asked : Option (List ℕ)) (us : List (List Usage)) (a b :
 
 -- The pairs of an item with those from another on.
 abbrev pub row : Option (List ℕ) → List (List Usage) → ℕ → ℕ → List Pair
-row asked us a from = map (λ b. pair_between a b (usages_at us a) (usages_at us b)) (filter (λ b. is_met asked a b (usages_at us a) (usages_at us b)) (range_with_len from (length us - from)))
+row asked us a from = map (λ b. pair_between a b (usages_at us a) (usages_at us b))
+    (filter (λ b. is_met asked a b (usages_at us a) (usages_at us b))
+    (range_with_len from (length us - from)))
 
 -- The rows from an item on.
 abbrev pub rows : Option (List ℕ) → List (List Usage) → ℕ → List Pair
@@ -69,7 +83,8 @@ pub record StartsRow (asked : Option (List ℕ)) (us : List (List Usage)) (a fro
   pub within : p.b < length us
 
 -- A pair is the first of what is left.
-pub record StartsLeft (asked : Option (List ℕ)) (us : List (List Usage)) (a from : ℕ) (p : Pair) : Type 0 where
+pub record StartsLeft (asked : Option (List ℕ)) (us : List (List Usage)) (a from : ℕ)
+    (p : Pair) : Type 0 where
   pub head : left asked us a from ≡ p ∷ left asked us p.a (p.b + 1)
   pub meets : IsMeeting asked us p.a p.b p
   pub order : p.a ≤ p.b

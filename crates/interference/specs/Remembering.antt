@@ -14,7 +14,8 @@ pub record IsHow (us : List (List Usage)) (a b : ℕ) (found : Interference) : T
 
 -- The pair of two items of which this is found, if they interfere.
 abbrev pub pair_found : ℕ → ℕ → Interference → Option Pair
-pair_found a b found = option_map (λ (p : Place). record { a = a; b = b; kind = found.kind; place = p }) found.place
+pair_found a b found =
+    option_map (λ (p : Place). record { a = a; b = b; kind = found.kind; place = p }) found.place
 
 -- What is remembered of two items is how they interfere.
 abbrev pub IsRight : List (List Usage) → Remembered → Type 0

@@ -7,4 +7,5 @@ use Rattle.interference.specs.declared.pair.Pair.{Pair}
 
 -- Whether both items of a pair are tasks.
 abbrev pub are_tasks : List Item → Pair → Bool
-are_tasks items p = option_map_or (λ (i : Item). is_task i.body) (slice_get items p.a) false && option_map_or (λ (i : Item). is_task i.body) (slice_get items p.b) false
+are_tasks items p = option_map_or (λ (i : Item). is_task i.body) (slice_get items p.a) false
+    && option_map_or (λ (i : Item). is_task i.body) (slice_get items p.b) false

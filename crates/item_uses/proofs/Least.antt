@@ -33,16 +33,19 @@ pub place_is_least : (ps : List Place) → IsLeastPlace ps (least_of ps)
 place_is_least [] = λ q m. m
 place_is_least (p ∷ ps) = more p (least_of ps) ps (place_is_least ps)
   where
-    pick : (p q : Place) (ps : List Place) → IsLeastPlace ps (Some q) → (b : Bool) → first q p ≡ b → IsLeastPlace (p ∷ ps) (Some (lesser p (Some q)))
+    pick : (p q : Place) (ps : List Place) → IsLeastPlace ps (Some q) → (b : Bool) → first q p ≡ b
+        → IsLeastPlace (p ∷ ps) (Some (lesser p (Some q)))
     pick p q ps h true e = rw e (inr h.0, λ r m. elim m [ inl is ↦ rw is (first_one_way q p e) | inr later ↦ h.1 r later ])
-    pick p q ps h false e = rw e (inl refl, λ r m. elim m [ inl is ↦ rw is (first_itself p) | inr later ↦ first_chain p q r e (h.1 r later) ])
+    pick p q ps h false e =
+        rw e (inl refl, λ r m. elim m [ inl is ↦ rw is (first_itself p) | inr later ↦ first_chain p q r e (h.1 r later) ])
 
     more : (p : Place) (o : Option Place) (ps : List Place) → IsLeastPlace ps o → IsLeastPlace (p ∷ ps) (Some (lesser p o))
     more p None ps h = (inl refl, λ r m. elim m [ inl is ↦ rw is (first_itself p) | inr later ↦ absurd (h r later) ])
     more p (Some q) ps h = pick p q ps h (first q p) refl
 
 -- Two lists have one least place where each place of the one is in the other, and none of the other is before all of the one.
-pub least_same : (ps qs : List Place) → ((q : Place) → Member qs q → Member ps q) → ((p : Place) → Member ps p → (q : Place) × Member qs q × (first p q ≡ false)) → least_of ps ≡ least_of qs
+pub least_same : (ps qs : List Place) → ((q : Place) → Member qs q → Member ps q)
+    → ((p : Place) → Member ps p → (q : Place) × Member qs q × (first p q ≡ false)) → least_of ps ≡ least_of qs
 least_same ps qs within below = same (least_of ps) (least_of qs) (place_is_least ps) (place_is_least qs)
   where
     same : (o r : Option Place) → IsLeastPlace ps o → IsLeastPlace qs r → o ≡ r
@@ -57,10 +60,19 @@ pub least_append : (ps qs : List Place) → least_of (ps ++ qs) ≡ lesser_place
 least_append ps qs = joined (least_of ps) (least_of qs) (place_is_least ps) (place_is_least qs)
   where
     joined : (o r : Option Place) → IsLeastPlace ps o → IsLeastPlace qs r → least_of (ps ++ qs) ≡ lesser_place o r
-    joined None None h k = least_same (ps ++ qs) [] (λ q m. absurd m) (λ p m. absurd (elim (member_append ps qs p m) [ inl l ↦ h p l | inr r ↦ k p r ]))
-    joined None (Some q) h k = least_same (ps ++ qs) (q ∷ []) (λ p m. elim m [ inl is ↦ rw is (member_right ps qs q k.0) | inr none ↦ absurd none ])
+    joined None None h k = least_same (ps ++ qs) [] (λ q m. absurd m)
+        (λ p m. absurd (elim (member_append ps qs p m) [ inl l ↦ h p l | inr r ↦ k p r ]))
+    joined None (Some q) h k = least_same (ps ++ qs) (q ∷ [])
+        (λ p m. elim m [ inl is ↦ rw is (member_right ps qs q k.0) | inr none ↦ absurd none ])
         (λ p m. elim (member_append ps qs p m) [ inl l ↦ absurd (h p l) | inr r ↦ (q, inl refl, k.1 p r) ])
-    joined (Some p) None h k = least_same (ps ++ qs) (p ∷ []) (λ x m. elim m [ inl is ↦ rw is (member_left ps qs p h.0) | inr none ↦ absurd none ])
+    joined (Some p) None h k = least_same (ps ++ qs) (p ∷ [])
+        (λ x m. elim m [ inl is ↦ rw is (member_left ps qs p h.0) | inr none ↦ absurd none ])
         (λ x m. elim (member_append ps qs x m) [ inl l ↦ (p, inl refl, h.1 x l) | inr r ↦ absurd (k x r) ])
-    joined (Some p) (Some q) h k = least_same (ps ++ qs) (p ∷ q ∷ []) (λ x m. elim m [ inl is ↦ rw is (member_left ps qs p h.0) | inr (inl is) ↦ rw is (member_right ps qs q k.0) | inr (inr none) ↦ absurd none ])
+    joined (Some p) (Some q) h k = least_same (ps ++ qs) (p ∷ q ∷ [])
+        (λ x m. elim m [
+          | inl is ↦ rw is (member_left ps qs p h.0)
+          | inr (inl is) ↦ rw is (member_right ps qs q k.0)
+          | inr (inr none) ↦
+              absurd none
+        ])
         (λ x m. elim (member_append ps qs x m) [ inl l ↦ (p, inl refl, h.1 x l) | inr r ↦ (q, inr (inl refl), k.1 x r) ])

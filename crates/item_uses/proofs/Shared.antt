@@ -13,9 +13,11 @@ pub number_is_least : (ns : List ℕ) → IsLeast (Member ns) (least_number ns)
 number_is_least [] = λ q m. m
 number_is_least (n ∷ ns) = more n (least_number ns) ns (number_is_least ns)
   where
-    pick : (n p : ℕ) (ns : List ℕ) → IsLeast (Member ns) (Some p) → (b : Bool) → nat_lt p n ≡ b → IsLeast (Member (n ∷ ns)) (Some (less_or n (Some p)))
+    pick : (n p : ℕ) (ns : List ℕ) → IsLeast (Member ns) (Some p) → (b : Bool) → nat_lt p n ≡ b
+        → IsLeast (Member (n ∷ ns)) (Some (less_or n (Some p)))
     pick n p ns h true e = rw e (inr h.0, λ q m. elim m [ inl is ↦ omega (arith, is, ltb-true p n e) | inr later ↦ h.1 q later ])
-    pick n p ns h false e = rw e (inl refl, λ q m. elim m [ inl is ↦ omega (arith, is) | inr later ↦ omega (arith, h.1 q later, ltb-false p n e) ])
+    pick n p ns h false e =
+        rw e (inl refl, λ q m. elim m [ inl is ↦ omega (arith, is) | inr later ↦ omega (arith, h.1 q later, ltb-false p n e) ])
 
     more : (n : ℕ) (o : Option ℕ) (ns : List ℕ) → IsLeast (Member ns) o → IsLeast (Member (n ∷ ns)) (Some (less_or n o))
     more n None ns h = (inl refl, λ q m. elim m [ inl is ↦ omega (arith, is) | inr later ↦ absurd (h q later) ])
@@ -39,7 +41,8 @@ shared_is ns ms o h = least_one _ (Member (filter (is_in ms) ns))
 
 -- A number of both: the least of both is there, and no greater.
 pub shared_at : (ns ms : List ℕ) (n : ℕ) → Member ns n → Member ms n → (k : ℕ) × (least_shared ns ms ≡ Some k) × (k ≤ n)
-shared_at ns ms n m k = found (Member (filter (is_in ms) ns)) (least_shared ns ms) refl (number_is_least (filter (is_in ms) ns)) (shared_filter ns ms n m k)
+shared_at ns ms n m k = found (Member (filter (is_in ms) ns)) (least_shared ns ms) refl (number_is_least (filter (is_in ms) ns))
+    (shared_filter ns ms n m k)
   where
     found : (P : ℕ → Type 0) {n : ℕ} {l : Option ℕ} (o : Option ℕ) → l ≡ o → IsLeast P o → P n → (k : ℕ) × (l ≡ Some k) × (k ≤ n)
     found P {n = n} None e h p = absurd (h n p)
@@ -47,7 +50,8 @@ shared_at ns ms n m k = found (Member (filter (is_in ms) ns)) (least_shared ns m
 
 pub shared_in : (ns ms : List ℕ) (k : ℕ) → least_shared ns ms ≡ Some k → Member ns k × Member ms k
 shared_in ns ms k e =
-    let l : IsLeast (Member (filter (is_in ms) ns)) (Some k) = subst (IsLeast (Member (filter (is_in ms) ns))) e (number_is_least (filter (is_in ms) ns)) in
+    let l : IsLeast (Member (filter (is_in ms) ns)) (Some k) =
+    subst (IsLeast (Member (filter (is_in ms) ns))) e (number_is_least (filter (is_in ms) ns)) in
     let r = member_filter (is_in ms) ns k l.0 in
     (r.0, member_in ms k r.1)
 

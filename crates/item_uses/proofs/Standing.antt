@@ -15,12 +15,14 @@ with_points t u = record u { points = points_in t u.space }
 whole : (t : Tables) (item : ℕ) → map (with_points t) (map without_points (usages_at (usages t) item)) ≡ usages_at (usages t) item
 whole t item = elim (cases_lt item (length t.items)) [
   | inl lt ↦
-      ap (λ us. map (with_points t) (map without_points us)) (usages_is t item lt) ∙ map-map (with_points t) without_points (usages_of t item)
+      ap (λ us. map (with_points t) (map without_points us)) (usages_is t item lt)
+      ∙ map-map (with_points t) without_points (usages_of t item)
       ∙ map-map (λ u. with_points t (without_points u)) (usage_of t) (uses_of t item) ∙ sym (usages_is t item lt)
   | inr le ↦
       let none : usages_at (usages t) item ≡ [] = get_or_past (usages t) item [] (omega (arith, usages_length t)) in
       ap (λ us. map (with_points t) (map without_points us)) none ∙ sym none
 ]
 
-pub alike_same : (t : Tables) (us : List (List Usage)) (a b : ℕ) → usages t ≡ us → AreAlike (usages_at us a) (usages_at us b) → usages_at us a ≡ usages_at us b
+pub alike_same : (t : Tables) (us : List (List Usage)) (a b : ℕ) → usages t ≡ us → AreAlike (usages_at us a) (usages_at us b)
+    → usages_at us a ≡ usages_at us b
 alike_same t us a b is alike = rw (← is) (sym (whole t a) ∙ ap (map (with_points t)) (rw (← is) at alike) ∙ whole t b)

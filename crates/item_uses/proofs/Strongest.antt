@@ -44,14 +44,17 @@ at_most_both j k p q = sym q ∙ commutes k j ∙ p
 pub below_strongest : (ks : List Kind) (k : Kind) → Member ks k → AtMost k (strongest ks)
 below_strongest [] k m = absurd m
 below_strongest (j ∷ ks) k (inl e) = subst (λ i. AtMost i (stronger j (strongest ks))) (sym e) (left_at_most j (strongest ks))
-below_strongest (j ∷ ks) k (inr m) = at_most_trans k (strongest ks) (stronger j (strongest ks)) (below_strongest ks k m) (subst (AtMost (strongest ks)) (commutes (strongest ks) j) (left_at_most (strongest ks) j))
+below_strongest (j ∷ ks) k (inr m) = at_most_trans k (strongest ks) (stronger j (strongest ks)) (below_strongest ks k m)
+    (subst (AtMost (strongest ks)) (commutes (strongest ks) j) (left_at_most (strongest ks) j))
 
 pub strongest_below : (ks : List Kind) (k : Kind) → ((j : Kind) → Member ks j → AtMost j k) → AtMost (strongest ks) k
 strongest_below [] k h = refl
 strongest_below (j ∷ ks) k h = associates j (strongest ks) k ∙ ap (stronger j) (strongest_below ks k (λ i m. h i (inr m))) ∙ h j (inl refl)
 
-pub strongest_same : (js ks : List Kind) → ((j : Kind) → Member js j → AtMost j (strongest ks)) → ((k : Kind) → Member ks k → AtMost k (strongest js)) → strongest js ≡ strongest ks
-strongest_same js ks one other = at_most_both (strongest js) (strongest ks) (strongest_below js (strongest ks) one) (strongest_below ks (strongest js) other)
+pub strongest_same : (js ks : List Kind) → ((j : Kind) → Member js j → AtMost j (strongest ks))
+    → ((k : Kind) → Member ks k → AtMost k (strongest js)) → strongest js ≡ strongest ks
+strongest_same js ks one other = at_most_both (strongest js) (strongest ks) (strongest_below js (strongest ks) one)
+    (strongest_below ks (strongest js) other)
 
 pub strongest_append : (js ks : List Kind) → strongest (js ++ ks) ≡ stronger (strongest js) (strongest ks)
 strongest_append [] ks = refl

@@ -7,4 +7,5 @@ use Rattle.item_uses.specs.Spans.{Bounds}
 -- Each 64 items, from the first on, have their bounds.
 pub record AreBlocks (blocks : List Span) (us : List (List Usage)) : Type 0 where
   pub long : length us ≤ 64 * length blocks
-  pub bounds : (k i : ℕ) (d : Span) → k < length blocks → 64 * k ≤ i → i < 64 * k + 64 → i < length us → Bounds (slice_index_or blocks k d) (usages_at us i)
+  pub bounds : (k i : ℕ) (d : Span) → k < length blocks → 64 * k ≤ i → i < 64 * k + 64 → i < length us
+      → Bounds (slice_index_or blocks k d) (usages_at us i)

@@ -25,7 +25,8 @@ place_at tree _ _ = None
 
 -- The least place that two requirements share.
 abbrev pub shared_place : Usage → Usage → Option Place
-shared_place q r = if q.tree == r.tree then place_at q.tree (least_shared q.points r.points) (least_shared q.fields r.fields) else None
+shared_place q r = if q.tree == r.tree
+    then place_at q.tree (least_shared q.points r.points) (least_shared q.fields r.fields) else None
 
 abbrev pub usage_kind : Usage → Usage → Kind
 usage_kind q r = kind_of q.access q.coherence r.access r.coherence

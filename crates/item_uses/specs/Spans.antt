@@ -21,7 +21,9 @@ overlap low high from to = not (nat_lt high from) && not (nat_lt to low)
 
 -- Whether two bounds leave room for a common place.
 abbrev pub spans_overlap : Span → Span → Bool
-spans_overlap s z = overlap s.first_point s.last_point z.first_point z.last_point && overlap s.first_tree s.last_tree z.first_tree z.last_tree && overlap s.first_field s.last_field z.first_field z.last_field
+spans_overlap s z = overlap s.first_point s.last_point z.first_point z.last_point
+    && overlap s.first_tree s.last_tree z.first_tree z.last_tree
+    && overlap s.first_field s.last_field z.first_field z.last_field
 
 -- Whether what is within the one may interfere with what is within the other.
 abbrev pub may_interfere : Span → Span → Bool

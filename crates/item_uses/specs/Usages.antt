@@ -13,7 +13,16 @@ pub record Usage : Type 0 where
   pub coherence : Coherence
 
 abbrev pub usage : ℕ → ℕ → List ℕ → List ℕ → Priv → Coherence → Usage
-usage tree space points fields access coherence = record { tree = tree; space = space; points = points; fields = fields; access = access; coherence = coherence }
+usage tree space points fields access coherence =
+    record {
+      tree = tree;
+      space = space;
+      points = points;
+      fields = fields;
+      access = access;
+      coherence =
+          coherence;
+    }
 
 abbrev pub usage_of : Tables → Req → Usage
 usage_of t r = usage r.tree r.space (points_in t r.space) r.fields r.access r.coherence

@@ -31,7 +31,8 @@ record Made (l : LaunchTasks) (reqs : List Requirement) (c : Claim) : Type 0 whe
   holds : Contains by.runs.now run
   is : claim l by field run ≡ c
 
-claimed : (l : LaunchTasks) (reqs : List Requirement) (u : Requirement) (f : ℕ) (p : ℕ × ℕ) → Contains reqs u → Contains u.fields.now f → Contains u.runs.now p → Contains (claims_of l reqs) (claim l u f p)
+claimed : (l : LaunchTasks) (reqs : List Requirement) (u : Requirement) (f : ℕ) (p : ℕ × ℕ) → Contains reqs u → Contains u.fields.now f
+    → Contains u.runs.now p → Contains (claims_of l reqs) (claim l u f p)
 claimed l reqs u f p asks has holds =
     in_flat (claims_by l) reqs u (claim l u f p) asks
     (in_flat (λ (field : ℕ). map (run_of (claim_on l u field)) u.runs.now) u.fields.now f (claim l u f p) has
@@ -45,7 +46,8 @@ made l reqs c h =
     record { by = r.0; field = f.0; run = p.0; asks = r.1; has = f.1; holds = p.1; is = p.2 }
 
 -- where requirements interfere, their claims up to that number clash
-clash_there : (l : LaunchTasks) (reqs : List Requirement) (n : ℕ) → InterferesIn l reqs n → HasClash (asked_below (n + 1) (claims_of l reqs))
+clash_there : (l : LaunchTasks) (reqs : List Requirement) (n : ℕ) → InterferesIn l reqs n
+    → HasClash (asked_below (n + 1) (claims_of l reqs))
 clash_there l reqs n h =
     let u = h.0 in
     let v = h.1 in
@@ -77,7 +79,8 @@ clash_there l reqs n h =
     )
 
 -- where claims clash, their requirements are in conflict
-in_conflict : (l : LaunchTasks) (u v : Requirement) (f g : ℕ) (p q : ℕ × ℕ) → Contains u.fields.now f → Contains v.fields.now g → Contains u.runs.now p → Contains v.runs.now q
+in_conflict : (l : LaunchTasks) (u v : Requirement) (f g : ℕ) (p q : ℕ × ℕ) → Contains u.fields.now f → Contains v.fields.now g
+    → Contains u.runs.now p → Contains v.runs.now q
     → Clash (claim l u f p) (claim l v g q) → Conflict u v
 in_conflict l u v f g p q has also holds reaches clash =
     let one = one_field (claim l u f p) (claim l v g q) clash.field in
@@ -89,12 +92,14 @@ in_conflict l u v f g p q has also holds reaches clash =
       accesses = clash.accesses;
     }
 
-conflict_of : (l : LaunchTasks) (reqs : List Requirement) (c d : Claim) (m : Made l reqs c) (k : Made l reqs d) → Clash c d → Conflict m.by k.by
+conflict_of : (l : LaunchTasks) (reqs : List Requirement) (c d : Claim) (m : Made l reqs c) (k : Made l reqs d) → Clash c d
+    → Conflict m.by k.by
 conflict_of l reqs c d m k clash =
     in_conflict l m.by k.by m.field k.field m.run k.run m.has k.has m.holds k.holds
     (subst (λ x. Clash x (claim l k.by k.field k.run)) (sym m.is) (subst (λ x. Clash c x) (sym k.is) clash))
 
-made_at : (l : LaunchTasks) (reqs : List Requirement) (c : Claim) (m : Made l reqs c) → max l.number (max m.by.record m.by.declared) ≡ c.record
+made_at : (l : LaunchTasks) (reqs : List Requirement) (c : Claim) (m : Made l reqs c)
+    → max l.number (max m.by.record m.by.declared) ≡ c.record
 made_at l reqs c m = ap (λ (x : Claim). x.record) m.is
 
 -- Neither the launch nor the points of a requirement come with this number.
@@ -102,7 +107,8 @@ abbrev pub IsTimely : LaunchTasks → List Requirement → ℕ → Type 0
 IsTimely l reqs n = ¬ ((l.number ≡ n) ⊎ Any (λ r. r.declared ≡ n) reqs)
 
 -- the later of two claims tells where they interfere
-interferes_there : (l : LaunchTasks) (reqs : List Requirement) (n : ℕ) (c d : Claim) → IsTimely l reqs n → Contains (claims_of l reqs) c → Contains (claims_of l reqs) d → Clash c d
+interferes_there : (l : LaunchTasks) (reqs : List Requirement) (n : ℕ) (c d : Claim) → IsTimely l reqs n → Contains (claims_of l reqs) c
+    → Contains (claims_of l reqs) d → Clash c d
     → c.record ≡ n → d.record ≤ n → InterferesIn l reqs n
 interferes_there l reqs n c d timely in_c in_d clash at le =
     let m = made l reqs c in_c in
@@ -123,7 +129,8 @@ interferes_there l reqs n c d timely in_c in_d clash at le =
     } in
     (u, v, m.asks, k.asks, known, conflict_of l reqs c d m k clash)
 
-first_there : (l : LaunchTasks) (reqs : List Requirement) (n : ℕ) → IsTimely l reqs n → IsFirstClash (claims_of l reqs) n → InterferesIn l reqs n
+first_there : (l : LaunchTasks) (reqs : List Requirement) (n : ℕ) → IsTimely l reqs n → IsFirstClash (claims_of l reqs) n
+    → InterferesIn l reqs n
 first_there l reqs n timely first =
     let claims = claims_of l reqs in
     let h = first.clash in
@@ -143,17 +150,21 @@ none_before l reqs m n first h = elim (cases_lt n m) [
   | inr le ↦ le
   | inl lt ↦
       let claims = claims_of l reqs in
-      absurd (first.first (clash_moved (asked_below (n + 1) claims) (asked_below m claims) (λ c k. let e = asked_in (n + 1) claims c k in asked_from m claims c e.0 (omega (arith, lt, e.1))) (clash_there l reqs n h)))
+      absurd (first.first (clash_moved (asked_below (n + 1) claims) (asked_below m claims) (λ c k. let e = asked_in (n + 1) claims c k in
+      asked_from m claims c e.0 (omega (arith, lt, e.1))) (clash_there l reqs n h)))
 ]
 
-pub none_clash : (l : LaunchTasks) (reqs : List Requirement) (claims : List Claim) (o : Option ℕ) → claims ≡ claims_of l reqs → ((o ≡ None) ↔ (¬ HasClash claims)) → o ≡ None → (n : ℕ) → ¬ InterferesIn l reqs n
+pub none_clash : (l : LaunchTasks) (reqs : List Requirement) (claims : List Claim) (o : Option ℕ) → claims ≡ claims_of l reqs
+    → ((o ≡ None) ↔ (¬ HasClash claims)) → o ≡ None → (n : ℕ) → ¬ InterferesIn l reqs n
 none_clash l reqs claims o are told none n h =
     told.0 none (subst (λ cs. HasClash cs) (sym are) (clash_within (n + 1) (claims_of l reqs) (clash_there l reqs n h)))
 
-pub first_clashes : (l : LaunchTasks) (reqs : List Requirement) (claims : List Claim) (o : Option ℕ) (n : ℕ) (late : Bool) → claims ≡ claims_of l reqs → IfSome o (IsFirstClash claims) → o ≡ Some n
+pub first_clashes : (l : LaunchTasks) (reqs : List Requirement) (claims : List Claim) (o : Option ℕ) (n : ℕ) (late : Bool)
+    → claims ≡ claims_of l reqs → IfSome o (IsFirstClash claims) → o ≡ Some n
     → (IsTrue late ↔ ((l.number ≡ n) ⊎ Any (λ r. r.declared ≡ n) reqs)) → late ≡ false → IsLeast (InterferesIn l reqs) (Some n)
 first_clashes l reqs claims o n late are told some judged timely =
-    let first : IsFirstClash (claims_of l reqs) n = subst (λ cs. IsFirstClash cs n) are (subst (λ x. IfSome x (IsFirstClash claims)) some told) in
+    let first : IsFirstClash (claims_of l reqs) n =
+    subst (λ cs. IsFirstClash cs n) are (subst (λ x. IfSome x (IsFirstClash claims)) some told) in
     (first_there l reqs n (λ h. both_ways late timely (judged.1 h)) first, λ m h. none_before l reqs n m first h)
 
 -- ---- where all privileges agree

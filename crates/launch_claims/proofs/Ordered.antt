@@ -48,10 +48,14 @@ not_less c d h =
       };
       points = λ share.
           let o = one_field c d share in
-          not_below c.first d.first (nat_cmp d.first c.first) refl (two.1 (then_tied t f (tied c.tree d.tree o.tree) (tied c.field d.field o.field)));
+          not_below c.first d.first (nat_cmp d.first c.first) refl
+          (two.1 (then_tied t f (tied c.tree d.tree o.tree) (tied c.field d.field o.field)));
     }
 
 pub in_order : (claims : List Claim) → IsSortedByKey key_of key_cmp claims → AreInOrder claims
 in_order claims up i j d lt within =
-    let total = then_total (then_total (on_total (λ (t : Key). t.0) nat_cmp_total) (on_total (λ (t : Key). t.1) nat_cmp_total)) (on_total (λ (t : Key). t.2) nat_cmp_total) in
-    not_less (get_or claims i d) (get_or claims j d) (sorted_far (λ (x : Claim) (y : Claim). is_lt (key_cmp (key_of x) (key_of y))) (ranks_by total key_of) claims up i j d (omega arith) within)
+    let total = then_total (then_total (on_total (λ (t : Key). t.0) nat_cmp_total) (on_total (λ (t : Key). t.1) nat_cmp_total))
+    (on_total (λ (t : Key). t.2) nat_cmp_total) in
+    not_less (get_or claims i d) (get_or claims j d)
+    (sorted_far (λ (x : Claim) (y : Claim). is_lt (key_cmp (key_of x) (key_of y))) (ranks_by total key_of) claims up i j d
+    (omega arith) within)

@@ -33,7 +33,8 @@ least_either P Q (Some m) (Some q) h k =
 abbrev AsksAt : LaunchTasks → Requirement → List Requirement → ℕ → Type 0
 AsksAt l u all n = (v : Requirement) × Contains all v × IsKnownAt l n u v × Conflict u v
 
-among_more : (l : LaunchTasks) (reqs : List Requirement) (k : ℕ) (d : Requirement) → k < length reqs → (n : ℕ) → AsksAt l (get_or reqs k d) reqs n ⊎ AmongPairs l (take k reqs) reqs n → AmongPairs l (take (k + 1) reqs) reqs n
+among_more : (l : LaunchTasks) (reqs : List Requirement) (k : ℕ) (d : Requirement) → k < length reqs → (n : ℕ)
+    → AsksAt l (get_or reqs k d) reqs n ⊎ AmongPairs l (take k reqs) reqs n → AmongPairs l (take (k + 1) reqs) reqs n
 among_more l reqs k d lt n e =
     let u = get_or reqs k d in
     subst (λ (xs : List Requirement). AmongPairs l xs reqs n) (sym (take_more reqs k d lt)) (elim e [
@@ -41,10 +42,12 @@ among_more l reqs k d lt n e =
       | inr b ↦ (b.0, b.1, Contains-append_left (take k reqs) (u ∷ []) b.0 b.2, b.3, b.4, b.5)
     ])
 
-among_before : (l : LaunchTasks) (reqs : List Requirement) (k : ℕ) (d : Requirement) → k < length reqs → (n : ℕ) → AmongPairs l (take (k + 1) reqs) reqs n → AsksAt l (get_or reqs k d) reqs n ⊎ AmongPairs l (take k reqs) reqs n
+among_before : (l : LaunchTasks) (reqs : List Requirement) (k : ℕ) (d : Requirement) → k < length reqs → (n : ℕ)
+    → AmongPairs l (take (k + 1) reqs) reqs n → AsksAt l (get_or reqs k d) reqs n ⊎ AmongPairs l (take k reqs) reqs n
 among_before l reqs k d lt n a =
     let u = get_or reqs k d in
-    let h : AmongPairs l (take k reqs ++ u ∷ []) reqs n = subst (λ (xs : List Requirement). AmongPairs l xs reqs n) (take_more reqs k d lt) a in
+    let h : AmongPairs l (take k reqs ++ u ∷ []) reqs n =
+    subst (λ (xs : List Requirement). AmongPairs l xs reqs n) (take_more reqs k d lt) a in
     elim (Contains-push_cases (take k reqs) u h.0 h.2) [
       | inl earlier ↦ inr (h.0, h.1, earlier, h.3, h.4, h.5)
       | inr is ↦ inl (subst (λ (x : Requirement). AsksAt l x reqs n) (sym is) (h.1, h.3, h.4, h.5))
@@ -53,38 +56,48 @@ among_before l reqs k d lt n a =
 abbrev pub IsTold : LaunchTasks → Requirement → List Requirement → Bool → Type 0
 IsTold l u all b = IsTrue b ↔ Any (λ v. IsKnownAt l u.record u v × Conflict u v) all
 
-asks_first : (l : LaunchTasks) (u : Requirement) (reqs : List Requirement) (b : Bool) → IsTold l u reqs b → b ≡ true → IsLeast (AsksAt l u reqs) (Some u.record)
+asks_first : (l : LaunchTasks) (u : Requirement) (reqs : List Requirement) (b : Bool) → IsTold l u reqs b → b ≡ true
+    → IsLeast (AsksAt l u reqs) (Some u.record)
 asks_first l u reqs b told yes_told =
     let a = told.0 yes_told in
     ((a.1, (a.0, a.2, a.3), a.4.0, a.4.1), λ n h. let is = h.2.asks in omega (arith, is))
 
-asks_none : (l : LaunchTasks) (u : Requirement) (reqs : List Requirement) (b : Bool) → IsTold l u reqs b → b ≡ false → (n : ℕ) → ¬ AsksAt l u reqs n
+asks_none : (l : LaunchTasks) (u : Requirement) (reqs : List Requirement) (b : Bool) → IsTold l u reqs b → b ≡ false → (n : ℕ)
+    → ¬ AsksAt l u reqs n
 asks_none l u reqs b told no_told n h =
     let known : IsKnownAt l u.record u h.0 = subst (λ m. IsKnownAt l m u h.0) (sym h.2.asks) h.2 in
     both_ways b no_told (told.1 (h.1.0, h.0, h.1.1, h.1.2, (known, h.3)))
 
-pub pairs_found : (l : LaunchTasks) (reqs : List Requirement) (k : ℕ) (d : Requirement) (o : Option ℕ) (b : Bool) → k < length reqs → IsTold l (get_or reqs k d) reqs b → b ≡ true
-    → IsLeast (AmongPairs l (take k reqs) reqs) o → IsLeast (AmongPairs l (take (k + 1) reqs) reqs) (Some (least_with (get_or reqs k d).record o))
+pub pairs_found : (l : LaunchTasks) (reqs : List Requirement) (k : ℕ) (d : Requirement) (o : Option ℕ) (b : Bool) → k < length reqs
+    → IsTold l (get_or reqs k d) reqs b → b ≡ true
+    → IsLeast (AmongPairs l (take k reqs) reqs) o
+    → IsLeast (AmongPairs l (take (k + 1) reqs) reqs) (Some (least_with (get_or reqs k d).record o))
 pairs_found l reqs k d o b lt told yes_told h =
     let u = get_or reqs k d in
-    least_same (λ n. AsksAt l u reqs n ⊎ AmongPairs l (take k reqs) reqs n) (AmongPairs l (take (k + 1) reqs) reqs) (among_more l reqs k d lt) (among_before l reqs k d lt) (Some (least_with u.record o))
+    least_same (λ n. AsksAt l u reqs n ⊎ AmongPairs l (take k reqs) reqs n) (AmongPairs l (take (k + 1) reqs) reqs)
+    (among_more l reqs k d lt) (among_before l reqs k d lt) (Some (least_with u.record o))
     (least_either (AsksAt l u reqs) (AmongPairs l (take k reqs) reqs) (Some u.record) o (asks_first l u reqs b told yes_told) h)
 
-pub pairs_passed : (l : LaunchTasks) (reqs : List Requirement) (k : ℕ) (d : Requirement) (o : Option ℕ) (b : Bool) → k < length reqs → IsTold l (get_or reqs k d) reqs b → b ≡ false
+pub pairs_passed : (l : LaunchTasks) (reqs : List Requirement) (k : ℕ) (d : Requirement) (o : Option ℕ) (b : Bool) → k < length reqs
+    → IsTold l (get_or reqs k d) reqs b → b ≡ false
     → IsLeast (AmongPairs l (take k reqs) reqs) o → IsLeast (AmongPairs l (take (k + 1) reqs) reqs) o
 pairs_passed l reqs k d o b lt told no_told h =
-    least_same (AmongPairs l (take k reqs) reqs) (AmongPairs l (take (k + 1) reqs) reqs) (λ n a. among_more l reqs k d lt n (inr a)) (λ n a. elim (among_before l reqs k d lt n a) [
+    least_same (AmongPairs l (take k reqs) reqs) (AmongPairs l (take (k + 1) reqs) reqs) (λ n a. among_more l reqs k d lt n (inr a))
+    (λ n a. elim (among_before l reqs k d lt n a) [
       | inl asks ↦ absurd (asks_none l (get_or reqs k d) reqs b told no_told n asks)
       | inr earlier ↦ earlier
     ]) o h
 
-pub pairs_all : (l : LaunchTasks) (reqs : List Requirement) (k : ℕ) (o : Option ℕ) → length reqs ≤ k → IsLeast (AmongPairs l (take k reqs) reqs) o → IsLeast (InterferesIn l reqs) o
+pub pairs_all : (l : LaunchTasks) (reqs : List Requirement) (k : ℕ) (o : Option ℕ) → length reqs ≤ k
+    → IsLeast (AmongPairs l (take k reqs) reqs) o → IsLeast (InterferesIn l reqs) o
 pairs_all l reqs k o le h = subst (λ (xs : List Requirement). IsLeast (AmongPairs l xs reqs) o) (take_all k reqs le) h
 
 -- ---- one launch after the other
 
-launches_more : (launches : List LaunchTasks) (reqs own : List Requirement) (k : ℕ) (d : LaunchTasks) → k < length launches → ((u : Requirement) → Contains own u ↔ IsOfLaunch (get_or launches k d) reqs u)
-    → (n : ℕ) → InterferesAt (take k launches) reqs n ⊎ InterferesIn (get_or launches k d) own n → InterferesAt (take (k + 1) launches) reqs n
+launches_more : (launches : List LaunchTasks) (reqs own : List Requirement) (k : ℕ) (d : LaunchTasks) → k < length launches
+    → ((u : Requirement) → Contains own u ↔ IsOfLaunch (get_or launches k d) reqs u)
+    → (n : ℕ) → InterferesAt (take k launches) reqs n ⊎ InterferesIn (get_or launches k d) own n
+    → InterferesAt (take (k + 1) launches) reqs n
 launches_more launches reqs own k d lt of n e =
     let l = get_or launches k d in
     subst (λ (ls : List LaunchTasks). InterferesAt ls reqs n) (sym (take_more launches k d lt)) (elim e [
@@ -92,28 +105,41 @@ launches_more launches reqs own k d lt of n e =
       | inr b ↦ (l, Contains-push (take k launches) l, (b.0, b.1, (of b.0).0 b.2, (of b.1).0 b.3, b.4, b.5))
     ])
 
-launches_before : (launches : List LaunchTasks) (reqs own : List Requirement) (k : ℕ) (d : LaunchTasks) → k < length launches → ((u : Requirement) → Contains own u ↔ IsOfLaunch (get_or launches k d) reqs u)
-    → (n : ℕ) → InterferesAt (take (k + 1) launches) reqs n → InterferesAt (take k launches) reqs n ⊎ InterferesIn (get_or launches k d) own n
+launches_before : (launches : List LaunchTasks) (reqs own : List Requirement) (k : ℕ) (d : LaunchTasks) → k < length launches
+    → ((u : Requirement) → Contains own u ↔ IsOfLaunch (get_or launches k d) reqs u)
+    → (n : ℕ) → InterferesAt (take (k + 1) launches) reqs n → InterferesAt (take k launches) reqs n
+    ⊎ InterferesIn (get_or launches k d) own n
 launches_before launches reqs own k d lt of n a =
     let l = get_or launches k d in
-    let h : InterferesAt (take k launches ++ l ∷ []) reqs n = subst (λ (ls : List LaunchTasks). InterferesAt ls reqs n) (take_more launches k d lt) a in
+    let h : InterferesAt (take k launches ++ l ∷ []) reqs n =
+    subst (λ (ls : List LaunchTasks). InterferesAt ls reqs n) (take_more launches k d lt) a in
     elim (Contains-push_cases (take k launches) l h.0 h.1) [
       | inl earlier ↦ inl (h.0, earlier, h.2)
       | inr is ↦
           let u = h.2.0 in
           let v = h.2.1 in
-          let at : IsOfLaunch l reqs u × IsOfLaunch l reqs v × IsKnownAt l n u v × Conflict u v = subst (λ (x : LaunchTasks). IsOfLaunch x reqs u × IsOfLaunch x reqs v × IsKnownAt x n u v × Conflict u v) (sym is) (h.2.2, h.2.3, h.2.4, h.2.5) in
+          let at : IsOfLaunch l reqs u × IsOfLaunch l reqs v × IsKnownAt l n u v × Conflict u v =
+          subst (λ (x : LaunchTasks). IsOfLaunch x reqs u × IsOfLaunch x reqs v × IsKnownAt x n u v × Conflict u v) (sym is) (
+            h.2.2,
+            h.2.3,
+            h.2.4,
+            h.2.5,
+          ) in
           inr (u, v, (of u).1 at.0, (of v).1 at.1, at.2, at.3)
     ]
 
-pub launch_judged : (launches : List LaunchTasks) (reqs own : List Requirement) (k : ℕ) (d : LaunchTasks) (first next : Option ℕ) → k < length launches → ((u : Requirement) → Contains own u ↔ IsOfLaunch (get_or launches k d) reqs u)
-    → IsLeast (InterferesAt (take k launches) reqs) first → IsLeast (InterferesIn (get_or launches k d) own) next → IsLeast (InterferesAt (take (k + 1) launches) reqs) (lesser first next)
+pub launch_judged : (launches : List LaunchTasks) (reqs own : List Requirement) (k : ℕ) (d : LaunchTasks) (first next : Option ℕ)
+    → k < length launches → ((u : Requirement) → Contains own u ↔ IsOfLaunch (get_or launches k d) reqs u)
+    → IsLeast (InterferesAt (take k launches) reqs) first → IsLeast (InterferesIn (get_or launches k d) own) next
+    → IsLeast (InterferesAt (take (k + 1) launches) reqs) (lesser first next)
 launch_judged launches reqs own k d first next lt of h one =
     let l = get_or launches k d in
-    least_same (λ n. InterferesAt (take k launches) reqs n ⊎ InterferesIn l own n) (InterferesAt (take (k + 1) launches) reqs) (launches_more launches reqs own k d lt of) (launches_before launches reqs own k d lt of) (lesser first next)
+    least_same (λ n. InterferesAt (take k launches) reqs n ⊎ InterferesIn l own n) (InterferesAt (take (k + 1) launches) reqs)
+    (launches_more launches reqs own k d lt of) (launches_before launches reqs own k d lt of) (lesser first next)
     (least_either (InterferesAt (take k launches) reqs) (InterferesIn l own) first next h one)
 
-pub launches_all : (launches : List LaunchTasks) (reqs : List Requirement) (k : ℕ) (o : Option ℕ) → length launches ≤ k → IsLeast (InterferesAt (take k launches) reqs) o → IsLeast (InterferesAt launches reqs) o
+pub launches_all : (launches : List LaunchTasks) (reqs : List Requirement) (k : ℕ) (o : Option ℕ) → length launches ≤ k
+    → IsLeast (InterferesAt (take k launches) reqs) o → IsLeast (InterferesAt launches reqs) o
 launches_all launches reqs k o le h = subst (λ (ls : List LaunchTasks). IsLeast (InterferesAt ls reqs) o) (take_all k launches le) h
 
 pub none_launched : (reqs : List Requirement) (n : ℕ) → ¬ InterferesAt [] reqs n
@@ -122,9 +148,13 @@ none_launched reqs n h = let lt = h.1.1 in omega (arith, lt)
 pub none_among : (l : LaunchTasks) (reqs : List Requirement) (n : ℕ) → ¬ AmongPairs l [] reqs n
 none_among l reqs n h = let lt = h.2.1 in omega (arith, lt)
 
-moved : (launches : List LaunchTasks) (xs ys : List Requirement) → ((u : Requirement) → Contains xs u → Contains ys u) → (n : ℕ) → InterferesAt launches xs n → InterferesAt launches ys n
+moved : (launches : List LaunchTasks) (xs ys : List Requirement) → ((u : Requirement) → Contains xs u → Contains ys u) → (n : ℕ)
+    → InterferesAt launches xs n → InterferesAt launches ys n
 moved launches xs ys into n h = (h.0, h.1, (h.2.0, h.2.1, (into h.2.0 h.2.2.0, h.2.2.1), (into h.2.1 h.2.3.0, h.2.3.1), h.2.4, h.2.5))
 
-pub first_moved : (launches : List LaunchTasks) (reqs sorted : List Requirement) (o : Option ℕ) → IsPermutation reqs sorted → IsLeast (InterferesAt launches sorted) o → IsLeast (InterferesAt launches reqs) o
+pub first_moved : (launches : List LaunchTasks) (reqs sorted : List Requirement) (o : Option ℕ) → IsPermutation reqs sorted
+    → IsLeast (InterferesAt launches sorted) o → IsLeast (InterferesAt launches reqs) o
 first_moved launches reqs sorted o perm h =
-    least_same (InterferesAt launches sorted) (InterferesAt launches reqs) (moved launches sorted reqs (λ u. Contains-permutation sorted reqs u (IsPermutation-sym reqs sorted perm))) (moved launches reqs sorted (λ u. Contains-permutation reqs sorted u perm)) o h
+    least_same (InterferesAt launches sorted) (InterferesAt launches reqs)
+    (moved launches sorted reqs (λ u. Contains-permutation sorted reqs u (IsPermutation-sym reqs sorted perm)))
+    (moved launches reqs sorted (λ u. Contains-permutation reqs sorted u perm)) o h

@@ -22,7 +22,8 @@ kept_all p (x ∷ xs) =
     ] in
     All-cons (λ y. p y ≡ true → Contains (filter p (x ∷ xs)) y) x xs
     (λ passes. rw passes (0, omega arith, refl))
-    (All-weaker (λ y. p y ≡ true → Contains (filter p xs) y) (λ y. p y ≡ true → Contains (filter p (x ∷ xs)) y) (λ y h passes. later y (h passes)) xs (kept_all p xs))
+    (All-weaker (λ y. p y ≡ true → Contains (filter p xs) y) (λ y. p y ≡ true → Contains (filter p (x ∷ xs)) y)
+    (λ y h passes. later y (h passes)) xs (kept_all p xs))
 
 pub asked_from : (n : ℕ) (claims : List Claim) (c : Claim) → Contains claims c → c.record < n → Contains (asked_below n claims) c
 asked_from n claims c h lt =
@@ -38,24 +39,30 @@ asked_in n claims c h =
     )
 
 -- one claim more is seen, or passed over
-pub seen_more : (n : ℕ) (claims : List Claim) (k : ℕ) (d : Claim) → k < length claims → (get_or claims k d).record < n → asked_below n (take (k + 1) claims) ≡ asked_below n (take k claims) ++ get_or claims k d ∷ []
+pub seen_more : (n : ℕ) (claims : List Claim) (k : ℕ) (d : Claim) → k < length claims → (get_or claims k d).record < n
+    → asked_below n (take (k + 1) claims) ≡ asked_below n (take k claims) ++ get_or claims k d ∷ []
 seen_more n claims k d within lt =
     let test : Claim → Bool = λ (x : Claim). nat_lt x.record n in
-    filter_more test claims k d within ∙ ap (λ b. filter test (take k claims) ++ cond b (get_or claims k d ∷ []) []) (lt-ltb (get_or claims k d).record n lt)
+    filter_more test claims k d within ∙ ap (λ b. filter test (take k claims) ++ cond b (get_or claims k d ∷ []) [])
+    (lt-ltb (get_or claims k d).record n lt)
 
-pub seen_same : (n : ℕ) (claims : List Claim) (k : ℕ) (d : Claim) → k < length claims → n ≤ (get_or claims k d).record → asked_below n (take (k + 1) claims) ≡ asked_below n (take k claims)
+pub seen_same : (n : ℕ) (claims : List Claim) (k : ℕ) (d : Claim) → k < length claims → n ≤ (get_or claims k d).record
+    → asked_below n (take (k + 1) claims) ≡ asked_below n (take k claims)
 seen_same n claims k d within far =
     let test : Claim → Bool = λ (x : Claim). nat_lt x.record n in
-    filter_more test claims k d within ∙ ap (λ b. filter test (take k claims) ++ cond b (get_or claims k d ∷ []) []) (le-ltb (get_or claims k d).record n far) ∙ append-nil (filter test (take k claims))
+    filter_more test claims k d within ∙ ap (λ b. filter test (take k claims) ++ cond b (get_or claims k d ∷ []) [])
+    (le-ltb (get_or claims k d).record n far) ∙ append-nil (filter test (take k claims))
 
-seen_before : (claims : List Claim) (k : ℕ) (d : Claim) → AreInOrder claims → k < length claims → (c : Claim) → Contains (take k claims) c → IsBefore c (get_or claims k d)
+seen_before : (claims : List Claim) (k : ℕ) (d : Claim) → AreInOrder claims → k < length claims → (c : Claim) → Contains (take k claims) c
+    → IsBefore c (get_or claims k d)
 seen_before claims k d order within c h =
     let lt : h.0 < k = omega (arith, h.1, length-take k claims) in
     let there = order h.0 k c lt within in
     let here = subst (λ (x : Claim). IsBefore (get_or claims h.0 c) x) (get_or_default claims k c d within) there in
     subst (λ (x : Claim). IsBefore x (get_or claims k d)) (sym (get_or-take k claims h.0 c lt) ∙ h.2) here
 
-pub seen_behind : (n : ℕ) (claims : List Claim) (k : ℕ) (d : Claim) → AreInOrder claims → k < length claims → IsBehind (asked_below n (take k claims)) (get_or claims k d)
+pub seen_behind : (n : ℕ) (claims : List Claim) (k : ℕ) (d : Claim) → AreInOrder claims → k < length claims
+    → IsBehind (asked_below n (take k claims)) (get_or claims k d)
 seen_behind n claims k d order within c h = seen_before claims k d order within c (asked_in n (take k claims) c h).0
 
 -- clashes among claims
@@ -76,19 +83,24 @@ none_more seen d none apart h =
       ]
     ]
 
-asked_wider : (n : ℕ) (xs ys : List Claim) → ((c : Claim) → Contains xs c → Contains ys c) → (c : Claim) → Contains (asked_below n xs) c → Contains (asked_below n ys) c
+asked_wider : (n : ℕ) (xs ys : List Claim) → ((c : Claim) → Contains xs c → Contains ys c) → (c : Claim) → Contains (asked_below n xs) c
+    → Contains (asked_below n ys) c
 asked_wider n xs ys into c h = let k = asked_in n xs c h in asked_from n ys c (into c k.0) k.1
 
-pub clash_found : (n : ℕ) (claims : List Claim) (k : ℕ) (d : Claim) → k < length claims → (get_or claims k d).record < n → ClashesWithSome (asked_below n (take k claims)) (get_or claims k d) → HasClash (asked_below n claims)
+pub clash_found : (n : ℕ) (claims : List Claim) (k : ℕ) (d : Claim) → k < length claims → (get_or claims k d).record < n
+    → ClashesWithSome (asked_below n (take k claims)) (get_or claims k d) → HasClash (asked_below n claims)
 clash_found n claims k d within lt some =
     let here = get_or claims k d in
     let told = asked_in n (take k claims) some.0 some.1 in
-    let seen : Contains claims some.0 = All-contains (Contains claims) (take k claims) some.0 (All-take (Contains claims) k claims (All-contains_itself claims)) told.0 in
+    let seen : Contains claims some.0 = All-contains (Contains claims) (take k claims) some.0
+    (All-take (Contains claims) k claims (All-contains_itself claims)) told.0 in
     (some.0, here, asked_from n claims some.0 seen told.1, asked_from n claims here (Contains-get_or claims k d within) lt, some.2)
 
 -- the claims in order are the claims
-pub clash_sorted : (n : ℕ) (claims sorted : List Claim) → IsPermutation claims sorted → HasClash (asked_below n claims) → HasClash (asked_below n sorted)
-clash_sorted n claims sorted perm = clash_moved (asked_below n claims) (asked_below n sorted) (asked_wider n claims sorted (λ c. Contains-permutation claims sorted c perm))
+pub clash_sorted : (n : ℕ) (claims sorted : List Claim) → IsPermutation claims sorted → HasClash (asked_below n claims)
+    → HasClash (asked_below n sorted)
+clash_sorted n claims sorted perm = clash_moved (asked_below n claims) (asked_below n sorted)
+    (asked_wider n claims sorted (λ c. Contains-permutation claims sorted c perm))
 
 -- the first record at which claims clash
 asks_at : (claims : List Claim) (n : ℕ) → StartsClash claims n → (c : Claim) × Contains claims c × (c.record ≡ n)
@@ -110,7 +122,8 @@ starts_sorted claims sorted n perm starts = (
   λ h. starts.1 (clash_sorted n claims sorted perm h),
 )
 
-pub first_found : (claims sorted : List Claim) (most : ℕ) (o : Option ℕ) → IsPermutation claims sorted → IsFirstUpTo sorted most o → IfSome o (IsFirstClash claims)
+pub first_found : (claims sorted : List Claim) (most : ℕ) (o : Option ℕ) → IsPermutation claims sorted → IsFirstUpTo sorted most o
+    → IfSome o (IsFirstClash claims)
 first_found claims sorted most None perm found = tt
 first_found claims sorted most (Some n) perm found =
     let starts = starts_sorted claims sorted n perm found in
@@ -119,10 +132,13 @@ first_found claims sorted most (Some n) perm found =
 pub clash_within : (n : ℕ) (claims : List Claim) → HasClash (asked_below n claims) → HasClash claims
 clash_within n claims = clash_moved (asked_below n claims) claims (λ c h. (asked_in n claims c h).0)
 
-clash_up_to : (most : ℕ) (claims : List Claim) → ((c : Claim) → Contains claims c → c.record ≤ most) → HasClash claims → HasClash (asked_below (most + 1) claims)
-clash_up_to most claims above = clash_moved claims (asked_below (most + 1) claims) (λ c h. asked_from (most + 1) claims c h (omega (arith, above c h)))
+clash_up_to : (most : ℕ) (claims : List Claim) → ((c : Claim) → Contains claims c → c.record ≤ most) → HasClash claims
+    → HasClash (asked_below (most + 1) claims)
+clash_up_to most claims above = clash_moved claims (asked_below (most + 1) claims)
+    (λ c h. asked_from (most + 1) claims c h (omega (arith, above c h)))
 
-pub none_found : (claims sorted : List Claim) (most : ℕ) (o : Option ℕ) → IsPermutation claims sorted → ((c : Claim) → Contains sorted c → c.record ≤ most)
+pub none_found : (claims sorted : List Claim) (most : ℕ) (o : Option ℕ) → IsPermutation claims sorted
+    → ((c : Claim) → Contains sorted c → c.record ≤ most)
     → IsFirstUpTo sorted most o → (o ≡ None) ↔ (¬ HasClash claims)
 none_found claims sorted most None perm above none = (
   λ is h. none (clash_up_to most sorted above (clash_moved claims sorted (λ c. Contains-permutation claims sorted c perm) h)),
@@ -142,8 +158,12 @@ pub none_below_zero : (claims : List Claim) → ¬ HasClash (asked_below 0 claim
 none_below_zero claims h = let lt = (asked_in 0 claims h.0 h.2).1 in omega (arith, lt)
 
 -- the highest number so far
-pub highest_more : (claims : List Claim) (k most : ℕ) (d : Claim) → k < length claims → ((c : Claim) → Contains (take k claims) c → c.record ≤ most) → (c : Claim) → Contains (take (k + 1) claims) c → c.record ≤ max (get_or claims k d).record most
-highest_more claims k most d within so_far c h = elim (Contains-push_cases (take k claims) (get_or claims k d) c (subst (λ (xs : List Claim). Contains xs c) (take_more claims k d within) h)) [
-  | inl earlier ↦ let le = so_far c earlier in omega arith
-  | inr is ↦ let same = ap (λ (x : Claim). x.record) is in omega arith
-]
+pub highest_more : (claims : List Claim) (k most : ℕ) (d : Claim) → k < length claims
+    → ((c : Claim) → Contains (take k claims) c → c.record ≤ most) → (c : Claim) → Contains (take (k + 1) claims) c
+    → c.record ≤ max (get_or claims k d).record most
+highest_more claims k most d within so_far c h =
+    elim (Contains-push_cases (take k claims) (get_or claims k d) c
+    (subst (λ (xs : List Claim). Contains xs c) (take_more claims k d within) h)) [
+      | inl earlier ↦ let le = so_far c earlier in omega arith
+      | inr is ↦ let same = ap (λ (x : Claim). x.record) is in omega arith
+    ]

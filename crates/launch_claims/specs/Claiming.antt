@@ -11,7 +11,16 @@ time_of l r = max l.number (max r.record r.declared)
 
 -- What a requirement claims of a field, but for the points.
 abbrev pub claim_on : LaunchTasks → Requirement → ℕ → Claim
-claim_on l r field = record { tree = r.tree; field = field; first = 0; last = 0; task = r.task; access = r.access; «record» = time_of l r }
+claim_on l r field = record {
+  tree = r.tree;
+  field = field;
+  first = 0;
+  last = 0;
+  task = r.task;
+  access =
+      r.access;
+  «record» = time_of l r;
+}
 
 -- The same claim on the points of a run.
 abbrev pub run_of : Claim → ℕ × ℕ → Claim

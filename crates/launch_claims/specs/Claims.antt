@@ -13,7 +13,8 @@ share_point c d = nat_le (max c.first d.first) (min c.last d.last)
 
 -- Two claims clash where two tasks of a launch use a common point of a field, and their privileges do not agree.
 abbrev pub clashes : Claim → Claim → Bool
-clashes c d = share_field c d && (share_point c d && (not (c.task == d.task) && not (agree c.access d.access)))
+clashes c d = share_field c d && (share_point c d
+    && (not (c.task == d.task) && not (agree c.access d.access)))
 
 -- Some two of the claims clash.
 abbrev pub HasClash : List Claim → Type 0

@@ -38,7 +38,8 @@ pub record IsKnownAt (l : LaunchTasks) (n : ℕ) (u v : Requirement) : Type 0 wh
 
 -- At the record of this number, some requirement that it asks for is in conflict with one that is asked for by then.
 abbrev pub InterferesIn : LaunchTasks → List Requirement → ℕ → Type 0
-InterferesIn l reqs n = (u : Requirement) × (v : Requirement) × Contains reqs u × Contains reqs v × IsKnownAt l n u v × Conflict u v
+InterferesIn l reqs n = (u : Requirement) × (v : Requirement) × Contains reqs u × Contains reqs v
+    × IsKnownAt l n u v × Conflict u v
 
 -- The privileges of any two of these requirements agree.
 abbrev pub AllAgree : List Requirement → Type 0
@@ -51,7 +52,9 @@ IsOfLaunch l reqs u = Contains reqs u × IsTaskOf l u.task
 -- At the record of this number, some requirement that it asks for interferes with that of another task of a launch.
 abbrev pub InterferesAt : List LaunchTasks → List Requirement → ℕ → Type 0
 InterferesAt launches reqs n =
-    (l : LaunchTasks) × Contains launches l × ((u : Requirement) × (v : Requirement) × IsOfLaunch l reqs u × IsOfLaunch l reqs v × IsKnownAt l n u v × Conflict u v)
+    (l : LaunchTasks) × Contains launches l
+    × ((u : Requirement) × (v : Requirement) × IsOfLaunch l reqs u × IsOfLaunch l reqs v
+    × IsKnownAt l n u v × Conflict u v)
 
 -- The least number with a property, if there is one.
 abbrev pub IsLeast : (ℕ → Type 0) → Option ℕ → Type 0

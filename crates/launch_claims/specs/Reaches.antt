@@ -39,7 +39,8 @@ IsOfOtherAccess d c = IsTrue (share_field c d) × (agree c.access d.access ≡ f
 abbrev pub IsReachOf : (Claim → Type 0) → List Claim → Option ℕ → Type 0
 IsReachOf P seen o =
     MatchOption o ((c : Claim) → Contains seen c → ¬ P c)
-    (λ last. ((c : Claim) × Contains seen c × P c × (c.last ≡ last)) × ((c : Claim) → Contains seen c → P c → c.last ≤ last))
+    (λ last. ((c : Claim) × Contains seen c × P c × (c.last ≡ last))
+    × ((c : Claim) → Contains seen c → P c → c.last ≤ last))
 
 -- What a reach tells of claims that stand in order: which of those of the last field reaches furthest, and how far those of them reach that are not of its task, or whose privilege does not agree with its.
 pub record Measures (r : Reach) (seen : List Claim) : Type 0 where
@@ -47,7 +48,8 @@ pub record Measures (r : Reach) (seen : List Claim) : Type 0 where
   pub latest : (c : Claim) → Contains seen c → IsFieldBefore c r.furthest
   pub furthest : (c : Claim) → Contains seen c → IsTrue (share_field c r.furthest) → c.last ≤ r.furthest.last
   pub tasks : IsReachOf (IsOfOtherTask r.furthest) seen r.other_tasks
-  pub accesses : agree r.furthest.access r.furthest.access ≡ true → IsReachOf (IsOfOtherAccess r.furthest) seen r.other_accesses
+  pub accesses : agree r.furthest.access r.furthest.access ≡ true
+      → IsReachOf (IsOfOtherAccess r.furthest) seen r.other_accesses
 
 -- The same, or that there are no claims.
 abbrev pub MeasuresSoFar : Option Reach → List Claim → Type 0
@@ -63,7 +65,8 @@ TellsReachOf P r o = (seen : List Claim) → Measures r seen → IsReachOf P see
 
 -- Of all claims of which something is known, of which no two clash and behind which this one stands: whether one of them clashes with it.
 abbrev pub JudgesNext : (List Claim → Type 0) → Claim → Bool → Type 0
-JudgesNext Known d told = (seen : List Claim) → Known seen → IsBehind seen d → ¬ HasClash seen → (IsTrue told ↔ ClashesWithSome seen d)
+JudgesNext Known d told = (seen : List Claim) → Known seen → IsBehind seen d → ¬ HasClash seen
+    → (IsTrue told ↔ ClashesWithSome seen d)
 
 -- Of all claims of which something is known and behind which this one stands: how far they reach with this one.
 abbrev pub MeasuresNext : (List Claim → Type 0) → Claim → Reach → Type 0
@@ -81,7 +84,8 @@ counted None true point = Some point
 
 -- With the claims of the record of this number the claims up to it clash, and without them they do not.
 abbrev pub StartsClash : List Claim → ℕ → Type 0
-StartsClash claims number = HasClash (asked_below (number + 1) claims) × (¬ HasClash (asked_below number claims))
+StartsClash claims number = HasClash (asked_below (number + 1) claims)
+    × (¬ HasClash (asked_below number claims))
 
 -- The least such number, of those up to `most`.
 abbrev pub IsFirstUpTo : List Claim → ℕ → Option ℕ → Type 0

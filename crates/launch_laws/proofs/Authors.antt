@@ -33,14 +33,28 @@ task_is_item t id e =
     let found = any_found (λ (i : Item). (i.id == id) && is_task i.body) t.items e in
     any_at (λ (i : Item). i.id == id) t.items found.0 found.1 (and_parts (found.0.id == id) (is_task found.0.body) found.2).0
 
-still_placed : (log : List Record) (t : Tables) (line : ℕ) (r : Record) → Each (HasAuthor log t.items) t.reqs → Each (HasAuthor log (with_record t line r).items) t.reqs
+still_placed : (log : List Record) (t : Tables) (line : ℕ) (r : Record) → Each (HasAuthor log t.items) t.reqs
+    → Each (HasAuthor log (with_record t line r).items) t.reqs
 still_placed log t line r h q m =
     let a = h q m in
-    record { task = a.task; access = a.access; atomic = a.atomic; of_log = a.of_log; is_access = a.is_access; is_coherence = a.is_coherence; item = a.item; at = place_stays q.item a.item t line r a.at; id = a.id }
+    record {
+      task = a.task;
+      access = a.access;
+      atomic = a.atomic;
+      of_log = a.of_log;
+      is_access = a.is_access;
+      is_coherence =
+          a.is_coherence;
+      item = a.item;
+      at = place_stays q.item a.item t line r a.at;
+      id = a.id;
+    }
 
-one_more : (log : List Record) (t : Tables) (line : ℕ) (r : Record) → Member log r → Keeps t r → Each (HasAuthor log t.items) t.reqs → Each (HasAuthor log (with_record t line r).items) (with_record t line r).reqs
+one_more : (log : List Record) (t : Tables) (line : ℕ) (r : Record) → Member log r → Keeps t r → Each (HasAuthor log t.items) t.reqs
+    → Each (HasAuthor log (with_record t line r).items) (with_record t line r).reqs
 one_more log t line (records.Req task tree space fields access atomic) m k h =
-    let known = task_is_item t task (all_at (is_declared t) (names (records.Req task tree space fields access atomic)) (task_id task) k.declared (inl refl)) in
+    let known = task_is_item t task (all_at (is_declared t) (names (records.Req task tree space fields access atomic))
+    (task_id task) k.declared (inl refl)) in
     let i = item_placed t task known in
     each_more (HasAuthor log t.items) t.reqs _ h (record {
       task = task;
@@ -57,7 +71,9 @@ one_more log t line (records.Task id) m k h = still_placed log t line (records.T
 one_more log t line (records.Fill id tree space fields n) m k h = still_placed log t line (records.Fill id tree space fields n) h
 one_more log t line _ m k h = h
 
-pub all_have_authors : (log : List Lined) → records_fault (records_of log) [] log ≡ None → Each (HasAuthor (records_of log) (tables_of log).items) (tables_of log).reqs
+pub all_have_authors : (log : List Lined) → records_fault (records_of log) [] log ≡ None
+    → Each (HasAuthor (records_of log) (tables_of log).items) (tables_of log).reqs
 all_have_authors log none = by_records (Member (records_of log)) (λ t. Each (HasAuthor (records_of log) t.items) t.reqs) (records_of log)
     (λ earlier l u m. one_more (records_of log) (tables_of earlier) l.line l.rec m (keeps_of (records_of log) earlier l.rec u))
-    [] log (recursion_from_All _ (records_of log) (λ k d lt. member_of (records_of log) _ (Contains-get_or (records_of log) k d lt))) none (λ r m. absurd m)
+    [] log (recursion_from_All _ (records_of log) (λ k d lt. member_of (records_of log) _ (Contains-get_or (records_of log) k d lt))) none
+    (λ r m. absurd m)

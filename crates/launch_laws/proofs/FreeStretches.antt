@@ -20,12 +20,15 @@ module _ (t : Tables) (p : Place) where
   AreFree xs = (a b : ℕ) → Member xs a → Member xs b → a ≢ b → item_kind t a b ≡ Free
 
   -- An item that does not interfere with those in front of it may move to the front.
-  to_front : (x : ℕ) (front back : List ℕ) → ((y : ℕ) → Member front y → item_kind t x y ≡ Free) → (v : Value) → after_items t (front ++ x ∷ back) p v ≡ after_items t (front ++ back) p (after_one t p x v)
+  to_front : (x : ℕ) (front back : List ℕ) → ((y : ℕ) → Member front y → item_kind t x y ≡ Free) → (v : Value)
+      → after_items t (front ++ x ∷ back) p v ≡ after_items t (front ++ back) p (after_one t p x v)
   to_front x [] back free v = refl
   to_front x (y ∷ front) back free v =
-      to_front x front back (λ z m. free z (inr m)) (after_one t p y v) ∙ ap (after_items t (front ++ back) p) (items_turn t p x y (free y (inl refl)) v)
+      to_front x front back (λ z m. free z (inr m)) (after_one t p y v)
+      ∙ ap (after_items t (front ++ back) p) (items_turn t p x y (free y (inl refl)) v)
 
-  in_any_order : (xs ys : List ℕ) → Apart xs → Apart ys → ((e : ℕ) → Member xs e ↔ Member ys e) → AreFree xs → (v : Value) → after_items t xs p v ≡ after_items t ys p v
+  in_any_order : (xs ys : List ℕ) → Apart xs → Apart ys → ((e : ℕ) → Member xs e ↔ Member ys e) → AreFree xs → (v : Value)
+      → after_items t xs p v ≡ after_items t ys p v
   in_any_order [] [] a b same free v = refl
   in_any_order [] (y ∷ ys) a b same free v = absurd ((same y).1 (inl refl))
   in_any_order (x ∷ xs) ys a b same free v =
@@ -33,7 +36,8 @@ module _ (t : Tables) (p : Place) where
       let b_cut = subst Apart cut.2 b in
       let parts = pairs_parts (λ x y. x ≢ y) cut.0 (x ∷ cut.1) b_cut in
       let b_rest = pairs_append (λ x y. x ≢ y) cut.0 cut.1 parts.0 parts.1.1 (λ y z m n. parts.2 y z m (inr n)) in
-      let same_rest = left_out_same (λ x y. x ≢ y) (λ y h. h refl) x xs cut.0 cut.1 a b_cut (λ e. subst (λ zs. Member (x ∷ xs) e ↔ Member zs e) cut.2 (same e)) in
+      let same_rest = left_out_same (λ x y. x ≢ y) (λ y h. h refl) x xs cut.0 cut.1 a b_cut
+      (λ e. subst (λ zs. Member (x ∷ xs) e ↔ Member zs e) cut.2 (same e)) in
       let rest = in_any_order xs (cut.0 ++ cut.1) a.1 b_rest same_rest (λ c d m n. free c d (inr m) (inr n)) (after_one t p x v) in
       let may_turn : (y : ℕ) → Member cut.0 y → item_kind t x y ≡ Free = λ y m.
       let later : Member xs y = (same_rest y).1 (member_left cut.0 cut.1 y m) in
@@ -45,12 +49,14 @@ module _ (t : Tables) (p : Place) where
       (λ e. (λ m. member_of other e ((h.same e).0 (contains_of one e m)), λ m. member_of one e ((h.same e).1 (contains_of other e m))))
       (λ a b m n. h.free a b (contains_of one a m) (contains_of one b n))
 
-  pub all_stretches : (ones others : List (List ℕ)) → AreTurned t ones others → (v : Value) → after_items t (joined ones) p v ≡ after_items t (joined others) p v
+  pub all_stretches : (ones others : List (List ℕ)) → AreTurned t ones others → (v : Value)
+      → after_items t (joined ones) p v ≡ after_items t (joined others) p v
   all_stretches [] [] h v = refl
   all_stretches [] (other ∷ others) h v = absurd h
   all_stretches (one ∷ ones) [] h v = absurd h
   all_stretches (one ∷ ones) (other ∷ others) h v =
-      after_append one (joined ones) v ∙ ap (after_items t (joined ones) p) (one_stretch one other h.0 v) ∙ all_stretches ones others h.1 (after_items t other p v) ∙ sym (after_append other (joined others) v)
+      after_append one (joined ones) v ∙ ap (after_items t (joined ones) p) (one_stretch one other h.0 v)
+      ∙ all_stretches ones others h.1 (after_items t other p v) ∙ sym (after_append other (joined others) v)
 
   -- ---- just before an item
 
@@ -71,25 +77,32 @@ module _ (t : Tables) (p : Place) where
   pub wanted_before : (xs : List ℕ) (item : ℕ) → wanted_in t xs item p ≡ just_before xs item (plain Init)
   wanted_before xs item = ap (λ n. after_items t (take n xs) p (plain Init)) (place_len (λ i. i == item) xs) ∙ taken xs item (plain Init)
 
-  before_past : (xs ys : List ℕ) (item : ℕ) → (Member xs item → ⊥) → (v : Value) → just_before (xs ++ ys) item v ≡ just_before ys item (after_items t xs p v)
+  before_past : (xs ys : List ℕ) (item : ℕ) → (Member xs item → ⊥) → (v : Value)
+      → just_before (xs ++ ys) item v ≡ just_before ys item (after_items t xs p v)
   before_past [] ys item out v = refl
-  before_past (x ∷ xs) ys item out v = rw (ne_eqb x item (λ e. out (inl (sym e)))) (before_past xs ys item (λ m. out (inr m)) (after_one t p x v))
+  before_past (x ∷ xs) ys item out v = rw (ne_eqb x item (λ e. out (inl (sym e))))
+      (before_past xs ys item (λ m. out (inr m)) (after_one t p x v))
 
-  before_still : (xs ys : List ℕ) (item : ℕ) → Member xs item → ((x : ℕ) → Member xs x → x ≢ item → (v : Value) → after_one t p x v ≡ v) → (v : Value) → just_before (xs ++ ys) item v ≡ v
+  before_still : (xs ys : List ℕ) (item : ℕ) → Member xs item → ((x : ℕ) → Member xs x → x ≢ item → (v : Value) → after_one t p x v ≡ v)
+      → (v : Value) → just_before (xs ++ ys) item v ≡ v
   before_still [] ys item m keep v = absurd m
   before_still (x ∷ xs) ys item m keep v = elim (cases_eq x item) [
     | inl here ↦ rw (eq-eqb x item here) refl
     | inr other ↦ elim m [
       | inl is ↦ absurd (other (sym is))
-      | inr later ↦ rw (ne_eqb x item other) (ap (just_before (xs ++ ys) item) (keep x (inl refl) other v) ∙ before_still xs ys item later (λ y n. keep y (inr n)) v)
+      | inr later ↦ rw (ne_eqb x item other) (ap (just_before (xs ++ ys) item) (keep x (inl refl) other v)
+          ∙ before_still xs ys item later (λ y n. keep y (inr n)) v)
     ]
   ]
 
   module _ (item : ℕ) (r : Req) (asks : Member (uses_of t item) r) (reads : may_read r.access ≡ true) (here : covers t p r ≡ true) where
-    keeps : (one other : List ℕ) → IsTurned t one other → Member one item → (x : ℕ) → Member one x → x ≢ item → (v : Value) → after_one t p x v ≡ v
-    keeps one other h m x n differ = item_keeps t p item x r (h.free item x (contains_of one item m) (contains_of one x n) (λ e. differ (sym e))) asks reads here
+    keeps : (one other : List ℕ) → IsTurned t one other → Member one item → (x : ℕ) → Member one x → x ≢ item → (v : Value)
+        → after_one t p x v ≡ v
+    keeps one other h m x n differ = item_keeps t p item x r
+        (h.free item x (contains_of one item m) (contains_of one x n) (λ e. differ (sym e))) asks reads here
 
-    before_all : (ones others : List (List ℕ)) → AreTurned t ones others → (v : Value) → just_before (joined ones) item v ≡ just_before (joined others) item v
+    before_all : (ones others : List (List ℕ)) → AreTurned t ones others → (v : Value)
+        → just_before (joined ones) item v ≡ just_before (joined others) item v
     before_all [] [] h v = refl
     before_all [] (other ∷ others) h v = absurd h
     before_all (one ∷ ones) [] h v = absurd h
@@ -99,15 +112,19 @@ module _ (t : Tables) (p : Place) where
         elim (cases_Bool (is_in one item)) [
           | inl found ↦
               let m = member_in one item found in
-              before_still one (joined ones) item m (keeps one other h.0 m) v ∙ sym (before_still other (joined others) item (there m) (λ x n. keeps one other h.0 m x (back x n)) v)
+              before_still one (joined ones) item m (keeps one other h.0 m) v
+              ∙ sym (before_still other (joined others) item (there m) (λ x n. keeps one other h.0 m x (back x n)) v)
           | inr missed ↦
               let out : Member one item → ⊥ = λ m. let bad = sym (is_in_of one item m) ∙ missed in absurd cc in
               before_past one (joined ones) item out v ∙ ap (just_before (joined ones) item) (one_stretch one other h.0 v)
-              ∙ before_all ones others h.1 (after_items t other p v) ∙ sym (before_past other (joined others) item (λ m. out (back item m)) v)
+              ∙ before_all ones others h.1 (after_items t other p v)
+              ∙ sym (before_past other (joined others) item (λ m. out (back item m)) v)
         ]
 
-    pub wanted_same : (ones others : List (List ℕ)) → AreTurned t ones others → wanted_in t (joined ones) item p ≡ wanted_in t (joined others) item p
-    wanted_same ones others h = wanted_before (joined ones) item ∙ before_all ones others h (plain Init) ∙ sym (wanted_before (joined others) item)
+    pub wanted_same : (ones others : List (List ℕ)) → AreTurned t ones others
+        → wanted_in t (joined ones) item p ≡ wanted_in t (joined others) item p
+    wanted_same ones others h = wanted_before (joined ones) item ∙ before_all ones others h (plain Init)
+        ∙ sym (wanted_before (joined others) item)
 
 -- ---- one stretch among items that stay
 
@@ -123,7 +140,9 @@ joined_singles [] = refl
 joined_singles (x ∷ xs) = ap (λ ys. x ∷ ys) (joined_singles xs)
 
 among : (front one back : List ℕ) → joined (singles front ++ one ∷ singles back) ≡ front ++ one ++ back
-among front one back = joined_append (singles front) (one ∷ singles back) ∙ ap (λ xs. xs ++ (one ++ joined (singles back))) (joined_singles front) ∙ ap (λ xs. front ++ (one ++ xs)) (joined_singles back) ∙ sym (append_assoc front one back)
+among front one back = joined_append (singles front) (one ∷ singles back)
+    ∙ ap (λ xs. xs ++ (one ++ joined (singles back))) (joined_singles front) ∙ ap (λ xs. front ++ (one ++ xs)) (joined_singles back)
+    ∙ sym (append_assoc front one back)
 
 single_turned : (t : Tables) (x : ℕ) → IsTurned t (x ∷ []) (x ∷ [])
 single_turned t x = record {
@@ -137,7 +156,8 @@ singles_turned : (t : Tables) (xs : List ℕ) → AreTurned t (singles xs) (sing
 singles_turned t [] = tt
 singles_turned t (x ∷ xs) = (single_turned t x, singles_turned t xs)
 
-turned_append : (t : Tables) (ones others more most : List (List ℕ)) → AreTurned t ones others → AreTurned t more most → AreTurned t (ones ++ more) (others ++ most)
+turned_append : (t : Tables) (ones others more most : List (List ℕ)) → AreTurned t ones others → AreTurned t more most
+    → AreTurned t (ones ++ more) (others ++ most)
 turned_append t [] [] more most g h = h
 turned_append t [] (other ∷ others) more most g h = absurd g
 turned_append t (one ∷ ones) [] more most g h = absurd g
@@ -150,10 +170,14 @@ cut front one back = singles front ++ one ∷ singles back
 -- Two orders agree but for the order of the items of one stretch.
 module _ (t : Tables) (front here there back : List ℕ) (turned : IsTurned t here there) where
   stretches_turned : AreTurned t (cut front here back) (cut front there back)
-  stretches_turned = turned_append t (singles front) (singles front) (here ∷ singles back) (there ∷ singles back) (singles_turned t front) (turned, singles_turned t back)
+  stretches_turned = turned_append t (singles front) (singles front) (here ∷ singles back) (there ∷ singles back) (singles_turned t front)
+      (turned, singles_turned t back)
 
   pub one_after : (p : Place) (v : Value) → after_items t (front ++ here ++ back) p v ≡ after_items t (front ++ there ++ back) p v
-  one_after p v = ap (λ xs. after_items t xs p v) (sym (among front here back)) ∙ all_stretches t p _ _ stretches_turned v ∙ ap (λ xs. after_items t xs p v) (among front there back)
+  one_after p v = ap (λ xs. after_items t xs p v) (sym (among front here back)) ∙ all_stretches t p _ _ stretches_turned v
+      ∙ ap (λ xs. after_items t xs p v) (among front there back)
 
-  pub one_wanted : (item : ℕ) (r : Req) → Member (uses_of t item) r → may_read r.access ≡ true → (p : Place) → covers t p r ≡ true → wanted_in t (front ++ here ++ back) item p ≡ wanted_in t (front ++ there ++ back) item p
-  one_wanted item r asks reads p at = ap (λ xs. wanted_in t xs item p) (sym (among front here back)) ∙ wanted_same t p item r asks reads at _ _ stretches_turned ∙ ap (λ xs. wanted_in t xs item p) (among front there back)
+  pub one_wanted : (item : ℕ) (r : Req) → Member (uses_of t item) r → may_read r.access ≡ true → (p : Place) → covers t p r ≡ true
+      → wanted_in t (front ++ here ++ back) item p ≡ wanted_in t (front ++ there ++ back) item p
+  one_wanted item r asks reads p at = ap (λ xs. wanted_in t xs item p) (sym (among front here back))
+      ∙ wanted_same t p item r asks reads at _ _ stretches_turned ∙ ap (λ xs. wanted_in t xs item p) (among front there back)

@@ -45,15 +45,23 @@ covers_so : (t : Tables) (p : Place) (r : Req) → covers t p r ≡ true → Cov
 covers_so t p r e =
     let parts = and_parts (r.tree == p.tree) (is_in (points_in t r.space) p.point && is_in r.fields p.field) e in
     let more = and_parts (is_in (points_in t r.space) p.point) (is_in r.fields p.field) parts.1 in
-    record { tree = eqb-true r.tree p.tree parts.0; point = member_in (points_in t r.space) p.point more.0; field = member_in r.fields p.field more.1 }
+    record {
+      tree = eqb-true r.tree p.tree parts.0;
+      point = member_in (points_in t r.space) p.point more.0;
+      field =
+          member_in r.fields p.field more.1;
+    }
 
 -- A task that is written is an item.
-task_declared : (written : List Record) (id : ℕ) → Member written (records.Task id) → (j : Item) × Member (tables_of (lined written)).items j × (j.id ≡ id) × (j.body ≡ bodies.Task)
+task_declared : (written : List Record) (id : ℕ) → Member written (records.Task id) → (j : Item)
+    × Member (tables_of (lined written)).items j × (j.id ≡ id) × (j.body ≡ bodies.Task)
 task_declared written id m =
     let cut = split_at written (records.Task id) m in
     let before : Tables = tables_of (lined cut.0) in
     let j : Item = record { id = id; line = 1 + length cut.0; body = bodies.Task } in
-    let here : Member (tables_of (lined (cut.0 ++ records.Task id ∷ []))).items j = subst (λ (t : Tables). Member t.items j) (sym (tables_more cut.0 (records.Task id ∷ []))) (member_right before.items (j ∷ []) j (inl refl)) in
+    let here : Member (tables_of (lined (cut.0 ++ records.Task id ∷ []))).items j =
+    subst (λ (t : Tables). Member t.items j) (sym (tables_more cut.0 (records.Task id ∷ [])))
+    (member_right before.items (j ∷ []) j (inl refl)) in
     let there = stays (λ t. Member t.items j) (item_stays j) (cut.0 ++ records.Task id ∷ []) cut.1 here in
     (j, subst (λ ws. Member (tables_of (lined ws)).items j) (append_assoc cut.0 (records.Task id ∷ []) cut.1 ∙ sym cut.2) there, refl, refl)
 
@@ -64,7 +72,8 @@ no_launch_fault lines log e =
     let ended = both_none (ended_fault lines (framed log)) _ header.1 in
     (both_none (count_fault (framed log)) _ ended.1).1
 
-module _ (lines count : ℕ) (log : List LLined) (no_fault : launch_fault lines log ≡ None) (declared : declaration_fault count (lined (written_log log)) ≡ None) (l : TaskLaunch) (of : Member (launches_of log) l) where
+module _ (lines count : ℕ) (log : List LLined) (no_fault : launch_fault lines log ≡ None)
+    (declared : declaration_fault count (lined (written_log log)) ≡ None) (l : TaskLaunch) (of : Member (launches_of log) l) where
   abbrev t : Tables
   t = launch_tables log
 
@@ -81,7 +90,8 @@ module _ (lines count : ℕ) (log : List LLined) (no_fault : launch_fault lines 
   none_broken = subst (λ ws. records_fault ws [] (lined written) ≡ None) numbered no_rule
 
   holds : Holds (expanded (launch_records log)) none_broken (expanded (launch_records log))
-  holds = walked (expanded (launch_records log)) none_broken not_expanded log (no_launch_fault lines log no_fault) refl (nothing_holds (expanded (launch_records log)) none_broken)
+  holds = walked (expanded (launch_records log)) none_broken not_expanded log (no_launch_fault lines log no_fault) refl
+      (nothing_holds (expanded (launch_records log)) none_broken)
 
   -- A task of the launch is a task, whose uses are its requirements.
   is_task_body : (a : ℕ) (i : Item) → slice_get t.items a ≡ Some i → is_launched l i.id ≡ true → i.body ≡ bodies.Task
@@ -93,14 +103,16 @@ module _ (lines count : ℕ) (log : List LLined) (no_fault : launch_fault lines 
         | inr (inr differ) ↦ absurd (differ j.2)
       ]
 
-  use_is_req : (a : ℕ) (i : Item) → slice_get t.items a ≡ Some i → i.body ≡ bodies.Task → (q : Req) → Member (uses_of t a) q → Member t.reqs q × (q.item ≡ a)
+  use_is_req : (a : ℕ) (i : Item) → slice_get t.items a ≡ Some i → i.body ≡ bodies.Task → (q : Req) → Member (uses_of t a) q
+      → Member t.reqs q × (q.item ≡ a)
   use_is_req a i at body q m =
       let here : Member (reqs_of t a) q = rw (at, body) at m in
       let both = member_filter (λ (r : Req). r.item == a) t.reqs q here in
       (both.0, eqb-true q.item a both.1)
 
   -- The record of a requirement of an item names the id of the item.
-  author : (a : ℕ) (i : Item) → slice_get t.items a ≡ Some i → (q : Req) → Member t.reqs q → q.item ≡ a → (w : HasAuthor written t.items q) × (w.task ≡ i.id)
+  author : (a : ℕ) (i : Item) → slice_get t.items a ≡ Some i → (q : Req) → Member t.reqs q → q.item ≡ a → (w : HasAuthor written t.items q)
+      × (w.task ≡ i.id)
   author a i at q m is =
       let w : HasAuthor written t.items q = subst (λ ws. HasAuthor ws t.items q) numbered (all_have_authors (lined written) no_rule q m) in
       (w, sym w.id ∙ ap (λ (i : Item). i.id) (same_Some w.item i (sym w.at ∙ ap (slice_get t.items) is ∙ at)))
@@ -108,33 +120,45 @@ module _ (lines count : ℕ) (log : List LLined) (no_fault : launch_fault lines 
   -- Two items of one id are one.
   one_item : (a b : ℕ) (i j : Item) → slice_get t.items a ≡ Some i → slice_get t.items b ≡ Some j → i.id ≡ j.id → a ≡ b
   one_item a b i j at_a at_b same =
-      let back : (k : ℕ) (i : Item) → slice_get t.items k ≡ Some i → place_of t.items i.id ≡ k = λ k i at. subst (λ id. place_of t.items id ≡ k) (rw at refl) (items_placed (lined written) no_rule k (slice_get_within t.items k i at)) in
+      let back : (k : ℕ) (i : Item) → slice_get t.items k ≡ Some i → place_of t.items i.id ≡ k =
+      λ k i at. subst (λ id. place_of t.items id ≡ k) (rw at refl)
+      (items_placed (lined written) no_rule k (slice_get_within t.items k i at)) in
       sym (back a i at_a) ∙ ap (place_of t.items) same ∙ back b j at_b
 
   -- Requirements whose records do not clash are free of each other where they share a place.
-  free_apart : (q r : Req) (v : HasAuthor written t.items q) (w : HasAuthor written t.items r) → v.task ≢ w.task → is_launched l v.task ≡ true → is_launched l w.task ≡ true
-      → (p : Place) → Covers t p q → Covers t p r → clash t l (record_of written t.items q v) (record_of written t.items r w) ≡ false → kind_of q.access q.coherence r.access r.coherence ≡ Free
+  free_apart : (q r : Req) (v : HasAuthor written t.items q) (w : HasAuthor written t.items r) → v.task ≢ w.task
+      → is_launched l v.task ≡ true → is_launched l w.task ≡ true
+      → (p : Place) → Covers t p q → Covers t p r → clash t l (record_of written t.items q v) (record_of written t.items r w) ≡ false
+      → kind_of q.access q.coherence r.access r.coherence ≡ Free
   free_apart q r v w differ one two p c d apart =
-      same_kind q.access (privilege_of v.access) r.access (privilege_of w.access) q.coherence (coherence_of v.atomic) r.coherence (coherence_of w.atomic) v.is_access v.is_coherence w.is_access w.is_coherence
-      ∙ no_clash t l v.task q.tree q.space q.fields v.access v.atomic w.task r.tree r.space r.fields w.access w.atomic apart one two (ne_eqb v.task w.task differ)
-      (eq-eqb q.tree r.tree (c.tree ∙ sym d.tree)) (meets_of q.fields r.fields p.field c.field d.field) (meets_of (points_in t q.space) (points_in t r.space) p.point c.point d.point)
+      same_kind q.access (privilege_of v.access) r.access (privilege_of w.access) q.coherence (coherence_of v.atomic) r.coherence
+      (coherence_of w.atomic) v.is_access v.is_coherence w.is_access w.is_coherence
+      ∙ no_clash t l v.task q.tree q.space q.fields v.access v.atomic w.task r.tree r.space r.fields w.access w.atomic apart one two
+      (ne_eqb v.task w.task differ)
+      (eq-eqb q.tree r.tree (c.tree ∙ sym d.tree)) (meets_of q.fields r.fields p.field c.field d.field)
+      (meets_of (points_in t q.space) (points_in t r.space) p.point c.point d.point)
 
-  free_written : (q r : Req) (v : HasAuthor written t.items q) (w : HasAuthor written t.items r) → v.task ≢ w.task → is_launched l v.task ≡ true → is_launched l w.task ≡ true
+  free_written : (q r : Req) (v : HasAuthor written t.items q) (w : HasAuthor written t.items r) → v.task ≢ w.task
+      → is_launched l v.task ≡ true → is_launched l w.task ≡ true
       → (p : Place) → Covers t p q → Covers t p r → kind_of q.access q.coherence r.access r.coherence ≡ Free
-  free_written q r v w differ one two p c d = elim (pairs_of _ written (holds.apart l of) (record_of written t.items q v) (record_of written t.items r w) v.of_log w.of_log) [
-    | inl same ↦ absurd (differ (ap (λ (p : ℕ × ℕ). p.0) (same_Some (v.task, q.space) (w.task, r.space) (ap asked_by same))))
-    | inr (inl later) ↦ free_back r.access q.access r.coherence q.coherence (free_apart r q w v (λ e. differ (sym e)) two one p d c later)
-    | inr (inr later) ↦ free_apart q r v w differ one two p c d later
-  ]
+  free_written q r v w differ one two p c d =
+      elim (pairs_of _ written (holds.apart l of) (record_of written t.items q v) (record_of written t.items r w) v.of_log w.of_log) [
+        | inl same ↦ absurd (differ (ap (λ (p : ℕ × ℕ). p.0) (same_Some (v.task, q.space) (w.task, r.space) (ap asked_by same))))
+        | inr (inl later) ↦ free_back r.access q.access r.coherence q.coherence
+            (free_apart r q w v (λ e. differ (sym e)) two one p d c later)
+        | inr (inr later) ↦ free_apart q r v w differ one two p c d later
+      ]
 
-  free_uses : (a b : ℕ) → IsTaskOf t l a → IsTaskOf t l b → a ≢ b → (p : Place) (q r : Req) → Member (uses_of t a) q → Member (uses_of t b) r → covers t p q ≡ true → covers t p r ≡ true
+  free_uses : (a b : ℕ) → IsTaskOf t l a → IsTaskOf t l b → a ≢ b → (p : Place) (q r : Req) → Member (uses_of t a) q
+      → Member (uses_of t b) r → covers t p q ≡ true → covers t p r ≡ true
       → kind_of q.access q.coherence r.access r.coherence ≡ Free
   free_uses a b x y differ p q r m n c d =
       let q_in = use_is_req a x.task x.at (is_task_body a x.task x.at x.launched) q m in
       let r_in = use_is_req b y.task y.at (is_task_body b y.task y.at y.launched) r n in
       let v = author a x.task x.at q q_in.0 q_in.1 in
       let w = author b y.task y.at r r_in.0 r_in.1 in
-      free_written q r v.0 w.0 (λ same. differ (one_item a b x.task y.task x.at y.at (sym v.1 ∙ same ∙ w.1))) (ap (is_launched l) v.1 ∙ x.launched) (ap (is_launched l) w.1 ∙ y.launched)
+      free_written q r v.0 w.0 (λ same. differ (one_item a b x.task y.task x.at y.at (sym v.1 ∙ same ∙ w.1))) (ap (is_launched l) v.1
+      ∙ x.launched) (ap (is_launched l) w.1 ∙ y.launched)
       p (covers_so t p q c) (covers_so t p r d)
 
   -- Two tasks of one launch do not interfere.

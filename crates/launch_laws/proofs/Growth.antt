@@ -20,17 +20,21 @@ with_line t l = with_record t l.line l.rec
 
 lined_more : (n : ℕ) (xs ys : List Record) → lined_from n (xs ++ ys) ≡ lined_from n xs ++ lined_from (n + length xs) ys
 lined_more n [] ys = ap (λ m. lined_from m ys) (omega arith)
-lined_more n (x ∷ xs) ys = ap (λ ls. record { line = n; rec = x } ∷ ls) (lined_more (n + 1) xs ys ∙ ap (λ m. lined_from (n + 1) xs ++ lined_from m ys) (omega arith))
+lined_more n (x ∷ xs) ys = ap (λ ls. record { line = n; rec = x } ∷ ls) (lined_more (n + 1) xs ys
+    ∙ ap (λ m. lined_from (n + 1) xs ++ lined_from m ys) (omega arith))
 
-pub tables_more : (xs ys : List Record) → tables_of (lined (xs ++ ys)) ≡ fold with_line (tables_of (lined xs)) (lined_from (1 + length xs) ys)
+pub tables_more : (xs ys : List Record) → tables_of (lined (xs ++ ys))
+    ≡ fold with_line (tables_of (lined xs)) (lined_from (1 + length xs) ys)
 tables_more xs ys = ap tables_of (lined_more 1 xs ys) ∙ fold-append with_line no_tables (lined xs) (lined_from (1 + length xs) ys)
 
-stays_so : (P : Tables → Type 0) → ((t : Tables) (line : ℕ) (r : Record) → P t → P (with_record t line r)) → (t : Tables) (log : List Lined) → P t → P (fold with_line t log)
+stays_so : (P : Tables → Type 0) → ((t : Tables) (line : ℕ) (r : Record) → P t → P (with_record t line r)) → (t : Tables) (log : List Lined)
+    → P t → P (fold with_line t log)
 stays_so P step t [] h = h
 stays_so P step t (l ∷ log) h = stays_so P step (with_line t l) log (step t l.line l.rec h)
 
 -- What stays with each record stays to the end of a log.
-pub stays : (P : Tables → Type 0) → ((t : Tables) (line : ℕ) (r : Record) → P t → P (with_record t line r)) → (xs ys : List Record) → P (tables_of (lined xs)) → P (tables_of (lined (xs ++ ys)))
+pub stays : (P : Tables → Type 0) → ((t : Tables) (line : ℕ) (r : Record) → P t → P (with_record t line r)) → (xs ys : List Record)
+    → P (tables_of (lined xs)) → P (tables_of (lined (xs ++ ys)))
 stays P step xs ys h = subst P (sym (tables_more xs ys)) (stays_so P step (tables_of (lined xs)) (lined_from (1 + length xs) ys) h)
 
 -- ---- what stays
@@ -48,13 +52,15 @@ got_more [] ys (suc k) x e = absurd cc
 got_more (y ∷ xs) ys zero x e = e
 got_more (y ∷ xs) ys (suc k) x e = got_more xs ys k x e
 
-pub place_stays : (k : ℕ) (i : Item) (t : Tables) (line : ℕ) (r : Record) → slice_get t.items k ≡ Some i → slice_get (with_record t line r).items k ≡ Some i
+pub place_stays : (k : ℕ) (i : Item) (t : Tables) (line : ℕ) (r : Record) → slice_get t.items k ≡ Some i
+    → slice_get (with_record t line r).items k ≡ Some i
 place_stays k i t line (records.Task id) e = got_more t.items _ k i e
 place_stays k i t line (records.Fill id tree space fields n) e = got_more t.items _ k i e
 place_stays k i t line _ e = e
 
 -- That some item has an id.
-pub id_stays : (id : ℕ) (t : Tables) (line : ℕ) (r : Record) → is_declared t (item_id id) ≡ true → is_declared (with_record t line r) (item_id id) ≡ true
+pub id_stays : (id : ℕ) (t : Tables) (line : ℕ) (r : Record) → is_declared t (item_id id) ≡ true
+    → is_declared (with_record t line r) (item_id id) ≡ true
 id_stays id t line (records.Task other) e = list_any-append (λ (i : Item). i.id == id) t.items _ ∙ rw e refl
 id_stays id t line (records.Fill other tree space fields n) e = list_any-append (λ (i : Item). i.id == id) t.items _ ∙ rw e refl
 id_stays id t line _ e = e
@@ -63,29 +69,36 @@ id_stays id t line _ e = e
 abbrev pub HasPoints : ℕ → List ℕ → Tables → Type 0
 HasPoints space points t = (is_declared t (space_id space) ≡ true) × (points_in t space ≡ points)
 
-pub points_stay : (space : ℕ) (points : List ℕ) (t : Tables) (line : ℕ) (r : Record) → HasPoints space points t → HasPoints space points (with_record t line r)
+pub points_stay : (space : ℕ) (points : List ℕ) (t : Tables) (line : ℕ) (r : Record) → HasPoints space points t
+    → HasPoints space points (with_record t line r)
 points_stay space points t line (records.Ispace id set) h =
     let found = find_any (λ (s : Space). s.id == space) t.spaces h.0 in (
       list_any-append (λ (s : Space). s.id == space) t.spaces _ ∙ rw h.0 refl,
-      ap (λ o. option_map_or (λ (s : Space). s.points) o []) (find_still (λ (s : Space). s.id == space) t.spaces _ found.0 found.1 ∙ sym found.1) ∙ h.1,
+      ap (λ o. option_map_or (λ (s : Space). s.points) o []) (find_still (λ (s : Space). s.id == space) t.spaces _ found.0 found.1
+          ∙ sym found.1) ∙ h.1,
     )
 points_stay space points t line _ h = h
 
 -- ---- where a record stands
 
-skipped : (log : List Record) (earlier more rest : List Lined) → records_fault log earlier (more ++ rest) ≡ None → records_fault log (earlier ++ more) rest ≡ None
+skipped : (log : List Record) (earlier more rest : List Lined) → records_fault log earlier (more ++ rest) ≡ None
+    → records_fault log (earlier ++ more) rest ≡ None
 skipped log earlier [] rest e = subst (λ ls. records_fault log ls rest ≡ None) (sym (append-nil earlier)) e
-skipped log earlier (l ∷ more) rest e = subst (λ ls. records_fault log ls rest ≡ None) (append_assoc earlier (l ∷ []) more) (skipped log (earlier ++ l ∷ []) more rest (unbroken log earlier l (more ++ rest) e).1)
+skipped log earlier (l ∷ more) rest e = subst (λ ls. records_fault log ls rest ≡ None) (append_assoc earlier (l ∷ []) more)
+    (skipped log (earlier ++ l ∷ []) more rest (unbroken log earlier l (more ++ rest) e).1)
 
 -- A record of a log without a broken rule breaks none after those before it.
-pub unbroken_at : (log : List Record) (xs : List Record) (x : Record) (ys : List Record) → records_fault log [] (lined (xs ++ x ∷ ys)) ≡ None → Unbroken log (lined xs) x
+pub unbroken_at : (log : List Record) (xs : List Record) (x : Record) (ys : List Record)
+    → records_fault log [] (lined (xs ++ x ∷ ys)) ≡ None → Unbroken log (lined xs) x
 unbroken_at log xs x ys e =
     (unbroken log (lined xs) (record { line = 1 + length xs; rec = x }) (lined_from (1 + length xs + 1) ys)
-    (skipped log [] (lined xs) (lined_from (1 + length xs) (x ∷ ys)) (subst (λ ls. records_fault log [] ls ≡ None) (lined_more 1 xs (x ∷ ys)) e))).0
+    (skipped log [] (lined xs) (lined_from (1 + length xs) (x ∷ ys))
+    (subst (λ ls. records_fault log [] ls ≡ None) (lined_more 1 xs (x ∷ ys)) e))).0
 
 -- ---- the place of an id
 
-first_at : {X : Type 0} (p : X → Bool) (xs : List X) → list_any p xs ≡ true → (x : X) × (slice_get xs (position_or_len p xs) ≡ Some x) × (p x ≡ true)
+first_at : {X : Type 0} (p : X → Bool) (xs : List X) → list_any p xs ≡ true → (x : X) × (slice_get xs (position_or_len p xs) ≡ Some x)
+    × (p x ≡ true)
 first_at p [] e = absurd cc
 first_at p (x ∷ xs) e = elim (cases_Bool (p x)) [
   | inl here ↦ (x, rw here refl, here)
@@ -96,7 +109,8 @@ first_at p (x ∷ xs) e = elim (cases_Bool (p x)) [
 ]
 
 -- The item of an id that is declared.
-pub item_placed : (t : Tables) (id : ℕ) → is_declared t (item_id id) ≡ true → (i : Item) × (slice_get t.items (place_of t.items id) ≡ Some i) × ((i.id == id) ≡ true)
+pub item_placed : (t : Tables) (id : ℕ) → is_declared t (item_id id) ≡ true → (i : Item)
+    × (slice_get t.items (place_of t.items id) ≡ Some i) × ((i.id == id) ≡ true)
 item_placed t id e =
     let first = first_at (λ (i : Item). i.id == id) t.items e in
     (first.0, ap (slice_get t.items) (place_len (λ (i : Item). i.id == id) t.items) ∙ first.1, first.2)

@@ -22,13 +22,18 @@ some_of None None (Some g) r f e = e
 some_of None (Some g) c r f e = e
 some_of (Some g) n c r f e = e
 
-pub faulty_frame : (lines : ℕ) (log seen : List LLined) (o : Option Fault) (f : Fault) → o ≡ frame_of lines seen → seen ≡ log → o ≡ Some f → launch_fault lines log ≡ Some f
+pub faulty_frame : (lines : ℕ) (log seen : List LLined) (o : Option Fault) (f : Fault) → o ≡ frame_of lines seen → seen ≡ log → o ≡ Some f
+    → launch_fault lines log ≡ Some f
 unfolding launch_fault
-faulty_frame lines log seen o f told is some = some_of (header_fault lines (framed log)) (ended_fault lines (framed log)) (count_fault (framed log)) (launches_fault not_expanded log) f (ap (frame_of lines) (sym is) ∙ sym told ∙ some)
+faulty_frame lines log seen o f told is some =
+    some_of (header_fault lines (framed log)) (ended_fault lines (framed log)) (count_fault (framed log))
+    (launches_fault not_expanded log) f (ap (frame_of lines) (sym is) ∙ sym told ∙ some)
 
-pub sound_frame : (lines : ℕ) (log seen : List LLined) (o : Option Fault) → o ≡ frame_of lines seen → seen ≡ log → o ≡ None → launch_fault lines log ≡ launches_fault not_expanded log
+pub sound_frame : (lines : ℕ) (log seen : List LLined) (o : Option Fault) → o ≡ frame_of lines seen → seen ≡ log → o ≡ None
+    → launch_fault lines log ≡ launches_fault not_expanded log
 unfolding launch_fault
-sound_frame lines log seen o told is none = none_of (header_fault lines (framed log)) (ended_fault lines (framed log)) (count_fault (framed log)) (launches_fault not_expanded log) (ap (frame_of lines) (sym is) ∙ sym told ∙ none)
+sound_frame lines log seen o told is none = none_of (header_fault lines (framed log)) (ended_fault lines (framed log))
+    (count_fault (framed log)) (launches_fault not_expanded log) (ap (frame_of lines) (sym is) ∙ sym told ∙ none)
 
 pub same_fault : (f : Fault) (line : ℕ) (code : Code) → ends.Fault f.line f.code ≡ ends.Fault line code → f ≡ at_line code line
 same_fault f line code e =

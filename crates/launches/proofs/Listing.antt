@@ -11,28 +11,79 @@ use Rattle.spy_grammar.specs.declared.record.Record.TheVariants as records
 use Rattle.launches.specs.declared.uses.Space.{Space}
 use Rattle.launches.specs.Uses.{DeclaredSpace, Use, asked_by, space_seen}
 
-asked_where : (rows : List Space) (o : Option Space) (task tree space line : ℕ) (fields : List ℕ) (access : PrivWord) (atomic : Bool) → o ≡ find (λ (s : Space). s.id == space) rows
-    → option_map (λ (s : DeclaredSpace). record { task = task; tree = tree; runs = s.runs; fields = fields; access = privilege_of access; line = line; declared = s.line }) (option_map space_seen o)
+asked_where : (rows : List Space) (o : Option Space) (task tree space line : ℕ) (fields : List ℕ) (access : PrivWord) (atomic : Bool)
+    → o ≡ find (λ (s : Space). s.id == space) rows
+    → option_map (λ (s : DeclaredSpace). record {
+      task = task;
+      tree = tree;
+      runs = s.runs;
+      fields = fields;
+      access =
+          privilege_of access;
+      line = line;
+      declared = s.line;
+    }) (option_map space_seen o)
     ≡ asked_by (map space_seen rows) (line, records.Req task tree space fields access atomic)
 asked_where rows o task tree space line fields access atomic is =
-    let f : DeclaredSpace → Use = λ (s : DeclaredSpace). record { task = task; tree = tree; runs = s.runs; fields = fields; access = privilege_of access; line = line; declared = s.line } in
-    ap (λ (p : Option Space). option_map f (option_map space_seen p)) is ∙ ap (option_map f) (sym (find_map (λ (s : DeclaredSpace). s.id == space) space_seen rows))
+    let f : DeclaredSpace → Use = λ (s : DeclaredSpace). record {
+      task = task;
+      tree = tree;
+      runs = s.runs;
+      fields = fields;
+      access =
+          privilege_of access;
+      line = line;
+      declared = s.line;
+    } in
+    ap (λ (p : Option Space). option_map f (option_map space_seen p)) is
+    ∙ ap (option_map f) (sym (find_map (λ (s : DeclaredSpace). s.id == space) space_seen rows))
 
-pub asked_none : (rows : List Space) (o : Option Space) (task tree space line : ℕ) (fields : List ℕ) (access : PrivWord) (atomic : Bool) → o ≡ find (λ (s : Space). s.id == space) rows → o ≡ None
+pub asked_none : (rows : List Space) (o : Option Space) (task tree space line : ℕ) (fields : List ℕ) (access : PrivWord) (atomic : Bool)
+    → o ≡ find (λ (s : Space). s.id == space) rows → o ≡ None
     → None ≡ asked_by (map space_seen rows) (line, records.Req task tree space fields access atomic)
 asked_none rows None task tree space line fields access atomic is none = asked_where rows None task tree space line fields access atomic is
 asked_none rows (Some s) task tree space line fields access atomic is none = absurd (none-some s (sym none))
 
-pub asked_some : (rows : List Space) (o : Option Space) (s : Space) (task tree space line : ℕ) (fields its_fields : List ℕ) (access : PrivWord) (its_access : Priv) (atomic : Bool) → o ≡ find (λ (s : Space). s.id == space) rows → o ≡ Some s
+pub asked_some : (rows : List Space) (o : Option Space) (s : Space) (task tree space line : ℕ) (fields its_fields : List ℕ)
+    (access : PrivWord) (its_access : Priv) (atomic : Bool) → o ≡ find (λ (s : Space). s.id == space) rows → o ≡ Some s
     → its_fields ≡ fields → its_access ≡ privilege_of access
-    → Some (record { task = task; tree = tree; runs = s.runs.now; fields = its_fields; access = its_access; line = line; declared = s.line }) ≡ asked_by (map space_seen rows) (line, records.Req task tree space fields access atomic)
+    → Some (record {
+      task = task;
+      tree = tree;
+      runs = s.runs.now;
+      fields = its_fields;
+      access = its_access;
+      line = line;
+      declared =
+          s.line;
+    }) ≡ asked_by (map space_seen rows) (line, records.Req task tree space fields access atomic)
 asked_some rows o s task tree space line fields its_fields access its_access atomic is some same_fields same_access =
-    ap (λ (fs : List ℕ). Some (record { task = task; tree = tree; runs = s.runs.now; fields = fs; access = its_access; line = line; declared = s.line })) same_fields
-    ∙ ap (λ (p : Priv). Some (record { task = task; tree = tree; runs = s.runs.now; fields = fields; access = p; line = line; declared = s.line })) same_access
+    ap (λ (fs : List ℕ). Some (record {
+      task = task;
+      tree = tree;
+      runs = s.runs.now;
+      fields = fs;
+      access = its_access;
+      line =
+          line;
+      declared = s.line;
+    })) same_fields
+    ∙ ap (λ (p : Priv). Some (record {
+      task = task;
+      tree = tree;
+      runs = s.runs.now;
+      fields = fields;
+      access = p;
+      line = line;
+      declared =
+          s.line;
+    })) same_access
     ∙ asked_where rows (Some s) task tree space line fields access atomic (sym some ∙ is)
 
-pub filtered_more : {X Y : Type 0} (h : ℕ × X → Option Y) (ns : List ℕ) (xs : List X) (i : ℕ) (x : X) (now next : List Y) → i < length ns → length ns ≤ length xs → x ≡ get_or xs i x
-    → now ≡ filter_map h (take i (zip ns xs)) → next ≡ now ++ cons_option (h (get_or ns i 0, x)) [] → next ≡ filter_map h (take (i + 1) (zip ns xs))
+pub filtered_more : {X Y : Type 0} (h : ℕ × X → Option Y) (ns : List ℕ) (xs : List X) (i : ℕ) (x : X) (now next : List Y) → i < length ns
+    → length ns ≤ length xs → x ≡ get_or xs i x
+    → now ≡ filter_map h (take i (zip ns xs)) → next ≡ now ++ cons_option (h (get_or ns i 0, x)) []
+    → next ≡ filter_map h (take (i + 1) (zip ns xs))
 filtered_more {X = X} {Y = Y} h ns xs i x now next low long is so_far more =
     let high : i < length xs = omega (arith, low, long) in
     let within : i < length (zip ns xs) = omega (arith, low, high, length-zip ns xs) in
@@ -44,10 +95,13 @@ filtered_more {X = X} {Y = Y} h ns xs i x now next low long is so_far more =
     ∙ ap (λ (q : ℕ × X). filter_map h (take i (zip ns xs) ++ q ∷ [])) (sym at)
     ∙ ap (λ (ps : List (ℕ × X)). filter_map h ps) (sym (take_more (zip ns xs) i (0, x) within))
 
-pub filtered_all : {X Y : Type 0} (h : ℕ × X → Option Y) (ns : List ℕ) (xs : List X) (i : ℕ) (now : List Y) → length ns ≤ i → now ≡ filter_map h (take i (zip ns xs)) → now ≡ filter_map h (zip ns xs)
-filtered_all {X = X} h ns xs i now le so_far = so_far ∙ ap (λ (ps : List (ℕ × X)). filter_map h ps) (take_all i (zip ns xs) (omega (arith, le, length-zip ns xs)))
+pub filtered_all : {X Y : Type 0} (h : ℕ × X → Option Y) (ns : List ℕ) (xs : List X) (i : ℕ) (now : List Y) → length ns ≤ i
+    → now ≡ filter_map h (take i (zip ns xs)) → now ≡ filter_map h (zip ns xs)
+filtered_all {X = X} h ns xs i now le so_far =
+    so_far ∙ ap (λ (ps : List (ℕ × X)). filter_map h ps) (take_all i (zip ns xs) (omega (arith, le, length-zip ns xs)))
 
-pub mapped_more : {X Y Z : Type 0} (f : ℕ × Y → Z) (g : X → Y) (ns : List ℕ) (xs : List X) (i : ℕ) (x : X) (now next : List Z) → i < length ns → length ns ≤ length xs → x ≡ get_or xs i x
+pub mapped_more : {X Y Z : Type 0} (f : ℕ × Y → Z) (g : X → Y) (ns : List ℕ) (xs : List X) (i : ℕ) (x : X) (now next : List Z)
+    → i < length ns → length ns ≤ length xs → x ≡ get_or xs i x
     → now ≡ map f (take i (zip ns (map g xs))) → next ≡ now ++ f (get_or ns i 0, g x) ∷ [] → next ≡ map f (take (i + 1) (zip ns (map g xs)))
 mapped_more {X = X} {Y = Y} {Z = Z} f g ns xs i x now next low long is so_far more =
     let ys = map g xs in
@@ -55,11 +109,14 @@ mapped_more {X = X} {Y = Y} {Z = Z} f g ns xs i x now next low long is so_far mo
     let within : i < length (zip ns ys) = omega (arith, low, high, length-zip ns ys) in
     let there : i < length xs = omega (arith, low, long) in
     let y : get_or ys i (g x) ≡ g x = get_or-map g xs i x (g x) there ∙ ap g (sym is) in
-    let at : get_or (zip ns ys) i (0, g x) ≡ (get_or ns i 0, g x) = get_or-zip ns ys i (0, g x) low high ∙ ap (λ (z : Y). (get_or ns i 0, z)) y in
+    let at : get_or (zip ns ys) i (0, g x) ≡ (get_or ns i 0, g x) =
+    get_or-zip ns ys i (0, g x) low high ∙ ap (λ (z : Y). (get_or ns i 0, z)) y in
     more
     ∙ ap (λ (zs : List Z). zs ++ f (get_or ns i 0, g x) ∷ []) so_far
     ∙ ap (λ (q : ℕ × Y). map f (take i (zip ns ys)) ++ f q ∷ []) (sym at)
     ∙ sym (map_more f (zip ns ys) i (0, g x) within)
 
-pub mapped_all : {X Z : Type 0} (f : ℕ × X → Z) (ns : List ℕ) (xs : List X) (i : ℕ) (now : List Z) → length ns ≤ i → now ≡ map f (take i (zip ns xs)) → now ≡ map f (zip ns xs)
-mapped_all {X = X} f ns xs i now le so_far = so_far ∙ ap (λ (ps : List (ℕ × X)). map f ps) (take_all i (zip ns xs) (omega (arith, le, length-zip ns xs)))
+pub mapped_all : {X Z : Type 0} (f : ℕ × X → Z) (ns : List ℕ) (xs : List X) (i : ℕ) (now : List Z) → length ns ≤ i
+    → now ≡ map f (take i (zip ns xs)) → now ≡ map f (zip ns xs)
+mapped_all {X = X} f ns xs i now le so_far = so_far
+    ∙ ap (λ (ps : List (ℕ × X)). map f ps) (take_all i (zip ns xs) (omega (arith, le, length-zip ns xs)))

@@ -27,10 +27,14 @@ pub writes_other : (e : Expanded) (r : Record) → is_end r ≡ false → writes
 writes_other e (records.End n) h = absurd (false≢true (sym h))
 writes_other e _ h = refl
 
-pub first_launch : (ls : List Launched) (base : ℕ) (o : Option (Bor Launched)) → option_copied o ≡ find (λ (l : Launched). l.base == base) ls → option_map (λ l. launch_seen l.now) o ≡ find (λ (l : TaskLaunch). l.base == base) (map launch_seen ls)
-first_launch ls base o e = seen_behind launch_seen o ∙ ap (option_map launch_seen) e ∙ sym (find_map (λ (l : TaskLaunch). l.base == base) launch_seen ls)
+pub first_launch : (ls : List Launched) (base : ℕ) (o : Option (Bor Launched))
+    → option_copied o ≡ find (λ (l : Launched). l.base == base) ls
+    → option_map (λ l. launch_seen l.now) o ≡ find (λ (l : TaskLaunch). l.base == base) (map launch_seen ls)
+first_launch ls base o e = seen_behind launch_seen o ∙ ap (option_map launch_seen) e
+    ∙ sym (find_map (λ (l : TaskLaunch). l.base == base) launch_seen ls)
 
-pub ids_found : (ls : List Launched) (base : ℕ) (o : Option (Bor Launched)) → All HasTaskIds ls → option_copied o ≡ find (λ (l : Launched). l.base == base) ls → IfSome o (λ l. base + length l.now.colours ≤ 2 ^ 32)
+pub ids_found : (ls : List Launched) (base : ℕ) (o : Option (Bor Launched)) → All HasTaskIds ls
+    → option_copied o ≡ find (λ (l : Launched). l.base == base) ls → IfSome o (λ l. base + length l.now.colours ≤ 2 ^ 32)
 ids_found ls base None fit e = tt
 ids_found ls base (Some l) fit e =
     let found = find_some (λ (x : Launched). x.base == base) ls l.now (sym e) in
@@ -43,11 +47,13 @@ some_seen f (Some x) p e = ap is_some e
 -- ---- one step
 
 -- A record that launches nothing.
-pub step_no_launch : (ls : List Launched) (ws us : List Record) (r : LRecord) → launches_by r ≡ [] → us ≡ ws ++ writes (expanded_as ls ws) r → expanded_as ls us ≡ with_launching (expanded_as ls ws) r
+pub step_no_launch : (ls : List Launched) (ws us : List Record) (r : LRecord) → launches_by r ≡ [] → us ≡ ws ++ writes (expanded_as ls ws) r
+    → expanded_as ls us ≡ with_launching (expanded_as ls ws) r
 step_no_launch ls ws us r none e =
     let seen = map launch_seen ls in
     ap (λ (xs : List Record). expanded_as ls xs) e
-    ∙ ap (λ (ys : List TaskLaunch). record { launches = ys; written = ws ++ writes (expanded_as ls ws) r }) (sym (append-nil seen) ∙ ap (λ (ys : List TaskLaunch). seen ++ ys) (sym none))
+    ∙ ap (λ (ys : List TaskLaunch). record { launches = ys; written = ws ++ writes (expanded_as ls ws) r }) (sym (append-nil seen)
+    ∙ ap (λ (ys : List TaskLaunch). seen ++ ys) (sym none))
 
 pub fit_more : (ls ms : List Launched) (l : Launched) → All HasTaskIds ls → HasTaskIds l → ms ≡ ls ++ l ∷ [] → All HasTaskIds ms
 fit_more ls ms l all one e = subst (All HasTaskIds) (sym e) (All-push HasTaskIds ls l all one)
@@ -56,7 +62,11 @@ pub kept_same : (e : Expanded) → IsKept e e
 kept_same e = record { launches = ([], sym (append-nil e.launches)); written = ([], sym (append-nil e.written)) }
 
 pub kept_more : (e f : Expanded) (r : LRecord) → f ≡ with_launching e r → IsKept e f
-kept_more e f r step = record { launches = (launches_by r, ap (λ (x : Expanded). x.launches) step); written = (writes e r, ap (λ (x : Expanded). x.written) step) }
+kept_more e f r step = record {
+  launches = (launches_by r, ap (λ (x : Expanded). x.launches) step);
+  written =
+      (writes e r, ap (λ (x : Expanded). x.written) step);
+}
 
 -- ---- the rules by themselves
 
@@ -73,7 +83,8 @@ early_or_late e r none = elim (cases_Bool (repeats_launch e r)) [
   ]
 ]
 
-pub early_single : (e : Expanded) (r : LRecord) (code : Code) → find (breaks_launch e r) early_rules ≡ Some code → single_broken e r ≡ Some code
+pub early_single : (e : Expanded) (r : LRecord) (code : Code) → find (breaks_launch e r) early_rules ≡ Some code
+    → single_broken e r ≡ Some code
 early_single e r code some = elim (cases_Bool (repeats_launch e r)) [
   | inl a ↦ rw a (rw a at some)
   | inr a ↦ elim (cases_Bool (names_no_launch e r)) [
@@ -85,7 +96,8 @@ early_single e r code some = elim (cases_Bool (repeats_launch e r)) [
   ]
 ]
 
-pub none_early : (e : Expanded) (r : LRecord) → find (breaks_launch e r) early_rules ≡ None → (names_no_launch e r ≡ false) × (exceeds_ids r ≡ false)
+pub none_early : (e : Expanded) (r : LRecord) → find (breaks_launch e r) early_rules ≡ None → (names_no_launch e r ≡ false)
+    × (exceeds_ids r ≡ false)
 none_early e r none = elim (cases_Bool (repeats_launch e r)) [
   | inl a ↦ absurd (none-some codes.RepeatedId (sym (rw a at none)))
   | inr a ↦ elim (cases_Bool (names_no_launch e r)) [
@@ -101,21 +113,27 @@ pub none_where : (o : Option Code) → is_some o ≡ false → o ≡ None
 none_where None e = refl
 none_where (Some code) e = absurd (false≢true (sym e))
 
-pub early_told : (e : Expanded) (r : LRecord) (o : Option Code) → is_some o ≡ true → o ≡ find (breaks_launch e r) early_rules → o ≡ single_broken e r
+pub early_told : (e : Expanded) (r : LRecord) (o : Option Code) → is_some o ≡ true → o ≡ find (breaks_launch e r) early_rules
+    → o ≡ single_broken e r
 early_told e r None some is = absurd (false≢true some)
 early_told e r (Some code) some is = sym (early_single e r code (sym is))
 
-pub late_told : (e : Expanded) (r : LRecord) (ws : List Record) (o : Option Code) → find (breaks_launch e r) early_rules ≡ None → ws ≡ e.written ++ writes e r
-    → o ≡ (if nat_lt MOST_RECORDS (length (filter is_inner ws)) then Some codes.TooManyRecords else if nat_lt MOST_BYTES (length (text_of ws)) then Some codes.TooLong else None)
+pub late_told : (e : Expanded) (r : LRecord) (ws : List Record) (o : Option Code) → find (breaks_launch e r) early_rules ≡ None
+    → ws ≡ e.written ++ writes e r
+    → o ≡ (if nat_lt MOST_RECORDS (length (filter is_inner ws)) then Some codes.TooManyRecords
+    else if nat_lt MOST_BYTES (length (text_of ws)) then Some codes.TooLong else None)
     → o ≡ single_broken e r
 late_told e r ws o none more is =
     is
-    ∙ ap (λ (xs : List Record). if nat_lt MOST_RECORDS (length (filter is_inner xs)) then Some codes.TooManyRecords else if nat_lt MOST_BYTES (length (text_of xs)) then Some codes.TooLong else None) more
+    ∙ ap (λ (xs : List Record). if nat_lt MOST_RECORDS (length (filter is_inner xs)) then Some codes.TooManyRecords
+    else if nat_lt MOST_BYTES (length (text_of xs)) then Some codes.TooLong else None) more
     ∙ sym (early_or_late e r none)
 
 -- ---- how many records there are
 
-pub late_short : (rs : List Record) (o : Option Code) → o ≡ (if nat_lt MOST_RECORDS (length (filter is_inner rs)) then Some codes.TooManyRecords else if nat_lt MOST_BYTES (length (text_of rs)) then Some codes.TooLong else None) → o ≡ None → length rs < 2 ^ 32
+pub late_short : (rs : List Record) (o : Option Code)
+    → o ≡ (if nat_lt MOST_RECORDS (length (filter is_inner rs)) then Some codes.TooManyRecords
+    else if nat_lt MOST_BYTES (length (text_of rs)) then Some codes.TooLong else None) → o ≡ None → length rs < 2 ^ 32
 late_short rs o is none = elim (cases_Bool (nat_lt MOST_RECORDS (length (filter is_inner rs)))) [
   | inl many ↦ absurd (none-some codes.TooManyRecords (sym none ∙ rw many at is))
   | inr few ↦ elim (cases_Bool (nat_lt MOST_BYTES (length (text_of rs)))) [

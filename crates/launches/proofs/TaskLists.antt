@@ -6,12 +6,16 @@ use Rattle.std.proofs.lemmas.List.{take_more, length-take-le}
 use Rattle.vocabulary.specs.Prelude.{Record}
 use Rattle.semantics.specs.Launches.{for_tasks}
 
-tasks_more : (make : ℕ → ℕ → Record) (n : ℕ) (xs : List ℕ) (y : ℕ) → for_tasks make n (xs ++ y ∷ []) ≡ for_tasks make n xs ++ make (n + length xs) y ∷ []
+tasks_more : (make : ℕ → ℕ → Record) (n : ℕ) (xs : List ℕ) (y : ℕ)
+    → for_tasks make n (xs ++ y ∷ []) ≡ for_tasks make n xs ++ make (n + length xs) y ∷ []
 tasks_more make n [] y = ap (λ m. make m y ∷ []) (omega arith)
-tasks_more make n (x ∷ xs) y = ap (λ rs. make n x ∷ rs) (tasks_more make (n + 1) xs y ∙ ap (λ m. for_tasks make (n + 1) xs ++ make m y ∷ []) (omega arith))
+tasks_more make n (x ∷ xs) y = ap (λ rs. make n x ∷ rs) (tasks_more make (n + 1) xs y
+    ∙ ap (λ m. for_tasks make (n + 1) xs ++ make m y ∷ []) (omega arith))
 
 -- With the record of one task more.
-pub one_task_more : (make : ℕ → ℕ → Record) (was now next : List Record) (base id i : ℕ) (cs : List ℕ) → now ≡ was ++ for_tasks make base (take i cs) → id ≡ base + i → i < length cs → next ≡ now ++ make id (get_or cs i 0) ∷ [] → next ≡ was ++ for_tasks make base (take (i + 1) cs)
+pub one_task_more : (make : ℕ → ℕ → Record) (was now next : List Record) (base id i : ℕ) (cs : List ℕ)
+    → now ≡ was ++ for_tasks make base (take i cs) → id ≡ base + i → i < length cs → next ≡ now ++ make id (get_or cs i 0) ∷ []
+    → next ≡ was ++ for_tasks make base (take (i + 1) cs)
 one_task_more make was now next base id i cs so_far at lt more =
     let counted : base + i ≡ base + length (take i cs) = omega (arith, length-take-le i cs (omega (arith, lt))) in
     more

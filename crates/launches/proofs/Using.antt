@@ -46,7 +46,8 @@ in_filtered {Y = Y} h (z ∷ xs) x y has is = elim (one_of z xs x has) [
   | inr later ↦ behind (h z) (filter_map h xs) y (in_filtered h xs x y later is)
 ]
 
-of_filtered : {X Y : Type 0} (h : X → Option Y) (xs : List X) (y : Y) → Contains (filter_map h xs) y → (x : X) × Contains xs x × (h x ≡ Some y)
+of_filtered : {X Y : Type 0} (h : X → Option Y) (xs : List X) (y : Y) → Contains (filter_map h xs) y → (x : X) × Contains xs x
+    × (h x ≡ Some y)
 of_filtered h [] y has = absurd (let lt = has.1 in omega (arith, lt))
 of_filtered h (z ∷ xs) y has = elim (either (h z) (filter_map h xs) y has) [
   | inl is ↦ (z, (0, omega arith, refl), is)
@@ -67,10 +68,12 @@ rows_joined : (xs : List Space) (o : Option Space) (ys : List Space) → (xs ++ 
 rows_joined xs None ys = ap (λ (zs : List Space). zs ++ ys) (append-nil xs)
 rows_joined xs (Some x) ys = append_assoc xs (x ∷ []) ys
 
-rows_from : (n : ℕ) (t : Tables) (rs : List Record) → (fold (λ (u : Tables) (l : Lined). with_record u l.line l.rec) t (lined_from n rs)).spaces ≡ t.spaces ++ filter_map space_row rs
+rows_from : (n : ℕ) (t : Tables) (rs : List Record)
+    → (fold (λ (u : Tables) (l : Lined). with_record u l.line l.rec) t (lined_from n rs)).spaces ≡ t.spaces ++ filter_map space_row rs
 rows_from n t [] = sym (append-nil t.spaces)
 rows_from n t (r ∷ rs) =
-    rows_from (n + 1) (with_record t n r) rs ∙ ap (λ (xs : List Space). xs ++ filter_map space_row rs) (row_more t n r) ∙ rows_joined t.spaces (space_row r) (filter_map space_row rs)
+    rows_from (n + 1) (with_record t n r) rs ∙ ap (λ (xs : List Space). xs ++ filter_map space_row rs) (row_more t n r)
+    ∙ rows_joined t.spaces (space_row r) (filter_map space_row rs)
 
 -- What is known of the points of a space by its declaration, at a line.
 abbrev points_known : ℕ → Option DeclaredSpace → List ℕ
@@ -82,9 +85,12 @@ points_found spaces id = option_map_or (λ (s : Space). s.points) (find (λ (s :
 
 none_written : (n : ℕ) (ws : List (ℕ × Record)) → ((w : ℕ × Record) → Contains ws w → n ≤ w.0) → written_before n ws ≡ []
 none_written n [] h = refl
-none_written n (w ∷ ws) h = rw (le-ltb w.0 n (h w (0, omega arith, refl))) (none_written n ws (λ v k. h v (Contains-append_right (w ∷ []) ws v k)))
+none_written n (w ∷ ws) h = rw (le-ltb w.0 n (h w (0, omega arith, refl)))
+    (none_written n ws (λ v k. h v (Contains-append_right (w ∷ []) ws v k)))
 
-found_at : (n id : ℕ) (ws : List (ℕ × Record)) → AreInOrder ws → points_found (filter_map space_row (written_before n ws)) id ≡ points_known n (find (λ (d : DeclaredSpace). d.id == id) (filter_map space_by_record ws))
+found_at : (n id : ℕ) (ws : List (ℕ × Record)) → AreInOrder ws
+    → points_found (filter_map space_row (written_before n ws)) id
+    ≡ points_known n (find (λ (d : DeclaredSpace). d.id == id) (filter_map space_by_record ws))
 found_at n id [] order = refl
 found_at n id ((k, records.Ispace other set) ∷ ws) order = elim (cases_Bool (nat_lt k n)) [
   | inl early ↦ elim (cases_Bool (other == id)) [
@@ -103,19 +109,24 @@ found_at n id ((k, _) ∷ ws) order = elim (cases_Bool (nat_lt k n)) [
   | inr late ↦ rw late (found_at n id ws order.1)
 ]
 
-points_at : (n id : ℕ) (ws : List (ℕ × Record)) → AreInOrder ws → points_in (tables_of (lined (written_before n ws))) id ≡ points_known n (find (λ (d : DeclaredSpace). d.id == id) (filter_map space_by_record ws))
-points_at n id ws order = ap (λ (xs : List Space). points_found xs id) (rows_from 1 no_tables (written_before n ws)) ∙ found_at n id ws order
+points_at : (n id : ℕ) (ws : List (ℕ × Record)) → AreInOrder ws
+    → points_in (tables_of (lined (written_before n ws))) id
+    ≡ points_known n (find (λ (d : DeclaredSpace). d.id == id) (filter_map space_by_record ws))
+points_at n id ws order = ap (λ (xs : List Space). points_found xs id) (rows_from 1 no_tables (written_before n ws))
+    ∙ found_at n id ws order
 
 -- ---- points and fields in common
 
-known_at : (n : ℕ) (o : Option DeclaredSpace) (x : ℕ) → Contains (points_known n o) x → (d : DeclaredSpace) × (o ≡ Some d) × (d.line < n) × Contains (points_of d.runs) x
+known_at : (n : ℕ) (o : Option DeclaredSpace) (x : ℕ) → Contains (points_known n o) x → (d : DeclaredSpace) × (o ≡ Some d) × (d.line < n)
+    × Contains (points_of d.runs) x
 known_at n None x h = absurd (let lt = h.1 in omega (arith, lt))
 known_at n (Some d) x h = elim (cases_Bool (nat_lt d.line n)) [
   | inl early ↦ (d, refl, ltb-true d.line n early, rw early at h)
   | inr late ↦ let none : Contains [] x = rw late at h in absurd (let lt = none.1 in omega (arith, lt))
 ]
 
-known_from : (n : ℕ) (o : Option DeclaredSpace) (d : DeclaredSpace) (x : ℕ) → o ≡ Some d → d.line < n → Contains (points_of d.runs) x → Contains (points_known n o) x
+known_from : (n : ℕ) (o : Option DeclaredSpace) (d : DeclaredSpace) (x : ℕ) → o ≡ Some d → d.line < n → Contains (points_of d.runs) x
+    → Contains (points_known n o) x
 known_from n o d x is lt h = subst (λ (p : Option DeclaredSpace). Contains (points_known n p) x) (sym is) (rw (lt-ltb d.line n lt) h)
 
 meets_of : (xs ys : List ℕ) → meets xs ys ≡ true → ShareNumber xs ys
@@ -131,8 +142,13 @@ runs_at ps qs x in_p in_q =
     let a = p.holds.low in
     let b = p.holds.high in
     let c = q.holds.low in
-    let d = q.holds.high in
-    (get_or ps p.place (0, 0), get_or qs q.place (0, 0), Contains-get_or ps p.place (0, 0) p.within, Contains-get_or qs q.place (0, 0) q.within, omega arith)
+    let d = q.holds.high in (
+      get_or ps p.place (0, 0),
+      get_or qs q.place (0, 0),
+      Contains-get_or ps p.place (0, 0) p.within,
+      Contains-get_or qs q.place (0, 0) q.within,
+      omega arith,
+    )
 
 point_of : (ps : List (ℕ × ℕ)) (p : ℕ × ℕ) (x : ℕ) → Contains ps p → p.0 ≤ x → x ≤ p.1 → Contains (points_of ps) x
 point_of ps p x h low high =
@@ -143,8 +159,11 @@ point_at : (ps qs : List (ℕ × ℕ)) → SharePoint ps qs → (x : ℕ) × Con
 point_at ps qs h =
     let p = h.0 in
     let q = h.1 in
-    let meet = h.4 in
-    (max p.0 q.0, point_of ps p (max p.0 q.0) h.2 (omega arith) (omega (arith, meet)), point_of qs q (max p.0 q.0) h.3 (omega arith) (omega (arith, meet)))
+    let meet = h.4 in (
+      max p.0 q.0,
+      point_of ps p (max p.0 q.0) h.2 (omega arith) (omega (arith, meet)),
+      point_of qs q (max p.0 q.0) h.3 (omega arith) (omega (arith, meet)),
+    )
 
 -- ---- when two requirements clash
 
@@ -155,7 +174,8 @@ free_where p q c d = elim (cases_Bool (agree p q)) [
 ]
 
 task_of : (l : ℕ × TaskLaunch) (id : ℕ) → is_launched l.1 id ≡ true → IsTaskOf (tasks_by l) id
-task_of l id h = let p = and_parts (not (nat_lt id l.1.base)) _ h in (ltb-false id l.1.base (not-true _ p.0), ltb-true id (l.1.base + length l.1.colours) p.1)
+task_of l id h = let p = and_parts (not (nat_lt id l.1.base)) _ h in
+    (ltb-false id l.1.base (not-true _ p.0), ltb-true id (l.1.base + length l.1.colours) p.1)
 
 task_from : (l : ℕ × TaskLaunch) (id : ℕ) → IsTaskOf (tasks_by l) id → is_launched l.1 id ≡ true
 task_from l id h = and_from _ _ (not_from_false _ (le-ltb id l.1.base h.0)) (lt-ltb id (l.1.base + length l.1.colours) h.1)
@@ -173,15 +193,28 @@ record Shared (n : ℕ) (l : ℕ × TaskLaunch) (u v : Use) : Type 0 where
   accesses : agree u.access v.access ≡ false
 
 abbrev use_on : ℕ → ℕ → ℕ → List ℕ → PrivWord → DeclaredSpace → Use
-use_on k task tree fields access s = record { task = task; tree = tree; runs = s.runs; fields = fields; access = privilege_of access; line = k; declared = s.line }
+use_on k task tree fields access s = record {
+  task = task;
+  tree = tree;
+  runs = s.runs;
+  fields = fields;
+  access = privilege_of access;
+  line =
+      k;
+  declared = s.line;
+}
 
 -- The points that tables have of each space.
 abbrev HasPoints : ℕ → List DeclaredSpace → Tables → Type 0
 HasPoints n ds t = (id : ℕ) → points_in t id ≡ points_known n (find (λ (d : DeclaredSpace). d.id == id) ds)
 
-clash_shared : (n : ℕ) (ds : List DeclaredSpace) (t : Tables) (l : ℕ × TaskLaunch) → HasPoints n ds t → (x y : ℕ × Record) → clash t l.1 x.1 y.1 ≡ true
+clash_shared : (n : ℕ) (ds : List DeclaredSpace) (t : Tables) (l : ℕ × TaskLaunch) → HasPoints n ds t → (x y : ℕ × Record)
+    → clash t l.1 x.1 y.1 ≡ true
     → (u : Use) × (v : Use) × (asked_by ds x ≡ Some u) × (asked_by ds y ≡ Some v) × Shared n l u v
-clash_shared n ds t l points (k, records.Req task tree space fields access atomic) (j, records.Req other its_tree its_space its_fields its_access its_atomic) h =
+clash_shared n ds t l points (k, records.Req task tree space fields access atomic) (
+  j,
+  records.Req other its_tree its_space its_fields its_access its_atomic,
+) h =
     let all = and_parts (is_launched l.1 task && (is_launched l.1 other && not (task == other))) _ h in
     let tasks = and_parts (is_launched l.1 task) _ all.0 in
     let apart = and_parts (is_launched l.1 other) _ tasks.1 in
@@ -189,8 +222,10 @@ clash_shared n ds t l points (k, records.Req task tree space fields access atomi
     let meet = and_parts (meets fields its_fields) _ trees.1 in
     let place = and_parts (meets (points_in t space) (points_in t its_space)) _ meet.1 in
     let point = meets_of (points_in t space) (points_in t its_space) place.0 in
-    let one = known_at n (find (λ (d : DeclaredSpace). d.id == space) ds) point.0 (subst (λ (xs : List ℕ). Contains xs point.0) (points space) point.1) in
-    let two = known_at n (find (λ (d : DeclaredSpace). d.id == its_space) ds) point.0 (subst (λ (xs : List ℕ). Contains xs point.0) (points its_space) point.2) in (
+    let one = known_at n (find (λ (d : DeclaredSpace). d.id == space) ds) point.0
+    (subst (λ (xs : List ℕ). Contains xs point.0) (points space) point.1) in
+    let two = known_at n (find (λ (d : DeclaredSpace). d.id == its_space) ds) point.0
+    (subst (λ (xs : List ℕ). Contains xs point.0) (points its_space) point.2) in (
       use_on k task tree fields access one.0,
       use_on j other its_tree its_fields its_access two.0,
       ap (option_map (use_on k task tree fields access)) one.1,
@@ -204,26 +239,37 @@ clash_shared n ds t l points (k, records.Req task tree space fields access atomi
         tree = eqb-true tree its_tree trees.0;
         fields = meets_of fields its_fields meet.0;
         points = runs_at one.0.runs two.0.runs point.0 one.3 two.3;
-        accesses = sym (free_where (privilege_of access) (privilege_of its_access) (coherence_of atomic) (coherence_of its_atomic)) ∙ not-true _ place.1;
+        accesses = sym (free_where (privilege_of access) (privilege_of its_access) (coherence_of atomic) (coherence_of its_atomic))
+            ∙ not-true _ place.1;
       },
     )
 clash_shared n ds t l points (k, records.Req task tree space fields access atomic) (j, _) h = absurd (false≢true h)
 clash_shared n ds t l points (k, _) y h = absurd (false≢true h)
 
-shared_clash : (n : ℕ) (ds : List DeclaredSpace) (t : Tables) (l : ℕ × TaskLaunch) → HasPoints n ds t → (x y : ℕ × Record) (u v : Use) → asked_by ds x ≡ Some u → asked_by ds y ≡ Some v → Shared n l u v → clash t l.1 x.1 y.1 ≡ true
-shared_clash n ds t l points (k, records.Req task tree space fields access atomic) (j, records.Req other its_tree its_space its_fields its_access its_atomic) u v asks others shared =
+shared_clash : (n : ℕ) (ds : List DeclaredSpace) (t : Tables) (l : ℕ × TaskLaunch) → HasPoints n ds t → (x y : ℕ × Record) (u v : Use)
+    → asked_by ds x ≡ Some u → asked_by ds y ≡ Some v → Shared n l u v → clash t l.1 x.1 y.1 ≡ true
+shared_clash n ds t l points (k, records.Req task tree space fields access atomic) (
+  j,
+  records.Req other its_tree its_space its_fields its_access its_atomic,
+) u v asks others shared =
     let one = map_cases (use_on k task tree fields access) (find (λ (d : DeclaredSpace). d.id == space) ds) u asks in
     let two = map_cases (use_on j other its_tree its_fields its_access) (find (λ (d : DeclaredSpace). d.id == its_space) ds) v others in
     let s : Shared n l (use_on k task tree fields access one.0) (use_on j other its_tree its_fields its_access two.0) =
-    subst (λ (z : Use). Shared n l z (use_on j other its_tree its_fields its_access two.0)) (sym one.2) (subst (λ (z : Use). Shared n l u z) (sym two.2) shared) in
+    subst (λ (z : Use). Shared n l z (use_on j other its_tree its_fields its_access two.0)) (sym one.2)
+    (subst (λ (z : Use). Shared n l u z) (sym two.2) shared) in
     let point = point_at one.0.runs two.0.runs s.points in
-    let here = subst (λ (xs : List ℕ). Contains xs point.0) (sym (points space)) (known_from n (find (λ (d : DeclaredSpace). d.id == space) ds) one.0 point.0 one.1 s.declared point.1) in
-    let there = subst (λ (xs : List ℕ). Contains xs point.0) (sym (points its_space)) (known_from n (find (λ (d : DeclaredSpace). d.id == its_space) ds) two.0 point.0 two.1 s.also point.2) in
-    and_from _ _ (and_from _ _ (task_from l task s.ours) (and_from _ _ (task_from l other s.theirs) (not_from_false _ (ne_eqb task other s.tasks))))
+    let here = subst (λ (xs : List ℕ). Contains xs point.0) (sym (points space))
+    (known_from n (find (λ (d : DeclaredSpace). d.id == space) ds) one.0 point.0 one.1 s.declared point.1) in
+    let there = subst (λ (xs : List ℕ). Contains xs point.0) (sym (points its_space))
+    (known_from n (find (λ (d : DeclaredSpace). d.id == its_space) ds) two.0 point.0 two.1 s.also point.2) in
+    and_from _ _ (and_from _ _ (task_from l task s.ours)
+    (and_from _ _ (task_from l other s.theirs) (not_from_false _ (ne_eqb task other s.tasks))))
     (and_from _ _ (eq-eqb tree its_tree s.tree) (and_from _ _ (meets_from fields its_fields s.fields)
     (and_from _ _ (meets_from (points_in t space) (points_in t its_space) (point.0, here, there))
-    (not_from_false _ (free_where (privilege_of access) (privilege_of its_access) (coherence_of atomic) (coherence_of its_atomic) ∙ s.accesses)))))
-shared_clash n ds t l points (k, records.Req task tree space fields access atomic) (j, _) u v asks others shared = absurd (none-some v others)
+    (not_from_false _ (free_where (privilege_of access) (privilege_of its_access) (coherence_of atomic) (coherence_of its_atomic)
+    ∙ s.accesses)))))
+shared_clash n ds t l points (k, records.Req task tree space fields access atomic) (j, _) u v asks others shared =
+    absurd (none-some v others)
 shared_clash n ds t l points (k, _) y u v asks others shared = absurd (none-some u asks)
 
 asked_line : (ds : List DeclaredSpace) (x : ℕ × Record) (u : Use) → asked_by ds x ≡ Some u → u.line ≡ x.0
@@ -234,15 +280,18 @@ asked_line ds (k, _) u asks = absurd (none-some u asks)
 
 -- ---- all of them
 
-breaks_from : (ls : List (ℕ × TaskLaunch)) (ws : List (ℕ × Record)) (reqs : List Requirement) (n : ℕ) → AreInOrder ws → map use_seen reqs ≡ filter_map (asked_by (filter_map space_by_record ws)) ws
+breaks_from : (ls : List (ℕ × TaskLaunch)) (ws : List (ℕ × Record)) (reqs : List Requirement) (n : ℕ) → AreInOrder ws
+    → map use_seen reqs ≡ filter_map (asked_by (filter_map space_by_record ws)) ws
     → InterferesAt (map tasks_by ls) reqs n → BreaksAt ls ws n
 breaks_from ls ws reqs n order are h =
     let ds = filter_map space_by_record ws in
     let l = of_map tasks_by ls h.0 h.1 in
     let u = h.2.0 in
     let v = h.2.1 in
-    let own = of_filtered (asked_by ds) ws (use_seen u) (subst (λ (xs : List Use). Contains xs (use_seen u)) are (in_map use_seen reqs u h.2.2.0)) in
-    let other = of_filtered (asked_by ds) ws (use_seen v) (subst (λ (xs : List Use). Contains xs (use_seen v)) are (in_map use_seen reqs v h.2.3.0)) in
+    let own = of_filtered (asked_by ds) ws (use_seen u)
+    (subst (λ (xs : List Use). Contains xs (use_seen u)) are (in_map use_seen reqs u h.2.2.0)) in
+    let other = of_filtered (asked_by ds) ws (use_seen v)
+    (subst (λ (xs : List Use). Contains xs (use_seen v)) are (in_map use_seen reqs v h.2.3.0)) in
     let known : IsKnownAt (tasks_by l.0) n u v = subst (λ (x : LaunchTasks). IsKnownAt x n u v) (sym l.2) h.2.4 in
     let conflict = h.2.5 in
     let here = asked_line ds own.0 (use_seen u) own.2 in
@@ -259,26 +308,30 @@ breaks_from ls ws reqs n order are h =
       earlier = known.launched;
       at = omega (arith, here, asks);
       until = omega (arith, there, others);
-      clash = shared_clash n ds (tables_of (lined (written_before n ws))) l.0 (λ id. points_at n id ws order) own.0 other.0 (use_seen u) (use_seen v) own.2 other.2 (record {
-        declared = known.declared;
-        also = known.others_declared;
-        ours = subst (λ (x : LaunchTasks). IsTaskOf x u.task) (sym l.2) h.2.2.1;
-        theirs = subst (λ (x : LaunchTasks). IsTaskOf x v.task) (sym l.2) h.2.3.1;
-        tasks = conflict.tasks;
-        tree = conflict.tree;
-        fields = conflict.fields;
-        points = conflict.points;
-        accesses = conflict.accesses;
-      });
+      clash = shared_clash n ds (tables_of (lined (written_before n ws))) l.0 (λ id. points_at n id ws order) own.0 other.0 (use_seen u)
+          (use_seen v) own.2 other.2 (record {
+            declared = known.declared;
+            also = known.others_declared;
+            ours = subst (λ (x : LaunchTasks). IsTaskOf x u.task) (sym l.2) h.2.2.1;
+            theirs = subst (λ (x : LaunchTasks). IsTaskOf x v.task) (sym l.2) h.2.3.1;
+            tasks = conflict.tasks;
+            tree = conflict.tree;
+            fields = conflict.fields;
+            points = conflict.points;
+            accesses = conflict.accesses;
+          });
     }
 
-breaks_to : (ls : List (ℕ × TaskLaunch)) (ws : List (ℕ × Record)) (reqs : List Requirement) (n : ℕ) → AreInOrder ws → map use_seen reqs ≡ filter_map (asked_by (filter_map space_by_record ws)) ws
+breaks_to : (ls : List (ℕ × TaskLaunch)) (ws : List (ℕ × Record)) (reqs : List Requirement) (n : ℕ) → AreInOrder ws
+    → map use_seen reqs ≡ filter_map (asked_by (filter_map space_by_record ws)) ws
     → BreaksAt ls ws n → InterferesAt (map tasks_by ls) reqs n
 breaks_to ls ws reqs n order are b =
     let ds = filter_map space_by_record ws in
     let r = clash_shared n ds (tables_of (lined (written_before n ws))) b.launch (λ id. points_at n id ws order) b.own b.other b.clash in
-    let u = of_map use_seen reqs r.0 (subst (λ (xs : List Use). Contains xs r.0) (sym are) (in_filtered (asked_by ds) ws b.own r.0 b.writes r.2)) in
-    let v = of_map use_seen reqs r.1 (subst (λ (xs : List Use). Contains xs r.1) (sym are) (in_filtered (asked_by ds) ws b.other r.1 b.has r.3)) in
+    let u = of_map use_seen reqs r.0 (subst (λ (xs : List Use). Contains xs r.0) (sym are)
+    (in_filtered (asked_by ds) ws b.own r.0 b.writes r.2)) in
+    let v = of_map use_seen reqs r.1 (subst (λ (xs : List Use). Contains xs r.1) (sym are)
+    (in_filtered (asked_by ds) ws b.other r.1 b.has r.3)) in
     let s : Shared n b.launch (use_seen u.0) (use_seen v.0) =
     subst (λ (z : Use). Shared n b.launch z (use_seen v.0)) (sym u.2) (subst (λ (z : Use). Shared n b.launch r.0 z) (sym v.2) r.4) in
     let here : u.0.record ≡ b.own.0 = ap (λ (z : Use). z.line) u.2 ∙ asked_line ds b.own r.0 r.2 in
@@ -292,12 +345,23 @@ breaks_to ls ws reqs n order are b =
       others = omega (arith, there, until);
       others_declared = s.also;
     } in
-    let conflict : Conflict u.0 v.0 = record { tasks = s.tasks; tree = s.tree; fields = s.fields; points = s.points; accesses = s.accesses } in
+    let conflict : Conflict u.0 v.0 = record {
+      tasks = s.tasks;
+      tree = s.tree;
+      fields = s.fields;
+      points = s.points;
+      accesses =
+          s.accesses;
+    } in
     (tasks_by b.launch, in_map tasks_by ls b.launch b.launched, (u.0, v.0, (u.1, s.ours), (v.1, s.theirs), known, conflict))
 
 -- The first interference among requirements is the first that breaks the rule.
-pub first_broken : (ls : List (ℕ × TaskLaunch)) (ws : List (ℕ × Record)) (tasks : List LaunchTasks) (spaces : List DeclaredSpace) (reqs : List Requirement) (o : Option ℕ) → AreInOrder ws
-    → tasks ≡ map tasks_by ls → spaces ≡ filter_map space_by_record ws → map use_seen reqs ≡ filter_map (asked_by spaces) ws → IsLeast (InterferesAt tasks reqs) o → IsLeast (BreaksAt ls ws) o
+pub first_broken : (ls : List (ℕ × TaskLaunch)) (ws : List (ℕ × Record)) (tasks : List LaunchTasks) (spaces : List DeclaredSpace)
+    (reqs : List Requirement) (o : Option ℕ) → AreInOrder ws
+    → tasks ≡ map tasks_by ls → spaces ≡ filter_map space_by_record ws → map use_seen reqs ≡ filter_map (asked_by spaces) ws
+    → IsLeast (InterferesAt tasks reqs) o → IsLeast (BreaksAt ls ws) o
 first_broken ls ws tasks spaces reqs o order are declared asked h =
-    let all : map use_seen reqs ≡ filter_map (asked_by (filter_map space_by_record ws)) ws = subst (λ (ds : List DeclaredSpace). map use_seen reqs ≡ filter_map (asked_by ds) ws) declared asked in
-    least_same (InterferesAt (map tasks_by ls) reqs) (BreaksAt ls ws) (λ n. breaks_from ls ws reqs n order all) (λ n. breaks_to ls ws reqs n order all) o (subst (λ (ts : List LaunchTasks). IsLeast (InterferesAt ts reqs) o) are h)
+    let all : map use_seen reqs ≡ filter_map (asked_by (filter_map space_by_record ws)) ws =
+    subst (λ (ds : List DeclaredSpace). map use_seen reqs ≡ filter_map (asked_by ds) ws) declared asked in
+    least_same (InterferesAt (map tasks_by ls) reqs) (BreaksAt ls ws) (λ n. breaks_from ls ws reqs n order all)
+    (λ n. breaks_to ls ws reqs n order all) o (subst (λ (ts : List LaunchTasks). IsLeast (InterferesAt ts reqs) o) are h)

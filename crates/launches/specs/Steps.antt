@@ -21,7 +21,8 @@ space_by rs part colour = space_under (tables_of (lined rs)) part colour
 
 -- The requirement of one task, by the records that are written.
 abbrev pub req_for : List Record → TaskReqs → ℕ → ℕ → Record
-req_for rs reqs id colour = records.Req id reqs.tree (unwrap_or (space_by rs reqs.part colour) 0) reqs.fields.now reqs.access reqs.atomic
+req_for rs reqs id colour = records.Req id reqs.tree
+    (unwrap_or (space_by rs reqs.part colour) 0) reqs.fields.now reqs.access reqs.atomic
 
 -- The requirement of a task has a spelling wherever task and space have ids.
 abbrev pub AreGood : TaskReqs → Type 0
@@ -37,7 +38,8 @@ early_rules = codes.RepeatedId ∷ codes.UnknownId ∷ codes.LaunchRange ∷ []
 
 -- The rules on launches that are tried of a record by itself: all but that on interference.
 abbrev pub single_rules : List Code
-single_rules = codes.RepeatedId ∷ codes.UnknownId ∷ codes.LaunchRange ∷ codes.TooManyRecords ∷ codes.TooLong ∷ []
+single_rules = codes.RepeatedId ∷ codes.UnknownId ∷ codes.LaunchRange ∷ codes.TooManyRecords ∷ codes.TooLong
+    ∷ []
 
 -- The first of these that a record breaks.
 abbrev pub single_broken : Expanded → LRecord → Option Code

@@ -29,7 +29,16 @@ space_seen s = record { id = s.id; runs = s.runs.now; line = s.line }
 
 -- A requirement, as definitions see it.
 abbrev pub use_seen : Requirement → Use
-use_seen r = record { task = r.task; tree = r.tree; runs = r.runs.now; fields = r.fields.now; access = r.access; line = r.record; declared = r.declared }
+use_seen r = record {
+  task = r.task;
+  tree = r.tree;
+  runs = r.runs.now;
+  fields = r.fields.now;
+  access =
+      r.access;
+  line = r.record;
+  declared = r.declared;
+}
 
 -- The space that a record declares.
 abbrev pub space_by_record : ℕ × Record → Option DeclaredSpace
@@ -39,7 +48,17 @@ space_by_record (line, _) = None
 -- The requirement that a record states, if its space is declared.
 abbrev pub asked_by : List DeclaredSpace → ℕ × Record → Option Use
 asked_by spaces (line, records.Req task tree space fields access atomic) =
-    option_map (λ (s : DeclaredSpace). record { task = task; tree = tree; runs = s.runs; fields = fields; access = privilege_of access; line = line; declared = s.line }) (find (λ (s : DeclaredSpace). s.id == space) spaces)
+    option_map (λ (s : DeclaredSpace). record {
+      task = task;
+      tree = tree;
+      runs = s.runs;
+      fields =
+          fields;
+      access = privilege_of access;
+      line = line;
+      declared = s.line;
+    })
+    (find (λ (s : DeclaredSpace). s.id == space) spaces)
 asked_by spaces (line, _) = None
 
 -- The tasks of a launch.

@@ -10,7 +10,8 @@ subs_by rs = (tables_of (lined rs)).subs
 
 -- With the one that one record more declares.
 abbrev pub with_sub : List Sub → Record → List Sub
-with_sub subs (records.Sub part colour space) = subs ++ record { part = part; colour = colour; space = space } ∷ []
+with_sub subs (records.Sub part colour space) =
+    subs ++ record { part = part; colour = colour; space = space } ∷ []
 with_sub subs _ = subs
 
 -- Whether a record is neither header nor end.

@@ -32,6 +32,7 @@ turned true false true false = refl
 turned true false false points = refl
 turned false free fields points = refl
 
-pub bounded_none : {P : Type 0} (points : P → List ℕ) → ((s : P) → All (λ x. x < 2 ^ 64) (points s)) → (o : Option P) → All (λ x. x < 2 ^ 64) (option_map_or points o [])
+pub bounded_none : {P : Type 0} (points : P → List ℕ) → ((s : P) → All (λ x. x < 2 ^ 64) (points s)) → (o : Option P)
+    → All (λ x. x < 2 ^ 64) (option_map_or points o [])
 bounded_none points law None = All-nil (λ x. x < 2 ^ 64)
 bounded_none points law (Some s) = law s

@@ -15,7 +15,8 @@ pub record Claimed : Type 0 where
   pub access : Priv
 
 abbrev pub claimed : ℕ → ℕ → ℕ → List ℕ → List ℕ → Priv → Claimed
-claimed number tree space points fields access = record { number = number; tree = tree; space = space; points = points; fields = fields; access = access }
+claimed number tree space points fields access =
+    record { number = number; tree = tree; space = space; points = points; fields = fields; access = access }
 
 -- Those of some claims that are to one space with another are to the same points.
 abbrev pub AreOfSpaces : List Claimed → Claimed → Type 0
@@ -40,11 +41,13 @@ refused cs c = least_of (filter (λ p. not (allows cs p c.access)) (places c))
 -- The number of the first of some claims that is refused, and the least place at which it is.
 abbrev pub first_refused : List Claimed → List Claimed → Option (ℕ × Place)
 first_refused cs [] = None
-first_refused cs (c ∷ rest) = option_or (option_map (λ p. (c.number, p)) (refused cs c)) (first_refused cs rest)
+first_refused cs (c ∷ rest) = option_or (option_map (λ p. (c.number, p)) (refused cs c))
+    (first_refused cs rest)
 
 -- Whether two claims share a place, and their privileges do not agree.
 abbrev pub conflict : Claimed → Claimed → Bool
-conflict c d = (c.tree == d.tree) && (meets c.fields d.fields && (meets c.points d.points && not (agree c.access d.access)))
+conflict c d = (c.tree == d.tree) &&
+    (meets c.fields d.fields && (meets c.points d.points && not (agree c.access d.access)))
 
 -- The lesser of two places, where there are two.
 abbrev pub lesser_place : Option Place → Option Place → Option Place

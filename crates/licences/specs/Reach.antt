@@ -25,7 +25,8 @@ serves_all one c = (one.space == c.space) && list_all (serves one c) c.fields
 
 -- The test passes from the first number up to where it reaches; if it reaches nothing, it fails at the first number; and without an end it passes at each `u64`.
 abbrev pub Reaches : (ℕ → Bool) → ℕ → Option ℕ → Type 0
-Reaches test from (Some end) = (from ≤ end) × ((x : ℕ) → from ≤ x → x < end → test x ≡ true) × (end ≡ from → test from ≡ false)
+Reaches test from (Some end) = (from ≤ end) × ((x : ℕ) → from ≤ x → x < end → test x ≡ true)
+    × (end ≡ from → test from ≡ false)
 Reaches test from None = (x : ℕ) → from ≤ x → x < 2 ^ 64 → test x ≡ true
 
 -- A point of a claim at which none of these allows what it asks for, at a field.
@@ -43,5 +44,7 @@ is_before p q = comes_first (p.tree, p.point, p.field) (q.tree, q.point, q.field
 
 -- The least place at some fields at which a claim is refused.
 pub record IsLeastAmong (cs : List Claimed) (c : Claimed) (fields : List ℕ) (o : Option Place) : Type 0 where
-  pub some : IfSome o (λ p. (p ≡ at c p.field p.point) × Contains fields p.field × IsRefusedAt cs c p.field p.point)
-  pub least : (field point : ℕ) → Contains fields field → IsRefusedAt cs c field point → MatchOption o ⊥ (λ p. is_before (at c field point) p ≡ false)
+  pub some : IfSome o (λ p. (p ≡ at c p.field p.point) × Contains fields p.field
+      × IsRefusedAt cs c p.field p.point)
+  pub least : (field point : ℕ) → Contains fields field → IsRefusedAt cs c field point
+      → MatchOption o ⊥ (λ p. is_before (at c field point) p ≡ false)

@@ -47,10 +47,13 @@ module _ (kind broken : Code → Bool) where
   -- So the first that is broken is the first of the others, or else that of the kind.
   others_first : (codes : List Code) → come_last codes ≡ true → find broken codes ≡ option_or (find of_others codes) (find of_kind codes)
   others_first [] last = refl
-  others_first (code ∷ rest) last = by (kind code) (broken code) (and_parts _ (come_last rest) last).0 (others_first rest (and_parts _ (come_last rest) last).1)
+  others_first (code ∷ rest) last = by (kind code) (broken code) (and_parts _ (come_last rest) last).0
+      (others_first rest (and_parts _ (come_last rest) last).1)
     where
-      by : (k b : Bool) → (not (k && b) || is_none (find of_others rest)) ≡ true → find broken rest ≡ option_or (find of_others rest) (find of_kind rest)
-          → cond b (Some code) (find broken rest) ≡ option_or (cond (not k && b) (Some code) (find of_others rest)) (cond (k && b) (Some code) (find of_kind rest))
+      by : (k b : Bool) → (not (k && b) || is_none (find of_others rest)) ≡ true
+          → find broken rest ≡ option_or (find of_others rest) (find of_kind rest)
+          → cond b (Some code) (find broken rest) ≡ option_or (cond (not k && b) (Some code) (find of_others rest))
+          (cond (k && b) (Some code) (find of_kind rest))
       by true true none rests = ap (λ o. option_or o (Some code)) (sym (none_is (find of_others rest) none))
       by true false none rests = rests
       by false true none rests = refl
@@ -67,7 +70,8 @@ not_less : (n m most : ℕ) → nat_lt most (n + m) ≡ false → n ≤ most
 not_less n m most e = grind (arith, nat_tests)
 
 -- At a subspace no rule after those of the forest is broken, unless the records before it ask for too many accesses; and no other record breaks those of the forest.
-come_after : (log : List Record) (earlier : List Lined) (r : Record) → AreWithin earlier → come_last is_of_forest (breaks (record_in log earlier r)) record_rules ≡ true
+come_after : (log : List Record) (earlier : List Lined) (r : Record) → AreWithin earlier
+    → come_last is_of_forest (breaks (record_in log earlier r)) record_rules ≡ true
 come_after log earlier (Sub part colour space) within =
     let t = tables_of earlier in
     let r = Sub part colour space in
@@ -78,7 +82,8 @@ come_after log earlier r within = refl
 -- The first broken rule is the first of the others, or else of the two of the forest.
 pub tried_told : (log : List Record) (earlier : List Lined) (r : Record) → AreWithin earlier
     → first_broken (record_in log earlier r) ≡ option_or (other_broken log earlier r) (space_broken (tables_of earlier) r)
-tried_told log earlier r within = others_first is_of_forest (breaks (record_in log earlier r)) record_rules (come_after log earlier r within)
+tried_told log earlier r within = others_first is_of_forest (breaks (record_in log earlier r)) record_rules
+    (come_after log earlier r within)
 
 -- Where a record keeps the other rules, so do those before it keep the limit on accesses.
 few_kept : (log : List Record) (earlier : List Lined) (r : Record) → other_broken log earlier r ≡ None → AreWithin earlier
@@ -87,12 +92,16 @@ few_kept log earlier r e =
     (none_passes (breaks_other (record_in log earlier r)) e codes.TooManyAccesses refl)
 
 -- Where the first records keep the other rules, the first fault is theirs against the forest, or else that of the records after them.
-pub walk_told : (log : List Record) (earlier kept rest : List Lined) → Keep log earlier kept → records_fault log earlier (kept ++ rest) ≡ option_or (spaces_fault earlier kept) (records_fault log (earlier ++ kept) rest)
+pub walk_told : (log : List Record) (earlier kept rest : List Lined) → Keep log earlier kept
+    → records_fault log earlier (kept ++ rest) ≡ option_or (spaces_fault earlier kept) (records_fault log (earlier ++ kept) rest)
 walk_told log earlier [] rest keep = ap (λ (ls : List Lined). records_fault log ls rest) (sym (append-nil earlier))
 walk_told log earlier (l ∷ kept) rest keep =
     let at : Option Code → Option Fault = option_map (λ code. at_line code l.line) in
-    let here = tried_told log earlier l.rec (few_kept log earlier l.rec keep.0) ∙ ap (λ o. option_or o (space_broken (tables_of earlier) l.rec)) keep.0 in
+    let here = tried_told log earlier l.rec (few_kept log earlier l.rec keep.0)
+    ∙ ap (λ o. option_or o (space_broken (tables_of earlier) l.rec)) keep.0 in
     ap (λ o. option_or (at o) (records_fault log (earlier ++ l ∷ []) (kept ++ rest))) here
     ∙ ap (option_or (at (space_broken (tables_of earlier) l.rec))) (walk_told log (earlier ++ l ∷ []) kept rest keep.1)
-    ∙ sym (or_or (at (space_broken (tables_of earlier) l.rec)) (spaces_fault (earlier ++ l ∷ []) kept) (records_fault log ((earlier ++ l ∷ []) ++ kept) rest))
-    ∙ ap (λ (ls : List Lined). option_or (option_or (at (space_broken (tables_of earlier) l.rec)) (spaces_fault (earlier ++ l ∷ []) kept)) (records_fault log ls rest)) (append_assoc earlier (l ∷ []) kept)
+    ∙ sym (or_or (at (space_broken (tables_of earlier) l.rec)) (spaces_fault (earlier ++ l ∷ []) kept)
+    (records_fault log ((earlier ++ l ∷ []) ++ kept) rest))
+    ∙ ap (λ (ls : List Lined). option_or (option_or (at (space_broken (tables_of earlier) l.rec)) (spaces_fault (earlier ++ l ∷ []) kept))
+    (records_fault log ls rest)) (append_assoc earlier (l ∷ []) kept)

@@ -31,9 +31,34 @@ extends_itself t u s p b = record {
 }
 
 extends_with : (t : Tables) (line : ℕ) (r : Record) → Extends t (with_record t line r)
-extends_with t line (Ispace id set) = record { more_spaces = _; more_parts = []; more_subs = []; spaces = refl; parts = sym (append-nil t.parts); subs = sym (append-nil t.subs) }
-extends_with t line (Part id space disjoint) = record { more_spaces = []; more_parts = _; more_subs = []; spaces = sym (append-nil t.spaces); parts = refl; subs = sym (append-nil t.subs) }
-extends_with t line (Sub part colour space) = record { more_spaces = []; more_parts = []; more_subs = _; spaces = sym (append-nil t.spaces); parts = sym (append-nil t.parts); subs = refl }
+extends_with t line (Ispace id set) = record {
+  more_spaces = _;
+  more_parts = [];
+  more_subs = [];
+  spaces = refl;
+  parts =
+      sym (append-nil t.parts);
+  subs = sym (append-nil t.subs);
+}
+extends_with t line (Part id space disjoint) =
+    record {
+      more_spaces = [];
+      more_parts = _;
+      more_subs = [];
+      spaces = sym (append-nil t.spaces);
+      parts = refl;
+      subs =
+          sym (append-nil t.subs);
+    }
+extends_with t line (Sub part colour space) = record {
+  more_spaces = [];
+  more_parts = [];
+  more_subs = _;
+  spaces =
+      sym (append-nil t.spaces);
+  parts = sym (append-nil t.parts);
+  subs = refl;
+}
 extends_with t line _ = extends_itself t _ refl refl refl
 
 extends_on : (t u v : Tables) → Extends t u → Extends u v → Extends t v
@@ -48,9 +73,11 @@ extends_on t u v e f = record {
 
 extends_by : (t : Tables) (log : List Lined) → Extends t (fold (λ (u : Tables) (l : Lined). with_record u l.line l.rec) t log)
 extends_by t [] = extends_itself t t refl refl refl
-extends_by t (l ∷ log) = extends_on t (with_record t l.line l.rec) _ (extends_with t l.line l.rec) (extends_by (with_record t l.line l.rec) log)
+extends_by t (l ∷ log) = extends_on t (with_record t l.line l.rec) _ (extends_with t l.line l.rec)
+    (extends_by (with_record t l.line l.rec) log)
 
-pub tables_by : (earlier rest : List Lined) → tables_of (earlier ++ rest) ≡ fold (λ (u : Tables) (l : Lined). with_record u l.line l.rec) (tables_of earlier) rest
+pub tables_by : (earlier rest : List Lined) → tables_of (earlier ++ rest)
+    ≡ fold (λ (u : Tables) (l : Lined). with_record u l.line l.rec) (tables_of earlier) rest
 tables_by earlier rest = fold-append (λ (u : Tables) (l : Lined). with_record u l.line l.rec) no_tables earlier rest
 
 pub extends_tables : (earlier rest : List Lined) → Extends (tables_of earlier) (tables_of (earlier ++ rest))
@@ -68,12 +95,15 @@ find_kept : {X : Type 0} (p : X → Bool) (xs ys : List X) → list_any p xs ≡
 find_kept p [] ys e = absurd (false≢true e)
 find_kept p (x ∷ xs) ys e = elim (cases_Bool (p x)) [ inl hit ↦ rw hit refl | inr miss ↦ rw miss (find_kept p xs ys (rw miss at e)) ]
 
-pub points_kept : (t u : Tables) → Extends t u → (id : ℕ) → list_any (λ (s : Space). s.id == id) t.spaces ≡ true → points_in u id ≡ points_in t id
+pub points_kept : (t u : Tables) → Extends t u → (id : ℕ) → list_any (λ (s : Space). s.id == id) t.spaces ≡ true
+    → points_in u id ≡ points_in t id
 points_kept t u e id has =
     ap (λ (xs : List Space). option_map_or (λ (s : Space). s.points) (find (λ (s : Space). s.id == id) xs) []) e.spaces
-    ∙ ap (λ (o : Option Space). option_map_or (λ (s : Space). s.points) o []) (find_kept (λ (s : Space). s.id == id) t.spaces e.more_spaces has)
+    ∙ ap (λ (o : Option Space). option_map_or (λ (s : Space). s.points) o [])
+    (find_kept (λ (s : Space). s.id == id) t.spaces e.more_spaces has)
 
-pub part_kept : (t u : Tables) → Extends t u → (id : ℕ) → list_any (λ (p : parts.Part). p.id == id) t.parts ≡ true → part_at u id ≡ part_at t id
+pub part_kept : (t u : Tables) → Extends t u → (id : ℕ) → list_any (λ (p : parts.Part). p.id == id) t.parts ≡ true
+    → part_at u id ≡ part_at t id
 part_kept t u e id has =
     ap (λ (xs : List parts.Part). find (λ (p : parts.Part). p.id == id) xs) e.parts
     ∙ find_kept (λ (p : parts.Part). p.id == id) t.parts e.more_parts has

@@ -20,9 +20,11 @@ use Rattle.region_tree.proofs.lemmas.Growth.{grown_space, grown_part, grown_sub}
 use Rattle.log_decl.proofs.SubFaults.{found_any}
 
 -- Facts from tests.
-none_like : {X : Type 0} (P : X → Type 0) (p : X → Bool) (xs : List X) → ((x : X) → P x → p x ≡ true) → list_any p xs ≡ false → All (λ x. ¬ P x) xs
+none_like : {X : Type 0} (P : X → Type 0) (p : X → Bool) (xs : List X) → ((x : X) → P x → p x ≡ true) → list_any p xs ≡ false
+    → All (λ x. ¬ P x) xs
 none_like P p [] tells e = All-nil (λ x. ¬ P x)
-none_like P p (x ∷ xs) tells e = let both = or_parts (p x) (list_any p xs) e in All-cons (λ x. ¬ P x) x xs (λ h. false≢true (sym both.0 ∙ tells x h)) (none_like P p xs tells both.1)
+none_like P p (x ∷ xs) tells e = let both = or_parts (p x) (list_any p xs) e in
+    All-cons (λ x. ¬ P x) x xs (λ h. false≢true (sym both.0 ∙ tells x h)) (none_like P p xs tells both.1)
 
 -- What is declared is found.
 known_space : (t : Tables) (id : ℕ) → list_any (λ (s : Space). s.id == id) t.spaces ≡ true → IsSome (space_of (regions_of t) id)
@@ -55,16 +57,23 @@ keeps_of log earlier r e =
     }
 
 -- One record more.
-space_step : (t : Tables) (line id : ℕ) (set : List (ℕ × ℕ)) → IsGrown (regions_of t) → Keeps t (Ispace id set) → IsGrown (regions_of (with_record t line (Ispace id set)))
+space_step : (t : Tables) (line id : ℕ) (set : List (ℕ × ℕ)) → IsGrown (regions_of t) → Keeps t (Ispace id set)
+    → IsGrown (regions_of (with_record t line (Ispace id set)))
 space_step t line id set grown keeps =
-    grown_space (regions_of t) (record { id = id; points = points_of set }) grown (none_like (λ (x : Space). x.id ≡ id) (λ (x : Space). x.id == id) t.spaces (λ x same. eq-eqb x.id id same) (or_parts _ _ keeps.new).0)
+    grown_space (regions_of t) (record { id = id; points = points_of set }) grown
+    (none_like (λ (x : Space). x.id ≡ id) (λ (x : Space). x.id == id) t.spaces (λ x same. eq-eqb x.id id same)
+    (or_parts _ _ keeps.new).0)
 
-part_step : (t : Tables) (line id space : ℕ) (disjoint : Bool) → IsGrown (regions_of t) → Keeps t (Part id space disjoint) → IsGrown (regions_of (with_record t line (Part id space disjoint)))
+part_step : (t : Tables) (line id space : ℕ) (disjoint : Bool) → IsGrown (regions_of t) → Keeps t (Part id space disjoint)
+    → IsGrown (regions_of (with_record t line (Part id space disjoint)))
 part_step t line id space disjoint grown keeps =
     let named = not-false _ (or_parts _ _ keeps.known).0 in
-    grown_part (regions_of t) (record { id = id; space = space; disjoint = disjoint }) grown (none_like (λ (x : parts.Part). x.id ≡ id) (λ (x : parts.Part). x.id == id) t.parts (λ x same. eq-eqb x.id id same) (or_parts _ _ keeps.new).0) (known_space t space (and_parts _ _ named).0)
+    grown_part (regions_of t) (record { id = id; space = space; disjoint = disjoint }) grown
+    (none_like (λ (x : parts.Part). x.id ≡ id) (λ (x : parts.Part). x.id == id) t.parts (λ x same. eq-eqb x.id id same)
+    (or_parts _ _ keeps.new).0) (known_space t space (and_parts _ _ named).0)
 
-sub_step : (t : Tables) (line part colour space : ℕ) → IsGrown (regions_of t) → Keeps t (Sub part colour space) → IsGrown (regions_of (with_record t line (Sub part colour space)))
+sub_step : (t : Tables) (line part colour space : ℕ) → IsGrown (regions_of t) → Keeps t (Sub part colour space)
+    → IsGrown (regions_of (with_record t line (Sub part colour space)))
 sub_step t line part colour space grown keeps =
     let s : subs.Sub = record { part = part; colour = colour; space = space } in
     let named = and_parts _ _ (not-false _ (or_parts _ _ keeps.known).0) in
@@ -72,9 +81,13 @@ sub_step t line part colour space grown keeps =
     grown_sub (regions_of t) s grown (record {
       part = known_part t part named.0;
       space = known_space t space (and_parts _ _ named.1).0;
-      step = none_like (λ (x : subs.Sub). step_of x ≡ step_of s) (λ (x : subs.Sub). (x.part == part) && (x.colour == colour)) t.subs (λ x same. and_from (x.part == part) (x.colour == colour) (eq-eqb x.part part (ap (λ (u : Step). u.part) same)) (eq-eqb x.colour colour (ap (λ (u : Step). u.colour) same))) keeps.new;
-      sub = none_like (λ (x : subs.Sub). x.space ≡ space) (λ (x : subs.Sub). x.space == space) t.subs (λ x same. eq-eqb x.space space same) keeps.once;
-      whole = none_like (λ (p : parts.Part). p.space ≡ space) (λ (p : parts.Part). p.space == space) t.parts (λ p same. eq-eqb p.space space same) late.0;
+      step = none_like (λ (x : subs.Sub). step_of x ≡ step_of s) (λ (x : subs.Sub). (x.part == part) && (x.colour == colour)) t.subs
+          (λ x same. and_from (x.part == part) (x.colour == colour) (eq-eqb x.part part (ap (λ (u : Step). u.part) same))
+          (eq-eqb x.colour colour (ap (λ (u : Step). u.colour) same))) keeps.new;
+      sub = none_like (λ (x : subs.Sub). x.space ≡ space) (λ (x : subs.Sub). x.space == space) t.subs
+          (λ x same. eq-eqb x.space space same) keeps.once;
+      whole = none_like (λ (p : parts.Part). p.space ≡ space) (λ (p : parts.Part). p.space == space) t.parts
+          (λ p same. eq-eqb p.space space same) late.0;
       depth = depth_told t part colour space grown keeps.shallow;
     })
 

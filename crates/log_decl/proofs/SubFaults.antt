@@ -30,7 +30,11 @@ any_found p (x ∷ xs) h = elim (cases_Bool (p x)) [ inl hit ↦ rw hit refl | i
 
 pub found_any : {X : Type 0} (p : X → Bool) (xs : List X) → list_any p xs ≡ true → (x : X) × (find p xs ≡ Some x)
 found_any p [] h = absurd (false≢true h)
-found_any p (x ∷ xs) h = elim (cases_Bool (p x)) [ inl hit ↦ (x, rw hit refl) | inr miss ↦ let r = found_any p xs (rw miss at h) in (r.0, rw miss r.1) ]
+found_any p (x ∷ xs) h = elim (cases_Bool (p x)) [
+  | inl hit ↦ (x, rw hit refl)
+  | inr miss ↦ let r = found_any p xs (rw miss at h) in
+      (r.0, rw miss r.1)
+]
 
 pub declared_is : (t : Tables) (id : ℕ) → IsSome (space_of (regions_of t) id) → list_any (λ (s : Space). s.id == id) t.spaces ≡ true
 declared_is t id h = any_found (λ (s : Space). s.id == id) t.spaces h
@@ -43,41 +47,60 @@ pub record IsNext (t u : Tables) (s : subs.Sub) : Type 0 where
   pub has_space : list_any (λ (x : Space). x.id == s.space) t.spaces ≡ true
   pub at : slice_get u.subs (length t.subs) ≡ Some s
 
-points_then : (t u : Tables) (s : subs.Sub) → IsNext t u s → (id : ℕ) → list_any (λ (x : Space). x.id == id) t.spaces ≡ true → space_points (regions_of u) id ≡ points_in t id
+points_then : (t u : Tables) (s : subs.Sub) → IsNext t u s → (id : ℕ) → list_any (λ (x : Space). x.id == id) t.spaces ≡ true
+    → space_points (regions_of u) id ≡ points_in t id
 points_then t u s next id has = points_kept t u next.extends id has
 
 -- The partition, and the space that it splits.
-whole_then : (t u : Tables) (s : subs.Sub) (next : IsNext t u s) → points_cut (regions_of u) s.part ≡ option_map_or (λ (p : parts.Part). points_in t p.space) (part_at t s.part) []
+whole_then : (t u : Tables) (s : subs.Sub) (next : IsNext t u s)
+    → points_cut (regions_of u) s.part ≡ option_map_or (λ (p : parts.Part). points_in t p.space) (part_at t s.part) []
 whole_then t u s next =
     let found = found_any (λ (p : parts.Part). p.id == s.part) t.parts next.has_part in
     let here = find_some (λ (p : parts.Part). p.id == s.part) t.parts found.0 found.1 in
-    let declared = declared_is t (found.0).space (all_at (λ (p : parts.Part). IsSome (space_of (regions_of t) p.space)) t.parts here.0 found.0 next.forest.wholes_declared here.1) in
-    ap (λ (o : Option ℕ). option_map_or (space_points (regions_of u)) o []) (ap (option_map (λ (p : parts.Part). p.space)) (part_kept t u next.extends s.part next.has_part ∙ found.1))
+    let declared = declared_is t (found.0).space
+    (all_at (λ (p : parts.Part). IsSome (space_of (regions_of t) p.space)) t.parts here.0 found.0 next.forest.wholes_declared here.1) in
+    ap (λ (o : Option ℕ). option_map_or (space_points (regions_of u)) o [])
+    (ap (option_map (λ (p : parts.Part). p.space)) (part_kept t u next.extends s.part next.has_part ∙ found.1))
     ∙ points_then t u s next (found.0).space declared
     ∙ sym (ap (λ (o : Option parts.Part). option_map_or (λ (p : parts.Part). points_in t p.space) o []) found.1)
 
-disjoint_then : (t u : Tables) (s : subs.Sub) (next : IsNext t u s) → is_disjoint (regions_of u) s.part ≡ option_map_or (λ (p : parts.Part). p.disjoint) (part_at t s.part) false
+disjoint_then : (t u : Tables) (s : subs.Sub) (next : IsNext t u s)
+    → is_disjoint (regions_of u) s.part ≡ option_map_or (λ (p : parts.Part). p.disjoint) (part_at t s.part) false
 disjoint_then t u s next =
     ap (λ (o : Option parts.Part). option_map_or (λ (p : parts.Part). p.disjoint) o false) (part_kept t u next.extends s.part next.has_part)
 
 -- The subspace has a point outside: both ways of saying so agree.
-pub Decides-is_outside : (t u : Tables) (s : subs.Sub) → IsNext t u s → Decides (is_outside t (Sub s.part s.colour s.space)) ((point : ℕ) × IsOutside (regions_of u) (length t.subs) point)
+pub Decides-is_outside : (t u : Tables) (s : subs.Sub) → IsNext t u s
+    → Decides (is_outside t (Sub s.part s.colour s.space)) ((point : ℕ) × IsOutside (regions_of u) (length t.subs) point)
 Decides-is_outside t u s next =
     let P = points_in t s.space in
     let Q = option_map_or (λ (p : parts.Part). points_in t p.space) (part_at t s.part) [] in
     let is_P : space_points (regions_of u) s.space ≡ P = points_then t u s next s.space next.has_space in
     let is_Q : points_cut (regions_of u) s.part ≡ Q = whole_then t u s next in (
-      λ e. let h = (Decides-outside P Q).0 e in (h.0, (s, next.at, subst (λ (xs : List ℕ). Contains xs h.0) (sym is_P) h.1, λ has. h.2 (subst (λ (xs : List ℕ). Contains xs h.0) is_Q has))),
+      λ e. let h = (Decides-outside P Q).0 e in (
+        h.0,
+        (
+          s,
+          next.at,
+          subst (λ (xs : List ℕ). Contains xs h.0) (sym is_P) h.1,
+          λ has. h.2 (subst (λ (xs : List ℕ). Contains xs h.0) is_Q has),
+        ),
+      ),
       λ h.
           let out = h.1 in
           let same : out.0 ≡ s = same_Some out.0 s (sym out.1 ∙ next.at) in
           let has = subst (λ (x : subs.Sub). Contains (space_points (regions_of u) x.space) h.0) same out.2 in
           let not = subst (λ (x : subs.Sub). ¬ Contains (points_cut (regions_of u) x.part) h.0) same out.3 in
-          (Decides-outside P Q).1 (h.0, subst (λ (xs : List ℕ). Contains xs h.0) is_P has, λ q. not (subst (λ (xs : List ℕ). Contains xs h.0) (sym is_Q) q)),
+          (Decides-outside P Q).1 (
+            h.0,
+            subst (λ (xs : List ℕ). Contains xs h.0) is_P has,
+            λ q. not (subst (λ (xs : List ℕ). Contains xs h.0) (sym is_Q) q),
+          ),
     )
 
 -- The subspace meets an earlier one of its disjoint partition: both ways of saying so agree.
-pub Decides-is_not_disjoint : (t u : Tables) (s : subs.Sub) → IsNext t u s → Decides (is_not_disjoint t (Sub s.part s.colour s.space)) ((j : ℕ) × MeetsEarlier (regions_of u) (length t.subs) j)
+pub Decides-is_not_disjoint : (t u : Tables) (s : subs.Sub) → IsNext t u s
+    → Decides (is_not_disjoint t (Sub s.part s.colour s.space)) ((j : ℕ) × MeetsEarlier (regions_of u) (length t.subs) j)
 Decides-is_not_disjoint t u s next =
     let n = length t.subs in
     let P = points_in t s.space in
@@ -85,9 +108,11 @@ Decides-is_not_disjoint t u s next =
     let test : subs.Sub → Bool = λ (x : subs.Sub). (x.part == s.part) && meets P (points_in t x.space) in
     let is_P : space_points (regions_of u) s.space ≡ P = points_then t u s next s.space next.has_space in
     let points_at : (j : ℕ) (x : subs.Sub) → slice_get t.subs j ≡ Some x → space_points (regions_of u) x.space ≡ points_in t x.space =
-    λ j x at. points_then t u s next x.space (declared_is t x.space (all_at (λ (y : subs.Sub). IsSome (space_of (regions_of t) y.space)) t.subs j x next.forest.spaces_declared at))
+    λ j x at. points_then t u s next x.space (declared_is t x.space
+    (all_at (λ (y : subs.Sub). IsSome (space_of (regions_of t) y.space)) t.subs j x next.forest.spaces_declared at))
     in
-    let among : (j : ℕ) → j < n → slice_get u.subs j ≡ slice_get t.subs j = λ j lt. ap (λ (xs : List subs.Sub). slice_get xs j) next.extends.subs ∙ at_left t.subs next.extends.more_subs j lt in (
+    let among : (j : ℕ) → j < n → slice_get u.subs j ≡ slice_get t.subs j =
+    λ j lt. ap (λ (xs : List subs.Sub). slice_get xs j) next.extends.subs ∙ at_left t.subs next.extends.more_subs j lt in (
       λ e.
           let both = and_parts dis (list_any test t.subs) e in
           let h = passing test t.subs both.1 in
@@ -121,8 +146,13 @@ Decides-is_not_disjoint t u s next =
           let same : m.0 ≡ s = same_Some m.0 s (sym m.3 ∙ next.at) in
           let at : slice_get t.subs h.0 ≡ Some x = sym (among h.0 m.2) ∙ m.4 in
           let one_part : x.part ≡ s.part = sym c.0 ∙ ap (λ (y : subs.Sub). y.part) same in
-          let is_dis : dis ≡ true = sym (disjoint_then t u s next) ∙ ap (λ (y : subs.Sub). is_disjoint (regions_of u) y.part) (sym same) ∙ c.1 in
-          let in_P : Contains P point = subst (λ (xs : List ℕ). Contains xs point) (ap (λ (y : subs.Sub). space_points (regions_of u) y.space) same ∙ is_P) c.2 in
+          let is_dis : dis ≡ true = sym (disjoint_then t u s next) ∙ ap (λ (y : subs.Sub). is_disjoint (regions_of u) y.part) (sym same)
+          ∙ c.1 in
+          let in_P : Contains P point = subst (λ (xs : List ℕ). Contains xs point)
+          (ap (λ (y : subs.Sub). space_points (regions_of u) y.space) same ∙ is_P) c.2 in
           let in_x : Contains (points_in t x.space) point = subst (λ (xs : List ℕ). Contains xs point) (points_at h.0 x at) c.3 in
-          and_from dis (list_any test t.subs) is_dis (any_passes_from_place test t.subs h.0 x at (and_from (x.part == s.part) (meets P (points_in t x.space)) (eq-eqb x.part s.part one_part) ((Decides-meets P (points_in t x.space)).1 (point, in_P, in_x)))),
+          and_from dis (list_any test t.subs) is_dis
+          (any_passes_from_place test t.subs h.0 x at
+          (and_from (x.part == s.part) (meets P (points_in t x.space)) (eq-eqb x.part s.part one_part)
+          ((Decides-meets P (points_in t x.space)).1 (point, in_P, in_x)))),
     )

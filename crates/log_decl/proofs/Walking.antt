@@ -25,43 +25,61 @@ may_count log es t r e =
     }
 
 -- One record more.
-pub keep_more : (log : List Record) (earlier xs : List Lined) (l : Lined) → Keep log earlier xs → other_broken log (earlier ++ xs) l.rec ≡ None → Keep log earlier (xs ++ l ∷ [])
+pub keep_more : (log : List Record) (earlier xs : List Lined) (l : Lined) → Keep log earlier xs
+    → other_broken log (earlier ++ xs) l.rec ≡ None → Keep log earlier (xs ++ l ∷ [])
 keep_more log earlier [] l keep none = (subst (λ (ls : List Lined). other_broken log ls l.rec ≡ None) (append-nil earlier) none, tt)
-keep_more log earlier (x ∷ xs) l keep none =
-    (keep.0, keep_more log (earlier ++ x ∷ []) xs l keep.1 (subst (λ (ls : List Lined). other_broken log ls l.rec ≡ None) (sym (append_assoc earlier (x ∷ []) xs)) none))
+keep_more log earlier (x ∷ xs) l keep none = (
+  keep.0,
+  keep_more log (earlier ++ x ∷ []) xs l keep.1
+      (subst (λ (ls : List Lined). other_broken log ls l.rec ≡ None) (sym (append_assoc earlier (x ∷ []) xs)) none),
+)
 
-pub tables_more : (log : List Lined) (i : ℕ) (t : Tables) (l : Lined) → t ≡ tables_of (take i log) → i < length log → l ≡ get_or log i l → with_record t l.line l.rec ≡ tables_of (take (i + 1) log)
+pub tables_more : (log : List Lined) (i : ℕ) (t : Tables) (l : Lined) → t ≡ tables_of (take i log) → i < length log → l ≡ get_or log i l
+    → with_record t l.line l.rec ≡ tables_of (take (i + 1) log)
 tables_more log i t l tables lt is =
     ap (λ (u : Tables). with_record u l.line l.rec) tables
     ∙ ap (λ (x : Lined). with_record (tables_of (take i log)) x.line x.rec) is
-    ∙ sym (ap tables_of (take_more log i l lt) ∙ fold-append (λ (u : Tables) (x : Lined). with_record u x.line x.rec) no_tables (take i log) (get_or log i l ∷ []))
+    ∙ sym (ap tables_of (take_more log i l lt) ∙ fold-append (λ (u : Tables) (x : Lined). with_record u x.line x.rec) no_tables (take i log)
+    (get_or log i l ∷ []))
 
-pub records_more : (log : List Lined) (i : ℕ) (l : Lined) → i < length log → l ≡ get_or log i l → records_of (take i log) ++ l.rec ∷ [] ≡ records_of (take (i + 1) log)
+pub records_more : (log : List Lined) (i : ℕ) (l : Lined) → i < length log → l ≡ get_or log i l
+    → records_of (take i log) ++ l.rec ∷ [] ≡ records_of (take (i + 1) log)
 records_more log i l lt is =
     ap (λ (x : Lined). records_of (take i log) ++ x.rec ∷ []) is
     ∙ sym (ap records_of (take_more log i l lt) ∙ map-append (λ (x : Lined). x.rec) (take i log) (get_or log i l ∷ []))
 
-pub keeps_more : (log : List Lined) (i : ℕ) (t : Tables) (l : Lined) → t ≡ tables_of (take i log) → Keep (records_of log) [] (take i log) → i < length log → l ≡ get_or log i l → broken_of (records_of log) (records_of (take i log)) t l.rec ≡ None → Keep (records_of log) [] (take (i + 1) log)
+pub keeps_more : (log : List Lined) (i : ℕ) (t : Tables) (l : Lined) → t ≡ tables_of (take i log) → Keep (records_of log) [] (take i log)
+    → i < length log → l ≡ get_or log i l → broken_of (records_of log) (records_of (take i log)) t l.rec ≡ None
+    → Keep (records_of log) [] (take (i + 1) log)
 keeps_more log i t l tables keep lt is none =
     subst (Keep (records_of log) []) (ap (λ (x : Lined). take i log ++ x ∷ []) is ∙ sym (take_more log i l lt))
-    (keep_more (records_of log) [] (take i log) l keep (subst (λ (u : Tables). broken_of (records_of log) (records_of (take i log)) u l.rec ≡ None) tables none))
+    (keep_more (records_of log) [] (take i log) l keep
+    (subst (λ (u : Tables). broken_of (records_of log) (records_of (take i log)) u l.rec ≡ None) tables none))
 
-pub stands : (log : List Lined) (k i : ℕ) (t : Tables) (code : Code) (l : Lined) → k ≡ i → t ≡ tables_of (take i log) → Keep (records_of log) [] (take i log) → access_total t (records_of (take i log)) ≤ MOST_ACCESSES
-    → i < length log → l ≡ get_or log i l → broken_of (records_of log) (records_of (take i log)) t l.rec ≡ Some code → StandsAt log k t (Some code)
+pub stands : (log : List Lined) (k i : ℕ) (t : Tables) (code : Code) (l : Lined) → k ≡ i → t ≡ tables_of (take i log)
+    → Keep (records_of log) [] (take i log) → access_total t (records_of (take i log)) ≤ MOST_ACCESSES
+    → i < length log → l ≡ get_or log i l → broken_of (records_of log) (records_of (take i log)) t l.rec ≡ Some code
+    → StandsAt log k t (Some code)
 stands log k i t code l at tables keep within lt is e =
     subst (λ n. StandsAt log n t (Some code)) (sym at) (record {
       in_log = omega (arith, lt);
       tables = tables;
       kept = keep;
       within = within;
-      here = (l, slice_get-get_or log i l lt ∙ ap (λ (x : Lined). Some x) (sym is), subst (λ (u : Tables). broken_of (records_of log) (records_of (take i log)) u l.rec ≡ Some code) tables e);
+      here = (
+        l,
+        slice_get-get_or log i l lt ∙ ap (λ (x : Lined). Some x) (sym is),
+        subst (λ (u : Tables). broken_of (records_of log) (records_of (take i log)) u l.rec ≡ Some code) tables e,
+      );
     })
 
 pub counted : (log : List Lined) (k i : ℕ) → k ≡ i → i ≤ length log → k ≡ length (records_of (take i log))
 counted log k i at le = at ∙ sym (length-map (take i log) (λ (x : Lined). x.rec) ∙ length-take-le i log le)
 
-pub stands_where : (log : List Lined) (k i : ℕ) (t : Tables) (o : Option Code) (l : Lined) → k ≡ i → t ≡ tables_of (take i log) → Keep (records_of log) [] (take i log) → access_total t (records_of (take i log)) ≤ MOST_ACCESSES
-    → i < length log → l ≡ get_or log i l → is_some o ≡ true → o ≡ broken_of (records_of log) (records_of (take i log)) t l.rec → StandsAt log k t o
+pub stands_where : (log : List Lined) (k i : ℕ) (t : Tables) (o : Option Code) (l : Lined) → k ≡ i → t ≡ tables_of (take i log)
+    → Keep (records_of log) [] (take i log) → access_total t (records_of (take i log)) ≤ MOST_ACCESSES
+    → i < length log → l ≡ get_or log i l → is_some o ≡ true → o ≡ broken_of (records_of log) (records_of (take i log)) t l.rec
+    → StandsAt log k t o
 stands_where log k i t None l at tables keep within lt is some e = absurd (false≢true some)
 stands_where log k i t (Some code) l at tables keep within lt is some e = stands log k i t code l at tables keep within lt is (sym e)
 
@@ -70,4 +88,5 @@ none_where None e = refl
 none_where (Some code) e = absurd (false≢true (sym e))
 
 pub tally_more : (es rs : List Record) (u v : Tables) (tally : Tally) → IsTally es u tally → es ≡ rs → v ≡ u → IsTally rs v tally
-tally_more es rs u v tally is same here = subst (λ (w : Tables). IsTally rs w tally) (sym here) (subst (λ (xs : List Record). IsTally xs u tally) same is)
+tally_more es rs u v tally is same here = subst (λ (w : Tables). IsTally rs w tally) (sym here)
+    (subst (λ (xs : List Record). IsTally xs u tally) same is)

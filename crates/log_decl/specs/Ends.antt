@@ -7,4 +7,5 @@ use Rattle.log_decl.specs.declared.decl_end.DeclEnd.TheVariants as ends
 
 -- A fault that is reported is this one.
 abbrev pub IsFaultOf : {X : Type 0} → Result X DeclEnd → Option Fault → Type 0
-IsFaultOf result fault = (line : ℕ) (code : Code) → result ≡ Err (ends.Fault line code) → fault ≡ Some (at_line code line)
+IsFaultOf result fault = (line : ℕ) (code : Code) → result ≡ Err (ends.Fault line code)
+    → fault ≡ Some (at_line code line)

@@ -30,14 +30,16 @@ IfAt at P = IfTally at.draft.now at.tally.now (λ earlier. at.before ≡ length 
 
 -- The first of these rules that a record breaks, of its log, the earlier records, and their tables.
 abbrev pub broken_of : List Record → List Record → Tables → Record → Option Code
-broken_of log earlier t r = find (breaks_other (record { log = log; earlier = earlier; tables = t; rec = r })) record_rules
+broken_of log earlier t r =
+    find (breaks_other (record { log = log; earlier = earlier; tables = t; rec = r })) record_rules
 
 abbrev pub other_broken : List Record → List Lined → Record → Option Code
 other_broken log earlier r = broken_of log (records_of earlier) (tables_of earlier) r
 
 -- The first of the two rules of the forest that a record breaks.
 abbrev pub space_broken : Tables → Record → Option Code
-space_broken t r = if rules.is_outside t r then Some codes.NotWithin else if rules.is_not_disjoint t r then Some codes.NotDisjoint else None
+space_broken t r = if rules.is_outside t r then Some codes.NotWithin else if rules.is_not_disjoint t r
+    then Some codes.NotDisjoint else None
 
 -- Each record keeps the other rules.
 abbrev pub Keep : List Record → List Lined → List Lined → Type 0
@@ -47,7 +49,9 @@ Keep log earlier (l ∷ rest) = (other_broken log earlier l.rec ≡ None) × Kee
 -- The first record that breaks a rule of the forest.
 abbrev pub spaces_fault : List Lined → List Lined → Option Fault
 spaces_fault earlier [] = None
-spaces_fault earlier (l ∷ rest) = option_or (option_map (λ code. at_line code l.line) (space_broken (tables_of earlier) l.rec)) (spaces_fault (earlier ++ l ∷ []) rest)
+spaces_fault earlier (l ∷ rest) = option_or
+    (option_map (λ code. at_line code l.line) (space_broken (tables_of earlier) l.rec))
+    (spaces_fault (earlier ++ l ∷ []) rest)
 
 -- The walk has kept `k` records of the log, whose tables these are; with a code it stands at a record that breaks that rule, and else at the end.
 pub record StandsAt (log : List Lined) (k : ℕ) (t : Tables) (code : Option Code) : Type 0 where
@@ -55,4 +59,5 @@ pub record StandsAt (log : List Lined) (k : ℕ) (t : Tables) (code : Option Cod
   pub tables : t ≡ tables_of (take k log)
   pub kept : Keep (records_of log) [] (take k log)
   pub within : access_total t (records_of (take k log)) ≤ MOST_ACCESSES
-  pub here : MatchOption code (length log ≤ k) (λ c. (l : Lined) × (slice_get log k ≡ Some l) × (other_broken (records_of log) (take k log) l.rec ≡ Some c))
+  pub here : MatchOption code (length log ≤ k) (λ c. (l : Lined) × (slice_get log k ≡ Some l)
+      × (other_broken (records_of log) (take k log) l.rec ≡ Some c))

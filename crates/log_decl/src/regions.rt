@@ -10,8 +10,7 @@ ghost use Rattle.log_decl.specs.Walk.{Keep, spaces_fault};
 
 use crate::decl_end::DeclEnd;
 use log_tables::Draft;
-use point_set::PointSet;
-use region_tree::{Forest, ForestFault};
+use region_tree::{Forest, ForestFault, SetOfRects};
 use spy_grammar::{Code, Lined, Record};
 use std::alloc::Global;
 
@@ -44,7 +43,7 @@ fn line_of_sub(records: &[Lined], sub: usize) -> u32
 }
 
 /// Judges the forest that some records declare: the fault of the first of them that breaks a rule of it.
-pub(crate) fn judge_forest<P: PointSet>(
+pub(crate) fn judge_forest<P: SetOfRects>(
     alloc: Global,
     draft: &Draft<P>,
     records: &[Lined],

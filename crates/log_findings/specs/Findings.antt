@@ -13,5 +13,6 @@ table_fault command t = option_or (serial_fault t) (map_fault command t)
 
 -- What a command finds in tables: a fault, or what there is to find in tables without one.
 abbrev pub IsFoundOf : Command → Tables → Finding → Type 0
-IsFoundOf command t (findings.Fault line code) = table_fault command t ≡ Some (record { line = line; code = code })
+IsFoundOf command t (findings.Fault line code) =
+    table_fault command t ≡ Some (record { line = line; code = code })
 IsFoundOf command t f = (table_fault command t ≡ None) × Finds command t f

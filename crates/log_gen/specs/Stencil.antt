@@ -89,10 +89,12 @@ update_run n s i =
 
 -- The copies of a step over a boundary: to the right, and then to the left.
 abbrev pub right_copy : ℕ → ℕ → ℕ → List Record
-right_copy n s j = one (Copy (j + 1) (j + 2) (before_boundary n j) (one 1) (right_event n s j) (right_waits n s j))
+right_copy n s j = one (Copy (j + 1) (j + 2) (before_boundary n j) (one 1) (right_event n s j)
+    (right_waits n s j))
 
 abbrev pub left_copy : ℕ → ℕ → ℕ → List Record
-left_copy n s j = one (Copy (j + 2) (j + 1) (after_boundary n j) (one 1) (left_event n s j) (left_waits n s j))
+left_copy n s j = one (Copy (j + 2) (j + 1) (after_boundary n j) (one 1) (left_event n s j)
+    (left_waits n s j))
 
 abbrev pub copies : ℕ → ℕ → ℕ → List Record
 copies n s j = right_copy n s j ++ left_copy n s j
@@ -103,7 +105,8 @@ step n s = for_each n (stencil_run n s) ++ for_each n (update_run n s) ++ for_ea
 
 -- What stands before the steps: what is declared, and the operations that fill the instances.
 abbrev pub spaces : ℕ → List Record
-spaces n = head n ++ for_each n piece_space ++ for_each n (halo_space n) ++ for_each (n - 1) (boundary_spaces n)
+spaces n = head n ++ for_each n piece_space ++ for_each n (halo_space n)
+    ++ for_each (n - 1) (boundary_spaces n)
 
 abbrev pub instances : ℕ → List Record
 instances n = tree ++ for_each n (instance n) ++ fill ++ for_each n (put n)

@@ -13,18 +13,25 @@ use Rattle.log_laws.proofs.lemmas.Admitted.{IsFaultless, each_unbroken, rule_kep
 use Rattle.log_laws.proofs.Strict.{AreStrict}
 
 -- A record that completes an event has a node with it.
-node_with : (event : ℕ) (o : Option Node) → option_map_or (λ (n : Node). n.done == event) o false ≡ true → (n : Node) × (o ≡ Some n) × (n.done ≡ event)
+node_with : (event : ℕ) (o : Option Node) → option_map_or (λ (n : Node). n.done == event) o false ≡ true → (n : Node) × (o ≡ Some n)
+    × (n.done ≡ event)
 node_with event None e = absurd (false≢true e)
 node_with event (Some n) e = (n, refl, eqb-true n.done event e)
 
-pub linked : (command : Command) (log : List Lined) → IsFaultless command log → AreStrict (tables_of log) → AreLinked (graph_of (tables_of log).nodes)
+pub linked : (command : Command) (log : List Lined) → IsFaultless command log → AreStrict (tables_of log)
+    → AreLinked (graph_of (tables_of log).nodes)
 linked command log f strict = record {
   apart = all_pairs (λ (m n : Node). m.done ≢ n.done) (graph_of (tables_of log).nodes) strict.events;
   linked = λ n event is wait.
       let at = member_filter_map node_of (records_of log) n (rw (nodes_are log) at (member_of _ n is)) in
       let kept = each_unbroken (records_of log) [] log f.records at.0 at.1 in
-      let all : not (list_all (λ event. list_any (completes event) (records_of log)) n.waits) ≡ false = rw at.2 at (rule_kept codes.UndefinedEvent refl kept.1) in
+      let all : not (list_all (λ event. list_any (completes event) (records_of log)) n.waits) ≡ false =
+      rw at.2 at (rule_kept codes.UndefinedEvent refl kept.1) in
       let some = any_found (completes event) (records_of log) (all_at _ n.waits event (not-false _ all) (member_of n.waits event wait)) in
-      let m = node_with event (node_of some.0) some.2 in
-      (m.0, contains_of _ m.0 (subst (λ ns. Member ns m.0) (sym (nodes_are log)) (filter_map_member node_of (records_of log) some.0 m.0 some.1 m.1)), m.2);
+      let m = node_with event (node_of some.0) some.2 in (
+        m.0,
+        contains_of _ m.0 (subst (λ ns. Member ns m.0) (sym (nodes_are log))
+            (filter_map_member node_of (records_of log) some.0 m.0 some.1 m.1)),
+        m.2,
+      );
 }

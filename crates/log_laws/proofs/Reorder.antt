@@ -31,7 +31,8 @@ of_seen (x ∷ xs) s e v (inr r) = inr (of_seen xs (effect x.move s) e v r)
 
 pub all_agree : (t : Tables) → IsTidy t → IsRaceFree t → (xs ys : List Step) → IsInterleaving t xs → IsInterleaving t ys → Agrees xs ys
 all_agree t tidy free xs ys a b =
-    let both = turns.all_agree State Value after seen (λ x y calm s. fun_ext (swapped_state x.move y.move calm s)) (λ x y calm s. swapped_sight x.move y.move calm s) t tidy free xs ys a b in
+    let both = turns.all_agree State Value after seen (λ x y calm s. fun_ext (swapped_state x.move y.move calm s))
+    (λ x y calm s. swapped_sight x.move y.move calm s) t tidy free xs ys a b in
     record {
       state = λ s cell. ap (λ (state : State). state cell) (sym (reached_is xs s) ∙ both.state s ∙ reached_is ys s);
       reads = λ s e v r. of_seen xs s e v (both.sights s e v (to_seen ys s e v r));

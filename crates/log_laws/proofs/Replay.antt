@@ -20,13 +20,16 @@ ReadsFirst m n = is_read n ≡ true → is_read m ≡ false → ⊥
 
 reads_first : (t : Tables) (op : Op) → PairsBy ReadsFirst (moves_of t op)
 reads_first t (operations.Run item) = pairs_append ReadsFirst _ _
-    (pairs_where ReadsFirst _ (λ m n a b read e. true≢false (sym (a_read (id_of t item) t (reqs_of t item) m (is_of t (reqs_of t item) _ m a)) ∙ e)))
-    (pairs_where ReadsFirst _ (λ m n a b read e. true≢false (sym read ∙ no_read (id_of t item) t (reqs_of t item) n (is_of t (reqs_of t item) _ n b))))
+    (pairs_where ReadsFirst _ (λ m n a b read e. true≢false
+    (sym (a_read (id_of t item) t (reqs_of t item) m (is_of t (reqs_of t item) _ m a)) ∙ e)))
+    (pairs_where ReadsFirst _ (λ m n a b read e. true≢false (sym read
+    ∙ no_read (id_of t item) t (reqs_of t item) n (is_of t (reqs_of t item) _ n b))))
     (λ m n a b read e. true≢false (sym read ∙ no_read (id_of t item) t (reqs_of t item) n (is_of t (reqs_of t item) _ n b)))
 reads_first t operations.Merge = tt
 reads_first t op = pairs_map ReadsFirst _ _ (pairs_where _ _ (λ x y m n read e. true≢false (sym read)))
 
-pub at_position : (t : Tables) (P : List Move → Type 0) → P [] → ((n : LogNode) → Member t.nodes n → P (moves_of t n.op)) → (k : ℕ) → P (moves_at t k)
+pub at_position : (t : Tables) (P : List Move → Type 0) → P [] → ((n : LogNode) → Member t.nodes n → P (moves_of t n.op)) → (k : ℕ)
+    → P (moves_at t k)
 at_position t P none some k = elim (none_or_some (slice_get t.nodes k)) [
   | inl nothing ↦ rw nothing none
   | inr node ↦ rw node.1 (some node.0 (member_at t.nodes k node.0 node.1))
@@ -35,7 +38,8 @@ at_position t P none some k = elim (none_or_some (slice_get t.nodes k)) [
 -- ---- the steps in replay order
 
 -- All steps of some nodes are steps of more nodes.
-among : (t : Tables) (ks ls : List ℕ) → ((k : ℕ) → Member ks k → Member ls k) → (x : Step) → Contains (steps_by t ks) x → Contains (steps_by t ls) x
+among : (t : Tables) (ks ls : List ℕ) → ((k : ℕ) → Member ks k → Member ls k) → (x : Step) → Contains (steps_by t ks) x
+    → Contains (steps_by t ls) x
 among t ks ls more x c =
     let at = member_flat (steps_at t) ks x (member_of (steps_by t ks) x c) in
     contains_of (steps_by t ls) x (flat_member (steps_at t) ls at.0 x (more at.0 at.1) at.2)
@@ -58,7 +62,8 @@ module _ (t : Tables) (linked : AreLinked (graph_of t.nodes)) (moves : (k : ℕ)
   may_follow x y differ before reads = (differ, λ must. elim must [ inl b ↦ before b | inr same ↦ reads (sym same.0) same.1 same.2 ])
 
   within_node : (k : ℕ) → Member order k → PairsBy (MayFollow t) (steps_at t k)
-  within_node k m = pairs_map (MayFollow t) (λ m. record { node = k; move = m }) (moves_at t k) (pairs_from _ (moves_at t k) (λ i j d lt within. may_follow _ _
+  within_node k m = pairs_map (MayFollow t) (λ m. record { node = k; move = m }) (moves_at t k)
+      (pairs_from _ (moves_at t k) (λ i j d lt within. may_follow _ _
       (λ e. all_pairs _ (moves_at t k) (moves k) i j d lt within (ap (λ (x : Step). x.move) e))
       (not_before_itself (replay nodes).taken linked k m)
       (λ same. all_pairs ReadsFirst (moves_at t k) (at_position t (PairsBy ReadsFirst) tt (λ n at. reads_first t n.op) k) i j d lt within)))
@@ -72,15 +77,19 @@ module _ (t : Tables) (linked : AreLinked (graph_of t.nodes)) (moves : (k : ℕ)
       may_follow x y (λ e. differ (ap (λ (x : Step). x.node) e)) (λ before. turn (rw (k, l) at before)) (λ same. absurd (differ same))
 
   steps_in_turn : AllPairs (MayFollow t) (steps_by t order)
-  steps_in_turn = all_pairs (MayFollow t) (steps_by t order) (pairs_flat (MayFollow t) (steps_at t) order within_node (pairs_from _ order between_nodes))
+  steps_in_turn = all_pairs (MayFollow t) (steps_by t order)
+      (pairs_flat (MayFollow t) (steps_at t) order within_node (pairs_from _ order between_nodes))
 
   pub interleaves : ((c : List ℕ) → IsCycle nodes c → ⊥) → IsInterleaving t (steps_by t order)
   interleaves no_cycle =
-      let free : (k : ℕ) → k < length nodes → is_stuck nodes k ≡ false = λ k lt. false_from_ne_true (is_stuck nodes k) (λ stuck. no_cycle _ (stuck_cycle nodes linked k (stuck_in nodes k lt stuck))) in
+      let free : (k : ℕ) → k < length nodes → is_stuck nodes k ≡ false =
+      λ k lt. false_from_ne_true (is_stuck nodes k) (λ stuck. no_cycle _ (stuck_cycle nodes linked k (stuck_in nodes k lt stuck))) in
       let all : length nodes ≡ length t.nodes = length-map t.nodes _ in
       record {
         once = λ i j d lt within. (steps_in_turn i j d lt within).0;
-        in_log = among t order (range_with_len 0 (length t.nodes)) (λ k m. number_in (length t.nodes) k (rw all at (taken_within (replay nodes).taken k m)));
-        whole = among t (range_with_len 0 (length t.nodes)) order (λ k m. listed nodes k (free k (rw all (number_within (length t.nodes) k m))));
+        in_log = among t order (range_with_len 0 (length t.nodes))
+            (λ k m. number_in (length t.nodes) k (rw all at (taken_within (replay nodes).taken k m)));
+        whole = among t (range_with_len 0 (length t.nodes)) order
+            (λ k m. listed nodes k (free k (rw all (number_within (length t.nodes) k m))));
         in_order = λ i j d lt within. (steps_in_turn i j d lt within).1;
       }

@@ -22,19 +22,36 @@ pub record AreStrict (t : Tables) : Type 0 where
   pub operations : Each (λ (n : LogNode). HasFieldsApart n.op) t.nodes
   pub events : PairsBy (λ (m : Node) n. m.done ≢ n.done) (graph_of t.nodes)
 
-with_node : (t : Tables) (n : LogNode) → list_any (λ (m : LogNode). n.done == m.done) t.nodes ≡ false → HasFieldsApart n.op → AreStrict t → AreStrict (record t { nodes = t.nodes ++ n ∷ [] })
+with_node : (t : Tables) (n : LogNode) → list_any (λ (m : LogNode). n.done == m.done) t.nodes ≡ false → HasFieldsApart n.op → AreStrict t
+    → AreStrict (record t { nodes = t.nodes ++ n ∷ [] })
 with_node t n e fields h = record {
   spaces = h.spaces;
   fields = h.fields;
   operations = each_more (λ (n : LogNode). HasFieldsApart n.op) t.nodes n h.operations fields;
-  events = subst (PairsBy (λ (m : Node) n. m.done ≢ n.done)) (sym (map-append _ t.nodes (n ∷ []))) (pairs_more (λ (m : Node) n. m.done ≢ n.done) (graph_of t.nodes) _ h.events (λ m is same.
+  events = subst (PairsBy (λ (m : Node) n. m.done ≢ n.done)) (sym (map-append _ t.nodes (n ∷ [])))
+      (pairs_more (λ (m : Node) n. m.done ≢ n.done) (graph_of t.nodes) _ h.events (λ m is same.
       let r = member_map _ t.nodes m is in
-      true≢false (sym (eq-eqb n.done r.0.done (sym same ∙ ap (λ (m : Node). m.done) r.2)) ∙ none_at (λ (m : LogNode). n.done == m.done) t.nodes r.0 e r.1)));
+      true≢false (sym (eq-eqb n.done r.0.done (sym same ∙ ap (λ (m : Node). m.done) r.2))
+      ∙ none_at (λ (m : LogNode). n.done == m.done) t.nodes r.0 e r.1)));
 }
 
 with_good : (t : Tables) (line : ℕ) (r : Record) → Good r → repeats_event t r ≡ false → AreStrict t → AreStrict (with_record t line r)
-with_good t line (records.Ispace id set) good e h = record { spaces = each_more _ t.spaces _ h.spaces (points_apart set good.1.0); fields = h.fields; operations = h.operations; events = h.events }
-with_good t line (records.Req _ _ _ _ _ _) good e h = record { spaces = h.spaces; fields = each_more _ t.reqs _ h.fields (fields_apart _ good.1.1.1.0); operations = h.operations; events = h.events }
+with_good t line (records.Ispace id set) good e h =
+    record {
+      spaces = each_more _ t.spaces _ h.spaces (points_apart set good.1.0);
+      fields = h.fields;
+      operations = h.operations;
+      events =
+          h.events;
+    }
+with_good t line (records.Req _ _ _ _ _ _) good e h =
+    record {
+      spaces = h.spaces;
+      fields = each_more _ t.reqs _ h.fields (fields_apart _ good.1.1.1.0);
+      operations = h.operations;
+      events =
+          h.events;
+    }
 with_good t line (records.Run task done waits) good e h = with_node t _ e tt h
 with_good t line (records.Copy src dst space fields done waits) good e h = with_node t _ e (fields_apart fields good.1.1.1.0) h
 with_good t line (records.Put inst space fields n done waits) good e h = with_node t _ e (fields_apart fields good.1.1.0) h
@@ -43,8 +60,10 @@ with_good t line (records.Fold src dst space fields done waits) good e h = with_
 with_good t line (records.Merge done waits) good e h = with_node t _ e tt h
 with_good t line _ good e h = record { spaces = h.spaces; fields = h.fields; operations = h.operations; events = h.events }
 
-pub strict : (command : Command) (log : List Lined) → AllByRecursion Good (records_of log) → IsFaultless command log → AreStrict (tables_of log)
-strict command log good f = by_records Good AreStrict (records_of log) (λ earlier l u g h. with_good (tables_of earlier) l.line l.rec g (rule_kept codes.RepeatedEvent refl u) h)
+pub strict : (command : Command) (log : List Lined) → AllByRecursion Good (records_of log) → IsFaultless command log
+    → AreStrict (tables_of log)
+strict command log good f = by_records Good AreStrict (records_of log)
+    (λ earlier l u g h. with_good (tables_of earlier) l.line l.rec g (rule_kept codes.RepeatedEvent refl u) h)
     [] log good f.records (record { spaces = λ s m. absurd m; fields = λ r m. absurd m; operations = λ n m. absurd m; events = tt })
 
 -- The points of a space, declared or not, are apart.

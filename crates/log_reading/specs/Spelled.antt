@@ -13,7 +13,8 @@ use Rattle.log_reading.specs.declared.reading.SpellEnd.{SpellEnd}
 use Rattle.log_reading.specs.declared.reading.SpellEnd.TheVariants.{Fault as Faulty, Memory}
 
 -- A line is passed over, or spells a record, which stands on the line of this number.
-abbrev pub SaysBy : {R L : Type 0} → (R → Type 0) → (R → List ℕ) → (ℕ → R → L) → ℕ → List ℕ → Option L → Type 0
+abbrev pub SaysBy : {R L : Type 0} → (R → Type 0) → (R → List ℕ) → (ℕ → R → L) → ℕ → List ℕ → Option L
+    → Type 0
 SaysBy IsGood spelled on line text None = is_passed_over text ≡ true
 SaysBy {R} IsGood spelled on line text (Some l) = (r : R) × IsGood r × (text ≡ spelled r) × (l ≡ on line r)
 
@@ -31,7 +32,8 @@ end_at line faults.Order = Faulty line codes.Order
 end_at line faults.Memory = Memory
 
 -- An input without a fault of its bytes and lines spells these records of some kind of log, on so many lines.
-pub record SpellsBy {R L : Type 0} (fault_of : List ℕ → Option Fault) (IsGood : R → Type 0) (spelled : R → List ℕ) (on : ℕ → R → L) (bytes : List ℕ) (lines : ℕ) (log : List L) : Type 0 where
+pub record SpellsBy {R L : Type 0} (fault_of : List ℕ → Option Fault) (IsGood : R → Type 0) (spelled : R
+    → List ℕ) (on : ℕ → R → L) (bytes : List ℕ) (lines : ℕ) (log : List L) : Type 0 where
   pub clean : fault_of bytes ≡ None
   pub reads : ReadsBy IsGood spelled on bytes log
   pub count : lines ≡ line_count bytes
@@ -42,11 +44,13 @@ Spells bytes lines log = SpellsBy text_fault Good spelling on_line bytes lines l
 
 -- The same of a launch log.
 abbrev pub SpellsLaunch : List ℕ → ℕ → List LLined → Type 0
-SpellsLaunch bytes lines log = SpellsBy launch_text_fault GoodLaunch launch_spelling on_launch_line bytes lines log
+SpellsLaunch bytes lines log =
+    SpellsBy launch_text_fault GoodLaunch launch_spelling on_launch_line bytes lines log
 
 -- The same of a nested log.
 abbrev pub SpellsNested : List ℕ → ℕ → List NLined → Type 0
-SpellsNested bytes lines log = SpellsBy nested_text_fault GoodNested nested_spelling on_nested_line bytes lines log
+SpellsNested bytes lines log =
+    SpellsBy nested_text_fault GoodNested nested_spelling on_nested_line bytes lines log
 
 -- An input has this fault of its bytes and lines.
 abbrev pub HasFault : List ℕ → ℕ → Code → Type 0
@@ -61,12 +65,16 @@ abbrev pub HasNestedFault : List ℕ → ℕ → Code → Type 0
 HasNestedFault bytes line code = nested_text_fault bytes ≡ Some (record { line = line; code = code })
 
 -- The first of some lines that has a fault has this one, where lines are read so.
-abbrev pub HasFaultOfLines : {R : Type 0} → (List ℕ → Result (Option R) LineFault) → List (List ℕ) → ℕ → Code → Type 0
-HasFaultOfLines read lines line code = lines_fault_by read 1 lines ≡ Some (record { line = line; code = code })
+abbrev pub HasFaultOfLines : {R : Type 0} → (List ℕ → Result (Option R) LineFault) → List (List ℕ) → ℕ → Code
+    → Type 0
+HasFaultOfLines read lines line code =
+    lines_fault_by read 1 lines ≡ Some (record { line = line; code = code })
 
 -- A line of this number has this fault, where lines are read so.
-abbrev pub HasFaultOfLine : {R : Type 0} → (List ℕ → Result (Option R) LineFault) → ℕ → List ℕ → ℕ → Code → Type 0
-HasFaultOfLine read number text line code = line_fault number (read text) ≡ Some (record { line = line; code = code })
+abbrev pub HasFaultOfLine : {R : Type 0} → (List ℕ → Result (Option R) LineFault) → ℕ → List ℕ → ℕ → Code
+    → Type 0
+HasFaultOfLine read number text line code =
+    line_fault number (read text) ≡ Some (record { line = line; code = code })
 
 -- Where reading ends by a fault, this is true of its line and code.
 abbrev pub EndsBy : {T : Type 0} → (ℕ → Code → Type 0) → Result T SpellEnd → Type 0

@@ -15,7 +15,8 @@ use Rattle.log_rules.proofs.Members.{meets_turned}
 use Rattle.log_rules.proofs.ListTests.{list_any-alike, list_any-false, list_any-and, list_any-or, list_any-list_any, is_some-find, find-none}
 
 -- Places that are one.
-place_of_parts : (i j s t p q f g : ℕ) → i ≡ j → s ≡ t → p ≡ q → f ≡ g → (let x : OwnPlace = record { item = i; tree = s; point = p; field = f } in x) ≡ record { item = j; tree = t; point = q; field = g }
+place_of_parts : (i j s t p q f g : ℕ) → i ≡ j → s ≡ t → p ≡ q → f ≡ g
+    → (let x : OwnPlace = record { item = i; tree = s; point = p; field = f } in x) ≡ record { item = j; tree = t; point = q; field = g }
 place_of_parts i j s t p q f g a b c d = cc
 
 same_place-true : (j k : OwnPlace) → same_place j k ≡ true → j ≡ k
@@ -31,7 +32,10 @@ same_place-true j k h =
     (eqb-true j.field k.field (and_parts (j.point == k.point) (j.field == k.field) last).1)
 
 -- One requirement more at a place.
-pub clashes-put : (old : OwnPlace → Option (Option Priv)) (j k : OwnPlace) (claim : Option Priv) (new : Option (Option Priv)) (access a : Priv) → new ≡ cond (same_place j k) (Some claim) (old k) → clashes (Some claim) a ≡ (clashes (old j) a || not (agree access a)) → clashes new a ≡ (clashes (old k) a || (same_place j k && not (agree access a)))
+pub clashes-put : (old : OwnPlace → Option (Option Priv)) (j k : OwnPlace) (claim : Option Priv) (new : Option (Option Priv))
+    (access a : Priv) → new ≡ cond (same_place j k) (Some claim) (old k)
+    → clashes (Some claim) a ≡ (clashes (old j) a || not (agree access a))
+    → clashes new a ≡ (clashes (old k) a || (same_place j k && not (agree access a)))
 clashes-put old j k claim new access a is joins =
     elim (cases_Bool (same_place j k)) [
       | inl same ↦
@@ -45,7 +49,8 @@ clashes-put old j k claim new access a is joins =
           ∙ sym (ap (λ b. clashes (old k) a || (b && not (agree access a))) other)
     ]
 
-one_more : (i t p fs f n : Bool) → ((i && (t && ((p || false) && (fs && n)))) || ((i && (t && (p && f))) && n)) ≡ (i && (t && ((p || false) && ((fs || f) && n))))
+one_more : (i t p fs f n : Bool) → ((i && (t && ((p || false) && (fs && n)))) || ((i && (t && (p && f))) && n))
+    ≡ (i && (t && ((p || false) && ((fs || f) && n))))
 one_more false t p fs f n = refl
 one_more true false p fs f n = refl
 one_more true true false fs f n = refl
@@ -55,7 +60,10 @@ one_more true true true true false false = refl
 one_more true true true false f n = refl
 
 -- One field more at a point.
-pub claims_at-field : (old mid new : Bool) (item tree point field : ℕ) (fields : List ℕ) (i : ℕ) (access : Priv) (k : OwnPlace) (a : Priv) → i < length fields → field ≡ get_or fields i 0 → mid ≡ (old || claims_at item tree (point ∷ []) (take i fields) access k a) → new ≡ (mid || (same_place (record { item = item; tree = tree; point = point; field = field }) k && not (agree access a))) → new ≡ (old || claims_at item tree (point ∷ []) (take (i + 1) fields) access k a)
+pub claims_at-field : (old mid new : Bool) (item tree point field : ℕ) (fields : List ℕ) (i : ℕ) (access : Priv) (k : OwnPlace) (a : Priv)
+    → i < length fields → field ≡ get_or fields i 0 → mid ≡ (old || claims_at item tree (point ∷ []) (take i fields) access k a)
+    → new ≡ (mid || (same_place (record { item = item; tree = tree; point = point; field = field }) k && not (agree access a)))
+    → new ≡ (old || claims_at item tree (point ∷ []) (take (i + 1) fields) access k a)
 claims_at-field old mid new item tree point field fields i access k a lt is before after =
     let n = not (agree access a) in
     let one : OwnPlace = record { item = item; tree = tree; point = point; field = field } in
@@ -71,12 +79,15 @@ claims_at-field old mid new item tree point field fields i access k a lt is befo
     )
 
 -- One requirement, place by place.
-row_told : (a b d : Bool) (ns ms : ℕ → Bool) (P F : List ℕ) → (a && (b && (list_any ns P && (list_any ms F && d)))) ≡ list_any (λ x. list_any (λ f. a && (b && (ns x && (ms f && d)))) F) P
+row_told : (a b d : Bool) (ns ms : ℕ → Bool) (P F : List ℕ)
+    → (a && (b && (list_any ns P && (list_any ms F && d)))) ≡ list_any (λ x. list_any (λ f. a && (b && (ns x && (ms f && d)))) F) P
 row_told false b d ns ms P F = sym (list_any-alike _ (λ x. false) P (λ x. list_any-false F) ∙ list_any-false P)
 row_told true false d ns ms P F = sym (list_any-alike _ (λ x. false) P (λ x. list_any-false F) ∙ list_any-false P)
 row_told true true d ns ms P F = sym (
     list_any-alike (λ x. list_any (λ f. ns x && (ms f && d)) F) (λ x. (list_any ms F && d) && ns x) P
-    (λ x. list_any-and (ns x) (λ f. ms f && d) F ∙ ap (λ b. ns x && b) (list_any-alike (λ f. ms f && d) (λ f. d && ms f) F (λ f. and_comm (ms f) d) ∙ list_any-and d ms F ∙ and_comm d (list_any ms F)) ∙ and_comm (ns x) (list_any ms F && d))
+    (λ x. list_any-and (ns x) (λ f. ms f && d) F
+    ∙ ap (λ b. ns x && b) (list_any-alike (λ f. ms f && d) (λ f. d && ms f) F (λ f. and_comm (ms f) d) ∙ list_any-and d ms F
+    ∙ and_comm d (list_any ms F)) ∙ and_comm (ns x) (list_any ms F && d))
     ∙ list_any-and (list_any ms F && d) ns P ∙ and_comm (list_any ms F && d) (list_any ns P)
     )
 
@@ -84,22 +95,31 @@ row_told true true d ns ms P F = sym (
 abbrev place : ℕ → ℕ → ℕ → ℕ → OwnPlace
 place item tree point field = record { item = item; tree = tree; point = point; field = field }
 
-clashes_with-by_place : (t : Tables) (item tree space : ℕ) (fields : List ℕ) (a : Priv) (r : Req) → clashes_with t item tree (points_in t space) fields a r ≡ list_any (λ x. list_any (λ f. req_clashes_at t (place item tree x f) a r) fields) (points_in t space)
+clashes_with-by_place : (t : Tables) (item tree space : ℕ) (fields : List ℕ) (a : Priv) (r : Req)
+    → clashes_with t item tree (points_in t space) fields a r
+    ≡ list_any (λ x. list_any (λ f. req_clashes_at t (place item tree x f) a r) fields) (points_in t space)
 clashes_with-by_place t item tree space fields a r =
     let P = points_in t space in
-    ap (λ b. (r.item == item) && ((r.tree == tree) && (b && (meets r.fields fields && not (agree r.access a))))) (meets_turned (points_in t r.space) P)
-    ∙ ap (λ b. (r.item == item) && ((r.tree == tree) && (meets P (points_in t r.space) && (b && not (agree r.access a))))) (meets_turned r.fields fields)
+    ap (λ b. (r.item == item) && ((r.tree == tree) && (b && (meets r.fields fields && not (agree r.access a)))))
+    (meets_turned (points_in t r.space) P)
+    ∙ ap (λ b. (r.item == item) && ((r.tree == tree) && (meets P (points_in t r.space) && (b && not (agree r.access a)))))
+    (meets_turned r.fields fields)
     ∙ row_told (r.item == item) (r.tree == tree) (not (agree r.access a)) (is_in (points_in t r.space)) (is_in r.fields) P fields
 
 -- So is whether the first requirement does, and whether some requirement does.
-first_clashes-by_place : (t : Tables) (item tree space : ℕ) (fields : List ℕ) (a : Priv) → first_clashes t item tree space fields a ≡ list_any (λ x. list_any (λ f. first_clashes_at t (place item tree x f) a) fields) (points_in t space)
+first_clashes-by_place : (t : Tables) (item tree space : ℕ) (fields : List ℕ) (a : Priv)
+    → first_clashes t item tree space fields a ≡ list_any (λ x. list_any (λ f. first_clashes_at t (place item tree x f) a) fields)
+    (points_in t space)
 first_clashes-by_place t item tree space fields a = by (req_at t item 1)
   where
-    by : (o : Option Req) → option_map_or (clashes_with t item tree (points_in t space) fields a) o false ≡ list_any (λ x. list_any (λ f. option_map_or (req_clashes_at t (place item tree x f) a) o false) fields) (points_in t space)
+    by : (o : Option Req) → option_map_or (clashes_with t item tree (points_in t space) fields a) o false
+        ≡ list_any (λ x. list_any (λ f. option_map_or (req_clashes_at t (place item tree x f) a) o false) fields) (points_in t space)
     by None = sym (list_any-alike _ (λ x. false) (points_in t space) (λ x. list_any-false fields) ∙ list_any-false (points_in t space))
     by (Some r) = clashes_with-by_place t item tree space fields a r
 
-clashes_own-by_place : (t : Tables) (item tree space : ℕ) (fields : List ℕ) (a : Priv) → clashes_own t item tree space fields a ≡ list_any (λ x. list_any (λ f. clashes_at t (place item tree x f) a) fields) (points_in t space)
+clashes_own-by_place : (t : Tables) (item tree space : ℕ) (fields : List ℕ) (a : Priv)
+    → clashes_own t item tree space fields a ≡ list_any (λ x. list_any (λ f. clashes_at t (place item tree x f) a) fields)
+    (points_in t space)
 clashes_own-by_place t item tree space fields a =
     let P = points_in t space in
     let row : Req → ℕ → ℕ → Bool = λ r x f. req_clashes_at t (place item tree x f) a r in
@@ -108,7 +128,9 @@ clashes_own-by_place t item tree space fields a =
     ∙ list_any-alike _ _ P (λ x. list_any-list_any (λ r f. row r x f) t.reqs fields)
 
 -- The first requirement and the claims tell whether some requirement does.
-pub own_by_claims : (t : Tables) (c : Claims) (item tree space : ℕ) (fields : List ℕ) (a : Priv) → AreClaims t c → (first_clashes t item tree space fields a || list_any (clashes_row c item tree fields a) (points_in t space)) ≡ clashes_own t item tree space fields a
+pub own_by_claims : (t : Tables) (c : Claims) (item tree space : ℕ) (fields : List ℕ) (a : Priv) → AreClaims t c
+    → (first_clashes t item tree space fields a || list_any (clashes_row c item tree fields a) (points_in t space))
+    ≡ clashes_own t item tree space fields a
 own_by_claims t c item tree space fields a are =
     let P = points_in t space in
     let first : ℕ → ℕ → Bool = λ x f. first_clashes_at t (place item tree x f) a in
@@ -119,19 +141,28 @@ own_by_claims t c item tree space fields a are =
     ∙ sym (clashes_own-by_place t item tree space fields a)
 
 -- An item with no requirements has none that clashes.
-pub own_alone : (t : Tables) (item tree space : ℕ) (fields : List ℕ) (a : Priv) → reqs_before t.reqs item ≡ 0 → clashes_own t item tree space fields a ≡ false
+pub own_alone : (t : Tables) (item tree space : ℕ) (fields : List ℕ) (a : Priv) → reqs_before t.reqs item ≡ 0
+    → clashes_own t item tree space fields a ≡ false
 own_alone t item tree space fields a none =
     let p : Req → Bool = λ r. r.item == item in
     let q : Req → Bool = clashes_with t item tree (points_in t space) fields a in
     sym (is_some-find (λ (r : Req). r) q t.reqs)
     ∙ ap (λ o. is_some (option_map (λ (r : Req). r) o))
-    (find-none p (λ (r : Req). (r.tree == tree) && (meets (points_in t r.space) (points_in t space) && (meets r.fields fields && not (agree r.access a)))) t.reqs (length-filter p t.reqs ∙ none))
+    (find-none p (λ (r : Req). (r.tree == tree) &&
+    (meets (points_in t r.space) (points_in t space) && (meets r.fields fields && not (agree r.access a)))) t.reqs
+    (length-filter p t.reqs ∙ none))
 
 -- What a requirement claims, if it is the first of its item or a later one.
-pub first_claims_nothing : (t : Tables) (task tree space : ℕ) (fields : List ℕ) (access : PrivWord) (atomic : Bool) → reqs_before t.reqs (place_of t.items task) ≡ 0 → (k : OwnPlace) (a : Priv) → claimed t (records.Req task tree space fields access atomic) k a ≡ false
+pub first_claims_nothing : (t : Tables) (task tree space : ℕ) (fields : List ℕ) (access : PrivWord) (atomic : Bool)
+    → reqs_before t.reqs (place_of t.items task) ≡ 0 → (k : OwnPlace) (a : Priv)
+    → claimed t (records.Req task tree space fields access atomic) k a ≡ false
 first_claims_nothing t task tree space fields access atomic none k a =
     ap (λ n. not (n == 0) && claims_at (place_of t.items task) tree (points_in t space) fields (privilege_of access) k a) none
 
-pub later_claims_all : (t : Tables) (task tree space : ℕ) (fields : List ℕ) (access : PrivWord) (atomic : Bool) → (reqs_before t.reqs (place_of t.items task) ≡ 0 → ⊥) → (k : OwnPlace) (a : Priv) → claimed t (records.Req task tree space fields access atomic) k a ≡ claims_at (place_of t.items task) tree (points_in t space) fields (privilege_of access) k a
+pub later_claims_all : (t : Tables) (task tree space : ℕ) (fields : List ℕ) (access : PrivWord) (atomic : Bool)
+    → (reqs_before t.reqs (place_of t.items task) ≡ 0 → ⊥) → (k : OwnPlace) (a : Priv)
+    → claimed t (records.Req task tree space fields access atomic) k a
+    ≡ claims_at (place_of t.items task) tree (points_in t space) fields (privilege_of access) k a
 later_claims_all t task tree space fields access atomic some k a =
-    ap (λ b. not b && claims_at (place_of t.items task) tree (points_in t space) fields (privilege_of access) k a) (ne_eqb (reqs_before t.reqs (place_of t.items task)) 0 some)
+    ap (λ b. not b && claims_at (place_of t.items task) tree (points_in t space) fields (privilege_of access) k a)
+    (ne_eqb (reqs_before t.reqs (place_of t.items task)) 0 some)

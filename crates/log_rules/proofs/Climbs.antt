@@ -5,7 +5,8 @@ use Rattle.std.proofs.lemmas.Bool.Decides.{nat_tests}
 use Rattle.vocabulary.specs.Prelude.{Tables, upward, space_above, is_in}
 
 -- one step more
-pub climbed_more : (t : Tables) (n up limit at above : ℕ) → up < limit → space_above t at ≡ Some above → n ≡ up + length (upward t (limit - up) (space_above t at)) → n ≡ (up + 1) + length (upward t (limit - (up + 1)) (space_above t above))
+pub climbed_more : (t : Tables) (n up limit at above : ℕ) → up < limit → space_above t at ≡ Some above
+    → n ≡ up + length (upward t (limit - up) (space_above t at)) → n ≡ (up + 1) + length (upward t (limit - (up + 1)) (space_above t above))
 climbed_more t n up limit at above lt is e =
     let k : limit - up ≡ suc (limit - (up + 1)) = omega arith in
     let h : n ≡ up + suc (length (upward t (limit - (up + 1)) (space_above t above))) = rw (k, is) at e in
@@ -16,7 +17,8 @@ none_above t zero = refl
 none_above t (suc k) = refl
 
 -- the same, for a root that is looked for
-pub missed_more : (t : Tables) (b : Bool) (root up limit at above : ℕ) → up < limit → space_above t at ≡ Some above → (above ≡ root → ⊥) → b ≡ is_in (upward t (limit - up) (space_above t at)) root → b ≡ is_in (upward t (limit - (up + 1)) (space_above t above)) root
+pub missed_more : (t : Tables) (b : Bool) (root up limit at above : ℕ) → up < limit → space_above t at ≡ Some above → (above ≡ root → ⊥)
+    → b ≡ is_in (upward t (limit - up) (space_above t at)) root → b ≡ is_in (upward t (limit - (up + 1)) (space_above t above)) root
 missed_more t b root up limit at above lt is ne e =
     let k : limit - up ≡ suc (limit - (up + 1)) = omega arith in
     let no : (above == root) ≡ false = grind (arith) in

@@ -30,17 +30,20 @@ record Grows (t u : Tables) : Type 0 where
   points : (id : ℕ) → is_declared t (space_id id) ≡ true → points_in u id ≡ points_in t id
   declared : (id : ℕ) → is_declared t (space_id id) ≡ true → is_declared u (space_id id) ≡ true
 
-found_first : (id : ℕ) (xs ys : List Space) → list_any (λ (s : Space). s.id == id) xs ≡ true → find (λ (s : Space). s.id == id) (xs ++ ys) ≡ find (λ (s : Space). s.id == id) xs
+found_first : (id : ℕ) (xs ys : List Space) → list_any (λ (s : Space). s.id == id) xs ≡ true
+    → find (λ (s : Space). s.id == id) (xs ++ ys) ≡ find (λ (s : Space). s.id == id) xs
 found_first id [] ys h = absurd (false≢true h)
 found_first id (x ∷ xs) ys h =
     elim (cases_Bool (x.id == id)) [
       | inl hit ↦ rw hit refl
-      | inr miss ↦ let rest : list_any (λ (s : Space). s.id == id) xs ≡ true = ap (λ b. b || list_any (λ (s : Space). s.id == id) xs) (sym miss) ∙ h in rw miss (found_first id xs ys rest)
+      | inr miss ↦ let rest : list_any (λ (s : Space). s.id == id) xs ≡ true =
+          ap (λ b. b || list_any (λ (s : Space). s.id == id) xs) (sym miss) ∙ h in rw miss (found_first id xs ys rest)
     ]
 
 grows : (t : Tables) (line : ℕ) (r : Record) → Grows t (with_record t line r)
 grows t line (Ispace id set) = record {
-  points = λ other known. ap (λ o. option_map_or (λ (s : Space). s.points) o []) (found_first other t.spaces (record { id = id; points = points_of set } ∷ []) known);
+  points = λ other known. ap (λ o. option_map_or (λ (s : Space). s.points) o [])
+      (found_first other t.spaces (record { id = id; points = points_of set } ∷ []) known);
   declared = λ other known.
       list_any-append (λ (s : Space). s.id == other) t.spaces (record { id = id; points = points_of set } ∷ [])
       ∙ ap (λ b. b || list_any (λ (s : Space). s.id == other) (record { id = id; points = points_of set } ∷ [])) known;
@@ -49,20 +52,26 @@ grows t line _ = record { points = λ other known. refl; declared = λ other kno
 
 -- ---- Sums over lists.
 
-sum-known : {A : Type 0} (p : A → Bool) (f g : A → ℕ) (xs : List A) → ((x : A) → p x ≡ true → f x ≡ g x) → list_all p xs ≡ true → sum_by f xs ≡ sum_by g xs
+sum-known : {A : Type 0} (p : A → Bool) (f g : A → ℕ) (xs : List A) → ((x : A) → p x ≡ true → f x ≡ g x) → list_all p xs ≡ true
+    → sum_by f xs ≡ sum_by g xs
 sum-known p f g [] same all = refl
 sum-known p f g (x ∷ xs) same all =
     let head = same x (and_parts (p x) (list_all p xs) all).0 in
     let tail = sum-known p f g xs same (and_parts (p x) (list_all p xs) all).1 in
     omega (arith, head, tail, sum_by-cons f x xs, sum_by-cons g x xs)
 
-any-known : {A : Type 0} (p f g : A → Bool) (xs : List A) → ((x : A) → p x ≡ true → f x ≡ g x) → list_all p xs ≡ true → list_any f xs ≡ list_any g xs
+any-known : {A : Type 0} (p f g : A → Bool) (xs : List A) → ((x : A) → p x ≡ true → f x ≡ g x) → list_all p xs ≡ true
+    → list_any f xs ≡ list_any g xs
 any-known p f g [] same all = refl
-any-known p f g (x ∷ xs) same all = rw (same x (and_parts (p x) (list_all p xs) all).0, any-known p f g xs same (and_parts (p x) (list_all p xs) all).1) refl
+any-known p f g (x ∷ xs) same all = rw (
+  same x (and_parts (p x) (list_all p xs) all).0,
+  any-known p f g xs same (and_parts (p x) (list_all p xs) all).1,
+) refl
 
 all-known : {A : Type 0} (p q : A → Bool) (xs : List A) → ((x : A) → p x ≡ true → q x ≡ true) → list_all p xs ≡ true → list_all q xs ≡ true
 all-known p q [] then all = refl
-all-known p q (x ∷ xs) then all = ap (λ b. b && list_all q xs) (then x (and_parts (p x) (list_all p xs) all).0) ∙ all-known p q xs then (and_parts (p x) (list_all p xs) all).1
+all-known p q (x ∷ xs) then all = ap (λ b. b && list_all q xs) (then x (and_parts (p x) (list_all p xs) all).0) ∙ all-known p q xs
+    then (and_parts (p x) (list_all p xs) all).1
 
 all-snoc : {A : Type 0} (p : A → Bool) (xs : List A) (x : A) → list_all p xs ≡ true → p x ≡ true → list_all p (xs ++ x ∷ []) ≡ true
 all-snoc p xs x all here = list_all-append p xs (x ∷ []) ∙ and_from (list_all p xs) (p x && true) all (and_from (p x) true here refl)
@@ -97,30 +106,39 @@ knows_asked t _ h = refl
 -- ---- Points, cells and accesses.
 
 pub point_total-add : (t : Tables) (line : ℕ) (r : Record) → point_total (with_record t line r) ≡ point_total t + points_asked r
-point_total-add t line (Ispace id set) = let h = sum_by_push (λ (s : Space). length s.points) t.spaces (record { id = id; points = points_of set }) in omega (arith, h)
+point_total-add t line (Ispace id set) = let h =
+    sum_by_push (λ (s : Space). length s.points) t.spaces (record { id = id; points = points_of set }) in omega (arith, h)
 point_total-add t line _ = omega arith
 
-size-grows : (t u : Tables) (space : ℕ) (fields : List ℕ) → Grows t u → is_declared t (space_id space) ≡ true → size_of u space fields ≡ size_of t space fields
+size-grows : (t u : Tables) (space : ℕ) (fields : List ℕ) → Grows t u → is_declared t (space_id space) ≡ true
+    → size_of u space fields ≡ size_of t space fields
 size-grows t u space fields g known = ap (λ (xs : List ℕ). length xs * length fields) (g.points space known)
 
-cells_grow : (t u : Tables) → Grows t u → list_all (λ (i : insts.Inst). is_declared t (space_id i.space)) t.insts ≡ true → sum_by (λ (i : insts.Inst). size_of u i.space i.fields) t.insts ≡ cell_total t
-cells_grow t u g known = sum-known (λ (i : insts.Inst). is_declared t (space_id i.space)) (λ (i : insts.Inst). size_of u i.space i.fields) (λ (i : insts.Inst). size_of t i.space i.fields) t.insts (λ (i : insts.Inst) here. size-grows t u i.space i.fields g here) known
+cells_grow : (t u : Tables) → Grows t u → list_all (λ (i : insts.Inst). is_declared t (space_id i.space)) t.insts ≡ true
+    → sum_by (λ (i : insts.Inst). size_of u i.space i.fields) t.insts ≡ cell_total t
+cells_grow t u g known = sum-known (λ (i : insts.Inst). is_declared t (space_id i.space)) (λ (i : insts.Inst). size_of u i.space i.fields)
+    (λ (i : insts.Inst). size_of t i.space i.fields) t.insts (λ (i : insts.Inst) here. size-grows t u i.space i.fields g here) known
 
-pub cell_total-add : (t : Tables) (line : ℕ) (r : Record) → list_all (λ (i : insts.Inst). is_declared t (space_id i.space)) t.insts ≡ true → names_unknown t r ≡ false → cell_total (with_record t line r) ≡ cell_total t + cells_asked t r
+pub cell_total-add : (t : Tables) (line : ℕ) (r : Record) → list_all (λ (i : insts.Inst). is_declared t (space_id i.space)) t.insts ≡ true
+    → names_unknown t r ≡ false → cell_total (with_record t line r) ≡ cell_total t + cells_asked t r
 cell_total-add t line (Inst id tree space fields kind) known named =
-    let h = sum_by_push (λ (i : insts.Inst). size_of t i.space i.fields) t.insts (record { id = id; tree = tree; space = space; fields = fields; kind = kind }) in
+    let h = sum_by_push (λ (i : insts.Inst). size_of t i.space i.fields) t.insts
+    (record { id = id; tree = tree; space = space; fields = fields; kind = kind }) in
     omega (arith, h)
-cell_total-add t line (Ispace id set) known named = let h = cells_grow t (with_record t line (Ispace id set)) (grows t line (Ispace id set)) known in omega (arith, h)
+cell_total-add t line (Ispace id set) known named = let h =
+    cells_grow t (with_record t line (Ispace id set)) (grows t line (Ispace id set)) known in omega (arith, h)
 cell_total-add t line _ known named = omega arith
 
 accesses-grow : (t u : Tables) (r : Record) → Grows t u → knows_space t r ≡ true → accesses u r ≡ accesses t r
 accesses-grow t u r g known = by (asked r) known
   where
-    by : (o : Option (ℕ × List ℕ)) → option_map_or (λ p. is_declared t (space_id p.0)) o true ≡ true → option_map_or (λ p. size_of u p.0 p.1) o 0 ≡ option_map_or (λ p. size_of t p.0 p.1) o 0
+    by : (o : Option (ℕ × List ℕ)) → option_map_or (λ p. is_declared t (space_id p.0)) o true ≡ true
+        → option_map_or (λ p. size_of u p.0 p.1) o 0 ≡ option_map_or (λ p. size_of t p.0 p.1) o 0
     by None h = refl
     by (Some p) h = size-grows t u p.0 p.1 g h
 
-pub access_total-add : (earlier : List Record) (t : Tables) (line : ℕ) (r : Record) → list_all (knows_space t) earlier ≡ true → names_unknown t r ≡ false → access_total (with_record t line r) (earlier ++ r ∷ []) ≡ access_total t earlier + accesses t r
+pub access_total-add : (earlier : List Record) (t : Tables) (line : ℕ) (r : Record) → list_all (knows_space t) earlier ≡ true
+    → names_unknown t r ≡ false → access_total (with_record t line r) (earlier ++ r ∷ []) ≡ access_total t earlier + accesses t r
 access_total-add earlier t line r known named =
     let u = with_record t line r in
     let g = grows t line r in
@@ -134,7 +152,8 @@ access_total-add earlier t line r known named =
 is_in-append : (xs ys : List ℕ) (n : ℕ) → is_in (xs ++ ys) n ≡ (is_in xs n || is_in ys n)
 is_in-append xs ys n = list_any-append (λ m. m == n) xs ys
 
-pub listed-add : (t : Tables) (line : ℕ) (r : Record) (n : ℕ) → is_in (listed (with_record t line r)) n ≡ (is_in (listed t) n || is_in (ids_listed r) n)
+pub listed-add : (t : Tables) (line : ℕ) (r : Record) (n : ℕ)
+    → is_in (listed (with_record t line r)) n ≡ (is_in (listed t) n || is_in (ids_listed r) n)
 listed-add t line (Serial ids) n =
     ap (λ (xs : List ℕ). is_in xs n) (flat_map-append (λ (s : serials.Serial). s.ids) t.serials (record { line = line; ids = ids } ∷ []))
     ∙ is_in-append (listed t) (ids ++ []) n
@@ -143,7 +162,8 @@ listed-add t line _ n = sym (or-false (is_in (listed t) n))
 
 -- ---- Claims.
 
-found-known : {A : Type 0} (p q f g : A → Bool) (xs : List A) → ((x : A) → p x ≡ true → f x ≡ g x) → list_all p xs ≡ true → option_map_or f (find q xs) false ≡ option_map_or g (find q xs) false
+found-known : {A : Type 0} (p q f g : A → Bool) (xs : List A) → ((x : A) → p x ≡ true → f x ≡ g x) → list_all p xs ≡ true
+    → option_map_or f (find q xs) false ≡ option_map_or g (find q xs) false
 found-known p q f g [] same all = refl
 found-known p q f g (x ∷ xs) same all =
     elim (cases_Bool (q x)) [
@@ -153,20 +173,35 @@ found-known p q f g (x ∷ xs) same all =
 
 -- What is added to the claims, where the first requirement stays, and where the record is the first.
 added : (first first2 old new at more : Bool) → first2 ≡ first → (first || old) ≡ at → new ≡ (old || more) → (first2 || new) ≡ (at || more)
-added first first2 old new at more same is adds = ap (λ b. b || new) same ∙ ap (λ b. first || b) adds ∙ sym (or_assoc first old more) ∙ ap (λ b. b || more) is
+added first first2 old new at more same is adds =
+    ap (λ b. b || new) same ∙ ap (λ b. first || b) adds ∙ sym (or_assoc first old more) ∙ ap (λ b. b || more) is
 
-started : (first first2 old new at more : Bool) → first ≡ false → first2 ≡ more → (first || old) ≡ at → new ≡ (old || false) → (first2 || new) ≡ (at || more)
+started : (first first2 old new at more : Bool) → first ≡ false → first2 ≡ more → (first || old) ≡ at → new ≡ (old || false)
+    → (first2 || new) ≡ (at || more)
 started first first2 old new at more none one is adds =
     ap (λ b. b || new) one ∙ ap (λ b. more || b) (adds ∙ or-false old ∙ sym (ap (λ b. b || old) none) ∙ is) ∙ or_comm more at
 
-req_clashes_at-grow : (t u : Tables) (k : OwnPlace) (a : Priv) → Grows t u → (q : reqs.Req) → is_declared t (space_id q.space) ≡ true → req_clashes_at u k a q ≡ req_clashes_at t k a q
+req_clashes_at-grow : (t u : Tables) (k : OwnPlace) (a : Priv) → Grows t u → (q : reqs.Req) → is_declared t (space_id q.space) ≡ true
+    → req_clashes_at u k a q ≡ req_clashes_at t k a q
 req_clashes_at-grow t u k a g q here = ap (λ (xs : List ℕ). claims_at q.item q.tree xs q.fields q.access k a) (g.points q.space here)
 
-pub AreClaims-add : (t : Tables) (line : ℕ) (r : Record) (old new : Claims) → AreClaims t old → list_all (λ (q : reqs.Req). is_declared t (space_id q.space)) t.reqs ≡ true → Adds old new (claimed t r) → AreClaims (with_record t line r) new
+pub AreClaims-add : (t : Tables) (line : ℕ) (r : Record) (old new : Claims) → AreClaims t old
+    → list_all (λ (q : reqs.Req). is_declared t (space_id q.space)) t.reqs ≡ true → Adds old new (claimed t r)
+    → AreClaims (with_record t line r) new
 AreClaims-add t line (Req task tree space fields access atomic) old new are known adds = λ k a.
     let I = place_of t.items task in
     let n = reqs_before t.reqs I in
-    let one : reqs.Req = record { item = I; number = n + 1; line = line; tree = tree; space = space; fields = fields; access = privilege_of access; coherence = coherence_of atomic } in
+    let one : reqs.Req = record {
+      item = I;
+      number = n + 1;
+      line = line;
+      tree = tree;
+      space = space;
+      fields = fields;
+      access =
+          privilege_of access;
+      coherence = coherence_of atomic;
+    } in
     let more = claims_at I tree (points_in t space) fields (privilege_of access) k a in
     let p : reqs.Req → Bool = λ q. (q.item == k.item) && (q.number == 1) in
     let f : reqs.Req → Bool = req_clashes_at t k a in
@@ -178,7 +213,8 @@ AreClaims-add t line (Req task tree space fields access atomic) old new are know
           elim (cases_Bool (I == k.item)) [
             | inl ours ↦
                 let few : reqs_before t.reqs k.item ≡ 0 = ap (reqs_before t.reqs) (sym (eqb-true I k.item ours)) ∙ eqb-true n 0 none in
-                let no : find p t.reqs ≡ None = find-none (λ (q : reqs.Req). q.item == k.item) (λ (q : reqs.Req). q.number == 1) t.reqs (length-filter (λ (q : reqs.Req). q.item == k.item) t.reqs ∙ few) in
+                let no : find p t.reqs ≡ None = find-none (λ (q : reqs.Req). q.item == k.item) (λ (q : reqs.Req). q.number == 1) t.reqs
+                (length-filter (λ (q : reqs.Req). q.item == k.item) t.reqs ∙ few) in
                 let yes_one : p one ≡ true = ap (λ b. b && (n + 1 == 1)) ours ∙ ap (λ m. m + 1 == 1) (eqb-true n 0 none) in
                 started first first2 (clashes_in old k a) (clashes_in new k a) (clashes_at t k a) more
                 (ap (λ o. option_map_or f o false) no)
@@ -190,7 +226,9 @@ AreClaims-add t line (Req task tree space fields access atomic) old new are know
                 (kept (ap (λ b. b && (n + 1 == 1)) other))
                 (are k a)
                 (adds k a ∙ ap (λ b. clashes_in old k a || (not b && more)) none
-                ∙ sym (ap (λ b. clashes_in old k a || (b && ((tree == k.tree) && (is_in (points_in t space) k.point && (is_in fields k.field && not (agree (privilege_of access) a)))))) other))
+                ∙ sym (ap (λ b. clashes_in old k a ||
+                (b && ((tree == k.tree) && (is_in (points_in t space) k.point
+                && (is_in fields k.field && not (agree (privilege_of access) a)))))) other))
           ]
       | inr some ↦
           added first first2 (clashes_in old k a) (clashes_in new k a) (clashes_at t k a) more
@@ -208,7 +246,8 @@ AreClaims-add t line (Ispace id set) old new are known adds = λ k a.
     let u = with_record t line (Ispace id set) in
     let g = grows t line (Ispace id set) in
     let here = λ (q : reqs.Req). is_declared t (space_id q.space) in
-    ap (λ b. b || clashes_in new k a) (found-known here (λ (q : reqs.Req). (q.item == k.item) && (q.number == 1)) (req_clashes_at u k a) (req_clashes_at t k a) t.reqs (req_clashes_at-grow t u k a g) known)
+    ap (λ b. b || clashes_in new k a) (found-known here (λ (q : reqs.Req). (q.item == k.item) && (q.number == 1)) (req_clashes_at u k a)
+    (req_clashes_at t k a) t.reqs (req_clashes_at-grow t u k a g) known)
     ∙ ap (λ b. first_clashes_at t k a || b) (adds k a ∙ or-false (clashes_in old k a))
     ∙ are k a
     ∙ sym (any-known here (req_clashes_at u k a) (req_clashes_at t k a) t.reqs (req_clashes_at-grow t u k a g) known)
@@ -217,21 +256,33 @@ AreClaims-add t line _ old new are known adds = λ k a.
 
 -- ---- What is known stays known.
 
-reqs_known : (t : Tables) (line : ℕ) (r : Record) → list_all (λ (q : reqs.Req). is_declared t (space_id q.space)) t.reqs ≡ true → list_all (is_declared t) (names r) ≡ true → list_all (λ (q : reqs.Req). is_declared (with_record t line r) (space_id q.space)) (with_record t line r).reqs ≡ true
-reqs_known t line (Req task tree space fields access atomic) known named = all-snoc (λ (q : reqs.Req). is_declared t (space_id q.space)) t.reqs _ known (third _ _ _ _ named)
-reqs_known t line (Ispace id set) known named = all-known (λ (q : reqs.Req). is_declared t (space_id q.space)) _ t.reqs (λ (q : reqs.Req) here. (grows t line (Ispace id set)).declared q.space here) known
+reqs_known : (t : Tables) (line : ℕ) (r : Record) → list_all (λ (q : reqs.Req). is_declared t (space_id q.space)) t.reqs ≡ true
+    → list_all (is_declared t) (names r) ≡ true → list_all (λ (q : reqs.Req). is_declared (with_record t line r) (space_id q.space))
+    (with_record t line r).reqs ≡ true
+reqs_known t line (Req task tree space fields access atomic) known named =
+    all-snoc (λ (q : reqs.Req). is_declared t (space_id q.space)) t.reqs _ known (third _ _ _ _ named)
+reqs_known t line (Ispace id set) known named =
+    all-known (λ (q : reqs.Req). is_declared t (space_id q.space)) _ t.reqs
+    (λ (q : reqs.Req) here. (grows t line (Ispace id set)).declared q.space here) known
 reqs_known t line _ known named = known
 
-insts_known : (t : Tables) (line : ℕ) (r : Record) → list_all (λ (i : insts.Inst). is_declared t (space_id i.space)) t.insts ≡ true → list_all (is_declared t) (names r) ≡ true → list_all (λ (i : insts.Inst). is_declared (with_record t line r) (space_id i.space)) (with_record t line r).insts ≡ true
-insts_known t line (Inst id tree space fields kind) known named = all-snoc (λ (i : insts.Inst). is_declared t (space_id i.space)) t.insts _ known (second _ _ _ named)
-insts_known t line (Ispace id set) known named = all-known (λ (i : insts.Inst). is_declared t (space_id i.space)) _ t.insts (λ (i : insts.Inst) here. (grows t line (Ispace id set)).declared i.space here) known
+insts_known : (t : Tables) (line : ℕ) (r : Record) → list_all (λ (i : insts.Inst). is_declared t (space_id i.space)) t.insts ≡ true
+    → list_all (is_declared t) (names r) ≡ true → list_all (λ (i : insts.Inst). is_declared (with_record t line r) (space_id i.space))
+    (with_record t line r).insts ≡ true
+insts_known t line (Inst id tree space fields kind) known named =
+    all-snoc (λ (i : insts.Inst). is_declared t (space_id i.space)) t.insts _ known (second _ _ _ named)
+insts_known t line (Ispace id set) known named =
+    all-known (λ (i : insts.Inst). is_declared t (space_id i.space)) _ t.insts
+    (λ (i : insts.Inst) here. (grows t line (Ispace id set)).declared i.space here) known
 insts_known t line _ known named = known
 
-still_asked : (t u : Tables) (o : Option (ℕ × List ℕ)) → Grows t u → option_map_or (λ p. is_declared t (space_id p.0)) o true ≡ true → option_map_or (λ p. is_declared u (space_id p.0)) o true ≡ true
+still_asked : (t u : Tables) (o : Option (ℕ × List ℕ)) → Grows t u → option_map_or (λ p. is_declared t (space_id p.0)) o true ≡ true
+    → option_map_or (λ p. is_declared u (space_id p.0)) o true ≡ true
 still_asked t u None g h = refl
 still_asked t u (Some p) g h = g.declared p.0 h
 
-pub AreKnown-add : (earlier : List Record) (t : Tables) (line : ℕ) (r : Record) → AreKnown earlier t → names_unknown t r ≡ false → AreKnown (earlier ++ r ∷ []) (with_record t line r)
+pub AreKnown-add : (earlier : List Record) (t : Tables) (line : ℕ) (r : Record) → AreKnown earlier t → names_unknown t r ≡ false
+    → AreKnown (earlier ++ r ∷ []) (with_record t line r)
 AreKnown-add earlier t line r known named =
     let u = with_record t line r in
     let g = grows t line r in
@@ -247,13 +298,17 @@ AreKnown-add earlier t line r known named =
 
 -- ---- Sums within their limits are exact.
 
-pub points-exact : (t : Tables) (r : Record) (old : ℕ) → old ≡ point_total t → old < 2 ^ 128 → has_many_points t r ≡ false → cut (old + points_asked r) ≡ point_total t + points_asked r
+pub points-exact : (t : Tables) (r : Record) (old : ℕ) → old ≡ point_total t → old < 2 ^ 128 → has_many_points t r ≡ false
+    → cut (old + points_asked r) ≡ point_total t + points_asked r
 points-exact t (Ispace id set) old is small fits = within (point_total t) (length (points_of set)) 1048576 old is fits (lit< tt)
 points-exact t _ old is small fits = omega arith
 
-pub cells-exact : (t : Tables) (r : Record) (old : ℕ) → old ≡ cell_total t → old < 2 ^ 128 → has_many_cells t r ≡ false → cut (old + cells_asked t r) ≡ cell_total t + cells_asked t r
-cells-exact t (Inst id tree space fields kind) old is small fits = within (cell_total t) (size_of t space fields) 1048576 old is fits (lit< tt)
+pub cells-exact : (t : Tables) (r : Record) (old : ℕ) → old ≡ cell_total t → old < 2 ^ 128 → has_many_cells t r ≡ false
+    → cut (old + cells_asked t r) ≡ cell_total t + cells_asked t r
+cells-exact t (Inst id tree space fields kind) old is small fits =
+    within (cell_total t) (size_of t space fields) 1048576 old is fits (lit< tt)
 cells-exact t _ old is small fits = omega arith
 
-pub accesses-exact : (earlier : List Record) (t : Tables) (r : Record) (old : ℕ) → old ≡ access_total t earlier → has_many_accesses earlier t r ≡ false → cut (old + accesses t r) ≡ access_total t earlier + accesses t r
+pub accesses-exact : (earlier : List Record) (t : Tables) (r : Record) (old : ℕ) → old ≡ access_total t earlier
+    → has_many_accesses earlier t r ≡ false → cut (old + accesses t r) ≡ access_total t earlier + accesses t r
 accesses-exact earlier t r old is fits = within (access_total t earlier) (accesses t r) 4194304 old is fits (lit< tt)

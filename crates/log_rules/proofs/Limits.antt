@@ -20,5 +20,7 @@ points_of-snoc (s ∷ runs) r =
     let rest = points_of-snoc runs r in
     omega (arith, h, g, rest)
 
-pub points_of_more : (runs : List (ℕ × ℕ)) (i : ℕ) (d : ℕ × ℕ) → i < length runs → length (points_of (take (i + 1) runs)) ≡ length (points_of (take i runs)) + ((get_or runs i d).1 + 1 - (get_or runs i d).0)
-points_of_more runs i d lt = ap (λ (xs : List (ℕ × ℕ)). length (points_of xs)) (take_more runs i d lt) ∙ points_of-snoc (take i runs) (get_or runs i d)
+pub points_of_more : (runs : List (ℕ × ℕ)) (i : ℕ) (d : ℕ × ℕ) → i < length runs
+    → length (points_of (take (i + 1) runs)) ≡ length (points_of (take i runs)) + ((get_or runs i d).1 + 1 - (get_or runs i d).0)
+points_of_more runs i d lt = ap (λ (xs : List (ℕ × ℕ)). length (points_of xs)) (take_more runs i d lt)
+    ∙ points_of-snoc (take i runs) (get_or runs i d)

@@ -32,7 +32,8 @@ pub list_any-or : {X : Type 0} (p q : X → Bool) (xs : List X) → list_any (λ
 list_any-or p q [] = refl
 list_any-or p q (x ∷ xs) = rw (list_any-or p q xs) (crossed (p x) (q x) (list_any p xs) (list_any q xs))
 
-pub list_any-list_any : {X Y : Type 0} (R : X → Y → Bool) (xs : List X) (ys : List Y) → list_any (λ x. list_any (R x) ys) xs ≡ list_any (λ y. list_any (λ x. R x y) xs) ys
+pub list_any-list_any : {X Y : Type 0} (R : X → Y → Bool) (xs : List X) (ys : List Y)
+    → list_any (λ x. list_any (R x) ys) xs ≡ list_any (λ y. list_any (λ x. R x y) xs) ys
 list_any-list_any R [] ys = sym (list_any-false ys)
 list_any-list_any R (x ∷ xs) ys = rw (list_any-list_any R xs ys) (sym (list_any-or (R x) (λ y. list_any (λ z. R z y) xs) ys))
 
@@ -42,7 +43,8 @@ is_some-find f p (x ∷ xs) =
     elim (cases_Bool (p x)) [
       | inl hit ↦ ap (λ b. is_some (option_map f (cond b (Some x) (find p xs)))) hit ∙ sym (ap (λ b. b || list_any p xs) hit)
       | inr miss ↦
-          ap (λ b. is_some (option_map f (cond b (Some x) (find p xs)))) miss ∙ is_some-find f p xs ∙ sym (ap (λ b. b || list_any p xs) miss)
+          ap (λ b. is_some (option_map f (cond b (Some x) (find p xs)))) miss ∙ is_some-find f p xs
+          ∙ sym (ap (λ b. b || list_any p xs) miss)
     ]
 
 -- What a list is searched for, where no element passes a weaker test.

@@ -10,9 +10,11 @@ use Rattle.log_rules.specs.Gathered.{list_count}
 use Rattle.log_rules.specs.Listing.{IsSetOf, is_listed, lists_badly}
 use Rattle.log_rules.proofs.ListTests.{list_any-alike, list_all-alike}
 
-pub lists_badly-is : (log : List Record) (t : Tables) (set : ℕ → Bool) (ids : List ℕ) → IsSetOf (listed t) set → lists_badly log (length t.serials) set ids ≡ is_bad_serial log t (Serial ids)
+pub lists_badly-is : (log : List Record) (t : Tables) (set : ℕ → Bool) (ids : List ℕ) → IsSetOf (listed t) set
+    → lists_badly log (length t.serials) set ids ≡ is_bad_serial log t (Serial ids)
 lists_badly-is log t set ids is =
-    ap (λ b. has_repeat ids || b || ((list_count log == length t.serials + 1) && not (list_all (is_listed set (is_in ids)) log))) (list_any-alike set (is_in (listed t)) ids is)
+    ap (λ b. has_repeat ids || b || ((list_count log == length t.serials + 1) && not (list_all (is_listed set (is_in ids)) log)))
+    (list_any-alike set (is_in (listed t)) ids is)
     ∙ ap (λ b. has_repeat ids || meets ids (listed t) || ((list_count log == length t.serials + 1) && not b))
     (list_all-alike _ _ log (λ r.
     list_all-alike _ _ (items_declared r) (λ id.

@@ -17,7 +17,8 @@ use Rattle.semantics.proofs.lemmas.SamePlaces.{same_place-true}
 use Rattle.log_tables.proofs.lemmas.Members.{Decides-is_in}
 
 -- One more at a place.
-pub load-put : (old : Place → Option ℕ) (j k : Place) (count : ℕ) (new : Option ℕ) → new ≡ cond (same_place j k) (Some count) (old k) → count ≡ cut (unwrap_or (old j) 0 + 1) → cut (unwrap_or new 0) ≡ cut (unwrap_or (old k) 0 + one (same_place j k))
+pub load-put : (old : Place → Option ℕ) (j k : Place) (count : ℕ) (new : Option ℕ) → new ≡ cond (same_place j k) (Some count) (old k)
+    → count ≡ cut (unwrap_or (old j) 0 + 1) → cut (unwrap_or new 0) ≡ cut (unwrap_or (old k) 0 + one (same_place j k))
 load-put old j k count new is more =
     elim (cases_Bool (same_place j k)) [
       | inl same ↦
@@ -33,7 +34,8 @@ load-put old j k count new is more =
 
 -- ---- Fields and points that stand once.
 
-fresh_field : (fields : List ℕ) (i n : ℕ) → IsStrictlyIncreasing fields → i < length fields → (get_or fields i 0 == n) ≡ true → is_in (take i fields) n ≡ false
+fresh_field : (fields : List ℕ) (i n : ℕ) → IsStrictlyIncreasing fields → i < length fields → (get_or fields i 0 == n) ≡ true
+    → is_in (take i fields) n ≡ false
 fresh_field fields i n up lt here =
     false_from_ne_true (is_in (take i fields) n) (λ h.
     let c = (Decides-is_in (take i fields) n).0 h in
@@ -45,18 +47,24 @@ fresh_field fields i n up lt here =
     let same : get_or fields i n ≡ get_or fields i 0 = get_or_default_zero fields i n lt in
     omega arith)
 
-split_field : (t p fs e : Bool) → (e ≡ true → fs ≡ false) → one (t && ((p || false) && fs)) + one (t && (p && e)) ≡ one (t && ((p || false) && (fs || e)))
+split_field : (t p fs e : Bool) → (e ≡ true → fs ≡ false)
+    → one (t && ((p || false) && fs)) + one (t && (p && e)) ≡ one (t && ((p || false) && (fs || e)))
 split_field false p fs e h = refl
 split_field true false fs e h = refl
 split_field true true true true h = absurd (true≢false (h refl))
 split_field true true true false h = refl
 split_field true true false e h = zero-add (one e)
 
-pub load-field : (old mid new : ℕ) (tree point : ℕ) (fields : List ℕ) (i : ℕ) (k : Place) → IsStrictlyIncreasing fields → i < length fields → cut mid ≡ cut (old + one (is_held tree (point ∷ []) (take i fields) k)) → cut new ≡ cut (mid + one (same_place (record { tree = tree; point = point; field = get_or fields i 0 }) k)) → cut new ≡ cut (old + one (is_held tree (point ∷ []) (take (i + 1) fields) k))
+pub load-field : (old mid new : ℕ) (tree point : ℕ) (fields : List ℕ) (i : ℕ) (k : Place) → IsStrictlyIncreasing fields → i < length fields
+    → cut mid ≡ cut (old + one (is_held tree (point ∷ []) (take i fields) k))
+    → cut new ≡ cut (mid + one (same_place (record { tree = tree; point = point; field = get_or fields i 0 }) k))
+    → cut new ≡ cut (old + one (is_held tree (point ∷ []) (take (i + 1) fields) k))
 load-field old mid new tree point fields i k up lt before after =
     let field = get_or fields i 0 in
-    let split = split_field (tree == k.tree) (point == k.point) (is_in (take i fields) k.field) (field == k.field) (fresh_field fields i k.field up lt) in
-    let more : one (is_held tree (point ∷ []) (take (i + 1) fields) k) ≡ one ((tree == k.tree) && (((point == k.point) || false) && (is_in (take i fields) k.field || (field == k.field)))) =
+    let split = split_field (tree == k.tree) (point == k.point) (is_in (take i fields) k.field) (field == k.field)
+    (fresh_field fields i k.field up lt) in
+    let more : one (is_held tree (point ∷ []) (take (i + 1) fields) k)
+    ≡ one ((tree == k.tree) && (((point == k.point) || false) && (is_in (take i fields) k.field || (field == k.field)))) =
     ap (λ b. one ((tree == k.tree) && (((point == k.point) || false) && b))) (list_any_more (λ m. m == k.field) fields i 0 lt)
     in
     omega (arith, before, after, split, more)
@@ -76,14 +84,18 @@ fresh_point p rest n up here =
     let f : p ≡ n = eqb-true p n here in
     omega (arith, c.2))
 
-pub load-point : (mid new goal tree p : ℕ) (rest fields : List ℕ) (k : Place) → AllPairs (λ a b. a < b) (p ∷ rest) → cut (mid + one (is_held tree (p ∷ rest) fields k)) ≡ goal → cut new ≡ cut (mid + one (is_held tree (p ∷ []) fields k)) → cut (new + one (is_held tree rest fields k)) ≡ goal
+pub load-point : (mid new goal tree p : ℕ) (rest fields : List ℕ) (k : Place) → AllPairs (λ a b. a < b) (p ∷ rest)
+    → cut (mid + one (is_held tree (p ∷ rest) fields k)) ≡ goal → cut new ≡ cut (mid + one (is_held tree (p ∷ []) fields k))
+    → cut (new + one (is_held tree rest fields k)) ≡ goal
 load-point mid new goal tree p rest fields k up before after =
     let split = split_point (tree == k.tree) (p == k.point) (is_in rest k.point) (is_in fields k.field) (fresh_point p rest k.point up) in
     omega (arith, before, after, split)
 
 -- ---- Requirements, one by one.
 
-pub load-req : (t : Tables) (k : Place) (reqs : List Req) (i : ℕ) (d : Req) (mid new : ℕ) → i < length reqs → cut mid ≡ cut (load_at t k (take i reqs)) → cut new ≡ cut (mid + one (reduces (get_or reqs i d).access && covers t k (get_or reqs i d))) → cut new ≡ cut (load_at t k (take (i + 1) reqs))
+pub load-req : (t : Tables) (k : Place) (reqs : List Req) (i : ℕ) (d : Req) (mid new : ℕ) → i < length reqs
+    → cut mid ≡ cut (load_at t k (take i reqs)) → cut new
+    ≡ cut (mid + one (reduces (get_or reqs i d).access && covers t k (get_or reqs i d))) → cut new ≡ cut (load_at t k (take (i + 1) reqs))
 load-req t k reqs i d mid new lt before after =
     let more = length-filter_more (λ (r : Req). reduces r.access && covers t k r) reqs i d lt in
     omega (arith, before, after, more)
@@ -99,7 +111,8 @@ cut-sum f g (x ∷ xs) same =
 
 sum-map-map : {A B : Type 0} (g : B → ℕ) (h : A → B) (xs : List A) → sum_by g (map h xs) ≡ sum_by (λ x. g (h x)) xs
 sum-map-map g h [] = refl
-sum-map-map g h (x ∷ xs) = sum_by-cons g (h x) (map h xs) ∙ ap (λ n. g (h x) + n) (sum-map-map g h xs) ∙ sym (sum_by-cons (λ x. g (h x)) x xs)
+sum-map-map g h (x ∷ xs) = sum_by-cons g (h x) (map h xs) ∙ ap (λ n. g (h x) + n) (sum-map-map g h xs)
+    ∙ sym (sum_by-cons (λ x. g (h x)) x xs)
 
 sum-grid : (g : ℕ × ℕ → ℕ) (points fields : List ℕ) → sum_by g (grid points fields) ≡ sum_by (λ x. sum_by (λ f. g (x, f)) fields) points
 sum-grid g [] fields = refl
@@ -110,10 +123,12 @@ sum-grid g (x ∷ xs) fields =
     let all = sum_by-cons (λ x. sum_by (λ f. g (x, f)) fields) x xs in
     omega (arith, split, head, tail, all)
 
-pub loads-told : (t : Tables) (count : Place → ℕ) (insts : List Inst) → ((k : Place) → cut (count k) ≡ cut (load_at t k t.reqs)) → cut (sum_by (inst_load count t) insts) ≡ cut (sum_by (load_of t) insts)
+pub loads-told : (t : Tables) (count : Place → ℕ) (insts : List Inst) → ((k : Place) → cut (count k) ≡ cut (load_at t k t.reqs))
+    → cut (sum_by (inst_load count t) insts) ≡ cut (sum_by (load_of t) insts)
 loads-told t count insts are =
     cut-sum (inst_load count t) (load_of t) insts (λ (i : Inst).
     let exact = λ (k : Place). load_at t k t.reqs in
     cut-sum (row_load count i.tree i.fields) (row_load exact i.tree i.fields) (points_in t i.space) (λ x.
-    cut-sum (λ f. count (record { tree = i.tree; point = x; field = f })) (λ f. exact (record { tree = i.tree; point = x; field = f })) i.fields (λ f. are (record { tree = i.tree; point = x; field = f })))
+    cut-sum (λ f. count (record { tree = i.tree; point = x; field = f }))
+    (λ f. exact (record { tree = i.tree; point = x; field = f })) i.fields (λ f. are (record { tree = i.tree; point = x; field = f })))
     ∙ ap cut (sym (sum-grid (λ p. exact (record { tree = i.tree; point = p.0; field = p.1 })) (points_in t i.space) i.fields)))

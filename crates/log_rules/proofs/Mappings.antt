@@ -6,7 +6,10 @@ use Rattle.log_tables.specs.Mapped.{names_field}
 use Rattle.log_rules.proofs.Members.{meets_turned}
 use Rattle.log_rules.proofs.ListTests.{list_any-alike, list_any-and, list_any-list_any}
 
-pub maps-by_field : (maps : List Map) (item number : ℕ) (fields : List ℕ) → list_any (λ f. list_any (λ (m : Map). names_field m.item m.number m.fields (record { item = item; number = number; field = f })) maps) fields ≡ list_any (λ (m : Map). (m.item == item) && ((m.number == number) && meets m.fields fields)) maps
+pub maps-by_field : (maps : List Map) (item number : ℕ) (fields : List ℕ)
+    → list_any (λ f. list_any (λ (m : Map). names_field m.item m.number m.fields
+    (record { item = item; number = number; field = f })) maps) fields
+    ≡ list_any (λ (m : Map). (m.item == item) && ((m.number == number) && meets m.fields fields)) maps
 maps-by_field maps item number fields =
     list_any-list_any (λ f (m : Map). (m.item == item) && ((m.number == number) && is_in m.fields f)) fields maps
     ∙ list_any-alike _ _ maps (λ (m : Map).

@@ -11,7 +11,8 @@ use Rattle.log_rules.proofs.ListTests.{list_any-alike, list_any-list_any}
 -- What sets tell of each other.
 pub is_within-told : (b : Bool) (xs ys : List ℕ) → (IsTrue b ↔ All (Contains ys) xs) → b ≡ is_within xs ys
 is_within-told b xs ys told =
-    same_from_decides b (is_within xs ys) told (Decides-by_and (is_in ys) (Contains ys) (λ zs. is_within zs ys) (Decides-is_in ys) refl (λ _ _. refl) xs)
+    same_from_decides b (is_within xs ys) told (Decides-by_and (is_in ys) (Contains ys) (λ zs. is_within zs ys) (Decides-is_in ys) refl
+    (λ _ _. refl) xs)
 
 pub meets-told : (b : Bool) (xs ys : List ℕ) → (IsTrue b ↔ Any (Contains ys) xs) → b ≡ meets xs ys
 meets-told b xs ys told =
@@ -30,4 +31,5 @@ is_empty-told (Some p) (x ∷ xs) least = refl
 pub meets_turned : (ns ms : List ℕ) → meets ns ms ≡ meets ms ns
 meets_turned ns ms =
     list_any-list_any (λ n m. m == n) ns ms
-    ∙ list_any-alike (λ m. list_any (λ n. m == n) ns) (is_in ns) ms (λ m. list_any-alike (λ n. m == n) (λ n. n == m) ns (λ n. eq_turned m n))
+    ∙ list_any-alike (λ m. list_any (λ n. m == n) ns) (is_in ns) ms
+    (λ m. list_any-alike (λ n. m == n) (λ n. n == m) ns (λ n. eq_turned m n))

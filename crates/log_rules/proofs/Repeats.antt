@@ -35,7 +35,8 @@ has_repeat-front (x ∷ xs) ys h =
     ]
 
 -- Whether one number more repeats an earlier one.
-pub has_repeat_more : (ids : List ℕ) (i : ℕ) (seen : ℕ → Bool) (added : Bool) → i < length ids → has_repeat (take i ids) ≡ false → IsSetOf (take i ids) seen → added ≡ not (seen (get_or ids i 0)) → has_repeat (take (i + 1) ids) ≡ not added
+pub has_repeat_more : (ids : List ℕ) (i : ℕ) (seen : ℕ → Bool) (added : Bool) → i < length ids → has_repeat (take i ids) ≡ false
+    → IsSetOf (take i ids) seen → added ≡ not (seen (get_or ids i 0)) → has_repeat (take (i + 1) ids) ≡ not added
 has_repeat_more ids i seen added lt once is new =
     ap has_repeat (take_more ids i 0 lt)
     ∙ has_repeat-snoc (take i ids) (get_or ids i 0)
@@ -47,11 +48,14 @@ pub has_repeat_kept : (ids : List ℕ) (i : ℕ) → has_repeat (take i ids) ≡
 has_repeat_kept ids i h = ap has_repeat (sym (take-append-drop i ids)) ∙ has_repeat-front (take i ids) (drop i ids) h
 
 -- The set with one number more.
-pub IsSetOf_more : (ids : List ℕ) (i : ℕ) (old new : ℕ → Bool) → i < length ids → IsSetOf (take i ids) old → ((n : ℕ) → new n ≡ cond (get_or ids i 0 == n) true (old n)) → IsSetOf (take (i + 1) ids) new
+pub IsSetOf_more : (ids : List ℕ) (i : ℕ) (old new : ℕ → Bool) → i < length ids → IsSetOf (take i ids) old
+    → ((n : ℕ) → new n ≡ cond (get_or ids i 0 == n) true (old n)) → IsSetOf (take (i + 1) ids) new
 IsSetOf_more ids i old new lt is puts n =
     puts n
     ∙ elim (cases_Bool (get_or ids i 0 == n)) [
-      | inl same ↦ ap (λ b. cond b true (old n)) same ∙ sym (ap (λ b. is_in (take i ids) n || b) same ∙ or_right (is_in (take i ids) n) true refl)
-      | inr other ↦ ap (λ b. cond b true (old n)) other ∙ is n ∙ sym (ap (λ b. is_in (take i ids) n || b) other ∙ or-false (is_in (take i ids) n))
+      | inl same ↦ ap (λ b. cond b true (old n)) same
+          ∙ sym (ap (λ b. is_in (take i ids) n || b) same ∙ or_right (is_in (take i ids) n) true refl)
+      | inr other ↦ ap (λ b. cond b true (old n)) other ∙ is n
+          ∙ sym (ap (λ b. is_in (take i ids) n || b) other ∙ or-false (is_in (take i ids) n))
     ]
     ∙ sym (list_any_more (λ m. m == n) ids i 0 lt)

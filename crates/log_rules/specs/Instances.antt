@@ -28,8 +28,11 @@ fits_inst t inst access = option_map_or (λ (i : Inst). fits access i.kind) (ins
 
 -- Whether a field of a requirement is mapped.
 abbrev pub is_mapped : Tables → ℕ → ℕ → ℕ → Bool
-is_mapped t item number field = list_any (λ (m : Map). names_field m.item m.number m.fields (record { item = item; number = number; field = field })) t.maps
+is_mapped t item number field = list_any
+    (λ (m : Map). names_field m.item m.number m.fields
+    (record { item = item; number = number; field = field })) t.maps
 
 -- Whether a map has one of some fields of a requirement.
 abbrev pub is_any_mapped : Tables → ℕ → ℕ → List ℕ → Bool
-is_any_mapped t item number fields = list_any (λ (m : Map). (m.item == item) && ((m.number == number) && meets m.fields fields)) t.maps
+is_any_mapped t item number fields =
+    list_any (λ (m : Map). (m.item == item) && ((m.number == number) && meets m.fields fields)) t.maps

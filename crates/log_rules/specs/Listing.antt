@@ -31,4 +31,5 @@ lists_badly log before listed ids =
 module _ {S : Type 0} where
   -- The numbers of a list as a set, or none where one of them stands there twice.
   abbrev pub TellsRepeat : List ℕ → Option (HashSet ℕ S) → Type 0
-  TellsRepeat ids found = MatchOption found (has_repeat ids ≡ true) (λ set. (has_repeat ids ≡ false) × IsSetOf ids (contains nat_eq set))
+  TellsRepeat ids found = MatchOption found (has_repeat ids ≡ true) (λ set. (has_repeat ids ≡ false)
+      × IsSetOf ids (contains nat_eq set))

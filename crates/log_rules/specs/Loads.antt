@@ -24,7 +24,8 @@ load_at t k rs = length (filter (λ (r : Req). reduces r.access && covers t k r)
 
 -- The counts of a point and some fields together.
 abbrev pub row_load : (Place → ℕ) → ℕ → List ℕ → ℕ → ℕ
-row_load count tree fields point = sum_by (λ f. count (record { tree = tree; point = point; field = f })) fields
+row_load count tree fields point = sum_by
+    (λ f. count (record { tree = tree; point = point; field = f })) fields
 
 -- The counts of some points and fields together.
 abbrev pub grid_load : (Place → ℕ) → ℕ → List ℕ → List ℕ → ℕ

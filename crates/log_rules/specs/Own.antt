@@ -11,15 +11,20 @@ use Rattle.log_rules.specs.declared.own.Asked.{Asked}
 
 -- Whether a requirement of this item, tree, points, fields and privilege is at a place and does not agree with a privilege there.
 abbrev pub claims_at : ℕ → ℕ → List ℕ → List ℕ → Priv → OwnPlace → Priv → Bool
-claims_at item tree points fields access k a = (item == k.item) && ((tree == k.tree) && (is_in points k.point && (is_in fields k.field && not (agree access a))))
+claims_at item tree points fields access k a =
+    (item == k.item) && ((tree == k.tree)
+    && (is_in points k.point && (is_in fields k.field && not (agree access a))))
 
 -- Whether a requirement is of an item, and shares a place with these points and fields of a tree, where its privilege and the other do not agree.
 abbrev pub clashes_with : Tables → ℕ → ℕ → List ℕ → List ℕ → Priv → Req → Bool
-clashes_with t item tree points fields access r = (r.item == item) && ((r.tree == tree) && (meets (points_in t r.space) points && (meets r.fields fields && not (agree r.access access))))
+clashes_with t item tree points fields access r =
+    (r.item == item) && ((r.tree == tree)
+    && (meets (points_in t r.space) points && (meets r.fields fields && not (agree r.access access))))
 
 -- Whether some requirement clashes so with one of this item, tree, space, fields and privilege.
 abbrev pub clashes_own : Tables → ℕ → ℕ → ℕ → List ℕ → Priv → Bool
-clashes_own t item tree space fields access = list_any (clashes_with t item tree (points_in t space) fields access) t.reqs
+clashes_own t item tree space fields access =
+    list_any (clashes_with t item tree (points_in t space) fields access) t.reqs
 
 -- The same of what is asked for.
 abbrev pub clashes_asked : Tables → Asked → Bool
@@ -27,7 +32,8 @@ clashes_asked t asked = clashes_own t asked.item asked.tree asked.space asked.fi
 
 -- Whether the first requirement of the item does.
 abbrev pub first_clashes : Tables → ℕ → ℕ → ℕ → List ℕ → Priv → Bool
-first_clashes t item tree space fields access = option_map_or (clashes_with t item tree (points_in t space) fields access) (req_at t item 1) false
+first_clashes t item tree space fields access =
+    option_map_or (clashes_with t item tree (points_in t space) fields access) (req_at t item 1) false
 
 -- Whether a requirement is at a place and does not agree with a privilege there.
 abbrev pub req_clashes_at : Tables → OwnPlace → Priv → Req → Bool
@@ -57,7 +63,8 @@ clashes_in c k a = clashes (get same_place c.places k) a
 
 -- The same for some field of a point.
 abbrev pub clashes_row : Claims → ℕ → ℕ → List ℕ → Priv → ℕ → Bool
-clashes_row c item tree fields access point = list_any (λ f. clashes_in c (record { item = item; tree = tree; point = point; field = f }) access) fields
+clashes_row c item tree fields access point =
+    list_any (λ f. clashes_in c (record { item = item; tree = tree; point = point; field = f }) access) fields
 
 -- At each place the first requirement of the item and what is kept there tell together whether some requirement of the item clashes.
 abbrev pub AreClaims : Tables → Claims → Type 0

@@ -10,7 +10,8 @@ body_fields Task = []
 body_fields (Fill tree space fields n) = fields
 
 -- The fields of each field space, each fill, each requirement and each instance ascend.
-pub record FieldsAscend (fs : List FieldSpace) (its : List Item) (rs : List Req) (is : List Inst) : Type 0 where
+pub record FieldsAscend (fs : List FieldSpace) (its : List Item) (rs : List Req)
+    (is : List Inst) : Type 0 where
   pub spaces : All (λ (f : FieldSpace). IsStrictlyIncreasing f.fields) fs
   pub items : All (λ (i : Item). IsStrictlyIncreasing (body_fields i.body)) its
   pub reqs : All (λ (r : Req). IsStrictlyIncreasing r.fields) rs

@@ -14,4 +14,5 @@ names_field item number fields k = (item == k.item) && ((number == k.number) && 
 
 -- The instance of the first map that has the field.
 abbrev pub inst_mapped : List Map → FieldKey → Option ℕ
-inst_mapped maps k = option_map (λ (m : Map). m.inst) (find (λ (m : Map). names_field m.item m.number m.fields k) maps)
+inst_mapped maps k = option_map (λ (m : Map). m.inst)
+    (find (λ (m : Map). names_field m.item m.number m.fields k) maps)

@@ -15,4 +15,5 @@ item_line t item = option_and_then (λ (i : Item). line_listing t.serials i.id) 
 -- The place of each item below `count` in an order, which is its length where the item does not stand there.
 pub record ArePlacesIn (order : List ℕ) (count : ℕ) (places : List ℕ) : Type 0 where
   pub each : length places ≡ count
-  pub place : (item : ℕ) → item < count → slice_index places item ≡ unwrap_or (position (λ i. i == item) order) (length order)
+  pub place : (item : ℕ) → item < count
+      → slice_index places item ≡ unwrap_or (position (λ i. i == item) order) (length order)

@@ -17,8 +17,10 @@ record DoRise (t : Tables) : Type 0 where
   fields : Each (λ (r : Req). Rise r.fields) t.reqs
 
 with_good : (t : Tables) (line : ℕ) (r : Record) → Good r → DoRise t → DoRise (with_record t line r)
-with_good t line (records.Ispace id set) good h = record { spaces = each_more _ t.spaces _ h.spaces (points_rise set good.1.0); fields = h.fields }
-with_good t line (records.Req _ _ _ _ _ _) good h = record { spaces = h.spaces; fields = each_more _ t.reqs _ h.fields (fields_rise _ good.1.1.1.0) }
+with_good t line (records.Ispace id set) good h =
+    record { spaces = each_more _ t.spaces _ h.spaces (points_rise set good.1.0); fields = h.fields }
+with_good t line (records.Req _ _ _ _ _ _) good h =
+    record { spaces = h.spaces; fields = each_more _ t.reqs _ h.fields (fields_rise _ good.1.1.1.0) }
 with_good t line _ good h = record { spaces = h.spaces; fields = h.fields }
 
 points_in_rise : (t : Tables) (id : ℕ) → DoRise t → Rise (points_in t id)
@@ -51,28 +53,46 @@ Later q r = q.item ≡ r.item → q.number < r.number
 one_rises : (t : Tables) (r : Req) → DoRise t → Rise r.fields → PairsBy First (places_of t r)
 one_rises t r h fields = pairs_map First (λ (p : ℕ × ℕ). (r.number, record { tree = r.tree; point = p.0; field = p.1 })) (req_grid t r)
     (pairs_flat _ (λ x. map (λ f. (x, f)) r.fields) (points_in t r.space)
-    (λ x _. pairs_map _ (λ f. (x, f)) r.fields (pairs_so _ _ r.fields (λ f g _ _ lt. by_field (r.number, record { tree = r.tree; point = x; field = f }) (r.number, record { tree = r.tree; point = x; field = g }) refl refl lt) fields))
+    (λ x _. pairs_map _ (λ f. (x, f)) r.fields (pairs_so _ _ r.fields
+    (λ f g _ _ lt. by_field (r.number, record { tree = r.tree; point = x; field = f }) (
+      r.number,
+      record { tree = r.tree; point = x; field = g },
+    ) refl refl lt) fields))
     (pairs_so _ _ (points_in t r.space) (λ x y _ _ lt p q m n.
     let a = member_map (λ f. (x, f)) r.fields p m in
     let b = member_map (λ f. (y, f)) r.fields q n in
-    by_point (r.number, record { tree = r.tree; point = p.0; field = p.1 }) (r.number, record { tree = r.tree; point = q.0; field = q.1 }) refl (omega (arith, lt, ap (λ (p : ℕ × ℕ). p.0) a.2, ap (λ (p : ℕ × ℕ). p.0) b.2))) (points_in_rise t r.space h)))
+    by_point (r.number, record { tree = r.tree; point = p.0; field = p.1 }) (
+      r.number,
+      record { tree = r.tree; point = q.0; field = q.1 },
+    ) refl
+    (omega (arith, lt, ap (λ (p : ℕ × ℕ). p.0) a.2, ap (λ (p : ℕ × ℕ). p.0) b.2))) (points_in_rise t r.space h)))
 
 number_of : (t : Tables) (r : Req) (e : ℕ × Place) → Member (places_of t r) e → e.0 ≡ r.number
-number_of t r e m = ap (λ (e : ℕ × Place). e.0) (member_map (λ (p : ℕ × ℕ). (r.number, record { tree = r.tree; point = p.0; field = p.1 })) (req_grid t r) e m).2
+number_of t r e m = ap (λ (e : ℕ × Place). e.0)
+    (member_map (λ (p : ℕ × ℕ). (r.number, record { tree = r.tree; point = p.0; field = p.1 })) (req_grid t r) e m).2
 
 all_rise : (t : Tables) (item : ℕ) → AreSane t → DoRise t → PairsBy First (places_read t item)
 all_rise t item sane h =
     let own : List Req = reqs_of t item in
     let reads : Req → Bool = λ (r : Req). may_read r.access in
     let up : PairsBy Later t.reqs = pairs_so _ _ t.reqs (λ q r _ _ fit same. (fit same).0) sane.reqs in
-    let kept : PairsBy Later (filter reads own) = pairs_from Later (filter reads own) (AllPairs-filter Later reads own (AllPairs-filter Later (λ (r : Req). r.item == item) t.reqs (all_pairs Later t.reqs up))) in
+    let kept : PairsBy Later (filter reads own) =
+    pairs_from Later (filter reads own) (AllPairs-filter Later reads own
+    (AllPairs-filter Later (λ (r : Req). r.item == item) t.reqs (all_pairs Later t.reqs up))) in
     pairs_flat First (places_of t) (filter reads own)
     (λ r m. one_rises t r h (h.fields r (member_filter (λ (r : Req). r.item == item) t.reqs r (member_filter reads own r m).0).0))
     (pairs_so _ _ (filter reads own) (λ q r m n up d e a b.
     let at = (member_filter (λ (r : Req). r.item == item) t.reqs q (member_filter reads own q m).0).1 in
     let there = (member_filter (λ (r : Req). r.item == item) t.reqs r (member_filter reads own r n).0).1 in
-    by_number d e (omega (arith, number_of t q d a, number_of t r e b, up (eqb-true q.item item at ∙ sym (eqb-true r.item item there))))) kept)
+    by_number d e (omega (
+      arith,
+      number_of t q d a,
+      number_of t r e b,
+      up (eqb-true q.item item at ∙ sym (eqb-true r.item item there)),
+    ))) kept)
 
-pub places_rise : (command : Command) (log : List Lined) → AllByRecursion Good (records_of log) → IsFaultless command log → (item : ℕ) → AllPairs First (places_read (tables_of log) item)
+pub places_rise : (command : Command) (log : List Lined) → AllByRecursion Good (records_of log) → IsFaultless command log → (item : ℕ)
+    → AllPairs First (places_read (tables_of log) item)
 places_rise command log good f item = all_pairs First (places_read (tables_of log) item) (all_rise (tables_of log) item (sane command log f)
-    (by_records Good DoRise (records_of log) (λ earlier l u g h. with_good (tables_of earlier) l.line l.rec g h) [] log good f.records (record { spaces = λ s m. absurd m; fields = λ r m. absurd m })))
+    (by_records Good DoRise (records_of log) (λ earlier l u g h. with_good (tables_of earlier) l.line l.rec g h) [] log good f.records
+    (record { spaces = λ s m. absurd m; fields = λ r m. absurd m })))

@@ -19,15 +19,24 @@ start_long t = record {
 
 -- The place at which a task reads for a requirement: a point and a field of the requirement's tree.
 abbrev pub read_place : Tables → ℕ → ℕ → Cell → Place
-read_place t task number c = record { tree = option_map_or (λ (r : Req). r.tree) (req_at t (place_of t.items task) number) 0; point = c.point; field = c.field }
+read_place t task number c = record {
+  tree =
+      option_map_or (λ (r : Req). r.tree) (req_at t (place_of t.items task) number) 0;
+  point = c.point;
+  field =
+      c.field;
+}
 
 -- Whether a read is one of a task for this requirement at this place.
 abbrev pub is_read_of : ℕ → ℕ × Place → LongRead → Bool
-is_read_of task p r = (r.task == task) && ((r.req == p.0) && ((r.place.tree == p.1.tree) && ((r.place.point == p.1.point) && (r.place.field == p.1.field))))
+is_read_of task p r = (r.task == task)
+    && ((r.req == p.0) && ((r.place.tree == p.1.tree)
+    && ((r.place.point == p.1.point) && (r.place.field == p.1.field))))
 
 -- The list that a task carries: its own among some reads, in the order of its requirements, their points and fields.
 abbrev pub carried : Tables → ℕ → List LongRead → Readings
-carried t task reads = readings (flat_map (λ p. filter (is_read_of task p) reads) (places_read t (place_of t.items task)))
+carried t task reads =
+    readings (flat_map (λ p. filter (is_read_of task p) reads) (places_read t (place_of t.items task)))
 
 -- The state with this long value at a cell, and with one more read.
 abbrev pub holding : LongState → Cell → Long → LongState
@@ -38,9 +47,17 @@ having_read s r = record s { reads = s.reads ++ r ∷ [] }
 
 -- The state after a move.
 abbrev pub effect_long : Tables → Move → LongState → LongState
-effect_long t (Read task req cell) s = having_read s (record { task = task; req = req; place = read_place t task req cell; value = s.cells cell })
+effect_long t (Read task req cell) s =
+    having_read s (record {
+      task = task;
+      req = req;
+      place = read_place t task req cell;
+      value =
+          s.cells cell;
+    })
 effect_long t (Write task cell) s = holding s cell (out task (carried t task s.reads))
-effect_long t (Reduce task req op cell) s = holding s cell (add_long op (record { task = task; req = req }) (carried t task s.reads) (s.cells cell))
+effect_long t (Reduce task req op cell) s =
+    holding s cell (add_long op (record { task = task; req = req }) (carried t task s.reads) (s.cells cell))
 effect_long t (Copy from to) s = holding s to (s.cells from)
 effect_long t (Put cell n) s = holding s cell (const n)
 effect_long t (Reset cell) s = holding s cell ident
@@ -64,5 +81,6 @@ pub record IsShort (t : Tables) (r : LongRead) (task req : ℕ) (cell : Cell) (v
 
 -- In every interleaving each read sees what it should, with all that was read for it.
 abbrev pub IsRightLong : Tables → Type 0
-IsRightLong t = (xs : List Step) → IsInterleaving t xs → (r : LongRead) → Contains (executed_long t xs (start_long t)).reads r
+IsRightLong t = (xs : List Step) → IsInterleaving t xs → (r : LongRead)
+    → Contains (executed_long t xs (start_long t)).reads r
     → r.value ≡ wanted_long t (place_of t.items r.task) r.place

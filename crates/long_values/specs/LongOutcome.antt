@@ -19,20 +19,24 @@ pub record IsSoundLong (t : Tables) : Type 0 where
 
 -- In every interleaving this read sees another long value than it should.
 abbrev pub DiffersLong : Tables → Seen → Type 0
-DiffersLong t r = (xs : List Step) → IsInterleaving t xs → (inst : ℕ) × (e : LongRead) × Contains (executed_long t xs (start_long t)).reads e
-    × IsShort t e r.task r.number (record { inst = inst; point = r.point; field = r.field }) r.got × (e.value ≢ wanted_long t (place_of t.items e.task) e.place)
+DiffersLong t r = (xs : List Step) → IsInterleaving t xs → (inst : ℕ) × (e : LongRead)
+    × Contains (executed_long t xs (start_long t)).reads e
+    × IsShort t e r.task r.number (record { inst = inst; point = r.point; field = r.field }) r.got
+    × (e.value ≢ wanted_long t (place_of t.items e.task) e.place)
 
 -- What `check` finds in tables.
 abbrev pub CheckFindsLong : Tables → Finding → Type 0
 CheckFindsLong t (findings.Differ task number point field got want) =
     CheckFinds t (findings.Differ task number point field got want)
     × DiffersLong t (record { task = task; number = number; point = point; field = field; got = got })
-CheckFindsLong t (findings.Accepted tasks operations reads) = IsSoundLong t × (tasks ≡ task_count t) × (operations ≡ operation_count t) × (reads ≡ read_count t)
+CheckFindsLong t (findings.Accepted tasks operations reads) =
+    IsSoundLong t × (tasks ≡ task_count t) × (operations ≡ operation_count t) × (reads ≡ read_count t)
 CheckFindsLong t f = CheckFinds t f
 
 -- What `check` finds in a log of so many lines.
 abbrev pub IsFoundLong : ℕ → List Lined → Finding → Type 0
-IsFoundLong lines log (findings.Fault line code) = log_fault Check lines log ≡ Some (record { line = line; code = code })
+IsFoundLong lines log (findings.Fault line code) =
+    log_fault Check lines log ≡ Some (record { line = line; code = code })
 IsFoundLong lines log f = (log_fault Check lines log ≡ None) × CheckFindsLong (tables_of log) f
 
 -- The input spells a log, and `check` finds this in it.

@@ -46,7 +46,8 @@ record AreRooted (n : Nesting) : Type 0 where
 
 -- ---- one group more
 
-module _ (n : Nesting) (h : AreRooted n) (id parent : ℕ) (known : list_all (is_group n) (named_groups (nested.Group id parent)) ≡ true) where
+module _ (n : Nesting) (h : AreRooted n) (id parent : ℕ)
+    (known : list_all (is_group n) (named_groups (nested.Group id parent)) ≡ true) where
   abbrev new : Group
   new = record { id = id; parent = parent }
 
@@ -69,7 +70,8 @@ module _ (n : Nesting) (h : AreRooted n) (id parent : ℕ) (known : list_all (is
 
   new_above : (g k : ℕ) → is_group n g ≡ false → group_above more g ≡ Some k → is_group n k ≡ true
   new_above g k first e =
-      let only : find (λ (x : Group). x.id == g) (n.groups ++ new ∷ []) ≡ find (λ (x : Group). x.id == g) (new ∷ []) = find-append (λ (x : Group). x.id == g) n.groups (new ∷ []) ∙ rw (find_none (λ (x : Group). x.id == g) n.groups first) refl in
+      let only : find (λ (x : Group). x.id == g) (n.groups ++ new ∷ []) ≡ find (λ (x : Group). x.id == g) (new ∷ []) =
+      find-append (λ (x : Group). x.id == g) n.groups (new ∷ []) ∙ rw (find_none (λ (x : Group). x.id == g) n.groups first) refl in
       elim (cases_Bool (id == g)) [
         | inl here ↦ new_parent k (rw (only, here) at e)
         | inr other ↦ let bad : None ≡ Some k = rw (only, other) at e in absurd cc
@@ -85,14 +87,16 @@ module _ (n : Nesting) (h : AreRooted n) (id parent : ℕ) (known : list_all (is
   still_fits zero None old f = tt
   still_fits zero (Some g) old f = absurd f
   still_fits (suc k) None old f = tt
-  still_fits (suc k) (Some g) old f = subst (Fits more k) (sym (old_above g (old g refl))) (still_fits k (group_above n g) (λ j e. h.parents g j e) f)
+  still_fits (suc k) (Some g) old f = subst (Fits more k) (sym (old_above g (old g refl)))
+      (still_fits k (group_above n g) (λ j e. h.parents g j e) f)
 
   all_fit : (g : ℕ) → Fits more (suc (length n.groups)) (Some g)
   all_fit g = elim (none_or_some (group_above more g)) [
     | inl none ↦ subst (Fits more (length n.groups)) (sym none) (none_fits more (length n.groups))
     | inr k ↦
         let old = is_old_parent g k.0 k.1 in
-        subst (Fits more (length n.groups)) (sym k.1) (still_fits (length n.groups) (Some k.0) (λ j e. subst (λ j. is_group n j ≡ true) (same_Some k.0 j e) old) (h.few k.0 old))
+        subst (Fits more (length n.groups)) (sym k.1)
+        (still_fits (length n.groups) (Some k.0) (λ j e. subst (λ j. is_group n j ≡ true) (same_Some k.0 j e) old) (h.few k.0 old))
   ]
 
   one_longer : {X : Type 0} (xs : List X) (x : X) → length (xs ++ x ∷ []) ≡ suc (length xs)
@@ -123,12 +127,15 @@ above_fits n h g = elim (none_or_some (group_above n g)) [
 ]
 
 pub all_above : (lines : ℕ) (log : List NLined) → nested_fault lines log ≡ None → (g : ℕ)
-    → ancestors (nesting_of log) g ≡ option_map_or (λ parent. parent ∷ ancestors (nesting_of log) parent) (group_above (nesting_of log) g) []
+    → ancestors (nesting_of log) g ≡ option_map_or (λ parent. parent ∷ ancestors (nesting_of log) parent)
+    (group_above (nesting_of log) g) []
 all_above lines log none g =
     let n : Nesting = nesting_of log in
-    sym (same_from n (length n.groups) (group_above n g) (above_fits n (rooted lines log none) g)) ∙ one_up n (length n.groups) (group_above n g)
+    sym (same_from n (length n.groups) (group_above n g) (above_fits n (rooted lines log none) g))
+    ∙ one_up n (length n.groups) (group_above n g)
   where
-    one_up : (n : Nesting) (k : ℕ) (o : Option ℕ) → from_group n (suc k) o ≡ option_map_or (λ parent. parent ∷ from_group n k (group_above n parent)) o []
+    one_up : (n : Nesting) (k : ℕ) (o : Option ℕ)
+        → from_group n (suc k) o ≡ option_map_or (λ parent. parent ∷ from_group n k (group_above n parent)) o []
     one_up n k None = refl
     one_up n k (Some g) = refl
 
@@ -149,4 +156,5 @@ no_round n g of (suc m) h = no_round n g of m (fits_above n (length n.groups) m 
 pub not_above_itself : (lines : ℕ) (log : List NLined) → nested_fault lines log ≡ None → (g : ℕ) → is_ancestor (nesting_of log) g g ≡ false
 not_above_itself lines log none g =
     let n : Nesting = nesting_of log in
-    false_from_ne_true (is_ancestor n g g) (λ is. no_round n g (member_in (ancestors n g) g is) (suc (length n.groups)) (above_fits n (rooted lines log none) g))
+    false_from_ne_true (is_ancestor n g g) (λ is. no_round n g (member_in (ancestors n g) g is) (suc (length n.groups))
+    (above_fits n (rooted lines log none) g))

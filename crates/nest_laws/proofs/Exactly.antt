@@ -25,11 +25,17 @@ covers_place : (t : Tables) (r : Req) (p : Place) → Member (req_places t r) p 
 covers_place t r p m =
     let at = member_map (λ (p : ℕ × ℕ). record { tree = r.tree; point = p.0; field = p.1 }) (req_grid t r) p m in
     let parts = member_grid (points_in t r.space) r.fields at.0 at.1 in
-    subst (λ p. covers t p r ≡ true) (sym at.2) (rw (eq-eqb r.tree r.tree refl, is_in_of (points_in t r.space) at.0.0 parts.0, is_in_of r.fields at.0.1 parts.1) refl)
+    subst (λ p. covers t p r ≡ true) (sym at.2) (rw (
+      eq-eqb r.tree r.tree refl,
+      is_in_of (points_in t r.space) at.0.0 parts.0,
+      is_in_of r.fields at.0.1 parts.1,
+    ) refl)
 
-pub none_shown : (t : Tables) (n : Nesting) → ((c : Child) → Member (children n) c → (r : Req) → Member (reqs_of_child t n c) r → (p : Place) → covers t p r ≡ true → licenses t n c.group p r.access ≡ true)
+pub none_shown : (t : Tables) (n : Nesting) → ((c : Child) → Member (children n) c → (r : Req) → Member (reqs_of_child t n c) r
+    → (p : Place) → covers t p r ≡ true → licenses t n c.group p r.access ≡ true)
     → shown_unlicensed t n ≡ None
-none_shown t n h = none_given (unlicensed_child t n) (children n) (λ c of. none_given _ (reqs_of_child t n c) (λ r asks. ap (option_map _) (ap least_of
+none_shown t n h = none_given (unlicensed_child t n) (children n)
+    (λ c of. none_given _ (reqs_of_child t n c) (λ r asks. ap (option_map _) (ap least_of
     (none_passes (λ p. not (licenses t n c.group p r.access)) (req_places t r) (λ p m. ap not (h c of r asks p (covers_place t r p m)))))))
 
 -- ---- pairs
@@ -61,16 +67,23 @@ interfere_back t q r e =
     let tree = and_parts (q.tree == r.tree) _ e in
     let fields = and_parts (meets q.fields r.fields) _ tree.1 in
     let points = and_parts (meets (points_in t q.space) (points_in t r.space)) _ fields.1 in
-    rw (eq-eqb r.tree q.tree (sym (eqb-true q.tree r.tree tree.0)), meets_back q.fields r.fields fields.0, meets_back (points_in t q.space) (points_in t r.space) points.0, kind_back r.access q.access r.coherence q.coherence) points.1
+    rw (
+      eq-eqb r.tree q.tree (sym (eqb-true q.tree r.tree tree.0)),
+      meets_back q.fields r.fields fields.0,
+      meets_back (points_in t q.space) (points_in t r.space) points.0,
+      kind_back r.access q.access r.coherence q.coherence,
+    ) points.1
 
-some_back : (t : Tables) (qs rs : List Req) → list_any (λ q. list_any (interfere t q) rs) qs ≡ true → list_any (λ r. list_any (interfere t r) qs) rs ≡ true
+some_back : (t : Tables) (qs rs : List Req) → list_any (λ q. list_any (interfere t q) rs) qs ≡ true
+    → list_any (λ r. list_any (interfere t r) qs) rs ≡ true
 some_back t qs rs e =
     let q = any_found (λ q. list_any (interfere t q) rs) qs e in
     let r = any_found (interfere t q.0) rs q.2 in
     any_at (λ r. list_any (interfere t r) qs) rs r.0 r.1 (any_at (interfere t r.0) qs q.0 q.1 (interfere_back t q.0 r.0 r.2))
 
 pub free_back : (t : Tables) (n : Nesting) (g h : ℕ) → are_free t n g h ≡ are_free t n h g
-free_back t n g h = ap not (same_tests _ _ (some_back t (privileges_of n g) (privileges_of n h)) (some_back t (privileges_of n h) (privileges_of n g)))
+free_back t n g h = ap not (same_tests _ _ (some_back t (privileges_of n g) (privileges_of n h))
+    (some_back t (privileges_of n h) (privileges_of n g)))
 
 or_back : (a b : Bool) → (a || b) ≡ (b || a)
 or_back true true = refl

@@ -35,14 +35,17 @@ place_of_req t r p c =
     let parts = and_parts (r.tree == p.tree) (is_in (points_in t r.space) p.point && is_in r.fields p.field) c in
     let more = and_parts (is_in (points_in t r.space) p.point) (is_in r.fields p.field) parts.1 in
     let at : Member (req_places t r) (record { tree = r.tree; point = p.point; field = p.field }) =
-    map_member (λ (p : ℕ × ℕ). record { tree = r.tree; point = p.0; field = p.1 }) (req_grid t r) (p.point, p.field) (grid_member (points_in t r.space) r.fields p.point p.field (member_in (points_in t r.space) p.point more.0) (member_in r.fields p.field more.1)) in
+    map_member (λ (p : ℕ × ℕ). record { tree = r.tree; point = p.0; field = p.1 }) (req_grid t r) (p.point, p.field)
+    (grid_member (points_in t r.space) r.fields p.point p.field (member_in (points_in t r.space) p.point more.0)
+    (member_in r.fields p.field more.1)) in
     subst (λ tree. Member (req_places t r) (record { tree = tree; point = p.point; field = p.field })) (eqb-true r.tree p.tree parts.0) at
 
 none_least : (ps : List Place) → least_of ps ≡ None → (p : Place) → Member ps p → ⊥
 none_least [] none p m = absurd m
 none_least (q ∷ ps) none p m = absurd cc
 
-licensed_place : (t : Tables) (n : Nesting) (group : ℕ) (r : Req) → unlicensed_place t n group r ≡ None → (p : Place) → covers t p r ≡ true → licenses t n group p r.access ≡ true
+licensed_place : (t : Tables) (n : Nesting) (group : ℕ) (r : Req) → unlicensed_place t n group r ≡ None → (p : Place) → covers t p r ≡ true
+    → licenses t n group p r.access ≡ true
 licensed_place t n group r none p c = elim (cases_Bool (licenses t n group p r.access)) [
   | inl so ↦ so
   | inr other ↦ absurd (none_least (filter (λ p. not (licenses t n group p r.access)) (req_places t r)) none p
@@ -52,13 +55,16 @@ licensed_place t n group r none p c = elim (cases_Bool (licenses t n group p r.a
 -- ---- children
 
 module _ (t : Tables) (n : Nesting) (none : shown_unlicensed t n ≡ None) where
-  pub child_licensed : (c : Child) → Member (children n) c → (r : Req) → Member (reqs_of_child t n c) r → (p : Place) → covers t p r ≡ true → licenses t n c.group p r.access ≡ true
+  pub child_licensed : (c : Child) → Member (children n) c → (r : Req) → Member (reqs_of_child t n c) r → (p : Place) → covers t p r ≡ true
+      → licenses t n c.group p r.access ≡ true
   child_licensed c of r asks p here =
       let given = given_none (unlicensed_child t n) (children n) none c of in
-      licensed_place t n c.group r (unmapped_none _ (unlicensed_place t n c.group r) (given_none _ (reqs_of_child t n c) given r asks)) p here
+      licensed_place t n c.group r (unmapped_none _ (unlicensed_place t n c.group r)
+      (given_none _ (reqs_of_child t n c) given r asks)) p here
 
   -- What a group licenses the group above it does.
-  parent_licenses : (h k : ℕ) → group_above n h ≡ Some k → (p : Place) (access : Priv) → licenses t n h p access ≡ true → licenses t n k p access ≡ true
+  parent_licenses : (h k : ℕ) → group_above n h ≡ Some k → (p : Place) (access : Priv) → licenses t n h p access ≡ true
+      → licenses t n k p access ≡ true
   parent_licenses h k above p access so = elim (none_or_some (find (λ (g : Group). g.id == h) n.groups)) [
     | inl no_group ↦ let bad : None ≡ Some k = rw no_group at above in absurd cc
     | inr group ↦
@@ -69,24 +75,32 @@ module _ (t : Tables) (n : Nesting) (none : shown_unlicensed t n ≡ None) where
         let own = any_found (λ (q : Req). covers t p q && contains q.access access) (privileges_of n h) so in
         let fits = and_parts (covers t p own.0) (contains own.0.access access) own.2 in
         let higher = any_found (λ (q : Req). covers t p q && contains q.access own.0.access) (privileges_of n k)
-        (child_licensed child of own.0 (subst (λ id. Member (privileges_of n id) own.0) (sym (eqb-true group.0.id h found.1)) own.1) p fits.0) in
+        (child_licensed child of own.0 (subst (λ id. Member (privileges_of n id) own.0)
+        (sym (eqb-true group.0.id h found.1)) own.1) p fits.0) in
         let wide = and_parts (covers t p higher.0) (contains higher.0.access own.0.access) higher.2 in
-        any_at (λ (q : Req). covers t p q && contains q.access access) (privileges_of n k) higher.0 higher.1 (rw (wide.0, contains_all higher.0.access own.0.access access wide.1 fits.1) refl)
+        any_at (λ (q : Req). covers t p q && contains q.access access) (privileges_of n k) higher.0 higher.1
+        (rw (wide.0, contains_all higher.0.access own.0.access access wide.1 fits.1) refl)
   ]
 
   -- So do all groups above it.
-  all_license : (p : Place) (access : Priv) (k : ℕ) (group : Option ℕ) → ((h : ℕ) → group ≡ Some h → licenses t n h p access ≡ true) → (g : ℕ) → Member (from_group n k group) g → licenses t n g p access ≡ true
+  all_license : (p : Place) (access : Priv) (k : ℕ) (group : Option ℕ) → ((h : ℕ) → group ≡ Some h → licenses t n h p access ≡ true)
+      → (g : ℕ) → Member (from_group n k group) g → licenses t n g p access ≡ true
   all_license p access zero group so g m = absurd m
   all_license p access (suc k) None so g m = absurd m
   all_license p access (suc k) (Some h) so g (inl is) = subst (λ g. licenses t n g p access ≡ true) (sym is) (so h refl)
-  all_license p access (suc k) (Some h) so g (inr m) = all_license p access k (group_above n h) (λ i above. parent_licenses h i above p access (so h refl)) g m
+  all_license p access (suc k) (Some h) so g (inr m) =
+      all_license p access k (group_above n h) (λ i above. parent_licenses h i above p access (so h refl)) g m
 
-  pub member_licensed : (m : GroupMember) → Member n.members m → (g : ℕ) → is_below n g m ≡ true → (r : Req) → Member (reqs_of t (place_of t.items m.task)) r → (p : Place) → covers t p r ≡ true
+  pub member_licensed : (m : GroupMember) → Member n.members m → (g : ℕ) → is_below n g m ≡ true → (r : Req)
+      → Member (reqs_of t (place_of t.items m.task)) r → (p : Place) → covers t p r ≡ true
       → licenses t n g p r.access ≡ true
   member_licensed m of g below r asks p here =
       let child : Child = record { leaf = true; id = m.task; group = m.group } in
-      let own : licenses t n m.group p r.access ≡ true = child_licensed child (member_right _ _ child (map_member (λ (m : GroupMember). record { leaf = true; id = m.task; group = m.group }) n.members m of)) r asks p here in
+      let own : licenses t n m.group p r.access ≡ true =
+      child_licensed child (member_right _ _ child
+      (map_member (λ (m : GroupMember). record { leaf = true; id = m.task; group = m.group }) n.members m of)) r asks p here in
       elim (or_cases (m.group == g) (is_in (ancestors n m.group) g) below) [
         | inl is ↦ subst (λ g. licenses t n g p r.access ≡ true) (eqb-true m.group g is) own
-        | inr above ↦ all_license p r.access (length n.groups) (group_above n m.group) (λ h is. parent_licenses m.group h is p r.access own) g (member_in (ancestors n m.group) g above)
+        | inr above ↦ all_license p r.access (length n.groups) (group_above n m.group)
+            (λ h is. parent_licenses m.group h is p r.access own) g (member_in (ancestors n m.group) g above)
       ]

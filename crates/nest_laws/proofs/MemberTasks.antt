@@ -38,9 +38,12 @@ task_found t id group e =
     let parts = and_parts (found.0.id == id) (is_task found.0.body) found.2 in
     (found.0, found.1, eqb-true found.0.id id parts.0, task_body found.0.body parts.1)
 
-one_more : (t : Tables) (n : Nesting) (line : ℕ) (r : NRecord) → KeepsGroups t n r → AreOfTasks t n → AreOfTasks (with_plain t (record { line = line; rec = r })) (with_nested n r)
+one_more : (t : Tables) (n : Nesting) (line : ℕ) (r : NRecord) → KeepsGroups t n r → AreOfTasks t n
+    → AreOfTasks (with_plain t (record { line = line; rec = r })) (with_nested n r)
 one_more t n line (nested.Plain r) kept h m of = let i = h m of in (i.0, item_stays i.0 t line r i.1, i.2, i.3)
-one_more t n line (nested.Member task group) kept h m of = each_more (IsOfTask t) n.members (record { task = task; group = group }) h (task_found t task group (all_at (is_declared t) (task_id task ∷ []) (task_id task) kept.things (inl refl))) m of
+one_more t n line (nested.Member task group) kept h m of =
+    each_more (IsOfTask t) n.members (record { task = task; group = group }) h
+    (task_found t task group (all_at (is_declared t) (task_id task ∷ []) (task_id task) kept.things (inl refl))) m of
 one_more t n line (nested.Group id parent) kept h m of = h m of
 one_more t n line (nested.Greq group tree space fields access) kept h m of = h m of
 
@@ -49,12 +52,14 @@ uses_are t k i at body = rw (at, body) refl
 
 -- What the item of a member asks for.
 pub task_uses : (lines : ℕ) (log : List NLined) → nested_fault lines log ≡ None → (m : GroupMember) → Member (nesting_of log).members m
-    → uses_of (nested_tables log) (place_of (nested_tables log).items m.task) ≡ reqs_of (nested_tables log) (place_of (nested_tables log).items m.task)
+    → uses_of (nested_tables log) (place_of (nested_tables log).items m.task)
+    ≡ reqs_of (nested_tables log) (place_of (nested_tables log).items m.task)
 task_uses lines log none m of =
     let t : Tables = nested_tables log in
     let i = holds_of_log AreOfTasks (λ t n l. one_more t n l.line l.rec) (λ m of. absurd of) lines log none m of in
     let k = contains_of t.items i.0 i.1 in
     let at : slice_get t.items k.0 ≡ Some i.0 = slice_get-get_or t.items k.0 i.0 k.1 ∙ ap (λ i. Some i) k.2 in
-    let back : place_of t.items i.0.id ≡ k.0 = subst (λ id. place_of t.items id ≡ k.0) (rw at refl) (items_placed (plain_log log) (no_broken_rule lines (plain_log log) (plain_faultless lines log none)) k.0 k.1) in
+    let back : place_of t.items i.0.id ≡ k.0 = subst (λ id. place_of t.items id ≡ k.0) (rw at refl)
+    (items_placed (plain_log log) (no_broken_rule lines (plain_log log) (plain_faultless lines log none)) k.0 k.1) in
     let place : place_of t.items m.task ≡ k.0 = subst (λ id. place_of t.items id ≡ k.0) i.2 back in
     rw place (uses_are t k.0 i.0 at i.3)

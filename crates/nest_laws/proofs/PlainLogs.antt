@@ -25,7 +25,8 @@ no_group_fault whole earlier (l ∷ log) = no_group_fault whole (earlier ++ reco
 
 pub same_fault : (lines : ℕ) (log : List Lined) → nested_fault lines (as_nested log) ≡ declaration_fault lines log
 unfolding nested_fault
-same_fault lines log = ap₂ option_or (ap (declaration_fault lines) (same_log log)) (no_group_fault (nested_tables (as_nested log)) [] log) ∙ or_none (declaration_fault lines log)
+same_fault lines log = ap₂ option_or (ap (declaration_fault lines) (same_log log)) (no_group_fault (nested_tables (as_nested log)) [] log)
+    ∙ or_none (declaration_fault lines log)
   where
     or_none : (o : Option Fault) → option_or o None ≡ o
     or_none None = refl

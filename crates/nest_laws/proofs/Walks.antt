@@ -27,14 +27,18 @@ pub record KeepsGroups (t : Tables) (n : Nesting) (r : NRecord) : Type 0 where
   pub groups : list_all (is_group n) (named_groups r) ≡ true
   pub things : list_all (is_declared t) (named_things r) ≡ true
 
-rule_kept : (whole : Tables) (earlier : List NLined) (l : NLined) (rest : List NLined) → groups_fault whole earlier (l ∷ rest) ≡ None → (code : Code) → Member nested_rules code
+rule_kept : (whole : Tables) (earlier : List NLined) (l : NLined) (rest : List NLined) → groups_fault whole earlier (l ∷ rest) ≡ None
+    → (code : Code) → Member nested_rules code
     → breaks_nested (nested_in whole earlier l.rec) code ≡ false
 rule_kept whole earlier l rest e code m =
-    none_found (breaks_nested (nested_in whole earlier l.rec)) nested_rules code (unmapped_none _ _ (both_none _ (groups_fault whole (earlier ++ l ∷ []) rest) e).0) m
+    none_found (breaks_nested (nested_in whole earlier l.rec)) nested_rules code
+    (unmapped_none _ _ (both_none _ (groups_fault whole (earlier ++ l ∷ []) rest) e).0) m
 
-keeps : (whole : Tables) (earlier : List NLined) (l : NLined) (rest : List NLined) → groups_fault whole earlier (l ∷ rest) ≡ None → KeepsGroups (nested_tables earlier) (nesting_of earlier) l.rec
+keeps : (whole : Tables) (earlier : List NLined) (l : NLined) (rest : List NLined) → groups_fault whole earlier (l ∷ rest) ≡ None
+    → KeepsGroups (nested_tables earlier) (nesting_of earlier) l.rec
 keeps whole earlier l rest e =
-    let known = and_parts (list_all (is_group (nesting_of earlier)) (named_groups l.rec)) (list_all (is_declared (nested_tables earlier)) (named_things l.rec))
+    let known = and_parts (list_all (is_group (nesting_of earlier)) (named_groups l.rec))
+    (list_all (is_declared (nested_tables earlier)) (named_things l.rec))
     (not-false _ (rule_kept whole earlier l rest e codes.UnknownId (inr (inr (inl refl))))) in
     record { new = rule_kept whole earlier l rest e codes.RepeatedId (inr (inl refl)); groups = known.0; things = known.1 }
 
@@ -43,26 +47,35 @@ nested_more earlier l = fold-append (λ n (l : NLined). with_nested n l.rec) no_
 
 pub tables_more : (earlier : List NLined) (l : NLined) → nested_tables (earlier ++ l ∷ []) ≡ with_plain (nested_tables earlier) l
 tables_more earlier l =
-    ap tables_of (filter_map-append plain_line earlier (l ∷ [])) ∙ fold-append (λ t (l : Lined). with_record t l.line l.rec) no_tables (plain_log earlier) (plain_log (l ∷ [])) ∙ one (nested_tables earlier) l.line l.rec
+    ap tables_of (filter_map-append plain_line earlier (l ∷ []))
+    ∙ fold-append (λ t (l : Lined). with_record t l.line l.rec) no_tables (plain_log earlier) (plain_log (l ∷ []))
+    ∙ one (nested_tables earlier) l.line l.rec
   where
-    one : (t : Tables) (line : ℕ) (r : NRecord) → fold (λ t (l : Lined). with_record t l.line l.rec) t (plain_log (record { line = line; rec = r } ∷ [])) ≡ with_plain t (record { line = line; rec = r })
+    one : (t : Tables) (line : ℕ) (r : NRecord) → fold (λ t (l : Lined). with_record t l.line l.rec) t
+        (plain_log (record { line = line; rec = r } ∷ [])) ≡ with_plain t (record { line = line; rec = r })
     one t line (records.Plain r) = refl
     one t line _ = refl
 
 -- What holds of nothing, and stays with each record that keeps the rules on groups, holds of the whole log.
-walked : (P : Tables → Nesting → Type 0) → ((t : Tables) (n : Nesting) (l : NLined) → KeepsGroups t n l.rec → P t n → P (with_plain t l) (with_nested n l.rec))
-    → (whole : Tables) (earlier rest : List NLined) → groups_fault whole earlier rest ≡ None → P (nested_tables earlier) (nesting_of earlier) → P (nested_tables (earlier ++ rest)) (nesting_of (earlier ++ rest))
+walked : (P : Tables → Nesting → Type 0) → ((t : Tables) (n : Nesting) (l : NLined) → KeepsGroups t n l.rec → P t n
+    → P (with_plain t l) (with_nested n l.rec))
+    → (whole : Tables) (earlier rest : List NLined) → groups_fault whole earlier rest ≡ None
+    → P (nested_tables earlier) (nesting_of earlier) → P (nested_tables (earlier ++ rest)) (nesting_of (earlier ++ rest))
 walked P step whole earlier [] e h = subst (λ ls. P (nested_tables ls) (nesting_of ls)) (sym (append-nil earlier)) h
 walked P step whole earlier (l ∷ rest) e h =
-    let here : P (with_plain (nested_tables earlier) l) (with_nested (nesting_of earlier) l.rec) = step (nested_tables earlier) (nesting_of earlier) l (keeps whole earlier l rest e) h in
-    let next : P (nested_tables (earlier ++ l ∷ [])) (nesting_of (earlier ++ l ∷ [])) = rw (tables_more earlier l, nested_more earlier l) here in
+    let here : P (with_plain (nested_tables earlier) l) (with_nested (nesting_of earlier) l.rec) =
+    step (nested_tables earlier) (nesting_of earlier) l (keeps whole earlier l rest e) h in
+    let next : P (nested_tables (earlier ++ l ∷ [])) (nesting_of (earlier ++ l ∷ [])) =
+    rw (tables_more earlier l, nested_more earlier l) here in
     subst (λ ls. P (nested_tables ls) (nesting_of ls)) (append_assoc earlier (l ∷ []) rest)
     (walked P step whole (earlier ++ l ∷ []) rest (both_none _ (groups_fault whole (earlier ++ l ∷ []) rest) e).1 next)
 
-pub holds_of_log : (P : Tables → Nesting → Type 0) → ((t : Tables) (n : Nesting) (l : NLined) → KeepsGroups t n l.rec → P t n → P (with_plain t l) (with_nested n l.rec))
+pub holds_of_log : (P : Tables → Nesting → Type 0)
+    → ((t : Tables) (n : Nesting) (l : NLined) → KeepsGroups t n l.rec → P t n → P (with_plain t l) (with_nested n l.rec))
     → P no_tables no_nesting → (lines : ℕ) (log : List NLined) → nested_fault lines log ≡ None → P (nested_tables log) (nesting_of log)
 unfolding nested_fault
-holds_of_log P step start lines log e = walked P step (nested_tables log) [] log (both_none (declaration_fault lines (plain_log log)) _ e).1 start
+holds_of_log P step start lines log e = walked P step (nested_tables log) [] log
+    (both_none (declaration_fault lines (plain_log log)) _ e).1 start
 
 -- The plain records are a log of which no fault is shown.
 pub plain_faultless : (lines : ℕ) (log : List NLined) → nested_fault lines log ≡ None → declaration_fault lines (plain_log log) ≡ None

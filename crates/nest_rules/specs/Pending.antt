@@ -73,7 +73,8 @@ pending_from t (l ∷ ls) = pending_with (knows t l.rec) l ++ pending_from (with
 
 -- What is nested is within the limits: on groups, and on all records that are not plain.
 abbrev pub AreFew : Nesting → Type 0
-AreFew n = (length n.groups ≤ MOST_GROUPS) × (length n.groups + length n.privileges + length n.members ≤ MOST_RECORDS)
+AreFew n = (length n.groups ≤ MOST_GROUPS)
+    × (length n.groups + length n.privileges + length n.members ≤ MOST_RECORDS)
 
 -- The first rule on groups that a record breaks.
 abbrev pub broken : Tables → Nesting → Pending → Option Code
@@ -92,4 +93,5 @@ with_pending n p = with_nested n p.rec
 -- The fault of the first of some records that breaks a rule on groups.
 abbrev pub pending_fault : Tables → Nesting → List Pending → Option Fault
 pending_fault whole n [] = None
-pending_fault whole n (p ∷ ps) = option_or (option_map (λ code. at_line code p.line) (broken whole n p)) (pending_fault whole (with_pending n p) ps)
+pending_fault whole n (p ∷ ps) = option_or (option_map (λ code. at_line code p.line) (broken whole n p))
+    (pending_fault whole (with_pending n p) ps)

@@ -50,7 +50,8 @@ pub record IsOrigin (t : Tables) (ps : List Pending) : Type 0 where
 -- Why such a nested log is refused. (That memory ran out says nothing of it.)
 abbrev pub IsEnd : Tables → List Pending → NestEnd → Type 0
 IsEnd t ps (ends.Fault line code) = pending_fault t no_nesting ps ≡ Some (at_line code line)
-IsEnd t ps (ends.Unlicensed u) = (pending_fault t no_nesting ps ≡ None) × (shown_unlicensed t (all_nested ps) ≡ Some u)
+IsEnd t ps (ends.Unlicensed u) = (pending_fault t no_nesting ps ≡ None)
+    × (shown_unlicensed t (all_nested ps) ≡ Some u)
 IsEnd t ps ends.Memory = Unit {0}
 
 -- These are the groups of such a nested log.
@@ -67,7 +68,8 @@ IsRefusal t n (ends.Unlicensed u) = shown_unlicensed t n ≡ Some u
 IsRefusal t n ends.Memory = Unit {0}
 
 -- These are the groups of such a nested log and their privileges, and no child asks for more than its group licenses.
-pub record AreFound (t : Tables) (ps : List Pending) (n : Nesting) (claims : List (List Claimed)) : Type 0 where
+pub record AreFound (t : Tables) (ps : List Pending) (n : Nesting)
+    (claims : List (List Claimed)) : Type 0 where
   pub groups : AreGroups t ps n
   pub rows : claims ≡ rows_in t n
   pub licensed : shown_unlicensed t n ≡ None
@@ -81,12 +83,14 @@ IsPlainEnd lines log ends.Memory = Unit {0}
 -- Why a nested log is refused.
 abbrev pub IsNestEnd : ℕ → List NLined → NestEnd → Type 0
 IsNestEnd lines log (ends.Fault line code) = nested_fault lines log ≡ Some (at_line code line)
-IsNestEnd lines log (ends.Unlicensed u) = (nested_fault lines log ≡ None) × (shown_unlicensed (nested_tables log) (nesting_of log) ≡ Some u)
+IsNestEnd lines log (ends.Unlicensed u) =
+    (nested_fault lines log ≡ None) × (shown_unlicensed (nested_tables log) (nesting_of log) ≡ Some u)
 IsNestEnd lines log ends.Memory = Unit {0}
 
 -- Each group that a task is below licenses what the task asks for, at every place of its requirements.
 abbrev pub TasksAreLicensed : Tables → Nesting → Type 0
-TasksAreLicensed t n = (g item : ℕ) → IsTaskBelow t n g item → (r : Req) → Contains (reqs_of t item) r → (p : Place) → covers t p r ≡ true → licenses t n g p r.access ≡ true
+TasksAreLicensed t n = (g item : ℕ) → IsTaskBelow t n g item → (r : Req) → Contains (reqs_of t item) r
+    → (p : Place) → covers t p r ≡ true → licenses t n g p r.access ≡ true
 
 -- No task below the one group interferes with a task below the other.
 abbrev pub TasksAreApart : Tables → Nesting → ℕ → ℕ → Type 0
@@ -98,7 +102,8 @@ FindsLicensed t n f = f ≡ findings.Nested (length n.members) (length n.groups)
 
 -- What is found where a child asks for more than its group licenses.
 abbrev pub FindsUnlicensed : Unlicensed → Finding → Type 0
-FindsUnlicensed u f = f ≡ findings.Unlicensed u.child.leaf u.child.id u.req u.child.group u.place.tree u.place.point u.place.field
+FindsUnlicensed u f =
+    f ≡ findings.Unlicensed u.child.leaf u.child.id u.req u.child.group u.place.tree u.place.point u.place.field
 
 -- What these tables and records are seen as.
 abbrev pub nested_with : Tables → List Pending → Nested

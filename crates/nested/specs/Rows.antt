@@ -16,11 +16,13 @@ claim_of t r = claimed r.number r.tree r.space (points_in t r.space) r.fields r.
 
 -- The privileges of a group, in the order of their numbers.
 abbrev pub row_in : Tables → Nesting → ℕ → List Claimed
-row_in t n group = map (λ (q : GroupReq). claim_of t (as_req q)) (filter (λ (q : GroupReq). q.group == group) n.privileges)
+row_in t n group = map (λ (q : GroupReq). claim_of t (as_req q))
+    (filter (λ (q : GroupReq). q.group == group) n.privileges)
 
 -- Those of some privileges that are a group's.
 abbrev pub row_among : Tables → List GroupReq → groups.Group → List Claimed
-row_among t qs g = map (λ (q : GroupReq). claim_of t (as_req q)) (filter (λ (q : GroupReq). q.group == g.id) qs)
+row_among t qs g = map (λ (q : GroupReq). claim_of t (as_req q))
+    (filter (λ (q : GroupReq). q.group == g.id) qs)
 
 -- The privileges of each group.
 abbrev pub rows_in : Tables → Nesting → List (List Claimed)
@@ -36,7 +38,8 @@ own_rows_by t rs = map (own_by t rs) (range_with_len 0 (length t.items + 1))
 
 -- The rows with one claim more of an item, if there is such a row.
 abbrev pub with_own : List (List Claimed) → ℕ → Claimed → List (List Claimed)
-with_own rows item c = if nat_lt item (length rows) then slice_set rows item (slice_index_or rows item [] ++ c ∷ []) else rows
+with_own rows item c = if nat_lt item (length rows)
+    then slice_set rows item (slice_index_or rows item [] ++ c ∷ []) else rows
 
 -- Each privilege is one of a group that there is.
 abbrev pub AreNamed : Nesting → Type 0
@@ -48,7 +51,8 @@ shown_as child o = option_map (λ (p : ℕ × Place). record { child = child; re
 
 -- What is shown of a group as a child, if it is one.
 abbrev pub shown_group : Tables → Nesting → groups.Group → Option Unlicensed
-shown_group t n g = if g.parent == 0 then None else unlicensed_child t n (record { leaf = false; id = g.id; group = g.parent })
+shown_group t n g = if g.parent == 0 then None
+    else unlicensed_child t n (record { leaf = false; id = g.id; group = g.parent })
 
 -- What is shown of a member.
 abbrev pub shown_member : Tables → Nesting → GroupMember → Option Unlicensed

@@ -30,7 +30,8 @@ pub less_told : (a b : ℕ) → Told (a < b)
 less_told a b = elim (test_told (nat_lt a b)) [ inl is ↦ inl (ltb-true a b is) | inr other ↦ inr (λ lt. other (lt-ltb a b lt)) ]
 
 -- Some element of a list passes, or none does.
-pub some_or_none : {X : Type 0} (P : X → Type 0) (xs : List X) → ((x : X) → Member xs x → Told (P x)) → ((x : X) × Member xs x × P x) ⊎ ((x : X) → Member xs x → P x → ⊥)
+pub some_or_none : {X : Type 0} (P : X → Type 0) (xs : List X) → ((x : X) → Member xs x → Told (P x)) → ((x : X) × Member xs x × P x)
+    ⊎ ((x : X) → Member xs x → P x → ⊥)
 some_or_none P [] tell = inr (λ x m holds. absurd m)
 some_or_none P (x ∷ xs) tell = elim (tell x (inl refl)) [
   | inl holds ↦ inl (x, inl refl, holds)
@@ -41,7 +42,8 @@ some_or_none P (x ∷ xs) tell = elim (tell x (inl refl)) [
 ]
 
 -- Of those that pass there is a least, or none passes.
-module _ {X : Type 0} (less : X → X → Bool) (never : (x : X) → less x x ≡ false) (along : (x y z : X) → less x y ≡ true → less y z ≡ true → less x z ≡ true) (P : X → Type 0) (tell : (x : X) → Told (P x)) where
+module _ {X : Type 0} (less : X → X → Bool) (never : (x : X) → less x x ≡ false) (along : (x y z : X) → less x y ≡ true → less y z ≡ true
+    → less x z ≡ true) (P : X → Type 0) (tell : (x : X) → Told (P x)) where
   -- A least one of a list that passes.
   pub record IsLeast (xs : List X) (x : X) : Type 0 where
     pub listed : Member xs x
@@ -59,7 +61,11 @@ module _ {X : Type 0} (less : X → X → Bool) (never : (x : X) → less x x �
   later_is_least x xs l is_least first = record {
     listed = inr is_least.listed;
     passes = is_least.passes;
-    least = λ y m passes. elim m [ inl is ↦ subst (λ z. less z l ≡ false) (sym is) (first (subst P is passes)) | inr after ↦ is_least.least y after passes ];
+    least = λ y m passes. elim m [
+      | inl is ↦ subst (λ z. less z l ≡ false) (sym is) (first (subst P is passes))
+      | inr after ↦
+          is_least.least y after passes
+    ];
   }
 
   pub least_or_none : (xs : List X) → ((x : X) × IsLeast xs x) ⊎ ((x : X) → Member xs x → P x → ⊥)
@@ -72,7 +78,11 @@ module _ {X : Type 0} (less : X → X → Bool) (never : (x : X) → less x x �
     | inl holds ↦ elim (least_or_none xs) [
       | inr none ↦ inl (x, first_is_least x xs holds (λ y m passes. absurd (none y m passes)))
       | inl l ↦ elim (cases_Bool (less x l.0)) [
-        | inl is ↦ inl (x, first_is_least x xs holds (λ y m passes. false_from_ne_true (less y x) (λ e. true≢false (sym (along y x l.0 e is) ∙ l.1.least y m passes))))
+        | inl is ↦ inl (
+          x,
+          first_is_least x xs holds
+              (λ y m passes. false_from_ne_true (less y x) (λ e. true≢false (sym (along y x l.0 e is) ∙ l.1.least y m passes))),
+        )
         | inr other ↦ inl (l.0, later_is_least x xs l.0 l.1 (λ _. other))
       ]
     ]
@@ -86,7 +96,14 @@ waits_told nodes later earlier = elim (none_or_some (slice_get nodes earlier)) [
   | inr on ↦ elim (none_or_some (slice_get nodes later)) [
     | inl none ↦ inr (λ w. none-some w.by (sym none ∙ w.by_is))
     | inr by ↦ elim (cases_Bool (is_in by.0.waits on.0.done)) [
-      | inl lists ↦ inl (record { on = on.0; by = by.0; on_is = on.1; by_is = by.1; listed = contains_of by.0.waits on.0.done (member_in by.0.waits on.0.done lists) })
+      | inl lists ↦ inl (record {
+        on = on.0;
+        by = by.0;
+        on_is = on.1;
+        by_is = by.1;
+        listed =
+            contains_of by.0.waits on.0.done (member_in by.0.waits on.0.done lists);
+      })
       | inr other ↦ inr (λ w.
           let on_same : w.on ≡ on.0 = same_Some _ _ (sym w.on_is ∙ on.1) in
           let by_same : w.by ≡ by.0 = same_Some _ _ (sym w.by_is ∙ by.1) in
@@ -102,8 +119,15 @@ module _ (nodes : List Node) where
   pub last_wait : (a b : ℕ) (between : List ℕ) → IsChain nodes a between b → (j : ℕ) × WaitsOn nodes b j × ((a ≡ j) ⊎ Before nodes a j)
   last_wait a b [] waits = (a, waits, inl refl)
   last_wait a b (next ∷ between) chain =
-      let rest = last_wait next b between chain.1 in
-      (rest.0, rest.1, inr (elim rest.2 [ inl is ↦ ([], subst (λ j. WaitsOn nodes j a) is chain.0) | inr before ↦ (next ∷ before.0, (chain.0, before.1)) ]))
+      let rest = last_wait next b between chain.1 in (
+        rest.0,
+        rest.1,
+        inr (elim rest.2 [
+          | inl is ↦ ([], subst (λ j. WaitsOn nodes j a) is chain.0)
+          | inr before ↦
+              (next ∷ before.0, (chain.0, before.1))
+        ]),
+      )
 
   longer : (a j b : ℕ) (between : List ℕ) → IsChain nodes a between j → WaitsOn nodes b j → IsChain nodes a (between ++ j ∷ []) b
   longer a j b [] first last = (first, last)
@@ -116,7 +140,8 @@ module _ (nodes : List Node) where
   module _ (order : List ℕ)
       (behind : (front : List ℕ) (k : ℕ) (back : List ℕ) → order ≡ front ++ k ∷ back → (j : ℕ) → WaitsOn nodes k j → Contains front j)
       (whole : (k : ℕ) → k < length nodes → Contains order k) (a : ℕ) where
-    next_told : (front : List ℕ) (k : ℕ) (back : List ℕ) → order ≡ front ++ k ∷ back → ((j : ℕ) → Member front j → Told (Before nodes a j)) → Told (Before nodes a k)
+    next_told : (front : List ℕ) (k : ℕ) (back : List ℕ) → order ≡ front ++ k ∷ back → ((j : ℕ) → Member front j → Told (Before nodes a j))
+        → Told (Before nodes a k)
     next_told front k back is so_far =
         let By : ℕ → Type 0 = λ j. WaitsOn nodes k j × ((a ≡ j) ⊎ Before nodes a j) in
         elim (some_or_none By front (λ j m. both_told _ _ (waits_told nodes k j) (either_told _ _ (cases_eq a j) (so_far j m)))) [
@@ -126,14 +151,19 @@ module _ (nodes : List Node) where
               none last.0 (member_of front last.0 (behind front k back is last.0 last.1)) (last.1, last.2))
         ]
 
-    told_along : (front rest : List ℕ) → order ≡ front ++ rest → ((j : ℕ) → Member front j → Told (Before nodes a j)) → (k : ℕ) → Member rest k → Told (Before nodes a k)
+    told_along : (front rest : List ℕ) → order ≡ front ++ rest → ((j : ℕ) → Member front j → Told (Before nodes a j)) → (k : ℕ)
+        → Member rest k → Told (Before nodes a k)
     told_along front [] is so_far k m = absurd m
     told_along front (n ∷ rest) is so_far k m =
         let here = next_told front n rest is so_far in
         elim m [
           | inl same ↦ subst (λ j. Told (Before nodes a j)) (sym same) here
           | inr later ↦ told_along (front ++ n ∷ []) rest (is ∙ sym (append_assoc front (n ∷ []) rest))
-              (λ j at. elim (member_append front (n ∷ []) j at) [ inl before ↦ so_far j before | inr last ↦ subst (λ j. Told (Before nodes a j)) (sym (only last)) here ]) k later
+              (λ j at. elim (member_append front (n ∷ []) j at) [
+                | inl before ↦ so_far j before
+                | inr last ↦
+                    subst (λ j. Told (Before nodes a j)) (sym (only last)) here
+              ]) k later
         ]
 
     -- Whether a node is before another.

@@ -44,7 +44,15 @@ all_or_first P tell (x ∷ xs) = elim (tell x) [
   | inr fails ↦ inr (record { front = []; at = x; back = xs; parts = refl; passed = tt; fails = fails })
   | inl holds ↦ elim (all_or_first P tell xs) [
     | inl all ↦ inl (holds, all)
-    | inr f ↦ inr (record { front = x ∷ f.front; at = f.at; back = f.back; parts = ap (λ ys. x ∷ ys) f.parts; passed = (holds, f.passed); fails = f.fails })
+    | inr f ↦ inr (record {
+      front = x ∷ f.front;
+      at = f.at;
+      back = f.back;
+      parts = ap (λ ys. x ∷ ys) f.parts;
+      passed =
+          (holds, f.passed);
+      fails = f.fails;
+    })
   ]
 ]
 
@@ -55,7 +63,8 @@ stronger_free Free l p q = q
 stronger_free Turn l p q = absurd (true≢false (sym p))
 stronger_free FixedOrder l p q = absurd (true≢false (sym p))
 
-free_everywhere : (t : Tables) (a b : ℕ) (ps : List Place) → least_of (filter (λ p. not (is_free (kind_at t a b p))) ps) ≡ None → is_free (strongest (map (kind_at t a b) ps)) ≡ true
+free_everywhere : (t : Tables) (a b : ℕ) (ps : List Place) → least_of (filter (λ p. not (is_free (kind_at t a b p))) ps) ≡ None
+    → is_free (strongest (map (kind_at t a b) ps)) ≡ true
 free_everywhere t a b [] none = refl
 free_everywhere t a b (p ∷ ps) none = elim (cases_Bool (is_free (kind_at t a b p))) [
   | inl free ↦ stronger_free (kind_at t a b p) _ free (free_everywhere t a b ps (rw free at none))
@@ -80,7 +89,8 @@ pair_has_place t p m =
 -- What the laws say of the tables of a log without a fault.
 pub record AreJudged (t : Tables) : Type 0 where
   pub linked : AreLinked (graph_of t.nodes)
-  pub behind : (front : List ℕ) (k : ℕ) (back : List ℕ) → replay_order (graph_of t.nodes) ≡ front ++ k ∷ back → (j : ℕ) → WaitsOn (graph_of t.nodes) k j → Contains front j
+  pub behind : (front : List ℕ) (k : ℕ) (back : List ℕ) → replay_order (graph_of t.nodes) ≡ front ++ k ∷ back → (j : ℕ)
+      → WaitsOn (graph_of t.nodes) k j → Contains front j
   pub replayed : HasNoCycle t → (k : ℕ) → k < length t.nodes → Contains (replay_order (graph_of t.nodes)) k
   pub on_cycle : (c : List ℕ) → IsCycle (graph_of t.nodes) c → (k : ℕ) → Contains c k → is_stuck (graph_of t.nodes) k ≡ true
   pub shown : (c : List ℕ) → shown_cycle (graph_of t.nodes) ≡ Some c → IsCycle (graph_of t.nodes) c
@@ -105,7 +115,8 @@ module _ (t : Tables) (laws : AreJudged t) where
 
   module _ (acyclic : HasNoCycle t) where
     told : (a b : ℕ) → Told (Before nodes a b)
-    told a b = before_told nodes (replay_order nodes) laws.behind (λ k lt. laws.replayed acyclic k (subst (λ n. k < n) (graph_length t.nodes) lt)) a b
+    told a b = before_told nodes (replay_order nodes) laws.behind
+        (λ k lt. laws.replayed acyclic k (subst (λ n. k < n) (graph_length t.nodes) lt)) a b
 
     kept_or_not : (p : ℕ × ℕ) → Told (IsKept t p)
     kept_or_not p = told (run_of t (by_serial t p).0) (run_of t (by_serial t p).1)
@@ -114,18 +125,32 @@ module _ (t : Tables) (laws : AreJudged t) where
     ordered_without_cycle = elim (all_or_first (IsKept t) kept_or_not (task_pairs t)) [
       | inl kept ↦ (Ordered (task_count t) (length (task_pairs t)), (acyclic, kept, refl, refl))
       | inr f ↦
-          let listed = member_filter (λ (p : ℕ × ℕ). is_task_at t p.0 && is_task_at t p.1) (pairs t) f.at (subst (λ ps. Member ps f.at) (sym f.parts) (member_right f.front (f.at ∷ f.back) f.at (inl refl))) in
+          let listed = member_filter (λ (p : ℕ × ℕ). is_task_at t p.0 && is_task_at t p.1) (pairs t) f.at
+          (subst (λ ps. Member ps f.at) (sym f.parts) (member_right f.front (f.at ∷ f.back) f.at (inl refl))) in
           let found = pair_has_place t f.at listed.0 in
           let place = found.0 in (
             Unordered (id_of t (by_serial t f.at).0) (id_of t (by_serial t f.at).1) place.tree place.point place.field,
-            (acyclic, record { pair = f.at; shown = record { front = f.front; back = f.back; parts = f.parts; kept = f.passed; not_kept = f.fails }; a_is = refl; b_is = refl; place_is = found.1 }),
+            (
+              acyclic,
+              record {
+                pair = f.at;
+                shown =
+                    record { front = f.front; back = f.back; parts = f.parts; kept = f.passed; not_kept = f.fails };
+                a_is = refl;
+                b_is =
+                    refl;
+                place_is = found.1;
+              },
+            ),
           )
     ]
 
     spare_without_cycle : (f : Finding) × SpareFinds t f
     spare_without_cycle =
-        let list = spare_list nodes told in
-        (Spare (map (events_of_wait t) list.0) (wait_count t), (acyclic, record { waits = list.0; are_spare = list.1; events_are = refl }, refl))
+        let list = spare_list nodes told in (
+          Spare (map (events_of_wait t) list.0) (wait_count t),
+          (acyclic, record { waits = list.0; are_spare = list.1; events_are = refl }, refl),
+        )
 
     shown_race_or_none : ((a : ℕ) × (b : ℕ) × (cell : Cell) × ShowsRace t a b cell) ⊎ IsRaceFree t
     shown_race_or_none = elim (race_or_none t (laws.replayed acyclic) told) [
@@ -133,13 +158,19 @@ module _ (t : Tables) (laws : AreJudged t) where
       | inr free ↦ inr free
     ]
 
-    module _ (right : IsRaceFree t → shown_difference t ≡ None → IsRight t) (differs : IsRaceFree t → (r : Seen) → shown_difference t ≡ Some r → Differs t r) where
+    module _ (right : IsRaceFree t → shown_difference t ≡ None → IsRight t) (differs : IsRaceFree t → (r : Seen)
+        → shown_difference t ≡ Some r → Differs t r) where
       check_without_race : IsRaceFree t → (f : Finding) × CheckFinds t f
       check_without_race free = elim (none_or_some (shown_difference t)) [
-        | inl none ↦ (Accepted (task_count t) (operation_count t) (read_count t), (record { no_cycle = acyclic; no_race = free; right = right free none }, refl, refl, refl))
+        | inl none ↦ (
+          Accepted (task_count t) (operation_count t) (read_count t),
+          (record { no_cycle = acyclic; no_race = free; right = right free none }, refl, refl, refl),
+        )
         | inr r ↦
-            let seen = r.0 in
-            (Differ seen.task seen.number seen.point seen.field seen.got (want_of t seen), (acyclic, free, record { shown = r.1; differs = differs free seen r.1; want_is = refl }))
+            let seen = r.0 in (
+              Differ seen.task seen.number seen.point seen.field seen.got (want_of t seen),
+              (acyclic, free, record { shown = r.1; differs = differs free seen r.1; want_is = refl }),
+            )
       ]
 
       check_without_cycle : (f : Finding) × CheckFinds t f
@@ -151,7 +182,10 @@ module _ (t : Tables) (laws : AreJudged t) where
     module _ (ask : Ask) (links : IsRaceFree t → ((ls : List Link) × AreLinksOf t ask ls) ⊎ IsNoRead t ask) where
       why_without_race : IsRaceFree t → (f : Finding) × WhyFinds t ask f
       why_without_race free = elim (links free) [
-        | inl ls ↦ (Why (ask_shown ask) (map link_shown ls.0), (acyclic, free, record { links = ls.0; are_links = ls.1; list_is = refl }, refl))
+        | inl ls ↦ (
+          Why (ask_shown ask) (map link_shown ls.0),
+          (acyclic, free, record { links = ls.0; are_links = ls.1; list_is = refl }, refl),
+        )
         | inr none ↦ (NoRead ask.task ask.req ask.point ask.field, (acyclic, free, none, refl))
       ]
 
@@ -161,13 +195,15 @@ module _ (t : Tables) (laws : AreJudged t) where
         | inr free ↦ why_without_race free
       ]
 
-  check_finds : (HasNoCycle t → IsRaceFree t → shown_difference t ≡ None → IsRight t) → (HasNoCycle t → IsRaceFree t → (r : Seen) → shown_difference t ≡ Some r → Differs t r) → (f : Finding) × CheckFinds t f
+  check_finds : (HasNoCycle t → IsRaceFree t → shown_difference t ≡ None → IsRight t)
+      → (HasNoCycle t → IsRaceFree t → (r : Seen) → shown_difference t ≡ Some r → Differs t r) → (f : Finding) × CheckFinds t f
   check_finds right differs = elim cycle_or_none [
     | inl c ↦ (Cycle c.0, c.1)
     | inr acyclic ↦ check_without_cycle acyclic (right acyclic) (differs acyclic)
   ]
 
-  why_finds : (ask : Ask) → (HasNoCycle t → IsRaceFree t → ((ls : List Link) × AreLinksOf t ask ls) ⊎ IsNoRead t ask) → (f : Finding) × WhyFinds t ask f
+  why_finds : (ask : Ask) → (HasNoCycle t → IsRaceFree t → ((ls : List Link) × AreLinksOf t ask ls) ⊎ IsNoRead t ask) → (f : Finding)
+      × WhyFinds t ask f
   why_finds ask links = elim cycle_or_none [
     | inl c ↦ (Cycle c.0, c.1)
     | inr acyclic ↦ why_without_cycle acyclic ask (links acyclic)
@@ -187,7 +223,8 @@ deps_finds t =
     )
 
 -- What is found in tables is found in their log, where it has no fault.
-found_of : (command : Command) (lines : ℕ) (log : List Lined) (f : Finding) → log_fault command lines log ≡ None → Finds command (tables_of log) f → IsFound command lines log f
+found_of : (command : Command) (lines : ℕ) (log : List Lined) (f : Finding) → log_fault command lines log ≡ None
+    → Finds command (tables_of log) f → IsFound command lines log f
 found_of commands.Check lines log (Fault line code) none finds = absurd finds
 found_of commands.Ordered lines log (Fault line code) none finds = absurd finds
 found_of commands.Deps lines log (Fault line code) none finds = absurd finds
@@ -201,22 +238,27 @@ record AreReadsJudged (t : Tables) : Type 0 where
   differs : HasNoCycle t → IsRaceFree t → (r : Seen) → shown_difference t ≡ Some r → Differs t r
   links : (ask : Ask) → HasNoCycle t → IsRaceFree t → ((ls : List Link) × AreLinksOf t ask ls) ⊎ IsNoRead t ask
 
-some_found : (command : Command) (lines : ℕ) (log : List Lined) → (log_fault command lines log ≡ None → AreJudged (tables_of log)) → (log_fault commands.Check lines log ≡ None → AreReadsJudged (tables_of log))
+some_found : (command : Command) (lines : ℕ) (log : List Lined) → (log_fault command lines log ≡ None → AreJudged (tables_of log))
+    → (log_fault commands.Check lines log ≡ None → AreReadsJudged (tables_of log))
     → (f : Finding) × IsFound command lines log f
 some_found command lines log laws reads = elim (none_or_some (log_fault command lines log)) [
   | inr fault ↦ (Fault fault.0.line fault.0.code, fault.1)
   | inl none ↦ (let found = finds command none reads (laws none) in (found.0, found_of command lines log found.0 none found.1))
 ]
   where
-    finds : (command : Command) → log_fault command lines log ≡ None → (log_fault commands.Check lines log ≡ None → AreReadsJudged (tables_of log)) → AreJudged (tables_of log) → (f : Finding) × Finds command (tables_of log) f
+    finds : (command : Command) → log_fault command lines log ≡ None
+        → (log_fault commands.Check lines log ≡ None → AreReadsJudged (tables_of log)) → AreJudged (tables_of log) → (f : Finding)
+        × Finds command (tables_of log) f
     finds commands.Check none reads laws = check_finds (tables_of log) laws (reads none).right (reads none).differs
     finds commands.Ordered none reads laws = ordered_finds (tables_of log) laws
     finds commands.Deps none reads laws = deps_finds (tables_of log)
     finds commands.Spare none reads laws = spare_finds (tables_of log) laws
-    finds (commands.Why ask) none reads laws = why_finds (tables_of log) laws ask ((reads (sym (why_faults ask lines log) ∙ none)).links ask)
+    finds (commands.Why ask) none reads laws = why_finds (tables_of log) laws ask
+        ((reads (sym (why_faults ask lines log) ∙ none)).links ask)
 
 -- A command finds something in each log.
-pub found_in : (command : Command) (lines : ℕ) (log : List Lined) → AllByRecursion Good (records_of log) → (f : Finding) × IsFound command lines log f
+pub found_in : (command : Command) (lines : ℕ) (log : List Lined) → AllByRecursion Good (records_of log) → (f : Finding)
+    × IsFound command lines log f
 found_in command lines log good =
     let t = tables_of log in
     let nodes = graph_of t.nodes in

@@ -34,7 +34,10 @@ held n (line ∷ lines) e =
     let rest = held (n + 1) lines none.1 in
     elim (said n line (line_at line) refl none.0) [
       | inl over ↦ (rest.0, inl (line_blank line over, rest.1))
-      | inr r ↦ (record { line = n; rec = r.0 } ∷ rest.0, inr (r.0, rest.0, line_good line r.0 r.1, line_spelled line r.0 r.1, refl, rest.1))
+      | inr r ↦ (
+        record { line = n; rec = r.0 } ∷ rest.0,
+        inr (r.0, rest.0, line_good line r.0 r.1, line_spelled line r.0 r.1, refl, rest.1),
+      )
     ]
 
 pub read_by : (bytes : List ℕ) → text_fault bytes ≡ None → (log : List Lined) × Reads bytes log
@@ -42,5 +45,6 @@ read_by bytes e =
     let c = clean bytes e in
     let parts = parts_of bytes in
     let log = held 1 (take (line_count bytes) parts) c.lines in
-    let one : length (drop (line_count bytes) parts) ≡ 1 = omega (arith, length-drop (line_count bytes) parts, length-slice_split (λ b. b == 10) bytes) in
+    let one : length (drop (line_count bytes) parts) ≡ 1 =
+    omega (arith, length-drop (line_count bytes) parts, length-slice_split (λ b. b == 10) bytes) in
     (log.0, record { ended = single _ one (not-false _ c.ended); hold = log.1 })

@@ -13,22 +13,26 @@ use Rattle.semantics.specs.Shown.{replay_place, IsShownRace}
 use Rattle.log_laws.proofs.lemmas.Members.{Member, member_of}
 use Rattle.log_laws.proofs.lemmas.StepLists.{of_node}
 
-one_place : (a b c d e f : ℕ) → comes_first (a, b, c) (d, e, f) ≡ false → comes_first (d, e, f) (a, b, c) ≡ false → (a ≡ d) × (b ≡ e) × (c ≡ f)
+one_place : (a b c d e f : ℕ) → comes_first (a, b, c) (d, e, f) ≡ false → comes_first (d, e, f) (a, b, c) ≡ false → (a ≡ d) × (b ≡ e)
+    × (c ≡ f)
 one_place a b c d e f p q = (grind (arith, nat_tests), grind (arith, nat_tests), grind (arith, nat_tests))
 
 found_in : (b : ℕ) (xs : List ℕ) → Member xs b → position_or_len (λ n. n == b) xs < length xs
 found_in b [] m = absurd m
 found_in b (x ∷ xs) (inl is) = rw (eq-eqb x b (sym is)) (omega arith)
-found_in b (x ∷ xs) (inr m) = elim (cases_Bool (x == b)) [ inl same ↦ rw same (omega arith) | inr other ↦ rw other (omega (arith, found_in b xs m)) ]
+found_in b (x ∷ xs) (inr m) =
+    elim (cases_Bool (x == b)) [ inl same ↦ rw same (omega arith) | inr other ↦ rw other (omega (arith, found_in b xs m)) ]
 
 -- The first place of a number that a list has.
-position_at : (xs : List ℕ) (n b : ℕ) → position_or_len (λ k. k == b) xs < length xs → (unwrap_or (position (λ k. k == b) xs) n ≡ position_or_len (λ k. k == b) xs) × (get_or xs (position_or_len (λ k. k == b) xs) 0 ≡ b)
+position_at : (xs : List ℕ) (n b : ℕ) → position_or_len (λ k. k == b) xs < length xs
+    → (unwrap_or (position (λ k. k == b) xs) n ≡ position_or_len (λ k. k == b) xs) × (get_or xs (position_or_len (λ k. k == b) xs) 0 ≡ b)
 position_at xs n b lt =
     let is : position (λ k. k == b) xs ≡ Some (position_or_len (λ k. k == b) xs) = rw (lt-ltb _ _ lt) refl in
     (rw is refl, eqb-true _ _ (position-Some (λ k. k == b) xs _ 0 is).1)
 
 -- The numbers of a list whose first places are the same are the same.
-same_by_place : (xs : List ℕ) (n b d : ℕ) → Member xs b → Member xs d → unwrap_or (position (λ k. k == b) xs) n ≡ unwrap_or (position (λ k. k == d) xs) n → b ≡ d
+same_by_place : (xs : List ℕ) (n b d : ℕ) → Member xs b → Member xs d
+    → unwrap_or (position (λ k. k == b) xs) n ≡ unwrap_or (position (λ k. k == d) xs) n → b ≡ d
 same_by_place xs n b d m l e =
     let first = position_at xs n b (found_in b xs m) in
     let second = position_at xs n d (found_in d xs l) in
@@ -43,16 +47,25 @@ module _ (t : Tables) (replayed : (k : ℕ) → k < length t.nodes → Contains 
       same_by_place order (length t.nodes) b d (member_of order b (replayed b lt)) (member_of order d (replayed d less)) e
 
   within : (b : ℕ) (m : Move) → Contains (steps t) (record { node = b; move = m }) → b < length t.nodes
-  within b m at = let node = of_node t (range_with_len 0 (length t.nodes)) _ (member_of (steps t) _ at) in slice_get_within t.nodes b node.node node.is_node
+  within b m at = let node = of_node t (range_with_len 0 (length t.nodes)) _ (member_of (steps t) _ at) in
+      slice_get_within t.nodes b node.node node.is_node
 
-  pub one_node : (b d : ℕ) (m n : Move) → Contains (steps t) (record { node = b; move = m }) → Contains (steps t) (record { node = d; move = n }) → replay_place t b ≤ replay_place t d → replay_place t d ≤ replay_place t b → b ≡ d
+  pub one_node : (b d : ℕ) (m n : Move) → Contains (steps t) (record { node = b; move = m })
+      → Contains (steps t) (record { node = d; move = n }) → replay_place t b ≤ replay_place t d → replay_place t d ≤ replay_place t b
+      → b ≡ d
   one_node b d m n at there le ge = node_of_place b d (within b m at) (within d n there) (omega (arith, le, ge))
 
   pub one_race : (a b c d : ℕ) (cell other : Cell) → IsShownRace t a b cell → IsShownRace t c d other → (a ≡ c) × (b ≡ d) × (cell ≡ other)
   one_race a b c d cell other p q =
-      let place = one_place cell.inst cell.point cell.field other.inst other.point other.field (q.least_cell a b cell p.race) (p.least_cell c d other q.race) in
+      let place = one_place cell.inst cell.point cell.field other.inst other.point other.field (q.least_cell a b cell p.race)
+      (p.least_cell c d other q.race) in
       let here : cell ≡ other = rw (place.0, place.1, place.2) refl in
       let own = subst (λ x. IsShownRace t c d x) (sym here) q in
-      let later : b ≡ d = one_node b d _ _ p.race.other_in own.race.other_in (p.first_later c d own.race own.in_order) (own.first_later a b p.race p.in_order) in
-      let pair = subst (λ x. IsShownRace t c x cell) (sym later) own in
-      (one_node a c _ _ p.race.one_in pair.race.one_in (p.first_earlier c pair.race pair.in_order) (pair.first_earlier a p.race p.in_order), later, here)
+      let later : b ≡ d = one_node b d _ _ p.race.other_in own.race.other_in (p.first_later c d own.race own.in_order)
+      (own.first_later a b p.race p.in_order) in
+      let pair = subst (λ x. IsShownRace t c x cell) (sym later) own in (
+        one_node a c _ _ p.race.one_in pair.race.one_in (p.first_earlier c pair.race pair.in_order)
+            (pair.first_earlier a p.race p.in_order),
+        later,
+        here,
+      )

@@ -48,7 +48,8 @@ less_along a b c p q = grind (arith, nat_tests, p, q)
 never_first : (a b c : ℕ) → comes_first (a, b, c) (a, b, c) ≡ false
 never_first a b c = grind (arith, nat_tests)
 
-first_along : (a b c d e f g h i : ℕ) → comes_first (a, b, c) (d, e, f) ≡ true → comes_first (d, e, f) (g, h, i) ≡ true → comes_first (a, b, c) (g, h, i) ≡ true
+first_along : (a b c d e f g h i : ℕ) → comes_first (a, b, c) (d, e, f) ≡ true → comes_first (d, e, f) (g, h, i) ≡ true
+    → comes_first (a, b, c) (g, h, i) ≡ true
 first_along a b c d e f g h i p q = grind (arith, nat_tests, p, q)
 
 -- Two steps and a cell: what may be a race.
@@ -60,7 +61,8 @@ record Trio : Type 0 where
 abbrev cell_before : Cell → Cell → Bool
 cell_before c d = comes_first (c.inst, c.point, c.field) (d.inst, d.point, d.field)
 
-module _ (t : Tables) (replayed : (k : ℕ) → k < length t.nodes → Contains (replay_order (graph_of t.nodes)) k) (told : (a b : ℕ) → Told (Before (graph_of t.nodes) a b)) where
+module _ (t : Tables) (replayed : (k : ℕ) → k < length t.nodes → Contains (replay_order (graph_of t.nodes)) k) (told : (a b : ℕ)
+    → Told (Before (graph_of t.nodes) a b)) where
   abbrev cells_of : Step → List Cell
   cells_of x = (ends x.move).0 ∷ (ends x.move).1 ∷ []
 
@@ -82,10 +84,12 @@ module _ (t : Tables) (replayed : (k : ℕ) → k < length t.nodes → Contains 
   -- They are a race, and the first stands first in replay order.
   abbrev IsRacing : Trio → Type 0
   IsRacing x = (x.one.node ≢ x.other.node) × ((conflicts (access x.one.move x.cell) (access x.other.move x.cell) ≡ true)
-      × ((Before (graph_of t.nodes) x.one.node x.other.node → ⊥) × ((Before (graph_of t.nodes) x.other.node x.one.node → ⊥) × (place x.one.node < place x.other.node))))
+      × ((Before (graph_of t.nodes) x.one.node x.other.node → ⊥)
+      × ((Before (graph_of t.nodes) x.other.node x.one.node → ⊥) × (place x.one.node < place x.other.node))))
 
   racing_told : (x : Trio) → Told (IsRacing x)
-  racing_told x = both_told _ _ (failing_told _ (cases_eq x.one.node x.other.node)) (both_told _ _ (test_told _) (both_told _ _ (failing_told _ (told _ _)) (both_told _ _ (failing_told _ (told _ _)) (less_told _ _))))
+  racing_told x = both_told _ _ (failing_told _ (cases_eq x.one.node x.other.node))
+      (both_told _ _ (test_told _) (both_told _ _ (failing_told _ (told _ _)) (both_told _ _ (failing_told _ (told _ _)) (less_told _ _))))
 
   race_of : (x : Trio) → Member trios x → IsRacing x → Race t x.one.node x.other.node x.cell
   race_of x m r =
@@ -111,15 +115,31 @@ module _ (t : Tables) (replayed : (k : ℕ) → k < length t.nodes → Contains 
   trio_listed a b cell r =
       let x : Step = record { node = a; move = r.one } in
       let y : Step = record { node = b; move = r.other } in
-      let touched = (meet (λ c. Member ((ends r.one).0 ∷ (ends r.one).1 ∷ []) c) (λ c. Member ((ends r.other).0 ∷ (ends r.other).1 ∷ []) c) r.one r.other cell r.conflict (inl refl, inr (inl refl)) (inl refl, inr (inl refl))).0 in
+      let touched = (meet (λ c. Member ((ends r.one).0 ∷ (ends r.one).1 ∷ []) c)
+      (λ c. Member ((ends r.other).0 ∷ (ends r.other).1 ∷ []) c) r.one r.other cell r.conflict (inl refl, inr (inl refl)) (
+        inl refl,
+        inr (inl refl),
+      )).0 in
       flat_member with_one (steps t) x (trio_of a b cell r) (member_of (steps t) x r.one_in)
-      (flat_member (with_both x) (steps t) y (trio_of a b cell r) (member_of (steps t) y r.other_in) (map_member (trio x y) (cells_of x) cell touched))
+      (flat_member (with_both x) (steps t) y (trio_of a b cell r) (member_of (steps t) y r.other_in)
+      (map_member (trio x y) (cells_of x) cell touched))
 
   racing_of : (a b : ℕ) (cell : Cell) (r : Race t a b cell) → place a < place b → IsRacing (trio_of a b cell r)
   racing_of a b cell r lt = (r.differ, (r.conflict, (r.not_before, (r.not_after, lt))))
 
   turned : (a b : ℕ) (cell : Cell) → Race t a b cell → Race t b a cell
-  turned a b cell r = record { differ = λ e. r.differ (sym e); one = r.other; other = r.one; one_in = r.other_in; other_in = r.one_in; conflict = turned_conflict (access r.one cell) (access r.other cell) ∙ r.conflict; not_before = r.not_after; not_after = r.not_before }
+  turned a b cell r = record {
+    differ = λ e. r.differ (sym e);
+    one = r.other;
+    other = r.one;
+    one_in = r.other_in;
+    other_in =
+        r.one_in;
+    conflict = turned_conflict (access r.one cell) (access r.other cell) ∙ r.conflict;
+    not_before = r.not_after;
+    not_after =
+        r.not_before;
+  }
 
   -- One of the two stands first in replay order.
   in_turn : (a b : ℕ) (cell : Cell) → Race t a b cell → (place a < place b) ⊎ (place b < place a)
@@ -168,7 +188,8 @@ module _ (t : Tables) (replayed : (k : ℕ) → k < length t.nodes → Contains 
   abbrev FirstEarlier : Cell → ℕ → Trio → Type 0
   FirstEarlier c b x = IsLeast by_earlier (λ x. never_less _) (λ x y z. less_along _ _ _) (WithLater c b) (with_later_told c b) trios x
 
-  shown_of : (x y z : Trio) → LeastCell x → FirstLater x.cell y → FirstEarlier x.cell y.other.node z → IsShownRace t z.one.node z.other.node z.cell
+  shown_of : (x y z : Trio) → LeastCell x → FirstLater x.cell y → FirstEarlier x.cell y.other.node z
+      → IsShownRace t z.one.node z.other.node z.cell
   shown_of x y z p q r =
       let cell_is : z.cell ≡ x.cell = r.passes.0.1 in
       let later_is : z.other.node ≡ y.other.node = r.passes.1 in
@@ -177,10 +198,15 @@ module _ (t : Tables) (replayed : (k : ℕ) → k < length t.nodes → Contains 
         in_order = r.passes.0.0.1.1.1.1;
         least_cell = λ c d cell race. subst (λ a. cell_before cell a ≡ false) (sym cell_is) (elim (in_turn c d cell race) [
           | inl lt ↦ p.least (trio_of c d cell race) (trio_listed c d cell race) (racing_of c d cell race lt)
-          | inr gt ↦ (let other = turned c d cell race in p.least (trio_of d c cell other) (trio_listed d c cell other) (racing_of d c cell other gt))
+          | inr gt ↦ (let other = turned c d cell race in
+              p.least (trio_of d c cell other) (trio_listed d c cell other) (racing_of d c cell other gt))
         ]);
-        first_later = λ c d race lt. subst (λ b. place b ≤ place d) (sym later_is) (not_less (place d) (place y.other.node) (q.least (trio_of c d z.cell race) (trio_listed c d z.cell race) (racing_of c d z.cell race lt, cell_is)));
-        first_earlier = λ c race lt. not_less (place c) (place z.one.node) (r.least (trio_of c z.other.node z.cell race) (trio_listed c z.other.node z.cell race) ((racing_of c z.other.node z.cell race lt, cell_is), later_is));
+        first_later = λ c d race lt. subst (λ b. place b ≤ place d) (sym later_is)
+            (not_less (place d) (place y.other.node)
+            (q.least (trio_of c d z.cell race) (trio_listed c d z.cell race) (racing_of c d z.cell race lt, cell_is)));
+        first_earlier = λ c race lt. not_less (place c) (place z.one.node)
+            (r.least (trio_of c z.other.node z.cell race) (trio_listed c z.other.node z.cell race)
+            ((racing_of c z.other.node z.cell race lt, cell_is), later_is));
       }
 
   -- A race is shown, or there is none.
@@ -188,13 +214,16 @@ module _ (t : Tables) (replayed : (k : ℕ) → k < length t.nodes → Contains 
   race_or_none = elim (least_or_none in_cell cell_never cell_along IsRacing racing_told trios) [
     | inr none ↦ inr (λ a b cell race. elim (in_turn a b cell race) [
       | inl lt ↦ none (trio_of a b cell race) (trio_listed a b cell race) (racing_of a b cell race lt)
-      | inr gt ↦ (let other = turned a b cell race in none (trio_of b a cell other) (trio_listed b a cell other) (racing_of b a cell other gt))
+      | inr gt ↦ (let other = turned a b cell race in
+          none (trio_of b a cell other) (trio_listed b a cell other) (racing_of b a cell other gt))
     ])
-    | inl x ↦ elim (least_or_none by_later (λ x. never_less _) (λ x y z. less_along _ _ _) (AtCell x.0.cell) (at_cell_told x.0.cell) trios) [
-      | inr none ↦ absurd (none x.0 x.1.listed (x.1.passes, refl))
-      | inl y ↦ elim (least_or_none by_earlier (λ x. never_less _) (λ x y z. less_along _ _ _) (WithLater x.0.cell y.0.other.node) (with_later_told x.0.cell y.0.other.node) trios) [
-        | inr none ↦ absurd (none y.0 y.1.listed (y.1.passes, refl))
-        | inl z ↦ inl (z.0.one.node, z.0.other.node, z.0.cell, shown_of x.0 y.0 z.0 x.1 y.1 z.1)
-      ]
-    ]
+    | inl x ↦ elim (least_or_none by_later (λ x. never_less _) (λ x y z. less_along _ _ _) (AtCell x.0.cell)
+        (at_cell_told x.0.cell) trios) [
+          | inr none ↦ absurd (none x.0 x.1.listed (x.1.passes, refl))
+          | inl y ↦ elim (least_or_none by_earlier (λ x. never_less _) (λ x y z. less_along _ _ _) (WithLater x.0.cell y.0.other.node)
+              (with_later_told x.0.cell y.0.other.node) trios) [
+                | inr none ↦ absurd (none y.0 y.1.listed (y.1.passes, refl))
+                | inl z ↦ inl (z.0.one.node, z.0.other.node, z.0.cell, shown_of x.0 y.0 z.0 x.1 y.1 z.1)
+              ]
+        ]
   ]

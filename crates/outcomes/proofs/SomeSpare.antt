@@ -56,7 +56,9 @@ module _ (nodes : List Node) (before : (a b : ℕ) → Told (Before nodes a b)) 
   another_told : (node event : ℕ) → Told (IsBeforeAnother nodes node event)
   another_told node event =
       let By : ℕ → Type 0 = λ on. (done_at nodes on ≡ Some event) × ((other : ℕ) × Behind node on other) in
-      elim (below_told By (length nodes) (λ on b. event_within nodes on event b.0) (λ on. both_told (done_at nodes on ≡ Some event) ((other : ℕ) × Behind node on other) (done_told on event) (behind_told node on))) [
+      elim (below_told By (length nodes) (λ on b. event_within nodes on event b.0)
+      (λ on. both_told (done_at nodes on ≡ Some event) ((other : ℕ) × Behind node on other) (done_told on event)
+      (behind_told node on))) [
         | inl b ↦ inl (record { on = b.0; other = b.1.1.0; done = b.1.0; waits = b.1.1.1.0; before = b.1.1.1.1 })
         | inr none ↦ inr (λ b. none (b.on, (b.done, (b.other, (b.waits, b.before)))))
       ]
@@ -67,7 +69,8 @@ module _ (nodes : List Node) (before : (a b : ℕ) → Told (Before nodes a b)) 
     | inr some ↦
         let earlier = take k (waits_at nodes node) in
         let Implied : ℕ → Type 0 = λ event. Contains earlier event ⊎ IsBeforeAnother nodes node event in
-        elim (either_told (Contains earlier some.0) (IsBeforeAnother nodes node some.0) (listed_told earlier some.0) (another_told node some.0)) [
+        elim (either_told (Contains earlier some.0) (IsBeforeAnother nodes node some.0) (listed_told earlier some.0)
+        (another_told node some.0)) [
           | inl implied ↦ inl (record { event = some.0; listed = some.1; implied = implied })
           | inr fails ↦ inr (λ s. fails (subst Implied (same_Some s.event some.0 (sym s.listed ∙ some.1)) s.implied))
         ]
@@ -108,7 +111,8 @@ module _ (nodes : List Node) (before : (a b : ℕ) → Told (Before nodes a b)) 
       let same : 0 + k ≡ k = omega arith in
       let back : k ≡ 0 + k = omega arith in (
         λ set. subst (IsSpare nodes node) same (marked_is node 0 (length (waits_at nodes node)) k set),
-        λ s. is_marked node 0 (length (waits_at nodes node)) k (slice_get_within (waits_at nodes node) k s.event s.listed) (subst (IsSpare nodes node) back s),
+        λ s. is_marked node 0 (length (waits_at nodes node)) k (slice_get_within (waits_at nodes node) k s.event s.listed)
+            (subst (IsSpare nodes node) back s),
       )
 
   list_up_to : (n : ℕ) → n ≤ length nodes → (list : List ListedWait) × AreUpTo nodes n list

@@ -8,13 +8,21 @@ use Rattle.semantics.specs.Nesting.{NestedReads, free_pairs, nested_fault, neste
 
 -- What is found in a nested log of so many lines: its fault; or the first child that asks for more than its group licenses; or how many tasks are members and how many groups there are, and how many pairs of these are free of each other.
 abbrev pub NestedFinds : ℕ → List NLined → Finding → Type 0
-NestedFinds lines log (findings.Fault line code) = nested_fault lines log ≡ Some (record { line = line; code = code })
+NestedFinds lines log (findings.Fault line code) =
+    nested_fault lines log ≡ Some (record { line = line; code = code })
 NestedFinds lines log (findings.Unlicensed leaf child req group tree point field) =
     (nested_fault lines log ≡ None)
-    × (shown_unlicensed (nested_tables log) (nesting_of log) ≡ Some (record { child = record { leaf = leaf; id = child; group = group }; req = req; place = record { tree = tree; point = point; field = field } }))
+    × (shown_unlicensed (nested_tables log) (nesting_of log)
+    ≡ Some (record {
+      child = record { leaf = leaf; id = child; group = group };
+      req = req;
+      place =
+          record { tree = tree; point = point; field = field };
+    }))
 NestedFinds lines log (findings.Nested tasks groups free) =
     (nested_fault lines log ≡ None) × (shown_unlicensed (nested_tables log) (nesting_of log) ≡ None)
-    × (tasks ≡ length (nesting_of log).members) × (groups ≡ length (nesting_of log).groups) × (free ≡ free_pairs (nested_tables log) (nesting_of log))
+    × (tasks ≡ length (nesting_of log).members) × (groups ≡ length (nesting_of log).groups)
+    × (free ≡ free_pairs (nested_tables log) (nesting_of log))
 NestedFinds lines log _ = ⊥
 
 -- A fault of the input's bytes or lines is shown, read as those of a nested log.

@@ -22,7 +22,16 @@ use Rattle.semantics.specs.Shown.{event_of, task_pairs, AreKept, IsShownPair, Is
 -- ---- Dependences.
 
 abbrev pub dependence_at : Tables → ℕ × ℕ → Place → Dep
-dependence_at t p place = record { before = is_before (item_kind t p.0 p.1); a = id_of t (by_serial t p).0; b = id_of t (by_serial t p).1; tree = place.tree; point = place.point; field = place.field }
+dependence_at t p place = record {
+  before = is_before (item_kind t p.0 p.1);
+  a =
+      id_of t (by_serial t p).0;
+  b = id_of t (by_serial t p).1;
+  tree = place.tree;
+  point = place.point;
+  field =
+      place.field;
+}
 
 -- The dependences, in program order of the first and then of the second item.
 abbrev pub dependences : Tables → List Dep
@@ -81,21 +90,29 @@ pub record IsSound (t : Tables) : Type 0 where
 -- What `check` finds.
 abbrev pub CheckFinds : Tables → Finding → Type 0
 CheckFinds t (findings.Cycle events) = ShowsCycle t events
-CheckFinds t (findings.Race a b inst point field) = HasNoCycle t × ShowsRace t a b (record { inst = inst; point = point; field = field })
-CheckFinds t (findings.Differ task number point field got want) = HasNoCycle t × IsRaceFree t × ShowsDifference t (record { task = task; number = number; point = point; field = field; got = got }) want
-CheckFinds t (findings.Accepted tasks operations reads) = IsSound t × (tasks ≡ task_count t) × (operations ≡ operation_count t) × (reads ≡ read_count t)
+CheckFinds t (findings.Race a b inst point field) =
+    HasNoCycle t × ShowsRace t a b (record { inst = inst; point = point; field = field })
+CheckFinds t (findings.Differ task number point field got want) =
+    HasNoCycle t × IsRaceFree t × ShowsDifference t
+    (record { task = task; number = number; point = point; field = field; got = got }) want
+CheckFinds t (findings.Accepted tasks operations reads) =
+    IsSound t × (tasks ≡ task_count t) × (operations ≡ operation_count t) × (reads ≡ read_count t)
 CheckFinds t _ = ⊥
 
 -- What `ordered` finds.
 abbrev pub OrderedFinds : Tables → Finding → Type 0
 OrderedFinds t (findings.Cycle events) = ShowsCycle t events
-OrderedFinds t (findings.Unordered a b tree point field) = HasNoCycle t × ShowsPair t a b (record { tree = tree; point = point; field = field })
-OrderedFinds t (findings.Ordered tasks pairs) = HasNoCycle t × AreKept t × (tasks ≡ task_count t) × (pairs ≡ length (task_pairs t))
+OrderedFinds t (findings.Unordered a b tree point field) =
+    HasNoCycle t × ShowsPair t a b (record { tree = tree; point = point; field = field })
+OrderedFinds t (findings.Ordered tasks pairs) =
+    HasNoCycle t × AreKept t × (tasks ≡ task_count t) × (pairs ≡ length (task_pairs t))
 OrderedFinds t _ = ⊥
 
 -- What `deps` finds.
 abbrev pub DepsFinds : Tables → Finding → Type 0
-DepsFinds t (findings.Deps list items before turn) = (list ≡ dependences t) × (items ≡ length t.items) × (before ≡ before_count list) × (before + turn ≡ length list)
+DepsFinds t (findings.Deps list items before turn) =
+    (list ≡ dependences t) × (items ≡ length t.items) × (before ≡ before_count list)
+    × (before + turn ≡ length list)
 DepsFinds t _ = ⊥
 
 -- What `spare` finds.
@@ -126,9 +143,13 @@ pub record ShowsLinks (t : Tables) (ask : Ask) (list : List WhyLink) : Type 0 wh
 -- What `why` finds.
 abbrev pub WhyFinds : Tables → Ask → Finding → Type 0
 WhyFinds t ask (findings.Cycle events) = ShowsCycle t events
-WhyFinds t ask (findings.Race a b inst point field) = HasNoCycle t × ShowsRace t a b (record { inst = inst; point = point; field = field })
-WhyFinds t ask (findings.NoRead task req point field) = HasNoCycle t × IsRaceFree t × IsNoRead t ask × (ask ≡ record { task = task; req = req; point = point; field = field })
-WhyFinds t ask (findings.Why asked list) = HasNoCycle t × IsRaceFree t × ShowsLinks t ask list × (asked ≡ ask_shown ask)
+WhyFinds t ask (findings.Race a b inst point field) =
+    HasNoCycle t × ShowsRace t a b (record { inst = inst; point = point; field = field })
+WhyFinds t ask (findings.NoRead task req point field) =
+    HasNoCycle t × IsRaceFree t × IsNoRead t ask
+    × (ask ≡ record { task = task; req = req; point = point; field = field })
+WhyFinds t ask (findings.Why asked list) =
+    HasNoCycle t × IsRaceFree t × ShowsLinks t ask list × (asked ≡ ask_shown ask)
 WhyFinds t ask _ = ⊥
 
 abbrev pub Finds : Command → Tables → Finding → Type 0
@@ -140,7 +161,8 @@ Finds (commands.Why ask) t f = WhyFinds t ask f
 
 -- What a command finds in a log of so many lines: the fault that it shows of the log, or else what it finds in the tables.
 abbrev pub IsFound : Command → ℕ → List Lined → Finding → Type 0
-IsFound command lines log (findings.Fault line code) = log_fault command lines log ≡ Some (record { line = line; code = code })
+IsFound command lines log (findings.Fault line code) =
+    log_fault command lines log ≡ Some (record { line = line; code = code })
 IsFound command lines log f = (log_fault command lines log ≡ None) × Finds command (tables_of log) f
 
 -- ---- What is found in an input.

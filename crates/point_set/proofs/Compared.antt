@@ -15,8 +15,10 @@ IsFree ours Q from = (z v : ℕ) → z < from → Has ours z v → Q z v → ⊥
 abbrev pub Agree : (ℕ → ℕ → Type 0) → (ℕ → Type 0) → Type 0
 Agree Q R = (x y : ℕ) → y < 2 ^ 32 → Q x y ↔ R (x * 2 ^ 32 + y)
 
-pub free_more : (ours : List Rect) (Q : ℕ → ℕ → Type 0) (from column alike : ℕ) → IsFree ours Q from → IsLeast (λ z. HasColumn ours z × (from ≤ z)) (Some column) → IsLeast (λ v. Has ours column v × Q column v) None
-    → ((z v : ℕ) → column ≤ z → z ≤ alike → Has ours column v ↔ Has ours z v) → ((z v : ℕ) → column ≤ z → z ≤ alike → Q z v → Q column v) → IsFree ours Q (alike + 1)
+pub free_more : (ours : List Rect) (Q : ℕ → ℕ → Type 0) (from column alike : ℕ) → IsFree ours Q from
+    → IsLeast (λ z. HasColumn ours z × (from ≤ z)) (Some column) → IsLeast (λ v. Has ours column v × Q column v) None
+    → ((z v : ℕ) → column ≤ z → z ≤ alike → Has ours column v ↔ Has ours z v) → ((z v : ℕ) → column ≤ z → z ≤ alike → Q z v → Q column v)
+    → IsFree ours Q (alike + 1)
 free_more ours Q from column alike free least none same also z v lt has asked = elim (cases_lt z from) [
   | inl before ↦ free z v before has asked
   | inr le ↦
@@ -24,7 +26,8 @@ free_more ours Q from column alike free least none same also z v lt has asked = 
       none v ((same z v at (omega arith)).1 has, also z v at (omega arith) asked)
 ]
 
-pub found : (ours : List Rect) (Q : ℕ → ℕ → Type 0) (R : ℕ → Type 0) (from column v : ℕ) → AreRects ours → Agree Q R → IsFree ours Q from → IsLeast (λ z. HasColumn ours z × (from ≤ z)) (Some column) → IsLeast (λ v. Has ours column v × Q column v) (Some v)
+pub found : (ours : List Rect) (Q : ℕ → ℕ → Type 0) (R : ℕ → Type 0) (from column v : ℕ) → AreRects ours → Agree Q R → IsFree ours Q from
+    → IsLeast (λ z. HasColumn ours z × (from ≤ z)) (Some column) → IsLeast (λ v. Has ours column v × Q column v) (Some v)
     → IsLeast (λ p. Contains (rect_points ours) p × R p) (Some (column * 2 ^ 32 + v))
 found ours Q R from column v are agree free least row = (
   (of_has ours column v row.0.0, (agree column v (row_fits ours column v are row.0.0)).0 row.0.1),
@@ -46,7 +49,8 @@ found ours Q R from column v are agree free least row = (
       ],
 )
 
-pub none_left : (ours : List Rect) (Q : ℕ → ℕ → Type 0) (R : ℕ → Type 0) (from : ℕ) → AreRects ours → Agree Q R → IsFree ours Q from → IsLeast (λ z. HasColumn ours z × (from ≤ z)) None → IsLeast (λ p. Contains (rect_points ours) p × R p) None
+pub none_left : (ours : List Rect) (Q : ℕ → ℕ → Type 0) (R : ℕ → Type 0) (from : ℕ) → AreRects ours → Agree Q R → IsFree ours Q from
+    → IsLeast (λ z. HasColumn ours z × (from ≤ z)) None → IsLeast (λ p. Contains (rect_points ours) p × R p) None
 none_left ours Q R from are agree free least q h =
     let a = to_has ours q are.1 h.0 in
     let is = a.is in
@@ -56,7 +60,8 @@ none_left ours Q R from are agree free least q h =
       | inr le ↦ least a.x ((a.y, a.has), le)
     ]
 
-pub none_at_end : (ours : List Rect) (Q : ℕ → ℕ → Type 0) (R : ℕ → Type 0) (from : ℕ) → AreRects ours → Agree Q R → IsFree ours Q from → 2 ^ 32 ≤ from → IsLeast (λ p. Contains (rect_points ours) p × R p) None
+pub none_at_end : (ours : List Rect) (Q : ℕ → ℕ → Type 0) (R : ℕ → Type 0) (from : ℕ) → AreRects ours → Agree Q R → IsFree ours Q from
+    → 2 ^ 32 ≤ from → IsLeast (λ p. Contains (rect_points ours) p × R p) None
 none_at_end ours Q R from are agree free far q h =
     let a = to_has ours q are.1 h.0 in
     let is = a.is in

@@ -1,6 +1,5 @@
 pub mod lemmas
 mod Compared
 mod Defaults
-mod Left
 mod Numbers
 mod Strips

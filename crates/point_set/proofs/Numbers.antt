@@ -18,7 +18,8 @@ column_fits rects x y are h = let right = h.holds.right in omega (arith, x_fits 
 -- ---- The next point.
 
 -- the next row of the same column
-pub next_in_row : (rects : List Rect) (x y v : ℕ) → AreRects rects → y < 2 ^ 32 → IsLeast (λ v. Has rects x v × (y ≤ v)) (Some v) → IsLeastFrom (rect_points rects) (x * 2 ^ 32 + y) (Some (x * 2 ^ 32 + v))
+pub next_in_row : (rects : List Rect) (x y v : ℕ) → AreRects rects → y < 2 ^ 32 → IsLeast (λ v. Has rects x v × (y ≤ v)) (Some v)
+    → IsLeastFrom (rect_points rects) (x * 2 ^ 32 + y) (Some (x * 2 ^ 32 + v))
 next_in_row rects x y v are fits least = (
   (of_has rects x v least.0.0, omega (arith, least.0.1)),
   λ q h.
@@ -36,7 +37,8 @@ next_in_row rects x y v are fits least = (
 )
 
 -- none in this column, and so the next one right of it
-right_of : (rects : List Rect) (x y q : ℕ) → AreRects rects → y < 2 ^ 32 → IsLeast (λ v. Has rects x v × (y ≤ v)) None → Contains (rect_points rects) q → x * 2 ^ 32 + y ≤ q → (x + 1) * 2 ^ 32 ≤ q
+right_of : (rects : List Rect) (x y q : ℕ) → AreRects rects → y < 2 ^ 32 → IsLeast (λ v. Has rects x v × (y ≤ v)) None
+    → Contains (rect_points rects) q → x * 2 ^ 32 + y ≤ q → (x + 1) * 2 ^ 32 ≤ q
 right_of rects x y q are fits bare h le =
     let a = to_has rects q are.1 h in
     let is = a.is in
@@ -49,12 +51,15 @@ right_of rects x y q are fits bare h le =
           absurd (bare a.y (subst (λ z. Has rects z a.y) same a.has, up))
     ]
 
-pub next_behind : (rects : List Rect) (x y : ℕ) (o : Option ℕ) → AreRects rects → y < 2 ^ 32 → IsLeast (λ v. Has rects x v × (y ≤ v)) None → IsLeastFrom (rect_points rects) ((x + 1) * 2 ^ 32) o → IsLeastFrom (rect_points rects) (x * 2 ^ 32 + y) o
-next_behind rects x y (Some p) are fits bare least = ((least.0.0, omega (arith, least.0.1, fits)), λ q h. least.1 q (h.0, right_of rects x y q are fits bare h.0 h.1))
+pub next_behind : (rects : List Rect) (x y : ℕ) (o : Option ℕ) → AreRects rects → y < 2 ^ 32 → IsLeast (λ v. Has rects x v × (y ≤ v)) None
+    → IsLeastFrom (rect_points rects) ((x + 1) * 2 ^ 32) o → IsLeastFrom (rect_points rects) (x * 2 ^ 32 + y) o
+next_behind rects x y (Some p) are fits bare least =
+    ((least.0.0, omega (arith, least.0.1, fits)), λ q h. least.1 q (h.0, right_of rects x y q are fits bare h.0 h.1))
 next_behind rects x y None are fits bare least = λ q h. least q (h.0, right_of rects x y q are fits bare h.0 h.1)
 
 -- the first point of the next column
-pub column_first : (rects : List Rect) (from x v : ℕ) → AreRects rects → IsLeast (λ z. HasColumn rects z × (from ≤ z)) (Some x) → IsLeast (λ v. Has rects x v × (0 ≤ v)) (Some v) → IsLeastFrom (rect_points rects) (from * 2 ^ 32) (Some (x * 2 ^ 32 + v))
+pub column_first : (rects : List Rect) (from x v : ℕ) → AreRects rects → IsLeast (λ z. HasColumn rects z × (from ≤ z)) (Some x)
+    → IsLeast (λ v. Has rects x v × (0 ≤ v)) (Some v) → IsLeastFrom (rect_points rects) (from * 2 ^ 32) (Some (x * 2 ^ 32 + v))
 column_first rects from x v are column row = (
   (of_has rects x v row.0.0, omega (arith, column.0.1)),
   λ q h.
@@ -72,7 +77,8 @@ column_first rects from x v are column row = (
       ],
 )
 
-pub column_bare : (rects : List Rect) (from : ℕ) → AreRects rects → IsLeast (λ z. HasColumn rects z × (from ≤ z)) None → IsLeastFrom (rect_points rects) (from * 2 ^ 32) None
+pub column_bare : (rects : List Rect) (from : ℕ) → AreRects rects → IsLeast (λ z. HasColumn rects z × (from ≤ z)) None
+    → IsLeastFrom (rect_points rects) (from * 2 ^ 32) None
 column_bare rects from are bare q h =
     let a = to_has rects q are.1 h.0 in
     let is = a.is in
@@ -80,7 +86,8 @@ column_bare rects from are bare q h =
     let beyond : from ≤ a.x = omega (arith, h.1) in
     bare a.x ((a.y, a.has), beyond)
 
-pub rowless : (rects : List Rect) (from x : ℕ) → IsLeast (λ z. HasColumn rects z × (from ≤ z)) (Some x) → IsLeast (λ v. Has rects x v × (0 ≤ v)) None → ⊥
+pub rowless : (rects : List Rect) (from x : ℕ) → IsLeast (λ z. HasColumn rects z × (from ≤ z)) (Some x)
+    → IsLeast (λ v. Has rects x v × (0 ≤ v)) None → ⊥
 rowless rects from x column bare = bare column.0.0.0 (column.0.0.1, omega arith)
 
 pub none_right : (rects : List Rect) (from : ℕ) → AreRects rects → 2 ^ 32 ≤ from → IsLeastFrom (rect_points rects) (from * 2 ^ 32) None
@@ -94,7 +101,9 @@ none_right rects from are far q h =
 -- ---- Gaps.
 
 -- a gap in the same column
-pub gap_in_row : (rects : List Rect) (x y v : ℕ) → AreRects rects → x < 2 ^ 32 → IsLeast (λ v. ¬ Has rects x v × (y ≤ v) × (v < 2 ^ 32)) (Some v) → IsLeastGap (rect_points rects) (x * 2 ^ 32 + y) (Some (x * 2 ^ 32 + v))
+pub gap_in_row : (rects : List Rect) (x y v : ℕ) → AreRects rects → x < 2 ^ 32
+    → IsLeast (λ v. ¬ Has rects x v × (y ≤ v) × (v < 2 ^ 32)) (Some v)
+    → IsLeastGap (rect_points rects) (x * 2 ^ 32 + y) (Some (x * 2 ^ 32 + v))
 gap_in_row rects x y v are x_fits least = (
   (λ h. least.0.0 (has_at rects x v are.1 least.0.2 h), omega (arith, least.0.1), omega (arith, least.0.2)),
   λ q h. elim (cases_lt q (x * 2 ^ 32 + v)) [
@@ -149,21 +158,26 @@ has_or_not (r ∷ rs) x y = elim (holds_or_not r x y) [
 ]
 
 -- a column is full from a row on
-pub full_from : (rects : List Rect) (x y : ℕ) → IsLeast (λ v. ¬ Has rects x v × (y ≤ v) × (v < 2 ^ 32)) None → (v : ℕ) → y ≤ v → v < 2 ^ 32 → Has rects x v
+pub full_from : (rects : List Rect) (x y : ℕ) → IsLeast (λ v. ¬ Has rects x v × (y ≤ v) × (v < 2 ^ 32)) None → (v : ℕ) → y ≤ v → v < 2 ^ 32
+    → Has rects x v
 full_from rects x y none v le fits = elim (has_or_not rects x v) [ inl has ↦ has | inr missed ↦ absurd (none v (missed, le, fits)) ]
 
 -- columns right of x up to this one are full
 abbrev pub FullUpTo : List Rect → ℕ → ℕ → Type 0
 FullUpTo rects x full = (z v : ℕ) → x < z → z ≤ full → v < 2 ^ 32 → Has rects z v
 
-in_full : (rects : List Rect) (x full q : ℕ) → FullUpTo rects x full → (x + 1) * 2 ^ 32 ≤ q → q < (full + 1) * 2 ^ 32 → (z v : ℕ) → q ≡ z * 2 ^ 32 + v → v < 2 ^ 32 → Contains (rect_points rects) q
-in_full rects x full q is_full from to z v is fits = subst (Contains (rect_points rects)) (sym is) (of_has rects z v (is_full z v (omega arith) (omega arith) fits))
+in_full : (rects : List Rect) (x full q : ℕ) → FullUpTo rects x full → (x + 1) * 2 ^ 32 ≤ q → q < (full + 1) * 2 ^ 32 → (z v : ℕ)
+    → q ≡ z * 2 ^ 32 + v → v < 2 ^ 32 → Contains (rect_points rects) q
+in_full rects x full q is_full from to z v is fits =
+    subst (Contains (rect_points rects)) (sym is) (of_has rects z v (is_full z v (omega arith) (omega arith) fits))
 
 -- the column and the row of a number
 pub split : (q : ℕ) → (z : ℕ) × (v : ℕ) × (q ≡ z * 2 ^ 32 + v) × (v < 2 ^ 32)
 split q = (q / 2 ^ 32, q % 2 ^ 32, sym (shr_split q 32), omega arith)
 
-pub gap_behind : (rects : List Rect) (x full v : ℕ) → AreRects rects → x ≤ full → full + 1 < 2 ^ 32 → FullUpTo rects x full → IsLeast (λ v. ¬ Has rects (full + 1) v × (0 ≤ v) × (v < 2 ^ 32)) (Some v) → IsLeastGap (rect_points rects) ((x + 1) * 2 ^ 32) (Some ((full + 1) * 2 ^ 32 + v))
+pub gap_behind : (rects : List Rect) (x full v : ℕ) → AreRects rects → x ≤ full → full + 1 < 2 ^ 32 → FullUpTo rects x full
+    → IsLeast (λ v. ¬ Has rects (full + 1) v × (0 ≤ v) × (v < 2 ^ 32)) (Some v)
+    → IsLeastGap (rect_points rects) ((x + 1) * 2 ^ 32) (Some ((full + 1) * 2 ^ 32 + v))
 gap_behind rects x full v are le fits is_full least =
     let here = gap_in_row rects (full + 1) 0 v are fits least in (
       (here.0.0, omega arith, here.0.2),
@@ -173,24 +187,31 @@ gap_behind rects x full v are le fits is_full least =
       ],
     )
 
-pub no_gap_behind : (rects : List Rect) (x full : ℕ) → 2 ^ 32 ≤ full + 1 → FullUpTo rects x full → IsLeastGap (rect_points rects) ((x + 1) * 2 ^ 32) None
-no_gap_behind rects x full far is_full q h = let s = split q in h.0 (in_full rects x full q is_full h.1 (omega (arith, h.2)) s.0 s.1 s.2 s.3)
+pub no_gap_behind : (rects : List Rect) (x full : ℕ) → 2 ^ 32 ≤ full + 1 → FullUpTo rects x full
+    → IsLeastGap (rect_points rects) ((x + 1) * 2 ^ 32) None
+no_gap_behind rects x full far is_full q h = let s = split q in
+    h.0 (in_full rects x full q is_full h.1 (omega (arith, h.2)) s.0 s.1 s.2 s.3)
 
-past_column : (rects : List Rect) (x y q : ℕ) → ((v : ℕ) → y ≤ v → v < 2 ^ 32 → Has rects x v) → (Contains (rect_points rects) q → ⊥) → x * 2 ^ 32 + y ≤ q → (x + 1) * 2 ^ 32 ≤ q
+past_column : (rects : List Rect) (x y q : ℕ) → ((v : ℕ) → y ≤ v → v < 2 ^ 32 → Has rects x v) → (Contains (rect_points rects) q → ⊥)
+    → x * 2 ^ 32 + y ≤ q → (x + 1) * 2 ^ 32 ≤ q
 past_column rects x y q full missed le = elim (cases_lt q ((x + 1) * 2 ^ 32)) [
   | inl lt ↦
       let is : x * 2 ^ 32 + (q - x * 2 ^ 32) ≡ q = omega arith in
-      absurd (missed (subst (Contains (rect_points rects)) is (of_has rects x (q - x * 2 ^ 32) (full (q - x * 2 ^ 32) (omega arith) (omega arith)))))
+      absurd (missed (subst (Contains (rect_points rects)) is
+      (of_has rects x (q - x * 2 ^ 32) (full (q - x * 2 ^ 32) (omega arith) (omega arith)))))
   | inr ge ↦ ge
 ]
 
-pub gap_after_column : (rects : List Rect) (x y : ℕ) (o : Option ℕ) → y < 2 ^ 32 → ((v : ℕ) → y ≤ v → v < 2 ^ 32 → Has rects x v) → IsLeastGap (rect_points rects) ((x + 1) * 2 ^ 32) o → IsLeastGap (rect_points rects) (x * 2 ^ 32 + y) o
-gap_after_column rects x y (Some p) fits full least = ((least.0.0, omega (arith, least.0.1, fits), least.0.2), λ q h. least.1 q (h.0, past_column rects x y q full h.0 h.1, h.2))
+pub gap_after_column : (rects : List Rect) (x y : ℕ) (o : Option ℕ) → y < 2 ^ 32 → ((v : ℕ) → y ≤ v → v < 2 ^ 32 → Has rects x v)
+    → IsLeastGap (rect_points rects) ((x + 1) * 2 ^ 32) o → IsLeastGap (rect_points rects) (x * 2 ^ 32 + y) o
+gap_after_column rects x y (Some p) fits full least =
+    ((least.0.0, omega (arith, least.0.1, fits), least.0.2), λ q h. least.1 q (h.0, past_column rects x y q full h.0 h.1, h.2))
 gap_after_column rects x y None fits full none = λ q h. none q (h.0, past_column rects x y q full h.0 h.1, h.2)
 
 -- ---- One point, and the greatest.
 
-pub has_here : (rects : List Rect) (x y v p : ℕ) → AreRects rects → y < 2 ^ 32 → p ≡ x * 2 ^ 32 + y → IsLeast (λ v. Has rects x v × (y ≤ v)) (Some v) → (v ≡ y) ↔ Contains (rect_points rects) p
+pub has_here : (rects : List Rect) (x y v p : ℕ) → AreRects rects → y < 2 ^ 32 → p ≡ x * 2 ^ 32 + y
+    → IsLeast (λ v. Has rects x v × (y ≤ v)) (Some v) → (v ≡ y) ↔ Contains (rect_points rects) p
 has_here rects x y v p are fits is least = (
   λ same. subst (Contains (rect_points rects)) (sym is) (of_has rects x y (subst (Has rects x) same least.0.0)),
   λ h.
@@ -198,18 +219,22 @@ has_here rects x y v p are fits is least = (
       omega (arith, least.0.1),
 )
 
-pub has_none : (rects : List Rect) (x y p : ℕ) → AreRects rects → y < 2 ^ 32 → p ≡ x * 2 ^ 32 + y → IsLeast (λ v. Has rects x v × (y ≤ v)) None → Contains (rect_points rects) p → ⊥
+pub has_none : (rects : List Rect) (x y p : ℕ) → AreRects rects → y < 2 ^ 32 → p ≡ x * 2 ^ 32 + y
+    → IsLeast (λ v. Has rects x v × (y ≤ v)) None → Contains (rect_points rects) p → ⊥
 has_none rects x y p are fits is least h = least y (has_at rects x y are.1 fits (subst (Contains (rect_points rects)) is h), omega arith)
 
-last_above : (r s : Rect) (x y : ℕ) → s.x0 ≤ s.x1 → s.y0 ≤ s.y1 → y < 2 ^ 32 → Holds r x y → ComesBefore r s → x * 2 ^ 32 + y ≤ s.x1 * 2 ^ 32 + s.y1
+last_above : (r s : Rect) (x y : ℕ) → s.x0 ≤ s.x1 → s.y0 ≤ s.y1 → y < 2 ^ 32 → Holds r x y → ComesBefore r s
+    → x * 2 ^ 32 + y ≤ s.x1 * 2 ^ 32 + s.y1
 last_above r s x y broad thick fits h (inl right) = let to = h.right in omega arith
 last_above r s x y broad thick fits h (inr above) = let to = h.right in let top = h.high in omega (arith, above.1, above.2)
 
-pub greatest : (rects : List Rect) (end : ℕ) → AreRects rects → end < length rects → length rects ≤ end + 1 → IsGreatestOf (rect_points rects) (Some ((rect_at rects end).x1 * 2 ^ 32 + (rect_at rects end).y1))
+pub greatest : (rects : List Rect) (end : ℕ) → AreRects rects → end < length rects → length rects ≤ end + 1
+    → IsGreatestOf (rect_points rects) (Some ((rect_at rects end).x1 * 2 ^ 32 + (rect_at rects end).y1))
 greatest rects end are within last =
     let broad = wide rects end are.0 within in
     let thick = tall rects end are.0 within in (
-      of_has rects (rect_at rects end).x1 (rect_at rects end).y1 (record { place = end; within = within; holds = record { left = broad; right = omega arith; low = thick; high = omega arith } }),
+      of_has rects (rect_at rects end).x1 (rect_at rects end).y1
+          (record { place = end; within = within; holds = record { left = broad; right = omega arith; low = thick; high = omega arith } }),
       λ q h.
           let a = to_has rects q are.1 h in
           let is = a.is in
@@ -217,7 +242,11 @@ greatest rects end are within last =
           let right = a.has.holds.right in
           let top = a.has.holds.high in
           elim (cases_lt a.has.place end) [
-            | inl lt ↦ omega (arith, last_above (rect_at rects a.has.place) (rect_at rects end) a.x a.y broad thick a.y_fits a.has.holds (comes_before rects a.has.place end are.0 lt within))
+            | inl lt ↦ omega (
+              arith,
+              last_above (rect_at rects a.has.place) (rect_at rects end) a.x a.y broad thick a.y_fits a.has.holds
+                  (comes_before rects a.has.place end are.0 lt within),
+            )
             | inr ge ↦
                 let e : a.has.place ≡ end = omega arith in
                 subst (λ i. q ≤ (rect_at rects i).x1 * 2 ^ 32 + (rect_at rects i).y1) e (omega arith)

@@ -10,7 +10,8 @@ one_strip run = let e : 0 * 2 ^ 32 + run.0 ≡ run.0 = omega arith in ap (λ a. 
 
 all_strips : (runs : List (ℕ × ℕ)) → flat_map (column_points 0) (map strip runs) ≡ points_of runs
 all_strips [] = refl
-all_strips (run ∷ runs) = ap (λ ps. ps ++ flat_map (column_points 0) (map strip runs)) (one_strip run) ∙ ap (λ ps. run_points run ++ ps) (all_strips runs)
+all_strips (run ∷ runs) = ap (λ ps. ps ++ flat_map (column_points 0) (map strip runs)) (one_strip run)
+    ∙ ap (λ ps. run_points run ++ ps) (all_strips runs)
 
 one_column : (run : ℕ × ℕ) (runs : List (ℕ × ℕ)) → columns_end (map strip (run ∷ runs)) ≡ 1
 one_column run [] = refl

@@ -12,7 +12,8 @@ points_of runs = flat_map run_points runs
 
 -- Each run has a point, and ends before the next begins.
 abbrev pub AreRuns : List (ℕ × ℕ) → Type 0
-AreRuns runs = All (λ run. run.0 ≤ run.1) runs × AllAdjacentBelow (λ run next. run.1 < next.0) runs (length runs)
+AreRuns runs = All (λ run. run.0 ≤ run.1) runs
+    × AllAdjacentBelow (λ run next. run.1 < next.0) runs (length runs)
 
 -- A number lies between each run and the next.
 abbrev pub AreApart : List (ℕ × ℕ) → Type 0

@@ -22,6 +22,7 @@ pub use point_list::PointList;
 pub use points::{Points, next_after, points_in};
 pub use rect::Rect;
 pub use rect_set::RectSet;
+pub use rect_slice::{column_and_row, point};
 pub use run_set::RunSet;
 pub use run_slice::run_from;
 pub use set::PointSet;

@@ -12,44 +12,55 @@ use Rattle.inst_steps.specs.Stepping.{moves_at}
 use Rattle.provenance.specs.declared.taking.Taken.{Taken}
 use Rattle.provenance.specs.Listing.{step_of, at_field, kept_of, taken_by, taken_before}
 
-kept_steps : (field node : ℕ) (ms : List Move) → map step_of (flat_map (kept_of field node) ms) ≡ filter (at_field field) (map (λ m. record { node = node; move = m }) ms)
+kept_steps : (field node : ℕ) (ms : List Move)
+    → map step_of (flat_map (kept_of field node) ms) ≡ filter (at_field field) (map (λ m. record { node = node; move = m }) ms)
 kept_steps field node [] = refl
 kept_steps field node (m ∷ ms) = elim (cases_Bool ((target m).field == field)) [
   | inl here ↦ rw here (ap (λ (xs : List Step). record { node = node; move = m } ∷ xs) (kept_steps field node ms))
   | inr away ↦ rw away (kept_steps field node ms)
 ]
 
-steps_more : (t : Tables) (ks : List ℕ) (k : ℕ) → steps_by t (ks ++ k ∷ []) ≡ steps_by t ks ++ map (λ m. record { node = k; move = m }) (moves_at t k)
-steps_more t ks k = flat_map-append (λ k. map (λ m. record { node = k; move = m }) (moves_at t k)) ks (k ∷ []) ∙ ap (λ (xs : List Step). steps_by t ks ++ xs) (append-nil _)
+steps_more : (t : Tables) (ks : List ℕ) (k : ℕ)
+    → steps_by t (ks ++ k ∷ []) ≡ steps_by t ks ++ map (λ m. record { node = k; move = m }) (moves_at t k)
+steps_more t ks k = flat_map-append (λ k. map (λ m. record { node = k; move = m }) (moves_at t k)) ks (k ∷ [])
+    ∙ ap (λ (xs : List Step). steps_by t ks ++ xs) (append-nil _)
 
 module _ (t : Tables) (field : ℕ) (order : List ℕ) where
-  listed_upto : (k : ℕ) → k ≤ length order → map step_of (taken_before t field order k) ≡ filter (at_field field) (steps_by t (take k order))
+  listed_upto : (k : ℕ) → k ≤ length order → map step_of (taken_before t field order k)
+      ≡ filter (at_field field) (steps_by t (take k order))
   listed_upto zero le = refl
   listed_upto (suc k) le =
       let more : take (suc k) order ≡ take k order ++ slice_index order k ∷ [] = rw (← add-one) (take_more order k 0 (omega (arith, le))) in
       map-append step_of (taken_before t field order k) (taken_by t field (slice_index order k))
-      ∙ ap₂ (λ (xs ys : List Step). xs ++ ys) (listed_upto k (omega (arith, le))) (kept_steps field (slice_index order k) (moves_at t (slice_index order k)))
+      ∙ ap₂ (λ (xs ys : List Step). xs ++ ys) (listed_upto k (omega (arith, le)))
+      (kept_steps field (slice_index order k) (moves_at t (slice_index order k)))
       ∙ sym (filter-append (at_field field) (steps_by t (take k order)) _)
       ∙ ap (filter (at_field field)) (sym (steps_more t (take k order) (slice_index order k)) ∙ ap (steps_by t) (sym more))
 
   listed_all : map step_of (taken_before t field order (length order)) ≡ filter (at_field field) (steps_by t order)
-  listed_all = listed_upto (length order) (omega arith) ∙ ap (λ ks. filter (at_field field) (steps_by t ks)) (take_all (length order) order (omega arith))
+  listed_all = listed_upto (length order) (omega arith)
+      ∙ ap (λ ks. filter (at_field field) (steps_by t ks)) (take_all (length order) order (omega arith))
 
 map-reverse : {X Y : Type 0} (f : X → Y) (xs : List X) → map f (reverse xs) ≡ reverse (map f xs)
 map-reverse f [] = refl
-map-reverse f (x ∷ xs) = ap (map f) (reverse-append (x ∷ []) xs) ∙ map-append f (reverse xs) (x ∷ []) ∙ ap (λ ys. ys ++ f x ∷ []) (map-reverse f xs) ∙ sym (reverse-append (f x ∷ []) (map f xs))
+map-reverse f (x ∷ xs) = ap (map f) (reverse-append (x ∷ []) xs) ∙ map-append f (reverse xs) (x ∷ [])
+    ∙ ap (λ ys. ys ++ f x ∷ []) (map-reverse f xs) ∙ sym (reverse-append (f x ∷ []) (map f xs))
 
 -- The steps at a point and a field that are listed in an order, the other way round.
-pub listed_back : (t u : Tables) (ps : List ℕ) (field : ℕ) (order : List ℕ) (items turned : List Taken) → steps_by u order ≡ filter (is_at ps) (steps_by t order) → order ≡ replay_order (graph_of t.nodes)
-    → items ≡ taken_before u field order (length order) → turned ≡ reverse items → map step_of turned ≡ reverse (filter (at_field field) (filter (is_at ps) (replay_steps t)))
+pub listed_back : (t u : Tables) (ps : List ℕ) (field : ℕ) (order : List ℕ) (items turned : List Taken)
+    → steps_by u order ≡ filter (is_at ps) (steps_by t order) → order ≡ replay_order (graph_of t.nodes)
+    → items ≡ taken_before u field order (length order) → turned ≡ reverse items
+    → map step_of turned ≡ reverse (filter (at_field field) (filter (is_at ps) (replay_steps t)))
 listed_back t u ps field order items turned cut replayed is back =
     ap (map step_of) back ∙ map-reverse step_of items ∙ ap (λ xs. reverse (map step_of xs)) is
     ∙ ap reverse (listed_all u field order ∙ ap (filter (at_field field)) (cut ∙ ap (λ o. filter (is_at ps) (steps_by t o)) replayed))
 
-pub few_back : (u : Tables) (field : ℕ) (order : List ℕ) (items turned : List Taken) → length (steps_by u order) < 2 ^ 31 → items ≡ taken_before u field order (length order) → turned ≡ reverse items → length turned < 2 ^ 32
+pub few_back : (u : Tables) (field : ℕ) (order : List ℕ) (items turned : List Taken) → length (steps_by u order) < 2 ^ 31
+    → items ≡ taken_before u field order (length order) → turned ≡ reverse items → length turned < 2 ^ 32
 few_back u field order items turned few is back =
     let a : length turned ≡ length items = ap length back ∙ length-reverse items in
-    let b : length items ≡ length (filter (at_field field) (steps_by u order)) = sym (length-map items step_of) ∙ ap (λ xs. length (map step_of xs)) is ∙ ap length (listed_all u field order) in
+    let b : length items ≡ length (filter (at_field field) (steps_by u order)) =
+    sym (length-map items step_of) ∙ ap (λ xs. length (map step_of xs)) is ∙ ap length (listed_all u field order) in
     let c = length-filter (at_field field) (steps_by u order) in
     let d = count_by-le-length (at_field field) (steps_by u order) in
     omega (arith, a, b, c, d, few)

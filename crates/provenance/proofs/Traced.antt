@@ -36,7 +36,11 @@ pub record Keeps (t : Tables) : Type 0 where
 
 -- The laws ask for no more of a log than that its fields are mapped.
 admitted : (t : Tables) (d : AreDeclared t) → unmapped_fault t ≡ None → IsFaultless Check d.log
-admitted t d mapped = record { records = no_broken_rule d.lines d.log d.faultless; maps = subst (λ u. unmapped_fault u ≡ None) d.tables mapped }
+admitted t d mapped = record {
+  records = no_broken_rule d.lines d.log d.faultless;
+  maps =
+      subst (λ u. unmapped_fault u ≡ None) d.tables mapped;
+}
 
 pub keeps : (t : Tables) → AreDeclared t → unmapped_fault t ≡ None → HasNoCycle t → IsRaceFree t → Keeps t
 keeps t d mapped no_cycle free =
@@ -57,7 +61,8 @@ pub asked_reads : (ask : Ask) (m : Move) → is_asked ask m ≡ true → (task :
 asked_reads ask (Read task req cell) e = (task, req, cell, refl)
 asked_reads ask _ e = absurd cc
 
-asked_there : (ask : Ask) (node : ℕ) (m : Move) → is_asked ask m ≡ true → (is_at (ask.point ∷ []) (record { node = node; move = m }) ≡ true) × (at_field ask.field (record { node = node; move = m }) ≡ true)
+asked_there : (ask : Ask) (node : ℕ) (m : Move) → is_asked ask m ≡ true → (is_at (ask.point ∷ []) (record { node = node; move = m }) ≡ true)
+    × (at_field ask.field (record { node = node; move = m }) ≡ true)
 asked_there ask node (Read task req cell) e =
     let both = and_parts ((task == ask.task) && (req == ask.req)) ((cell.point == ask.point) && (cell.field == ask.field)) e in
     let here = and_parts (cell.point == ask.point) (cell.field == ask.field) both.1 in
@@ -79,12 +84,17 @@ none_before p xs e x m =
 member_reverse : {X : Type 0} (xs : List X) (x : X) → Member xs x → Member (reverse xs) x
 member_reverse [] x m = absurd m
 member_reverse (y ∷ ys) x m = subst (λ zs. Member zs x) (sym (reverse-append (y ∷ []) ys))
-    (elim m [ inl is ↦ member_right (reverse ys) (y ∷ []) x (inl is) | inr later ↦ member_left (reverse ys) (y ∷ []) x (member_reverse ys x later) ])
+    (elim m [
+      | inl is ↦ member_right (reverse ys) (y ∷ []) x (inl is)
+      | inr later ↦
+          member_left (reverse ys) (y ∷ []) x (member_reverse ys x later)
+    ])
 
 abbrev listed_there : Tables → Ask → List Step
 listed_there t ask = filter (at_field ask.field) (filter (is_at (ask.point ∷ [])) (replay_steps t))
 
-pub none_asked : (t : Tables) (ask : Ask) (items : List Taken) → IsInterleaving t (replay_steps t) → map step_of items ≡ reverse (listed_there t ask)
+pub none_asked : (t : Tables) (ask : Ask) (items : List Taken) → IsInterleaving t (replay_steps t)
+    → map step_of items ≡ reverse (listed_there t ask)
     → position (λ (x : Taken). is_asked ask x.step) items ≡ None → IsNoRead t ask
 none_asked t ask items il same none x is = false_from_ne_true (is_asked ask x.move) (λ asked.
     let here = asked_there ask x.node x.move asked in
@@ -92,7 +102,8 @@ none_asked t ask items il same none x is = false_from_ne_true (is_asked ask x.mo
     let there = filter_member (at_field ask.field) (filter (is_at (ask.point ∷ [])) (replay_steps t)) x at_point here.1 in
     let listed = subst (λ zs. Member zs x) (sym same) (member_reverse (listed_there t ask) x there) in
     let y = member_map step_of items x listed in
-    true≢false (sym (ap (λ (z : Step). is_asked ask z.move) (sym y.2) ∙ asked) ∙ none_before (λ (x : Taken). is_asked ask x.step) items none y.0 y.1))
+    true≢false (sym (ap (λ (z : Step). is_asked ask z.move) (sym y.2) ∙ asked)
+    ∙ none_before (λ (x : Taken). is_asked ask x.step) items none y.0 y.1))
 
 -- ---- its links
 
@@ -102,9 +113,11 @@ comes_member earlier (x ∷ xs) e ls (inl h) = inl h.0
 comes_member earlier (x ∷ xs) e ls (inr h) = inr (comes_member (x ∷ earlier) xs e ls h)
 
 parted : {X : Type 0} (xs : List X) (k : ℕ) (x : X) → k < length xs → x ≡ get_or xs k x → take k xs ++ x ∷ drop (k + 1) xs ≡ xs
-parted xs k x lt is = ap (λ y. take k xs ++ y ∷ drop (k + 1) xs) is ∙ ap (λ ys. take k xs ++ ys) (sym (drop_more xs k x lt)) ∙ take-append-drop k xs
+parted xs k x lt is = ap (λ y. take k xs ++ y ∷ drop (k + 1) xs) is ∙ ap (λ ys. take k xs ++ ys) (sym (drop_more xs k x lt))
+    ∙ take-append-drop k xs
 
-pub traced : (t : Tables) (k : Keeps t) (ask : Ask) (items : List Taken) (place : ℕ) (x : Taken) (task req : ℕ) (cell : Cell) (found : List Link)
+pub traced : (t : Tables) (k : Keeps t) (ask : Ask) (items : List Taken) (place : ℕ) (x : Taken) (task req : ℕ) (cell : Cell)
+    (found : List Link)
     → map step_of items ≡ reverse (listed_there t ask)
     → position (λ (x : Taken). is_asked ask x.step) items ≡ Some place → x ≡ get_or items place x → x.step ≡ Read task req cell
     → found ≡ links_behind t (drop (place + 1) items) cell → AreLinksOf t ask found
@@ -112,11 +125,13 @@ traced t k ask items place x task req cell found same at is reads links_are =
     let first = position-Some (λ (x : Taken). is_asked ask x.step) items place x at in
     let front = map step_of (take place items) in
     let back = map step_of (drop (place + 1) items) in
-    let parts : front ++ step_of x ∷ back ≡ map step_of items = sym (map-append step_of (take place items) (x ∷ drop (place + 1) items)) ∙ ap (map step_of) (parted items place x first.0 is) in
+    let parts : front ++ step_of x ∷ back ≡ map step_of items =
+    sym (map-append step_of (take place items) (x ∷ drop (place + 1) items)) ∙ ap (map step_of) (parted items place x first.0 is) in
     let xs = replay_steps t in
     let sources = sources_of back cell 0 in
     let comes : ComesFrom [] xs (step_of x) sources =
-    comes_back (ask.point ∷ []) ask.field xs front back (step_of x) cell (λ y m. k.stays y (k.replay.in_log y (contains_of xs y m))) (ap cell_read reads) (parts ∙ same) in
+    comes_back (ask.point ∷ []) ask.field xs front back (step_of x) cell (λ y m. k.stays y (k.replay.in_log y (contains_of xs y m)))
+    (ap cell_read reads) (parts ∙ same) in
     record {
       read = step_of x;
       is_step = k.replay.in_log (step_of x) (contains_of xs (step_of x) (comes_member [] xs (step_of x) sources comes));

@@ -6,7 +6,8 @@ use Rattle.semantics.specs.Links.{Touch, touch, with_last, sources_of}
 use Rattle.provenance.specs.declared.taking.Taken.{Taken}
 use Rattle.provenance.specs.Listing.{step_of}
 
-pub one_back : (earlier : List Taken) (i : ℕ) (x : Taken) (k : Touch) (c : Cell) (n : ℕ) → i < length earlier → x ≡ get_or earlier i x → touch x.step c ≡ k
+pub one_back : (earlier : List Taken) (i : ℕ) (x : Taken) (k : Touch) (c : Cell) (n : ℕ) → i < length earlier → x ≡ get_or earlier i x
+    → touch x.step c ≡ k
     → sources_of (map step_of (drop i earlier)) c n ≡ with_last (step_of x) k c n (sources_of (map step_of (drop (i + 1) earlier)))
 one_back earlier i x k c n lt is touches =
     ap (λ xs. sources_of (map step_of xs) c n) (drop_more earlier i x lt ∙ ap (λ (y : Taken). y ∷ drop (i + 1) earlier) (sym is))

@@ -23,4 +23,5 @@ taken_by t field node = flat_map (kept_of field node) (moves_at t node)
 -- Those of the nodes before a place of an order.
 abbrev pub taken_before : Tables → ℕ → List ℕ → ℕ → List Taken
 taken_before t field order zero = []
-taken_before t field order (suc place) = taken_before t field order place ++ taken_by t field (slice_index order place)
+taken_before t field order (suc place) =
+    taken_before t field order place ++ taken_by t field (slice_index order place)

@@ -20,14 +20,23 @@ module _ (t : Tables) (order : List ℕ) where
   pub gathered : (n : ℕ) (x : Touch) → Member (touches_before t order n) x → IsGathered t order n x
   gathered zero x m = absurd m
   gathered (suc n) x m = elim (member_append (touches_before t order n) (node_touches t n (slice_index order n)) x m) [
-    | inl early ↦ let g = gathered n x early in record { place = g.place; below = let lt = g.below in omega (arith, lt); move = g.move; is_move = g.is_move; listed = g.listed }
-    | inr here ↦ let at = member_flat (touches_of n) (moves_at t (slice_index order n)) x here in record { place = n; below = omega arith; move = at.0; is_move = at.1; listed = at.2 }
+    | inl early ↦ let g = gathered n x early in record {
+      place = g.place;
+      below = let lt = g.below in omega (arith, lt);
+      move =
+          g.move;
+      is_move = g.is_move;
+      listed = g.listed;
+    }
+    | inr here ↦ let at = member_flat (touches_of n) (moves_at t (slice_index order n)) x here in
+        record { place = n; below = omega arith; move = at.0; is_move = at.1; listed = at.2 }
   ]
 
   pub all_gathered : (n : ℕ) (x : Touch) → IsGathered t order n x → Member (touches_before t order n) x
   all_gathered zero x g = let lt = g.below in absurd (omega (arith, lt))
   all_gathered (suc n) x g = elim (cases_lt g.place n) [
-    | inl early ↦ member_left (touches_before t order n) (node_touches t n (slice_index order n)) x (all_gathered n x (record { place = g.place; below = early; move = g.move; is_move = g.is_move; listed = g.listed }))
+    | inl early ↦ member_left (touches_before t order n) (node_touches t n (slice_index order n)) x
+        (all_gathered n x (record { place = g.place; below = early; move = g.move; is_move = g.is_move; listed = g.listed }))
     | inr late ↦
         let same : g.place ≡ n = let lt = g.below in omega (arith, lt, late) in
         member_right (touches_before t order n) (node_touches t n (slice_index order n)) x

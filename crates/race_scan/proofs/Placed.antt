@@ -46,7 +46,8 @@ module _ (count : ℕ) (order : List ℕ) (marks : Marks) (h : ArePlaced count o
   ]
 
 -- The order of a graph has all of its nodes, and its marks their places.
-pub all_placed : (nodes : List Node) (order : List ℕ) (marks : Marks) → IsOrderOf nodes order → AreMarksOf nodes marks → AreLinked nodes → ArePlaced (length nodes) order marks
+pub all_placed : (nodes : List Node) (order : List ℕ) (marks : Marks) → IsOrderOf nodes order → AreMarksOf nodes marks → AreLinked nodes
+    → ArePlaced (length nodes) order marks
 all_placed nodes order marks is are linked = record {
   within = all_contained (λ k. k < length nodes) order (order_within nodes order is);
   whole = order_whole nodes order is linked;

@@ -28,20 +28,23 @@ use Rattle.race_scan.proofs.Placed.{at_place, place_is}
 
 -- ---- steps
 
-step_in : (t : Tables) (k : ℕ) (m : Move) → Contains (steps t) (record { node = k; move = m }) → (k < length t.nodes) × Member (moves_at t k) m
+step_in : (t : Tables) (k : ℕ) (m : Move) → Contains (steps t) (record { node = k; move = m }) → (k < length t.nodes)
+    × Member (moves_at t k) m
 step_in t k m c =
     let x : Step = record { node = k; move = m } in
     let at = member_flat (steps_at t) (range_with_len 0 (length t.nodes)) x (member_of (steps t) x c) in
     let of = step_at t at.0 x at.2 in
     (subst (λ n. n < length t.nodes) (sym of.0) (number_within (length t.nodes) at.0 at.1), of.1)
 
-in_steps : (t : Tables) (k : ℕ) (m : Move) → k < length t.nodes → Member (moves_at t k) m → Contains (steps t) (record { node = k; move = m })
+in_steps : (t : Tables) (k : ℕ) (m : Move) → k < length t.nodes → Member (moves_at t k) m
+    → Contains (steps t) (record { node = k; move = m })
 in_steps t k m lt h =
     contains_of (steps t) (record { node = k; move = m })
     (flat_member (steps_at t) (range_with_len 0 (length t.nodes)) k (record { node = k; move = m }) (number_in (length t.nodes) k lt)
     (map_member (λ m. record { node = k; move = m }) (moves_at t k) m h))
 
-module _ (t : Tables) (order : List ℕ) (marks : Marks) (replayed : order ≡ replay_order (graph_of t.nodes)) (marked : AreMarksOf (graph_of t.nodes) marks)
+module _ (t : Tables) (order : List ℕ) (marks : Marks) (replayed : order ≡ replay_order (graph_of t.nodes))
+    (marked : AreMarksOf (graph_of t.nodes) marks)
     (at_graph : ArePlaced (length (graph_of t.nodes)) order marks) where
   abbrev touches : List Touch
   touches = touches_before t order (length order)
@@ -59,7 +62,8 @@ module _ (t : Tables) (order : List ℕ) (marks : Marks) (replayed : order ≡ r
   none_before a b la lb e before = true≢false (sym ((marked.exact a b (rw many la) (rw many lb)).1 before) ∙ e)
 
   -- What a step does at a cell is gathered at the place of its node.
-  pub touch_of : (k : ℕ) (m : Move) (cell : Cell) (c : Access) → Contains (steps t) (record { node = k; move = m }) → access m cell ≡ meant c
+  pub touch_of : (k : ℕ) (m : Move) (cell : Cell) (c : Access) → Contains (steps t) (record { node = k; move = m })
+      → access m cell ≡ meant c
       → (p : ℕ) × (slice_index order p ≡ k) × Contains touches (touch p cell c)
   touch_of k m cell c in_log does =
       let s = step_in t k m in_log in
@@ -127,7 +131,8 @@ module _ (t : Tables) (order : List ℕ) (marks : Marks) (replayed : order ≡ r
   -- ---- places
 
   rank_is : (k : ℕ) → k < length t.nodes → replay_place t k ≡ rank_in marks k
-  rank_is k lt = ap (λ ns. unwrap_or (position (λ n. n == k) ns) (length t.nodes)) (sym replayed) ∙ place_is (length t.nodes) order marks placed k (length t.nodes) lt
+  rank_is k lt = ap (λ ns. unwrap_or (position (λ n. n == k) ns) (length t.nodes)) (sym replayed)
+      ∙ place_is (length t.nodes) order marks placed k (length t.nodes) lt
 
   nodes_of : (a b : ℕ) (cell : Cell) → Race t a b cell → (replay_place t a ≡ rank_in marks a) × (replay_place t b ≡ rank_in marks b)
   nodes_of a b cell r = (rank_is a (step_in t a r.one r.one_in).0, rank_is b (step_in t b r.other r.other_in).0)
@@ -143,11 +148,14 @@ module _ (t : Tables) (order : List ℕ) (marks : Marks) (replayed : order ≡ r
         race = race;
         in_order = rw (at.0, at.1) h.in_order;
         least_cell = λ c d other r. h.least_cell c d other (to_clash c d other r);
-        first_later = λ c d r less. let n = nodes_of c d s.cell r in rw (at.1, n.1) (h.first_later c d (to_clash c d s.cell r) (rw (← n.0, ← n.1) less));
-        first_earlier = λ c r less. let n = nodes_of c s.b s.cell r in rw (at.0, n.0) (h.first_earlier c (to_clash c s.b s.cell r) (rw (← n.0, ← at.1) less));
+        first_later = λ c d r less. let n = nodes_of c d s.cell r in
+            rw (at.1, n.1) (h.first_later c d (to_clash c d s.cell r) (rw (← n.0, ← n.1) less));
+        first_earlier = λ c r less. let n = nodes_of c s.b s.cell r in
+            rw (at.0, n.0) (h.first_earlier c (to_clash c s.b s.cell r) (rw (← n.0, ← at.1) less));
       }
 
-  pub found_race : (o : Option Clashing) → MatchOption o (IsFree (before_in marks) order touches) (IsShown (before_in marks) (rank_in marks) order touches) → MatchOption o (IsRaceFree t) (IsShownIn t)
+  pub found_race : (o : Option Clashing) → MatchOption o (IsFree (before_in marks) order touches)
+      (IsShown (before_in marks) (rank_in marks) order touches) → MatchOption o (IsRaceFree t) (IsShownIn t)
   found_race None h = free_race h
   found_race (Some s) h = shown_race s h
 

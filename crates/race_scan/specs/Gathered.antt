@@ -12,4 +12,5 @@ node_touches t place node = flat_map (touches_of place) (moves_at t node)
 -- What the nodes do that stand before a place of the order.
 abbrev pub touches_before : Tables → List ℕ → ℕ → List Touch
 touches_before t order zero = []
-touches_before t order (suc place) = touches_before t order place ++ node_touches t place (slice_index order place)
+touches_before t order (suc place) =
+    touches_before t order place ++ node_touches t place (slice_index order place)

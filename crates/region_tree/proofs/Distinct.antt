@@ -15,7 +15,8 @@ abbrev pub IsFirstAt : {X : Type 0} → (X → X → Bool) → List X → ℕ �
 IsFirstAt {X} same xs i = (x : X) → slice_get xs i ≡ Some x → position_from (same x) 0 xs ≡ Some i
 
 -- the first place of what passes: no element before it does
-none_before : {X : Type 0} (p : X → Bool) (k i j : ℕ) (d : X) (xs : List X) → position_from p k xs ≡ Some i → k + j < i → p (get_or xs j d) ≡ false
+none_before : {X : Type 0} (p : X → Bool) (k i j : ℕ) (d : X) (xs : List X) → position_from p k xs ≡ Some i → k + j < i
+    → p (get_or xs j d) ≡ false
 none_before p k i j d [] e lt = absurd (none-some i e)
 none_before p k i zero d (x ∷ xs) e lt =
     elim (cases_Bool (p x)) [ inl hit ↦ let here : k ≡ i = same_Some k i (rw hit at e) in absurd (omega arith) | inr miss ↦ miss ]
@@ -26,7 +27,8 @@ none_before p k i (suc j) d (x ∷ xs) e lt =
     ]
 
 -- an element that passes stands at the first place or after it
-pub found_by : {X : Type 0} (p : X → Bool) (k i : ℕ) (x : X) (xs : List X) → slice_get xs i ≡ Some x → p x ≡ true → (j : ℕ) × (y : X) × (j ≤ i) × (position_from p k xs ≡ Some (k + j)) × (slice_get xs j ≡ Some y) × (p y ≡ true)
+pub found_by : {X : Type 0} (p : X → Bool) (k i : ℕ) (x : X) (xs : List X) → slice_get xs i ≡ Some x → p x ≡ true → (j : ℕ) × (y : X)
+    × (j ≤ i) × (position_from p k xs ≡ Some (k + j)) × (slice_get xs j ≡ Some y) × (p y ≡ true)
 found_by p k i x [] at e = absurd (none-some x at)
 found_by p k zero x (y ∷ ys) at e =
     let here : y ≡ x = same_Some y x at in
@@ -43,13 +45,15 @@ found_by p k (suc i) x (y ∷ ys) at e =
     ]
 
 -- where each element is the first that is like it, no two are alike
-pub all_apart : {X : Type 0} (same : X → X → Bool) (R : X → X → Type 0) (xs : List X) → ((x y : X) → same y x ≡ false → R x y) → ((k : ℕ) → k < length xs → IsFirstAt same xs k) → AllPairs R xs
+pub all_apart : {X : Type 0} (same : X → X → Bool) (R : X → X → Type 0) (xs : List X) → ((x y : X) → same y x ≡ false → R x y)
+    → ((k : ℕ) → k < length xs → IsFirstAt same xs k) → AllPairs R xs
 all_apart {X} same R xs apart first i j d lt lt' =
     let at = slice_get-get_or xs j d lt' in
     apart (get_or xs i d) (get_or xs j d) (none_before (same (get_or xs j d)) 0 j i d xs (first j lt' (get_or xs j d) at) (omega arith))
 
 -- the other way round
-pub first_from_apart : {X : Type 0} (same : X → X → Bool) (R : X → X → Type 0) (xs : List X) (i : ℕ) → ((x y : X) → same y x ≡ true → R x y → ⊥) → ((x : X) → same x x ≡ true) → AllPairs R xs → IsFirstAt same xs i
+pub first_from_apart : {X : Type 0} (same : X → X → Bool) (R : X → X → Type 0) (xs : List X) (i : ℕ)
+    → ((x y : X) → same y x ≡ true → R x y → ⊥) → ((x : X) → same x x ≡ true) → AllPairs R xs → IsFirstAt same xs i
 first_from_apart {X} same R xs i clash itself pairs x at =
     let h = found_by (same x) 0 i x xs at (itself x) in
     let z : 0 + h.0 ≡ h.0 = omega arith in
@@ -73,10 +77,14 @@ same_told None i ne is off = absurd (let f : ⊥ = let e : false ≡ true = sym 
 
 pub other_told : (o : Option ℕ) (i : ℕ) (ne : Bool) → ne ≡ not (option_eq nat_eq o (Some i)) → ne ≡ true → o ≢ Some i
 other_told o i ne is on same =
-    let no : ⊥ = let e : true ≡ false = sym on ∙ is ∙ ap (λ p. not (option_eq nat_eq p (Some i))) same ∙ ap not (eq-eqb i i refl) in cc in no
+    let no : ⊥ = let e : true ≡ false = sym on ∙ is ∙ ap (λ p. not (option_eq nat_eq p (Some i))) same ∙ ap not (eq-eqb i i refl) in cc in
+    no
 
 -- whether no two elements have one key, as the first places of their keys tell; the elements are items as they are seen
-pub distinct_told : {T X K F : Type 0} (g : Shared F (Bor T × Unit {0}) (Option ℕ)) (f : F) (show : T → X) (key : X → K) (same : K → K → Bool) → ((a b : K) → same a b ≡ true ↔ a ≡ b) → (items : List T) (xs : List X) (r : Bool) → map show items ≡ xs → ((p : Bor T) (o : Option ℕ) → g.post f (p, tt) o → o ≡ position_from (λ x. same (key x) (key (show p.now))) 0 xs) → MatchBool r (AllFirst g f items) (SomeLater g f items) → IsTrue r ↔ AllPairs (λ x y. key x ≢ key y) xs
+pub distinct_told : {T X K F : Type 0} (g : Shared F (Bor T × Unit {0}) (Option ℕ)) (f : F) (show : T → X) (key : X → K) (same : K → K
+    → Bool) → ((a b : K) → same a b ≡ true ↔ a ≡ b) → (items : List T) (xs : List X) (r : Bool) → map show items ≡ xs
+    → ((p : Bor T) (o : Option ℕ) → g.post f (p, tt) o → o ≡ position_from (λ x. same (key x) (key (show p.now))) 0 xs)
+    → MatchBool r (AllFirst g f items) (SomeLater g f items) → IsTrue r ↔ AllPairs (λ x y. key x ≢ key y) xs
 distinct_told {T} {X} g f show key same is items xs true seen finds told = (
   λ _. all_apart (λ x y. same (key y) (key x)) (λ x y. key x ≢ key y) xs
       (λ x y e one. let no : ⊥ = let t : true ≡ false = sym ((is (key x) (key y)).1 one) ∙ e in cc in no)
@@ -91,8 +99,11 @@ distinct_told {T} {X} g f show key same is items xs false seen finds told = (
   λ no. absurd (let e : ⊥ = cc in e),
   λ pairs.
       let t = told.4 in
-      let at : slice_get xs told.0 ≡ Some (show t.shown.now) = ap (λ (ys : List X). slice_get ys told.0) (sym seen) ∙ slice_get-map show items told.0 ∙ ap (option_map show) told.3 ∙ ap (λ (y : T). Some (show y)) (sym t.shows) in
-      let first = first_from_apart (λ x y. same (key y) (key x)) (λ x y. key x ≢ key y) xs told.0 (λ x y e ne. ne ((is (key x) (key y)).0 e)) (λ x. (is (key x) (key x)).1 refl) pairs in
+      let at : slice_get xs told.0 ≡ Some (show t.shown.now) =
+      ap (λ (ys : List X). slice_get ys told.0) (sym seen) ∙ slice_get-map show items told.0 ∙ ap (option_map show) told.3
+      ∙ ap (λ (y : T). Some (show y)) (sym t.shows) in
+      let first = first_from_apart (λ x y. same (key y) (key x)) (λ x y. key x ≢ key y) xs told.0
+      (λ x y e ne. ne ((is (key x) (key y)).0 e)) (λ x. (is (key x) (key x)).1 refl) pairs in
       absurd (told.5 (finds t.shown told.2 t.says.met ∙ first (show t.shown.now) at)),
 )
 

@@ -19,14 +19,18 @@ least_outside_none xs ys o e least =
     let none : (p : ℕ) → Contains ys p → ⊥ = λ p h. let lt : h.0 < 0 = subst (λ (zs : List ℕ). h.0 < length zs) e h.1 in omega arith in
     least_alike (Contains xs) (λ p. Contains xs p × ¬ (Contains ys p)) o (λ p h. (h, none p)) (λ p h. h.0) least
 
-pub outside_from : (d : Regions) (i : ℕ) (s : Sub) (o : Option ℕ) → slice_get d.subs i ≡ Some s → IsLeastOutside (space_points d s.space) (points_cut d s.part) o → IsLeast (IsOutside d i) o
+pub outside_from : (d : Regions) (i : ℕ) (s : Sub) (o : Option ℕ) → slice_get d.subs i ≡ Some s
+    → IsLeastOutside (space_points d s.space) (points_cut d s.part) o → IsLeast (IsOutside d i) o
 outside_from d i s o at least =
     least_alike (λ p. Contains (space_points d s.space) p × ¬ (Contains (points_cut d s.part) p)) (IsOutside d i) o
     (λ p h. (s, at, h.0, h.1))
-    (λ p h. let e : h.0 ≡ s = same_Some h.0 s (sym h.1 ∙ at) in subst (λ (t : Sub). Contains (space_points d t.space) p × ¬ (Contains (points_cut d t.part) p)) e (h.2, h.3))
+    (λ p h. let e : h.0 ≡ s = same_Some h.0 s (sym h.1 ∙ at) in
+    subst (λ (t : Sub). Contains (space_points d t.space) p × ¬ (Contains (points_cut d t.part) p)) e (h.2, h.3))
     least
 
-pub meets_from : (d : Regions) (i j : ℕ) (s t : Sub) (o : Option ℕ) → j < i → slice_get d.subs i ≡ Some s → slice_get d.subs j ≡ Some t → s.part ≡ t.part → IsTrue (is_disjoint d s.part) → IsLeastCommon (space_points d s.space) (space_points d t.space) o → IsLeast (Meets d i j) o
+pub meets_from : (d : Regions) (i j : ℕ) (s t : Sub) (o : Option ℕ) → j < i → slice_get d.subs i ≡ Some s → slice_get d.subs j ≡ Some t
+    → s.part ≡ t.part → IsTrue (is_disjoint d s.part) → IsLeastCommon (space_points d s.space) (space_points d t.space) o
+    → IsLeast (Meets d i j) o
 meets_from d i j s t o lt at_i at_j same disjoint least =
     least_alike (λ p. Contains (space_points d s.space) p × Contains (space_points d t.space) p) (Meets d i j) o
     (λ p h. (s, t, lt, at_i, at_j, (same, disjoint, h.0, h.1)))
@@ -37,7 +41,8 @@ meets_from d i j s t o lt at_i at_j same disjoint least =
     least
 
 -- the first of the earlier subspaces that are met
-pub first_meeting : (d : Regions) (i j p : ℕ) → ((k : ℕ) → k < j → ¬ MeetsEarlier d i k) → IsLeast (Meets d i j) (Some p) → IsLeast (MeetsEarlier d i) (Some j) × IsLeast (Meets d i j) (Some p)
+pub first_meeting : (d : Regions) (i j p : ℕ) → ((k : ℕ) → k < j → ¬ MeetsEarlier d i k) → IsLeast (Meets d i j) (Some p)
+    → IsLeast (MeetsEarlier d i) (Some j) × IsLeast (Meets d i j) (Some p)
 first_meeting d i j p before least = (
   ((p, least.0), λ k h. elim (cases_lt k j) [ inl lt ↦ absurd (before k lt h) | inr le ↦ le ]),
   least,
@@ -53,7 +58,8 @@ not_faulty d i inside apart faulty = elim faulty [ inl h ↦ inside h.0 h.1 | in
 -- what the first refusal shows
 pub first_shown : (d : Regions) (i : ℕ) (e : ForestFault) → ((k : ℕ) → k < i → ¬ IsFaulty d k) → Shows d i e → ShowsFirst d e
 first_shown d i (NotWithin sub point) before h = subst (λ k. FirstNotWithin d k point) (sym h.0) ((inl (point, h.1.0), before), h.1)
-first_shown d i (NotDisjoint sub other point) before h = subst (λ k. FirstNotDisjoint d k other point) (sym h.0) ((inr (other, h.2.0), before), h.1, h.2, h.3)
+first_shown d i (NotDisjoint sub other point) before h =
+    subst (λ k. FirstNotDisjoint d k other point) (sym h.0) ((inr (other, h.2.0), before), h.1, h.2, h.3)
 first_shown d i Memory before h = tt
 
 -- past the last subspace there is no faulty one

@@ -18,4 +18,5 @@ IsBelow d space root = (n : ℕ) × (ancestor_of d (suc n) space ≡ Some root)
 
 -- Both are declared, and the space is the root or lies below it.
 abbrev pub IsUnder : Regions → ℕ → ℕ → Type 0
-IsUnder d space root = IsSome (space_of d space) × IsSome (space_of d root) × ((n : ℕ) × (ancestor_of d n space ≡ Some root))
+IsUnder d space root = IsSome (space_of d space) × IsSome (space_of d root)
+    × ((n : ℕ) × (ancestor_of d n space ≡ Some root))

@@ -10,7 +10,8 @@ AllFirst {F} {T} g f items = (i : ℕ) (x : T) → slice_get items i ≡ Some x 
 
 -- Some item stands at another place than a call gives for it.
 abbrev pub SomeLater : {F T : Type 0} → Shared F (Bor T × Unit {0}) (Option ℕ) → F → List T → Type 0
-SomeLater {F} {T} g f items = (i : ℕ) × (x : T) × (o : Option ℕ) × (slice_get items i ≡ Some x) × FnReturnsAt g f x o × (o ≢ Some i)
+SomeLater {F} {T} g f items = (i : ℕ) × (x : T) × (o : Option ℕ) × (slice_get items i ≡ Some x)
+    × FnReturnsAt g f x o × (o ≢ Some i)
 
 -- Whether a map takes two steps for one.
 abbrev pub same_step : Step → Step → Bool

@@ -28,4 +28,5 @@ pub record MaySub (d : Regions) (s : Sub) : Type 0 where
   pub step : All (λ u. step_of u ≢ step_of s) d.subs
   pub sub : All (λ u. u.space ≢ s.space) d.subs
   pub whole : All (λ p. p.space ≢ s.space) d.parts
-  pub depth : (whole root n : ℕ) → whole_of d s.part ≡ Some whole → ancestor_of d n whole ≡ Some root → n < DEEPEST
+  pub depth : (whole root n : ℕ) → whole_of d s.part ≡ Some whole → ancestor_of d n whole ≡ Some root
+      → n < DEEPEST

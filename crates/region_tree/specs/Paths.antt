@@ -13,11 +13,13 @@ pub record Way : Type 0 where
 -- The steps lead from one space down to another: each to a subspace of the space that the steps before it reach.
 abbrev pub Leads : Regions → ℕ → List Step → ℕ → Type 0
 Leads d from [] to = from ≡ to
-Leads d from (step ∷ steps) to = (s : Sub) × Contains d.subs s × (step_of s ≡ step) × (whole_of d s.part ≡ Some from) × Leads d s.space steps to
+Leads d from (step ∷ steps) to = (s : Sub) × Contains d.subs s × (step_of s ≡ step)
+    × (whole_of d s.part ≡ Some from) × Leads d s.space steps to
 
 -- The path of a space: from a declared space that lies below no other, down to it.
 abbrev pub IsPath : Regions → Way → ℕ → Type 0
-IsPath d way space = IsSome (space_of d way.top) × (parent_of d way.top ≡ None) × Leads d way.top way.steps space
+IsPath d way space = IsSome (space_of d way.top) × (parent_of d way.top ≡ None)
+    × Leads d way.top way.steps space
 
 -- The step to a declared subspace, with the space from which it leads.
 abbrev pub step_with : Regions → Sub → Option (Step × ℕ)

@@ -8,8 +8,10 @@ use Rattle.region_tree.specs.Paths.{Way, IsPath}
 
 -- Two of the steps lead to two subspaces of one disjoint partition.
 abbrev pub PartDisjoint : Regions → List Step → List Step → Type 0
-PartDisjoint d xs ys = (x : Step) × (y : Step) × Contains xs x × Contains ys y × (x ≢ y) × (x.part ≡ y.part) × IsTrue (is_disjoint d x.part)
+PartDisjoint d xs ys = (x : Step) × (y : Step) × Contains xs x × Contains ys y × (x ≢ y) × (x.part ≡ y.part)
+    × IsTrue (is_disjoint d x.part)
 
 -- The least point that the spaces of both paths share.
 abbrev pub IsLeastShared : Regions → Way → Way → Option ℕ → Type 0
-IsLeastShared d a b o = (s t : ℕ) → IsPath d a s → IsPath d b t → IsLeastCommon (space_points d s) (space_points d t) o
+IsLeastShared d a b o = (s t : ℕ) → IsPath d a s → IsPath d b t
+    → IsLeastCommon (space_points d s) (space_points d t) o

@@ -1,13 +1,14 @@
 //! Subspaces that are not within the space that is cut, or not disjoint.
 
-ghost use Rattle.std.specs.Prelude.{ℕ, ◌<◌, ◌↔◌, OnOk, IfErr, IsTrue};
+ghost use Rattle.std.specs.Prelude.{◌≡◌, ℕ, ◌<◌, OnOk, IfErr};
 ghost use Rattle.point_set.specs.Least.{IsLeast};
-ghost use Rattle.region_tree.specs.Claims.{MeetsSome};
-ghost use Rattle.region_tree.specs.Faults.{IsOutside, Meets, IsFirstMet, IsFaulty, Shows, ShowsFirst};
+ghost use Rattle.region_tree.specs.Claims.{IsMet, met_by};
+ghost use Rattle.region_tree.specs.Faults.{IsOutside, Meets, IsFaulty, Shows, ShowsFirst};
 
-use crate::claims::first_meeting;
+use crate::clashes::first_meeting;
 use crate::forest_fault::ForestFault;
 use crate::lookups::{first_common, is_disjoint, sub_at, subs, whole_set};
+use arena_sets::SetOfRects;
 use log_tables::Decls;
 use point_set::PointSet;
 use std::alloc::Global;
@@ -37,33 +38,30 @@ fn shared<P: PointSet>(decls: &Decls<P>, i: usize, j: usize) -> Option<u64>
     first_common(decls, ours.space, theirs.space)
 }
 
-/// The least earlier subspace that subspace `i` meets, with the least point that they share.
-fn first_met<P: PointSet>(decls: &Decls<P>, i: usize) -> Option<(usize, u64)>
-    ensures { IsFirstMet decls.now i result }
+/// The subspace that subspace `i` meets, where it is the one that a meeting is of.
+fn met_by(meeting: Option<(usize, usize)>, i: usize) -> Option<usize>
+    ensures { result ≡ met_by meeting i }
 {
-    for j in 0..i {
-        match shared(decls, i, j) {
-            Some(point) => return Some((j, point)),
-            None => {}
-        }
+    match meeting {
+        Some((sub, other)) => { if sub == i { Some(other) } else { None } }
+        None => None,
     }
-    None
 }
 
-/// Refuses subspace `i` if it is faulty, where `meets` says whether it meets an earlier one.
-fn judge_sub<P: PointSet>(decls: &Decls<P>, i: usize, meets: bool) -> Result<(), ForestFault>
-    requires { IsTrue meets ↔ MeetsSome decls.now i }
+/// Refuses subspace `i` if it is faulty, where `met` is the first earlier subspace that it meets.
+fn judge_sub<P: PointSet>(decls: &Decls<P>, i: usize, met: Option<usize>) -> Result<(), ForestFault>
+    requires { IsMet decls.now i met }
     ensures ok { OnOk result (¬ IsFaulty decls.now i) }
     ensures shown { IfErr result (Shows decls.now i) }
 {
     if let Some(point) = outside(decls, i) {
         return Err(ForestFault::NotWithin { sub: i, point });
     }
-    if !meets {
+    let Some(other) = met else {
         return Ok(());
-    }
-    match first_met(decls, i) {
-        Some((other, point)) => Err(ForestFault::NotDisjoint {
+    };
+    match shared(decls, i, other) {
+        Some(point) => Err(ForestFault::NotDisjoint {
             sub: i,
             other,
             point,
@@ -73,13 +71,13 @@ fn judge_sub<P: PointSet>(decls: &Decls<P>, i: usize, meets: bool) -> Result<(),
 }
 
 /// Refuses the least faulty subspace, if there is one.
-pub(crate) fn judge<P: PointSet>(alloc: Global, decls: &Decls<P>) -> Result<(), ForestFault>
+pub(crate) fn judge<P: SetOfRects>(alloc: Global, decls: &Decls<P>) -> Result<(), ForestFault>
     ensures ok { OnOk result ((i : ℕ) → ¬ IsFaulty decls.now i) }
     ensures shown { IfErr result (ShowsFirst decls.now) }
 {
     let meeting = first_meeting(alloc, decls)?;
     for i in 0..subs(decls).len() {
-        judge_sub(decls, i, meeting == Some(i))?;
+        judge_sub(decls, i, met_by(meeting, i))?;
     }
     Ok(())
 }

@@ -16,6 +16,7 @@ use crate::forest_fault::ForestFault;
 use crate::lookups::has_space;
 use crate::path::Path;
 use crate::sharing::alias_of;
+use arena_sets::SetOfRects;
 use log_tables::Decls;
 use memory::Memory;
 use point_set::PointSet;
@@ -46,24 +47,6 @@ impl<'d, P: PointSet> Forest<'d, P> {
         ensures { result ≡ decls.now }
     {
         Forest { decls }
-    }
-
-    /// The forest that is declared.
-    ///
-    /// It is refused just where some subspace is faulty: with the least faulty one, and the least point at fault.
-    pub fn judge(alloc: Global, decls: &'d Decls<P>) -> Result<Forest<'d, P>, ForestFault>
-        requires { IsForest decls.now }
-        ensures forest { IfOk result (λ forest. forest ≡ decls.now) }
-        ensures faultless { OnOk result ((i : ℕ) → ¬ IsFaulty decls.now i) }
-
-        // Each refusal shows the least faulty subspace. The first way of being faulty comes before the second.
-        ensures not_within { (sub point : ℕ) → result ≡ Err (ForestFault.NotWithin sub point)
-            → FirstNotWithin decls.now sub point }
-        ensures not_disjoint { (sub other point : ℕ) → result ≡ Err (ForestFault.NotDisjoint sub other point)
-            → FirstNotDisjoint decls.now sub other point }
-    {
-        judge(alloc, decls)?;
-        Ok(Forest { decls })
     }
 
     /// The set of a space, or `None` if the space is not declared.
@@ -102,5 +85,25 @@ impl<'d, P: PointSet> Forest<'d, P> {
             → IsLeastCommon (space_points self.now s) (space_points self.now t) result }
     {
         alias_of(self.decls, a, b)
+    }
+}
+
+impl<'d, P: SetOfRects> Forest<'d, P> {
+    /// The forest that is declared.
+    ///
+    /// It is refused just where some subspace is faulty: with the least faulty one, and the least point at fault.
+    pub fn judge(alloc: Global, decls: &'d Decls<P>) -> Result<Forest<'d, P>, ForestFault>
+        requires { IsForest decls.now }
+        ensures forest { IfOk result (λ forest. forest ≡ decls.now) }
+        ensures faultless { OnOk result ((i : ℕ) → ¬ IsFaulty decls.now i) }
+
+        // Each refusal shows the least faulty subspace. The first way of being faulty comes before the second.
+        ensures not_within { (sub point : ℕ) → result ≡ Err (ForestFault.NotWithin sub point)
+            → FirstNotWithin decls.now sub point }
+        ensures not_disjoint { (sub other point : ℕ) → result ≡ Err (ForestFault.NotDisjoint sub other point)
+            → FirstNotDisjoint decls.now sub other point }
+    {
+        judge(alloc, decls)?;
+        Ok(Forest { decls })
     }
 }

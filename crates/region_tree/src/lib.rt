@@ -1,7 +1,13 @@
 //! Forests of regions: spaces, the partitions of spaces, and the subspaces of partitions.
+//!
+//! `Forest::judge` takes declarations exactly where no subspace is faulty, and else shows the least faulty
+//! one with the least point at fault; a `Forest` tells which spaces lie below which, by which path, and
+//! which points two of them share. Begin with `forest`; `faults` judges, with `claims` and `clashes` for
+//! disjoint partitions.
 #![tactic(auto)]
 
 mod claims;
+mod clashes;
 mod climb;
 mod faults;
 mod forest;
@@ -12,7 +18,7 @@ mod path;
 mod shape;
 mod sharing;
 
-pub use arena_sets::ArenaSet;
+pub use arena_sets::{ArenaRects, ArenaSet, SetOfRects};
 pub use forest::Forest;
 pub use forest_fault::ForestFault;
 pub use growing::declarations_grow;

@@ -56,7 +56,12 @@ abbrev pub NodesFit : Tables → Type 0
 NodesFit t = Each (λ (n : LogNode). OpFits t.insts t.items n.op) t.nodes
 
 kind_still : (insts : List Inst) (x : Inst) (id : ℕ) (b : Bool) → IsOfKind insts id b → IsOfKind (insts ++ x ∷ []) id b
-kind_still insts x id b k = record { inst = k.inst; found = find_still (λ (i : Inst). i.id == id) insts (x ∷ []) k.inst k.found; kind = k.kind }
+kind_still insts x id b k = record {
+  inst = k.inst;
+  found = find_still (λ (i : Inst). i.id == id) insts (x ∷ []) k.inst k.found;
+  kind =
+      k.kind;
+}
 
 more_insts : (insts : List Inst) (x : Inst) (items : List Item) (op : Op) → OpFits insts items op → OpFits (insts ++ x ∷ []) items op
 more_insts insts x items (operations.Run item) h = h
@@ -82,28 +87,35 @@ of_kind t id b there e =
 task_there : (t : Tables) (id : ℕ) → is_declared t (task_id id) ≡ true → place_of t.items id < length t.items
 task_there t id e =
     let a = any_found (λ (i : Item). (i.id == id) && is_task i.body) t.items e in
-    place_below (λ (i : Item). i.id == id) t.items (any_at (λ (i : Item). i.id == id) t.items a.0 a.1 (and_parts (a.0.id == id) (is_task a.0.body) a.2).0)
+    place_below (λ (i : Item). i.id == id) t.items
+    (any_at (λ (i : Item). i.id == id) t.items a.0 a.1 (and_parts (a.0.id == id) (is_task a.0.body) a.2).0)
 
 record Ruled (t : Tables) (r : Record) : Type 0 where
   declared : list_all (is_declared t) (names r) ≡ true
   kinds : is_of_wrong_kind t r ≡ false
 
-node_fits : (t : Tables) (n : LogNode) → NodesFit t → OpFits t.insts t.items n.op → Each (λ (n : LogNode). OpFits t.insts t.items n.op) (t.nodes ++ n ∷ [])
+node_fits : (t : Tables) (n : LogNode) → NodesFit t → OpFits t.insts t.items n.op
+    → Each (λ (n : LogNode). OpFits t.insts t.items n.op) (t.nodes ++ n ∷ [])
 node_fits t n h w = each_more (λ (n : LogNode). OpFits t.insts t.items n.op) t.nodes n h w
 
 more_fit : (t : Tables) (line : ℕ) (r : Record) → Ruled t r → NodesFit t → NodesFit (with_record t line r)
 more_fit t line (records.Inst id tree space fields kind) k h = λ n m. more_insts t.insts _ t.items n.op (h n m)
 more_fit t line (records.Task id) k h = λ n m. more_items t.insts t.items _ n.op (h n m)
 more_fit t line (records.Fill id tree space fields value) k h = λ n m. more_items t.insts t.items _ n.op (h n m)
-more_fit t line (records.Run task done waits) k h = node_fits t _ h (task_there t task (all_at (is_declared t) (task_id task ∷ []) (task_id task) k.declared (inl refl)))
+more_fit t line (records.Run task done waits) k h =
+    node_fits t _ h (task_there t task (all_at (is_declared t) (task_id task ∷ []) (task_id task) k.declared (inl refl)))
 more_fit t line (records.Copy src dst space fields done waits) k h =
     let one = or_parts _ (src == dst) k.kinds in
     let two = or_parts (reduces_in t src) (reduces_in t dst) one.0 in
-    node_fits t _ h (of_kind t dst false (all_at (is_declared t) (names (records.Copy src dst space fields done waits)) (inst_id dst) k.declared (inr (inl refl))) two.1)
+    node_fits t _ h (of_kind t dst false (all_at (is_declared t) (names (records.Copy src dst space fields done waits))
+    (inst_id dst) k.declared (inr (inl refl))) two.1)
 more_fit t line (records.Fold src dst space fields done waits) k h =
     let two = or_parts _ (reduces_in t dst) k.kinds in
     let there = all_at (is_declared t) (names (records.Fold src dst space fields done waits)) in
-    node_fits t _ h (of_kind t src true (there (inst_id src) k.declared (inl refl)) (not-false _ two.0), of_kind t dst false (there (inst_id dst) k.declared (inr (inl refl))) two.1)
+    node_fits t _ h (
+      of_kind t src true (there (inst_id src) k.declared (inl refl)) (not-false _ two.0),
+      of_kind t dst false (there (inst_id dst) k.declared (inr (inl refl))) two.1,
+    )
 more_fit t line (records.Put inst space fields n done waits) k h = node_fits t _ h tt
 more_fit t line (records.Reset inst space fields done waits) k h = node_fits t _ h tt
 more_fit t line (records.Merge done waits) k h = node_fits t _ h tt
@@ -138,22 +150,25 @@ module _ (t : Tables) (item task : ℕ) (at : place_of t.items task ≡ item) (w
   change_suits number privileges.Wd c m is = subst (Suits t item) (sym (only is)) (tt, tt)
   change_suits number (privileges.Red op) c m is = subst (Suits t item) (sym (only is)) (tt, tt)
 
-  cells_suit : (does : Req → Cell → List Move) → ((r : Req) (c : Cell) (m : Move) → Member (does r c) m → Suits t item m) → (rs : List Req) (m : Move) → Member (at_cells t does rs) m → Suits t item m
+  cells_suit : (does : Req → Cell → List Move) → ((r : Req) (c : Cell) (m : Move) → Member (does r c) m → Suits t item m)
+      → (rs : List Req) (m : Move) → Member (at_cells t does rs) m → Suits t item m
   cells_suit does each rs m is =
       let r = member_flat (λ r. flat_map (λ p. does r (mapped_cell t r p)) (req_grid t r)) rs m is in
       let p = member_flat (λ p. does r.0 (mapped_cell t r.0 p)) (req_grid t r.0) m r.2 in
       each r.0 (mapped_cell t r.0 p.0) m p.2
 
   run_suits : (rs : List Req) (m : Move) → Member (run_moves t task rs) m → Suits t item m
-  run_suits rs m is = elim (member_append (at_cells t (λ r c. reads_by task r.number r.access c) rs) (at_cells t (λ r c. changes_by task r.number r.access c) rs) m is) [
-    | inl a ↦ cells_suit (λ r c. reads_by task r.number r.access c) (λ r c. read_suits r.number r.access c) rs m a
-    | inr b ↦ cells_suit (λ r c. changes_by task r.number r.access c) (λ r c. change_suits r.number r.access c) rs m b
-  ]
+  run_suits rs m is = elim (member_append (at_cells t (λ r c. reads_by task r.number r.access c) rs)
+      (at_cells t (λ r c. changes_by task r.number r.access c) rs) m is) [
+        | inl a ↦ cells_suit (λ r c. reads_by task r.number r.access c) (λ r c. read_suits r.number r.access c) rs m a
+        | inr b ↦ cells_suit (λ r c. changes_by task r.number r.access c) (λ r c. change_suits r.number r.access c) rs m b
+      ]
 
 kind_is : (t : Tables) (id : ℕ) (b : Bool) → IsOfKind t.insts id b → reduces_in t id ≡ b
 kind_is t id b k = ap (λ o. option_map_or (λ (i : Inst). is_reduction i.kind) o false) k.found ∙ k.kind
 
-op_suits : (t : Tables) → ((item : ℕ) → item < length t.items → place_of t.items (id_of t item) ≡ item) → (op : Op) → OpFits t.insts t.items op → (m : Move) → Member (moves_of t op) m → Suits t (item_run op) m
+op_suits : (t : Tables) → ((item : ℕ) → item < length t.items → place_of t.items (id_of t item) ≡ item) → (op : Op)
+    → OpFits t.insts t.items op → (m : Move) → Member (moves_of t op) m → Suits t (item_run op) m
 op_suits t apart (operations.Run item) h m is = run_suits t item (id_of t item) (apart item h) h (reqs_of t item) m is
 op_suits t apart (operations.Copy src dst space fields) h m is =
     let p = member_map (λ p. moves.Copy (cell_in src p) (cell_in dst p)) (grid (points_in t space) fields) m is in

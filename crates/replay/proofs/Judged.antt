@@ -11,7 +11,8 @@ use Rattle.inst_steps.specs.Stores.{has_cell}
 use Rattle.inst_steps.proofs.lemmas.StoreLaws.{none_there}
 use Rattle.replay.specs.Versioned.{AreVersionsIn, place_at}
 
-pub want_is : (t : Tables) (k : Kept) → AreVersionsIn t k → (item task number tree : ℕ) (c : Cell) (got : Value) → place_of t.items task ≡ item → item < length t.items → has_cell t c ≡ true
+pub want_is : (t : Tables) (k : Kept) → AreVersionsIn t k → (item task number tree : ℕ) (c : Cell) (got : Value)
+    → place_of t.items task ≡ item → item < length t.items → has_cell t c ≡ true
     → tree ≡ option_map_or (λ (r : Req). r.tree) (req_at t item number) 0
     → value_at k item (place_at tree c) ≡ want_of t (record { task = task; number = number; point = c.point; field = c.field; got = got })
 want_is t k h item task number tree c got at lt has same =
@@ -35,4 +36,5 @@ pub agrees : (t : Tables) (r : Seen) → r.got ≡ want_of t r → differing t r
 agrees t r e = ap (λ b. cond b None (Some r)) ((value_decides r.got (want_of t r)).1 e)
 
 pub differs : (t : Tables) (r : Seen) → (r.got ≢ want_of t r) → differing t r ≡ Some r
-differs t r ne = ap (λ b. cond b None (Some r)) (false_from_ne_true (same_value r.got (want_of t r)) (λ same. ne ((value_decides r.got (want_of t r)).0 same)))
+differs t r ne = ap (λ b. cond b None (Some r))
+    (false_from_ne_true (same_value r.got (want_of t r)) (λ same. ne ((value_decides r.got (want_of t r)).0 same)))

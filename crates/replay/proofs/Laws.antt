@@ -32,14 +32,18 @@ use Rattle.replay.proofs.Stood.{stand_first, stand_next}
 
 module _ (t : Tables) (d : AreDeclared t) where
   -- The steps are of instances, by their kinds, and the reads of the items that nodes run.
-  steps_fit : unmapped_fault t ≡ None → (listed : Option (List ℕ)) → AllByRecursion (Fits (cut_to listed t)) (replay_steps (cut_to listed t))
+  steps_fit : unmapped_fault t ≡ None → (listed : Option (List ℕ))
+      → AllByRecursion (Fits (cut_to listed t)) (replay_steps (cut_to listed t))
   steps_fit mapped listed =
-      let places = subst (λ (u : Tables). (item : ℕ) → item < length u.items → place_of u.items (id_of u item) ≡ item) (sym d.tables) (items_placed d.log (no_broken_rule d.lines d.log d.faultless)) in
+      let places = subst (λ (u : Tables). (item : ℕ) → item < length u.items → place_of u.items (id_of u item) ≡ item) (sym d.tables)
+      (items_placed d.log (no_broken_rule d.lines d.log d.faultless)) in
       steps_fitted (cut_to listed t) (nodes_fit t d) places (steps_of_insts t d mapped listed) (replay_order (graph_of t.nodes))
 
   -- A store of the start stands before all steps.
-  starts_stand : unmapped_fault t ≡ None → (listed : Option (List ℕ)) (m : Contents) → IsStart (cut_to listed t) m → Stands (cut_to listed t) (replay_steps (cut_to listed t)) m
-  starts_stand mapped listed m is = stand_first (cut_to listed t) m is (cells_at_start (cut_to listed t) m is) (steps_fit mapped listed) (steps_are_few t d listed)
+  starts_stand : unmapped_fault t ≡ None → (listed : Option (List ℕ)) (m : Contents) → IsStart (cut_to listed t) m
+      → Stands (cut_to listed t) (replay_steps (cut_to listed t)) m
+  starts_stand mapped listed m is = stand_first (cut_to listed t) m is (cells_at_start (cut_to listed t) m is) (steps_fit mapped listed)
+      (steps_are_few t d listed)
 
   pub cut_stands : (u : Tables) → IsCutOf t u → unmapped_fault t ≡ None → (m : Contents) → IsStart u m → Stands u (replay_steps u) m
   cut_stands u of mapped m = subst (λ u. IsStart u m → Stands u (replay_steps u) m) (sym of.1) (starts_stand mapped of.0 m)
@@ -64,7 +68,8 @@ pub cut_by : (t u : Tables) → IsCutOf t u → (actions : List Action) → AllB
 cut_by t u of actions by = subst (λ (u : Tables). AllByRecursion (IsBy u) actions) of.1 by
 
 -- A store that stands before the nodes from a place on stands before the moves of the first of them.
-pub stands_in : (t : Tables) (order : List ℕ) (place : ℕ) (moves : List Move) (m : Contents) → place < length order → moves ≡ moves_at t (get_or order place 0)
+pub stands_in : (t : Tables) (order : List ℕ) (place : ℕ) (moves : List Move) (m : Contents) → place < length order
+    → moves ≡ moves_at t (get_or order place 0)
     → Stands t (steps_by t (drop place order)) m → Stands t (left_in t order place (get_or order place 0) moves) m
 stands_in t order place moves m lt is h =
     subst (λ ms. Stands t (left_in t order place (get_or order place 0) ms) m) (sym is)
@@ -75,6 +80,7 @@ pub stand_cells : (t : Tables) (x : Step) (left : List Step) (m : Contents) → 
 stand_cells t x left m h = cells_there t m x.move h.cells h.fit.0.cells
 
 -- Once the step is taken, it stands after it.
-pub stands_on : (t : Tables) (x : Step) (left : List Step) (m : Contents) → Stands t (x ∷ left) m → difference t x.move (value_in m) ≡ None → Stands t left (after_move x.move m)
+pub stands_on : (t : Tables) (x : Step) (left : List Step) (m : Contents) → Stands t (x ∷ left) m → difference t x.move (value_in m) ≡ None
+    → Stands t left (after_move x.move m)
 stands_on t x left m h none =
     stand_next t x left m (λ cell. same_cells x.move m cell (stand_cells t x left m h) ∙ h.cells cell) (λ cell. weighs x.move m cell) h none

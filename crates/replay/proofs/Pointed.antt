@@ -20,7 +20,8 @@ differs_at : (t : Tables) (m : Move) (s : State) (d : Seen) → difference t m s
 differs_at t (moves.Read task number c) s d e = ap (λ (r : Seen). r.point) (here_or_none _ _ d e)
 differs_at t _ s d e = absurd cc
 
-found_point : (t : Tables) (ps : List ℕ) (xs : List Step) (s : State) (r : Seen) → first_difference t (filter (is_at ps) xs) s ≡ Some r → is_in ps r.point ≡ true
+found_point : (t : Tables) (ps : List ℕ) (xs : List Step) (s : State) (r : Seen) → first_difference t (filter (is_at ps) xs) s ≡ Some r
+    → is_in ps r.point ≡ true
 found_point t ps [] s r e = absurd cc
 found_point t ps (x ∷ xs) s r e = elim (cases_Bool (is_at ps x)) [
   | inr other ↦ found_point t ps xs s r (rw other at e)
@@ -37,10 +38,12 @@ found_point t ps (x ∷ xs) s r e = elim (cases_Bool (is_at ps x)) [
 
 pub shown_point : (t : Tables) (ps ks : List ℕ) (s : State) (r : Seen) → steps_by (cut ps t) ks ≡ filter (is_at ps) (steps_by t ks)
     → first_difference (cut ps t) (steps_by (cut ps t) ks) s ≡ Some r → is_in ps r.point ≡ true
-shown_point t ps ks s r kept e = found_point (cut ps t) ps (steps_by t ks) s r (subst (λ xs. first_difference (cut ps t) xs s ≡ Some r) kept e)
+shown_point t ps ks s r kept e = found_point (cut ps t) ps (steps_by t ks) s r
+    (subst (λ xs. first_difference (cut ps t) xs s ≡ Some r) kept e)
 
 -- What the cut tables tell of a read at such a point, the whole tells.
-pub same_end : (t : Tables) (ps : List ℕ) → shown_difference (cut ps t) ≡ shown_difference t → ((r : Seen) → shown_difference (cut ps t) ≡ Some r → want_of (cut ps t) r ≡ want_of t r)
+pub same_end : (t : Tables) (ps : List ℕ) → shown_difference (cut ps t) ≡ shown_difference t
+    → ((r : Seen) → shown_difference (cut ps t) ≡ Some r → want_of (cut ps t) r ≡ want_of t r)
     → (e : ReplayEnd) → IsEndOf (cut ps t) e → IsEndOf t e
 same_end t ps same wants (Differ task number point field got want) h = (sym same ∙ h.0, h.1 ∙ wants _ h.0)
 same_end t ps same wants Memory h = tt

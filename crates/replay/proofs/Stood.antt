@@ -26,7 +26,9 @@ use Rattle.replay.specs.Standing.{HasRoom, Stands}
 put_in : (m : Contents) (cell : Cell) (v : Value) (c : Cell) → value_in (insert m cell v) c ≡ cond (same_cell c cell) v (value_in m c)
 unfolding same_cell
 put_in m cell v c =
-    ap (λ o. unwrap_or o (plain Raw)) (get_put m cell v c ∙ ap (λ b. cond b (Some v) (get m c)) (sym (and_assoc (nat_eq c.inst cell.inst) (nat_eq c.point cell.point) (nat_eq c.field cell.field))))
+    ap (λ o. unwrap_or o (plain Raw)) (get_put m cell v c
+    ∙ ap (λ b. cond b (Some v) (get m c)) (sym
+    (and_assoc (nat_eq c.inst cell.inst) (nat_eq c.point cell.point) (nat_eq c.field cell.field))))
     ∙ out (nat_eq c.inst cell.inst && nat_eq c.point cell.point && nat_eq c.field cell.field) v (get m c)
   where
     out : (b : Bool) (v : Value) (o : Option Value) → unwrap_or (cond b (Some v) o) (plain Raw) ≡ cond b v (unwrap_or o (plain Raw))
@@ -53,7 +55,8 @@ no_home t c none = elim (none_or_some (inst_at t c.inst)) [
 pub started : (t : Tables) (m : Contents) → IsStart t m → (c : Cell) → value_in m c ≡ start t c
 started t m is c = elim (cases_Bool (has_cell t c)) [
   | inl here ↦ ap (λ o. unwrap_or o (plain Raw)) (is c ∙ ap (λ b. cond b (Some (start t c)) None) here)
-  | inr other ↦ ap (λ o. unwrap_or o (plain Raw)) (is c ∙ ap (λ b. cond b (Some (start t c)) None) other) ∙ sym (ap (λ b. cond b (plain Init) (plain Raw)) (no_home t c other))
+  | inr other ↦ ap (λ o. unwrap_or o (plain Raw)) (is c ∙ ap (λ b. cond b (Some (start t c)) None) other)
+      ∙ sym (ap (λ b. cond b (plain Init) (plain Raw)) (no_home t c other))
 ]
 
 weighs_nothing : (b : Bool) → weight_of (cond b (plain Init) (plain Raw)) ≡ 0
@@ -63,7 +66,8 @@ weighs_nothing false = refl
 start_light : (t : Tables) (m : Contents) → IsStart t m → (c : Cell) → weight_at m c ≡ 0
 start_light t m is c = ap weight_of (started t m is c) ∙ weighs_nothing (is_home_cell t c)
 
-pub stand_first : (t : Tables) (m : Contents) → IsStart t m → HasCellsOf t m → AllByRecursion (Fits t) (replay_steps t) → length (replay_steps t) < 2 ^ 31 → Stands t (replay_steps t) m
+pub stand_first : (t : Tables) (m : Contents) → IsStart t m → HasCellsOf t m → AllByRecursion (Fits t) (replay_steps t)
+    → length (replay_steps t) < 2 ^ 31 → Stands t (replay_steps t) m
 stand_first t m is cells fit few = record {
   fit = fit;
   shown = ap (first_difference t (replay_steps t)) (fun_ext (started t m is));
@@ -89,9 +93,12 @@ if_same false x y n a b = b
 
 same_inst : (c cell : Cell) → same_cell c cell ≡ true → c.inst ≡ cell.inst
 unfolding same_cell
-same_inst c cell e = eqb-true c.inst cell.inst (and_parts (c.inst == cell.inst) (c.point == cell.point) (and_parts (c.inst == cell.inst && c.point == cell.point) (c.field == cell.field) e).0).0
+same_inst c cell e = eqb-true c.inst cell.inst
+    (and_parts (c.inst == cell.inst) (c.point == cell.point)
+    (and_parts (c.inst == cell.inst && c.point == cell.point) (c.field == cell.field) e).0).0
 
-module _ (t : Tables) (m : Contents) (k : ℕ) (few : k < 2 ^ 31) (light : (c : Cell) → weight_at m c ≤ k * 2 ^ 31) (gathered : (c : Cell) → reduces_in t c.inst ≡ true → weight_at m c ≤ k) where
+module _ (t : Tables) (m : Contents) (k : ℕ) (few : k < 2 ^ 31) (light : (c : Cell) → weight_at m c ≤ k * 2 ^ 31) (gathered : (c : Cell)
+    → reduces_in t c.inst ≡ true → weight_at m c ≤ k) where
   stays : (c : Cell) → weight_at m c ≤ (k + 1) * 2 ^ 31
   stays c = let l = light c in omega (arith, l)
 
@@ -102,7 +109,8 @@ module _ (t : Tables) (m : Contents) (k : ℕ) (few : k < 2 ^ 31) (light : (c : 
   still_light (moves.Copy from to) h c = either _ (weight_at m from) _ _ (stays from) (stays c)
   still_light (moves.Put cell n) h c = either _ 0 _ _ (omega arith) (stays c)
   still_light (moves.Reset cell) h c = either _ 0 _ _ (omega arith) (stays c)
-  still_light (moves.Fold op from to) h c = let l = light to in let g = gathered from h.0 in either _ (weight_at m to + weight_at m from) _ _ (omega (arith, l, g, few)) (stays c)
+  still_light (moves.Fold op from to) h c = let l = light to in let g = gathered from h.0 in
+      either _ (weight_at m to + weight_at m from) _ _ (omega (arith, l, g, few)) (stays c)
 
   kept : (c : Cell) → reduces_in t c.inst ≡ true → weight_at m c ≤ k + 1
   kept c r = let g = gathered c r in omega (arith, g)
@@ -113,11 +121,14 @@ module _ (t : Tables) (m : Contents) (k : ℕ) (few : k < 2 ^ 31) (light : (c : 
   still_gathered : (step : Move) → KeepsKinds t step → (c : Cell) → reduces_in t c.inst ≡ true → weight_after step m c ≤ k + 1
   still_gathered (moves.Read task req cell) h c r = kept c r
   still_gathered (moves.Write task cell) h c r = either _ 0 _ _ (omega arith) (kept c r)
-  still_gathered (moves.Reduce task req op cell) h c r = if_same _ (weight_at m cell + 1) _ _ (λ same. let g = gathered cell (ap (reduces_in t) (sym (same_inst c cell same)) ∙ r) in omega (arith, g)) (kept c r)
+  still_gathered (moves.Reduce task req op cell) h c r =
+      if_same _ (weight_at m cell + 1) _ _ (λ same. let g = gathered cell (ap (reduces_in t) (sym (same_inst c cell same)) ∙ r) in
+      omega (arith, g)) (kept c r)
   still_gathered (moves.Copy from to) h c r = if_same _ (weight_at m from) _ _ (λ same. not_here c to h r same) (kept c r)
   still_gathered (moves.Put cell n) h c r = either _ 0 _ _ (omega arith) (kept c r)
   still_gathered (moves.Reset cell) h c r = either _ 0 _ _ (omega arith) (kept c r)
-  still_gathered (moves.Fold op from to) h c r = if_same _ (weight_at m to + weight_at m from) _ _ (λ same. not_here c to h.1 r same) (kept c r)
+  still_gathered (moves.Fold op from to) h c r =
+      if_same _ (weight_at m to + weight_at m from) _ _ (λ same. not_here c to h.1 r same) (kept c r)
 
   has_room : (step : Move) → KeepsKinds t step → IsLight m step
   has_room (moves.Read task req cell) h = tt
@@ -140,9 +151,11 @@ stands_room : (t : Tables) (x : Step) (left : List Step) (m : Contents) → Stan
 stands_room t x left m h = subst (λ n. HasRoom t n m) (more_left x left) h.room
 
 pub stand_light : (t : Tables) (x : Step) (left : List Step) (m : Contents) → Stands t (x ∷ left) m → IsLight m x.move
-stand_light t x left m h = let r = stands_room t x left m h in has_room t m r.taken (few_taken t (length left) m r) r.light r.gathered x.move h.fit.0.kinds
+stand_light t x left m h = let r = stands_room t x left m h in
+    has_room t m r.taken (few_taken t (length left) m r) r.light r.gathered x.move h.fit.0.kinds
 
-pub stand_next : (t : Tables) (x : Step) (left : List Step) (m : Contents) → HasCellsOf t (after_move x.move m) → ((c : Cell) → weight_at (after_move x.move m) c ≤ weight_after x.move m c)
+pub stand_next : (t : Tables) (x : Step) (left : List Step) (m : Contents) → HasCellsOf t (after_move x.move m)
+    → ((c : Cell) → weight_at (after_move x.move m) c ≤ weight_after x.move m c)
     → Stands t (x ∷ left) m → difference t x.move (value_in m) ≡ None → Stands t left (after_move x.move m)
 stand_next t x left m cells weighs h none =
     let r = stands_room t x left m h in
@@ -152,7 +165,8 @@ stand_next t x left m cells weighs h none =
     let gathered = still_gathered t m r.taken few r.light r.gathered x.move kinds in
     record {
       fit = h.fit.1;
-      shown = ap (first_difference t left) (fun_ext (state_after x.move m)) ∙ sym (ap (λ o. option_or o (first_difference t left (effect x.move (value_in m)))) none) ∙ h.shown;
+      shown = ap (first_difference t left) (fun_ext (state_after x.move m))
+          ∙ sym (ap (λ o. option_or o (first_difference t left (effect x.move (value_in m)))) none) ∙ h.shown;
       cells = cells;
       room = record {
         taken = r.taken + 1;
@@ -162,6 +176,8 @@ stand_next t x left m cells weighs h none =
       };
     }
 
-pub stand_end : (t : Tables) (x : Step) (left : List Step) (m : Contents) → Stands t (x ∷ left) m → (e : ReplayEnd) → Tells t (difference t x.move (value_in m)) e → IsEndOf t e
-stand_end t x left m h (Differ task number point field got want) tells = (sym h.shown ∙ ap (λ o. option_or o (first_difference t left (effect x.move (value_in m)))) tells.0, tells.1)
+pub stand_end : (t : Tables) (x : Step) (left : List Step) (m : Contents) → Stands t (x ∷ left) m → (e : ReplayEnd)
+    → Tells t (difference t x.move (value_in m)) e → IsEndOf t e
+stand_end t x left m h (Differ task number point field got want) tells =
+    (sym h.shown ∙ ap (λ o. option_or o (first_difference t left (effect x.move (value_in m)))) tells.0, tells.1)
 stand_end t x left m h Memory tells = tt

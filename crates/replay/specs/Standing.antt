@@ -24,4 +24,5 @@ pub record Stands (t : Tables) (left : List Step) (m : Contents) : Type 0 where
 
 -- The steps that are left within a node, and after it.
 abbrev pub left_in : Tables → List ℕ → ℕ → ℕ → List Move → List Step
-left_in t order place node moves = map (λ (m : Move). record { node = node; move = m }) moves ++ steps_by t (drop (place + 1) order)
+left_in t order place node moves = map (λ (m : Move). record { node = node; move = m }) moves
+    ++ steps_by t (drop (place + 1) order)

@@ -49,7 +49,14 @@ code_plain TooLong = plain_by_test (code_text TooLong) refl
 code_plain c = plain_by_test (code_text c) refl
 
 names_plain : HasNames (λ b. 32 < b)
-names_plain = record { raw = plain_by_test (codes "raw") refl; init = plain_by_test (codes "init") refl; ident = plain_by_test (codes "ident") refl; const = plain_by_test (codes "const:") refl; out = plain_by_test (codes "out:") refl }
+names_plain = record {
+  raw = plain_by_test (codes "raw") refl;
+  init = plain_by_test (codes "init") refl;
+  ident =
+      plain_by_test (codes "ident") refl;
+  const = plain_by_test (codes "const:") refl;
+  out = plain_by_test (codes "out:") refl;
+}
 
 -- no fixed text has a space
 is_plain : Word → Bool
@@ -62,7 +69,8 @@ word_plain (says w) e fits = plain_by_test w e
 word_plain (small n) e fits = digits_plain (decimal n) (digits_decimal own n (omega (arith, fits)))
 word_plain (large n) e fits = digits_plain (decimal n) (digits_decimal own n fits)
 word_plain (names c) e fits = code_plain c
-word_plain (holds v) e fits = value_all (λ b. 32 < b) (λ b digit. let d = digit_is b digit in omega arith) names_plain (omega arith) (omega arith) (omega arith) (omega arith) (omega arith) (omega arith) v fits
+word_plain (holds v) e fits = value_all (λ b. 32 < b) (λ b digit. let d = digit_is b digit in
+    omega arith) names_plain (omega arith) (omega arith) (omega arith) (omega arith) (omega arith) (omega arith) v fits
 
 -- ---- lines, parted into words
 
@@ -85,7 +93,8 @@ events_plain (n ∷ ns) = events_plain ns
 own_plain : (f : Finding) → Fits (own_line f) → PlainLine (own_line f)
 unfolding is_plain
 own_plain (Cycle events) fits = (plain_by_test (codes "cycle") refl, row_plain (map small events) (events_plain events) fits)
-own_plain (Unlicensed leaf child req group tree point field) fits = (plain_by_test (codes "unlicensed") refl, row_plain (own_line (Unlicensed leaf child req group tree point field)).row (row leaf) fits)
+own_plain (Unlicensed leaf child req group tree point field) fits =
+    (plain_by_test (codes "unlicensed") refl, row_plain (own_line (Unlicensed leaf child req group tree point field)).row (row leaf) fits)
   where
     row : (b : Bool) → list_all is_plain (own_line (Unlicensed b child req group tree point field)).row ≡ true
     row true = refl
@@ -114,7 +123,8 @@ link_plain l fits = (name l.kind, row_plain (link_line l).row (row l.kind) fits)
     name Copy = plain_by_test (codes "copy") refl
     name Start = plain_by_test (codes "start") refl
 
-    row : (k : WhyKind) → list_all is_plain (event_words k l.done (says (codes "inst") ∷ small l.inst ∷ says (codes "adds") ∷ small l.adds ∷ [])) ≡ true
+    row : (k : WhyKind) → list_all is_plain (event_words k l.done
+        (says (codes "inst") ∷ small l.inst ∷ says (codes "adds") ∷ small l.adds ∷ [])) ≡ true
     row Start = refl
     row k = refl
 
@@ -122,8 +132,10 @@ lacks : (c : ℕ) (w : List ℕ) → c ≤ 32 → Plain w → AllByRecursion (λ
 lacks c [] le plain = tt
 lacks c (b ∷ w) le plain = (ne_eqb b c (λ e. absurd (omega (arith, plain.0, e, le))), lacks c w le plain.1)
 
-words_parted : (w : List ℕ) (ws : List Word) → Plain w → AllByRecursion Plain (map word_text ws) → parts 32 (w ++ row_text ws) ≡ w ∷ map word_text ws
-words_parted w [] plain all = ap (parts 32) (append-nil w) ∙ slice_split_none (λ b. eqb b 32) w (All-from_recursion _ w (lacks 32 w (omega arith) plain))
+words_parted : (w : List ℕ) (ws : List Word) → Plain w → AllByRecursion Plain (map word_text ws)
+    → parts 32 (w ++ row_text ws) ≡ w ∷ map word_text ws
+words_parted w [] plain all = ap (parts 32) (append-nil w)
+    ∙ slice_split_none (λ b. eqb b 32) w (All-from_recursion _ w (lacks 32 w (omega arith) plain))
 words_parted w (v ∷ vs) plain all =
     slice_split_at (λ b. eqb b 32) w 32 (word_text v ++ row_text vs) (All-from_recursion _ w (lacks 32 w (omega arith) plain)) refl
     ∙ ap (λ (xs : List (List ℕ)). w ∷ xs) (words_parted (word_text v) vs all.0 all.1)
@@ -142,7 +154,8 @@ one_line-append (b ∷ v) w p q = (p.0, one_line-append v w p.1 q)
 
 row_one_line : (ws : List Word) → AllByRecursion Plain (map word_text ws) → OneLine (row_text ws)
 row_one_line [] all = tt
-row_one_line (w ∷ ws) all = (refl, one_line-append (word_text w) (row_text ws) (lacks 10 (word_text w) (omega arith) all.0) (row_one_line ws all.1))
+row_one_line (w ∷ ws) all =
+    (refl, one_line-append (word_text w) (row_text ws) (lacks 10 (word_text w) (omega arith) all.0) (row_one_line ws all.1))
 
 one_line : (l : Line) → PlainLine l → OneLine (line_text l)
 one_line l plain = one_line-append l.name (row_text l.row) (lacks 10 l.name (omega arith) plain.0) (row_one_line l.row plain.1)
@@ -163,11 +176,13 @@ all_parted (l ∷ ls) all = rw (line_parted l all.0, all_parted ls all.1) refl
 
 -- ---- lines of one kind, which a report lists
 
-lines_plain : {A : Type 0} (line : A → Line) → ((x : A) → Fits (line x) → PlainLine (line x)) → (xs : List A) → AllByRecursion Fits (map line xs) → AllByRecursion PlainLine (map line xs)
+lines_plain : {A : Type 0} (line : A → Line) → ((x : A) → Fits (line x) → PlainLine (line x)) → (xs : List A)
+    → AllByRecursion Fits (map line xs) → AllByRecursion PlainLine (map line xs)
 lines_plain line plain [] fits = tt
 lines_plain line plain (x ∷ xs) fits = (plain x fits.0, lines_plain line plain xs fits.1)
 
-lines_again : {A : Type 0} (line : A → Line) (said : List (List ℕ) → A) → ((x : A) → Fits (line x) → said (words_of (line x)) ≡ x) → (xs : List A) → AllByRecursion Fits (map line xs)
+lines_again : {A : Type 0} (line : A → Line) (said : List (List ℕ) → A) → ((x : A) → Fits (line x) → said (words_of (line x)) ≡ x)
+    → (xs : List A) → AllByRecursion Fits (map line xs)
     → map said (map words_of (map line xs)) ≡ xs
 lines_again line said again [] fits = refl
 lines_again line said again (x ∷ xs) fits = ap₂ (λ y ys. y ∷ ys) (again x fits.0) (lines_again line said again xs fits.1)
@@ -177,7 +192,14 @@ lines_again line said again (x ∷ xs) fits = ap₂ (λ y ys. y ∷ ys) (again x
 dep_again : (d : Dep) → Fits (dep_line d) → dep_at (words_of (dep_line d)) ≡ d
 unfolding dep_at
 dep_again d fits =
-    rw (named d.before, small_again d.a fits.0, small_again d.b fits.1.0, small_again d.tree fits.1.1.1.0, large_again d.point fits.1.1.1.1.1.0, small_again d.field fits.1.1.1.1.1.1.1.0) refl
+    rw (
+      named d.before,
+      small_again d.a fits.0,
+      small_again d.b fits.1.0,
+      small_again d.tree fits.1.1.1.0,
+      large_again d.point fits.1.1.1.1.1.0,
+      small_again d.field fits.1.1.1.1.1.1.1.0,
+    ) refl
   where
     named : (b : Bool) → bytes_eq (cond b (codes "before") (codes "turn")) (codes "before") ≡ b
     named true = refl
@@ -191,8 +213,15 @@ link_again : (l : WhyLink) → Fits (link_line l) → has_its_event l ≡ true �
 unfolding link_at
 link_again l = again l.kind l.done l.inst l.adds
   where
-    again : (kind : WhyKind) (done inst adds : ℕ) → Fits (link_line (record { kind = kind; done = done; inst = inst; adds = adds })) → has_its_event (record { kind = kind; done = done; inst = inst; adds = adds }) ≡ true
-        → link_at (words_of (link_line (record { kind = kind; done = done; inst = inst; adds = adds }))) ≡ record { kind = kind; done = done; inst = inst; adds = adds }
+    again : (kind : WhyKind) (done inst adds : ℕ) → Fits (link_line (record { kind = kind; done = done; inst = inst; adds = adds }))
+        → has_its_event (record { kind = kind; done = done; inst = inst; adds = adds }) ≡ true
+        → link_at (words_of (link_line (record { kind = kind; done = done; inst = inst; adds = adds }))) ≡ record {
+          kind = kind;
+          done =
+              done;
+          inst = inst;
+          adds = adds;
+        }
     again Start done inst adds fits kept =
         let none : done ≡ 0 = grind (arith, nat_tests) in
         rw (none, small_again inst fits.1.0, small_again adds fits.1.1.1.0) refl
@@ -207,20 +236,27 @@ chain_kept : (ls : List WhyLink) → is_chain ls ≡ true → AllByRecursion (λ
 chain_kept [] chain = tt
 chain_kept (l ∷ ls) chain = let both = and_both chain in (both.0, behind l.kind ls (chain_kept ls) both.1)
   where
-    behind : (kind : WhyKind) (ls : List WhyLink) → (is_chain ls ≡ true → AllByRecursion (λ (l : WhyLink). has_its_event l ≡ true) ls) → (elim kind [
-      | Copy ↦ is_chain ls
-      | _ ↦ length ls == 0
-    ]) ≡ true → AllByRecursion (λ (l : WhyLink). has_its_event l ≡ true) ls
+    behind : (kind : WhyKind) (ls : List WhyLink) → (is_chain ls ≡ true → AllByRecursion (λ (l : WhyLink). has_its_event l ≡ true) ls)
+        → (elim kind [
+          | Copy ↦ is_chain ls
+          | _ ↦ length ls == 0
+        ]) ≡ true → AllByRecursion (λ (l : WhyLink). has_its_event l ≡ true) ls
     behind Copy ls later chain = later chain
     behind kind [] later chain = tt
     behind kind (l ∷ ls) later chain = absurd (omega (arith, eqb-true _ _ chain))
 
-links_again : (ls : List WhyLink) → AllByRecursion Fits (map link_line ls) → AllByRecursion (λ (l : WhyLink). has_its_event l ≡ true) ls → map link_at (map words_of (map link_line ls)) ≡ ls
+links_again : (ls : List WhyLink) → AllByRecursion Fits (map link_line ls) → AllByRecursion (λ (l : WhyLink). has_its_event l ≡ true) ls
+    → map link_at (map words_of (map link_line ls)) ≡ ls
 links_again [] fits kept = refl
 links_again (l ∷ ls) fits kept = ap₂ (λ m ms. m ∷ ms) (link_again l fits.0 kept.0) (links_again ls fits.1 kept.1)
 
 ask_again : (ask : WhyAsk) (ls : List WhyLink) → Fits (own_line (Why ask ls)) → says.ask_at (words_of (own_line (Why ask ls))) ≡ ask
-ask_again ask ls fits = rw (small_again ask.task fits.1.0, small_again ask.req fits.1.1.1.0, large_again ask.point fits.1.1.1.1.1.0, small_again ask.field fits.1.1.1.1.1.1.1.0) refl
+ask_again ask ls fits = rw (
+  small_again ask.task fits.1.0,
+  small_again ask.req fits.1.1.1.0,
+  large_again ask.point fits.1.1.1.1.1.0,
+  small_again ask.field fits.1.1.1.1.1.1.1.0,
+) refl
 
 code_again : (c : Code) → code_at (code_text c) ≡ c
 unfolding code_at
@@ -231,20 +267,66 @@ events_again : (ns : List ℕ) → AllByRecursion IsInRange (map small ns) → e
 events_again [] fits = refl
 events_again (n ∷ ns) fits = rw (small_again n fits.0, events_again ns fits.1) refl
 
-report_again : (f : Finding) → AllByRecursion Fits (listed_lines f) → Fits (own_line f) → IsWhole f → report_at (map words_of (listed_lines f)) (words_of (own_line f)) ≡ f
+report_again : (f : Finding) → AllByRecursion Fits (listed_lines f) → Fits (own_line f) → IsWhole f
+    → report_at (map words_of (listed_lines f)) (words_of (own_line f)) ≡ f
 unfolding report_at
-report_again (Accepted tasks operations reads) listed fits whole = rw (small_again tasks fits.1.0, small_again operations fits.1.1.1.0, large_again reads fits.1.1.1.1.1.0) refl
+report_again (Accepted tasks operations reads) listed fits whole =
+    rw (small_again tasks fits.1.0, small_again operations fits.1.1.1.0, large_again reads fits.1.1.1.1.1.0) refl
 report_again (Ordered tasks pairs) listed fits whole = rw (small_again tasks fits.1.0, large_again pairs fits.1.1.1.0) refl
-report_again (Deps list items before turn) listed fits whole = rw (lines_again dep_line dep_at dep_again list listed, small_again items fits.1.0, large_again before fits.1.1.1.0, large_again turn fits.1.1.1.1.1.0) refl
-report_again (Spare list waits) listed fits whole = rw (lines_again spare_line spare_at spare_again list listed, large_again waits fits.1.1.1.0) refl
-report_again (Nested tasks groups free) listed fits whole = rw (small_again tasks fits.1.0, small_again groups fits.1.1.1.0, large_again free fits.1.1.1.1.1.0) refl
+report_again (Deps list items before turn) listed fits whole =
+    rw (
+      lines_again dep_line dep_at dep_again list listed,
+      small_again items fits.1.0,
+      large_again before fits.1.1.1.0,
+      large_again turn fits.1.1.1.1.1.0,
+    ) refl
+report_again (Spare list waits) listed fits whole =
+    rw (lines_again spare_line spare_at spare_again list listed, large_again waits fits.1.1.1.0) refl
+report_again (Nested tasks groups free) listed fits whole =
+    rw (small_again tasks fits.1.0, small_again groups fits.1.1.1.0, large_again free fits.1.1.1.1.1.0) refl
 report_again (Cycle events) listed fits whole = rw (events_again events fits) refl
-report_again (Race a b inst point field) listed fits whole = rw (small_again a fits.0, small_again b fits.1.0, small_again inst fits.1.1.1.0, large_again point fits.1.1.1.1.1.0, small_again field fits.1.1.1.1.1.1.1.0) refl
-report_again (Unordered t u tree point field) listed fits whole = rw (small_again t fits.0, small_again u fits.1.0, small_again tree fits.1.1.1.0, large_again point fits.1.1.1.1.1.0, small_again field fits.1.1.1.1.1.1.1.0) refl
-report_again (Differ task req point field got want) listed fits whole = rw (small_again task fits.1.0, small_again req fits.1.1.1.0, large_again point fits.1.1.1.1.1.0, small_again field fits.1.1.1.1.1.1.1.0, value_again got fits.1.1.1.1.1.1.1.1.1.0, value_again want fits.1.1.1.1.1.1.1.1.1.1.1.0) refl
-report_again (NoRead task req point field) listed fits whole = rw (small_again task fits.1.1.0, small_again req fits.1.1.1.1.0, large_again point fits.1.1.1.1.1.1.0, small_again field fits.1.1.1.1.1.1.1.1.0) refl
+report_again (Race a b inst point field) listed fits whole =
+    rw (
+      small_again a fits.0,
+      small_again b fits.1.0,
+      small_again inst fits.1.1.1.0,
+      large_again point fits.1.1.1.1.1.0,
+      small_again field fits.1.1.1.1.1.1.1.0,
+    ) refl
+report_again (Unordered t u tree point field) listed fits whole =
+    rw (
+      small_again t fits.0,
+      small_again u fits.1.0,
+      small_again tree fits.1.1.1.0,
+      large_again point fits.1.1.1.1.1.0,
+      small_again field fits.1.1.1.1.1.1.1.0,
+    ) refl
+report_again (Differ task req point field got want) listed fits whole =
+    rw (
+      small_again task fits.1.0,
+      small_again req fits.1.1.1.0,
+      large_again point fits.1.1.1.1.1.0,
+      small_again field fits.1.1.1.1.1.1.1.0,
+      value_again got fits.1.1.1.1.1.1.1.1.1.0,
+      value_again want fits.1.1.1.1.1.1.1.1.1.1.1.0,
+    ) refl
+report_again (NoRead task req point field) listed fits whole =
+    rw (
+      small_again task fits.1.1.0,
+      small_again req fits.1.1.1.1.0,
+      large_again point fits.1.1.1.1.1.1.0,
+      small_again field fits.1.1.1.1.1.1.1.1.0,
+    ) refl
 report_again (Unlicensed leaf child req group tree point field) listed fits whole =
-    rw (named leaf, small_again child fits.1.0, small_again req fits.1.1.1.0, small_again group fits.1.1.1.1.1.0, small_again tree fits.1.1.1.1.1.1.1.0, large_again point fits.1.1.1.1.1.1.1.1.1.0, small_again field fits.1.1.1.1.1.1.1.1.1.1.1.0) refl
+    rw (
+      named leaf,
+      small_again child fits.1.0,
+      small_again req fits.1.1.1.0,
+      small_again group fits.1.1.1.1.1.0,
+      small_again tree fits.1.1.1.1.1.1.1.0,
+      large_again point fits.1.1.1.1.1.1.1.1.1.0,
+      small_again field fits.1.1.1.1.1.1.1.1.1.1.1.0,
+    ) refl
   where
     named : (b : Bool) → bytes_eq (cond b (codes "task") (codes "group")) (codes "task") ≡ b
     named true = refl
@@ -267,12 +349,14 @@ listed_plain (Why ask links) fits = lines_plain link_line link_plain links fits
 listed_plain _ fits = tt
 
 -- what holds of all lines of a report holds of those that it lists and of its own
-parted : (P : Line → Type 0) (headed : Bool) (ls : List Line) (l : Line) → AllByRecursion P (lines_with headed l ls) → AllByRecursion P ls × P l
+parted : (P : Line → Type 0) (headed : Bool) (ls : List Line) (l : Line) → AllByRecursion P (lines_with headed l ls) → AllByRecursion P ls
+    × P l
 parted P true ls l all = (all.1, all.0)
 parted P false [] l all = (tt, all.0)
 parted P false (k ∷ ls) l all = let rest = parted P false ls l all.1 in ((all.0, rest.0), rest.1)
 
-joined : (P : Line → Type 0) (headed : Bool) (ls : List Line) (l : Line) → AllByRecursion P ls → P l → AllByRecursion P (lines_with headed l ls)
+joined : (P : Line → Type 0) (headed : Bool) (ls : List Line) (l : Line) → AllByRecursion P ls → P l
+    → AllByRecursion P (lines_with headed l ls)
 joined P true ls l all here = (here, all)
 joined P false [] l all here = (here, tt)
 joined P false (k ∷ ls) l all here = (all.0, joined P false ls l all.1 here)
@@ -303,29 +387,42 @@ not_why (Spare [] waits) last = refl
 not_why (Why ask links) last = absurd (false≢true (sym last))
 not_why f last = refl
 
-first_parted : (ls : List Line) (line : Line) → AllByRecursion PlainLine ls → PlainLine line → parts 32 (word_at (map line_text ls ++ line_text line ∷ [] ∷ []) 0) ≡ words_of (first_line ls line)
+first_parted : (ls : List Line) (line : Line) → AllByRecursion PlainLine ls → PlainLine line
+    → parts 32 (word_at (map line_text ls ++ line_text line ∷ [] ∷ []) 0) ≡ words_of (first_line ls line)
 first_parted [] line all plain = line_parted line plain
 first_parted (l ∷ ls) line all plain = line_parted l all.0
 
 -- lines of which the first is a report's own, and lines of which the last is
-read_first : (line : Line) (ls : List Line) → bytes_eq line.name (codes "why") ≡ true → AllByRecursion PlainLine ls → PlainLine line → report_in (line_text line ∷ map line_text ls ++ [] ∷ []) ≡ report_at (map words_of ls) (words_of line)
+read_first : (line : Line) (ls : List Line) → bytes_eq line.name (codes "why") ≡ true → AllByRecursion PlainLine ls → PlainLine line
+    → report_in (line_text line ∷ map line_text ls ++ [] ∷ []) ≡ report_at (map words_of ls) (words_of line)
 read_first line ls named all plain =
     let lines = map line_text ls in
     let place : last_place (line_text line ∷ lines ++ [] ∷ []) ≡ length lines = omega (arith, length-append lines ([] ∷ [])) in
     rw (line_parted line plain, named, place, take-append_seam lines ([] ∷ []), all_parted ls all, line_parted line plain) refl
 
-read_last : (line : Line) (ls : List Line) → bytes_eq (first_line ls line).name (codes "why") ≡ false → AllByRecursion PlainLine ls → PlainLine line
+read_last : (line : Line) (ls : List Line) → bytes_eq (first_line ls line).name (codes "why") ≡ false → AllByRecursion PlainLine ls
+    → PlainLine line
     → report_in (map line_text ls ++ line_text line ∷ [] ∷ []) ≡ report_at (map words_of ls) (words_of line)
 read_last line ls named all plain =
     let lines = map line_text ls in
     let last = line_text line in
     let place : last_place (lines ++ last ∷ [] ∷ []) ≡ length lines = omega (arith, length-append lines (last ∷ [] ∷ [])) in
-    rw (first_parted ls line all plain, named, place, take-append_seam lines (last ∷ [] ∷ []), behind lines last ([] ∷ []), all_parted ls all, line_parted line plain) refl
+    rw (
+      first_parted ls line all plain,
+      named,
+      place,
+      take-append_seam lines (last ∷ [] ∷ []),
+      behind lines last ([] ∷ []),
+      all_parted ls all,
+      line_parted line plain,
+    ) refl
 
 read_lines : (f : Finding) (headed : Bool) → is_headed f ≡ headed → AllByRecursion PlainLine (listed_lines f) → PlainLine (own_line f)
-    → report_in (map line_text (lines_with headed (own_line f) (listed_lines f)) ++ [] ∷ []) ≡ report_at (map words_of (listed_lines f)) (words_of (own_line f))
+    → report_in (map line_text (lines_with headed (own_line f) (listed_lines f)) ++ [] ∷ [])
+    ≡ report_at (map words_of (listed_lines f)) (words_of (own_line f))
 read_lines f true is all plain = read_first (own_line f) (listed_lines f) (named_why f is) all plain
-read_lines f false is all plain = ap report_in (ends (listed_lines f) (own_line f)) ∙ read_last (own_line f) (listed_lines f) (not_why f is) all plain
+read_lines f false is all plain = ap report_in (ends (listed_lines f) (own_line f))
+    ∙ read_last (own_line f) (listed_lines f) (not_why f is) all plain
 
 pub read_again : (f : Finding) → Good f → finding_at (report_text f) ≡ f
 unfolding finding_at report_text
@@ -333,17 +430,20 @@ read_again f good =
     let fit = parted Fits (is_headed f) (listed_lines f) (own_line f) good.0 in
     let plain = listed_plain f fit.0 in
     let own = own_plain f fit.1 in
-    ap report_in (lines_parted (lines_of f) (joined PlainLine (is_headed f) (listed_lines f) (own_line f) plain own)) ∙ read_lines f (is_headed f) refl plain own ∙ report_again f fit.0 fit.1 good.1
+    ap report_in (lines_parted (lines_of f) (joined PlainLine (is_headed f) (listed_lines f) (own_line f) plain own))
+    ∙ read_lines f (is_headed f) refl plain own ∙ report_again f fit.0 fit.1 good.1
 
 -- what lines say that a program holds, of which the words of the first are `first`: it is a report's own
-pub first_told : (lines first listed words : List (List ℕ)) (last : ℕ) → last ≡ length lines - 2 → first ≡ parts 32 (word_at lines 0) → bytes_eq (word_at first 0) (codes "why") ≡ true
+pub first_told : (lines first listed words : List (List ℕ)) (last : ℕ) → last ≡ length lines - 2 → first ≡ parts 32 (word_at lines 0)
+    → bytes_eq (word_at first 0) (codes "why") ≡ true
     → listed ≡ take last (drop 1 lines) → words ≡ parts 32 (word_at lines 0) → report_at (map (parts 32) listed) words ≡ report_in lines
 first_told lines first listed words last is begun named told said =
     let headed : says.is_headed lines ≡ true = sym (ap (λ (w : List (List ℕ)). bytes_eq (word_at w 0) (codes "why")) begun) ∙ named in
     rw (headed, told, said, is) refl
 
 -- or the last is
-pub last_told : (lines first listed words : List (List ℕ)) (last : ℕ) → last ≡ length lines - 2 → first ≡ parts 32 (word_at lines 0) → bytes_eq (word_at first 0) (codes "why") ≡ false
+pub last_told : (lines first listed words : List (List ℕ)) (last : ℕ) → last ≡ length lines - 2 → first ≡ parts 32 (word_at lines 0)
+    → bytes_eq (word_at first 0) (codes "why") ≡ false
     → listed ≡ take last lines → words ≡ parts 32 (word_at lines last) → report_at (map (parts 32) listed) words ≡ report_in lines
 last_told lines first listed words last is begun named told said =
     let headed : says.is_headed lines ≡ false = sym (ap (λ (w : List (List ℕ)). bytes_eq (word_at w 0) (codes "why")) begun) ∙ named in

@@ -7,7 +7,11 @@ use Rattle.findings.specs.Codes.{code_text}
 
 -- Every code, in the order of the table.
 abbrev pub all_codes : List Code
-all_codes = TooLong ∷ Newline ∷ Word ∷ Form ∷ Number ∷ Order ∷ Header ∷ Ended ∷ Count ∷ TooManyRecords ∷ RepeatedId ∷ UnknownId ∷ TooManyPoints ∷ SpaceInTwo ∷ LateSub ∷ TooDeep ∷ NotWithin ∷ NotDisjoint ∷ NotRoot ∷ NotInTree ∷ Fields ∷ SelfInterference ∷ WrongTree ∷ WrongKind ∷ NotCovered ∷ MappedTwice ∷ NoRun ∷ TwoRuns ∷ RepeatedEvent ∷ UndefinedEvent ∷ Serial ∷ TooManyCells ∷ TooManyAccesses ∷ TooMuchLoad ∷ SerialOrder ∷ Unmapped ∷ LaunchRange ∷ LaunchInterference ∷ TooManyGroups ∷ []
+all_codes = TooLong ∷ Newline ∷ Word ∷ Form ∷ Number ∷ Order ∷ Header ∷ Ended ∷ Count ∷ TooManyRecords
+    ∷ RepeatedId ∷ UnknownId ∷ TooManyPoints ∷ SpaceInTwo ∷ LateSub ∷ TooDeep ∷ NotWithin ∷ NotDisjoint
+    ∷ NotRoot ∷ NotInTree ∷ Fields ∷ SelfInterference ∷ WrongTree ∷ WrongKind ∷ NotCovered ∷ MappedTwice
+    ∷ NoRun ∷ TwoRuns ∷ RepeatedEvent ∷ UndefinedEvent ∷ Serial ∷ TooManyCells ∷ TooManyAccesses ∷ TooMuchLoad
+    ∷ SerialOrder ∷ Unmapped ∷ LaunchRange ∷ LaunchInterference ∷ TooManyGroups ∷ []
 
 -- The first of these codes that has this text, or `Word`.
 abbrev pub code_among : List Code → List ℕ → Code

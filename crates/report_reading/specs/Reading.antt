@@ -15,7 +15,15 @@ use Rattle.report_reading.specs.ValueReading.{value_at}
 
 -- The pair of items that the words of a line say.
 unfoldable pub dep_at : List (List ℕ) → Dep
-dep_at ws = record { before = bytes_eq (word_at ws 0) (codes "before"); a = small_at ws 1; b = small_at ws 2; tree = small_at ws 4; point = large_at ws 6; field = small_at ws 8 }
+dep_at ws = record {
+  before = bytes_eq (word_at ws 0) (codes "before");
+  a = small_at ws 1;
+  b =
+      small_at ws 2;
+  tree = small_at ws 4;
+  point = large_at ws 6;
+  field = small_at ws 8;
+}
 
 -- The wait, as the events of its node and of what is waited for, that the words of a line say.
 unfoldable pub spare_at : List (List ℕ) → ℕ × ℕ
@@ -28,8 +36,15 @@ kind_at w = if bytes_eq w (codes "write") then Write else if bytes_eq w (codes "
 -- The link that the words of a line say: the start has no event.
 unfoldable pub link_at : List (List ℕ) → WhyLink
 link_at ws =
-    if bytes_eq (word_at ws 0) (codes "start") then record { kind = Start; done = 0; inst = small_at ws 2; adds = small_at ws 4 }
-    else record { kind = kind_at (word_at ws 0); done = small_at ws 1; inst = small_at ws 3; adds = small_at ws 5 }
+    if bytes_eq (word_at ws 0) (codes "start")
+    then record { kind = Start; done = 0; inst = small_at ws 2; adds = small_at ws 4 }
+    else record {
+      kind = kind_at (word_at ws 0);
+      done = small_at ws 1;
+      inst = small_at ws 3;
+      adds =
+          small_at ws 5;
+    }
 
 -- The read that was asked for, by the words of a report's own line.
 abbrev pub ask_at : List (List ℕ) → WhyAsk
@@ -42,17 +57,27 @@ events_at ws = map (number_of (2 ^ 32 - 1)) ws
 -- The table, backwards: the report that the words of its own line say, if the lines beside it have these words.
 unfoldable pub report_at : List (List (List ℕ)) → List (List ℕ) → Finding
 report_at listed ws =
-    if bytes_eq (word_at ws 0) (codes "accepted") then Accepted (small_at ws 2) (small_at ws 4) (large_at ws 6)
+    if bytes_eq (word_at ws 0) (codes "accepted")
+    then Accepted (small_at ws 2) (small_at ws 4) (large_at ws 6)
     else if bytes_eq (word_at ws 0) (codes "ordered") then Ordered (small_at ws 2) (large_at ws 4)
-    else if bytes_eq (word_at ws 0) (codes "deps") then Deps (map dep_at listed) (small_at ws 2) (large_at ws 4) (large_at ws 6)
+    else if bytes_eq (word_at ws 0) (codes "deps")
+    then Deps (map dep_at listed) (small_at ws 2) (large_at ws 4) (large_at ws 6)
     else if bytes_eq (word_at ws 0) (codes "spare") then Spare (map spare_at listed) (large_at ws 4)
-    else if bytes_eq (word_at ws 0) (codes "nested") then Nested (small_at ws 2) (small_at ws 4) (large_at ws 6)
+    else if bytes_eq (word_at ws 0) (codes "nested")
+    then Nested (small_at ws 2) (small_at ws 4) (large_at ws 6)
     else if bytes_eq (word_at ws 0) (codes "cycle") then Cycle (events_at (drop 1 ws))
-    else if bytes_eq (word_at ws 0) (codes "race") then Race (small_at ws 1) (small_at ws 2) (small_at ws 4) (large_at ws 6) (small_at ws 8)
-    else if bytes_eq (word_at ws 0) (codes "unordered") then Unordered (small_at ws 1) (small_at ws 2) (small_at ws 4) (large_at ws 6) (small_at ws 8)
-    else if bytes_eq (word_at ws 0) (codes "differ") then Differ (small_at ws 2) (small_at ws 4) (large_at ws 6) (small_at ws 8) (value_at (word_at ws 10)) (value_at (word_at ws 12))
-    else if bytes_eq (word_at ws 0) (codes "no") then NoRead (small_at ws 3) (small_at ws 5) (large_at ws 7) (small_at ws 9)
-    else if bytes_eq (word_at ws 0) (codes "unlicensed") then Unlicensed (bytes_eq (word_at ws 1) (codes "task")) (small_at ws 2) (small_at ws 4) (small_at ws 6) (small_at ws 8) (large_at ws 10) (small_at ws 12)
+    else if bytes_eq (word_at ws 0) (codes "race")
+    then Race (small_at ws 1) (small_at ws 2) (small_at ws 4) (large_at ws 6) (small_at ws 8)
+    else if bytes_eq (word_at ws 0) (codes "unordered")
+    then Unordered (small_at ws 1) (small_at ws 2) (small_at ws 4) (large_at ws 6) (small_at ws 8)
+    else if bytes_eq (word_at ws 0) (codes "differ")
+    then Differ (small_at ws 2) (small_at ws 4) (large_at ws 6) (small_at ws 8) (value_at (word_at ws 10))
+    (value_at (word_at ws 12))
+    else if bytes_eq (word_at ws 0) (codes "no")
+    then NoRead (small_at ws 3) (small_at ws 5) (large_at ws 7) (small_at ws 9)
+    else if bytes_eq (word_at ws 0) (codes "unlicensed")
+    then Unlicensed (bytes_eq (word_at ws 1) (codes "task")) (small_at ws 2) (small_at ws 4)
+    (small_at ws 6) (small_at ws 8) (large_at ws 10) (small_at ws 12)
     else if bytes_eq (word_at ws 0) (codes "why") then Why (ask_at ws) (map link_at listed)
     else if bytes_eq (word_at ws 0) (codes "fault") then Fault (small_at ws 1) (code_at (word_at ws 2))
     else if bytes_eq (word_at ws 0) (codes "usage") then Usage

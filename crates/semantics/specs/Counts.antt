@@ -22,7 +22,8 @@ operation_count t = length (filter (λ (n : LogNode). is_operation n.op) t.nodes
 
 -- The reads of all tasks: a point and a field of a requirement each.
 abbrev pub read_count : Tables → ℕ
-read_count t = sum_by (λ (r : Req). size_of t r.space r.fields) (filter (λ (r : Req). may_read r.access) t.reqs)
+read_count t = sum_by (λ (r : Req). size_of t r.space r.fields)
+    (filter (λ (r : Req). may_read r.access) t.reqs)
 
 -- The waits that all nodes list, each as often as it is listed.
 abbrev pub wait_count : Tables → ℕ

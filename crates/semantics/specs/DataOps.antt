@@ -26,10 +26,14 @@ insts_of (Folds src dst) = src ∷ dst ∷ []
 
 -- What an operation does to data, if it is one on data.
 abbrev pub data_of : Op → Option DataOp
-data_of (operations.Copy src dst space fields) = Some (record { act = Copies src dst; space = space; fields = fields })
-data_of (operations.Put inst space fields n) = Some (record { act = Puts inst n; space = space; fields = fields })
-data_of (operations.Reset inst space fields) = Some (record { act = Resets inst; space = space; fields = fields })
-data_of (operations.Fold src dst space fields) = Some (record { act = Folds src dst; space = space; fields = fields })
+data_of (operations.Copy src dst space fields) =
+    Some (record { act = Copies src dst; space = space; fields = fields })
+data_of (operations.Put inst space fields n) =
+    Some (record { act = Puts inst n; space = space; fields = fields })
+data_of (operations.Reset inst space fields) =
+    Some (record { act = Resets inst; space = space; fields = fields })
+data_of (operations.Fold src dst space fields) =
+    Some (record { act = Folds src dst; space = space; fields = fields })
 data_of _ = None
 
 -- What the operation of a record does to data, if it is one on data.

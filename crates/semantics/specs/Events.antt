@@ -40,4 +40,5 @@ HasNoCycle t = (ks : List ℕ) → IsCycle (graph_of t.nodes) ks → ⊥
 -- The nodes' events are all different, and each event that a node waits on is that of some node.
 pub record AreLinked (nodes : List Node) : Type 0 where
   pub apart : AllPairs (λ (m : Node) n. m.done ≢ n.done) nodes
-  pub linked : (n : Node) (event : ℕ) → Contains nodes n → Contains n.waits event → (m : Node) × Contains nodes m × (m.done ≡ event)
+  pub linked : (n : Node) (event : ℕ) → Contains nodes n → Contains n.waits event → (m : Node)
+      × Contains nodes m × (m.done ≡ event)

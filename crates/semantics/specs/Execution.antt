@@ -23,7 +23,8 @@ is_home _ = false
 
 -- Whether a cell is one of a home instance.
 abbrev pub is_home_cell : Tables → Cell → Bool
-is_home_cell t c = option_map_or (λ (i : Inst). is_home i.kind && (is_in (points_in t i.space) c.point && is_in i.fields c.field)) (inst_at t c.inst) false
+is_home_cell t c = option_map_or (λ (i : Inst). is_home i.kind
+    && (is_in (points_in t i.space) c.point && is_in i.fields c.field)) (inst_at t c.inst) false
 
 -- At the start the cells of a home instance hold what their places hold then, and all others nothing that is known.
 abbrev pub start : Tables → State
@@ -61,4 +62,5 @@ executed (x ∷ xs) s = executed xs (effect x.move s)
 -- Among these steps, taken from this state, the step reads the value.
 abbrev pub ReadsIn : List Step → State → Step → Value → Type 0
 ReadsIn [] s step value = ⊥
-ReadsIn (x ∷ xs) s step value = ((step ≡ x) × (sees x.move s ≡ Some value)) ⊎ ReadsIn xs (effect x.move s) step value
+ReadsIn (x ∷ xs) s step value = ((step ≡ x) × (sees x.move s ≡ Some value))
+    ⊎ ReadsIn xs (effect x.move s) step value

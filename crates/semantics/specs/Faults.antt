@@ -24,7 +24,8 @@ at_line code line = record { line = line; code = code }
 
 -- This code at the line of the first record that passes a test, if there is one.
 abbrev pub first_with : Code → (Record → Bool) → List Lined → Option Fault
-first_with code test log = option_map (λ (l : Lined). at_line code l.line) (find (λ (l : Lined). test l.rec) log)
+first_with code test log = option_map (λ (l : Lined). at_line code l.line)
+    (find (λ (l : Lined). test l.rec) log)
 
 abbrev pub is_header : Record → Bool
 is_header (Header version) = true
@@ -38,7 +39,8 @@ opens _ = false
 -- header: there is no record; or the first is no header of version 1; or a later one is a header. (`lines` is the number of lines.)
 abbrev pub header_fault : ℕ → List Lined → Option Fault
 header_fault lines [] = Some (at_line codes.Header (lines + 1))
-header_fault lines (l ∷ log) = if opens l.rec then first_with codes.Header is_header log else Some (at_line codes.Header l.line)
+header_fault lines (l ∷ log) = if opens l.rec then first_with codes.Header is_header log
+    else Some (at_line codes.Header l.line)
 
 abbrev pub is_end : Record → Bool
 is_end (End n) = true
@@ -47,7 +49,8 @@ is_end _ = false
 -- ended: there is no `end`; or a record stands after the first.
 abbrev pub ended_fault : ℕ → List Lined → Option Fault
 ended_fault lines [] = Some (at_line codes.Ended (lines + 1))
-ended_fault lines (l ∷ log) = if is_end l.rec then first_with codes.Ended (λ r. true) log else ended_fault lines log
+ended_fault lines (l ∷ log) = if is_end l.rec then first_with codes.Ended (λ r. true) log
+    else ended_fault lines log
 
 -- count: the number of `end` is not that of the records between header and end.
 abbrev pub miscounts : ℕ → Record → Bool
@@ -129,7 +132,13 @@ first_broken r = find (breaks r) record_rules
 
 -- A record of a log, after these of its lines.
 abbrev pub record_in : List Record → List Lined → Record → InLog
-record_in log earlier r = record { log = log; earlier = records_of earlier; tables = tables_of earlier; rec = r }
+record_in log earlier r = record {
+  log = log;
+  earlier = records_of earlier;
+  tables = tables_of earlier;
+  rec =
+      r;
+}
 
 -- The fault of the first of some records that breaks a rule.
 abbrev pub records_fault : List Record → List Lined → List Lined → Option Fault
@@ -140,11 +149,13 @@ records_fault log earlier (l ∷ rest) =
 
 -- The fault of a log's frame, or else of its single records: where there is none, it has tables.
 abbrev pub declaration_fault : ℕ → List Lined → Option Fault
-declaration_fault lines log = option_or (header_fault lines log) (option_or (ended_fault lines log) (option_or (count_fault log) (records_fault (records_of log) [] log)))
+declaration_fault lines log = option_or (header_fault lines log)
+    (option_or (ended_fault lines log) (option_or (count_fault log) (records_fault (records_of log) [] log)))
 
 -- The line that lists an item in serial order, and 0 if none does.
 abbrev pub serial_line : Tables → ℕ → ℕ
-serial_line t item = option_map_or (λ (s : Serial). s.line) (find (λ (s : Serial). is_in s.ids (id_of t item)) t.serials) 0
+serial_line t item = option_map_or (λ (s : Serial). s.line)
+    (find (λ (s : Serial). is_in s.ids (id_of t item)) t.serials) 0
 
 -- serial-order: two items stand against program order that may not. The line is the one that lists the first of them.
 abbrev pub serial_fault : Tables → Option Fault
@@ -152,7 +163,8 @@ serial_fault t = option_map (λ (p : ℕ × ℕ). at_line codes.SerialOrder (ser
 
 -- unmapped: some field of a requirement is mapped to no instance.
 abbrev pub unmapped_fault : Tables → Option Fault
-unmapped_fault t = option_map (λ (r : Req). at_line codes.Unmapped r.line) (find (λ (r : Req). not (list_all (λ f. is_some (mapped t r f)) r.fields)) t.reqs)
+unmapped_fault t = option_map (λ (r : Req). at_line codes.Unmapped r.line)
+    (find (λ (r : Req). not (list_all (λ f. is_some (mapped t r f)) r.fields)) t.reqs)
 
 -- `check` and `why` ask that each field be mapped, and no other command.
 abbrev pub map_fault : Command → Tables → Option Fault
@@ -162,4 +174,5 @@ map_fault _ t = None
 
 -- The fault that a command shows of a log.
 unfoldable pub log_fault : Command → ℕ → List Lined → Option Fault
-log_fault command lines log = option_or (declaration_fault lines log) (option_or (serial_fault (tables_of log)) (map_fault command (tables_of log)))
+log_fault command lines log = option_or (declaration_fault lines log)
+    (option_or (serial_fault (tables_of log)) (map_fault command (tables_of log)))

@@ -13,7 +13,8 @@ is_read _ = false
 
 -- A step has to be taken before another where its node is before the other's, or where both are of one node, and the first is a read and the other none.
 abbrev pub MustPrecede : List Node → Step → Step → Type 0
-MustPrecede nodes x y = Before nodes x.node y.node ⊎ ((x.node ≡ y.node) × (is_read x.move ≡ true) × (is_read y.move ≡ false))
+MustPrecede nodes x y = Before nodes x.node y.node
+    ⊎ ((x.node ≡ y.node) × (is_read x.move ≡ true) × (is_read y.move ≡ false))
 
 -- An interleaving: each step of the log once, and none after a step that it has to precede.
 pub record IsInterleaving (t : Tables) (xs : List Step) : Type 0 where

@@ -22,7 +22,17 @@ reqs_of t item = filter (λ (r : Req). r.item == item) t.reqs
 abbrev pub uses_of_item : Tables → ℕ → Item → List Req
 uses_of_item t item i = elim i.body [
   | Task ↦ reqs_of t item
-  | Fill tree space fields n ↦ record { item = item; number = 0; line = i.line; tree = tree; space = space; fields = fields; access = Wd; coherence = Exclusive } ∷ []
+  | Fill tree space fields n ↦ record {
+    item = item;
+    number = 0;
+    line = i.line;
+    tree = tree;
+    space =
+        space;
+    fields = fields;
+    access = Wd;
+    coherence = Exclusive;
+  } ∷ []
 ]
 
 abbrev pub uses_of : Tables → ℕ → List Req
@@ -42,7 +52,9 @@ covers t p r = (r.tree == p.tree) && (is_in (points_in t r.space) p.point && is_
 
 -- The places that an item covers.
 abbrev pub item_places : Tables → ℕ → List Place
-item_places t item = flat_map (λ (r : Req). map (λ (p : ℕ × ℕ). record { tree = r.tree; point = p.0; field = p.1 }) (req_grid t r)) (uses_of t item)
+item_places t item =
+    flat_map (λ (r : Req). map (λ (p : ℕ × ℕ). record { tree = r.tree; point = p.0; field = p.1 })
+    (req_grid t r)) (uses_of t item)
 
 -- The strongest of some kinds, and `Free` of none.
 abbrev pub strongest : List Kind → Kind
@@ -51,7 +63,9 @@ strongest (k ∷ ks) = stronger k (strongest ks)
 
 -- The kind of two items at a place: the strongest over the requirements of the one and of the other that cover it.
 abbrev pub kind_at : Tables → ℕ → ℕ → Place → Kind
-kind_at t a b p = strongest (flat_map (λ (q : Req). map (λ (r : Req). kind_of q.access q.coherence r.access r.coherence) (filter (covers t p) (uses_of t b))) (filter (covers t p) (uses_of t a)))
+kind_at t a b p = strongest (flat_map
+    (λ (q : Req). map (λ (r : Req). kind_of q.access q.coherence r.access r.coherence)
+    (filter (covers t p) (uses_of t b))) (filter (covers t p) (uses_of t a)))
 
 -- The kind of two items: the strongest over the places that they cover.
 abbrev pub item_kind : Tables → ℕ → ℕ → Kind
@@ -67,7 +81,9 @@ is_before _ = false
 
 -- Two items interfere where their kind is not `Free`. These are the pairs that do, each in program order: by the first item, and then by the second.
 abbrev pub pairs : Tables → List (ℕ × ℕ)
-pairs t = flat_map (λ a. map (λ b. (a, b)) (filter (λ b. not (is_free (item_kind t a b))) (range_with_len (a + 1) (length t.items - (a + 1))))) (range_with_len 0 (length t.items))
+pairs t = flat_map (λ a. map (λ b. (a, b))
+    (filter (λ b. not (is_free (item_kind t a b))) (range_with_len (a + 1) (length t.items - (a + 1)))))
+    (range_with_len 0 (length t.items))
 
 -- Places, and cells, go by tree or instance, then by point, and then by field.
 abbrev pub comes_first : ℕ × ℕ × ℕ → ℕ × ℕ × ℕ → Bool

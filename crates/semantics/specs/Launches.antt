@@ -52,7 +52,8 @@ colours_of e base = option_map_or (λ (l : TaskLaunch). l.colours) (launch_of e 
 
 -- The first space that a partition has under a colour.
 abbrev pub space_under : Tables → ℕ → ℕ → Option ℕ
-space_under t part colour = option_map (λ (s : Sub). s.space) (find (λ (s : Sub). (s.part == part) && (s.colour == colour)) t.subs)
+space_under t part colour = option_map (λ (s : Sub). s.space)
+    (find (λ (s : Sub). (s.part == part) && (s.colour == colour)) t.subs)
 
 -- A record for each task of a launch, made of the task's id and its colour.
 abbrev pub for_tasks : (ℕ → ℕ → Record) → ℕ → List ℕ → List Record
@@ -64,7 +65,9 @@ abbrev pub writes : Expanded → LRecord → List Record
 writes e (Plain (records.End n)) = records.End (length e.written - 1) ∷ []
 writes e (Plain r) = r ∷ []
 writes e (Launch base colours) = for_tasks (λ id colour. records.Task id) base colours
-writes e (Lreq base tree part fields access atomic) = for_tasks (λ id colour. records.Req id tree (unwrap_or (space_under (declared_by e) part colour) 0) fields access atomic) base (colours_of e base)
+writes e (Lreq base tree part fields access atomic) =
+    for_tasks (λ id colour. records.Req id tree
+    (unwrap_or (space_under (declared_by e) part colour) 0) fields access atomic) base (colours_of e base)
 
 abbrev pub launches_by : LRecord → List TaskLaunch
 launches_by (Launch base colours) = record { base = base; colours = colours } ∷ []
@@ -94,17 +97,21 @@ repeats_launch e r = false
 
 -- unknown-id: no earlier launch has its id, or the partition has no subspace so far under some colour of the launch.
 abbrev pub names_no_launch : Expanded → LRecord → Bool
-names_no_launch e (Lreq base tree part fields access atomic) = is_none (launch_of e base) || list_any (λ colour. is_none (space_under (declared_by e) part colour)) (colours_of e base)
+names_no_launch e (Lreq base tree part fields access atomic) =
+    is_none (launch_of e base) || list_any (λ colour. is_none (space_under (declared_by e) part colour))
+    (colours_of e base)
 names_no_launch e r = false
 
 -- launch-range: it has too many colours, or the id of some task would be no id.
 abbrev pub exceeds_ids : LRecord → Bool
-exceeds_ids (Launch base colours) = nat_lt MOST_COLOURS (length colours) || nat_lt (2 ^ 32) (base + length colours)
+exceeds_ids (Launch base colours) = nat_lt MOST_COLOURS (length colours)
+    || nat_lt (2 ^ 32) (base + length colours)
 exceeds_ids r = false
 
 -- too-many-records: with this one the written records, without header and end, are too many.
 abbrev pub writes_many : Expanded → LRecord → Bool
-writes_many e r = nat_lt MOST_RECORDS (length (filter (λ w. not (is_header w || is_end w)) (e.written ++ writes e r)))
+writes_many e r = nat_lt MOST_RECORDS
+    (length (filter (λ w. not (is_header w || is_end w)) (e.written ++ writes e r)))
 
 -- too-long: with this one the text of the written records is too long.
 abbrev pub writes_long : Expanded → LRecord → Bool
@@ -116,20 +123,24 @@ is_launched l id = not (nat_lt id l.base) && nat_lt id (l.base + length l.colour
 
 -- Whether two records are requirements of two tasks of a launch that share a place and may not both be used there in any order.
 abbrev pub clash : Tables → TaskLaunch → Record → Record → Bool
-clash t l (records.Req task tree space fields access atomic) (records.Req other its_tree its_space its_fields its_access its_atomic) =
+clash t l (records.Req task tree space fields access atomic)
+    (records.Req other its_tree its_space its_fields its_access its_atomic) =
     (is_launched l task && (is_launched l other && not (task == other)))
     && ((tree == its_tree) && (meets fields its_fields && (meets (points_in t space) (points_in t its_space)
-    && not (is_free (kind_of (privilege_of access) (coherence_of atomic) (privilege_of its_access) (coherence_of its_atomic))))))
+    && not (is_free (kind_of (privilege_of access) (coherence_of atomic) (privilege_of its_access)
+    (coherence_of its_atomic))))))
 clash t l q r = false
 
 -- launch-interference: what it writes for a task of an earlier launch clashes with what is written so far, or by itself, for another task of that launch.
 abbrev pub interferes_in_launch : Expanded → LRecord → Bool
 interferes_in_launch e r =
-    list_any (λ (l : TaskLaunch). list_any (λ q. list_any (clash (declared_by e) l q) (e.written ++ writes e r)) (writes e r)) e.launches
+    list_any (λ (l : TaskLaunch). list_any
+    (λ q. list_any (clash (declared_by e) l q) (e.written ++ writes e r)) (writes e r)) e.launches
 
 -- The rules on launches, in the order in which they are tried.
 abbrev pub launch_rules : List Code
-launch_rules = codes.RepeatedId ∷ codes.UnknownId ∷ codes.LaunchRange ∷ codes.TooManyRecords ∷ codes.TooLong ∷ codes.LaunchInterference ∷ []
+launch_rules = codes.RepeatedId ∷ codes.UnknownId ∷ codes.LaunchRange ∷ codes.TooManyRecords ∷ codes.TooLong
+    ∷ codes.LaunchInterference ∷ []
 
 -- Whether a record breaks the rule of a code. (No other code is that of a rule on launches.)
 abbrev pub breaks_launch : Expanded → LRecord → Code → Bool
@@ -144,7 +155,9 @@ breaks_launch e r _ = false
 -- The fault of the first of some records that breaks a rule on launches, and that rule is the first that it breaks.
 abbrev pub launches_fault : Expanded → List LLined → Option Fault
 launches_fault e [] = None
-launches_fault e (l ∷ rest) = option_or (option_map (λ code. at_line code l.line) (find (breaks_launch e l.rec) launch_rules)) (launches_fault (with_launching e l.rec) rest)
+launches_fault e (l ∷ rest) = option_or
+    (option_map (λ code. at_line code l.line) (find (breaks_launch e l.rec) launch_rules))
+    (launches_fault (with_launching e l.rec) rest)
 
 -- ---- the fault of a launch log
 
@@ -159,7 +172,9 @@ framed log = map (λ (l : LLined). record { line = l.line; rec = as_framed l.rec
 
 -- The fault that is shown of a launch log: that of its frame, and else that of the first record that breaks a rule on launches.
 unfoldable pub launch_fault : ℕ → List LLined → Option Fault
-launch_fault lines log = option_or (header_fault lines (framed log)) (option_or (ended_fault lines (framed log)) (option_or (count_fault (framed log)) (launches_fault not_expanded log)))
+launch_fault lines log = option_or (header_fault lines (framed log))
+    (option_or (ended_fault lines (framed log))
+    (option_or (count_fault (framed log)) (launches_fault not_expanded log)))
 
 -- ---- from bytes to a launch log
 

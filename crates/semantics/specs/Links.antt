@@ -66,7 +66,9 @@ cell_read _ = None
 -- Among the steps `xs`, taken after the steps `earlier`, the step reads what came from these sources.
 abbrev pub ComesFrom : List Step → List Step → Step → List Source → Type 0
 ComesFrom earlier [] step list = ⊥
-ComesFrom earlier (x ∷ xs) step list = ((step ≡ x) × (option_map (λ c. sources_of earlier c 0) (cell_read x.move) ≡ Some list)) ⊎ ComesFrom (x ∷ earlier) xs step list
+ComesFrom earlier (x ∷ xs) step list =
+    ((step ≡ x) × (option_map (λ c. sources_of earlier c 0) (cell_read x.move) ≡ Some list))
+    ⊎ ComesFrom (x ∷ earlier) xs step list
 
 -- In every interleaving the step reads what came from these sources.
 abbrev pub IsTrail : Tables → Step → List Source → Type 0
@@ -76,7 +78,8 @@ IsTrail t step list = (xs : List Step) → IsInterleaving t xs → ComesFrom [] 
 
 -- Whether a move is the read that is asked for.
 abbrev pub is_asked : Ask → Move → Bool
-is_asked ask (Read task req cell) = ((task == ask.task) && (req == ask.req)) && ((cell.point == ask.point) && (cell.field == ask.field))
+is_asked ask (Read task req cell) = ((task == ask.task) && (req == ask.req))
+    && ((cell.point == ask.point) && (cell.field == ask.field))
 is_asked ask _ = false
 
 -- No step is the read that is asked for.
@@ -114,7 +117,8 @@ put_by t _ = None
 
 -- What the operation with an event puts of its own.
 abbrev pub put_at : Tables → ℕ → Option Value
-put_at t event = option_map_or (λ (n : LogNode). put_by t n.op) (find (λ (n : LogNode). n.done == event) t.nodes) None
+put_at t event = option_map_or (λ (n : LogNode). put_by t n.op)
+    (find (λ (n : LogNode). n.done == event) t.nodes) None
 
 -- What a link puts that no link is behind: what its cell held at the start, or what its operation puts.
 abbrev pub value_put : Tables → Ask → Link → Option Value
@@ -132,8 +136,10 @@ last_put t ask (l ∷ m ∷ ls) = last_put t ask (m ∷ ls)
 
 -- Where nothing was added on the way, the read that is asked for sees in every interleaving what the last link puts.
 abbrev pub TellValue : Tables → Ask → List Link → Type 0
-TellValue t ask links = AllByRecursion (λ (l : Link). l.adds ≡ 0) links → (xs : List Step) → IsInterleaving t xs
-    → (x : Step) → is_asked ask x.move ≡ true → (v : Value) → ReadsIn xs (start t) x v → last_put t ask links ≡ Some v
+TellValue t ask links = AllByRecursion (λ (l : Link). l.adds ≡ 0) links → (xs : List Step)
+    → IsInterleaving t xs
+    → (x : Step) → is_asked ask x.move ≡ true → (v : Value) → ReadsIn xs (start t) x v
+    → last_put t ask links ≡ Some v
 
 -- There is a link; all but the last are copies, and the last is none.
 abbrev pub EndsInOrigin : List Link → Type 0

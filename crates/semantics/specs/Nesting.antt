@@ -49,9 +49,23 @@ privileges_before qs group = count_by (λ (q : GroupReq). q.group == group) qs
 -- The nesting with what one record more makes. The privileges of each group are numbered from 1.
 abbrev pub with_nested : Nesting → NRecord → Nesting
 with_nested n (records.Plain r) = n
-with_nested n (records.Group id parent) = record n { groups = n.groups ++ record { id = id; parent = parent } ∷ [] }
-with_nested n (records.Greq group tree space fields access) = record n { privileges = n.privileges ++ record { group = group; number = privileges_before n.privileges group + 1; tree = tree; space = space; fields = fields; access = privilege_of access } ∷ [] }
-with_nested n (records.Member task group) = record n { members = n.members ++ record { task = task; group = group } ∷ [] }
+with_nested n (records.Group id parent) =
+    record n { groups = n.groups ++ record { id = id; parent = parent } ∷ [] }
+with_nested n (records.Greq group tree space fields access) =
+    record n {
+      privileges = n.privileges ++ record {
+        group = group;
+        number =
+            privileges_before n.privileges group + 1;
+        tree = tree;
+        space = space;
+        fields = fields;
+        access =
+            privilege_of access;
+      } ∷ [];
+    }
+with_nested n (records.Member task group) =
+    record n { members = n.members ++ record { task = task; group = group } ∷ [] }
 
 -- The nesting that some lines make.
 abbrev pub nesting_of : List NLined → Nesting
@@ -108,7 +122,17 @@ is_below n g m = (m.group == g) || is_ancestor n g m.group
 
 -- A privilege of a group in the shape of a requirement. What is done with it is exclusive.
 abbrev pub as_req : GroupReq → Req
-as_req q = record { item = q.group; number = q.number; line = 0; tree = q.tree; space = q.space; fields = q.fields; access = q.access; coherence = Exclusive }
+as_req q = record {
+  item = q.group;
+  number = q.number;
+  line = 0;
+  tree = q.tree;
+  space = q.space;
+  fields =
+      q.fields;
+  access = q.access;
+  coherence = Exclusive;
+}
 
 -- The privileges of a group, in the order of their numbers.
 abbrev pub privileges_of : Nesting → ℕ → List Req
@@ -116,12 +140,14 @@ privileges_of n group = map as_req (filter (λ (q : GroupReq). q.group == group)
 
 -- Whether a group licenses a privilege at a place: one of its own covers the place and contains it.
 abbrev pub licenses : Tables → Nesting → ℕ → Place → Priv → Bool
-licenses t n group p access = list_any (λ (q : Req). covers t p q && contains q.access access) (privileges_of n group)
+licenses t n group p access = list_any (λ (q : Req). covers t p q && contains q.access access)
+    (privileges_of n group)
 
 -- The children of all groups: first the groups that have a parent, and then the members.
 abbrev pub children : Nesting → List Child
 children n =
-    filter_map (λ (g : Group). option_map (λ parent. record { leaf = false; id = g.id; group = parent }) (parent_of g)) n.groups
+    filter_map (λ (g : Group). option_map (λ parent. record { leaf = false; id = g.id; group = parent })
+    (parent_of g)) n.groups
     ++ map (λ (m : GroupMember). record { leaf = true; id = m.task; group = m.group }) n.members
 
 -- What a child asks for: a task by its requirements, a group by its privileges.
@@ -143,7 +169,9 @@ first_given f (x ∷ xs) = option_or (f x) (first_given f xs)
 
 -- The least place of the first requirement of a child that has one which the group of the child does not license.
 abbrev pub unlicensed_child : Tables → Nesting → Child → Option Unlicensed
-unlicensed_child t n c = first_given (λ (r : Req). option_map (λ place. record { child = c; req = r.number; place = place }) (unlicensed_place t n c.group r)) (reqs_of_child t n c)
+unlicensed_child t n c = first_given
+    (λ (r : Req). option_map (λ place. record { child = c; req = r.number; place = place })
+    (unlicensed_place t n c.group r)) (reqs_of_child t n c)
 
 -- What is shown of the first child that asks for more than its group licenses.
 abbrev pub shown_unlicensed : Tables → Nesting → Option Unlicensed
@@ -153,7 +181,9 @@ shown_unlicensed t n = first_given (unlicensed_child t n) (children n)
 
 -- Whether two requirements share a place and interfere there.
 abbrev pub interfere : Tables → Req → Req → Bool
-interfere t q r = (q.tree == r.tree) && (meets q.fields r.fields && (meets (points_in t q.space) (points_in t r.space) && not (is_free (kind_of q.access q.coherence r.access r.coherence))))
+interfere t q r = (q.tree == r.tree)
+    && (meets q.fields r.fields && (meets (points_in t q.space) (points_in t r.space)
+    && not (is_free (kind_of q.access q.coherence r.access r.coherence))))
 
 -- Two groups are free of each other where no privilege of the one interferes with one of the other.
 abbrev pub are_free : Tables → Nesting → ℕ → ℕ → Bool
@@ -188,7 +218,8 @@ is_plain _ = false
 
 -- too-many-records: it is later than the 131,072nd record that is not plain.
 abbrev pub is_late_nested : Nesting → NRecord → Bool
-is_late_nested n r = not (is_plain r) && nat_lt MOST_RECORDS (length n.groups + length n.privileges + length n.members + 1)
+is_late_nested n r = not (is_plain r)
+    && nat_lt MOST_RECORDS (length n.groups + length n.privileges + length n.members + 1)
 
 -- repeated-id: an earlier group has its id, or its task is a member already.
 abbrev pub repeats_group : Nesting → NRecord → Bool
@@ -211,7 +242,8 @@ named_things _ = []
 
 -- unknown-id: it names a group, a tree, a space or a task that no earlier record declares.
 abbrev pub names_no_group : Tables → Nesting → NRecord → Bool
-names_no_group t n r = not (list_all (is_group n) (named_groups r) && list_all (is_declared t) (named_things r))
+names_no_group t n r =
+    not (list_all (is_group n) (named_groups r) && list_all (is_declared t) (named_things r))
 
 -- too-many-groups: it is later than the 1,024th group, and a group.
 abbrev pub is_late_group : Nesting → NRecord → Bool
@@ -230,7 +262,8 @@ has_other_fields t _ = false
 
 -- The rules, in the order in which they are tried.
 abbrev pub nested_rules : List Code
-nested_rules = codes.TooManyRecords ∷ codes.RepeatedId ∷ codes.UnknownId ∷ codes.TooManyGroups ∷ codes.NotInTree ∷ codes.Fields ∷ []
+nested_rules = codes.TooManyRecords ∷ codes.RepeatedId ∷ codes.UnknownId ∷ codes.TooManyGroups
+    ∷ codes.NotInTree ∷ codes.Fields ∷ []
 
 -- Whether a record breaks the rule of a code. (No other code is that of a rule on groups.)
 abbrev pub breaks_nested : InNested → Code → Bool
@@ -244,18 +277,26 @@ breaks_nested r _ = false
 
 -- A record of a nested log of which the whole declares this, after these of its lines.
 abbrev pub nested_in : Tables → List NLined → NRecord → InNested
-nested_in whole earlier r = record { whole = whole; tables = nested_tables earlier; nesting = nesting_of earlier; rec = r }
+nested_in whole earlier r = record {
+  whole = whole;
+  tables = nested_tables earlier;
+  nesting =
+      nesting_of earlier;
+  rec = r;
+}
 
 -- The fault of the first of some records that breaks a rule on groups, and that rule is the first that it breaks.
 abbrev pub groups_fault : Tables → List NLined → List NLined → Option Fault
 groups_fault whole earlier [] = None
 groups_fault whole earlier (l ∷ rest) =
-    option_or (option_map (λ code. at_line code l.line) (find (breaks_nested (nested_in whole earlier l.rec)) nested_rules))
+    option_or (option_map (λ code. at_line code l.line)
+    (find (breaks_nested (nested_in whole earlier l.rec)) nested_rules))
     (groups_fault whole (earlier ++ l ∷ []) rest)
 
 -- The fault that is shown of a nested log: that of its plain records, which are a log with a frame of their own, and else that of the first record that breaks a rule on groups.
 unfoldable pub nested_fault : ℕ → List NLined → Option Fault
-nested_fault lines log = option_or (declaration_fault lines (plain_log log)) (groups_fault (nested_tables log) [] log)
+nested_fault lines log = option_or (declaration_fault lines (plain_log log))
+    (groups_fault (nested_tables log) [] log)
 
 -- ---- from bytes to a nested log
 

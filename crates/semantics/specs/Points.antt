@@ -31,7 +31,8 @@ tree_at t id = find (λ (r : Tree). r.id == id) t.trees
 
 -- The fields of a field space.
 abbrev pub fields_in : Tables → ℕ → List ℕ
-fields_in t id = option_map_or (λ (f : FieldSpace). f.fields) (find (λ (f : FieldSpace). f.id == id) t.field_spaces) []
+fields_in t id = option_map_or (λ (f : FieldSpace). f.fields)
+    (find (λ (f : FieldSpace). f.id == id) t.field_spaces) []
 
 -- The partition with this id.
 abbrev pub part_at : Tables → ℕ → Option Part
@@ -39,7 +40,8 @@ part_at t id = find (λ (p : Part). p.id == id) t.parts
 
 -- The space above a space: the one that is split by the partition of which it is a subspace.
 abbrev pub space_above : Tables → ℕ → Option ℕ
-space_above t space = option_and_then (λ (s : Sub). option_map (λ (p : Part). p.space) (part_at t s.part)) (find (λ (s : Sub). s.space == space) t.subs)
+space_above t space = option_and_then (λ (s : Sub). option_map (λ (p : Part). p.space) (part_at t s.part))
+    (find (λ (s : Sub). s.space == space) t.subs)
 
 -- A space, if there is one, and the spaces above it, the nearest first: so many at most.
 abbrev pub upward : Tables → ℕ → Option ℕ → List ℕ
@@ -53,4 +55,5 @@ spaces_above t space = upward t (length t.subs) (space_above t space)
 
 -- Whether a space is the root space of a tree, or lies below it.
 abbrev pub is_in_tree : Tables → ℕ → ℕ → Bool
-is_in_tree t tree space = option_map_or (λ (r : Tree). (space == r.space) || is_in (spaces_above t space) r.space) (tree_at t tree) false
+is_in_tree t tree space = option_map_or
+    (λ (r : Tree). (space == r.space) || is_in (spaces_above t space) r.space) (tree_at t tree) false

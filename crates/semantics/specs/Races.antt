@@ -22,7 +22,8 @@ at_cell cell here c = if same_cell c cell then here else Untouched
 
 -- A read at `from`, and this access at `to`. Where the two are one cell it is a write, since it changes what it reads.
 abbrev pub from_to : Cell → Cell → Access → Cell → Access
-from_to from to here c = if same_cell c to then (if same_cell c from then Writes else here) else at_cell from Reads c
+from_to from to here c = if same_cell c to then (if same_cell c from then Writes else here)
+    else at_cell from Reads c
 
 -- What a move does at a cell.
 abbrev pub access : Move → Cell → Access
@@ -63,5 +64,6 @@ IsCalm m n = (cell : Cell) → conflicts (access m cell) (access n cell) ≡ fal
 
 -- Two moves of one node conflict only where the one is a read and the other is none.
 abbrev pub IsTidy : Tables → Type 0
-IsTidy t = (node : ℕ) (m n : Move) (cell : Cell) → Contains (steps t) (record { node = node; move = m }) → Contains (steps t) (record { node = node; move = n })
+IsTidy t = (node : ℕ) (m n : Move) (cell : Cell) → Contains (steps t) (record { node = node; move = m })
+    → Contains (steps t) (record { node = node; move = n })
     → m ≢ n → conflicts (access m cell) (access n cell) ≡ true → is_read m ≢ is_read n

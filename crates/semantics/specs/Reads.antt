@@ -19,7 +19,13 @@ req_at t item number = find (λ (r : Req). (r.item == item) && (r.number == numb
 
 -- What a read of an item for a requirement should see at a point and a field: the value of sequential execution just before the item, in the tree of the requirement.
 abbrev pub wanted_by : Tables → ℕ → ℕ → ℕ → ℕ → Value
-wanted_by t item number point field = wanted t item (record { tree = option_map_or (λ (r : Req). r.tree) (req_at t item number) 0; point = point; field = field })
+wanted_by t item number point field =
+    wanted t item (record {
+      tree = option_map_or (λ (r : Req). r.tree) (req_at t item number) 0;
+      point =
+          point;
+      field = field;
+    })
 
 -- A read: its task and requirement, the point and the field, and what it saw.
 pub record Seen : Type 0 where
@@ -35,11 +41,16 @@ want_of t r = wanted_by t (place_of t.items r.task) r.number r.point r.field
 
 -- A node takes this read from an instance.
 abbrev pub read_step : ℕ → ℕ → Seen → Step
-read_step node inst r = record { node = node; move = Read r.task r.number (record { inst = inst; point = r.point; field = r.field }) }
+read_step node inst r = record {
+  node = node;
+  move =
+      Read r.task r.number (record { inst = inst; point = r.point; field = r.field });
+}
 
 -- In every interleaving each read sees what it should.
 abbrev pub IsRight : Tables → Type 0
-IsRight t = (xs : List Step) → IsInterleaving t xs → (node inst : ℕ) (r : Seen) → ReadsIn xs (start t) (read_step node inst r) r.got → r.got ≡ want_of t r
+IsRight t = (xs : List Step) → IsInterleaving t xs → (node inst : ℕ) (r : Seen)
+    → ReadsIn xs (start t) (read_step node inst r) r.got → r.got ≡ want_of t r
 
 -- A differing read: in every interleaving it sees this, and that is not what it should see.
 pub record Differs (t : Tables) (r : Seen) : Type 0 where
@@ -55,7 +66,8 @@ differing t r = if same_value r.got (want_of t r) then None else Some r
 
 -- The first differing read of some steps, taken one after the other from a state.
 abbrev pub difference : Tables → Move → State → Option Seen
-difference t (Read task number c) s = differing t (record { task = task; number = number; point = c.point; field = c.field; got = s c })
+difference t (Read task number c) s =
+    differing t (record { task = task; number = number; point = c.point; field = c.field; got = s c })
 difference t _ s = None
 
 abbrev pub first_difference : Tables → List Step → State → Option Seen

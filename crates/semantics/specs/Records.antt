@@ -35,14 +35,17 @@ abbrev pub line_count : List ℕ → ℕ
 line_count bytes = length (parts_of bytes) - 1
 
 -- Some lines, numbered from `number`, hold these records and no others: each line is blank or a comment, or spells the next record, which stands on the line of that number. Of a kind of log this is said by which of its records have a spelling, by that spelling, and by how a record stands on a line.
-abbrev pub HoldBy : {R L : Type 0} → (R → Type 0) → (R → List ℕ) → (ℕ → R → L) → ℕ → List (List ℕ) → List L → Type 0
+abbrev pub HoldBy : {R L : Type 0} → (R → Type 0) → (R → List ℕ) → (ℕ → R → L) → ℕ → List (List ℕ) → List L
+    → Type 0
 HoldBy IsGood spelled on number [] log = log ≡ []
 HoldBy {R} {L} IsGood spelled on number (line ∷ lines) log =
     ((is_passed_over line ≡ true) × HoldBy IsGood spelled on (number + 1) lines log)
-    ⊎ ((r : R) × (rest : List L) × IsGood r × (line ≡ spelled r) × (log ≡ on number r ∷ rest) × HoldBy IsGood spelled on (number + 1) lines rest)
+    ⊎ ((r : R) × (rest : List L) × IsGood r × (line ≡ spelled r) × (log ≡ on number r ∷ rest)
+    × HoldBy IsGood spelled on (number + 1) lines rest)
 
 -- The input is lines, each ended by a line feed, that hold the records of a log of such a kind.
-pub record ReadsBy {R L : Type 0} (IsGood : R → Type 0) (spelled : R → List ℕ) (on : ℕ → R → L) (bytes : List ℕ) (log : List L) : Type 0 where
+pub record ReadsBy {R L : Type 0} (IsGood : R → Type 0) (spelled : R → List ℕ) (on : ℕ → R → L)
+    (bytes : List ℕ) (log : List L) : Type 0 where
   pub ended : drop (line_count bytes) (parts_of bytes) ≡ [] ∷ []
   pub hold : HoldBy IsGood spelled on 1 (take (line_count bytes) (parts_of bytes)) log
 

@@ -22,7 +22,8 @@ has_event nodes event k = unwrap_or (option_map (λ e. e == event) (done_at node
 
 -- Whether a node may be taken now: it was not, and each event that it waits on is that of a node that was.
 abbrev pub is_ready : List Node → List ℕ → ℕ → Bool
-is_ready nodes taken k = not (is_in taken k) && list_all (λ event. list_any (has_event nodes event) taken) (waits_at nodes k)
+is_ready nodes taken k = not (is_in taken k)
+    && list_all (λ event. list_any (has_event nodes event) taken) (waits_at nodes k)
 
 -- The nodes taken, and the next one after them.
 abbrev pub with_next : List ℕ → Option ℕ → List ℕ
@@ -32,7 +33,8 @@ with_next taken (Some k) = taken ++ k ∷ []
 -- The nodes taken after so many rounds more. Each round takes the first node, in node order, that may be taken.
 abbrev pub after_rounds : List Node → ℕ → List ℕ → List ℕ
 after_rounds nodes zero taken = taken
-after_rounds nodes (suc n) taken = after_rounds nodes n (with_next taken (find (is_ready nodes taken) (positions nodes)))
+after_rounds nodes (suc n) taken = after_rounds nodes n
+    (with_next taken (find (is_ready nodes taken) (positions nodes)))
 
 -- The replay order: the nodes in the order in which they are taken.
 unfoldable pub replay_order : List Node → List ℕ
@@ -47,7 +49,8 @@ stuck_nodes nodes = filter (is_stuck nodes) (positions nodes)
 
 -- The first stuck node, in node order, that a node waits on.
 abbrev pub stuck_wait : List Node → ℕ → Option ℕ
-stuck_wait nodes k = find (λ j. list_any (λ event. has_event nodes event j) (waits_at nodes k)) (stuck_nodes nodes)
+stuck_wait nodes k = find (λ j. list_any (λ event. has_event nodes event j) (waits_at nodes k))
+    (stuck_nodes nodes)
 
 -- A list up to and with a number.
 abbrev pub up_to : ℕ → List ℕ → List ℕ
@@ -57,7 +60,8 @@ up_to k (n ∷ ns) = n ∷ (if n == k then [] else up_to k ns)
 -- The walk from a node to its first stuck wait, and so on, until it comes to a node again: the nodes from there on, the latest first, so that each is waited on by the next. (`walked` are the nodes so far, the latest first.)
 abbrev pub walk : List Node → ℕ → List ℕ → ℕ → List ℕ
 walk nodes zero walked k = []
-walk nodes (suc n) walked k = if is_in walked k then up_to k walked else walk nodes n (k ∷ walked) (unwrap_or (stuck_wait nodes k) k)
+walk nodes (suc n) walked k = if is_in walked k then up_to k walked
+    else walk nodes n (k ∷ walked) (unwrap_or (stuck_wait nodes k) k)
 
 -- The least number of a list, or this one.
 abbrev pub least_among : ℕ → List ℕ → ℕ
@@ -66,7 +70,8 @@ least_among m (n ∷ ns) = least_among (min m n) ns
 
 -- The same round, begun at the position of a number.
 abbrev pub begun_at : ℕ → List ℕ → List ℕ
-begun_at k ns = drop (unwrap_or (position (λ n. n == k) ns) 0) ns ++ take (unwrap_or (position (λ n. n == k) ns) 0) ns
+begun_at k ns = drop (unwrap_or (position (λ n. n == k) ns) 0) ns
+    ++ take (unwrap_or (position (λ n. n == k) ns) 0) ns
 
 -- The same round, begun at its first node in node order.
 abbrev pub from_least : List ℕ → List ℕ

@@ -77,7 +77,8 @@ declares _ = []
 
 -- repeated-id: what it declares is declared already; or its partition has a subspace of its colour already.
 abbrev pub repeats_id : Tables → Record → Bool
-repeats_id t (Sub part colour space) = list_any (λ (s : tables.Sub). (s.part == part) && (s.colour == colour)) t.subs
+repeats_id t (Sub part colour space) =
+    list_any (λ (s : tables.Sub). (s.part == part) && (s.colour == colour)) t.subs
 repeats_id t r = list_any (is_declared t) (declares r)
 
 abbrev pub reduced_by : PrivWord → List Thing
@@ -93,13 +94,15 @@ abbrev pub names : Record → List Thing
 names (Part id space disjoint) = space_id space ∷ []
 names (Sub part colour space) = part_id part ∷ space_id space ∷ []
 names (Tree id space fspace) = space_id space ∷ field_space_id fspace ∷ []
-names (Req task tree space fields access atomic) = task_id task ∷ tree_id tree ∷ space_id space ∷ reduced_by access
+names (Req task tree space fields access atomic) =
+    task_id task ∷ tree_id tree ∷ space_id space ∷ reduced_by access
 names (Fill id tree space fields n) = tree_id tree ∷ space_id space ∷ []
 names (Serial ids) = map (λ id. item_id id) ids
 names (Inst id tree space fields kind) = tree_id tree ∷ space_id space ∷ held_by kind
 names (Map task number fields inst) = task_id task ∷ inst_id inst ∷ []
 names (Run task done waits) = task_id task ∷ []
-names r = option_map_or (λ (d : DataOp). map (λ id. inst_id id) (insts_of d.act) ++ space_id d.space ∷ []) (data_in r) []
+names r = option_map_or (λ (d : DataOp). map (λ id. inst_id id) (insts_of d.act) ++ space_id d.space ∷ [])
+    (data_in r) []
 
 -- The requirement of a task with this number.
 abbrev pub named_req : Tables → ℕ → ℕ → Option reqs.Req
@@ -117,7 +120,8 @@ names_unknown t r = not (list_all (is_declared t) (names r)) || lacks_req t r
 
 -- too-many-points: the spaces up to this one have more than 1,048,576 points together.
 abbrev pub has_many_points : Tables → Record → Bool
-has_many_points t (Ispace id set) = nat_lt MOST_POINTS (sum_by (λ (s : tables.Space). length s.points) t.spaces + length (points_of set))
+has_many_points t (Ispace id set) = nat_lt MOST_POINTS
+    (sum_by (λ (s : tables.Space). length s.points) t.spaces + length (points_of set))
 has_many_points t _ = false
 
 abbrev pub is_sub : Tables → ℕ → Bool
@@ -130,22 +134,31 @@ is_sub_again t _ = false
 
 -- late-sub: its space was split already, or is the root of a tree.
 abbrev pub is_late_sub : Tables → Record → Bool
-is_late_sub t (Sub part colour space) = list_any (λ (p : tables.Part). p.space == space) t.parts || list_any (λ (r : tables.Tree). r.space == space) t.trees
+is_late_sub t (Sub part colour space) =
+    list_any (λ (p : tables.Part). p.space == space) t.parts
+    || list_any (λ (r : tables.Tree). r.space == space) t.trees
 is_late_sub t _ = false
 
 -- too-deep: its space lies more than 64 steps below the topmost space above it.
 abbrev pub is_too_deep : Tables → Record → Bool
-is_too_deep t (Sub part colour space) = nat_lt DEEPEST (1 + option_map_or (λ (p : tables.Part). length (spaces_above t p.space)) (part_at t part) 0)
+is_too_deep t (Sub part colour space) =
+    nat_lt DEEPEST (1 + option_map_or (λ (p : tables.Part). length (spaces_above t p.space))
+    (part_at t part) 0)
 is_too_deep t _ = false
 
 -- not-within: its space has a point outside the space that its partition splits.
 abbrev pub is_outside : Tables → Record → Bool
-is_outside t (Sub part colour space) = not (is_within (points_in t space) (option_map_or (λ (p : tables.Part). points_in t p.space) (part_at t part) []))
+is_outside t (Sub part colour space) =
+    not (is_within (points_in t space)
+    (option_map_or (λ (p : tables.Part). points_in t p.space) (part_at t part) []))
 is_outside t _ = false
 
 -- not-disjoint: its partition is disjoint, and its space has a point in common with an earlier subspace of the partition.
 abbrev pub is_not_disjoint : Tables → Record → Bool
-is_not_disjoint t (Sub part colour space) = option_map_or (λ (p : tables.Part). p.disjoint) (part_at t part) false && list_any (λ (s : tables.Sub). (s.part == part) && meets (points_in t space) (points_in t s.space)) t.subs
+is_not_disjoint t (Sub part colour space) =
+    option_map_or (λ (p : tables.Part). p.disjoint) (part_at t part) false
+    && list_any (λ (s : tables.Sub). (s.part == part)
+    && meets (points_in t space) (points_in t s.space)) t.subs
 is_not_disjoint t _ = false
 
 -- not-root: its root space is a subspace.
@@ -163,19 +176,24 @@ is_not_in_tree t _ = false
 
 -- Whether some field is none of a tree's.
 abbrev pub exceeds_tree : Tables → ℕ → List ℕ → Bool
-exceeds_tree t tree fields = not (is_within fields (option_map_or (λ (r : tables.Tree). fields_in t r.fspace) (tree_at t tree) []))
+exceeds_tree t tree fields =
+    not (is_within fields (option_map_or (λ (r : tables.Tree). fields_in t r.fspace) (tree_at t tree) []))
 
 -- fields: it has a field that its tree does not have, or, a `map`, one that its requirement does not have.
 abbrev pub has_wrong_fields : Tables → Record → Bool
 has_wrong_fields t (Req task tree space fields access atomic) = exceeds_tree t tree fields
 has_wrong_fields t (Fill id tree space fields n) = exceeds_tree t tree fields
 has_wrong_fields t (Inst id tree space fields kind) = exceeds_tree t tree fields
-has_wrong_fields t (Map task number fields inst) = not (is_within fields (option_map_or (λ (r : reqs.Req). r.fields) (named_req t task number) []))
+has_wrong_fields t (Map task number fields inst) =
+    not (is_within fields (option_map_or (λ (r : reqs.Req). r.fields) (named_req t task number) []))
 has_wrong_fields t _ = false
 
 -- self-interference: an earlier requirement of its task shares a place with it, and the two privileges do not agree. Coherence does not matter.
 abbrev pub interferes_with_own : Tables → Record → Bool
-interferes_with_own t (Req task tree space fields access atomic) = list_any (λ (r : reqs.Req). (r.item == place_of t.items task) && ((r.tree == tree) && (meets (points_in t r.space) (points_in t space) && (meets r.fields fields && not (agree r.access (privilege_of access)))))) t.reqs
+interferes_with_own t (Req task tree space fields access atomic) =
+    list_any (λ (r : reqs.Req). (r.item == place_of t.items task)
+    && ((r.tree == tree) && (meets (points_in t r.space) (points_in t space)
+    && (meets r.fields fields && not (agree r.access (privilege_of access)))))) t.reqs
 interferes_with_own t _ = false
 
 -- ---- Instances, and what is done with them.
@@ -190,7 +208,8 @@ reduces_in t id = option_map_or (λ (i : insts.Inst). is_reduction i.kind) (inst
 
 -- Whether an instance is of this tree.
 abbrev pub is_of_tree : Tables → Option ℕ → ℕ → Bool
-is_of_tree t tree id = option_map_or (λ (i : insts.Inst). option_map_or (λ n. i.tree == n) tree false) (inst_at t id) false
+is_of_tree t tree id = option_map_or (λ (i : insts.Inst). option_map_or (λ n. i.tree == n) tree false)
+    (inst_at t id) false
 
 abbrev pub tree_of_inst : Tables → ℕ → Option ℕ
 tree_of_inst t id = option_map (λ (i : insts.Inst). i.tree) (inst_at t id)
@@ -202,7 +221,8 @@ are_of_two_trees t _ = false
 
 -- wrong-tree: the instance is of another tree than the requirement, or the two instances are of different trees.
 abbrev pub is_of_wrong_tree : Tables → Record → Bool
-is_of_wrong_tree t (Map task number fields inst) = not (is_of_tree t (option_map (λ (r : reqs.Req). r.tree) (named_req t task number)) inst)
+is_of_wrong_tree t (Map task number fields inst) =
+    not (is_of_tree t (option_map (λ (r : reqs.Req). r.tree) (named_req t task number)) inst)
 is_of_wrong_tree t r = option_map_or (λ (d : DataOp). are_of_two_trees t (insts_of d.act)) (data_in r) false
 
 -- Whether a requirement with this privilege may be mapped to an instance of this kind: a reduction to any but a reduction instance of another operator, and all others to any but a reduction instance.
@@ -220,22 +240,33 @@ misuses t (Folds src dst) = not (reduces_in t src) || reduces_in t dst
 
 -- wrong-kind: an instance is of a kind that cannot be used so.
 abbrev pub is_of_wrong_kind : Tables → Record → Bool
-is_of_wrong_kind t (Map task number fields inst) = not (option_map_or (λ (r : reqs.Req). option_map_or (λ (i : insts.Inst). fits r.access i.kind) (inst_at t inst) false) (named_req t task number) false)
+is_of_wrong_kind t (Map task number fields inst) =
+    not (option_map_or (λ (r : reqs.Req). option_map_or (λ (i : insts.Inst). fits r.access i.kind)
+    (inst_at t inst) false) (named_req t task number) false)
 is_of_wrong_kind t r = option_map_or (λ (d : DataOp). misuses t d.act) (data_in r) false
 
 -- Whether an instance lacks one of these points or fields.
 abbrev pub lacks : Tables → List ℕ → List ℕ → ℕ → Bool
-lacks t points fields id = not (option_map_or (λ (i : insts.Inst). is_within points (points_in t i.space) && is_within fields i.fields) (inst_at t id) false)
+lacks t points fields id =
+    not (option_map_or (λ (i : insts.Inst). is_within points (points_in t i.space)
+    && is_within fields i.fields) (inst_at t id) false)
 
 -- not-covered: an instance has a point outside the root space of its tree, or lacks a point or a field of what is done with it.
 abbrev pub is_not_covered : Tables → Record → Bool
-is_not_covered t (Inst id tree space fields kind) = not (is_within (points_in t space) (option_map_or (λ (r : tables.Tree). points_in t r.space) (tree_at t tree) []))
-is_not_covered t (Map task number fields inst) = lacks t (option_map_or (λ (r : reqs.Req). points_in t r.space) (named_req t task number) []) fields inst
-is_not_covered t r = option_map_or (λ (d : DataOp). list_any (lacks t (points_in t d.space) d.fields) (insts_of d.act)) (data_in r) false
+is_not_covered t (Inst id tree space fields kind) =
+    not (is_within (points_in t space)
+    (option_map_or (λ (r : tables.Tree). points_in t r.space) (tree_at t tree) []))
+is_not_covered t (Map task number fields inst) =
+    lacks t (option_map_or (λ (r : reqs.Req). points_in t r.space) (named_req t task number) []) fields inst
+is_not_covered t r =
+    option_map_or (λ (d : DataOp). list_any (lacks t (points_in t d.space) d.fields) (insts_of d.act))
+    (data_in r) false
 
 -- mapped-twice: one of its fields is mapped already for its requirement.
 abbrev pub is_mapped_again : Tables → Record → Bool
-is_mapped_again t (Map task number fields inst) = list_any (λ (m : tables.Map). (m.item == place_of t.items task) && ((m.number == number) && meets m.fields fields)) t.maps
+is_mapped_again t (Map task number fields inst) =
+    list_any (λ (m : tables.Map). (m.item == place_of t.items task)
+    && ((m.number == number) && meets m.fields fields)) t.maps
 is_mapped_again t _ = false
 
 -- ---- Runs, events and the serial order. Some of these rules look at the records of the whole log.
@@ -255,7 +286,8 @@ runs_item place _ = false
 
 -- two-runs: its task is run already.
 abbrev pub is_run_again : Tables → Record → Bool
-is_run_again t (Run task done waits) = list_any (λ (n : LogNode). runs_item (place_of t.items task) n.op) t.nodes
+is_run_again t (Run task done waits) =
+    list_any (λ (n : LogNode). runs_item (place_of t.items task) n.op) t.nodes
 is_run_again t _ = false
 
 -- The completion event of a record and the events that it waits on, if it has any.
@@ -277,7 +309,8 @@ repeats_event t r = list_any (λ (n : LogNode). completes n.done r) t.nodes
 
 -- undefined-event: it waits on an event that no record of the log completes.
 abbrev pub waits_for_none : List Record → Record → Bool
-waits_for_none log r = option_map_or (λ (n : Node). not (list_all (λ event. list_any (completes event) log) n.waits)) (node_of r) false
+waits_for_none log r = option_map_or
+    (λ (n : Node). not (list_all (λ event. list_any (completes event) log) n.waits)) (node_of r) false
 
 abbrev pub has_repeat : List ℕ → Bool
 has_repeat [] = false
@@ -296,7 +329,8 @@ items_declared _ = []
 abbrev pub is_bad_serial : List Record → Tables → Record → Bool
 is_bad_serial log t (Serial ids) =
     has_repeat ids || meets ids (listed t)
-    || ((length (filter (λ r. is_some (items_listed r)) log) == length t.serials + 1) && not (list_all (λ r. is_within (items_declared r) (listed t ++ ids)) log))
+    || ((length (filter (λ r. is_some (items_listed r)) log) == length t.serials + 1)
+    && not (list_all (λ r. is_within (items_declared r) (listed t ++ ids)) log))
 is_bad_serial log t _ = false
 
 -- ---- Limits on the work that a log asks for.
@@ -307,7 +341,9 @@ size_of t space fields = length (points_in t space) * length fields
 
 -- too-many-cells: the instances up to this one have more than 1,048,576 cells.
 abbrev pub has_many_cells : Tables → Record → Bool
-has_many_cells t (Inst id tree space fields kind) = nat_lt MOST_CELLS (sum_by (λ (i : insts.Inst). size_of t i.space i.fields) t.insts + size_of t space fields)
+has_many_cells t (Inst id tree space fields kind) =
+    nat_lt MOST_CELLS (sum_by
+    (λ (i : insts.Inst). size_of t i.space i.fields) t.insts + size_of t space fields)
 has_many_cells t _ = false
 
 -- The space and the fields whose accesses a record asks for.
@@ -330,7 +366,10 @@ reduces _ = false
 
 -- The load of an instance: for each of its cells, the number of requirements that reduce at the place of the cell.
 abbrev pub load_of : Tables → insts.Inst → ℕ
-load_of t i = sum_by (λ (p : ℕ × ℕ). length (filter (λ (r : reqs.Req). reduces r.access && covers t (record { tree = i.tree; point = p.0; field = p.1 }) r) t.reqs)) (grid (points_in t i.space) i.fields)
+load_of t i = sum_by (λ (p : ℕ × ℕ). length
+    (filter (λ (r : reqs.Req). reduces r.access
+    && covers t (record { tree = i.tree; point = p.0; field = p.1 }) r) t.reqs))
+    (grid (points_in t i.space) i.fields)
 
 -- too-much-load: the load of all instances is more than 67,108,864.
 abbrev pub has_much_load : Tables → Record → Bool

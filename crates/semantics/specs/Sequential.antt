@@ -21,7 +21,11 @@ acted task number p v = if may_write p then plain (Out task) else v
 
 -- What an item makes of a value by what it asks for at the value's place.
 abbrev pub changed : Item → Req → Value → Value
-changed i r v = elim i.body [ Task ↦ acted i.id r.number r.access v | Fill tree space fields n ↦ plain (Const n) ]
+changed i r v = elim i.body [
+  | Task ↦ acted i.id r.number r.access v
+  | Fill tree space fields n ↦
+      plain (Const n)
+]
 
 -- The value at a place after some uses of an item, in the order of their numbers.
 abbrev pub after_uses : Tables → Item → List Req → Place → Value → Value
@@ -31,7 +35,8 @@ after_uses t i (r ∷ rs) p v = after_uses t i rs p (if covers t p r then change
 -- The value at a place after some items, one after the other.
 abbrev pub after_items : Tables → List ℕ → Place → Value → Value
 after_items t [] p v = v
-after_items t (item ∷ items) p v = after_items t items p (option_map_or (λ i. after_uses t i (uses_of t item) p v) (slice_get t.items item) v)
+after_items t (item ∷ items) p v = after_items t items p
+    (option_map_or (λ i. after_uses t i (uses_of t item) p v) (slice_get t.items item) v)
 
 -- The value of sequential execution at a place just before an item: what a read of that item should see there.
 abbrev pub wanted : Tables → ℕ → Place → Value

@@ -10,7 +10,8 @@ listed t = flat_map (λ (s : Serial). s.ids) t.serials
 
 -- The items in serial order: as they are listed, or in program order where no line lists any.
 abbrev pub serial : Tables → List ℕ
-serial t = if length t.serials == 0 then range_with_len 0 (length t.items) else map (place_of t.items) (listed t)
+serial t = if length t.serials == 0 then range_with_len 0 (length t.items)
+    else map (place_of t.items) (listed t)
 
 -- How many items come before an item.
 abbrev pub serial_place : Tables → ℕ → ℕ
@@ -22,4 +23,5 @@ by_serial t p = if nat_lt (serial_place t p.1) (serial_place t p.0) then (p.1, p
 
 -- The first pair of kind `Before` that stands against program order, if there is one.
 abbrev pub turned_pair : Tables → Option (ℕ × ℕ)
-turned_pair t = find (λ (p : ℕ × ℕ). is_before (item_kind t p.0 p.1) && nat_lt (serial_place t p.1) (serial_place t p.0)) (pairs t)
+turned_pair t = find (λ (p : ℕ × ℕ). is_before (item_kind t p.0 p.1)
+    && nat_lt (serial_place t p.1) (serial_place t p.0)) (pairs t)

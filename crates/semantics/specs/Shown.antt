@@ -53,6 +53,9 @@ replay_place t k = unwrap_or (position (λ n. n == k) (replay_order (graph_of t.
 pub record IsShownRace (t : Tables) (a b : ℕ) (cell : Cell) : Type 0 where
   pub race : Race t a b cell
   pub in_order : replay_place t a < replay_place t b
-  pub least_cell : (c d : ℕ) (other : Cell) → Race t c d other → comes_first (other.inst, other.point, other.field) (cell.inst, cell.point, cell.field) ≡ false
-  pub first_later : (c d : ℕ) → Race t c d cell → replay_place t c < replay_place t d → replay_place t b ≤ replay_place t d
-  pub first_earlier : (c : ℕ) → Race t c b cell → replay_place t c < replay_place t b → replay_place t a ≤ replay_place t c
+  pub least_cell : (c d : ℕ) (other : Cell) → Race t c d other
+      → comes_first (other.inst, other.point, other.field) (cell.inst, cell.point, cell.field) ≡ false
+  pub first_later : (c d : ℕ) → Race t c d cell → replay_place t c < replay_place t d
+      → replay_place t b ≤ replay_place t d
+  pub first_earlier : (c : ℕ) → Race t c b cell → replay_place t c < replay_place t b
+      → replay_place t a ≤ replay_place t c

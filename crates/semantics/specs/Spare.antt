@@ -42,7 +42,8 @@ waits_left out k (w ∷ ws) = if out k then waits_left out (k + 1) ws else w ∷
 -- The nodes but for the waits that are left out, where the first stands at position `i`.
 abbrev pub nodes_left : (ℕ → ℕ → Bool) → ℕ → List Node → List Node
 nodes_left out i [] = []
-nodes_left out i (n ∷ ns) = record { done = n.done; waits = waits_left (out i) 0 n.waits } ∷ nodes_left out (i + 1) ns
+nodes_left out i (n ∷ ns) = record { done = n.done; waits = waits_left (out i) 0 n.waits }
+    ∷ nodes_left out (i + 1) ns
 
 -- The nodes without these listed waits.
 abbrev pub without : List ListedWait → List Node → List Node

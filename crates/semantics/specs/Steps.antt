@@ -39,7 +39,8 @@ operator_of t inst = option_map_or (λ (i : Inst). operator_held i.kind) (inst_a
 
 -- The instance to which a field of a requirement is mapped.
 abbrev pub mapped : Tables → Req → ℕ → Option ℕ
-mapped t r field = option_map (λ (m : Map). m.inst) (find (λ (m : Map). (m.item == r.item) && ((m.number == r.number) && is_in m.fields field)) t.maps)
+mapped t r field = option_map (λ (m : Map). m.inst)
+    (find (λ (m : Map). (m.item == r.item) && ((m.number == r.number) && is_in m.fields field)) t.maps)
 
 -- The cell of an instance at a point and a field.
 abbrev pub cell_in : ℕ → ℕ × ℕ → Cell
@@ -63,7 +64,8 @@ at_cells t does rs = flat_map (λ r. flat_map (λ p. does r (mapped_cell t r p))
 
 -- The moves of a task's run: all its reads, and then all its changes.
 abbrev pub run_moves : Tables → ℕ → List Req → List Move
-run_moves t task rs = at_cells t (λ r c. reads_by task r.number r.access c) rs ++ at_cells t (λ r c. changes_by task r.number r.access c) rs
+run_moves t task rs = at_cells t (λ r c. reads_by task r.number r.access c) rs
+    ++ at_cells t (λ r c. changes_by task r.number r.access c) rs
 
 -- What an operation on data does at a point and a field.
 abbrev pub move_of : Tables → DataAct → ℕ × ℕ → Move
@@ -74,7 +76,8 @@ move_of t (Folds src dst) p = moves.Fold (operator_of t src) (cell_in src p) (ce
 
 -- The moves of an operation on data, if it is one.
 abbrev pub data_moves : Tables → Option DataOp → List Move
-data_moves t o = option_map_or (λ (d : DataOp). map (move_of t d.act) (grid (points_in t d.space) d.fields)) o []
+data_moves t o = option_map_or (λ (d : DataOp). map (move_of t d.act)
+    (grid (points_in t d.space) d.fields)) o []
 
 -- What an operation does, move by move.
 abbrev pub moves_of : Tables → Op → List Move
@@ -88,7 +91,8 @@ pub record Step : Type 0 where
 
 -- The steps of some nodes, node by node. Those of one node stand in one of the orders in which it may have taken them.
 abbrev pub steps_by : Tables → List ℕ → List Step
-steps_by t ks = flat_map (λ k. map (λ m. record { node = k; move = m }) (option_map_or (λ (n : LogNode). moves_of t n.op) (slice_get t.nodes k) [])) ks
+steps_by t ks = flat_map (λ k. map (λ m. record { node = k; move = m })
+    (option_map_or (λ (n : LogNode). moves_of t n.op) (slice_get t.nodes k) [])) ks
 
 -- All steps of the log.
 abbrev pub steps : Tables → List Step

@@ -75,34 +75,90 @@ abbrev pub with_item : Tables → ℕ → ℕ → ItemBody → Tables
 with_item t line id body = record t { items = t.items ++ record { id = id; line = line; body = body } ∷ [] }
 
 abbrev pub with_node : Tables → ℕ → ℕ → List ℕ → Op → Tables
-with_node t line done waits op = record t { nodes = t.nodes ++ record { line = line; done = done; waits = waits; op = op } ∷ [] }
+with_node t line done waits op = record t {
+  nodes =
+      t.nodes ++ record { line = line; done = done; waits = waits; op = op } ∷ [];
+}
 
 -- The tables with what one record more declares.
 abbrev pub with_record : Tables → ℕ → Record → Tables
 with_record t line (records.Header version) = t
-with_record t line (records.Ispace id set) = record t { spaces = t.spaces ++ record { id = id; points = points_of set } ∷ [] }
-with_record t line (records.Part id space disjoint) = record t { parts = t.parts ++ record { id = id; space = space; disjoint = disjoint } ∷ [] }
-with_record t line (records.Sub part colour space) = record t { subs = t.subs ++ record { part = part; colour = colour; space = space } ∷ [] }
-with_record t line (records.Fields id fields) = record t { field_spaces = t.field_spaces ++ record { id = id; fields = fields } ∷ [] }
-with_record t line (records.Tree id space fspace) = record t { trees = t.trees ++ record { id = id; space = space; fspace = fspace } ∷ [] }
+with_record t line (records.Ispace id set) =
+    record t { spaces = t.spaces ++ record { id = id; points = points_of set } ∷ [] }
+with_record t line (records.Part id space disjoint) =
+    record t { parts = t.parts ++ record { id = id; space = space; disjoint = disjoint } ∷ [] }
+with_record t line (records.Sub part colour space) =
+    record t { subs = t.subs ++ record { part = part; colour = colour; space = space } ∷ [] }
+with_record t line (records.Fields id fields) =
+    record t { field_spaces = t.field_spaces ++ record { id = id; fields = fields } ∷ [] }
+with_record t line (records.Tree id space fspace) =
+    record t { trees = t.trees ++ record { id = id; space = space; fspace = fspace } ∷ [] }
 with_record t line (records.Redop id) = record t { operators = t.operators ++ id ∷ [] }
 with_record t line (records.Task id) = with_item t line id bodies.Task
-with_record t line (records.Req task tree space fields access atomic) = record t { reqs = t.reqs ++ record { item = place_of t.items task; number = reqs_before t.reqs (place_of t.items task) + 1; line = line; tree = tree; space = space; fields = fields; access = privilege_of access; coherence = coherence_of atomic } ∷ [] }
-with_record t line (records.Fill id tree space fields n) = with_item t line id (bodies.Fill tree space fields n)
-with_record t line (records.Serial ids) = record t { serials = t.serials ++ record { line = line; ids = ids } ∷ [] }
-with_record t line (records.Inst id tree space fields kind) = record t { insts = t.insts ++ record { id = id; tree = tree; space = space; fields = fields; kind = kind } ∷ [] }
-with_record t line (records.Map task number fields inst) = record t { maps = t.maps ++ record { item = place_of t.items task; number = number; fields = fields; inst = inst } ∷ [] }
-with_record t line (records.Run task done waits) = with_node t line done waits (operations.Run (place_of t.items task))
-with_record t line (records.Copy src dst space fields done waits) = with_node t line done waits (operations.Copy src dst space fields)
-with_record t line (records.Put inst space fields n done waits) = with_node t line done waits (operations.Put inst space fields n)
-with_record t line (records.Reset inst space fields done waits) = with_node t line done waits (operations.Reset inst space fields)
-with_record t line (records.Fold src dst space fields done waits) = with_node t line done waits (operations.Fold src dst space fields)
+with_record t line (records.Req task tree space fields access atomic) =
+    record t {
+      reqs = t.reqs ++ record {
+        item = place_of t.items task;
+        number =
+            reqs_before t.reqs (place_of t.items task) + 1;
+        line = line;
+        tree = tree;
+        space = space;
+        fields =
+            fields;
+        access = privilege_of access;
+        coherence = coherence_of atomic;
+      } ∷ [];
+    }
+with_record t line (records.Fill id tree space fields n) =
+    with_item t line id (bodies.Fill tree space fields n)
+with_record t line (records.Serial ids) =
+    record t { serials = t.serials ++ record { line = line; ids = ids } ∷ [] }
+with_record t line (records.Inst id tree space fields kind) =
+    record t {
+      insts = t.insts ++ record { id = id; tree = tree; space = space; fields = fields; kind = kind }
+          ∷ [];
+    }
+with_record t line (records.Map task number fields inst) =
+    record t {
+      maps = t.maps ++ record {
+        item = place_of t.items task;
+        number = number;
+        fields =
+            fields;
+        inst = inst;
+      } ∷ [];
+    }
+with_record t line (records.Run task done waits) =
+    with_node t line done waits (operations.Run (place_of t.items task))
+with_record t line (records.Copy src dst space fields done waits) =
+    with_node t line done waits (operations.Copy src dst space fields)
+with_record t line (records.Put inst space fields n done waits) =
+    with_node t line done waits (operations.Put inst space fields n)
+with_record t line (records.Reset inst space fields done waits) =
+    with_node t line done waits (operations.Reset inst space fields)
+with_record t line (records.Fold src dst space fields done waits) =
+    with_node t line done waits (operations.Fold src dst space fields)
 with_record t line (records.Merge done waits) = with_node t line done waits operations.Merge
 with_record t line (records.End n) = t
 
 -- Nothing is declared.
 abbrev pub no_tables : Tables
-no_tables = record { spaces = []; parts = []; subs = []; field_spaces = []; trees = []; operators = []; items = []; reqs = []; serials = []; insts = []; maps = []; nodes = [] }
+no_tables = record {
+  spaces = [];
+  parts = [];
+  subs = [];
+  field_spaces = [];
+  trees = [];
+  operators =
+      [];
+  items = [];
+  reqs = [];
+  serials = [];
+  insts = [];
+  maps = [];
+  nodes = [];
+}
 
 -- The tables of a log.
 abbrev pub tables_of : List Lined → Tables

@@ -31,7 +31,8 @@ line_fault line (Ok said) = None
 line_fault line (Err e) = Some (record { line = line; code = code_of e })
 
 -- The first fault among some lines, numbered from `line`, of a log whose lines are read so.
-abbrev pub lines_fault_by : {R : Type 0} → (List ℕ → Result (Option R) LineFault) → ℕ → List (List ℕ) → Option Fault
+abbrev pub lines_fault_by : {R : Type 0} → (List ℕ → Result (Option R) LineFault) → ℕ → List (List ℕ)
+    → Option Fault
 lines_fault_by read line [] = None
 lines_fault_by read line (l ∷ ls) = option_or (line_fault line (read l)) (lines_fault_by read (line + 1) ls)
 

@@ -20,12 +20,15 @@ use Rattle.serial_exec.specs.Summed.{added_by, all_added}
 
 added-last : (cs : List Change) (c : Change) → all_added (cs ++ c ∷ []) ≡ all_added cs ++ added_by c.action
 added-last [] c = append-nil (added_by c.action)
-added-last (d ∷ cs) c = ap (λ b. added_by d.action ++ b) (added-last cs c) ∙ sym (append_assoc (added_by d.action) (all_added cs) (added_by c.action))
+added-last (d ∷ cs) c = ap (λ b. added_by d.action ++ b) (added-last cs c)
+    ∙ sym (append_assoc (added_by d.action) (all_added cs) (added_by c.action))
 
-pub added-more : (cs : List Change) (i : ℕ) (d : Change) → i < length cs → all_added (take (i + 1) cs) ≡ all_added (take i cs) ++ added_by (get_or cs i d).action
+pub added-more : (cs : List Change) (i : ℕ) (d : Change) → i < length cs
+    → all_added (take (i + 1) cs) ≡ all_added (take i cs) ++ added_by (get_or cs i d).action
 added-more cs i d lt = ap all_added (take_more cs i d lt) ∙ added-last (take i cs) (get_or cs i d)
 
-pub in-order-more : (bag : Bag) (run : List Change) (k : ℕ) (e : Contribution × ℕ) (c : Change) (d : Contribution × ℕ) (x : Change) → k < length bag → k < length run → e ≡ get_or bag k d → c ≡ get_or run k x → e ∷ [] ≡ added_by c.action
+pub in-order-more : (bag : Bag) (run : List Change) (k : ℕ) (e : Contribution × ℕ) (c : Change) (d : Contribution × ℕ) (x : Change)
+    → k < length bag → k < length run → e ≡ get_or bag k d → c ≡ get_or run k x → e ∷ [] ≡ added_by c.action
     → take k bag ≡ all_added (take k run) → take (k + 1) bag ≡ all_added (take (k + 1) run)
 in-order-more bag run k e c d x lt below at here is so_far =
     take_more bag k d lt
@@ -41,7 +44,8 @@ count-append c (e ∷ a) b = grind (arith, count-append c a b)
 
 pub added-append : (xs ys : List Change) → all_added (xs ++ ys) ≡ all_added xs ++ all_added ys
 added-append [] ys = refl
-added-append (x ∷ xs) ys = ap (λ b. added_by x.action ++ b) (added-append xs ys) ∙ sym (append_assoc (added_by x.action) (all_added xs) (all_added ys))
+added-append (x ∷ xs) ys = ap (λ b. added_by x.action ++ b) (added-append xs ys)
+    ∙ sym (append_assoc (added_by x.action) (all_added xs) (all_added ys))
 
 pub count-none : (c : Contribution) → 0 ≡ count_in c []
 unfolding count_in
@@ -65,7 +69,8 @@ joined-well (e ∷ bag) counts = (add_well_formed 0 (e ∷ bag) (plain Init) cou
 pub in-order-is : (bag : Bag) (cs : List Change) → IsWellFormedBag bag → bag ≡ all_added cs → bag ≡ joined [] (all_added cs)
 in-order-is bag cs well is = sym (joined_anew bag well) ∙ ap (joined []) is
 
-pub both-all : {X : Type 0} (P Q R : X → Type 0) (xs : List X) → ((x : X) → P x → Q x → R x) → AllByRecursion P xs → AllByRecursion Q xs → AllByRecursion R xs
+pub both-all : {X : Type 0} (P Q R : X → Type 0) (xs : List X) → ((x : X) → P x → Q x → R x) → AllByRecursion P xs → AllByRecursion Q xs
+    → AllByRecursion R xs
 both-all P Q R [] f p q = tt
 both-all P Q R (x ∷ xs) f p q = (f x p.0 q.0, both-all P Q R xs f p.1 q.1)
 
@@ -76,7 +81,8 @@ each P Q (x ∷ xs) f all = (f x all.0, each P Q xs f all.1)
 -- ---- a bag that counts right, and as much in all
 
 -- What counts right is no more than a bag, and is the bag where it is as much.
-fills : (a b : Bag) → IsWellFormedBag a → IsWellFormedBag b → AllByRecursion (λ e. e.1 ≡ count_in e.0 b) a → (total a ≤ total b) × (total a ≡ total b → a ≡ b)
+fills : (a b : Bag) → IsWellFormedBag a → IsWellFormedBag b → AllByRecursion (λ e. e.1 ≡ count_in e.0 b) a → (total a ≤ total b)
+    × (total a ≡ total b → a ≡ b)
 unfolding count_in
 fills [] [] x y all = (omega arith, λ _. refl)
 fills [] (f ∷ b) x y all = (omega arith, λ e. absurd (omega (arith, e, y.counts.0)))
@@ -84,12 +90,19 @@ fills (e ∷ a) [] x y all = absurd (omega (arith, x.counts.0, all.0))
 fills (e ∷ a) (f ∷ b) x y all = elim (compared e.0 f.0) [
   | inl s ↦
       let here : e.1 ≡ f.1 = grind (arith, all.0, s.same, ap (λ c. count_in c b) s.equal, absent f.0 b y.ascends.0) in
-      let later = both-all (λ g. g.1 ≡ count_in g.0 (f ∷ b)) (λ g. comes_before e.0 g.0 ≡ true) (λ g. g.1 ≡ count_in g.0 b) a (λ g own behind. own ∙ not-first g.0 f b (subst (λ c. comes_before c g.0 ≡ true) s.equal behind)) all.1 x.ascends.0 in
+      let later = both-all (λ g. g.1 ≡ count_in g.0 (f ∷ b)) (λ g. comes_before e.0 g.0 ≡ true) (λ g. g.1 ≡ count_in g.0 b) a
+      (λ g own behind. own ∙ not-first g.0 f b (subst (λ c. comes_before c g.0 ≡ true) s.equal behind)) all.1 x.ascends.0 in
       let rest = fills a b (rest_of x) (rest_of y) later in
       (omega (arith, here, rest.0), λ same. λ i. (s.equal i, here i) ∷ rest.1 (omega (arith, here, same)) i)
-  | inr (inl lower) ↦ absurd (omega (arith, x.counts.0, all.0, absent e.0 (f ∷ b) (lower.before, all_after e.0 f.0 b lower.before y.ascends.0)))
+  | inr (inl lower) ↦ absurd (omega (
+    arith,
+    x.counts.0,
+    all.0,
+    absent e.0 (f ∷ b) (lower.before, all_after e.0 f.0 b lower.before y.ascends.0),
+  ))
   | inr (inr lower) ↦
-      let later = both-all (λ g. g.1 ≡ count_in g.0 (f ∷ b)) (λ g. comes_before f.0 g.0 ≡ true) (λ g. g.1 ≡ count_in g.0 b) (e ∷ a) (λ g own behind. own ∙ not-first g.0 f b behind) all (lower.before, all_after f.0 e.0 a lower.before x.ascends.0) in
+      let later = both-all (λ g. g.1 ≡ count_in g.0 (f ∷ b)) (λ g. comes_before f.0 g.0 ≡ true) (λ g. g.1 ≡ count_in g.0 b) (e ∷ a)
+      (λ g own behind. own ∙ not-first g.0 f b behind) all (lower.before, all_after f.0 e.0 a lower.before x.ascends.0) in
       let rest = fills (e ∷ a) b x (rest_of y) later in
       (omega (arith, rest.0), λ same. absurd (omega (arith, rest.0, same, y.counts.0)))
 ]
@@ -117,10 +130,12 @@ joined-count : (c : Contribution) (cs : List Change) → count_in c (joined [] (
 joined-count c cs = count_joined c [] (all_added cs) ∙ none-before c (all_added cs)
 
 -- The two tests together tell.
-pub counts-tell : (bag : Bag) (cs : List Change) → IsWellFormedBag bag → AllByRecursion IsAdded cs → total bag ≡ length cs → AllByRecursion (λ e. e.1 ≡ count_in e.0 (all_added cs)) bag → bag ≡ joined [] (all_added cs)
+pub counts-tell : (bag : Bag) (cs : List Change) → IsWellFormedBag bag → AllByRecursion IsAdded cs → total bag ≡ length cs
+    → AllByRecursion (λ e. e.1 ≡ count_in e.0 (all_added cs)) bag → bag ≡ joined [] (all_added cs)
 counts-tell bag cs well adds much counts =
     (fills bag (joined [] (all_added cs)) well (joined-well (all_added cs) (each-once cs))
-    (each (λ e. e.1 ≡ count_in e.0 (all_added cs)) (λ e. e.1 ≡ count_in e.0 (joined [] (all_added cs))) bag (λ e own. own ∙ sym (joined-count e.0 cs)) counts)).1
+    (each (λ e. e.1 ≡ count_in e.0 (all_added cs)) (λ e. e.1 ≡ count_in e.0 (joined [] (all_added cs))) bag (λ e own. own
+    ∙ sym (joined-count e.0 cs)) counts)).1
     (much ∙ sym (joined-total cs adds))
 
 -- ---- and where the bag is right, both hold
@@ -130,11 +145,14 @@ unfolding count_in
 own-counts [] well = tt
 own-counts (e ∷ bag) well = (
   grind (arith, (same_decides e.0 e.0).1 refl, absent e.0 bag well.ascends.0),
-  both-all (λ x. x.1 ≡ count_in x.0 bag) (λ x. comes_before e.0 x.0 ≡ true) (λ x. x.1 ≡ count_in x.0 (e ∷ bag)) bag (λ x own below. grind (arith, own, (before_differ e.0 x.0 below).1)) (own-counts bag (rest_of well)) well.ascends.0,
+  both-all (λ x. x.1 ≡ count_in x.0 bag) (λ x. comes_before e.0 x.0 ≡ true) (λ x. x.1 ≡ count_in x.0 (e ∷ bag)) bag
+      (λ x own below. grind (arith, own, (before_differ e.0 x.0 below).1)) (own-counts bag (rest_of well)) well.ascends.0,
 )
 
-pub right-counts : (bag : Bag) (cs : List Change) → IsWellFormedBag bag → bag ≡ joined [] (all_added cs) → AllByRecursion (λ e. e.1 ≡ count_in e.0 (all_added cs)) bag
-right-counts bag cs well is = each (λ e. e.1 ≡ count_in e.0 bag) (λ e. e.1 ≡ count_in e.0 (all_added cs)) bag (λ e own. own ∙ ap (count_in e.0) is ∙ joined-count e.0 cs) (own-counts bag well)
+pub right-counts : (bag : Bag) (cs : List Change) → IsWellFormedBag bag → bag ≡ joined [] (all_added cs)
+    → AllByRecursion (λ e. e.1 ≡ count_in e.0 (all_added cs)) bag
+right-counts bag cs well is = each (λ e. e.1 ≡ count_in e.0 bag) (λ e. e.1 ≡ count_in e.0 (all_added cs)) bag (λ e own. own
+    ∙ ap (count_in e.0) is ∙ joined-count e.0 cs) (own-counts bag well)
 
 pub right-total : (bag : Bag) (cs : List Change) → AllByRecursion IsAdded cs → bag ≡ joined [] (all_added cs) → total bag ≡ length cs
 right-total bag cs adds is = ap total is ∙ joined-total cs adds

@@ -16,32 +16,39 @@ after-append (x ∷ xs) ys v = after-append xs ys _
 
 -- ---- what is done
 
-acted-changes : (moment task number : ℕ) (access : Priv) (v : Value) → acted task number access v ≡ after_changes (change_of moment (task_action task number access)) v
+acted-changes : (moment task number : ℕ) (access : Priv) (v : Value)
+    → acted task number access v ≡ after_changes (change_of moment (task_action task number access)) v
 acted-changes moment task number Ro v = refl
 acted-changes moment task number Rw v = refl
 acted-changes moment task number Wd v = refl
 acted-changes moment task number (Red op) v = refl
 
-changed-changes : (moment id line : ℕ) (body : ItemBody) (r : Req) (v : Value) → changed (record { id = id; line = line; body = body }) r v ≡ after_changes (change_of moment (action_of (record { id = id; line = line; body = body }) r)) v
+changed-changes : (moment id line : ℕ) (body : ItemBody) (r : Req) (v : Value)
+    → changed (record { id = id; line = line; body = body }) r v
+    ≡ after_changes (change_of moment (action_of (record { id = id; line = line; body = body }) r)) v
 changed-changes moment id line Task r v = acted-changes moment id r.number r.access v
 changed-changes moment id line (Fill tree space fields n) r v = refl
 
-use-changes : (covered : Bool) (moment : ℕ) (i : Item) (r : Req) (v : Value) → cond covered (changed i r v) v ≡ after_changes (cond covered (change_of moment (action_of i r)) []) v
+use-changes : (covered : Bool) (moment : ℕ) (i : Item) (r : Req) (v : Value)
+    → cond covered (changed i r v) v ≡ after_changes (cond covered (change_of moment (action_of i r)) []) v
 use-changes true moment i r v = changed-changes moment i.id i.line i.body r v
 use-changes false moment i r v = refl
 
-uses-changes : (t : Tables) (moment : ℕ) (i : Item) (rs : List Req) (p : Place) (v : Value) → after_uses t i rs p v ≡ after_changes (uses_changes t moment (action_of i) rs p) v
+uses-changes : (t : Tables) (moment : ℕ) (i : Item) (rs : List Req) (p : Place) (v : Value)
+    → after_uses t i rs p v ≡ after_changes (uses_changes t moment (action_of i) rs p) v
 uses-changes t moment i [] p v = refl
 uses-changes t moment i (r ∷ rs) p v =
     uses-changes t moment i rs p _
     ∙ ap (after_changes (uses_changes t moment (action_of i) rs p)) (use-changes (covers t p r) moment i r v)
     ∙ sym (after-append (cond (covers t p r) (change_of moment (action_of i r)) []) (uses_changes t moment (action_of i) rs p) v)
 
-item-changes : (t : Tables) (moment : ℕ) (us : List Req) (p : Place) (v : Value) (o : Option Item) → option_map_or (λ i. after_uses t i us p v) o v ≡ after_changes (option_map_or (λ i. uses_changes t moment (action_of i) us p) o []) v
+item-changes : (t : Tables) (moment : ℕ) (us : List Req) (p : Place) (v : Value) (o : Option Item)
+    → option_map_or (λ i. after_uses t i us p v) o v ≡ after_changes (option_map_or (λ i. uses_changes t moment (action_of i) us p) o []) v
 item-changes t moment us p v None = refl
 item-changes t moment us p v (Some i) = uses-changes t moment i us p v
 
-pub items-changes : (t : Tables) (moment : ℕ) (items : List ℕ) (p : Place) (v : Value) → after_items t items p v ≡ after_changes (items_changes t moment items p) v
+pub items-changes : (t : Tables) (moment : ℕ) (items : List ℕ) (p : Place) (v : Value)
+    → after_items t items p v ≡ after_changes (items_changes t moment items p) v
 items-changes t moment [] p v = refl
 items-changes t moment (item ∷ items) p v =
     items-changes t (moment + 1) items p _
@@ -64,20 +71,25 @@ each-change P moment true None h = tt
 each-change P moment true (Some a) h = (h, tt)
 each-change P moment false o h = tt
 
-each-uses : (P : ℕ → Type 0) (t : Tables) (moment : ℕ) (i : Item) (rs : List Req) (p : Place) → P moment → Each P (uses_changes t moment (action_of i) rs p)
+each-uses : (P : ℕ → Type 0) (t : Tables) (moment : ℕ) (i : Item) (rs : List Req) (p : Place) → P moment
+    → Each P (uses_changes t moment (action_of i) rs p)
 each-uses P t moment i [] p h = tt
-each-uses P t moment i (r ∷ rs) p h = each-append P _ _ (each-change P moment (covers t p r) (action_of i r) h) (each-uses P t moment i rs p h)
+each-uses P t moment i (r ∷ rs) p h = each-append P _ _ (each-change P moment (covers t p r) (action_of i r) h)
+    (each-uses P t moment i rs p h)
 
-each-item-at : (P : ℕ → Type 0) (t : Tables) (moment : ℕ) (us : List Req) (p : Place) (o : Option Item) → P moment → Each P (option_map_or (λ i. uses_changes t moment (action_of i) us p) o [])
+each-item-at : (P : ℕ → Type 0) (t : Tables) (moment : ℕ) (us : List Req) (p : Place) (o : Option Item) → P moment
+    → Each P (option_map_or (λ i. uses_changes t moment (action_of i) us p) o [])
 each-item-at P t moment us p None h = tt
 each-item-at P t moment us p (Some i) h = each-uses P t moment i us p h
 
 each-item : (P : ℕ → Type 0) (t : Tables) (moment item : ℕ) (p : Place) → P moment → Each P (item_changes t moment item p)
 each-item P t moment item p h = each-item-at P t moment (uses_of t item) p (slice_get t.items item) h
 
-each-items : (low : ℕ) (t : Tables) (moment : ℕ) (items : List ℕ) (p : Place) → low ≤ moment → Each (λ m. low ≤ m) (items_changes t moment items p)
+each-items : (low : ℕ) (t : Tables) (moment : ℕ) (items : List ℕ) (p : Place) → low ≤ moment
+    → Each (λ m. low ≤ m) (items_changes t moment items p)
 each-items low t moment [] p h = tt
-each-items low t moment (item ∷ items) p h = each-append (λ m. low ≤ m) _ _ (each-item (λ m. low ≤ m) t moment item p h) (each-items low t (moment + 1) items p (omega arith))
+each-items low t moment (item ∷ items) p h = each-append (λ m. low ≤ m) _ _ (each-item (λ m. low ≤ m) t moment item p h)
+    (each-items low t (moment + 1) items p (omega arith))
 
 before-append : (n : ℕ) (xs ys : List Change) → before n (xs ++ ys) ≡ before n xs ++ before n ys
 before-append n [] ys = refl
@@ -99,11 +111,14 @@ before-none n (x ∷ xs) all =
     rw le (before-none n xs all.1)
 
 -- The changes before an item are those of the items before it.
-pub before-items : (t : Tables) (moment n : ℕ) (items : List ℕ) (p : Place) → before (moment + n) (items_changes t moment items p) ≡ items_changes t moment (take n items) p
-before-items t moment zero items p = before-none (moment + 0) (items_changes t moment items p) (each-items (moment + 0) t moment items p (omega arith))
+pub before-items : (t : Tables) (moment n : ℕ) (items : List ℕ) (p : Place)
+    → before (moment + n) (items_changes t moment items p) ≡ items_changes t moment (take n items) p
+before-items t moment zero items p = before-none (moment + 0) (items_changes t moment items p)
+    (each-items (moment + 0) t moment items p (omega arith))
 before-items t moment (suc n) [] p = refl
 before-items t moment (suc n) (item ∷ items) p =
-    let here : before (moment + suc n) (item_changes t moment item p) ≡ item_changes t moment item p = before-all (moment + suc n) _ (each-item (λ m. m < moment + suc n) t moment item p (omega arith)) in
+    let here : before (moment + suc n) (item_changes t moment item p) ≡ item_changes t moment item p =
+    before-all (moment + suc n) _ (each-item (λ m. m < moment + suc n) t moment item p (omega arith)) in
     let same : moment + suc n ≡ (moment + 1) + n = omega arith in
     before-append (moment + suc n) (item_changes t moment item p) (items_changes t (moment + 1) items p)
     ∙ ap (λ xs. xs ++ before (moment + suc n) (items_changes t (moment + 1) items p)) here
@@ -125,7 +140,10 @@ all-from low (c ∷ cs) all (suc k) d lt = all-from low cs all.1 k d (omega (ari
 -- What is all of one moment comes before what is later.
 rises-append : (m : ℕ) (xs ys : List Change) → Each (λ n. n ≡ m) xs → Each (λ n. m ≤ n) ys → Rises ys → Rises (xs ++ ys)
 rises-append m [] ys here later up = up
-rises-append m (x ∷ xs) ys here later up = (all-from x.moment (xs ++ ys) (each-append (λ n. x.moment ≤ n) xs ys (still xs here.1) (behind ys later)), rises-append m xs ys here.1 later up)
+rises-append m (x ∷ xs) ys here later up = (
+  all-from x.moment (xs ++ ys) (each-append (λ n. x.moment ≤ n) xs ys (still xs here.1) (behind ys later)),
+  rises-append m xs ys here.1 later up,
+)
   where
     still : (xs : List Change) → Each (λ n. n ≡ m) xs → Each (λ n. x.moment ≤ n) xs
     still [] all = tt
@@ -137,4 +155,6 @@ rises-append m (x ∷ xs) ys here later up = (all-from x.moment (xs ++ ys) (each
 
 pub items-rise : (t : Tables) (moment : ℕ) (items : List ℕ) (p : Place) → Rises (items_changes t moment items p)
 items-rise t moment [] p = tt
-items-rise t moment (item ∷ items) p = rises-append moment (item_changes t moment item p) (items_changes t (moment + 1) items p) (each-item (λ n. n ≡ moment) t moment item p refl) (each-items moment t (moment + 1) items p (omega arith)) (items-rise t (moment + 1) items p)
+items-rise t moment (item ∷ items) p = rises-append moment (item_changes t moment item p) (items_changes t (moment + 1) items p)
+    (each-item (λ n. n ≡ moment) t moment item p refl) (each-items moment t (moment + 1) items p (omega arith))
+    (items-rise t (moment + 1) items p)

@@ -20,7 +20,8 @@ summed-append gs (x ∷ xs) ys = summed-append (with_added x.action gs) xs ys
 
 -- ---- a run of one operator
 
-run-step : (op : ℕ) (bag : Bag) (a : Action) → adds_by op a ≡ true → with_added a (record { op = op; bag = bag } ∷ []) ≡ record { op = op; bag = joined bag (added_by a) } ∷ []
+run-step : (op : ℕ) (bag : Bag) (a : Action) → adds_by op a ≡ true
+    → with_added a (record { op = op; bag = bag } ∷ []) ≡ record { op = op; bag = joined bag (added_by a) } ∷ []
 unfolding extended joined
 run-step op bag (Put base) h = absurd (true≢false (sym h))
 run-step op bag (Add o d) h = let same : (op == o) ≡ true = grind (arith, nat_tests, eqb-true o op h) in rw same refl
@@ -34,7 +35,8 @@ joined-none : (a : Bag) → a ≡ joined a []
 unfolding joined
 joined-none a = refl
 
-run-summed : (op : ℕ) (bag : Bag) (run : List Change) → AllByRecursion (λ c. adds_by op c.action ≡ true) run → summed (record { op = op; bag = bag } ∷ []) run ≡ record { op = op; bag = joined bag (all_added run) } ∷ []
+run-summed : (op : ℕ) (bag : Bag) (run : List Change) → AllByRecursion (λ c. adds_by op c.action ≡ true) run
+    → summed (record { op = op; bag = bag } ∷ []) run ≡ record { op = op; bag = joined bag (all_added run) } ∷ []
 run-summed op bag [] all = ap (λ (b : Bag). (let g : Group = record { op = op; bag = b } in g) ∷ []) (joined-none bag)
 run-summed op bag (c ∷ run) all =
     ap (λ gs. summed gs run) (run-step op bag c.action all.0)
@@ -46,7 +48,8 @@ unfolding extended
 first-step op (Put base) h = absurd (true≢false (sym h))
 first-step op (Add o d) h = ap (λ (z : ℕ). (let g : Group = record { op = z; bag = joined [] ((d, 1) ∷ []) } in g) ∷ []) (eqb-true o op h)
 
-whole-run : (op : ℕ) (c : Change) (run : List Change) → AllByRecursion (λ c. adds_by op c.action ≡ true) (c ∷ run) → summed [] (c ∷ run) ≡ record { op = op; bag = joined [] (all_added (c ∷ run)) } ∷ []
+whole-run : (op : ℕ) (c : Change) (run : List Change) → AllByRecursion (λ c. adds_by op c.action ≡ true) (c ∷ run)
+    → summed [] (c ∷ run) ≡ record { op = op; bag = joined [] (all_added (c ∷ run)) } ∷ []
 whole-run op c run all =
     ap (λ gs. summed gs run) (first-step op c.action all.0)
     ∙ run-summed op (joined [] (added_by c.action)) run all.1
@@ -78,16 +81,19 @@ added-starts (Add op d) h gs = extended-starts op ((d, 1) ∷ []) h gs
 summed-behind : (cs : List Change) (g : Group) (hs : List Group) → Starts hs → summed (g ∷ hs) cs ≡ g ∷ summed hs cs
 summed-behind [] g hs some = refl
 summed-behind (c ∷ cs) g [] some = elim some [ ]
-summed-behind (c ∷ cs) g (h ∷ gs) (starts k ks) = ap (λ ks. summed ks cs) (added-behind c.action g h gs) ∙ summed-behind cs g (with_added c.action (h ∷ gs)) (added-starts c.action h gs)
+summed-behind (c ∷ cs) g (h ∷ gs) (starts k ks) =
+    ap (λ ks. summed ks cs) (added-behind c.action g h gs) ∙ summed-behind cs g (with_added c.action (h ∷ gs)) (added-starts c.action h gs)
 
-other-step : (g : Group) (a : Action) → IsAddedBy a → adds_by g.op a ≡ false → (with_added a (g ∷ []) ≡ g ∷ with_added a []) × Starts (with_added a [])
+other-step : (g : Group) (a : Action) → IsAddedBy a → adds_by g.op a ≡ false → (with_added a (g ∷ []) ≡ g ∷ with_added a [])
+    × Starts (with_added a [])
 unfolding extended
 other-step g (Put base) one h = absurd one
 other-step g (Add o d) one h = let other : (g.op == o) ≡ false = grind (arith, nat_tests, h) in (rw other refl, starts _ _)
 
 begins-other : (g : Group) (cs : List Change) → AllByRecursion IsAdded cs → BeginsOther g.op cs → summed (g ∷ []) cs ≡ g ∷ summed [] cs
 begins-other g [] all other = refl
-begins-other g (c ∷ cs) all other = let step = other-step g c.action all.0 other in ap (λ ks. summed ks cs) step.0 ∙ summed-behind cs g (with_added c.action []) step.1
+begins-other g (c ∷ cs) all other = let step = other-step g c.action all.0 other in
+    ap (λ ks. summed ks cs) step.0 ∙ summed-behind cs g (with_added c.action []) step.1
 
 -- ---- the first group
 
@@ -113,7 +119,8 @@ summed-first : (cs : List Change) (gs : List Group) (o : ℕ) → first_op gs �
 summed-first [] gs o h = h
 summed-first (c ∷ cs) gs o h = summed-first cs (with_added c.action gs) o (added-first c.action gs o h)
 
-none-first : (op : ℕ) (a : Action) → IsAddedBy a → adds_by op a ≡ false → (o : ℕ) × (first_op (with_added a []) ≡ Some o) × ((o == op) ≡ false)
+none-first : (op : ℕ) (a : Action) → IsAddedBy a → adds_by op a ≡ false → (o : ℕ) × (first_op (with_added a []) ≡ Some o)
+    × ((o == op) ≡ false)
 unfolding extended
 none-first op (Put base) one h = absurd one
 none-first op (Add o d) one h = (o, refl, h)
@@ -139,7 +146,8 @@ all-front zero cs all = tt
 all-front (suc n) [] all = tt
 all-front (suc n) (c ∷ cs) all = (all.0, all-front n cs all.1)
 
-by-run : (op n : ℕ) (cs : List Change) → AllByRecursion IsAdded cs → 0 < n → n ≤ length cs → AllByRecursion (λ c. adds_by op c.action ≡ true) (take n cs) → BeginsOther op (drop n cs)
+by-run : (op n : ℕ) (cs : List Change) → AllByRecursion IsAdded cs → 0 < n → n ≤ length cs
+    → AllByRecursion (λ c. adds_by op c.action ≡ true) (take n cs) → BeginsOther op (drop n cs)
     → summed [] cs ≡ record { op = op; bag = joined [] (all_added (take n cs)) } ∷ summed [] (drop n cs)
 by-run op zero cs adds some within run rest = absurd (omega (arith, some))
 by-run op (suc n) [] adds some within run rest = absurd (omega (arith, within))
@@ -150,18 +158,21 @@ by-run op (suc n) (c ∷ cs) adds some within run rest =
     ∙ ap (λ gs. summed gs (drop n cs)) (whole-run op c (take n cs) run)
     ∙ begins-other g (drop n cs) (all-behind n cs adds.1) rest
 
-pub right-run : (g : Group) (n : ℕ) (cs : List Change) → AllByRecursion IsAdded cs → 0 < n → n ≤ length cs → AllByRecursion (λ c. adds_by g.op c.action ≡ true) (take n cs) → BeginsOther g.op (drop n cs)
+pub right-run : (g : Group) (n : ℕ) (cs : List Change) → AllByRecursion IsAdded cs → 0 < n → n ≤ length cs
+    → AllByRecursion (λ c. adds_by g.op c.action ≡ true) (take n cs) → BeginsOther g.op (drop n cs)
     → g.bag ≡ joined [] (all_added (take n cs)) → IsRest g cs (drop n cs)
 right-run g n cs adds some within run rest is = record {
   adds = all-behind n cs adds;
-  start = by-run g.op n cs adds some within run rest ∙ ap (λ (b : Bag). (let h : Group = record { op = g.op; bag = b } in h) ∷ summed [] (drop n cs)) (sym is);
+  start = by-run g.op n cs adds some within run rest
+      ∙ ap (λ (b : Bag). (let h : Group = record { op = g.op; bag = b } in h) ∷ summed [] (drop n cs)) (sym is);
 }
 
 abbrev first_bag : List Group → Bag
 first_bag [] = []
 first_bag (g ∷ gs) = g.bag
 
-pub wrong-run : (g : Group) (n : ℕ) (cs : List Change) → AllByRecursion IsAdded cs → 0 < n → n ≤ length cs → AllByRecursion (λ c. adds_by g.op c.action ≡ true) (take n cs) → BeginsOther g.op (drop n cs)
+pub wrong-run : (g : Group) (n : ℕ) (cs : List Change) → AllByRecursion IsAdded cs → 0 < n → n ≤ length cs
+    → AllByRecursion (λ c. adds_by g.op c.action ≡ true) (take n cs) → BeginsOther g.op (drop n cs)
     → (g.bag ≡ joined [] (all_added (take n cs)) → ⊥) → IsNoStart g cs
 wrong-run g n cs adds some within run rest differ = λ gs e. differ (ap first_bag (e ∙ by-run g.op n cs adds some within run rest))
 
@@ -172,7 +183,8 @@ first-of op d = refl
 -- ---- group by group
 
 -- Where groups end, changes do.
-pub ends-agree : (groups : List Group) (added cs : List Change) → AllByRecursion IsAdded cs → (groups ≡ summed [] added ↔ [] ≡ summed [] cs) → (groups ≡ summed [] added → cs ≡ []) × (cs ≡ [] → groups ≡ summed [] added)
+pub ends-agree : (groups : List Group) (added cs : List Change) → AllByRecursion IsAdded cs → (groups ≡ summed [] added ↔ [] ≡ summed [] cs)
+    → (groups ≡ summed [] added → cs ≡ []) × (cs ≡ [] → groups ≡ summed [] added)
 ends-agree groups added cs adds agree = (λ e. empty cs adds (agree.0 e), λ e. agree.1 (ap (summed []) (sym e)))
   where
     made : (a : Action) → IsAddedBy a → (o : ℕ) × (first_op (with_added a []) ≡ Some o)
@@ -181,7 +193,8 @@ ends-agree groups added cs adds agree = (λ e. empty cs adds (agree.0 e), λ e. 
 
     empty : (cs : List Change) → AllByRecursion IsAdded cs → [] ≡ summed [] cs → cs ≡ []
     empty [] all e = refl
-    empty (c ∷ cs) all e = let first = made c.action all.0 in absurd (none-some first.0 (ap first_op e ∙ summed-first cs (with_added c.action []) first.0 first.1))
+    empty (c ∷ cs) all e = let first = made c.action all.0 in
+        absurd (none-some first.0 (ap first_op e ∙ summed-first cs (with_added c.action []) first.0 first.1))
 
 -- ---- a value is its base and its groups
 
@@ -209,19 +222,23 @@ after-base : (cs : List Change) (v : Value) → AllByRecursion IsAdded cs → (a
 after-base [] v all = refl
 after-base (c ∷ cs) v all = after-base cs (acted_by c.action v) all.1 ∙ step-base c.action v all.0
 
-after-groups : (cs : List Change) (v : Value) → AllByRecursion IsAdded cs → is_raw v.base ≡ false → (after_changes cs v).groups ≡ summed v.groups cs
+after-groups : (cs : List Change) (v : Value) → AllByRecursion IsAdded cs → is_raw v.base ≡ false
+    → (after_changes cs v).groups ≡ summed v.groups cs
 after-groups [] v all h = refl
-after-groups (c ∷ cs) v all h = after-groups cs (acted_by c.action v) all.1 (ap is_raw (step-base c.action v all.0) ∙ h) ∙ ap (λ gs. summed gs cs) (step-groups c.action v all.0 h)
+after-groups (c ∷ cs) v all h = after-groups cs (acted_by c.action v) all.1 (ap is_raw (step-base c.action v all.0) ∙ h)
+    ∙ ap (λ gs. summed gs cs) (step-groups c.action v all.0 h)
 
 value-is : (v w : Value) → v.base ≡ w.base → v.groups ≡ w.groups → v ≡ w
 value-is v w p q = λ i. record { base = p i; groups = q i }
 
 -- A value of another base is another.
-pub other-base : (v : Value) (base : Base) (cs : List Change) → AllByRecursion IsAdded cs → (v.base ≡ base → ⊥) → v ≡ after_changes cs (plain base) → ⊥
+pub other-base : (v : Value) (base : Base) (cs : List Change) → AllByRecursion IsAdded cs → (v.base ≡ base → ⊥)
+    → v ≡ after_changes cs (plain base) → ⊥
 other-base v base cs all differ e = differ (ap (λ (w : Value). w.base) e ∙ after-base cs (plain base) all)
 
 -- Nothing is added to a raw value.
-pub raw-is : (v : Value) (base : Base) (cs : List Change) → IsWellFormed v → AllByRecursion IsAdded cs → v.base ≡ base → is_raw base ≡ true → v ≡ after_changes cs (plain base)
+pub raw-is : (v : Value) (base : Base) (cs : List Change) → IsWellFormed v → AllByRecursion IsAdded cs → v.base ≡ base → is_raw base ≡ true
+    → v ≡ after_changes cs (plain base)
 raw-is v Raw cs well all is raw = value-is v (plain Raw) is (well.raw_is_plain is) ∙ sym (still cs all)
   where
     step : (a : Action) → IsAddedBy a → acted_by a (plain Raw) ≡ plain Raw
@@ -237,13 +254,17 @@ raw-is v (Const n) cs well all is raw = absurd (true≢false (sym raw))
 raw-is v (Out n) cs well all is raw = absurd (true≢false (sym raw))
 
 -- Of one base that is not raw, values are one where their groups are.
-pub groups-tell : (v : Value) (base : Base) (cs : List Change) → AllByRecursion IsAdded cs → v.base ≡ base → is_raw base ≡ false → v.groups ≡ summed [] cs → v ≡ after_changes cs (plain base)
-groups-tell v base cs all is solid same = value-is v (after_changes cs (plain base)) (is ∙ sym (after-base cs (plain base) all)) (same ∙ sym (after-groups cs (plain base) all solid))
+pub groups-tell : (v : Value) (base : Base) (cs : List Change) → AllByRecursion IsAdded cs → v.base ≡ base → is_raw base ≡ false
+    → v.groups ≡ summed [] cs → v ≡ after_changes cs (plain base)
+groups-tell v base cs all is solid same = value-is v (after_changes cs (plain base)) (is ∙ sym (after-base cs (plain base) all)) (same
+    ∙ sym (after-groups cs (plain base) all solid))
 
-pub groups-of : (v : Value) (base : Base) (cs : List Change) → AllByRecursion IsAdded cs → is_raw base ≡ false → v ≡ after_changes cs (plain base) → v.groups ≡ summed [] cs
+pub groups-of : (v : Value) (base : Base) (cs : List Change) → AllByRecursion IsAdded cs → is_raw base ≡ false
+    → v ≡ after_changes cs (plain base) → v.groups ≡ summed [] cs
 groups-of v base cs all solid e = ap (λ (w : Value). w.groups) e ∙ after-groups cs (plain base) all solid
 
-no-left : (groups left : List Group) (added cs : List Change) → length left < 1 → (groups ≡ summed [] added ↔ left ≡ summed [] cs) → (groups ≡ summed [] added ↔ [] ≡ summed [] cs)
+no-left : (groups left : List Group) (added cs : List Change) → length left < 1 → (groups ≡ summed [] added ↔ left ≡ summed [] cs)
+    → (groups ≡ summed [] added ↔ [] ≡ summed [] cs)
 no-left groups [] added cs lt agree = agree
 no-left groups (g ∷ left) added cs lt agree = absurd (omega (arith, lt))
 
@@ -251,7 +272,8 @@ empty-test : (cs : List Change) → ((length cs == 0) ≡ true → cs ≡ []) ×
 empty-test [] = (λ e. refl, λ e. refl)
 empty-test (c ∷ cs) = (λ e. absurd (grind (arith, nat_tests, e)), λ e. ap (λ ds. length ds == 0) e)
 
-pub sums-end : (groups left : List Group) (added cs : List Change) (b : Bool) → length left < 1 → AllByRecursion IsAdded cs → (groups ≡ summed [] added ↔ left ≡ summed [] cs) → b ≡ (length cs == 0)
+pub sums-end : (groups left : List Group) (added cs : List Change) (b : Bool) → length left < 1 → AllByRecursion IsAdded cs
+    → (groups ≡ summed [] added ↔ left ≡ summed [] cs) → b ≡ (length cs == 0)
     → (b ≡ true → groups ≡ summed [] added) × (groups ≡ summed [] added → b ≡ true)
 sums-end groups left added cs b lt all agree is =
     let ends = ends-agree groups added cs all (no-left groups left added cs lt agree) in

@@ -19,7 +19,8 @@ use Rattle.serial_exec.specs.Histories.{changes_at}
 use Rattle.serial_exec.specs.Kept.{Kept, kept, changes_in, AreInOrder, AreVersionsAt, AreVersionsOf}
 use Rattle.serial_exec.proofs.Changing.{before-items, items-changes, Rises, items-rise}
 
-lookup-mapped : {V : Type 0} (items : V → List Change) (test : Place → Bool) (es : List (Place × V)) → unwrap_or (lookup test (map (λ e. (e.0, items e.1)) es)) [] ≡ option_map_or items (lookup test es) []
+lookup-mapped : {V : Type 0} (items : V → List Change) (test : Place → Bool) (es : List (Place × V))
+    → unwrap_or (lookup test (map (λ e. (e.0, items e.1)) es)) [] ≡ option_map_or items (lookup test es) []
 lookup-mapped items test [] = refl
 lookup-mapped items test (e ∷ es) = elim (cases_Bool (test e.0)) [
   | inl here ↦ rw here refl
@@ -30,7 +31,8 @@ pub kept-changes : (moments : List ℕ) (h : Histories) (p : Place) → changes_
 kept-changes moments h p = lookup-mapped (λ v. v.items) (same_place p) h.lists.entries
 
 -- What is looked up.
-pub found-at : {V X : Type 0} (items : V → List X) (at found : Option V) → found ≡ at → option_map_or items at [] ≡ option_map_or items found []
+pub found-at : {V X : Type 0} (items : V → List X) (at found : Option V) → found ≡ at
+    → option_map_or items at [] ≡ option_map_or items found []
 found-at items at found is = ap (λ o. option_map_or items o []) (sym is)
 
 -- ---- in order
@@ -42,8 +44,10 @@ rises-at (c ∷ cs) up zero (suc j) d le lt = up.0 j d (omega (arith, lt))
 rises-at (c ∷ cs) up (suc i) zero d le lt = absurd (omega (arith, le))
 rises-at (c ∷ cs) up (suc i) (suc j) d le lt = rises-at cs up.1 i j d (omega (arith, le)) (omega (arith, lt))
 
-pub kept-in_order : (t : Tables) (moments : List ℕ) (h : Histories) → ((p : Place) → changes_at h p ≡ items_changes t 0 (serial t) p) → AreInOrder (kept moments h)
-kept-in_order t moments h are p = subst (λ cs. IsNonDecreasingBy (λ c. c.moment) cs) (sym (kept-changes moments h p ∙ are p)) (rises-at (items_changes t 0 (serial t) p) (items-rise t 0 (serial t) p))
+pub kept-in_order : (t : Tables) (moments : List ℕ) (h : Histories) → ((p : Place) → changes_at h p ≡ items_changes t 0 (serial t) p)
+    → AreInOrder (kept moments h)
+kept-in_order t moments h are p = subst (λ cs. IsNonDecreasingBy (λ c. c.moment) cs) (sym (kept-changes moments h p ∙ are p))
+    (rises-at (items_changes t 0 (serial t) p) (items-rise t 0 (serial t) p))
 
 -- ---- what is wanted
 
@@ -65,35 +69,49 @@ versions_at points t k h = record { each = h.each; value = λ item p lt at. h.va
 
 -- ---- looking up
 
-pub taken-parted : {X : Type 0} (test : X → Bool) (cs : List X) (n : ℕ) → AllWithin (λ c. test c ≡ true) cs 0 n → AllWithin (λ c. test c ≡ false) cs n (length cs) → take n cs ≡ filter test cs
+pub taken-parted : {X : Type 0} (test : X → Bool) (cs : List X) (n : ℕ) → AllWithin (λ c. test c ≡ true) cs 0 n
+    → AllWithin (λ c. test c ≡ false) cs n (length cs) → take n cs ≡ filter test cs
 taken-parted test [] zero early late = refl
 taken-parted test [] (suc n) early late = refl
 taken-parted test (c ∷ cs) zero early late =
-    let no_more : filter test (c ∷ cs) ≡ filter test cs = ap (λ b. cond b (c ∷ filter test cs) (filter test cs)) (late 0 c (omega arith) (omega arith)) in
-    taken-parted test cs zero (λ k d from below. absurd (omega (arith, below))) (λ k d from below. late (suc k) d (omega arith) (omega (arith, below))) ∙ sym no_more
+    let no_more : filter test (c ∷ cs) ≡ filter test cs =
+    ap (λ b. cond b (c ∷ filter test cs) (filter test cs)) (late 0 c (omega arith) (omega arith)) in
+    taken-parted test cs zero (λ k d from below. absurd (omega (arith, below)))
+    (λ k d from below. late (suc k) d (omega arith) (omega (arith, below))) ∙ sym no_more
 taken-parted test (c ∷ cs) (suc n) early late =
-    let one_more : filter test (c ∷ cs) ≡ c ∷ filter test cs = ap (λ b. cond b (c ∷ filter test cs) (filter test cs)) (early 0 c (omega arith) (omega arith)) in
-    ap (λ ds. c ∷ ds) (taken-parted test cs n (λ k d from below. early (suc k) d (omega arith) (omega (arith, below))) (λ k d from below. late (suc k) d (omega (arith, from)) (omega (arith, below)))) ∙ sym one_more
+    let one_more : filter test (c ∷ cs) ≡ c ∷ filter test cs =
+    ap (λ b. cond b (c ∷ filter test cs) (filter test cs)) (early 0 c (omega arith) (omega arith)) in
+    ap (λ ds. c ∷ ds) (taken-parted test cs n (λ k d from below. early (suc k) d (omega arith) (omega (arith, below)))
+    (λ k d from below. late (suc k) d (omega (arith, from)) (omega (arith, below)))) ∙ sym one_more
 
 -- ---- the latest
 
-pub after-split : (cs : List Change) (k : ℕ) (d : Change) (v : Value) → k < length cs → after_changes cs v ≡ after_changes (drop (k + 1) cs) (acted_by (get_or cs k d).action (after_changes (take k cs) v))
+pub after-split : (cs : List Change) (k : ℕ) (d : Change) (v : Value) → k < length cs
+    → after_changes cs v ≡ after_changes (drop (k + 1) cs) (acted_by (get_or cs k d).action (after_changes (take k cs) v))
 after-split [] k d v lt = absurd (omega (arith, lt))
 after-split (c ∷ cs) zero d v lt = refl
-after-split (c ∷ cs) (suc k) d v lt = after-split cs k d (acted_by c.action v) (omega (arith, lt)) ∙ ap (λ n. after_changes (drop n (c ∷ cs)) (acted_by (get_or cs k d).action (after_changes (take k cs) (acted_by c.action v)))) (let e : suc (k + 1) ≡ suc k + 1 = omega arith in e)
+after-split (c ∷ cs) (suc k) d v lt = after-split cs k d (acted_by c.action v) (omega (arith, lt))
+    ∙ ap (λ n. after_changes (drop n (c ∷ cs)) (acted_by (get_or cs k d).action (after_changes (take k cs) (acted_by c.action v))))
+    (let e : suc (k + 1) ≡ suc k + 1 = omega arith in e)
 
-pub added-more : (cs : List Change) (k : ℕ) (d : Change) → k < length cs → IsAdded (get_or cs k d) → AllByRecursion IsAdded (drop (k + 1) cs) → AllByRecursion IsAdded (drop k cs)
+pub added-more : (cs : List Change) (k : ℕ) (d : Change) → k < length cs → IsAdded (get_or cs k d)
+    → AllByRecursion IsAdded (drop (k + 1) cs) → AllByRecursion IsAdded (drop k cs)
 added-more [] k d lt one all = absurd (omega (arith, lt))
 added-more (c ∷ cs) zero d lt one all = (one, all)
-added-more (c ∷ cs) (suc k) d lt one all = added-more cs k d (omega (arith, lt)) one (subst (λ n. AllByRecursion IsAdded (drop n (c ∷ cs))) (let e : suc k + 1 ≡ suc (k + 1) = omega arith in e) all)
+added-more (c ∷ cs) (suc k) d lt one all = added-more cs k d (omega (arith, lt)) one
+    (subst (λ n. AllByRecursion IsAdded (drop n (c ∷ cs))) (let e : suc k + 1 ≡ suc (k + 1) = omega arith in e) all)
 
-pub after-more : (cs : List Change) (k : ℕ) (d : Change) (v : Value) → k < length cs → after_changes (take (k + 1) cs) v ≡ acted_by (get_or cs k d).action (after_changes (take k cs) v)
+pub after-more : (cs : List Change) (k : ℕ) (d : Change) (v : Value) → k < length cs
+    → after_changes (take (k + 1) cs) v ≡ acted_by (get_or cs k d).action (after_changes (take k cs) v)
 after-more [] k d v lt = absurd (omega (arith, lt))
 after-more (c ∷ cs) zero d v lt = refl
-after-more (c ∷ cs) (suc k) d v lt = ap (λ n. after_changes (take n (c ∷ cs)) v) (let e : suc k + 1 ≡ suc (k + 1) = omega arith in e) ∙ after-more cs k d (acted_by c.action v) (omega (arith, lt))
+after-more (c ∷ cs) (suc k) d v lt = ap (λ n. after_changes (take n (c ∷ cs)) v) (let e : suc k + 1 ≡ suc (k + 1) = omega arith in e)
+    ∙ after-more cs k d (acted_by c.action v) (omega (arith, lt))
 
-pub put-latest : (cs : List Change) (n : ℕ) (d : Change) (base : Base) (v : Value) → 0 < n → n ≤ length cs → (get_or cs (n - 1) d).action ≡ Put base → after_changes cs v ≡ after_changes (drop n cs) (plain base)
+pub put-latest : (cs : List Change) (n : ℕ) (d : Change) (base : Base) (v : Value) → 0 < n → n ≤ length cs
+    → (get_or cs (n - 1) d).action ≡ Put base → after_changes cs v ≡ after_changes (drop n cs) (plain base)
 put-latest cs n d base v some le is =
     after-split cs (n - 1) d v (omega (arith, some, le))
-    ∙ ap (λ m. after_changes (drop m cs) (acted_by (get_or cs (n - 1) d).action (after_changes (take (n - 1) cs) v))) (let e : (n - 1) + 1 ≡ n = omega (arith, some) in e)
+    ∙ ap (λ m. after_changes (drop m cs) (acted_by (get_or cs (n - 1) d).action (after_changes (take (n - 1) cs) v)))
+    (let e : (n - 1) + 1 ≡ n = omega (arith, some) in e)
     ∙ ap (λ a. after_changes (drop n cs) (acted_by a (after_changes (take (n - 1) cs) v))) is

@@ -36,14 +36,16 @@ list-put items old new key k list c is longer =
 
 -- ---- field by field
 
-one_more : {X : Type 0} (c : X) (t p a f : Bool) → (a ≡ true → f ≡ false) → cond (t && ((p || false) && a)) (c ∷ []) [] ++ cond (t && (p && f)) (c ∷ []) [] ≡ cond (t && ((p || false) && (a || f))) (c ∷ []) []
+one_more : {X : Type 0} (c : X) (t p a f : Bool) → (a ≡ true → f ≡ false)
+    → cond (t && ((p || false) && a)) (c ∷ []) [] ++ cond (t && (p && f)) (c ∷ []) [] ≡ cond (t && ((p || false) && (a || f))) (c ∷ []) []
 one_more c false p a f h = refl
 one_more c true false a f h = refl
 one_more c true true false f h = refl
 one_more c true true true false h = refl
 one_more c true true true true h = absurd (true≢false (h refl))
 
-not_again : (fields : List ℕ) (i f : ℕ) → IsStrictlyIncreasing fields → i < length fields → is_in (take i fields) f ≡ true → (get_or fields i 0 == f) ≡ false
+not_again : (fields : List ℕ) (i f : ℕ) → IsStrictlyIncreasing fields → i < length fields → is_in (take i fields) f ≡ true
+    → (get_or fields i 0 == f) ≡ false
 not_again fields i f up lt h =
     let at = has_in (take i fields) f h in
     let k = at.0 in
@@ -64,13 +66,17 @@ field-noted c old mid new tree point field fields i p up lt is before after =
     after
     ∙ ap (λ xs. xs ++ cond ((tree == p.tree) && ((point == p.point) && (field == p.field))) (c ∷ []) []) before
     ∙ append_assoc old _ _
-    ∙ ap (λ f. old ++ (cond (covered tree (point ∷ []) (take i fields) p) (c ∷ []) [] ++ cond ((tree == p.tree) && ((point == p.point) && (f == p.field))) (c ∷ []) [])) is
-    ∙ ap (λ xs. old ++ xs) (one_more c (tree == p.tree) (point == p.point) (is_in (take i fields) p.field) (get_or fields i 0 == p.field) (not_again fields i p.field up lt))
-    ∙ ap (λ b. old ++ cond ((tree == p.tree) && (((point == p.point) || false) && b)) (c ∷ []) []) (sym (list_any_more (λ m. m == p.field) fields i 0 lt))
+    ∙ ap (λ f. old ++ (cond (covered tree (point ∷ []) (take i fields) p) (c ∷ []) []
+    ++ cond ((tree == p.tree) && ((point == p.point) && (f == p.field))) (c ∷ []) [])) is
+    ∙ ap (λ xs. old ++ xs) (one_more c (tree == p.tree) (point == p.point) (is_in (take i fields) p.field) (get_or fields i 0 == p.field)
+    (not_again fields i p.field up lt))
+    ∙ ap (λ b. old ++ cond ((tree == p.tree) && (((point == p.point) || false) && b)) (c ∷ []) [])
+    (sym (list_any_more (λ m. m == p.field) fields i 0 lt))
 
 -- ---- point by point
 
-one_point : {X : Type 0} (c : X) (t e h f : Bool) → (e ≡ true → h ≡ false) → cond (t && ((e || false) && f)) (c ∷ []) [] ++ cond (t && (h && f)) (c ∷ []) [] ≡ cond (t && ((e || h) && f)) (c ∷ []) []
+one_point : {X : Type 0} (c : X) (t e h f : Bool) → (e ≡ true → h ≡ false)
+    → cond (t && ((e || false) && f)) (c ∷ []) [] ++ cond (t && (h && f)) (c ∷ []) [] ≡ cond (t && ((e || h) && f)) (c ∷ []) []
 one_point c false e h f apart = refl
 one_point c true false h f apart = refl
 one_point c true true false f apart = append-nil _
@@ -90,9 +96,11 @@ pub point-noted : (c : Change) (all mid new : List Change) (tree x : ℕ) (xs fi
 point-noted c all mid new tree x xs fields p up before after =
     ap (λ cs. cs ++ cond (covered tree xs fields p) (c ∷ []) []) after
     ∙ append_assoc mid _ _
-    ∙ ap (λ cs. mid ++ cs) (one_point c (tree == p.tree) (x == p.point) (is_in xs p.point) (is_in fields p.field) (not_behind x p.point xs up))
+    ∙ ap (λ cs. mid ++ cs) (one_point c (tree == p.tree) (x == p.point) (is_in xs p.point) (is_in fields p.field)
+    (not_behind x p.point xs up))
     ∙ before
 
 -- Where no point is left, all are noted.
-pub all-noted : (c : Change) (all new : List Change) (tree : ℕ) (fields : List ℕ) (p : Place) → new ++ cond (covered tree [] fields p) (c ∷ []) [] ≡ all → new ≡ all
+pub all-noted : (c : Change) (all new : List Change) (tree : ℕ) (fields : List ℕ) (p : Place)
+    → new ++ cond (covered tree [] fields p) (c ∷ []) [] ≡ all → new ≡ all
 all-noted c all new tree fields p e = sym (append-nil new) ∙ ap (λ b. new ++ cond b (c ∷ []) []) (sym (and-false (tree == p.tree))) ∙ e

@@ -36,13 +36,16 @@ none-are_own all count = record {
 }
 
 -- One requirement more.
-pub more-are_own : (all : List Req) (k count : ℕ) (r : Req) (old new : List (List ℕ)) → k < length all → r ≡ get_or all k r → AreOwn all (take k all) count old → IsNoted r.item k old new → AreOwn all (take (k + 1) all) count new
+pub more-are_own : (all : List Req) (k count : ℕ) (r : Req) (old new : List (List ℕ)) → k < length all → r ≡ get_or all k r
+    → AreOwn all (take k all) count old → IsNoted r.item k old new → AreOwn all (take (k + 1) all) count new
 more-are_own all k count r old new lt is own noted = record {
   each = noted.each ∙ own.each;
   own = λ item below.
       let at : slice_get all k ≡ Some r = slice_get-get_or all k r lt ∙ ap (λ z. Some z) (sym is) in
-      let next : take (k + 1) all ≡ take k all ++ r ∷ [] = ap (λ n. take n all) (let e : k + 1 ≡ suc k = omega arith in e) ∙ take-suc all k r lt ∙ ap (λ z. take k all ++ z ∷ []) (sym is) in
-      let last : reqs_at all (cond (r.item == item) (k ∷ []) []) ≡ filter (λ (q : Req). q.item == item) (r ∷ []) = elim (cases_Bool (r.item == item)) [
+      let next : take (k + 1) all ≡ take k all ++ r ∷ [] =
+      ap (λ n. take n all) (let e : k + 1 ≡ suc k = omega arith in e) ∙ take-suc all k r lt ∙ ap (λ z. take k all ++ z ∷ []) (sym is) in
+      let last : reqs_at all (cond (r.item == item) (k ∷ []) []) ≡ filter (λ (q : Req). q.item == item) (r ∷ []) =
+      elim (cases_Bool (r.item == item)) [
         | inl mine ↦ rw (mine, at) refl
         | inr other ↦ rw other refl
       ] in

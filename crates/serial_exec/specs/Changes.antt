@@ -18,7 +18,11 @@ task_action task number (Red op) = Some (Add op (record { task = task; req = num
 
 -- What an item does by what it asks for.
 abbrev pub action_of : Item → Req → Option Action
-action_of i r = elim i.body [ Task ↦ task_action i.id r.number r.access | Fill tree space fields n ↦ Some (Put (Const n)) ]
+action_of i r = elim i.body [
+  | Task ↦ task_action i.id r.number r.access
+  | Fill tree space fields n ↦
+      Some (Put (Const n))
+]
 
 -- The change of an action, if there is one.
 abbrev pub change_of : ℕ → Option Action → List Change
@@ -40,7 +44,8 @@ by_task task r = task_action task r.number r.access
 
 -- The changes at a place by an item.
 abbrev pub item_changes : Tables → ℕ → ℕ → Place → List Change
-item_changes t moment item p = option_map_or (λ i. uses_changes t moment (action_of i) (uses_of t item) p) (slice_get t.items item) []
+item_changes t moment item p = option_map_or (λ i. uses_changes t moment (action_of i) (uses_of t item) p)
+    (slice_get t.items item) []
 
 -- The changes at a place by some items, of which the first has this place in serial order.
 abbrev pub items_changes : Tables → ℕ → List ℕ → Place → List Change

@@ -35,7 +35,8 @@ value_at k item p = after_changes (changes_before k item p) (plain Init)
 -- The values at these points are those of sequential execution.
 pub record AreVersionsAt (points : List ℕ) (t : Tables) (k : Kept) : Type 0 where
   pub each : length k.moments ≡ length t.items
-  pub value : (item : ℕ) (p : Place) → item < length t.items → is_in points p.point ≡ true → value_at k item p ≡ wanted t item p
+  pub value : (item : ℕ) (p : Place) → item < length t.items → is_in points p.point ≡ true
+      → value_at k item p ≡ wanted t item p
 
 -- The values at all points are.
 pub record AreVersionsOf (t : Tables) (k : Kept) : Type 0 where

@@ -27,7 +27,8 @@ marks_from k (c ∷ cs) = marks_by k c.action ++ marks_from (k + 1) cs
 
 -- Whether a mark comes before a position in a contribution: its contribution comes first, or it is this one and the mark's position is less.
 abbrev pub is_before : Contribution → ℕ → Mark → Bool
-is_before c k m = nat_lt m.by.task c.task || (m.by.task == c.task && (nat_lt m.by.req c.req || (m.by.req == c.req && nat_lt m.position k)))
+is_before c k m = nat_lt m.by.task c.task
+    || (m.by.task == c.task && (nat_lt m.by.req c.req || (m.by.req == c.req && nat_lt m.position k)))
 
 -- How many marks do.
 abbrev pub count_before : List Mark → Contribution → ℕ → ℕ
@@ -39,7 +40,8 @@ AreSorted marks = (c : Contribution) (k : ℕ) → IsPartitionedBy (is_before c 
 
 -- From a position on, marks tell how often a run of changes adds each contribution.
 abbrev pub Tell : List Mark → ℕ → List Change → Type 0
-Tell marks from run = (c : Contribution) → count_before marks c (from + length run) ≡ count_before marks c from + count_in c (all_added run)
+Tell marks from run = (c : Contribution)
+    → count_before marks c (from + length run) ≡ count_before marks c from + count_in c (all_added run)
 
 -- Sorted marks tell it of each run with which the changes at a place begin.
 pub record AreMarksOf (marks : List Mark) (cs : List Change) : Type 0 where
@@ -72,5 +74,6 @@ IsCounted marks from end e = count_before marks e.0 end ≡ count_before marks e
 -- What is left of sorted marks: so many are gone, all of which come before each later contribution.
 pub record IsLeft (c : Contribution) (marks rest : List Mark) : Type 0 where
   pub gone : ℕ
-  pub later : (d : Contribution) (k : ℕ) → comes_before c d ≡ true → count_before marks d k ≡ gone + count_before rest d k
+  pub later : (d : Contribution) (k : ℕ) → comes_before c d ≡ true
+      → count_before marks d k ≡ gone + count_before rest d k
   pub sorted : AreSorted rest

@@ -10,9 +10,11 @@ reqs_at reqs places = filter_map (λ k. slice_get reqs k) places
 -- Each of so many items has a list of the positions of those of these requirements that are its own.
 pub record AreOwn (all some : List Req) (count : ℕ) (lists : List (List ℕ)) : Type 0 where
   pub each : length lists ≡ count
-  pub own : (item : ℕ) → item < count → reqs_at all (slice_index_or lists item []) ≡ filter (λ (r : Req). r.item == item) some
+  pub own : (item : ℕ) → item < count
+      → reqs_at all (slice_index_or lists item []) ≡ filter (λ (r : Req). r.item == item) some
 
 -- One list, if there is one at this place, is longer by this number.
 pub record IsNoted (item k : ℕ) (old new : List (List ℕ)) : Type 0 where
   pub each : length new ≡ length old
-  pub lists : (i : ℕ) → i < length old → slice_index_or new i [] ≡ slice_index_or old i [] ++ (if item == i then k ∷ [] else [])
+  pub lists : (i : ℕ) → i < length old
+      → slice_index_or new i [] ≡ slice_index_or old i [] ++ (if item == i then k ∷ [] else [])

@@ -21,11 +21,13 @@ and_this out node k m j = ((node == m) && (k == j)) || out m j
 
 -- ---- chains
 
-chain_so : (g h : List Node) → ((b a : ℕ) → WaitsOn g b a → WaitsOn h b a) → (a : ℕ) (between : List ℕ) (b : ℕ) → IsChain g a between b → IsChain h a between b
+chain_so : (g h : List Node) → ((b a : ℕ) → WaitsOn g b a → WaitsOn h b a) → (a : ℕ) (between : List ℕ) (b : ℕ) → IsChain g a between b
+    → IsChain h a between b
 chain_so g h so a [] b w = so b a w
 chain_so g h so a (m ∷ between) b chain = (so m a chain.0, chain_so g h so m between b chain.1)
 
-chain_join : (g : List Node) (a : ℕ) (front : List ℕ) (m : ℕ) (back : List ℕ) (b : ℕ) → IsChain g a front m → IsChain g m back b → IsChain g a (front ++ m ∷ back) b
+chain_join : (g : List Node) (a : ℕ) (front : List ℕ) (m : ℕ) (back : List ℕ) (b : ℕ) → IsChain g a front m → IsChain g m back b
+    → IsChain g a (front ++ m ∷ back) b
 chain_join g a [] m back b w chain = (w, chain)
 chain_join g a (n ∷ front) m back b first chain = (first.0, chain_join g n front m back b first.1 chain)
 
@@ -70,13 +72,16 @@ module _ (nodes : List Node) (r : Rises nodes) where
               let s = (are b first.0).0 gone in
               let event : s.event ≡ e = same_Some s.event e (sym s.listed ∙ first.1) in
               elim s.implied [
-                | inl again ↦ absurd (first.2 (subst (Member (take first.0 (waits_at nodes b))) event (member_of (take first.0 (waits_at nodes b)) s.event again)))
+                | inl again ↦ absurd
+                    (first.2 (subst (Member (take first.0 (waits_at nodes b))) event
+                    (member_of (take first.0 (waits_at nodes b)) s.event again)))
                 | inr before ↦
                     let here : before.on ≡ a = one_place nodes graph.apart before.on a e (before.done ∙ ap (λ x. Some x) event) done in
                     let to_other : Before nodes a before.other = subst (λ x. Before nodes x before.other) here before.before in
                     let up = chain_rises a to_other.0 before.other to_other.1 in
                     let last = r.up b before.other before.waits in
-                    joined rest a before.other b (kept n a to_other.0 before.other to_other.1 (omega (arith, close, last))) (kept n before.other [] b before.waits (omega (arith, close, up)))
+                    joined rest a before.other b (kept n a to_other.0 before.other to_other.1 (omega (arith, close, last)))
+                    (kept n before.other [] b before.waits (omega (arith, close, up)))
               ]
         ]
 
@@ -87,17 +92,20 @@ module _ (nodes : List Node) (r : Rises nodes) where
     )
 
     -- A listed wait that is left is the only way from its node to the node that lists it.
-    pub least : (node k event : ℕ) → slice_get (waits_at nodes node) k ≡ Some event → out node k ≡ false → HaveSameBefore (remaining (and_this out node k) nodes) rest → ⊥
+    pub least : (node k event : ℕ) → slice_get (waits_at nodes node) k ≡ Some event → out node k ≡ false
+        → HaveSameBefore (remaining (and_this out node k) nodes) rest → ⊥
     least node k event listed stays alike = elim (none_or_some (slice_get nodes node)) [
       | inl none ↦ omega (arith, slice_get_within [] k event (rw none at listed))
       | inr by ↦
           let ws = waits_at nodes node in
           let waits : ws ≡ by.0.waits = rw by.1 refl in
           let more = and_this out node k in
-          let on = graph.linked by.0 event (contains_of nodes by.0 (member_at nodes node by.0 by.1)) (subst (λ ws. Contains ws event) waits (contains_of ws event (member_at ws k event listed))) in
+          let on = graph.linked by.0 event (contains_of nodes by.0 (member_at nodes node by.0 by.1))
+          (subst (λ ws. Contains ws event) waits (contains_of ws event (member_at ws k event listed))) in
           let a = on.1.0 in
           let at : done_at nodes a ≡ Some event = done_of on.0 event on.2 on.1 in
-          let direct : Before rest a node = ([], linked nodes out node a (record { k = k; event = event; listed = listed; done = at; left = stays })) in
+          let direct : Before rest a node =
+          ([], linked nodes out node a (record { k = k; event = event; listed = listed; done = at; left = stays })) in
           let around = (alike a node).1 direct in
           let last = chain_last (remaining more nodes) a around.0 node around.1 in
           let l = link nodes more node last.0 last.1 in
@@ -106,24 +114,34 @@ module _ (nodes : List Node) (r : Rises nodes) where
             | inl is ↦
                 let event_is : l.event ≡ event = same_Some l.event event (sym l.done ∙ (ap (done_at nodes) is ∙ at)) in
                 elim (cases_lt l.k k) [
-                  | inl lt ↦ spare_here node k event listed stays (inl (contains_of (take k ws) event (earlier ws l.k k event (l.listed ∙ ap (λ x. Some x) event_is) lt)))
-                  | inr ge ↦ spare_here node l.k l.event l.listed parts.0 (inl (contains_of (take l.k ws) l.event (earlier ws k l.k l.event (listed ∙ ap (λ x. Some x) (sym event_is)) (omega (arith, ge, parts.1)))))
+                  | inl lt ↦ spare_here node k event listed stays
+                      (inl (contains_of (take k ws) event (earlier ws l.k k event (l.listed ∙ ap (λ x. Some x) event_is) lt)))
+                  | inr ge ↦ spare_here node l.k l.event l.listed parts.0
+                      (inl (contains_of (take l.k ws) l.event
+                      (earlier ws k l.k l.event (listed ∙ ap (λ x. Some x) (sym event_is)) (omega (arith, ge, parts.1)))))
                 ]
             | inr before ↦ spare_here node k event listed stays (inr (record {
               on = a;
               other = last.0;
               done = at;
               waits = waits_of_link nodes more node last.0 l;
-              before = (before.0, chain_so (remaining more nodes) nodes (λ b a w. waits_of_link nodes more b a (link nodes more b a w)) a before.0 last.0 before.1);
+              before = (
+                before.0,
+                chain_so (remaining more nodes) nodes
+                    (λ b a w. waits_of_link nodes more b a (link nodes more b a w)) a before.0 last.0 before.1,
+              );
             }))
           ]
     ]
       where
-        spare_here : (node k event : ℕ) → slice_get (waits_at nodes node) k ≡ Some event → out node k ≡ false → Contains (take k (waits_at nodes node)) event ⊎ IsBeforeAnother nodes node event → ⊥
-        spare_here node k event listed stays why = both_ways (out node k) stays ((are node k).1 (record { event = event; listed = listed; implied = why }))
+        spare_here : (node k event : ℕ) → slice_get (waits_at nodes node) k ≡ Some event → out node k ≡ false
+            → Contains (take k (waits_at nodes node)) event ⊎ IsBeforeAnother nodes node event → ⊥
+        spare_here node k event listed stays why =
+            both_ways (out node k) stays ((are node k).1 (record { event = event; listed = listed; implied = why }))
 
         not_this : (node k j : ℕ) → and_this out node k node j ≡ false → (out node j ≡ false) × (j ≢ k)
         not_this node k j e = grind (arith, nat_tests, e, eq-eqb node node refl)
 
         done_of : (n : Node) (event : ℕ) → n.done ≡ event → (c : Contains nodes n) → done_at nodes c.0 ≡ Some event
-        done_of n event is c = let at : slice_get nodes c.0 ≡ Some n = slice_get-get_or nodes c.0 n c.1 ∙ ap (λ z. Some z) c.2 in rw at (ap (λ d. Some d) is)
+        done_of n event is c = let at : slice_get nodes c.0 ≡ Some n = slice_get-get_or nodes c.0 n c.1 ∙ ap (λ z. Some z) c.2 in
+            rw at (ap (λ d. Some d) is)

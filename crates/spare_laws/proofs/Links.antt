@@ -19,7 +19,8 @@ pub record Link (nodes : List Node) (out : ℕ → ℕ → Bool) (later earlier 
   pub done : done_at nodes earlier ≡ Some event
   pub left : out later k ≡ false
 
-kept_member : (out : ℕ → Bool) (j : ℕ) (ws : List ℕ) (e : ℕ) → Member (waits_left out j ws) e → (i : ℕ) × (slice_get ws i ≡ Some e) × (out (j + i) ≡ false)
+kept_member : (out : ℕ → Bool) (j : ℕ) (ws : List ℕ) (e : ℕ) → Member (waits_left out j ws) e → (i : ℕ) × (slice_get ws i ≡ Some e)
+    × (out (j + i) ≡ false)
 kept_member out j [] e m = absurd m
 kept_member out j (w ∷ ws) e m = elim (cases_Bool (out j)) [
   | inl gone ↦
@@ -52,14 +53,19 @@ kept_in out j (w ∷ ws) (suc i) e at left =
 abbrev left_of : (ℕ → ℕ → Bool) → ℕ → Node → Node
 left_of out i n = record { done = n.done; waits = waits_left (out i) 0 n.waits }
 
-left_some : (out : ℕ → ℕ → Bool) (i : ℕ) (ns : List Node) (m : ℕ) (n : Node) → slice_get ns m ≡ Some n → slice_get (nodes_left out i ns) m ≡ Some (left_of out (i + m) n)
+left_some : (out : ℕ → ℕ → Bool) (i : ℕ) (ns : List Node) (m : ℕ) (n : Node) → slice_get ns m ≡ Some n
+    → slice_get (nodes_left out i ns) m ≡ Some (left_of out (i + m) n)
 left_some out i [] m n at = absurd (omega (arith, slice_get_within [] m n at))
-left_some out i (x ∷ ns) zero n at = let same : i ≡ i + 0 = omega arith in ap (λ j. Some (left_of out j x)) same ∙ ap (λ y. Some (left_of out (i + 0) y)) (same_Some x n at)
-left_some out i (x ∷ ns) (suc m) n at = let same : i + 1 + m ≡ i + suc m = omega arith in left_some out (i + 1) ns m n at ∙ ap (λ j. Some (left_of out j n)) same
+left_some out i (x ∷ ns) zero n at = let same : i ≡ i + 0 = omega arith in
+    ap (λ j. Some (left_of out j x)) same ∙ ap (λ y. Some (left_of out (i + 0) y)) (same_Some x n at)
+left_some out i (x ∷ ns) (suc m) n at = let same : i + 1 + m ≡ i + suc m = omega arith in
+    left_some out (i + 1) ns m n at ∙ ap (λ j. Some (left_of out j n)) same
 
-some_left : (out : ℕ → ℕ → Bool) (i : ℕ) (ns : List Node) (m : ℕ) (r : Node) → slice_get (nodes_left out i ns) m ≡ Some r → (n : Node) × (slice_get ns m ≡ Some n) × (r ≡ left_of out (i + m) n)
+some_left : (out : ℕ → ℕ → Bool) (i : ℕ) (ns : List Node) (m : ℕ) (r : Node) → slice_get (nodes_left out i ns) m ≡ Some r → (n : Node)
+    × (slice_get ns m ≡ Some n) × (r ≡ left_of out (i + m) n)
 some_left out i [] m r at = absurd (omega (arith, slice_get_within [] m r at))
-some_left out i (x ∷ ns) zero r at = let same : i ≡ i + 0 = omega arith in (x, refl, sym (same_Some (left_of out i x) r at) ∙ ap (λ j. left_of out j x) same)
+some_left out i (x ∷ ns) zero r at = let same : i ≡ i + 0 = omega arith in
+    (x, refl, sym (same_Some (left_of out i x) r at) ∙ ap (λ j. left_of out j x) same)
 some_left out i (x ∷ ns) (suc m) r at =
     let same : i + 1 + m ≡ i + suc m = omega arith in
     let s = some_left out (i + 1) ns m r at in
@@ -72,7 +78,8 @@ module _ (nodes : List Node) (out : ℕ → ℕ → Bool) where
       let by = some_left out 0 nodes b w.by w.by_is in
       let on = some_left out 0 nodes a w.on w.on_is in
       let is_b : 0 + b ≡ b = omega arith in
-      let listed : Member (waits_left (out (0 + b)) 0 by.0.waits) w.on.done = subst (λ (n : Node). Member n.waits w.on.done) by.2 (member_of w.by.waits w.on.done w.listed) in
+      let listed : Member (waits_left (out (0 + b)) 0 by.0.waits) w.on.done =
+      subst (λ (n : Node). Member n.waits w.on.done) by.2 (member_of w.by.waits w.on.done w.listed) in
       let r = kept_member (out (0 + b)) 0 by.0.waits w.on.done listed in
       let place : 0 + r.0 ≡ r.0 = omega arith in
       record {
@@ -92,14 +99,16 @@ module _ (nodes : List Node) (out : ℕ → ℕ → Bool) where
           let is_b : b ≡ 0 + b = omega arith in
           let place : l.k ≡ 0 + l.k = omega arith in
           let event : on.0.done ≡ l.event = same_Some on.0.done l.event (rw on.1 at l.done) in
-          let left : out (0 + b) (0 + l.k) ≡ false = subst (λ n. out n (0 + l.k) ≡ false) is_b (subst (λ n. out b n ≡ false) place l.left) in
+          let left : out (0 + b) (0 + l.k) ≡ false =
+          subst (λ n. out n (0 + l.k) ≡ false) is_b (subst (λ n. out b n ≡ false) place l.left) in
           let listed = kept_in (out (0 + b)) 0 by.0.waits l.k l.event (rw by.1 at l.listed) left in
           record {
             on = left_of out (0 + a) on.0;
             by = left_of out (0 + b) by.0;
             on_is = left_some out 0 nodes a on.0 on.1;
             by_is = left_some out 0 nodes b by.0 by.1;
-            listed = contains_of (waits_left (out (0 + b)) 0 by.0.waits) on.0.done (subst (Member (waits_left (out (0 + b)) 0 by.0.waits)) (sym event) listed);
+            listed = contains_of (waits_left (out (0 + b)) 0 by.0.waits) on.0.done
+                (subst (Member (waits_left (out (0 + b)) 0 by.0.waits)) (sym event) listed);
           }
     ]
   ]
@@ -117,7 +126,8 @@ module _ (nodes : List Node) (out : ℕ → ℕ → Bool) where
             by = by.0;
             on_is = on.1;
             by_is = by.1;
-            listed = contains_of by.0.waits on.0.done (subst (Member by.0.waits) (sym event) (member_at by.0.waits l.k l.event (rw by.1 at l.listed)));
+            listed = contains_of by.0.waits on.0.done
+                (subst (Member by.0.waits) (sym event) (member_at by.0.waits l.k l.event (rw by.1 at l.listed)));
           }
     ]
   ]

@@ -16,4 +16,5 @@ pub record AreUpTo (nodes : List Node) (node : ℕ) (list : List ListedWait) : T
 -- The waits of a node that are marked, where the first mark is that of place `k`.
 abbrev pub marked : ℕ → ℕ → List Bool → List ListedWait
 marked node k [] = []
-marked node k (m ∷ ms) = if m then record { node = node; k = k } ∷ marked node (k + 1) ms else marked node (k + 1) ms
+marked node k (m ∷ ms) = if m then record { node = node; k = k } ∷ marked node (k + 1) ms
+    else marked node (k + 1) ms

@@ -41,7 +41,8 @@ module _ (nodes : List Node) (linked : AreLinked nodes) (marks : Marks) (right :
       record {
         event = w.event;
         listed = w.listed;
-        implied = inl (contains_of (take k (waits_at nodes node)) w.event (earlier (waits_at nodes node) first.0 k w.event (v.listed ∙ ap (λ x. Some x) event) first.1));
+        implied = inl (contains_of (take k (waits_at nodes node)) w.event
+            (earlier (waits_at nodes node) first.0 k w.event (v.listed ∙ ap (λ x. Some x) event) first.1));
       }
 
   before : (k : ℕ) → k < length waits → list_any (before_in marks (get_or waits k 0)) waits ≡ true → IsSpare nodes node k
@@ -53,10 +54,18 @@ module _ (nodes : List Node) (linked : AreLinked nodes) (marks : Marks) (right :
       record {
         event = w.event;
         listed = w.listed;
-        implied = inr (record { on = on; other = r.0; done = w.done; waits = (all r.0).0 (contains_of waits r.0 r.1); before = (right.exact on r.0 within.0 within.1).0 r.2 });
+        implied = inr (record {
+          on = on;
+          other = r.0;
+          done = w.done;
+          waits = (all r.0).0 (contains_of waits r.0 r.1);
+          before =
+              (right.exact on r.0 within.0 within.1).0 r.2;
+        });
       }
 
-  spare_marked : (k : ℕ) → IsSpare nodes node k → (is_in (take k waits) (get_or waits k 0) || list_any (before_in marks (get_or waits k 0)) waits) ≡ true
+  spare_marked : (k : ℕ) → IsSpare nodes node k
+      → (is_in (take k waits) (get_or waits k 0) || list_any (before_in marks (get_or waits k 0)) waits) ≡ true
   spare_marked k s =
       let on = get_or waits k 0 in
       let at = event_at k s.event s.listed in
@@ -72,7 +81,8 @@ module _ (nodes : List Node) (linked : AreLinked nodes) (marks : Marks) (right :
             let there = (all other.other).1 other.waits in
             let on_in = event_within nodes on s.event at.1 in
             let other_in = slice_get_within nodes other.other other.waits.on other.waits.on_is in
-            let marked : before_in marks on other.other ≡ true = (right.exact on other.other on_in other_in).1 (subst (λ x. Before nodes x other.other) same other.before) in
+            let marked : before_in marks on other.other ≡ true =
+            (right.exact on other.other on_in other_in).1 (subst (λ x. Before nodes x other.other) same other.before) in
             let found = any_at (before_in marks on) waits other.other (member_of waits other.other there) marked in
             rw found (or_true (is_in (take k waits) on))
       ]
@@ -86,8 +96,10 @@ module _ (nodes : List Node) (linked : AreLinked nodes) (marks : Marks) (right :
       → ((k : ℕ) → k < length waits → get_or ms k false ≡ (is_in (take k waits) (get_or waits k 0) || get_or before' k false))
       → (k : ℕ) → (slice_get ms k ≡ Some true) ↔ IsSpare nodes node k
   told ms before' many is tells k =
-      let value : k < length waits → get_or ms k false ≡ (is_in (take k waits) (get_or waits k 0) || list_any (before_in marks (get_or waits k 0)) waits) =
-      λ lt. tells k lt ∙ ap (λ b. is_in (take k waits) (get_or waits k 0) || b) (ap (λ bs. get_or bs k false) is ∙ get_or-map (λ a. list_any (before_in marks a) waits) waits k 0 false lt) in (
+      let value : k < length waits → get_or ms k false
+      ≡ (is_in (take k waits) (get_or waits k 0) || list_any (before_in marks (get_or waits k 0)) waits) =
+      λ lt. tells k lt ∙ ap (λ b. is_in (take k waits) (get_or waits k 0) || b) (ap (λ bs. get_or bs k false) is
+      ∙ get_or-map (λ a. list_any (before_in marks a) waits) waits k 0 false lt) in (
         λ at.
             let lt : k < length waits = omega (arith, many, slice_get_within ms k true at) in
             let set = sym (value lt) ∙ get_or_from_slice_get ms k true false at in

@@ -7,7 +7,8 @@ use Rattle.clap.specs.Walk.{Text}
 use Rattle.spy_args.specs.declared.request.Request.{Request}
 use Rattle.spy_args.specs.Asked.{IsSized, plain_words, request_among, plain_request}
 
-among_sized : (rows : List (Text × Request)) (word : Text) → AllByRecursion (λ (row : Text × Request). IsSized row.1) rows → IfSome (request_among rows word) IsSized
+among_sized : (rows : List (Text × Request)) (word : Text) → AllByRecursion (λ (row : Text × Request). IsSized row.1) rows
+    → IfSome (request_among rows word) IsSized
 among_sized [] word all = tt
 among_sized (row ∷ rows) word all = by (bytes_eq word row.0) (among_sized rows word all.1)
   where

@@ -26,7 +26,8 @@ some_kind k [] h = absurd h
 some_kind k (x ∷ xs) h = search rules
 
 -- What the clauses of the parse say of words that are taken, and of those that are not.
-pub taken_at_ok : (r : Result ArgMatches Error) (words : List Text) → FailsBy (fault_of spy_app words) r → IfOk r (λ _. is_taken words ≡ true)
+pub taken_at_ok : (r : Result ArgMatches Error) (words : List Text) → FailsBy (fault_of spy_app words) r
+    → IfOk r (λ _. is_taken words ≡ true)
 unfolding is_taken
 taken_at_ok (Ok m) words h = ap is_empty h
 taken_at_ok (Err e) words h = tt
@@ -38,18 +39,30 @@ refused_at_err (Ok m) words h = tt
 refused_at_err (Err e) words (inl h) = λ n. absurd (n h)
 refused_at_err (Err e) words (inr h) = λ n. some_kind (kind_of e) (fault_of spy_app words) h
 
-pub rows_at_ok : (r : Result ArgMatches Error) (words : List Text) → IfOk r (HasMatchesOf spy_app words) → IfOk r (λ m. rows_of (found_of m) ≡ rows_in words)
+pub rows_at_ok : (r : Result ArgMatches Error) (words : List Text) → IfOk r (HasMatchesOf spy_app words)
+    → IfOk r (λ m. rows_of (found_of m) ≡ rows_in words)
 unfolding rows_in
 rows_at_ok (Ok m) words h = (h spy_is_simple).0
 rows_at_ok (Err e) words h = tt
 
 -- What the getters give is what the rows say.
-pub values_by : (f : Found) (command size task req point field : Option Text) → command ≡ first_value f (codes "command") → size ≡ first_value f (codes "size")
-    → task ≡ first_value f (codes "task") → req ≡ first_value f (codes "req") → point ≡ first_value f (codes "point") → field ≡ first_value f (codes "field")
-    → option_map (λ c. record { command = c; size = size; task = task; req = req; point = point; field = field }) command ≡ values_of (rows_of f)
+pub values_by : (f : Found) (command size task req point field : Option Text) → command ≡ first_value f (codes "command")
+    → size ≡ first_value f (codes "size")
+    → task ≡ first_value f (codes "task") → req ≡ first_value f (codes "req") → point ≡ first_value f (codes "point")
+    → field ≡ first_value f (codes "field")
+    → option_map (λ c. record { command = c; size = size; task = task; req = req; point = point; field = field }) command
+    ≡ values_of (rows_of f)
 values_by f command size task req point field command_is size_is task_is req_is point_is field_is =
     let read : (id : Text) → first_value f id ≡ first_of id (rows_of f) = first_value-rows f in
-    rw (command_is ∙ read (codes "command"), size_is ∙ read (codes "size"), task_is ∙ read (codes "task"), req_is ∙ read (codes "req"), point_is ∙ read (codes "point"), field_is ∙ read (codes "field")) refl
+    rw (
+      command_is ∙ read (codes "command"),
+      size_is ∙ read (codes "size"),
+      task_is ∙ read (codes "task"),
+      req_is ∙ read (codes "req"),
+      point_is ∙ read (codes "point"),
+      field_is ∙ read (codes "field"),
+    ) refl
 
-pub answered : (m : ArgMatches) (words : List Text) (given : Option Words) → is_taken words ≡ true → rows_of (found_of m) ≡ rows_in words → given ≡ values_of (rows_of (found_of m)) → given ≡ values_in words
+pub answered : (m : ArgMatches) (words : List Text) (given : Option Words) → is_taken words ≡ true → rows_of (found_of m) ≡ rows_in words
+    → given ≡ values_of (rows_of (found_of m)) → given ≡ values_in words
 answered m words given taken rows is = is ∙ ap values_of rows ∙ sym (ap (λ t. if t then values_of (rows_in words) else None) taken)

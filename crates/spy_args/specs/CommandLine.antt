@@ -73,7 +73,15 @@ abbrev pub word_text : Option (Bor Text) → Option Text
 word_text word = option_map (λ (w : Bor Text). w.now) word
 
 abbrev pub given_words : CommandWords → Words
-given_words g = record { command = g.command.now; size = word_text g.size; task = word_text g.task; req = word_text g.req; point = word_text g.point; field = word_text g.field }
+given_words g = record {
+  command = g.command.now;
+  size = word_text g.size;
+  task = word_text g.task;
+  req =
+      word_text g.req;
+  point = word_text g.point;
+  field = word_text g.field;
+}
 
 abbrev pub given_texts : Option CommandWords → Option Words
 given_texts given = option_map given_words given

@@ -52,7 +52,8 @@ IsRead before after = TakesAll before after ⊎ TakesExactly before after (MOST_
 
 -- A call of the source failed: its count rose, and no more bytes than an input may have were taken before.
 abbrev pub FailsToRead : Request → ℕ → ℕ → Option (List ℕ) → Option (List ℕ) → Type 0
-FailsToRead request before now left after = (takes_input (Some request) ≡ true) × Rose before now × Takes left after (MOST_BYTES)
+FailsToRead request before now left after =
+    (takes_input (Some request) ≡ true) × Rose before now × Takes left after (MOST_BYTES)
 
 -- ---- answers
 
@@ -113,9 +114,12 @@ pub record IsNestJudged (bytes : List ℕ) (status : Status) (text : List ℕ) :
 -- What is answered to an input.
 abbrev pub IsAnswer : Request → List ℕ → Status → List ℕ → Type 0
 IsAnswer (requests.Judge command) bytes status text = IsJudged command bytes status text
-IsAnswer requests.Print bytes status text = IsFaulty bytes status text ⊎ ((status ≡ statuses.Yes) × IsPrinted bytes text)
-IsAnswer requests.Expand bytes status text = IsLaunchFaulty bytes status text ⊎ ((status ≡ statuses.Yes) × IsExpanded bytes text)
-IsAnswer requests.Launched bytes status text = IsLaunchFaulty bytes status text ⊎ IsLaunchChecked bytes status text
+IsAnswer requests.Print bytes status text =
+    IsFaulty bytes status text ⊎ ((status ≡ statuses.Yes) × IsPrinted bytes text)
+IsAnswer requests.Expand bytes status text =
+    IsLaunchFaulty bytes status text ⊎ ((status ≡ statuses.Yes) × IsExpanded bytes text)
+IsAnswer requests.Launched bytes status text =
+    IsLaunchFaulty bytes status text ⊎ IsLaunchChecked bytes status text
 IsAnswer requests.Nested bytes status text = IsNestJudged bytes status text
 IsAnswer (requests.Demo size) bytes status text = IsChecked (stencil size) status text
 
@@ -143,7 +147,8 @@ IsDecided statuses.Fault = Unit {0}
 IsDecided _ = ⊥
 
 -- The text of the answer was added to the bytes held.
-pub record Answers (request : Request) (bytes : List ℕ) (status : Status) (before after : Option (List ℕ)) : Type 0 where
+pub record Answers (request : Request) (bytes : List ℕ) (status : Status)
+    (before after : Option (List ℕ)) : Type 0 where
   pub text : List ℕ
   pub answer : IsAnswer request bytes status text
   pub written : Appends before after text
@@ -201,7 +206,8 @@ EndsOnLog _ status = (status ≡ statuses.Yes) ⊎ (status ≡ statuses.Refused)
 abbrev pub Ends : Request → Status → Type 0
 Ends (requests.Judge command) status = EndsOnLog command status
 Ends requests.Launched status = EndsOnLog commands.Check status
-Ends requests.Nested status = (status ≡ statuses.Yes) ⊎ (status ≡ statuses.Refused) ⊎ (status ≡ statuses.Memory)
+Ends requests.Nested status = (status ≡ statuses.Yes) ⊎ (status ≡ statuses.Refused)
+    ⊎ (status ≡ statuses.Memory)
 Ends (requests.Demo size) status = IsDecided status ⊎ (status ≡ statuses.Memory)
 Ends _ status = (status ≡ statuses.Yes) ⊎ (status ≡ statuses.Memory)
 

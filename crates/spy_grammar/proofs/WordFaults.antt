@@ -78,7 +78,8 @@ tests_number false x v = refl
 tests_number true true v = refl
 tests_number true false v = refl
 
-number_said : (least : ℕ) (w : List ℕ) → number_from least w ≡ unless_met (by_tests (is_digits w) (is_number_from least w) true) (digits_value 10 w)
+number_said : (least : ℕ) (w : List ℕ) → number_from least w
+    ≡ unless_met (by_tests (is_digits w) (is_number_from least w) true) (digits_value 10 w)
 unfolding number_from
 number_said least w = tests_number (is_digits w) _ (digits_value 10 w)
 
@@ -97,38 +98,47 @@ with_said : {A : Type 0} (xs : List A) (m t : Option LineFault) (x : A) → with
 with_said xs m None x = refl
 with_said xs m (Some f) x = refl
 
-added_so : {A : Type 0} (xs ys : List A) (m t : Option LineFault) (x : A) → (m ≡ None → xs ≡ ys) → with_met m t ≡ None → added xs t x ≡ ys ++ x ∷ []
+added_so : {A : Type 0} (xs ys : List A) (m t : Option LineFault) (x : A) → (m ≡ None → xs ≡ ys) → with_met m t ≡ None
+    → added xs t x ≡ ys ++ x ∷ []
 added_so xs ys m None x same none = ap (λ zs. zs ++ x ∷ []) (same none)
 added_so xs ys m (Some f) x same none = absurd (none-some f (sym (both_unmet m (Some f) none).1))
 
-module _ {A : Type 0} (read : List ℕ → Result A LineFault) (s n o : List ℕ → Bool) (value : List ℕ → A) (said : (w : List ℕ) → read w ≡ unless_met (by_tests (s w) (n w) (o w)) (value w)) where
+module _ {A : Type 0} (read : List ℕ → Result A LineFault) (s n o : List ℕ → Bool) (value : List ℕ → A) (said : (w : List ℕ)
+    → read w ≡ unless_met (by_tests (s w) (n w) (o w)) (value w)) where
   each_said : (a b c : Bool) (xs ys : List A) → (by_tests a b c ≡ None → xs ≡ ys) → (ws : List (List ℕ))
-      → each_after (xs, by_tests a b c) read ws ≡ unless_met (by_tests (a && list_all s ws) (b && list_all n ws) (c && list_all o ws)) (ys ++ map value ws)
+      → each_after (xs, by_tests a b c) read ws ≡ unless_met (by_tests (a && list_all s ws) (b && list_all n ws) (c && list_all o ws))
+      (ys ++ map value ws)
   each_said a b c xs ys same [] =
       rw (and_true a, and_true b, and_true c) (unless_same (by_tests a b c) xs (ys ++ []) (λ none. same none ∙ sym (append-nil ys)))
   each_said a b c xs ys same (w ∷ ws) =
       let t = by_tests (s w) (n w) (o w) in
       let step : with_part (xs, by_tests a b c) (read w) ≡ (added xs t (value w), by_tests (a && s w) (b && n w) (c && o w)) =
-      ap (with_part (xs, by_tests a b c)) (said w) ∙ with_said xs (by_tests a b c) t (value w) ∙ ap (λ m. (added xs t (value w), m)) (joined a b c (s w) (n w) (o w)) in
+      ap (with_part (xs, by_tests a b c)) (said w) ∙ with_said xs (by_tests a b c) t (value w)
+      ∙ ap (λ m. (added xs t (value w), m)) (joined a b c (s w) (n w) (o w)) in
       let rest = each_said (a && s w) (b && n w) (c && o w) (added xs t (value w)) (ys ++ value w ∷ [])
       (λ none. added_so xs ys (by_tests a b c) t (value w) same (joined a b c (s w) (n w) (o w) ∙ none)) ws in
       ap (λ p. each_after p read ws) step ∙ rest
-      ∙ ap (λ m. unless_met m (ys ++ value w ∷ [] ++ map value ws)) (tests_along (and_assoc a (s w) (list_all s ws)) (and_assoc b (n w) (list_all n ws)) (and_assoc c (o w) (list_all o ws)))
-      ∙ ap (unless_met (by_tests (a && list_all s (w ∷ ws)) (b && list_all n (w ∷ ws)) (c && list_all o (w ∷ ws)))) (append_assoc ys (value w ∷ []) (map value ws))
+      ∙ ap (λ m. unless_met m (ys ++ value w ∷ [] ++ map value ws))
+      (tests_along (and_assoc a (s w) (list_all s ws)) (and_assoc b (n w) (list_all n ws)) (and_assoc c (o w) (list_all o ws)))
+      ∙ ap (unless_met (by_tests (a && list_all s (w ∷ ws)) (b && list_all n (w ∷ ws)) (c && list_all o (w ∷ ws))))
+      (append_assoc ys (value w ∷ []) (map value ws))
     where
       tests_along : {a b c d e f : Bool} → a ≡ b → c ≡ d → e ≡ f → by_tests a c e ≡ by_tests b d f
       tests_along p q r = rw (p, q, r) refl
 
-  list_said : (w : List ℕ) → list_at read w ≡ cond (is_dash w) (Ok []) (unless_met (by_tests (list_all s (parts 44 w)) (list_all n (parts 44 w)) (list_all o (parts 44 w))) (map value (parts 44 w)))
+  list_said : (w : List ℕ) → list_at read w ≡ cond (is_dash w) (Ok [])
+      (unless_met (by_tests (list_all s (parts 44 w)) (list_all n (parts 44 w)) (list_all o (parts 44 w))) (map value (parts 44 w)))
   unfolding list_at
   list_said w = ap (cond (is_dash w) (Ok [])) (each_said true true true [] [] (λ _. refl) (parts 44 w))
 
 -- A list may be a dash.
-dash_or : {A : Type 0} (dash s n o : Bool) (x : A) (e : A) → cond dash (Ok e) (unless_met (by_tests s n o) x) ≡ unless_met (by_tests (dash || s) (dash || n) (dash || o)) (cond dash e x)
+dash_or : {A : Type 0} (dash s n o : Bool) (x : A) (e : A)
+    → cond dash (Ok e) (unless_met (by_tests s n o) x) ≡ unless_met (by_tests (dash || s) (dash || n) (dash || o)) (cond dash e x)
 dash_or true s n o x e = refl
 dash_or false s n o x e = refl
 
-order_tested : {A : Type 0} (test : A → Bool) (s n o : Bool) (x : A) → tested Order test (unless_met (by_tests s n o) x) ≡ unless_met (by_tests s n (o && test x)) x
+order_tested : {A : Type 0} (test : A → Bool) (s n o : Bool) (x : A)
+    → tested Order test (unless_met (by_tests s n o) x) ≡ unless_met (by_tests s n (o && test x)) x
 order_tested test false n o x = refl
 order_tested test true false o x = refl
 order_tested test true true false x = refl
@@ -140,19 +150,26 @@ order_tested test true true true x = by (test x) refl
 
 -- ---- runs of points
 
-span_said : (vs : List (List ℕ)) → span_among 0 vs ≡ unless_met (by_tests (is_span_shaped vs) (list_all (is_number_from 0) vs) (is_upward vs)) (span_of vs)
+span_said : (vs : List (List ℕ)) → span_among 0 vs
+    ≡ unless_met (by_tests (is_span_shaped vs) (list_all (is_number_from 0) vs) (is_upward vs)) (span_of vs)
 span_said [] = refl
 span_said (v ∷ []) = ap (map_ok {B = ℕ × ℕ} (λ n. (n, n))) (number_said 0 v) ∙ one (is_digits v) (is_number_from 0 v) (digits_value 10 v)
   where
-    one : (d n : Bool) (x : ℕ) → map_ok {B = ℕ × ℕ} (λ n. (n, n)) (unless_met (by_tests d n true) x) ≡ unless_met (by_tests d (n && true) true) (x, x)
+    one : (d n : Bool) (x : ℕ) → map_ok {B = ℕ × ℕ} (λ n. (n, n)) (unless_met (by_tests d n true) x)
+        ≡ unless_met (by_tests d (n && true) true) (x, x)
     one false n x = refl
     one true false x = refl
     one true true x = refl
 span_said (v ∷ w ∷ []) =
-    rw (number_said 0 v, number_said 0 w) (ap (tested Order goes_up) (two (is_digits v) (is_number_from 0 v) (is_digits w) (is_number_from 0 w) (digits_value 10 v) (digits_value 10 w))
-    ∙ order_tested goes_up (is_digits v && is_digits w) (is_number_from 0 v && (is_number_from 0 w && true)) true (digits_value 10 v, digits_value 10 w))
+    rw (number_said 0 v, number_said 0 w) (ap (tested Order goes_up)
+    (two (is_digits v) (is_number_from 0 v) (is_digits w) (is_number_from 0 w) (digits_value 10 v) (digits_value 10 w))
+    ∙ order_tested goes_up (is_digits v && is_digits w) (is_number_from 0 v && (is_number_from 0 w && true)) true (
+      digits_value 10 v,
+      digits_value 10 w,
+    ))
   where
-    two : (d n e m : Bool) (x y : ℕ) → both (unless_met (by_tests d n true) x) (unless_met (by_tests e m true) y) ≡ unless_met (by_tests (d && e) (n && (m && true)) true) (x, y)
+    two : (d n e m : Bool) (x y : ℕ) → both (unless_met (by_tests d n true) x) (unless_met (by_tests e m true) y)
+        ≡ unless_met (by_tests (d && e) (n && (m && true)) true) (x, y)
     two false n false m x y = refl
     two false n true false x y = refl
     two false n true true x y = refl
@@ -164,17 +181,21 @@ span_said (v ∷ w ∷ []) =
     two true true true true x y = refl
 span_said (v ∷ w ∷ u ∷ vs) = refl
 
-span_from_said : (w : List ℕ) → span_from 0 w ≡ unless_met (by_tests (is_span_shaped (parts 45 w)) (list_all (is_number_from 0) (parts 45 w)) (is_upward (parts 45 w))) (span_of (parts 45 w))
+span_from_said : (w : List ℕ) → span_from 0 w ≡ unless_met
+    (by_tests (is_span_shaped (parts 45 w)) (list_all (is_number_from 0) (parts 45 w)) (is_upward (parts 45 w))) (span_of (parts 45 w))
 unfolding span_from
 span_from_said w = span_said (parts 45 w)
 
 -- ---- texts
 
-text_fault : {A : Type 0} (spell : A → List ℕ) (xs : List A) (w : List ℕ) (otherwise : Result A LineFault) → fault_in (text_at spell xs w otherwise) ≡ cond (list_any (λ x. bytes_eq w (spell x)) xs) None (fault_in otherwise)
+text_fault : {A : Type 0} (spell : A → List ℕ) (xs : List A) (w : List ℕ) (otherwise : Result A LineFault)
+    → fault_in (text_at spell xs w otherwise) ≡ cond (list_any (λ x. bytes_eq w (spell x)) xs) None (fault_in otherwise)
 text_fault spell [] w otherwise = refl
-text_fault spell (x ∷ xs) w otherwise = by (bytes_eq w (spell x)) (text_at spell xs w otherwise) (list_any (λ x. bytes_eq w (spell x)) xs) (text_fault spell xs w otherwise)
+text_fault spell (x ∷ xs) w otherwise = by (bytes_eq w (spell x)) (text_at spell xs w otherwise) (list_any (λ x. bytes_eq w (spell x)) xs)
+    (text_fault spell xs w otherwise)
   where
-    by : (t : Bool) (rest : Result _ LineFault) (any : Bool) → fault_in rest ≡ cond any None (fault_in otherwise) → fault_in (cond t (Ok x) rest) ≡ cond (t || any) None (fault_in otherwise)
+    by : (t : Bool) (rest : Result _ LineFault) (any : Bool) → fault_in rest ≡ cond any None (fault_in otherwise)
+        → fault_in (cond t (Ok x) rest) ≡ cond (t || any) None (fault_in otherwise)
     by true rest any e = refl
     by false rest any e = e
 
@@ -192,9 +213,11 @@ mapped_fault f (Err g) = refl
 
 operator_fault : (w : List ℕ) → fault_in (operator_at w) ≡ by_tests (is_operator w) (is_number_from 1 (drop 4 w)) true
 unfolding operator_at
-operator_fault w = by _ (is_digits (drop 4 w)) (is_number_from 1 (drop 4 w)) (ap fault_in (number_said 1 (drop 4 w)) ∙ fault_unless _ (digits_value 10 (drop 4 w)))
+operator_fault w = by _ (is_digits (drop 4 w)) (is_number_from 1 (drop 4 w)) (ap fault_in (number_said 1 (drop 4 w))
+    ∙ fault_unless _ (digits_value 10 (drop 4 w)))
   where
-    by : (t d n : Bool) → fault_in (number_from 1 (drop 4 w)) ≡ by_tests d n true → fault_in (cond t (number_from 1 (drop 4 w)) (Err Form)) ≡ by_tests (t && d) n true
+    by : (t d n : Bool) → fault_in (number_from 1 (drop 4 w)) ≡ by_tests d n true
+        → fault_in (cond t (number_from 1 (drop 4 w)) (Err Form)) ≡ by_tests (t && d) n true
     by true d n e = e
     by false d n e = refl
 
@@ -204,52 +227,71 @@ some_parts : {A : Type 0} (f : List ℕ → A) (ws : List (List ℕ)) → ws ≢
 some_parts f [] some = absurd (some refl)
 some_parts f (w ∷ ws) some = refl
 
-passes : {A : Type 0} (met : Option LineFault) (xs : List A) → has_some xs ≡ true → tested Form has_some (unless_met met xs) ≡ unless_met met xs
+passes : {A : Type 0} (met : Option LineFault) (xs : List A) → has_some xs ≡ true
+    → tested Form has_some (unless_met met xs) ≡ unless_met met xs
 passes None xs some = rw some refl
 passes (Some f) xs some = refl
 
-dash_fails : fault_in (tested Order (ascends nat_lt) (tested Form has_some (list_at (number_from 0) (codes "-")))) ≡ by_tests (has_shape fields (codes "-")) (has_numbers fields (codes "-")) (is_in_order fields (codes "-"))
+dash_fails : fault_in (tested Order (ascends nat_lt) (tested Form has_some (list_at (number_from 0) (codes "-"))))
+    ≡ by_tests (has_shape fields (codes "-")) (has_numbers fields (codes "-")) (is_in_order fields (codes "-"))
 unfolding list_at
 dash_fails = refl
 
-fields_fault : (w : List ℕ) → fault_in (tested Order (ascends nat_lt) (tested Form has_some (list_at (number_from 0) w))) ≡ by_tests (has_shape fields w) (has_numbers fields w) (is_in_order fields w)
+fields_fault : (w : List ℕ) → fault_in (tested Order (ascends nat_lt) (tested Form has_some (list_at (number_from 0) w)))
+    ≡ by_tests (has_shape fields w) (has_numbers fields w) (is_in_order fields w)
 fields_fault w = elim (cases_Bool (is_dash w)) [
-  | inl dash ↦ (let is : w ≡ codes "-" = (bytes_eq-Decides w (codes "-")).0 dash in subst (λ w. fault_in (tested Order (ascends nat_lt) (tested Form has_some (list_at (number_from 0) w))) ≡ by_tests (has_shape fields w) (has_numbers fields w) (is_in_order fields w)) (sym is) dash_fails)
+  | inl dash ↦ (let is : w ≡ codes "-" = (bytes_eq-Decides w (codes "-")).0 dash in
+      subst (λ w. fault_in (tested Order (ascends nat_lt) (tested Form has_some (list_at (number_from 0) w)))
+      ≡ by_tests (has_shape fields w) (has_numbers fields w) (is_in_order fields w)) (sym is) dash_fails)
   | inr other ↦
       let ws = parts 44 w in
-      let read : list_at (number_from 0) w ≡ unless_met (by_tests (list_all is_digits ws) (list_all (is_number_from 0) ws) (list_all (λ _. true) ws)) (map (digits_value 10) ws) =
-      list_said (number_from 0) is_digits (is_number_from 0) (λ _. true) (digits_value 10) (number_said 0) w ∙ ap (λ d. cond d (Ok []) (unless_met (by_tests (list_all is_digits ws) (list_all (is_number_from 0) ws) (list_all (λ _. true) ws)) (map (digits_value 10) ws))) other in
+      let read : list_at (number_from 0) w ≡ unless_met
+      (by_tests (list_all is_digits ws) (list_all (is_number_from 0) ws) (list_all (λ _. true) ws)) (map (digits_value 10) ws) =
+      list_said (number_from 0) is_digits (is_number_from 0) (λ _. true) (digits_value 10) (number_said 0) w
+      ∙ ap (λ d. cond d (Ok [])
+      (unless_met (by_tests (list_all is_digits ws) (list_all (is_number_from 0) ws) (list_all (λ _. true) ws))
+      (map (digits_value 10) ws))) other in
       ap (λ r. fault_in (tested Order (ascends nat_lt) (tested Form has_some r))) read
-      ∙ ap (λ r. fault_in (tested Order (ascends nat_lt) r)) (passes (by_tests (list_all is_digits ws) (list_all (is_number_from 0) ws) (list_all (λ _. true) ws)) (map (digits_value 10) ws) (some_parts (digits_value 10) ws (parts_some 44 w)))
-      ∙ ap fault_in (order_tested (ascends nat_lt) (list_all is_digits ws) (list_all (is_number_from 0) ws) (list_all (λ _. true) ws) (map (digits_value 10) ws))
+      ∙ ap (λ r. fault_in (tested Order (ascends nat_lt) r))
+      (passes (by_tests (list_all is_digits ws) (list_all (is_number_from 0) ws) (list_all (λ _. true) ws)) (map (digits_value 10) ws)
+      (some_parts (digits_value 10) ws (parts_some 44 w)))
+      ∙ ap fault_in (order_tested (ascends nat_lt) (list_all is_digits ws) (list_all (is_number_from 0) ws) (list_all (λ _. true) ws)
+      (map (digits_value 10) ws))
       ∙ fault_unless _ (map (digits_value 10) ws)
-      ∙ ap (λ t. by_tests (list_all is_digits ws) (list_all (is_number_from 0) ws) (t && ascends nat_lt (map (digits_value 10) ws))) (all_true ws)
+      ∙ ap (λ t. by_tests (list_all is_digits ws) (list_all (is_number_from 0) ws) (t && ascends nat_lt (map (digits_value 10) ws)))
+      (all_true ws)
 ]
   where
     all_true : (ws : List (List ℕ)) → list_all (λ _. true) ws ≡ true
     all_true [] = refl
     all_true (w ∷ ws) = all_true ws
 
-points_fault : (w : List ℕ) → fault_in (tested Order (ascends span_before) (list_at (span_from 0) w)) ≡ by_tests (has_shape points w) (has_numbers points w) (is_in_order points w)
+points_fault : (w : List ℕ) → fault_in (tested Order (ascends span_before) (list_at (span_from 0) w))
+    ≡ by_tests (has_shape points w) (has_numbers points w) (is_in_order points w)
 points_fault w =
     let ws = parts 44 w in
     let s : List ℕ → Bool = λ v. is_span_shaped (parts 45 v) in
     let n : List ℕ → Bool = λ v. list_all (is_number_from 0) (parts 45 v) in
     let o : List ℕ → Bool = λ v. is_upward (parts 45 v) in
     let value : List ℕ → ℕ × ℕ = λ v. span_of (parts 45 v) in
-    ap (λ r. fault_in (tested Order (ascends span_before) r)) (list_said (span_from 0) s n o value span_from_said w ∙ dash_or (is_dash w) (list_all s ws) (list_all n ws) (list_all o ws) (map value ws) [])
-    ∙ ap fault_in (order_tested (ascends span_before) (is_dash w || list_all s ws) (is_dash w || list_all n ws) (is_dash w || list_all o ws) (cond (is_dash w) [] (map value ws)))
+    ap (λ r. fault_in (tested Order (ascends span_before) r)) (list_said (span_from 0) s n o value span_from_said w
+    ∙ dash_or (is_dash w) (list_all s ws) (list_all n ws) (list_all o ws) (map value ws) [])
+    ∙ ap fault_in (order_tested (ascends span_before) (is_dash w || list_all s ws) (is_dash w || list_all n ws) (is_dash w || list_all o ws)
+    (cond (is_dash w) [] (map value ws)))
     ∙ fault_unless _ (cond (is_dash w) [] (map value ws))
     ∙ ap (by_tests (is_dash w || list_all s ws) (is_dash w || list_all n ws)) (dash_ordered (is_dash w) (list_all o ws) (map value ws))
   where
-    dash_ordered : (dash o : Bool) (ps : List (ℕ × ℕ)) → (dash || o) && ascends span_before (cond dash [] ps) ≡ dash || (o && ascends span_before ps)
+    dash_ordered : (dash o : Bool) (ps : List (ℕ × ℕ))
+        → (dash || o) && ascends span_before (cond dash [] ps) ≡ dash || (o && ascends span_before ps)
     dash_ordered true o ps = refl
     dash_ordered false o ps = refl
 
 waits_fault : (w : List ℕ) → fault_in (list_at (number_from 1) w) ≡ by_tests (has_shape waits w) (has_numbers waits w) (is_in_order waits w)
 waits_fault w =
     let ws = parts 44 w in
-    ap fault_in (list_said (number_from 1) is_digits (is_number_from 1) (λ _. true) (digits_value 10) (number_said 1) w ∙ dash_or (is_dash w) (list_all is_digits ws) (list_all (is_number_from 1) ws) (list_all (λ _. true) ws) (map (digits_value 10) ws) [])
+    ap fault_in (list_said (number_from 1) is_digits (is_number_from 1) (λ _. true) (digits_value 10) (number_said 1) w
+    ∙ dash_or (is_dash w) (list_all is_digits ws) (list_all (is_number_from 1) ws) (list_all (λ _. true) ws)
+    (map (digits_value 10) ws) [])
     ∙ fault_unless _ (cond (is_dash w) [] (map (digits_value 10) ws))
     ∙ ap (by_tests (is_dash w || list_all is_digits ws) (is_dash w || list_all (is_number_from 1) ws)) (all_true (is_dash w) ws)
   where
@@ -281,11 +323,14 @@ kept_fault : {A : Type 0} (met : Option LineFault) (r : Result A LineFault) (oth
 kept_fault met (Ok x) other = refl
 kept_fault met (Err f) other = refl
 
-ids_fault : (ws : List (List ℕ)) → fault_in (ids_at ws) ≡ by_tests (has_some ws && list_all is_digits ws) (list_all (is_number_from 1) ws) true
+ids_fault : (ws : List (List ℕ)) → fault_in (ids_at ws)
+    ≡ by_tests (has_some ws && list_all is_digits ws) (list_all (is_number_from 1) ws) true
 ids_fault [] = refl
 ids_fault (w ∷ ws) =
-    ap (λ r. fault_in (tested Form has_some r)) (each_said (number_from 1) is_digits (is_number_from 1) (λ _. true) (digits_value 10) (number_said 1) true true true [] [] (λ _. refl) (w ∷ ws))
-    ∙ ap fault_in (passes (by_tests (list_all is_digits (w ∷ ws)) (list_all (is_number_from 1) (w ∷ ws)) (list_all (λ _. true) (w ∷ ws))) (map (digits_value 10) (w ∷ ws)) refl)
+    ap (λ r. fault_in (tested Form has_some r)) (each_said (number_from 1) is_digits (is_number_from 1) (λ _. true) (digits_value 10)
+    (number_said 1) true true true [] [] (λ _. refl) (w ∷ ws))
+    ∙ ap fault_in (passes (by_tests (list_all is_digits (w ∷ ws)) (list_all (is_number_from 1) (w ∷ ws)) (list_all (λ _. true) (w ∷ ws)))
+    (map (digits_value 10) (w ∷ ws)) refl)
     ∙ fault_unless _ (map (digits_value 10) (w ∷ ws))
     ∙ ap (by_tests (list_all is_digits (w ∷ ws)) (list_all (is_number_from 1) (w ∷ ws))) (all_true (w ∷ ws))
   where
@@ -308,7 +353,8 @@ row_fault some_ids ws a b c =
     kept_fault (by_tests a b c) (ids_at ws) [] ∙ ap (with_met (by_tests a b c)) (ids_fault ws)
     ∙ joined a b c (has_some ws && list_all is_digits ws) (list_all (is_number_from 1) ws) true
 row_fault (k & r) [] a b c =
-    let met = kept_fault (by_tests a b c) (meaning_at k []) (about k).stand_in ∙ ap (with_met (by_tests a b c)) (no_word k) ∙ joined a b c false true true in
+    let met = kept_fault (by_tests a b c) (meaning_at k []) (about k).stand_in ∙ ap (with_met (by_tests a b c)) (no_word k)
+    ∙ joined a b c false true true in
     ap (λ m. let out = read_row r (record { words = []; met = m }) in met_at_end out.1.words out.1.met) met
     ∙ row_fault r [] (a && false) (b && true) (c && true) ∙ still_form a (have_shape r []) _ _ _ _
   where
@@ -316,10 +362,15 @@ row_fault (k & r) [] a b c =
     still_form true s n o m p = refl
     still_form false s n o m p = refl
 row_fault (k & r) (w ∷ ws) a b c =
-    let met = kept_fault (by_tests a b c) (meaning_at k w) (about k).stand_in ∙ ap (with_met (by_tests a b c)) (class_fault k w) ∙ joined a b c (has_shape k w) (has_numbers k w) (is_in_order k w) in
+    let met = kept_fault (by_tests a b c) (meaning_at k w) (about k).stand_in ∙ ap (with_met (by_tests a b c)) (class_fault k w)
+    ∙ joined a b c (has_shape k w) (has_numbers k w) (is_in_order k w) in
     ap (λ m. let out = read_row r (record { words = ws; met = m }) in met_at_end out.1.words out.1.met) met
     ∙ row_fault r ws (a && has_shape k w) (b && has_numbers k w) (c && is_in_order k w)
-    ∙ rw (and_assoc a (has_shape k w) (have_shape r ws), and_assoc b (has_numbers k w) (have_numbers r ws), and_assoc c (is_in_order k w) (are_in_order r ws)) refl
+    ∙ rw (
+      and_assoc a (has_shape k w) (have_shape r ws),
+      and_assoc b (has_numbers k w) (have_numbers r ws),
+      and_assoc c (is_in_order k w) (are_in_order r ws),
+    ) refl
 
 -- ---- lines
 
@@ -365,7 +416,8 @@ module _ {K R : Type 0} (g : Grammar K R) (table : IsTable K R g) (line : List �
   unfolding kind_in
   kind_or_none = by (kind_in g (next_word (parts 32 line))) refl
     where
-      by : (o : Result K LineFault) → kind_in g (next_word (parts 32 line)) ≡ o → ((k : K) × NamesIn g line k) ⊎ (kind_in g (next_word (parts 32 line)) ≡ Err Word)
+      by : (o : Result K LineFault) → kind_in g (next_word (parts 32 line)) ≡ o → ((k : K) × NamesIn g line k)
+          ⊎ (kind_in g (next_word (parts 32 line)) ≡ Err Word)
       by (Ok k) is = inl (k, named_so g _ k is)
       by (Err f) is = inr (is ∙ ap Err (only_word (λ k. (g.entry k).name) g.kinds (next_word (parts 32 line)) f is))
 
@@ -377,12 +429,14 @@ module _ {K R : Type 0} (g : Grammar K R) (table : IsTable K R g) (line : List �
   unnamed none = line_is ∙ ap (λ o. map_ok (λ r. Some r) (named_record g o (words_after line))) none
 
   line_fault : (k : K) → NamesIn g line k → let r = (g.entry k).row in
-      fault_in (line_in g line) ≡ by_tests (have_shape r (words_after line)) (have_numbers r (words_after line)) (are_in_order r (words_after line))
+      fault_in (line_in g line) ≡ by_tests (have_shape r (words_after line)) (have_numbers r (words_after line))
+      (are_in_order r (words_after line))
   unfolding read_record
   line_fault k names =
       let r = (g.entry k).row in
       let out = read_row r (record { words = words_after line; met = None }) in
-      ap fault_in (line_is ∙ ap (λ o. map_ok (λ r. Some r) (named_record g o (words_after line))) (ap (kind_in g) names ∙ (table.in_table k).named))
+      ap fault_in (line_is ∙ ap (λ o. map_ok (λ r. Some r) (named_record g o (words_after line))) (ap (kind_in g) names
+      ∙ (table.in_table k).named))
       ∙ mapped_fault (λ r. Some r) (named_record g (Ok k) (words_after line)) ∙ fault_unless (met_at_end out.1.words out.1.met) _
       ∙ row_fault r (words_after line) true true true
 
@@ -407,12 +461,14 @@ module _ {K R : Type 0} (g : Grammar K R) (table : IsTable K R g) (line : List �
 
   pub number_faults : (line_in g line ≡ Err Number) ↔ LacksNumbers g line
   number_faults = (
-    λ e. let k = kind_of_fault Number (λ e. absurd cc) e in let t = (tests_number_fault _ _ _).0 (sym (line_fault k.0 k.1) ∙ ap fault_in e) in (k.0, k.1, t.0, t.1),
+    λ e. let k = kind_of_fault Number (λ e. absurd cc) e in let t =
+        (tests_number_fault _ _ _).0 (sym (line_fault k.0 k.1) ∙ ap fault_in e) in (k.0, k.1, t.0, t.1),
     λ k. fails_so (line_in g line) Number (line_fault k.0 k.1 ∙ (tests_number_fault _ _ _).1 (k.2, k.3)),
   )
 
   pub order_faults : (line_in g line ≡ Err Order) ↔ LacksOrder g line
   order_faults = (
-    λ e. let k = kind_of_fault Order (λ e. absurd cc) e in let t = (tests_order _ _ _).0 (sym (line_fault k.0 k.1) ∙ ap fault_in e) in (k.0, k.1, t.0, t.1, t.2),
+    λ e. let k = kind_of_fault Order (λ e. absurd cc) e in let t = (tests_order _ _ _).0 (sym (line_fault k.0 k.1) ∙ ap fault_in e) in
+        (k.0, k.1, t.0, t.1, t.2),
     λ k. fails_so (line_in g line) Order (line_fault k.0 k.1 ∙ (tests_order _ _ _).1 (k.2, k.3, k.4)),
   )

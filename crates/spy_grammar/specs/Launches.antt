@@ -14,18 +14,34 @@ use Rattle.spy_grammar.specs.Spelling.{spelling_in, GoodIn}
 -- The table: that of a log, and two further lines.
 abbrev pub launch_entry : LaunchKind → Entry LRecord
 launch_entry (kinds.Plain k) = included (λ r. records.Plain r) (entry k)
-launch_entry kinds.Launch = record { name = codes "launch"; row = id & fields & no_more; record_of = records.Launch }
-launch_entry kinds.Lreq = record { name = codes "lreq"; row = id & id & id & fields & access & coherence & no_more; record_of = records.Lreq }
+launch_entry kinds.Launch = record {
+  name = codes "launch";
+  row = id & fields & no_more;
+  record_of =
+      records.Launch;
+}
+launch_entry kinds.Lreq = record {
+  name = codes "lreq";
+  row =
+      id & id & id & fields & access & coherence & no_more;
+  record_of = records.Lreq;
+}
 
 -- The parts of a record, in the order of its words.
 abbrev pub launch_parts : LRecord → (k : LaunchKind) × RowMeaning (launch_entry k).row
 launch_parts (records.Plain r) = (kinds.Plain (parts_of r).0, (parts_of r).1)
 launch_parts (records.Launch base colours) = (kinds.Launch, (base, (colours, tt)))
-launch_parts (records.Lreq base tree part fs a atomic) = (kinds.Lreq, (base, (tree, (part, (fs, (a, (atomic, tt)))))))
+launch_parts (records.Lreq base tree part fs a atomic) =
+    (kinds.Lreq, (base, (tree, (part, (fs, (a, (atomic, tt)))))))
 
 -- The grammar of a launch log.
 abbrev pub launch_log : Grammar LaunchKind LRecord
-launch_log = record { kinds = kinds.Launch ∷ kinds.Lreq ∷ map (λ k. kinds.Plain k) KINDS; entry = launch_entry; parts_of = launch_parts }
+launch_log = record {
+  kinds = kinds.Launch ∷ kinds.Lreq ∷ map (λ k. kinds.Plain k) KINDS;
+  entry =
+      launch_entry;
+  parts_of = launch_parts;
+}
 
 -- What a line of a launch log says, or its fault.
 unfoldable pub launch_line_at : List ℕ → Result (Option LRecord) LineFault

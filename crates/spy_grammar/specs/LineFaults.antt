@@ -29,7 +29,8 @@ is_operator w = starts_with nat_eq w (codes "red:") && is_digits (drop 4 w)
 
 -- One of the privileges that have no operator, and one of the kinds of instances that have none.
 abbrev pub is_plain_access : List ℕ → Bool
-is_plain_access w = list_any (λ p. bytes_eq w (access_word p)) (privileges.Ro ∷ privileges.Rw ∷ privileges.Wd ∷ [])
+is_plain_access w = list_any (λ p. bytes_eq w (access_word p))
+    (privileges.Ro ∷ privileges.Rw ∷ privileges.Wd ∷ [])
 
 abbrev pub is_plain_layout : List ℕ → Bool
 is_plain_layout w = list_any (λ k. bytes_eq w (layout_word k)) (instances.Plain ∷ instances.Home ∷ [])
@@ -49,7 +50,8 @@ has_shape layout w = is_plain_layout w || is_operator w
 
 -- A number of a log: without a zero before further digits, from the least up, and below 2^32.
 abbrev pub is_number_from : ℕ → List ℕ → Bool
-is_number_from least w = not (has_leading_zero w || nat_lt (digits_value 10 w) least || not (nat_lt (digits_value 10 w) (2 ^ 32)))
+is_number_from least w =
+    not (has_leading_zero w || nat_lt (digits_value 10 w) least || not (nat_lt (digits_value 10 w) (2 ^ 32)))
 
 -- Each number of a word is a number of a log.
 abbrev pub has_numbers : Class → List ℕ → Bool
@@ -76,7 +78,9 @@ is_upward vs = true
 
 -- The numbers of a word ascend, where its class wants that.
 abbrev pub is_in_order : Class → List ℕ → Bool
-is_in_order points w = is_dash w || (list_all (λ v. is_upward (parts 45 v)) (parts 44 w) && ascends span_before (map (λ v. span_of (parts 45 v)) (parts 44 w)))
+is_in_order points w =
+    is_dash w || (list_all (λ v. is_upward (parts 45 v)) (parts 44 w)
+    && ascends span_before (map (λ v. span_of (parts 45 v)) (parts 44 w)))
 is_in_order fields w = ascends nat_lt (map (digits_value 10) (parts 44 w))
 is_in_order c w = true
 
@@ -127,7 +131,8 @@ LacksNumbers {K} g line = (k : K) × NamesIn g line k × (have_shape (g.entry k)
 -- Their numbers are right too, and some list or run does not ascend.
 abbrev pub LacksOrder : {K R : Type 0} → Grammar K R → List ℕ → Type 0
 LacksOrder {K} g line = (k : K) × NamesIn g line k × (have_shape (g.entry k).row (words_after line) ≡ true)
-    × (have_numbers (g.entry k).row (words_after line) ≡ true) × (are_in_order (g.entry k).row (words_after line) ≡ false)
+    × (have_numbers (g.entry k).row (words_after line) ≡ true)
+    × (are_in_order (g.entry k).row (words_after line) ≡ false)
 
 -- ---- the words of a log
 

@@ -14,9 +14,24 @@ use Rattle.spy_grammar.specs.Spelling.{spelling_in, GoodIn}
 -- The table: that of a log, and three further lines.
 abbrev pub nested_entry : NestedKind → Entry NRecord
 nested_entry (kinds.Plain k) = included (λ r. records.Plain r) (entry k)
-nested_entry kinds.Group = record { name = codes "group"; row = id & any_number & no_more; record_of = records.Group }
-nested_entry kinds.Greq = record { name = codes "greq"; row = any_number & id & id & fields & access & no_more; record_of = records.Greq }
-nested_entry kinds.Member = record { name = codes "member"; row = id & any_number & no_more; record_of = records.Member }
+nested_entry kinds.Group = record {
+  name = codes "group";
+  row = id & any_number & no_more;
+  record_of =
+      records.Group;
+}
+nested_entry kinds.Greq = record {
+  name = codes "greq";
+  row =
+      any_number & id & id & fields & access & no_more;
+  record_of = records.Greq;
+}
+nested_entry kinds.Member = record {
+  name = codes "member";
+  row = id & any_number & no_more;
+  record_of =
+      records.Member;
+}
 
 -- The parts of a record, in the order of its words.
 abbrev pub nested_parts : NRecord → (k : NestedKind) × RowMeaning (nested_entry k).row
@@ -27,7 +42,11 @@ nested_parts (records.Member task group) = (kinds.Member, (task, (group, tt)))
 
 -- The grammar of a nested log.
 abbrev pub nested_log : Grammar NestedKind NRecord
-nested_log = record { kinds = kinds.Group ∷ kinds.Greq ∷ kinds.Member ∷ map (λ k. kinds.Plain k) KINDS; entry = nested_entry; parts_of = nested_parts }
+nested_log = record {
+  kinds = kinds.Group ∷ kinds.Greq ∷ kinds.Member ∷ map (λ k. kinds.Plain k) KINDS;
+  entry = nested_entry;
+  parts_of = nested_parts;
+}
 
 -- What a line of a nested log says, or its fault.
 unfoldable pub nested_line_at : List ℕ → Result (Option NRecord) LineFault

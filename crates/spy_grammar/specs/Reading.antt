@@ -49,7 +49,8 @@ abbrev pub ended : {A : Type 0} → A × Left → Result A LineFault
 ended p = unless_met (met_at_end p.1.words p.1.met) p.0
 
 -- The record of a kind, if the first word names one, from the words after it.
-abbrev pub named_record : {K R : Type 0} → Grammar K R → Result K LineFault → List (List ℕ) → Result R LineFault
+abbrev pub named_record : {K R : Type 0} → Grammar K R → Result K LineFault → List (List ℕ)
+    → Result R LineFault
 named_record g (Ok k) ws = ended (read_record (g.entry k) (record { words = ws; met = None }))
 named_record g (Err f) ws = Err f
 

@@ -43,7 +43,12 @@ pub record Grammar (K R : Type 0) : Type 0 where
 
 -- The table: the first word of each kind, the classes of the words after it, and the record that they mean.
 abbrev pub entry : RecordKind → Entry Record
-entry kinds.Header = record { name = codes "legion-spy"; row = any_number & no_more; record_of = records.Header }
+entry kinds.Header = record {
+  name = codes "legion-spy";
+  row = any_number & no_more;
+  record_of =
+      records.Header;
+}
 entry kinds.Ispace = record { name = codes "ispace"; row = id & points & no_more; record_of = records.Ispace }
 entry kinds.Part = record { name = codes "part"; row = id & id & split & no_more; record_of = records.Part }
 entry kinds.Sub = record { name = codes "sub"; row = id & any_number & id & no_more; record_of = records.Sub }
@@ -51,16 +56,56 @@ entry kinds.Fields = record { name = codes "fields"; row = id & fields & no_more
 entry kinds.Tree = record { name = codes "tree"; row = id & id & id & no_more; record_of = records.Tree }
 entry kinds.Redop = record { name = codes "redop"; row = id & no_more; record_of = records.Redop }
 entry kinds.Task = record { name = codes "task"; row = id & no_more; record_of = records.Task }
-entry kinds.Req = record { name = codes "req"; row = id & id & id & fields & access & coherence & no_more; record_of = records.Req }
-entry kinds.Fill = record { name = codes "fill"; row = id & id & id & fields & any_number & no_more; record_of = records.Fill }
+entry kinds.Req = record {
+  name = codes "req";
+  row =
+      id & id & id & fields & access & coherence & no_more;
+  record_of = records.Req;
+}
+entry kinds.Fill = record {
+  name = codes "fill";
+  row =
+      id & id & id & fields & any_number & no_more;
+  record_of = records.Fill;
+}
 entry kinds.Serial = record { name = codes "serial"; row = some_ids; record_of = records.Serial }
-entry kinds.Inst = record { name = codes "inst"; row = id & id & id & fields & layout & no_more; record_of = records.Inst }
-entry kinds.Map = record { name = codes "map"; row = id & id & fields & id & no_more; record_of = records.Map }
+entry kinds.Inst = record {
+  name = codes "inst";
+  row = id & id & id & fields & layout & no_more;
+  record_of =
+      records.Inst;
+}
+entry kinds.Map = record {
+  name = codes "map";
+  row = id & id & fields & id & no_more;
+  record_of =
+      records.Map;
+}
 entry kinds.Run = record { name = codes "run"; row = id & event & waits & no_more; record_of = records.Run }
-entry kinds.Copy = record { name = codes "copy"; row = id & id & id & fields & event & waits & no_more; record_of = records.Copy }
-entry kinds.Put = record { name = codes "put"; row = id & id & fields & any_number & event & waits & no_more; record_of = records.Put }
-entry kinds.Reset = record { name = codes "reset"; row = id & id & fields & event & waits & no_more; record_of = records.Reset }
-entry kinds.Fold = record { name = codes "fold"; row = id & id & id & fields & event & waits & no_more; record_of = records.Fold }
+entry kinds.Copy = record {
+  name = codes "copy";
+  row =
+      id & id & id & fields & event & waits & no_more;
+  record_of = records.Copy;
+}
+entry kinds.Put = record {
+  name = codes "put";
+  row =
+      id & id & fields & any_number & event & waits & no_more;
+  record_of = records.Put;
+}
+entry kinds.Reset = record {
+  name = codes "reset";
+  row =
+      id & id & fields & event & waits & no_more;
+  record_of = records.Reset;
+}
+entry kinds.Fold = record {
+  name = codes "fold";
+  row =
+      id & id & id & fields & event & waits & no_more;
+  record_of = records.Fold;
+}
 entry kinds.Merge = record { name = codes "merge"; row = event & waits & no_more; record_of = records.Merge }
 entry kinds.End = record { name = codes "end"; row = any_number & no_more; record_of = records.End }
 
@@ -74,7 +119,8 @@ parts_of (records.Fields i fs) = (kinds.Fields, (i, (fs, tt)))
 parts_of (records.Tree i space fspace) = (kinds.Tree, (i, (space, (fspace, tt))))
 parts_of (records.Redop i) = (kinds.Redop, (i, tt))
 parts_of (records.Task i) = (kinds.Task, (i, tt))
-parts_of (records.Req task tree space fs a atomic) = (kinds.Req, (task, (tree, (space, (fs, (a, (atomic, tt)))))))
+parts_of (records.Req task tree space fs a atomic) =
+    (kinds.Req, (task, (tree, (space, (fs, (a, (atomic, tt)))))))
 parts_of (records.Fill i tree space fs n) = (kinds.Fill, (i, (tree, (space, (fs, (n, tt))))))
 parts_of (records.Serial items) = (kinds.Serial, items)
 parts_of (records.Inst i tree space fs kind) = (kinds.Inst, (i, (tree, (space, (fs, (kind, tt))))))

@@ -29,7 +29,8 @@ pub written_more : (old mid new : Option (List ℕ)) (bytes rest after : List �
     → Appends mid new (take n rest) → after ≡ drop n rest → IsWritten old new bytes after
 written_more old mid new bytes rest after n w more left = record {
   front = w.front ++ take n rest;
-  parts = w.parts ∙ ap (λ x. w.front ++ x) (sym (take-append-drop n rest)) ∙ sym (append_assoc w.front (take n rest) (drop n rest)) ∙ ap (λ x. w.front ++ take n rest ++ x) (sym left);
+  parts = w.parts ∙ ap (λ x. w.front ++ x) (sym (take-append-drop n rest)) ∙ sym (append_assoc w.front (take n rest) (drop n rest))
+      ∙ ap (λ x. w.front ++ take n rest ++ x) (sym left);
   grown = Appends-trans old mid new w.front (take n rest) w.grown more;
 }
 
@@ -38,8 +39,10 @@ pub written_all : (old new : Option (List ℕ)) (bytes rest : List ℕ) → IsWr
 written_all old new bytes rest w none = subst (Appends old new) (sym (w.parts ∙ ap (λ x. w.front ++ x) none ∙ append-nil w.front)) w.grown
 
 -- a call failed, before which something was left
-pub written_part : (old mid new : Option (List ℕ)) (bytes rest : List ℕ) → IsWritten old mid bytes rest → Keeps mid new → rest ≢ [] → Grows old new bytes
-written_part old mid new bytes rest w kept more = record { front = w.front; back = rest; parts = w.parts; more = more; grown = grown_kept old mid new w.front w.grown kept }
+pub written_part : (old mid new : Option (List ℕ)) (bytes rest : List ℕ) → IsWritten old mid bytes rest → Keeps mid new → rest ≢ []
+    → Grows old new bytes
+written_part old mid new bytes rest w kept more =
+    record { front = w.front; back = rest; parts = w.parts; more = more; grown = grown_kept old mid new w.front w.grown kept }
 
 -- the first n bytes after `at` stand in front of what is kept, and the rest comes after them
 pub first_given : (at n : ℕ) (bytes given kept : List ℕ) → given ≡ take n (drop at bytes) → length given ≡ n

@@ -6,11 +6,20 @@ use Rattle.spy_io.specs.declared.real_sink.SinkCounts.{SinkCounts}
 
 -- The counts of a source after a call for a buffer.
 abbrev pub source_counts_after : {E : Type 0} → SourceCounts → Result ℕ E → List ℕ → SourceCounts
-source_counts_after c result into = record { faults = faults_after c.faults (has_failed result); ended = ended_after c.ended (is_last result into); idle = idle_after c.idle into }
+source_counts_after c result into = record {
+  faults = faults_after c.faults (has_failed result);
+  ended =
+      ended_after c.ended (is_last result into);
+  idle = idle_after c.idle into;
+}
 
 -- The counts of a sink after a call.
 abbrev pub sink_counts_after : {E : Type 0} → SinkCounts → Result ℕ E → SinkCounts
-sink_counts_after c result = record { faults = faults_after c.faults (has_failed result); ended = ended_after c.ended (has_failed result) }
+sink_counts_after c result = record {
+  faults = faults_after c.faults (has_failed result);
+  ended =
+      ended_after c.ended (has_failed result);
+}
 
 -- Whether a write failed: by an error, or by taking nothing of a piece that is not empty.
 abbrev pub is_refused : {E : Type 0} → Result ℕ E → List ℕ → Bool

@@ -14,7 +14,16 @@ pub record SinkState : Type 0 where
 
 -- Nothing is held, and no call was made.
 abbrev pub fresh_sink : ℕ → ℕ → List ℕ → SinkState
-fresh_sink room cut failing = record { held = []; room = room; cut = cut; failing = failing; calls = 0; faults = 0; ended = 0 }
+fresh_sink room cut failing = record {
+  held = [];
+  room = room;
+  cut = cut;
+  failing = failing;
+  calls =
+      0;
+  faults = 0;
+  ended = 0;
+}
 
 -- The next call's number is among the failing ones, or the sink is full and the piece is not empty.
 abbrev pub IsRefused : SinkState → List ℕ → Type 0
@@ -26,7 +35,12 @@ taken_count s piece = min (min s.cut (length piece)) (s.room - length s.held)
 
 -- The sink after a call that took so many bytes of the piece.
 abbrev pub after_taking : SinkState → List ℕ → ℕ → SinkState
-after_taking s piece count = record s { held = s.held ++ take count piece; calls = counted s.calls; ended = ended_after s.ended false }
+after_taking s piece count = record s {
+  held = s.held ++ take count piece;
+  calls = counted s.calls;
+  ended =
+      ended_after s.ended false;
+}
 
 -- The sink after a call that failed.
 abbrev pub after_fault : SinkState → SinkState

@@ -14,7 +14,16 @@ pub record SourceState : Type 0 where
 
 -- Nothing was taken, and no call was made.
 abbrev pub fresh_source : List ℕ → ℕ → List ℕ → SourceState
-fresh_source bytes cut failing = record { left = bytes; cut = cut; failing = failing; calls = 0; faults = 0; ended = 0; idle = 0 }
+fresh_source bytes cut failing = record {
+  left = bytes;
+  cut = cut;
+  failing = failing;
+  calls = 0;
+  faults =
+      0;
+  ended = 0;
+  idle = 0;
+}
 
 -- The next call's number is among the failing ones.
 abbrev pub IsFailing : SourceState → Type 0
@@ -26,8 +35,20 @@ given_count s into = min (min s.cut (length into)) (length s.left)
 
 -- The source after a call that gave so many bytes for a buffer.
 abbrev pub after_giving : SourceState → ℕ → List ℕ → SourceState
-after_giving s count into = record s { left = drop count s.left; calls = counted s.calls; ended = ended_after s.ended (count == 0 && not (length into == 0)); idle = idle_after s.idle into }
+after_giving s count into = record s {
+  left = drop count s.left;
+  calls = counted s.calls;
+  ended =
+      ended_after s.ended (count == 0 && not (length into == 0));
+  idle = idle_after s.idle into;
+}
 
 -- The source after a call for a buffer that failed.
 abbrev pub after_fault : SourceState → List ℕ → SourceState
-after_fault s into = record s { calls = counted s.calls; faults = counted s.faults; ended = counted s.ended; idle = idle_after s.idle into }
+after_fault s into = record s {
+  calls = counted s.calls;
+  faults = counted s.faults;
+  ended =
+      counted s.ended;
+  idle = idle_after s.idle into;
+}

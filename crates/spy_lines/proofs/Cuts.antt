@@ -39,7 +39,8 @@ unended_more b (c ∷ cs) u =
     let one : length (b ∷ c ∷ cs) - 1 ≡ suc (length (c ∷ cs) - 1) = omega arith in
     (λ e. cc, rw one u.1)
 
-with_ends-begun_by : (b : ℕ) (bs : List ℕ) (ls : List (List ℕ)) → b ≢ 10 → (IsUnended (b ∷ bs) → ⊥) → with_ends ls ≡ bs → with_ends (begun_by b ls) ≡ b ∷ bs
+with_ends-begun_by : (b : ℕ) (bs : List ℕ) (ls : List (List ℕ)) → b ≢ 10 → (IsUnended (b ∷ bs) → ⊥) → with_ends ls ≡ bs
+    → with_ends (begun_by b ls) ≡ b ∷ bs
 with_ends-begun_by b bs (l ∷ ls) ne h e = ap (λ (xs : List ℕ). b ∷ xs) e
 with_ends-begun_by b [] [] ne h e = absurd (h (λ f. cc, λ f. ne cc))
 with_ends-begun_by b (c ∷ cs) [] ne h e = cc
@@ -52,7 +53,8 @@ with_ends-lines_of = by_bytes (λ bs ls. (IsUnended bs → ⊥) → with_ends ls
 
 begun_lines : (b : ℕ) (ls : List (List ℕ)) → b ≢ 10 → All IsLine ls → All IsLine (begun_by b ls)
 begun_lines b [] ne h = h
-begun_lines b (l ∷ ls) ne h = All-cons IsLine (b ∷ l) ls (All-cons (λ (c : ℕ). c ≢ 10) b l ne (h 0 l (omega arith))) (λ k d lt. h (suc k) d (omega arith))
+begun_lines b (l ∷ ls) ne h = All-cons IsLine (b ∷ l) ls (All-cons (λ (c : ℕ). c ≢ 10) b l ne (h 0 l (omega arith)))
+    (λ k d lt. h (suc k) d (omega arith))
 
 pub lines_lack_ends : (bs : List ℕ) → All IsLine (lines_of bs)
 lines_lack_ends = by_bytes (λ _ ls. All IsLine ls)
@@ -62,17 +64,27 @@ line_before : (at : ℕ) (bs : List ℕ) → IsFirstByte (is_byte 10) bs (Some a
 line_before at [] first = absurd (omega (arith, first.0.high))
 line_before zero (b ∷ bs) first = rw first.1 refl
 line_before (suc at) (b ∷ bs) first =
-    let later : IsFirstByte (is_byte 10) bs (Some at) =
-    (record { low = omega arith; high = omega (arith, first.0.high); before = λ k low lt. first.0.before (suc k) (omega arith) (omega arith) }, first.1) in
+    let later : IsFirstByte (is_byte 10) bs (Some at) = (
+      record {
+        low = omega arith;
+        high = omega (arith, first.0.high);
+        before =
+            λ k low lt. first.0.before (suc k) (omega arith) (omega arith);
+      },
+      first.1,
+    ) in
     cond_both (b == 10) _ _ (λ ls. ls ≡ (b ∷ take at bs) ∷ lines_of (drop (suc at) bs))
     (λ is. absurd (first.0.before 0 (omega arith) (omega arith) is)) (λ _. ap (begun_by b) (line_before at bs later))
 
 -- the first line is what stands before the first line feed
-pub first_line : (at : ℕ) (bs : List ℕ) → IsFirstByte (is_byte 10) bs (Some at) → lines_of bs ≡ take at bs ∷ lines_of (take (length bs - (at + 1)) (drop (at + 1) bs))
-first_line at bs first = line_before at bs first ∙ rw (take_all (length bs - (at + 1)) (drop (at + 1) bs) (omega (arith, length-drop (at + 1) bs)), add-one) refl
+pub first_line : (at : ℕ) (bs : List ℕ) → IsFirstByte (is_byte 10) bs (Some at)
+    → lines_of bs ≡ take at bs ∷ lines_of (take (length bs - (at + 1)) (drop (at + 1) bs))
+first_line at bs first = line_before at bs first
+    ∙ rw (take_all (length bs - (at + 1)) (drop (at + 1) bs) (omega (arith, length-drop (at + 1) bs)), add-one) refl
 
 pub no_line : (bs : List ℕ) → IsFirstByte (is_byte 10) bs None → lines_of bs ≡ []
 no_line [] none = refl
 no_line (b ∷ bs) none =
     cond_both (b == 10) _ _ (λ ls. ls ≡ [])
-    (λ is. absurd (none 0 (omega arith) (omega arith) is)) (λ _. ap (begun_by b) (no_line bs (λ k low lt. none (suc k) (omega arith) (omega arith))))
+    (λ is. absurd (none 0 (omega arith) (omega arith) is))
+    (λ _. ap (begun_by b) (no_line bs (λ k low lt. none (suc k) (omega arith) (omega arith))))

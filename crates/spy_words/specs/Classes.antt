@@ -105,13 +105,43 @@ pub record About : Type 1 where
 -- The table of the classes.
 abbrev pub about : Class → About
 about (number least) = record { Meaning = ℕ; word = decimal; IsGood = IsNumberFrom least; stand_in = 0 }
-about points = record { Meaning = List (ℕ × ℕ); word = list_word span_word; IsGood = λ ps. AllByRecursion IsSpan ps × IsTrue (ascends span_before ps); stand_in = [] }
-about fields = record { Meaning = List ℕ; word = list_word decimal; IsGood = λ ns. AllByRecursion (IsNumberFrom 0) ns × IsTrue (ascends nat_lt ns) × (ns ≢ []); stand_in = [] }
-about waits = record { Meaning = List ℕ; word = list_word decimal; IsGood = AllByRecursion (IsNumberFrom 1); stand_in = [] }
+about points = record {
+  Meaning = List (ℕ × ℕ);
+  word = list_word span_word;
+  IsGood =
+      λ ps. AllByRecursion IsSpan ps × IsTrue (ascends span_before ps);
+  stand_in = [];
+}
+about fields = record {
+  Meaning = List ℕ;
+  word = list_word decimal;
+  IsGood =
+      λ ns. AllByRecursion (IsNumberFrom 0) ns × IsTrue (ascends nat_lt ns) × (ns ≢ []);
+  stand_in = [];
+}
+about waits = record {
+  Meaning = List ℕ;
+  word = list_word decimal;
+  IsGood =
+      AllByRecursion (IsNumberFrom 1);
+  stand_in = [];
+}
 about split = record { Meaning = Bool; word = split_word; IsGood = λ b. Unit {0}; stand_in = false }
-about access = record { Meaning = PrivWord; word = access_word; IsGood = HasOperator; stand_in = privileges.Ro }
+about access = record {
+  Meaning = PrivWord;
+  word = access_word;
+  IsGood = HasOperator;
+  stand_in =
+      privileges.Ro;
+}
 about coherence = record { Meaning = Bool; word = coherence_word; IsGood = λ b. Unit {0}; stand_in = false }
-about layout = record { Meaning = InstKind; word = layout_word; IsGood = HoldsOperator; stand_in = instances.Plain }
+about layout = record {
+  Meaning = InstKind;
+  word = layout_word;
+  IsGood = HoldsOperator;
+  stand_in =
+      instances.Plain;
+}
 
 -- What a word of a class means.
 abbrev pub Meaning : Class → Type 0

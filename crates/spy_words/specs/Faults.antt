@@ -31,12 +31,14 @@ kept met (Ok x) other = (x, met)
 kept met (Err f) other = (other, met_with met f)
 
 -- The same of a part of a list: its value after the others, or none.
-abbrev pub with_part : {A : Type 0} → List A × Option LineFault → Result A LineFault → List A × Option LineFault
+abbrev pub with_part : {A : Type 0} → List A × Option LineFault → Result A LineFault → List A
+    × Option LineFault
 with_part p (Ok x) = (p.0 ++ x ∷ [], p.1)
 with_part p (Err f) = (p.0, met_with p.1 f)
 
 -- What each word says, after what was read before.
-abbrev pub each_after : {A : Type 0} → List A × Option LineFault → (List ℕ → Result A LineFault) → List (List ℕ) → Result (List A) LineFault
+abbrev pub each_after : {A : Type 0} → List A × Option LineFault → (List ℕ → Result A LineFault)
+    → List (List ℕ) → Result (List A) LineFault
 each_after p read [] = unless_met p.1 p.0
 each_after p read (w ∷ ws) = each_after (with_part p (read w)) read ws
 

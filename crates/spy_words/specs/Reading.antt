@@ -27,7 +27,8 @@ has_leading_zero w = nat_lt 1 (length w) && (slice_index w 0 == 48)
 unfoldable pub number_from : ℕ → List ℕ → Result ℕ LineFault
 number_from least w =
     if not (is_digits w) then Err Form
-    else if has_leading_zero w || nat_lt (digits_value 10 w) least || not (nat_lt (digits_value 10 w) (2 ^ 32)) then Err Number
+    else if has_leading_zero w || nat_lt (digits_value 10 w) least
+    || not (nat_lt (digits_value 10 w) (2 ^ 32)) then Err Number
     else Ok (digits_value 10 w)
 
 -- The second number exceeds the first.
@@ -73,9 +74,11 @@ meaning_at points w = tested Order (ascends span_before) (list_at (span_from 0) 
 meaning_at fields w = tested Order (ascends nat_lt) (tested Form has_some (list_at (number_from 0) w))
 meaning_at waits w = list_at (number_from 1) w
 meaning_at split w = text_at split_word (true ∷ false ∷ []) w (Err Form)
-meaning_at access w = text_at access_word (privileges.Ro ∷ privileges.Rw ∷ privileges.Wd ∷ []) w (map_ok (λ op. privileges.Red op) (operator_at w))
+meaning_at access w = text_at access_word (privileges.Ro ∷ privileges.Rw ∷ privileges.Wd ∷ []) w
+    (map_ok (λ op. privileges.Red op) (operator_at w))
 meaning_at coherence w = text_at coherence_word (true ∷ false ∷ []) w (Err Form)
-meaning_at layout w = text_at layout_word (instances.Plain ∷ instances.Home ∷ []) w (map_ok (λ op. instances.Red op) (operator_at w))
+meaning_at layout w = text_at layout_word (instances.Plain ∷ instances.Home ∷ []) w
+    (map_ok (λ op. instances.Red op) (operator_at w))
 
 -- Ids, at least one, each a word.
 abbrev pub ids_at : List (List ℕ) → Result (List ℕ) LineFault

@@ -16,18 +16,21 @@ chain_end nodes a [] b on = slice_get_within nodes b on.by on.by_is
 chain_end nodes a (next ∷ between) b chain = chain_end nodes next between b chain.1
 
 -- Nothing is before, or after, a node that is not there.
-pub before_none : (marks : Marks) (a b : ℕ) → (length marks.places ≤ a) ⊎ (length marks.places ≤ b) → (nodes : List Node) → AreMarksOf nodes marks → Before nodes a b → ⊥
+pub before_none : (marks : Marks) (a b : ℕ) → (length marks.places ≤ a) ⊎ (length marks.places ≤ b) → (nodes : List Node)
+    → AreMarksOf nodes marks → Before nodes a b → ⊥
 before_none marks a b (inl none) nodes are (between, chain) = omega (arith, none, are.places.each, chain_start nodes a between b chain)
 before_none marks a b (inr none) nodes are (between, chain) = omega (arith, none, are.places.each, chain_end nodes a between b chain)
 
 -- The order of two tasks by serial order, the one way and the other.
-pub turned : (t : Tables) (a b : ℕ) → serial_place t b < serial_place t a → IsKept t (a, b) ≡ Before (graph_of t.nodes) (run_of t b) (run_of t a)
+pub turned : (t : Tables) (a b : ℕ) → serial_place t b < serial_place t a
+    → IsKept t (a, b) ≡ Before (graph_of t.nodes) (run_of t b) (run_of t a)
 turned t a b lt = ap (λ (p : ℕ × ℕ). Before (graph_of t.nodes) (run_of t p.0) (run_of t p.1)) (order t a b lt)
   where
     order : (t : Tables) (a b : ℕ) → serial_place t b < serial_place t a → by_serial t (a, b) ≡ (b, a)
     order t a b lt = rw (lt-ltb _ _ lt) refl
 
-pub straight : (t : Tables) (a b : ℕ) → serial_place t a ≤ serial_place t b → IsKept t (a, b) ≡ Before (graph_of t.nodes) (run_of t a) (run_of t b)
+pub straight : (t : Tables) (a b : ℕ) → serial_place t a ≤ serial_place t b
+    → IsKept t (a, b) ≡ Before (graph_of t.nodes) (run_of t a) (run_of t b)
 straight t a b le = ap (λ (p : ℕ × ℕ). Before (graph_of t.nodes) (run_of t p.0) (run_of t p.1)) (order t a b le)
   where
     order : (t : Tables) (a b : ℕ) → serial_place t a ≤ serial_place t b → by_serial t (a, b) ≡ (a, b)

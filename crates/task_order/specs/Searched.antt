@@ -32,13 +32,16 @@ pub record IsSearched (t : Tables) (left : List Pair) (count : ℕ) : Type 0 whe
 
 -- After a stretch the search goes on, with so many pairs of tasks more.
 abbrev pub GoesOn : Tables → Stretch → ℕ → Type 0
-GoesOn t s n = (rest : List Pair) (count : ℕ) → IsSearched t (pairs_from s s.from ++ rest) count → IsSearched t rest (count + n)
+GoesOn t s n = (rest : List Pair) (count : ℕ) → IsSearched t (pairs_from s s.from ++ rest) count
+    → IsSearched t rest (count + n)
 
 -- The pair of a stretch with an item is the one that is shown.
 abbrev pub Shows : Tables → Stretch → ℕ → Type 0
-Shows t s b = (rest : List Pair) (count : ℕ) → IsSearched t (pairs_from s s.from ++ rest) count → IsShownPair t (s.a, b) × Contains (all_pairs t) (pair_in s b)
+Shows t s b = (rest : List Pair) (count : ℕ) → IsSearched t (pairs_from s s.from ++ rest) count
+    → IsShownPair t (s.a, b) × Contains (all_pairs t) (pair_in s b)
 
 -- What is said of the tasks of some tables: every two that interfere are run in serial order, and so many pairs there are; or the pair that is shown, with its least place.
 abbrev pub IsTaskOrder : Tables → TaskOrder → Type 0
 IsTaskOrder t (Kept pairs) = AreKept t × (pairs ≡ length (task_pairs t))
-IsTaskOrder t (Unordered a b place) = IsShownPair t (a, b) × (least_place t a b ≡ Some place) × (a < b) × (b < length t.items)
+IsTaskOrder t (Unordered a b place) =
+    IsShownPair t (a, b) × (least_place t a b ≡ Some place) × (a < b) × (b < length t.items)

@@ -51,7 +51,12 @@ record AreKept (t : Tables) : Type 0 where
   nodes : Each (λ (n : LogNode). OpKept t.insts n.op) t.nodes
 
 kind_still : (insts : List Inst) (x : Inst) (id : ℕ) (b : Bool) → IsOfKind insts id b → IsOfKind (insts ++ x ∷ []) id b
-kind_still insts x id b k = record { inst = k.inst; found = find_still (λ (i : Inst). i.id == id) insts (x ∷ []) k.inst k.found; kind = k.kind }
+kind_still insts x id b k = record {
+  inst = k.inst;
+  found = find_still (λ (i : Inst). i.id == id) insts (x ∷ []) k.inst k.found;
+  kind =
+      k.kind;
+}
 
 more_insts : (insts : List Inst) (x : Inst) (op : Op) → OpKept insts op → OpKept (insts ++ x ∷ []) op
 more_insts insts x (operations.Copy src dst space fields) h = kind_still insts x src false h
@@ -71,45 +76,76 @@ record Ruled (t : Tables) (r : Record) : Type 0 where
   kinds : is_of_wrong_kind t r ≡ false
 
 -- Where a map keeps the rule on kinds, its requirement and its instance are found.
-fit_by : (o : Option Req) (p : Option Inst) → not (option_map_or (λ (r : Req). option_map_or (λ (i : Inst). fits r.access i.kind) p false) o false) ≡ false
+fit_by : (o : Option Req) (p : Option Inst) → not
+    (option_map_or (λ (r : Req). option_map_or (λ (i : Inst). fits r.access i.kind) p false) o false) ≡ false
     → (r : Req) × (i : Inst) × (o ≡ Some r) × (p ≡ Some i) × (fits r.access i.kind ≡ true)
 fit_by (Some r) (Some i) e = (r, i, refl, refl, not-false _ e)
 fit_by _ _ e = absurd cc
 
 with_op : (t : Tables) (n : LogNode) → AreKept t → OpKept t.insts n.op → AreKept (record t { nodes = t.nodes ++ n ∷ [] })
-with_op t n h k = record { maps = λ m is. let f = h.maps m is in record { req = f.req; inst = f.inst; is_req = f.is_req; is_inst = f.is_inst; fit = f.fit }; nodes = each_more (λ (n : LogNode). OpKept t.insts n.op) t.nodes n h.nodes k }
+with_op t n h k = record {
+  maps = λ m is. let f = h.maps m is in
+      record { req = f.req; inst = f.inst; is_req = f.is_req; is_inst = f.is_inst; fit = f.fit };
+  nodes =
+      each_more (λ (n : LogNode). OpKept t.insts n.op) t.nodes n h.nodes k;
+}
 
 kept_with : (t : Tables) (line : ℕ) (r : Record) → Ruled t r → AreKept t → AreKept (with_record t line r)
 kept_with t line (records.Req task tree space fields access atomic) k h = record {
-  maps = λ m is. let f = h.maps m is in record { req = f.req; inst = f.inst; is_req = find_still (λ (r : Req). (r.item == m.item) && (r.number == m.number)) t.reqs _ f.req f.is_req; is_inst = f.is_inst; fit = f.fit };
+  maps = λ m is. let f = h.maps m is in record {
+    req = f.req;
+    inst = f.inst;
+    is_req =
+        find_still (λ (r : Req). (r.item == m.item) && (r.number == m.number)) t.reqs _ f.req f.is_req;
+    is_inst = f.is_inst;
+    fit = f.fit;
+  };
   nodes = h.nodes;
 }
 kept_with t line (records.Inst id tree space fields kind) k h = record {
-  maps = λ m is. let f = h.maps m is in record { req = f.req; inst = f.inst; is_req = f.is_req; is_inst = find_still (λ (i : Inst). i.id == m.inst) t.insts _ f.inst f.is_inst; fit = f.fit };
+  maps = λ m is. let f = h.maps m is in record {
+    req = f.req;
+    inst = f.inst;
+    is_req = f.is_req;
+    is_inst =
+        find_still (λ (i : Inst). i.id == m.inst) t.insts _ f.inst f.is_inst;
+    fit = f.fit;
+  };
   nodes = λ n m. more_insts t.insts _ n.op (h.nodes n m);
 }
 kept_with t line (records.Map task number fields inst) k h =
     let f = fit_by _ _ k.kinds in
-    let fit : IsFit t (record { item = place_of t.items task; number = number; fields = fields; inst = inst }) = record { req = f.0; inst = f.1; is_req = f.2; is_inst = f.3; fit = f.4 } in
+    let fit : IsFit t (record { item = place_of t.items task; number = number; fields = fields; inst = inst }) =
+    record { req = f.0; inst = f.1; is_req = f.2; is_inst = f.3; fit = f.4 } in
     let all = each_more (IsFit t) t.maps _ h.maps fit in
-    record { maps = λ m is. let f = all m is in record { req = f.req; inst = f.inst; is_req = f.is_req; is_inst = f.is_inst; fit = f.fit }; nodes = h.nodes }
+    record {
+      maps = λ m is. let f = all m is in record { req = f.req; inst = f.inst; is_req = f.is_req; is_inst = f.is_inst; fit = f.fit };
+      nodes = h.nodes;
+    }
 kept_with t line (records.Copy src dst space fields done waits) k h =
     let one = or_parts _ (src == dst) k.kinds in
     let two = or_parts (reduces_in t src) (reduces_in t dst) one.0 in
-    with_op t _ h (of_kind t src false (all_at (is_declared t) (names (records.Copy src dst space fields done waits)) (inst_id src) k.declared (inl refl)) two.0)
+    with_op t _ h (of_kind t src false (all_at (is_declared t) (names (records.Copy src dst space fields done waits))
+    (inst_id src) k.declared (inl refl)) two.0)
 kept_with t line (records.Reset inst space fields done waits) k h =
-    with_op t _ h (of_kind t inst true (all_at (is_declared t) (names (records.Reset inst space fields done waits)) (inst_id inst) k.declared (inl refl)) (not-false _ k.kinds))
+    with_op t _ h (of_kind t inst true (all_at (is_declared t) (names (records.Reset inst space fields done waits))
+    (inst_id inst) k.declared (inl refl)) (not-false _ k.kinds))
 kept_with t line (records.Run task done waits) k h = with_op t _ h tt
 kept_with t line (records.Fold src dst space fields done waits) k h = with_op t _ h tt
 kept_with t line (records.Put inst space fields n done waits) k h = with_op t _ h tt
 kept_with t line (records.Merge done waits) k h = with_op t _ h tt
-kept_with t line _ k h = record { maps = λ m is. let f = h.maps m is in record { req = f.req; inst = f.inst; is_req = f.is_req; is_inst = f.is_inst; fit = f.fit }; nodes = h.nodes }
+kept_with t line _ k h = record {
+  maps = λ m is. let f = h.maps m is in
+      record { req = f.req; inst = f.inst; is_req = f.is_req; is_inst = f.is_inst; fit = f.fit };
+  nodes = h.nodes;
+}
 
 ruled : (log : List Record) (earlier : List Lined) (r : Record) → Unbroken log earlier r → Ruled (tables_of earlier) r
 ruled log earlier r u = record { declared = (keeps_of log earlier r u).declared; kinds = rule_kept codes.WrongKind refl u }
 
 kept : (log : List Lined) → IsFaultless Check log → AreKept (tables_of log)
-kept log f = by_records (λ r. Unit {0}) AreKept (records_of log) (λ earlier l u _. kept_with (tables_of earlier) l.line l.rec (ruled (records_of log) earlier l.rec u))
+kept log f = by_records (λ r. Unit {0}) AreKept (records_of log)
+    (λ earlier l u _. kept_with (tables_of earlier) l.line l.rec (ruled (records_of log) earlier l.rec u))
     [] log (recursion_from_All _ (records_of log) (λ k d lt. tt)) f.records (record { maps = λ m is. absurd is; nodes = λ n m. absurd m })
 
 -- ---- moves
@@ -125,25 +161,31 @@ no_reduction privileges.Wd kind r e = absurd cc
 no_reduction (privileges.Red op) kind r e = absurd cc
 no_reduction p kind r e = refl
 
-module _ (t : Tables) (sane : AreSane t) (whole : (r : Req) (field : ℕ) → Member t.reqs r → Member r.fields field → is_some (mapped t r field) ≡ true) (kept : AreKept t) where
+module _ (t : Tables) (sane : AreSane t) (whole : (r : Req) (field : ℕ) → Member t.reqs r → Member r.fields field
+    → is_some (mapped t r field) ≡ true) (kept : AreKept t) where
   -- The instance to which a field of a requirement that reads is mapped does not reduce.
-  mapped_kept : (r : Req) (p : ℕ × ℕ) → Member t.reqs r → Member (req_grid t r) p → may_read r.access ≡ true → reduces_in t (mapped_cell t r p).inst ≡ false
-  mapped_kept r p is at may = elim (none_or_some (find (λ (m : Map). (m.item == r.item) && ((m.number == r.number) && is_in m.fields p.1)) t.maps)) [
-    | inl none ↦ absurd (true≢false (sym (whole r p.1 is (member_grid (points_in t r.space) r.fields p at).1) ∙ rw none refl))
-    | inr some ↦
-        let m : Map = some.0 in
-        let found = found_at (λ (m : Map). (m.item == r.item) && ((m.number == r.number) && is_in m.fields p.1)) t.maps m some.1 in
-        let f : IsFit t m = kept.maps m found.0 in
-        let named = found_at (λ (r : Req). (r.item == m.item) && (r.number == m.number)) t.reqs f.req f.is_req in
-        elim (two_reqs t sane f.req r named.0 is (grind (arith, nat_tests, found.1, named.1))) [
-          | inl one ↦ rw (some.1, f.is_inst) (no_reduction r.access f.inst.kind may (subst (λ (q : Req). fits q.access f.inst.kind ≡ true) one f.fit))
-          | inr two ↦ absurd (two.0 (grind (arith, nat_tests, found.1, named.1)))
-        ]
-  ]
+  mapped_kept : (r : Req) (p : ℕ × ℕ) → Member t.reqs r → Member (req_grid t r) p → may_read r.access ≡ true
+      → reduces_in t (mapped_cell t r p).inst ≡ false
+  mapped_kept r p is at may =
+      elim (none_or_some (find (λ (m : Map). (m.item == r.item) && ((m.number == r.number) && is_in m.fields p.1)) t.maps)) [
+        | inl none ↦ absurd (true≢false (sym (whole r p.1 is (member_grid (points_in t r.space) r.fields p at).1) ∙ rw none refl))
+        | inr some ↦
+            let m : Map = some.0 in
+            let found = found_at (λ (m : Map). (m.item == r.item) && ((m.number == r.number) && is_in m.fields p.1)) t.maps m some.1 in
+            let f : IsFit t m = kept.maps m found.0 in
+            let named = found_at (λ (r : Req). (r.item == m.item) && (r.number == m.number)) t.reqs f.req f.is_req in
+            elim (two_reqs t sane f.req r named.0 is (grind (arith, nat_tests, found.1, named.1))) [
+              | inl one ↦ rw (some.1, f.is_inst) (no_reduction r.access f.inst.kind may
+                  (subst (λ (q : Req). fits q.access f.inst.kind ≡ true) one f.fit))
+              | inr two ↦ absurd (two.0 (grind (arith, nat_tests, found.1, named.1)))
+            ]
+      ]
 
   module _ (item task : ℕ) where
-    read_kept : (r : Req) (p : ℕ × ℕ) (m : Move) → Member t.reqs r → Member (req_grid t r) p → Member (reads_by task r.number r.access (mapped_cell t r p)) m → KeepsAway t m
-    read_kept r p m is at done = cond_both (may_read r.access) (moves.Read task r.number (mapped_cell t r p) ∷ []) [] (λ ms. Member ms m → KeepsAway t m)
+    read_kept : (r : Req) (p : ℕ × ℕ) (m : Move) → Member t.reqs r → Member (req_grid t r) p
+        → Member (reads_by task r.number r.access (mapped_cell t r p)) m → KeepsAway t m
+    read_kept r p m is at done = cond_both (may_read r.access) (moves.Read task r.number (mapped_cell t r p) ∷ []) [] (λ ms. Member ms m
+        → KeepsAway t m)
         (λ may h. subst (KeepsAway t) (sym (only h)) (mapped_kept r p is at may))
         (λ no h. absurd h) done
 
@@ -153,7 +195,9 @@ module _ (t : Tables) (sane : AreSane t) (whole : (r : Req) (field : ℕ) → Me
     change_kept number privileges.Wd c m is = subst (KeepsAway t) (sym (only is)) tt
     change_kept number (privileges.Red op) c m is = subst (KeepsAway t) (sym (only is)) tt
 
-    cells_kept : (does : Req → Cell → List Move) → ((r : Req) (p : ℕ × ℕ) (m : Move) → Member t.reqs r → Member (req_grid t r) p → Member (does r (mapped_cell t r p)) m → KeepsAway t m)
+    cells_kept : (does : Req → Cell → List Move)
+        → ((r : Req) (p : ℕ × ℕ) (m : Move) → Member t.reqs r → Member (req_grid t r) p → Member (does r (mapped_cell t r p)) m
+        → KeepsAway t m)
         → (m : Move) → Member (at_cells t does (reqs_of t item)) m → KeepsAway t m
     cells_kept does each m is =
         let r = member_flat (λ r. flat_map (λ p. does r (mapped_cell t r p)) (req_grid t r)) (reqs_of t item) m is in
@@ -161,10 +205,12 @@ module _ (t : Tables) (sane : AreSane t) (whole : (r : Req) (field : ℕ) → Me
         each r.0 p.0 m (member_filter (λ (r : Req). r.item == item) t.reqs r.0 r.1).0 p.1 p.2
 
     run_kept : (m : Move) → Member (run_moves t task (reqs_of t item)) m → KeepsAway t m
-    run_kept m is = elim (member_append (at_cells t (λ r c. reads_by task r.number r.access c) (reqs_of t item)) (at_cells t (λ r c. changes_by task r.number r.access c) (reqs_of t item)) m is) [
-      | inl a ↦ cells_kept (λ r c. reads_by task r.number r.access c) read_kept m a
-      | inr b ↦ cells_kept (λ r c. changes_by task r.number r.access c) (λ r p m _ _ done. change_kept r.number r.access (mapped_cell t r p) m done) m b
-    ]
+    run_kept m is = elim (member_append (at_cells t (λ r c. reads_by task r.number r.access c) (reqs_of t item))
+        (at_cells t (λ r c. changes_by task r.number r.access c) (reqs_of t item)) m is) [
+          | inl a ↦ cells_kept (λ r c. reads_by task r.number r.access c) read_kept m a
+          | inr b ↦ cells_kept (λ r c. changes_by task r.number r.access c)
+              (λ r p m _ _ done. change_kept r.number r.access (mapped_cell t r p) m done) m b
+        ]
 
   act_kept : (act : DataAct) (p : ℕ × ℕ) → ActKept t.insts act → KeepsAway t (move_of t act p)
   act_kept (Copies src dst) p h = (kind_is t src false h, refl)
@@ -172,7 +218,8 @@ module _ (t : Tables) (sane : AreSane t) (whole : (r : Req) (field : ℕ) → Me
   act_kept (Resets inst) p h = kind_is t inst true h
   act_kept (Folds src dst) p h = tt
 
-  data_kept : (o : Option DataOp) → IfSome o (λ (d : DataOp). ActKept t.insts d.act) → (m : Move) → Member (data_moves t o) m → KeepsAway t m
+  data_kept : (o : Option DataOp) → IfSome o (λ (d : DataOp). ActKept t.insts d.act) → (m : Move) → Member (data_moves t o) m
+      → KeepsAway t m
   data_kept None h m is = absurd is
   data_kept (Some d) h m is =
       let p = member_map (move_of t d.act) (grid (points_in t d.space) d.fields) m is in
@@ -182,9 +229,11 @@ module _ (t : Tables) (sane : AreSane t) (whole : (r : Req) (field : ℕ) → Me
   op_kept (operations.Run item) h m is = run_kept item (id_of t item) m is
   op_kept op h m is = data_kept (data_of op) h m is
 
-pub steps_kept : (log : List Lined) → IsFaultless Check log → (x : Step) → Member (steps (tables_of log)) x → KeepsAway (tables_of log) x.move
+pub steps_kept : (log : List Lined) → IsFaultless Check log → (x : Step) → Member (steps (tables_of log)) x
+    → KeepsAway (tables_of log) x.move
 steps_kept log f x m =
     let t = tables_of log in
     let of = of_node t _ x m in
     let k = kept log f in
-    op_kept t (sane Check log f) (all_mapped log f) k of.node.op (k.nodes of.node (member_at t.nodes x.node of.node of.is_node)) x.move of.is_move
+    op_kept t (sane Check log f) (all_mapped log f) k of.node.op
+    (k.nodes of.node (member_at t.nodes x.node of.node of.is_node)) x.move of.is_move

@@ -39,20 +39,24 @@ one_copied l [] e h = absurd h
 one_copied l (r ∷ rest) e h = (e, h)
 
 module _ (t : Tables) where
-  ends_by : (x : Step) (k : Touch) (c : Cell) (n : ℕ) (before : Cell → ℕ → List Source) → TellsCopies x.move k → ((c : Cell) (n : ℕ) → EndsInOrigin (map (link_of t) (before c n))) → EndsInOrigin (map (link_of t) (with_last x k c n before))
+  ends_by : (x : Step) (k : Touch) (c : Cell) (n : ℕ) (before : Cell → ℕ → List Source) → TellsCopies x.move k
+      → ((c : Cell) (n : ℕ) → EndsInOrigin (map (link_of t) (before c n))) → EndsInOrigin (map (link_of t) (with_last x k c n before))
   unfolding TellsCopies
   ends_by x Leaves c n before tells h = h c n
   ends_by x Adds c n before tells h = h c (n + 1)
   ends_by x Puts c n before tells h = tells
-  ends_by x (Takes from) c n before tells h = one_copied (link_of t (record { by = Some x; cell = c; adds = n })) (map (link_of t) (before from 0)) tells (h from 0)
+  ends_by x (Takes from) c n before tells h = one_copied (link_of t (record { by = Some x; cell = c; adds = n }))
+      (map (link_of t) (before from 0)) tells (h from 0)
 
   ends : (earlier : List Step) (c : Cell) (n : ℕ) → EndsInOrigin (map (link_of t) (sources_of earlier c n))
   ends [] c n = λ e. cc
   ends (x ∷ earlier) c n = ends_by x (touch x.move c) c n (sources_of earlier) (tells_copies x.move c) (ends earlier)
 
-  ends_read : (earlier : List Step) (o : Option Cell) (ls : List Source) → option_map (λ c. sources_of earlier c 0) o ≡ Some ls → EndsInOrigin (map (link_of t) ls)
+  ends_read : (earlier : List Step) (o : Option Cell) (ls : List Source) → option_map (λ c. sources_of earlier c 0) o ≡ Some ls
+      → EndsInOrigin (map (link_of t) ls)
   ends_read earlier None ls e = absurd cc
-  ends_read earlier (Some c) ls e = subst (λ ls. EndsInOrigin (map (link_of t) ls)) (same_Some (sources_of earlier c 0) ls e) (ends earlier c 0)
+  ends_read earlier (Some c) ls e = subst (λ ls. EndsInOrigin (map (link_of t) ls)) (same_Some (sources_of earlier c 0) ls e)
+      (ends earlier c 0)
 
   pub comes_ends : (earlier xs : List Step) (x : Step) (ls : List Source) → ComesFrom earlier xs x ls → EndsInOrigin (map (link_of t) ls)
   comes_ends earlier [] x ls c = absurd c
@@ -61,7 +65,8 @@ module _ (t : Tables) where
 
 -- ---- the steps of sources are steps that were taken
 
-by_last : (y : Step) (k : Touch) (c : Cell) (n : ℕ) (earlier : List Step) → ((c : Cell) (n : ℕ) (s : Source) (x : Step) → Member (sources_of earlier c n) s → s.by ≡ Some x → Member earlier x)
+by_last : (y : Step) (k : Touch) (c : Cell) (n : ℕ) (earlier : List Step)
+    → ((c : Cell) (n : ℕ) (s : Source) (x : Step) → Member (sources_of earlier c n) s → s.by ≡ Some x → Member earlier x)
     → (s : Source) (x : Step) → Member (with_last y k c n (sources_of earlier)) s → s.by ≡ Some x → Member (y ∷ earlier) x
 by_last y Leaves c n earlier before s x m e = inr (before c n s x m e)
 by_last y Adds c n earlier before s x m e = inr (before c (n + 1) s x m e)
@@ -69,15 +74,19 @@ by_last y Puts c n earlier before s x m e = inl (same_Some x y (sym e ∙ ap (λ
 by_last y (Takes from) c n earlier before s x (inl is) e = inl (same_Some x y (sym e ∙ ap (λ (s : Source). s.by) is))
 by_last y (Takes from) c n earlier before s x (inr m) e = inr (before from 0 s x m e)
 
-by_earlier : (earlier : List Step) (c : Cell) (n : ℕ) (s : Source) (x : Step) → Member (sources_of earlier c n) s → s.by ≡ Some x → Member earlier x
+by_earlier : (earlier : List Step) (c : Cell) (n : ℕ) (s : Source) (x : Step) → Member (sources_of earlier c n) s → s.by ≡ Some x
+    → Member earlier x
 by_earlier [] c n s x m e = let bad = sym e ∙ ap (λ (s : Source). s.by) (only m) in absurd cc
 by_earlier (y ∷ earlier) c n s x m e = by_last y (touch y.move c) c n earlier (by_earlier earlier) s x m e
 
-by_read : (earlier : List Step) (o : Option Cell) (ls : List Source) (s : Source) (x : Step) → option_map (λ c. sources_of earlier c 0) o ≡ Some ls → Member ls s → s.by ≡ Some x → Member earlier x
+by_read : (earlier : List Step) (o : Option Cell) (ls : List Source) (s : Source) (x : Step)
+    → option_map (λ c. sources_of earlier c 0) o ≡ Some ls → Member ls s → s.by ≡ Some x → Member earlier x
 by_read earlier None ls s x e m is = absurd cc
-by_read earlier (Some c) ls s x e m is = by_earlier earlier c 0 s x (subst (λ ls. Member ls s) (sym (same_Some (sources_of earlier c 0) ls e)) m) is
+by_read earlier (Some c) ls s x e m is = by_earlier earlier c 0 s x
+    (subst (λ ls. Member ls s) (sym (same_Some (sources_of earlier c 0) ls e)) m) is
 
-pub comes_of : (earlier xs : List Step) (e : Step) (ls : List Source) → ComesFrom earlier xs e ls → (s : Source) (x : Step) → Member ls s → s.by ≡ Some x → Member earlier x ⊎ Member xs x
+pub comes_of : (earlier xs : List Step) (e : Step) (ls : List Source) → ComesFrom earlier xs e ls → (s : Source) (x : Step) → Member ls s
+    → s.by ≡ Some x → Member earlier x ⊎ Member xs x
 comes_of earlier [] e ls c s x m is = absurd c
 comes_of earlier (y ∷ xs) e ls (inl h) s x m is = inl (by_read earlier (cell_read y.move) ls s x h.1 m is)
 comes_of earlier (y ∷ xs) e ls (inr h) s x m is = elim (comes_of (y ∷ earlier) xs e ls h s x m is) [
@@ -98,7 +107,8 @@ unfolding TakesThere touch
 takes_there t (Read task req cell) c k = tt
 takes_there t (Write task cell) c k = cond_both (same_cell c cell) Puts Leaves (TakesThere c) (λ e. tt) (λ e. tt)
 takes_there t (Reduce task req op cell) c k = cond_both (same_cell c cell) Adds Leaves (TakesThere c) (λ e. tt) (λ e. tt)
-takes_there t (Copy from to) c k = cond_both (same_cell c to) (Takes from) Leaves (TakesThere c) (λ e. k.1 ∙ ap place (sym (one_cell c to e))) (λ e. tt)
+takes_there t (Copy from to) c k = cond_both (same_cell c to) (Takes from) Leaves (TakesThere c) (λ e. k.1
+    ∙ ap place (sym (one_cell c to e))) (λ e. tt)
 takes_there t (Put cell n) c k = cond_both (same_cell c cell) Puts Leaves (TakesThere c) (λ e. tt) (λ e. tt)
 takes_there t (Reset cell) c k = tt
 takes_there t (Fold op from to) c k = cond_both (same_cell c to) Adds Leaves (TakesThere c) (λ e. tt) (λ e. tt)
@@ -106,7 +116,8 @@ takes_there t (Fold op from to) c k = cond_both (same_cell c to) Adds Leaves (Ta
 abbrev pub AreThere : Cell → List Source → Type 0
 AreThere c ls = (s : Source) → Member ls s → place s.cell ≡ place c
 
-there_by : (x : Step) (k : Touch) (c : Cell) (n : ℕ) (before : Cell → ℕ → List Source) → TakesThere c k → ((c : Cell) (n : ℕ) → AreThere c (before c n)) → AreThere c (with_last x k c n before)
+there_by : (x : Step) (k : Touch) (c : Cell) (n : ℕ) (before : Cell → ℕ → List Source) → TakesThere c k
+    → ((c : Cell) (n : ℕ) → AreThere c (before c n)) → AreThere c (with_last x k c n before)
 unfolding TakesThere
 there_by x Leaves c n before takes h s m = h c n s m
 there_by x Adds c n before takes h s m = h c (n + 1) s m
@@ -114,16 +125,25 @@ there_by x Puts c n before takes h s m = ap (λ (s : Source). place s.cell) (onl
 there_by x (Takes from) c n before takes h s (inl is) = ap (λ (s : Source). place s.cell) is
 there_by x (Takes from) c n before takes h s (inr m) = h from 0 s m ∙ takes
 
-there : (t : Tables) (earlier : List Step) → ((x : Step) → Member earlier x → KeepsAway t x.move) → (c : Cell) (n : ℕ) → AreThere c (sources_of earlier c n)
+there : (t : Tables) (earlier : List Step) → ((x : Step) → Member earlier x → KeepsAway t x.move) → (c : Cell) (n : ℕ)
+    → AreThere c (sources_of earlier c n)
 there t [] keeps c n = λ s m. ap (λ (s : Source). place s.cell) (only m)
-there t (x ∷ earlier) keeps c n = there_by x (touch x.move c) c n (sources_of earlier) (takes_there t x.move c (keeps x (inl refl))) (there t earlier (λ y m. keeps y (inr m)))
+there t (x ∷ earlier) keeps c n = there_by x (touch x.move c) c n (sources_of earlier) (takes_there t x.move c (keeps x (inl refl)))
+    (there t earlier (λ y m. keeps y (inr m)))
 
-pub comes_there : (t : Tables) (earlier xs : List Step) → ((x : Step) → Member earlier x → KeepsAway t x.move) → ((x : Step) → Member xs x → KeepsAway t x.move)
+pub comes_there : (t : Tables) (earlier xs : List Step) → ((x : Step) → Member earlier x → KeepsAway t x.move)
+    → ((x : Step) → Member xs x → KeepsAway t x.move)
     → (e : Step) (ls : List Source) → ComesFrom earlier xs e ls → (c : Cell) → cell_read e.move ≡ Some c → AreThere c ls
 comes_there t earlier [] before keeps e ls h c reads = absurd h
 comes_there t earlier (x ∷ xs) before keeps e ls (inl h) c reads =
     let cell : cell_read x.move ≡ Some c = ap (λ (y : Step). cell_read y.move) (sym h.0) ∙ reads in
-    let same : sources_of earlier c 0 ≡ ls = same_Some (sources_of earlier c 0) ls (sym (ap (option_map (λ c. sources_of earlier c 0)) cell) ∙ h.1) in
+    let same : sources_of earlier c 0 ≡ ls = same_Some (sources_of earlier c 0) ls (sym (ap (option_map (λ c. sources_of earlier c 0)) cell)
+    ∙ h.1) in
     subst (AreThere c) same (there t earlier before c 0)
 comes_there t earlier (x ∷ xs) before keeps e ls (inr h) c reads =
-    comes_there t (x ∷ earlier) xs (λ y m. elim m [ inl is ↦ subst (λ (y : Step). KeepsAway t y.move) (sym is) (keeps x (inl refl)) | inr b ↦ before y b ]) (λ y m. keeps y (inr m)) e ls h c reads
+    comes_there t (x ∷ earlier) xs (λ y m. elim m [
+      | inl is ↦
+          subst (λ (y : Step). KeepsAway t y.move) (sym is) (keeps x (inl refl))
+      | inr b ↦ before y b
+    ])
+    (λ y m. keeps y (inr m)) e ls h c reads

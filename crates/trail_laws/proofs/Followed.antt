@@ -60,12 +60,14 @@ unfolding Tells fixes changes
 puts_tell at c true other e = (ap changes e, ap fixes e)
 puts_tell at c false other e = tt
 
-adds_tell : (at : Cell → Access) (c : Cell) (b : Bool) (here other : Access) → changes here ≡ true → at c ≡ cond b here other → Tells at c (cond b Adds Leaves)
+adds_tell : (at : Cell → Access) (c : Cell) (b : Bool) (here other : Access) → changes here ≡ true → at c ≡ cond b here other
+    → Tells at c (cond b Adds Leaves)
 unfolding Tells fixes changes
 adds_tell at c true here other h e = ap changes e ∙ h
 adds_tell at c false here other h e = tt
 
-takes_tell : (at : Cell → Access) (c from : Cell) (b : Bool) (here other : Access) → here ≡ Writes → at c ≡ cond b here other → fixes (at from) ≡ true → Tells at c (cond b (Takes from) Leaves)
+takes_tell : (at : Cell → Access) (c from : Cell) (b : Bool) (here other : Access) → here ≡ Writes → at c ≡ cond b here other
+    → fixes (at from) ≡ true → Tells at c (cond b (Takes from) Leaves)
 unfolding Tells fixes changes
 takes_tell at c from true here other h e f = (ap changes (e ∙ h), ap fixes (e ∙ h), f)
 takes_tell at c from false here other h e f = tt
@@ -89,11 +91,14 @@ tells : (m : Move) (c : Cell) → Tells (access m) c (touch m c)
 unfolding Tells touch
 tells (Read task req cell) c = tt
 tells (Write task cell) c = puts_tell (access (Write task cell)) c (same_cell c cell) Untouched refl
-tells (Reduce task req op cell) c = adds_tell (access (Reduce task req op cell)) c (same_cell c cell) (Folds op) Untouched (fold_changes false op) refl
-tells (Copy from to) c = takes_tell (access (Copy from to)) c from (same_cell c to) (cond (same_cell c from) Writes Writes) (at_cell from Reads c) (copy_writes (same_cell c from)) refl (copy_fixes (same_cell from to) (same_cell from from) (same_itself from))
+tells (Reduce task req op cell) c = adds_tell (access (Reduce task req op cell)) c (same_cell c cell) (Folds op) Untouched
+    (fold_changes false op) refl
+tells (Copy from to) c = takes_tell (access (Copy from to)) c from (same_cell c to) (cond (same_cell c from) Writes Writes)
+    (at_cell from Reads c) (copy_writes (same_cell c from)) refl (copy_fixes (same_cell from to) (same_cell from from) (same_itself from))
 tells (Put cell n) c = puts_tell (access (Put cell n)) c (same_cell c cell) Untouched refl
 tells (Reset cell) c = tt
-tells (Fold op from to) c = adds_tell (access (Fold op from to)) c (same_cell c to) (cond (same_cell c from) Writes (Folds op)) (at_cell from Reads c) (fold_changes (same_cell c from) op) refl
+tells (Fold op from to) c = adds_tell (access (Fold op from to)) c (same_cell c to) (cond (same_cell c from) Writes (Folds op))
+    (at_cell from Reads c) (fold_changes (same_cell c from) op) refl
 
 -- A cell is left where the move may not change it.
 quiet_by : (at : Cell → Access) (c : Cell) (k : Touch) → Tells at c k → (changes (at c) ≡ true → ⊥) → k ≡ Leaves
@@ -132,7 +137,8 @@ looks x o = option_map o (cell_read x.move)
 abbrev pub held : List Step → Origins
 held earlier c = sources_of earlier c 0
 
-more_by : (x : Step) (k : Touch) (c : Cell) (n : ℕ) (before : Cell → ℕ → List Source) → ((c : Cell) (n : ℕ) → before c (n + 1) ≡ added (before c n)) → with_last x k c (n + 1) before ≡ added (with_last x k c n before)
+more_by : (x : Step) (k : Touch) (c : Cell) (n : ℕ) (before : Cell → ℕ → List Source)
+    → ((c : Cell) (n : ℕ) → before c (n + 1) ≡ added (before c n)) → with_last x k c (n + 1) before ≡ added (with_last x k c n before)
 unfolding added
 more_by x Leaves c n before more = more c n
 more_by x Adds c n before more = more c (n + 1)
@@ -157,17 +163,21 @@ unfolding follow
 followed x earlier = fun_ext (λ c. followed_by x earlier c (touch x.move c))
 
 -- What comes from sources is seen, and what is seen comes from them.
-pub seen_from : (earlier xs : List Step) (e : Step) (ls : List Source) → ComesFrom earlier xs e ls → SeesIn follow looks xs (held earlier) e ls
+pub seen_from : (earlier xs : List Step) (e : Step) (ls : List Source) → ComesFrom earlier xs e ls
+    → SeesIn follow looks xs (held earlier) e ls
 unfolding looks
 seen_from earlier [] e ls h = absurd h
 seen_from earlier (x ∷ xs) e ls (inl h) = inl h
-seen_from earlier (x ∷ xs) e ls (inr h) = inr (subst (λ o. SeesIn follow looks xs o e ls) (sym (followed x earlier)) (seen_from (x ∷ earlier) xs e ls h))
+seen_from earlier (x ∷ xs) e ls (inr h) =
+    inr (subst (λ o. SeesIn follow looks xs o e ls) (sym (followed x earlier)) (seen_from (x ∷ earlier) xs e ls h))
 
-pub from_seen : (earlier xs : List Step) (e : Step) (ls : List Source) → SeesIn follow looks xs (held earlier) e ls → ComesFrom earlier xs e ls
+pub from_seen : (earlier xs : List Step) (e : Step) (ls : List Source) → SeesIn follow looks xs (held earlier) e ls
+    → ComesFrom earlier xs e ls
 unfolding looks
 from_seen earlier [] e ls h = absurd h
 from_seen earlier (x ∷ xs) e ls (inl h) = inl h
-from_seen earlier (x ∷ xs) e ls (inr h) = inr (from_seen (x ∷ earlier) xs e ls (subst (λ o. SeesIn follow looks xs o e ls) (followed x earlier) h))
+from_seen earlier (x ∷ xs) e ls (inr h) =
+    inr (from_seen (x ∷ earlier) xs e ls (subst (λ o. SeesIn follow looks xs o e ls) (followed x earlier) h))
 
 -- ---- steps that conflict at no cell
 
@@ -179,16 +189,19 @@ module _ (x y : Step) (calm : IsCalm x.move y.move) (o : Origins) where
   left_by_second : (c : Cell) → fixes (access x.move c) ≡ true → touch y.move c ≡ Leaves
   left_by_second c f = quiet y.move c (λ ch. clash (access x.move c) (access y.move c) (calm c) f ch)
 
-  turn_by : (c : Cell) (k l : Touch) → touch x.move c ≡ k → touch y.move c ≡ l → Tells (access x.move) c k → Tells (access y.move) c l → given y l c (follow x o) ≡ given x k c (follow y o)
+  turn_by : (c : Cell) (k l : Touch) → touch x.move c ≡ k → touch y.move c ≡ l → Tells (access x.move) c k → Tells (access y.move) c l
+      → given y l c (follow x o) ≡ given x k c (follow y o)
   unfolding given follow Tells
   turn_by c Leaves Leaves i j f g = ap (λ k. given x k c o) i ∙ sym (ap (λ l. given y l c o) j)
   turn_by c Leaves Adds i j f g = ap (λ k. added (given x k c o)) i ∙ sym (ap (λ l. given y l c o) j)
   turn_by c Leaves Puts i j f g = sym (ap (λ l. given y l c o) j)
-  turn_by c Leaves (Takes from) i j f g = ap (λ k. record { by = Some y; cell = c; adds = 0 } ∷ given x k from o) (left_by_first from g.2) ∙ sym (ap (λ l. given y l c o) j)
+  turn_by c Leaves (Takes from) i j f g = ap (λ k. record { by = Some y; cell = c; adds = 0 } ∷ given x k from o) (left_by_first from g.2)
+      ∙ sym (ap (λ l. given y l c o) j)
   turn_by c Adds Leaves i j f g = ap (λ k. given x k c o) i ∙ sym (ap (λ l. added (given y l c o)) j)
   turn_by c Adds Adds i j f g = ap (λ k. added (given x k c o)) i ∙ sym (ap (λ l. added (given y l c o)) j)
   turn_by c Puts Leaves i j f g = ap (λ k. given x k c o) i
-  turn_by c (Takes from) Leaves i j f g = ap (λ k. given x k c o) i ∙ sym (ap (λ l. record { by = Some x; cell = c; adds = 0 } ∷ given y l from o) (left_by_second from f.2))
+  turn_by c (Takes from) Leaves i j f g = ap (λ k. given x k c o) i
+      ∙ sym (ap (λ l. record { by = Some x; cell = c; adds = 0 } ∷ given y l from o) (left_by_second from f.2))
   turn_by c Adds Puts i j f g = absurd (clash_back (access x.move c) (access y.move c) (calm c) f g.1)
   turn_by c Adds (Takes from) i j f g = absurd (clash_back (access x.move c) (access y.move c) (calm c) f g.1)
   turn_by c Puts Adds i j f g = absurd (clash (access x.move c) (access y.move c) (calm c) f.1 g)
@@ -208,7 +221,8 @@ read_fixes task req c = ap (λ b. fixes (cond b Reads Untouched)) (same_itself c
 
 keep_at : (x : Step) (m : Move) → IsCalm x.move m → (o : Origins) → option_map (follow x o) (cell_read m) ≡ option_map o (cell_read m)
 unfolding follow given
-keep_at x (Read task req c) calm o = ap (λ k. Some (given x k c o)) (quiet x.move c (λ ch. clash_back (access x.move c) (access (Read task req c) c) (calm c) ch (read_fixes task req c)))
+keep_at x (Read task req c) calm o = ap (λ k. Some (given x k c o))
+    (quiet x.move c (λ ch. clash_back (access x.move c) (access (Read task req c) c) (calm c) ch (read_fixes task req c)))
 keep_at x _ calm o = refl
 
 pub keep : (x y : Step) → IsCalm x.move y.move → (o : Origins) → looks y (follow x o) ≡ looks y o

@@ -67,7 +67,8 @@ act_reads t (Folds src dst) p = refl
 
 data_reads : (t : Tables) (o : Option DataOp) (m : Move) → Member (data_moves t o) m → is_read m ≡ false
 data_reads t None m is = absurd is
-data_reads t (Some d) m is = let p = member_map (move_of t d.act) (grid (points_in t d.space) d.fields) m is in ap is_read p.2 ∙ act_reads t d.act p.0
+data_reads t (Some d) m is = let p = member_map (move_of t d.act) (grid (points_in t d.space) d.fields) m is in
+    ap is_read p.2 ∙ act_reads t d.act p.0
 
 read_of : (t : Tables) (op : Op) (m : Move) → Member (moves_of t op) m → is_read m ≡ true → IsReadOf t op m
 read_of t (operations.Run item) m is read =
@@ -76,7 +77,15 @@ read_of t (operations.Run item) m is read =
     elim (member_append (at_cells t (reads task) rs) (at_cells t (changes task) rs) m is) [
       | inl r ↦
           let of = is_of t rs (reads task) m r in
-          record { item = item; runs = refl; req = of.req; at = of.at; is_req = of.is_req; is = read_is task of.req.number of.req.access (mapped_cell t of.req of.at) m of.is_done }
+          record {
+            item = item;
+            runs = refl;
+            req = of.req;
+            at = of.at;
+            is_req = of.is_req;
+            is =
+                read_is task of.req.number of.req.access (mapped_cell t of.req of.at) m of.is_done;
+          }
       | inr c ↦ absurd (true≢false (sym read ∙ no_read task t rs m (is_of t rs (changes task) m c)))
     ]
 read_of t op m is read = absurd (true≢false (sym read ∙ data_reads t (data_of op) m is))
@@ -96,7 +105,8 @@ module _ (log : List Lined) (f : IsFaultless Check log) (ask : Ask) where
   t = tables_of log
 
   -- Reads of one task, for one requirement, at one point and field are one.
-  one_move : (i : ℕ) (q r : Req) (p s : ℕ × ℕ) → Member (reqs_of t i) q → Member (reqs_of t i) r → q.number ≡ r.number → p ≡ s → moves.Read (id_of t i) q.number (mapped_cell t q p) ≡ moves.Read (id_of t i) r.number (mapped_cell t r s)
+  one_move : (i : ℕ) (q r : Req) (p s : ℕ × ℕ) → Member (reqs_of t i) q → Member (reqs_of t i) r → q.number ≡ r.number → p ≡ s
+      → moves.Read (id_of t i) q.number (mapped_cell t q p) ≡ moves.Read (id_of t i) r.number (mapped_cell t r s)
   one_move i q r p s is_q is_r numbers places =
       let a = member_filter (λ (r : Req). r.item == i) t.reqs q is_q in
       let b = member_filter (λ (r : Req). r.item == i) t.reqs r is_r in
@@ -105,7 +115,8 @@ module _ (log : List Lined) (f : IsFaultless Check log) (ask : Ask) where
         | inr two ↦ absurd (two.0 numbers)
       ]
 
-  pub one_asked : (x y : Step) → Contains (steps t) x → Contains (steps t) y → is_asked ask x.move ≡ true → is_asked ask y.move ≡ true → x ≡ y
+  pub one_asked : (x y : Step) → Contains (steps t) x → Contains (steps t) y → is_asked ask x.move ≡ true → is_asked ask y.move ≡ true
+      → x ≡ y
   one_asked x y in_x in_y e g =
       let a = of_node t _ x (member_of (steps t) x in_x) in
       let b = of_node t _ y (member_of (steps t) y in_y) in
@@ -114,16 +125,22 @@ module _ (log : List Lined) (f : IsFaultless Check log) (ask : Ask) where
       let p = asked_tells ask x.move e in
       let q = asked_tells ask y.move g in
       let runs = are_runs Check log f in
-      let task_is : id_of t m.item ≡ id_of t n.item = sym (ap task_read m.is) ∙ ap task_read p.is ∙ p.of_task ∙ sym (sym (ap task_read n.is) ∙ ap task_read q.is ∙ q.of_task) in
+      let task_is : id_of t m.item ≡ id_of t n.item =
+      sym (ap task_read m.is) ∙ ap task_read p.is ∙ p.of_task ∙ sym (sym (ap task_read n.is) ∙ ap task_read q.is ∙ q.of_task) in
       let place_m = items_placed log f.records m.item (within_items t runs x.node m.item a.node a.is_node m.runs) in
       let place_n = items_placed log f.records n.item (within_items t runs y.node n.item b.node b.is_node n.runs) in
       let item_is : n.item ≡ m.item = sym place_n ∙ ap (place_of t.items) (sym task_is) ∙ place_m in
-      let nodes : x.node ≡ y.node = one_run t runs x.node y.node m.item a.node b.node a.is_node b.is_node m.runs (n.runs ∙ ap (λ i. operations.Run i) item_is) in
-      let numbers : m.req.number ≡ n.req.number = sym (ap req_read m.is) ∙ ap req_read p.is ∙ p.of_req ∙ sym (sym (ap req_read n.is) ∙ ap req_read q.is ∙ q.of_req) in
+      let nodes : x.node ≡ y.node = one_run t runs x.node y.node m.item a.node b.node a.is_node b.is_node m.runs (n.runs
+      ∙ ap (λ i. operations.Run i) item_is) in
+      let numbers : m.req.number ≡ n.req.number =
+      sym (ap req_read m.is) ∙ ap req_read p.is ∙ p.of_req ∙ sym (sym (ap req_read n.is) ∙ ap req_read q.is ∙ q.of_req) in
       let cell_m : mapped_cell t m.req m.at ≡ p.cell = same_Some _ _ (sym (ap cell_read m.is) ∙ ap cell_read p.is) in
       let cell_n : mapped_cell t n.req n.at ≡ q.cell = same_Some _ _ (sym (ap cell_read n.is) ∙ ap cell_read q.is) in
-      let point_is : m.at.0 ≡ n.at.0 = ap (λ (c : Cell). c.point) cell_m ∙ p.at_point ∙ sym (ap (λ (c : Cell). c.point) cell_n ∙ q.at_point) in
-      let field_is : m.at.1 ≡ n.at.1 = ap (λ (c : Cell). c.field) cell_m ∙ p.at_field ∙ sym (ap (λ (c : Cell). c.field) cell_n ∙ q.at_field) in
-      let move : x.move ≡ y.move = m.is ∙ one_move m.item m.req n.req m.at n.at m.is_req (subst (λ i. Member (reqs_of t i) n.req) item_is n.is_req) numbers (λ i. (point_is i, field_is i))
+      let point_is : m.at.0 ≡ n.at.0 = ap (λ (c : Cell). c.point) cell_m ∙ p.at_point
+      ∙ sym (ap (λ (c : Cell). c.point) cell_n ∙ q.at_point) in
+      let field_is : m.at.1 ≡ n.at.1 = ap (λ (c : Cell). c.field) cell_m ∙ p.at_field
+      ∙ sym (ap (λ (c : Cell). c.field) cell_n ∙ q.at_field) in
+      let move : x.move ≡ y.move = m.is ∙ one_move m.item m.req n.req m.at n.at m.is_req
+      (subst (λ i. Member (reqs_of t i) n.req) item_is n.is_req) numbers (λ i. (point_is i, field_is i))
       ∙ ap (λ i. moves.Read (id_of t i) n.req.number (mapped_cell t n.req n.at)) (sym item_is) ∙ sym n.is in
       λ i. record { node = nodes i; move = move i }

@@ -44,7 +44,8 @@ with_item t i h = record {
   items = λ n m item e. let lt = h.items n m item e in omega (arith, lt, length-append t.items (i ∷ []));
 }
 
-with_node : (t : Tables) (n : LogNode) → ((m : LogNode) → Member t.nodes m → (item : ℕ) → m.op ≡ operations.Run item → n.op ≡ operations.Run item → ⊥)
+with_node : (t : Tables) (n : LogNode) → ((m : LogNode) → Member t.nodes m → (item : ℕ) → m.op ≡ operations.Run item
+    → n.op ≡ operations.Run item → ⊥)
     → ((item : ℕ) → n.op ≡ operations.Run item → item < length t.items) → AreRuns t → AreRuns (record t { nodes = t.nodes ++ n ∷ [] })
 with_node t n once there h = record {
   runs = pairs_more _ t.nodes n h.runs once;
@@ -60,15 +61,19 @@ task_within : (t : Tables) (task : ℕ) → is_declared t (task_id task) ≡ tru
 task_within t task e =
     let found = any_found (λ (i : Item). (i.id == task) && is_task i.body) t.items e in
     let i : Item = found.0 in
-    let here = find_any (λ (i : Item). i.id == task) t.items (any_at (λ (i : Item). i.id == task) t.items i found.1 (and_parts (i.id == task) (is_task i.body) found.2).0) in
-    slice_get_within t.items (place_of t.items task) here.0 (ap (slice_get t.items) (place_len (λ (i : Item). i.id == task) t.items) ∙ sym (find_at (λ (i : Item). i.id == task) t.items) ∙ here.1)
+    let here = find_any (λ (i : Item). i.id == task) t.items
+    (any_at (λ (i : Item). i.id == task) t.items i found.1 (and_parts (i.id == task) (is_task i.body) found.2).0) in
+    slice_get_within t.items (place_of t.items task) here.0 (ap (slice_get t.items) (place_len (λ (i : Item). i.id == task) t.items)
+    ∙ sym (find_at (λ (i : Item). i.id == task) t.items) ∙ here.1)
 
 with_kept : (t : Tables) (line : ℕ) (r : Record) → Keeps t r → AreRuns t → AreRuns (with_record t line r)
 with_kept t line (records.Task id) k h = with_item t _ h
 with_kept t line (records.Fill id tree space fields n) k h = with_item t _ h
 with_kept t line (records.Run task done waits) k h = with_node t _
-    (λ m is item a b. true≢false (sym (ap (runs_item (place_of t.items task)) a ∙ eq-eqb item (place_of t.items task) (sym (ap item_of b))) ∙ none_at (λ (n : LogNode). runs_item (place_of t.items task) n.op) t.nodes m k.first_run is))
-    (λ item e. subst (λ n. n < length t.items) (ap item_of e) (task_within t task (and_parts (is_declared t (task_id task)) true k.declared).0)) h
+    (λ m is item a b. true≢false (sym (ap (runs_item (place_of t.items task)) a ∙ eq-eqb item (place_of t.items task) (sym (ap item_of b)))
+    ∙ none_at (λ (n : LogNode). runs_item (place_of t.items task) n.op) t.nodes m k.first_run is))
+    (λ item e. subst (λ n. n < length t.items) (ap item_of e)
+    (task_within t task (and_parts (is_declared t (task_id task)) true k.declared).0)) h
 with_kept t line (records.Copy src dst space fields done waits) k h = with_node t _ (λ m is item a b. absurd cc) (λ item e. absurd cc) h
 with_kept t line (records.Put inst space fields n done waits) k h = with_node t _ (λ m is item a b. absurd cc) (λ item e. absurd cc) h
 with_kept t line (records.Reset inst space fields done waits) k h = with_node t _ (λ m is item a b. absurd cc) (λ item e. absurd cc) h
@@ -77,7 +82,8 @@ with_kept t line (records.Merge done waits) k h = with_node t _ (λ m is item a 
 with_kept t line _ k h = record { runs = h.runs; items = h.items }
 
 pub are_runs : (command : Command) (log : List Lined) → IsFaultless command log → AreRuns (tables_of log)
-are_runs command log f = by_records (λ r. Unit {0}) AreRuns (records_of log) (λ earlier l u _. with_kept (tables_of earlier) l.line l.rec (keeps (records_of log) earlier l.rec u))
+are_runs command log f = by_records (λ r. Unit {0}) AreRuns (records_of log)
+    (λ earlier l u _. with_kept (tables_of earlier) l.line l.rec (keeps (records_of log) earlier l.rec u))
     [] log (recursion_from_All _ (records_of log) (λ k d lt. tt)) f.records (record { runs = tt; items = λ n m. absurd m })
 
 -- ---- what follows
@@ -86,15 +92,22 @@ module _ (t : Tables) (h : AreRuns t) where
   pub within_items : (k item : ℕ) (n : LogNode) → slice_get t.nodes k ≡ Some n → n.op ≡ operations.Run item → item < length t.items
   within_items k item n at e = h.items n (member_at t.nodes k n at) item e
 
-  before : (k l : ℕ) (m n : LogNode) → slice_get t.nodes k ≡ Some m → slice_get t.nodes l ≡ Some n → k < l → (item : ℕ) → m.op ≡ operations.Run item → n.op ≡ operations.Run item → ⊥
+  before : (k l : ℕ) (m n : LogNode) → slice_get t.nodes k ≡ Some m → slice_get t.nodes l ≡ Some n → k < l → (item : ℕ)
+      → m.op ≡ operations.Run item → n.op ≡ operations.Run item → ⊥
   before k l m n a b lt item e f = all_pairs _ t.nodes h.runs k l m lt (slice_get_within t.nodes l n b) item
-      (ap (λ (n : LogNode). n.op) (get_or_from_slice_get t.nodes k m m a) ∙ e) (ap (λ (n : LogNode). n.op) (get_or_from_slice_get t.nodes l n m b) ∙ f)
+      (ap (λ (n : LogNode). n.op) (get_or_from_slice_get t.nodes k m m a) ∙ e)
+      (ap (λ (n : LogNode). n.op) (get_or_from_slice_get t.nodes l n m b) ∙ f)
 
   -- Two nodes that run one item are one.
-  pub one_run : (k l item : ℕ) (m n : LogNode) → slice_get t.nodes k ≡ Some m → slice_get t.nodes l ≡ Some n → m.op ≡ operations.Run item → n.op ≡ operations.Run item → k ≡ l
+  pub one_run : (k l item : ℕ) (m n : LogNode) → slice_get t.nodes k ≡ Some m → slice_get t.nodes l ≡ Some n → m.op ≡ operations.Run item
+      → n.op ≡ operations.Run item → k ≡ l
   one_run k l item m n a b e f = elim (cases_eq k l) [
     | inl same ↦ same
-    | inr differ ↦ elim (cases_Bool (nat_lt k l)) [ inl below ↦ absurd (before k l m n a b (ltb-true k l below) item e f) | inr above ↦ absurd (before l k n m b a (grind (arith, nat_tests)) item f e) ]
+    | inr differ ↦ elim (cases_Bool (nat_lt k l)) [
+      | inl below ↦ absurd (before k l m n a b (ltb-true k l below) item e f)
+      | inr above ↦
+          absurd (before l k n m b a (grind (arith, nat_tests)) item f e)
+    ]
   ]
 
 -- ---- events
@@ -111,22 +124,27 @@ more_positive t line (records.Fold src dst space fields done waits) good h = eac
 more_positive t line (records.Merge done waits) good h = each_more Positive t.nodes _ h good.0.0
 more_positive t line _ good h = h
 
-positive : (command : Command) (log : List Lined) → AllByRecursion Good (records_of log) → IsFaultless command log → Each Positive (tables_of log).nodes
-positive command log good f = by_records Good (λ t. Each Positive t.nodes) (records_of log) (λ earlier l u g h. more_positive (tables_of earlier) l.line l.rec g h)
+positive : (command : Command) (log : List Lined) → AllByRecursion Good (records_of log) → IsFaultless command log
+    → Each Positive (tables_of log).nodes
+positive command log good f = by_records Good (λ t. Each Positive t.nodes) (records_of log)
+    (λ earlier l u g h. more_positive (tables_of earlier) l.line l.rec g h)
     [] log good f.records (λ n m. absurd m)
 
 -- The event of the node at a position.
 pub event_at : (t : Tables) (k : ℕ) (n : LogNode) → slice_get t.nodes k ≡ Some n → event_of t k ≡ n.done
 event_at t k n at =
-    let node : slice_get (graph_of t.nodes) k ≡ Some (record { done = n.done; waits = n.waits }) = slice_get-map _ t.nodes k ∙ ap (option_map _) at in
+    let node : slice_get (graph_of t.nodes) k ≡ Some (record { done = n.done; waits = n.waits }) =
+    slice_get-map _ t.nodes k ∙ ap (option_map _) at in
     ap (λ o. unwrap_or (option_map (λ (n : Node). n.done) o) 0) node
 
 pub event_positive : (command : Command) (log : List Lined) → AllByRecursion Good (records_of log) → IsFaultless command log
     → (k : ℕ) (n : LogNode) → slice_get (tables_of log).nodes k ≡ Some n → 1 ≤ event_of (tables_of log) k
-event_positive command log good f k n at = let t = tables_of log in subst (λ e. 1 ≤ e) (sym (event_at t k n at)) (positive command log good f n (member_at t.nodes k n at))
+event_positive command log good f k n at = let t = tables_of log in
+    subst (λ e. 1 ≤ e) (sym (event_at t k n at)) (positive command log good f n (member_at t.nodes k n at))
 
 -- The node that is found by the event of a node is this node.
-pub found_by_event : (t : Tables) → AreLinked (graph_of t.nodes) → (k : ℕ) (n : LogNode) → slice_get t.nodes k ≡ Some n → find (λ (m : LogNode). m.done == event_of t k) t.nodes ≡ Some n
+pub found_by_event : (t : Tables) → AreLinked (graph_of t.nodes) → (k : ℕ) (n : LogNode) → slice_get t.nodes k ≡ Some n
+    → find (λ (m : LogNode). m.done == event_of t k) t.nodes ≡ Some n
 found_by_event t graph k n at =
     let is = event_at t k n at in
     let p = λ (m : LogNode). m.done == event_of t k in
@@ -137,11 +155,17 @@ found_by_event t graph k n at =
   where
     pairs : (ns : List LogNode) → PairsBy (λ (m n : Node). m.done ≢ n.done) (graph_of ns) → PairsBy (λ (m n : LogNode). m.done ≢ n.done) ns
     pairs [] h = tt
-    pairs (n ∷ ns) h = (λ m is. h.0 (record { done = m.done; waits = m.waits }) (map_member (λ (n : LogNode). record { done = n.done; waits = n.waits }) ns m is), pairs ns h.1)
+    pairs (n ∷ ns) h = (
+      λ m is. h.0 (record { done = m.done; waits = m.waits })
+          (map_member (λ (n : LogNode). record { done = n.done; waits = n.waits }) ns m is),
+      pairs ns h.1,
+    )
 
     same_node : (m n : LogNode) → Member t.nodes m → Member t.nodes n → m.done ≡ n.done → m ≡ n
-    same_node m n a b e = elim (pairs_of (λ (m n : LogNode). m.done ≢ n.done) t.nodes (pairs t.nodes (pairs_from (λ (m n : Node). m.done ≢ n.done) (graph_of t.nodes) graph.apart)) m n a b) [
-      | inl is ↦ is
-      | inr (inl differ) ↦ absurd (differ e)
-      | inr (inr differ) ↦ absurd (differ (sym e))
-    ]
+    same_node m n a b e =
+        elim (pairs_of (λ (m n : LogNode). m.done ≢ n.done) t.nodes
+        (pairs t.nodes (pairs_from (λ (m n : Node). m.done ≢ n.done) (graph_of t.nodes) graph.apart)) m n a b) [
+          | inl is ↦ is
+          | inr (inl differ) ↦ absurd (differ e)
+          | inr (inr differ) ↦ absurd (differ (sym e))
+        ]

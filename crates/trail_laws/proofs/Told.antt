@@ -47,7 +47,8 @@ abbrev Shows : Tables → List Step → State → Type 0
 Shows t earlier s = (c : Cell) → reduces_in t c.inst ≡ false → Shown t (sources_of earlier c 0) (s c)
 
 -- Where something was added, the sources say so.
-some_adds_by : (x : Step) (k : Touch) (c : Cell) (n : ℕ) (before : Cell → ℕ → List Source) → ((c : Cell) (n : ℕ) → 0 < n → HasNoAdds (before c n) → ⊥) → 0 < n → HasNoAdds (with_last x k c n before) → ⊥
+some_adds_by : (x : Step) (k : Touch) (c : Cell) (n : ℕ) (before : Cell → ℕ → List Source)
+    → ((c : Cell) (n : ℕ) → 0 < n → HasNoAdds (before c n) → ⊥) → 0 < n → HasNoAdds (with_last x k c n before) → ⊥
 some_adds_by x Leaves c n before some lt none = some c n lt none
 some_adds_by x Adds c n before some lt none = some c (n + 1) (omega (arith, lt)) none
 some_adds_by x Puts c n before some lt none = let e = none.0 in omega (arith, lt, e)
@@ -71,7 +72,8 @@ module _ (t : Tables) (x : Step) (earlier : List Step) (c : Cell) (v old : Value
   added_shown true = λ none. absurd (some_adds earlier c 1 (omega arith) none)
   added_shown false = before
 
-  taken_shown : (b : Bool) (from : Cell) → Shown t (sources_of earlier from 0) v → Shown t (with_last x (cond b (Takes from) Leaves) c 0 (sources_of earlier)) (cond b v old)
+  taken_shown : (b : Bool) (from : Cell) → Shown t (sources_of earlier from 0) v
+      → Shown t (with_last x (cond b (Takes from) Leaves) c 0 (sources_of earlier)) (cond b v old)
   taken_shown true from h = λ none. one_more t (record { by = Some x; cell = c; adds = 0 }) (sources_of earlier from 0) v (h none.1)
   taken_shown false from h = before
 
@@ -79,22 +81,32 @@ module _ (t : Tables) (x : Step) (earlier : List Step) (c : Cell) (v old : Value
   reset_shown true never = absurd (never refl)
   reset_shown false never = before
 
-shows_next : (t : Tables) (node : ℕ) (m : Move) (earlier : List Step) (s : State) → KeepsAway t m → Shows t earlier s → Shows t (record { node = node; move = m } ∷ earlier) (effect m s)
+shows_next : (t : Tables) (node : ℕ) (m : Move) (earlier : List Step) (s : State) → KeepsAway t m → Shows t earlier s
+    → Shows t (record { node = node; move = m } ∷ earlier) (effect m s)
 unfolding touch
 shows_next t node (Read task req cell) earlier s k h c away = h c away
-shows_next t node (Write task cell) earlier s k h c away = put_shown t (record { node = node; move = Write task cell }) earlier c (plain (Out task)) (s c) (h c away) (same_cell c cell) refl
-shows_next t node (Reduce task req op cell) earlier s k h c away = added_shown t (record { node = node; move = Reduce task req op cell }) earlier c (add_one op (record { task = task; req = req }) (s cell)) (s c) (h c away) (same_cell c cell)
-shows_next t node (Copy from to) earlier s k h c away = taken_shown t (record { node = node; move = Copy from to }) earlier c (s from) (s c) (h c away) (same_cell c to) from (h from k.0)
-shows_next t node (Put cell n) earlier s k h c away = put_shown t (record { node = node; move = Put cell n }) earlier c (plain (Const n)) (s c) (h c away) (same_cell c cell) refl
-shows_next t node (Reset cell) earlier s k h c away = reset_shown t (record { node = node; move = Reset cell }) earlier c (plain Ident) (s c) (h c away) (same_cell c cell)
+shows_next t node (Write task cell) earlier s k h c away =
+    put_shown t (record { node = node; move = Write task cell }) earlier c (plain (Out task)) (s c) (h c away) (same_cell c cell) refl
+shows_next t node (Reduce task req op cell) earlier s k h c away =
+    added_shown t (record { node = node; move = Reduce task req op cell }) earlier c
+    (add_one op (record { task = task; req = req }) (s cell)) (s c) (h c away) (same_cell c cell)
+shows_next t node (Copy from to) earlier s k h c away =
+    taken_shown t (record { node = node; move = Copy from to }) earlier c (s from) (s c) (h c away) (same_cell c to) from (h from k.0)
+shows_next t node (Put cell n) earlier s k h c away =
+    put_shown t (record { node = node; move = Put cell n }) earlier c (plain (Const n)) (s c) (h c away) (same_cell c cell) refl
+shows_next t node (Reset cell) earlier s k h c away =
+    reset_shown t (record { node = node; move = Reset cell }) earlier c (plain Ident) (s c) (h c away) (same_cell c cell)
     (λ same. true≢false (sym k ∙ ap (λ (a : Cell). reduces_in t a.inst) (sym (one_cell c cell same)) ∙ away))
-shows_next t node (Fold op from to) earlier s k h c away = added_shown t (record { node = node; move = Fold op from to }) earlier c (fold_in (s to) op (s from)) (s c) (h c away) (same_cell c to)
+shows_next t node (Fold op from to) earlier s k h c away =
+    added_shown t (record { node = node; move = Fold op from to }) earlier c (fold_in (s to) op (s from)) (s c) (h c away) (same_cell c to)
 
 pub shows_start : (t : Tables) → Shows t [] (start t)
 shows_start t c away none = refl
 
 -- What a read sees, where it reads what came from sources without adds.
-seen_here : (t : Tables) (m : Move) (earlier : List Step) (s : State) (ls : List Source) → KeepsAway t m → Shows t earlier s → option_map (λ c. sources_of earlier c 0) (cell_read m) ≡ Some ls → HasNoAdds ls → (v : Value) → sees m s ≡ Some v → last_value t ls ≡ Some v
+seen_here : (t : Tables) (m : Move) (earlier : List Step) (s : State) (ls : List Source) → KeepsAway t m → Shows t earlier s
+    → option_map (λ c. sources_of earlier c 0) (cell_read m) ≡ Some ls → HasNoAdds ls → (v : Value) → sees m s ≡ Some v
+    → last_value t ls ≡ Some v
 seen_here t (Read task req cell) earlier s ls k h e none v is =
     let same = same_Some (sources_of earlier cell 0) ls e in
     subst (λ ls. last_value t ls ≡ Some v) same (h cell k (subst HasNoAdds (sym same) none) ∙ is)
@@ -111,17 +123,27 @@ comes_member earlier (x ∷ xs) e ls (inl h) = inl h.0
 comes_member earlier (x ∷ xs) e ls (inr h) = inr (comes_member (x ∷ earlier) xs e ls h)
 
 -- Of steps of which none is taken twice, one that reads what came from sources without adds sees what the last of these puts.
-pub told : (t : Tables) (earlier xs : List Step) (s : State) → Apart xs → ((x : Step) → Member xs x → KeepsAway t x.move) → Shows t earlier s
+pub told : (t : Tables) (earlier xs : List Step) (s : State) → Apart xs → ((x : Step) → Member xs x → KeepsAway t x.move)
+    → Shows t earlier s
     → (e : Step) (ls : List Source) → ComesFrom earlier xs e ls → HasNoAdds ls → (v : Value) → ReadsIn xs s e v → last_value t ls ≡ Some v
 told t earlier [] s apart keeps h e ls c none v r = absurd r
 told t earlier (x ∷ xs) s apart keeps h e ls (inl c) none v (inl r) = seen_here t x.move earlier s ls (keeps x (inl refl)) h c.1 none v r.1
 told t earlier (x ∷ xs) s apart keeps h e ls (inl c) none v (inr r) = absurd (apart.0 e (reads_member xs (effect x.move s) e v r) (sym c.0))
 told t earlier (x ∷ xs) s apart keeps h e ls (inr c) none v (inl r) = absurd (apart.0 e (comes_member (x ∷ earlier) xs e ls c) (sym r.0))
 told t earlier (x ∷ xs) s apart keeps h e ls (inr c) none v (inr r) =
-    told t (x ∷ earlier) xs (effect x.move s) apart.1 (λ y m. keeps y (inr m)) (shows_next t x.node x.move earlier s (keeps x (inl refl)) h) e ls c none v r
+    told t (x ∷ earlier) xs (effect x.move s) apart.1 (λ y m. keeps y (inr m))
+    (shows_next t x.node x.move earlier s (keeps x (inl refl)) h) e ls c none v r
 
 -- Each step that reads comes from some sources.
-pub comes : (earlier xs : List Step) (e : Step) (c : Cell) → Member xs e → cell_read e.move ≡ Some c → (ls : List Source) × ComesFrom earlier xs e ls
+pub comes : (earlier xs : List Step) (e : Step) (c : Cell) → Member xs e → cell_read e.move ≡ Some c → (ls : List Source)
+    × ComesFrom earlier xs e ls
 comes earlier [] e c m r = absurd m
-comes earlier (x ∷ xs) e c (inl is) r = (sources_of earlier c 0, inl (is, ap (λ (y : Step). option_map (λ c. sources_of earlier c 0) (cell_read y.move)) (sym is) ∙ ap (option_map (λ c. sources_of earlier c 0)) r))
+comes earlier (x ∷ xs) e c (inl is) r = (
+  sources_of earlier c 0,
+  inl (
+    is,
+    ap (λ (y : Step). option_map (λ c. sources_of earlier c 0) (cell_read y.move)) (sym is)
+        ∙ ap (option_map (λ c. sources_of earlier c 0)) r,
+  ),
+)
 comes earlier (x ∷ xs) e c (inr m) r = let rest = comes (x ∷ earlier) xs e c m r in (rest.0, inr rest.1)

@@ -66,7 +66,8 @@ group_of op bag = record { op = op; bag = joined [] bag }
 -- Groups with a bag more: its counts are added to the last group where that has the operator, and else a group is appended.
 unfoldable pub extended : ℕ → Bag → List Group → List Group
 extended op bag [] = group_of op bag ∷ []
-extended op bag (g ∷ []) = if g.op == op then record g { bag = joined g.bag bag } ∷ [] else g ∷ group_of op bag ∷ []
+extended op bag (g ∷ []) = if g.op == op then record g { bag = joined g.bag bag } ∷ []
+    else g ∷ group_of op bag ∷ []
 extended op bag (g ∷ h ∷ groups) = g ∷ extended op bag (h ∷ groups)
 
 -- Whether the last group has an operator.

@@ -35,5 +35,6 @@ FindsUnclean t (findings.Race a b inst point field) = FindsRace t (findings.Race
 FindsUnclean t _ = ⊥
 
 abbrev pub FindsDifference : Tables → Finding → Type 0
-FindsDifference t (findings.Differ task number point field got want) = CheckFinds t (findings.Differ task number point field got want)
+FindsDifference t (findings.Differ task number point field got want) =
+    CheckFinds t (findings.Differ task number point field got want)
 FindsDifference t _ = ⊥

@@ -13,7 +13,17 @@ pub use Rattle.value_terms.specs.declared.bag.Group.{Group}
 pub use Rattle.value_terms.specs.declared.terms.Base.{Base}
 pub use Rattle.value_terms.specs.declared.terms.Contribution.{Contribution}
 pub use Rattle.value_terms.specs.Values.{Value, plain, add_one, weight_of, Bag, value_of, fold_parts, CountsEach, IsWellFormedBag, NeighboursDiffer, IsWellFormed, total, is_raw, group_of, Ascends}
-unfoldable pub use Rattle.value_terms.specs.Values.{fold_in, comes_before, counted, joined, extended, add, same_value, count_in, same_contribution}
+unfoldable pub use Rattle.value_terms.specs.Values.{
+  fold_in,
+  comes_before,
+  counted,
+  joined,
+  extended,
+  add,
+  same_value,
+  count_in,
+  same_contribution,
+}
 pub use Rattle.value_terms.specs.WorkedValues.{from_first, from_second}
 pub use Rattle.spy_grammar.specs.declared.code.Code.{Code}
 pub use Rattle.spy_grammar.specs.declared.launches.LLined.{LLined}

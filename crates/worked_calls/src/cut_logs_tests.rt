@@ -19,8 +19,6 @@ fn ask<P: PointSet>(rt: &impl Abort, set: &P) {
     assert_eq!(rt; all.gap_from(2), Some(4));
     assert_eq!(rt; all.count(), 3);
     assert_eq!(rt; all.last(), Some(7));
-    assert_eq!(rt; all.run(1), Some((7, 7)));
-    assert_eq!(rt; all.run_count(), 2);
     let listed = Listed::at(set, Some(&[0, 3, 5]));
     assert_eq!(rt; listed.next_from(0), Some(3));
     assert_eq!(rt; listed.next_from(4), None);
@@ -28,9 +26,6 @@ fn ask<P: PointSet>(rt: &impl Abort, set: &P) {
     assert_eq!(rt; listed.gap_from(7), Some(7));
     assert_eq!(rt; listed.count(), 1);
     assert_eq!(rt; listed.last(), Some(3));
-    assert_eq!(rt; listed.run(0), Some((3, 3)));
-    assert_eq!(rt; listed.run(1), None);
-    assert_eq!(rt; listed.run_count(), 1);
 }
 
 #[test]

@@ -1,4 +1,7 @@
 //! Tests of calls of the library crates, over the code that they try.
+//!
+//! Each module tries one crate, on small inputs with ample memory: that the calls succeed there is what no
+//! contract can say. `framed_logs.rt` makes the logs for them.
 #![tactic(auto)]
 
 #[cfg(test)]
@@ -25,8 +28,6 @@ mod log_gen_tests;
 mod log_reading_tests;
 #[cfg(test)]
 mod number_lists_tests;
-#[cfg(test)]
-mod point_set_tests;
 #[cfg(test)]
 mod privilege_tests;
 #[cfg(test)]

@@ -2,7 +2,7 @@
 
 use crate::framed_logs::log_of;
 use bumpalo::Bump;
-use point_set::{PointList, PointSet, RunSet};
+use point_set::{PointList, PointSet, RectSet, RunSet};
 use region_tree::{Decls, Forest, ForestFault, Part, Space, Step, Sub, is_forest};
 use std::alloc::Global;
 use std::process::Abort;
@@ -36,7 +36,7 @@ fn ask_forest<P: PointSet>(
     assert!(rt; path.steps().first() == Some(&Step { part: 2, colour: 0 }));
     assert!(rt; forest.under(13, 4) && !forest.under(13, 3));
     let set = forest.set_of(4).ok_or("no such space")?;
-    assert!(rt; set.count() == 3 && set.run(0) == Some((4, 6)));
+    assert!(rt; set.count() == 3 && set.first() == Some(4) && set.gap_from(4) == Some(7));
     Ok(())
 }
 
@@ -48,6 +48,14 @@ fn ask_runs<'a>(rt: &impl Abort, alloc: Global, arena: &'a Bump) -> Result<(), F
     Ok(runs?)
 }
 
+/// Asks the forest over rectangles.
+fn ask_rects<'a>(rt: &impl Abort, alloc: Global, arena: &'a Bump) -> Result<(), Fail> {
+    let log = log_of::<RectSet>(alloc, arena, ROW, 0)?;
+    let rects = ask_forest(rt, alloc, &log.forest());
+    log.let_go();
+    Ok(rects?)
+}
+
 #[test]
 fn forests_answer(rt: HostRuntime) -> Result<(), Fail> {
     let arena = Bump::new(rt.alloc());
@@ -55,7 +63,8 @@ fn forests_answer(rt: HostRuntime) -> Result<(), Fail> {
     let lists = ask_forest(&rt, rt.alloc(), &log.forest());
     log.let_go();
     lists?;
-    ask_runs(&rt, rt.alloc(), &arena)
+    ask_runs(&rt, rt.alloc(), &arena)?;
+    ask_rects(&rt, rt.alloc(), &arena)
 }
 
 /// A space of one run.

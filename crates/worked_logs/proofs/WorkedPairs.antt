@@ -58,7 +58,8 @@ first_only (suc (suc (suc k))) n e done = absurd cc
 
 rises : (a b : ℕ) → WaitsOn three_nodes b a → a < b
 rises a zero w = absurd (idle three_nodes a 0 1 refl w)
-rises a (suc zero) w = first_only a w.on w.on_is (one_only w.on.done (subst (λ (n : Node). Contains n.waits w.on.done) (same_node three_nodes 1 w.by _ w.by_is refl) w.listed))
+rises a (suc zero) w = first_only a w.on w.on_is
+    (one_only w.on.done (subst (λ (n : Node). Contains n.waits w.on.done) (same_node three_nodes 1 w.by _ w.by_is refl) w.listed))
 rises a (suc (suc zero)) w = absurd (idle three_nodes a 2 3 refl w)
 rises a (suc (suc (suc k))) w = absurd (let e = w.by_is in cc)
 

@@ -14,7 +14,11 @@ use Rattle.semantics.specs.Computed.{logs_computed}
 
 -- Each node but the first waits on the one before it, and the last on the first one too.
 abbrev nodes : List Node
-nodes = record { done = 1; waits = [] } ∷ record { done = 2; waits = 1 ∷ [] } ∷ record { done = 3; waits = 2 ∷ [] } ∷ record { done = 4; waits = 1 ∷ 3 ∷ [] } ∷ []
+nodes = record { done = 1; waits = [] } ∷ record { done = 2; waits = 1 ∷ [] } ∷ record { done = 3; waits = 2 ∷ [] } ∷ record {
+  done =
+      4;
+  waits = 1 ∷ 3 ∷ [];
+} ∷ []
 
 event_is : (k : ℕ) (n : Node) → slice_get nodes k ≡ Some n → n.done ≡ suc k
 event_is zero n e = ap (λ (m : Node). m.done) (sym (same_Some _ n e))
@@ -33,8 +37,10 @@ done_is (suc (suc (suc (suc k)))) event e = absurd cc
 -- What a node lists are events of earlier ones.
 listed_below : (k : ℕ) (n : Node) (event : ℕ) → slice_get nodes k ≡ Some n → Member n.waits event → event ≤ k
 listed_below zero n event e m = absurd (subst (λ (n : Node). Member n.waits event) (sym (same_Some _ n e)) m)
-listed_below (suc zero) n event e m = elim (subst (λ (n : Node). Member n.waits event) (sym (same_Some _ n e)) m) [ inl is ↦ omega (arith, is) | inr none ↦ absurd none ]
-listed_below (suc (suc zero)) n event e m = elim (subst (λ (n : Node). Member n.waits event) (sym (same_Some _ n e)) m) [ inl is ↦ omega (arith, is) | inr none ↦ absurd none ]
+listed_below (suc zero) n event e m =
+    elim (subst (λ (n : Node). Member n.waits event) (sym (same_Some _ n e)) m) [ inl is ↦ omega (arith, is) | inr none ↦ absurd none ]
+listed_below (suc (suc zero)) n event e m =
+    elim (subst (λ (n : Node). Member n.waits event) (sym (same_Some _ n e)) m) [ inl is ↦ omega (arith, is) | inr none ↦ absurd none ]
 listed_below (suc (suc (suc zero))) n event e m = elim (subst (λ (n : Node). Member n.waits event) (sym (same_Some _ n e)) m) [
   | inl is ↦ omega (arith, is)
   | inr later ↦ elim later [ inl is ↦ omega (arith, is) | inr none ↦ absurd none ]
@@ -87,7 +93,13 @@ first_is_spare = record {
     other = 2;
     done = refl;
     waits = record { on = _; by = _; on_is = refl; by_is = refl; listed = (1, omega arith, refl) };
-    before = (1 ∷ [], (record { on = _; by = _; on_is = refl; by_is = refl; listed = (0, omega arith, refl) }, record { on = _; by = _; on_is = refl; by_is = refl; listed = (0, omega arith, refl) }));
+    before = (
+      1 ∷ [],
+      (
+        record { on = _; by = _; on_is = refl; by_is = refl; listed = (0, omega arith, refl) },
+        record { on = _; by = _; on_is = refl; by_is = refl; listed = (0, omega arith, refl) },
+      ),
+    );
   });
 }
 
@@ -97,7 +109,11 @@ found = record { node = 3; k = 0 } ∷ []
 are_spare : AreSpareWaits nodes found
 are_spare = record {
   each = λ w. (
-    λ c. elim (member_of found w c) [ inl is ↦ subst (λ (v : ListedWait). IsSpare nodes v.node v.k) (sym is) first_is_spare | inr none ↦ absurd none ],
+    λ c. elim (member_of found w c) [
+      | inl is ↦ subst (λ (v : ListedWait). IsSpare nodes v.node v.k) (sym is) first_is_spare
+      | inr none ↦
+          absurd none
+    ],
     λ s. let at = only w.node w.k s in contains_of found w (inl (rw (at.0, at.1) refl)),
   );
   in_order = all_pairs IsAhead found ((λ w m. absurd m), tt);

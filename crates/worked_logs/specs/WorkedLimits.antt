@@ -24,7 +24,8 @@ area points fields = Ispace 1 ((1, points) ∷ []) ∷ Fields 1 (range_with_len 
 
 -- An instance with a cell at each place of a region.
 abbrev pub of_cells : ℕ → ℕ → List Record
-of_cells points fields = framed (area points fields ++ Inst 1 1 1 (range_with_len 1 fields) layouts.Plain ∷ [])
+of_cells points fields =
+    framed (area points fields ++ Inst 1 1 1 (range_with_len 1 fields) layouts.Plain ∷ [])
 
 -- A fill of each place of a region.
 abbrev pub of_accesses : ℕ → ℕ → List Record
@@ -36,7 +37,8 @@ reductions fields reqs = Redop 1 ∷ Task 1 ∷ replicate reqs (Req 1 1 1 (range
 
 -- So many instances, each with a cell at each place.
 abbrev pub instances : ℕ → ℕ → List Record
-instances fields insts = map (λ id. Inst id 1 1 (range_with_len 1 fields) layouts.Plain) (range_with_len 1 insts)
+instances fields insts = map (λ id. Inst id 1 1 (range_with_len 1 fields) layouts.Plain)
+    (range_with_len 1 insts)
 
 -- These two, and the run of the task: for each point, field, requirement and instance, one more of load.
 abbrev pub of_load : ℕ → ℕ → ℕ → ℕ → List Record

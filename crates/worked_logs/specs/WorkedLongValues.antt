@@ -41,7 +41,8 @@ read_first = first_seen 0 no_reads
 -- The read at this position in the replay of a log.
 abbrev pub replayed_read : List Record → ℕ → Option LongRead
 replayed_read log k =
-    slice_get (executed_long (tables_of (lined log)) (replay_steps (tables_of (lined log))) (start_long (tables_of (lined log)))).reads k
+    slice_get (executed_long (tables_of (lined log)) (replay_steps (tables_of (lined log)))
+    (start_long (tables_of (lined log)))).reads k
 
 -- The third task reads this at the first place.
 abbrev pub third_reads : Long → LongRead

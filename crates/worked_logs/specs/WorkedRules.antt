@@ -32,7 +32,8 @@ split space = Header 1 ∷ Ispace 1 [] ∷ Part 1 space false ∷ End 2 ∷ []
 
 -- A task with one requirement, and a map for the requirement with this number.
 abbrev pub mapped_number : ℕ → List Record
-mapped_number number = region 0 ++ Task 1 ∷ Req 1 1 1 one Ro false ∷ Inst 1 1 1 one layouts.Plain ∷ Map 1 number one 1 ∷ Run 1 1 [] ∷ End 8 ∷ []
+mapped_number number = region 0 ++ Task 1 ∷ Req 1 1 1 one Ro false ∷ Inst 1 1 1 one layouts.Plain
+    ∷ Map 1 number one 1 ∷ Run 1 1 [] ∷ End 8 ∷ []
 
 -- The points 0 and 1, a space of the points from 1 to `last`, and a space of the point 0.
 abbrev pub spaces : ℕ → List Record
@@ -52,12 +53,14 @@ reaching last = spaces last ++ Part 1 1 false ∷ Sub 1 0 2 ∷ End 5 ∷ []
 
 -- Two subspaces of a disjoint partition, with the points from 0 to `last` and those from 5 to 9.
 abbrev pub disjoint_up_to : ℕ → List Record
-disjoint_up_to last = Header 1 ∷ Ispace 1 ((0, 9) ∷ []) ∷ Ispace 2 ((0, last) ∷ []) ∷ Ispace 3 ((5, 9) ∷ []) ∷ Part 1 1 true ∷ Sub 1 0 2 ∷ Sub 1 1 3 ∷ End 6 ∷ []
+disjoint_up_to last = Header 1 ∷ Ispace 1 ((0, 9) ∷ []) ∷ Ispace 2 ((0, last) ∷ []) ∷ Ispace 3 ((5, 9) ∷ [])
+    ∷ Part 1 1 true ∷ Sub 1 0 2 ∷ Sub 1 1 3 ∷ End 6 ∷ []
 
 -- So many spaces, each split, with the next as its subspace.
 abbrev pub nested : ℕ → ℕ → List Record
 nested space zero = []
-nested space (suc n) = Ispace (space + 1) [] ∷ Part space space false ∷ Sub space 0 (space + 1) ∷ nested (space + 1) n
+nested space (suc n) = Ispace (space + 1) [] ∷ Part space space false ∷ Sub space 0 (space + 1)
+    ∷ nested (space + 1) n
 
 -- The space 1 with so many steps below it.
 abbrev pub deep : ℕ → List Record
@@ -81,15 +84,18 @@ filled_field field = region 0 ++ Fill 1 1 1 (field ∷ []) 0 ∷ End 4 ∷ []
 
 -- A task that reads, and has this privilege in a second requirement at the same place.
 abbrev pub reads_and : PrivWord → List Record
-reads_and access = region 0 ++ Task 1 ∷ Req 1 1 1 one Ro true ∷ Req 1 1 1 one access true ∷ Run 1 1 [] ∷ End 7 ∷ []
+reads_and access = region 0 ++ Task 1 ∷ Req 1 1 1 one Ro true ∷ Req 1 1 1 one access true ∷ Run 1 1 [] ∷ End 7
+    ∷ []
 
 -- A copy from an instance of the tree 1 to one of this tree.
 abbrev pub copied_to_tree : ℕ → List Record
-copied_to_tree tree = region 0 ++ Tree 2 1 1 ∷ Inst 1 1 1 one layouts.Plain ∷ Inst 2 tree 1 one layouts.Plain ∷ Copy 1 2 1 one 1 [] ∷ End 7 ∷ []
+copied_to_tree tree = region 0 ++ Tree 2 1 1 ∷ Inst 1 1 1 one layouts.Plain ∷ Inst 2 tree 1 one layouts.Plain
+    ∷ Copy 1 2 1 one 1 [] ∷ End 7 ∷ []
 
 -- A copy from the instance 1 to the instance with this id.
 abbrev pub copied_to : ℕ → List Record
-copied_to inst = region 0 ++ Inst 1 1 1 one layouts.Plain ∷ Inst 2 1 1 one layouts.Plain ∷ Copy 1 inst 1 one 1 [] ∷ End 6 ∷ []
+copied_to inst = region 0 ++ Inst 1 1 1 one layouts.Plain ∷ Inst 2 1 1 one layouts.Plain
+    ∷ Copy 1 inst 1 one 1 [] ∷ End 6 ∷ []
 
 -- An instance of this kind is reset.
 abbrev pub reset_kind : InstKind → List Record
@@ -97,11 +103,13 @@ reset_kind kind = region 0 ++ Redop 1 ∷ Inst 1 1 1 one kind ∷ Reset 1 1 one 
 
 -- A task reduces with the operator 1, mapped to a reduction instance of this operator.
 abbrev pub reduced_in : ℕ → List Record
-reduced_in op = region 0 ++ Redop 1 ∷ Redop 2 ∷ Task 1 ∷ Req 1 1 1 one (Red 1) false ∷ Inst 1 1 1 one (layouts.Red op) ∷ Map 1 1 one 1 ∷ Run 1 1 [] ∷ End 10 ∷ []
+reduced_in op = region 0 ++ Redop 1 ∷ Redop 2 ∷ Task 1 ∷ Req 1 1 1 one (Red 1) false
+    ∷ Inst 1 1 1 one (layouts.Red op) ∷ Map 1 1 one 1 ∷ Run 1 1 [] ∷ End 10 ∷ []
 
 -- A constant is put at the points 0 and 1 of an instance with the points from 0 to `last`.
 abbrev pub put_up_to : ℕ → List Record
-put_up_to last = region 1 ++ Ispace 2 ((0, last) ∷ []) ∷ Inst 1 1 2 one layouts.Plain ∷ Put 1 1 one 0 1 [] ∷ End 6 ∷ []
+put_up_to last = region 1 ++ Ispace 2 ((0, last) ∷ []) ∷ Inst 1 1 2 one layouts.Plain ∷ Put 1 1 one 0 1 []
+    ∷ End 6 ∷ []
 
 -- The fields 1 and 2.
 abbrev pub both : List ℕ
@@ -109,7 +117,8 @@ both = 1 ∷ 2 ∷ []
 
 -- A task that reads both fields, with these maps.
 abbrev pub with_maps : List Record → List Record
-with_maps maps = Header 1 ∷ Ispace 1 ((0, 0) ∷ []) ∷ Fields 1 both ∷ Tree 1 1 1 ∷ Task 1 ∷ Req 1 1 1 both Ro false ∷ Inst 1 1 1 both layouts.Plain ∷ maps ++ Run 1 1 [] ∷ []
+with_maps maps = Header 1 ∷ Ispace 1 ((0, 0) ∷ []) ∷ Fields 1 both ∷ Tree 1 1 1 ∷ Task 1
+    ∷ Req 1 1 1 both Ro false ∷ Inst 1 1 1 both layouts.Plain ∷ maps ++ Run 1 1 [] ∷ []
 
 -- A map for these fields.
 abbrev pub mapped_fields : List ℕ → List Record

@@ -13,4 +13,8 @@ module _ (nodes : List Node) (order : List ℕ) (is : IsOrderOf nodes order) whe
 
   pub order_whole : AreLinked nodes → (k : ℕ) → k < length nodes → Contains order k
   order_whole linked k lt = subst (λ ks. Contains ks k) (sym is.replayed)
-      ((listed_decides nodes k).1 (lt, false_from_ne_true (is_stuck nodes k) (λ e. let c = has_cycle nodes linked k lt e in is.free c.0 c.1)))
+      ((listed_decides nodes k).1 (
+        lt,
+        false_from_ne_true (is_stuck nodes k) (λ e. let c = has_cycle nodes linked k lt e in
+            is.free c.0 c.1),
+      ))

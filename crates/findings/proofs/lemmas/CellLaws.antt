@@ -15,14 +15,17 @@ small_fit (n ∷ ns) h = (h 0, small_fit ns (λ k. h (suc k)))
 
 row_text-append : (vs ws : List Word) → row_text (vs ++ ws) ≡ row_text vs ++ row_text ws
 row_text-append [] ws = refl
-row_text-append (v ∷ vs) ws = ap (λ (x : List ℕ). 32 ∷ word_text v ++ x) (row_text-append vs ws) ∙ ap (λ (x : List ℕ). 32 ∷ x) (sym (append_assoc (word_text v) (row_text vs) (row_text ws)))
+row_text-append (v ∷ vs) ws = ap (λ (x : List ℕ). 32 ∷ word_text v ++ x) (row_text-append vs ws)
+    ∙ ap (λ (x : List ℕ). 32 ∷ x) (sym (append_assoc (word_text v) (row_text vs) (row_text ws)))
 
 words-cell : (cell : ReportCell) (ws : List Word) → with_cell cell ws ≡ with_cell cell [] ++ ws
 words-cell (cells.Events ns) ws = ap (λ vs. vs ++ ws) (sym (append-nil (map small ns.now)))
 words-cell cell ws = refl
 
 -- the words of one cell more were written
-pub cell_written : (before out all : List ℕ) (cs : List ReportCell) (x : ReportCell) → 1 ≤ length cs → x ≡ get_or cs 0 x → before ++ row_text (words_in cs) ≡ all → out ≡ before ++ row_text (with_cell x []) → out ++ row_text (words_in (take (length cs - 1) (drop 1 cs))) ≡ all
+pub cell_written : (before out all : List ℕ) (cs : List ReportCell) (x : ReportCell) → 1 ≤ length cs → x ≡ get_or cs 0 x
+    → before ++ row_text (words_in cs) ≡ all → out ≡ before ++ row_text (with_cell x [])
+    → out ++ row_text (words_in (take (length cs - 1) (drop 1 cs))) ≡ all
 cell_written before out all [] x some read whole is = absurd (omega arith)
 cell_written before out all (c ∷ cs) x some read whole is =
     let rest : take (length (c ∷ cs) - 1) cs ≡ cs = take_all _ cs (omega arith) in
@@ -30,7 +33,9 @@ cell_written before out all (c ∷ cs) x some read whole is =
     rw (rest, is, read, append_assoc) (ap (λ (w : List ℕ). before ++ w) (sym split) ∙ whole)
 
 -- one line more was written
-pub line_written : {A : Type 0} (line : A → Line) (before out all : List ℕ) (xs : List A) (x : A) → 1 ≤ length xs → x ≡ get_or xs 0 x → before ++ lines_text (map line xs) ≡ all → out ≡ before ++ line_text (line x) ++ 10 ∷ [] → out ++ lines_text (map line (take (length xs - 1) (drop 1 xs))) ≡ all
+pub line_written : {A : Type 0} (line : A → Line) (before out all : List ℕ) (xs : List A) (x : A) → 1 ≤ length xs → x ≡ get_or xs 0 x
+    → before ++ lines_text (map line xs) ≡ all → out ≡ before ++ line_text (line x) ++ 10 ∷ []
+    → out ++ lines_text (map line (take (length xs - 1) (drop 1 xs))) ≡ all
 line_written line before out all [] x some read whole is = absurd (omega arith)
 line_written line before out all (y ∷ ys) x some read whole is =
     let rest : take (length (y ∷ ys) - 1) ys ≡ ys = take_all _ ys (omega arith) in
@@ -41,12 +46,15 @@ line_written line before out all (y ∷ ys) x some read whole is =
 
 lines_text-append : (ks ls : List Line) → lines_text (ks ++ ls) ≡ lines_text ks ++ lines_text ls
 lines_text-append [] ls = refl
-lines_text-append (k ∷ ks) ls = ap (λ (x : List ℕ). line_text k ++ 10 ∷ x) (lines_text-append ks ls) ∙ sym (append_assoc (line_text k) (10 ∷ lines_text ks) (lines_text ls))
+lines_text-append (k ∷ ks) ls = ap (λ (x : List ℕ). line_text k ++ 10 ∷ x) (lines_text-append ks ls)
+    ∙ sym (append_assoc (line_text k) (10 ∷ lines_text ks) (lines_text ls))
 
 -- the lines that a report lists were written, and then its own
-pub own_last : (f : Finding) (before out all : List ℕ) → is_headed f ≡ false → out ≡ before ++ lines_text (listed_lines f) → all ≡ out ++ line_text (own_line f) ++ 10 ∷ [] → all ≡ before ++ lines_text (lines_of f)
+pub own_last : (f : Finding) (before out all : List ℕ) → is_headed f ≡ false → out ≡ before ++ lines_text (listed_lines f)
+    → all ≡ out ++ line_text (own_line f) ++ 10 ∷ [] → all ≡ before ++ lines_text (lines_of f)
 own_last f before out all last first then =
-    then ∙ rw (first, last, lines_text-append (listed_lines f) (own_line f ∷ [])) (ends before (lines_text (listed_lines f)) (line_text (own_line f)))
+    then ∙ rw (first, last, lines_text-append (listed_lines f) (own_line f ∷ []))
+    (ends before (lines_text (listed_lines f)) (line_text (own_line f)))
   where
     ends : (us vs ws : List ℕ) → us ++ vs ++ ws ++ 10 ∷ [] ≡ us ++ (vs ++ (ws ++ 10 ∷ []))
     ends us vs ws = simp append_assoc
@@ -60,10 +68,15 @@ all_before [] l all = tt
 all_before (k ∷ ls) l all = (all.0, all_before ls l all.1)
 
 -- a report whose own line fits does where the lines that it lists do
-pub all_fit : (f : Finding) (b : Bool) → Fits (own_line f) → (IsTrue b ↔ AllByRecursion Fits (listed_lines f)) → IsTrue b ↔ AllByRecursion Fits (lines_of f)
-all_fit f b fits h = (λ good. both (is_headed f) (own_line f) (listed_lines f) fits (h.0 good), λ all. h.1 (listed (is_headed f) (own_line f) (listed_lines f) all))
+pub all_fit : (f : Finding) (b : Bool) → Fits (own_line f) → (IsTrue b ↔ AllByRecursion Fits (listed_lines f))
+    → IsTrue b ↔ AllByRecursion Fits (lines_of f)
+all_fit f b fits h = (
+  λ good. both (is_headed f) (own_line f) (listed_lines f) fits (h.0 good),
+  λ all. h.1 (listed (is_headed f) (own_line f) (listed_lines f) all),
+)
   where
-    both : (headed : Bool) (own : Line) (ls : List Line) → Fits own → AllByRecursion Fits ls → AllByRecursion Fits (lines_with headed own ls)
+    both : (headed : Bool) (own : Line) (ls : List Line) → Fits own → AllByRecursion Fits ls
+        → AllByRecursion Fits (lines_with headed own ls)
     both true own ls fits all = (fits, all)
     both false own ls fits all = all_with ls own fits all
 

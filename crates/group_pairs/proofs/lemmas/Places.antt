@@ -5,7 +5,8 @@ use Rattle.list_lemmas.proofs.lemmas.Firsts.{find_place}
 use Rattle.list_lemmas.proofs.lemmas.Places.{is_some-position}
 use Rattle.log_laws.proofs.lemmas.Members.{find_any, found_at}
 
-pub place_found : {X : Type 0} (p : X → Bool) (xs : List X) (k : ℕ) → position_from p 0 xs ≡ Some k → (x : X) × (slice_get xs k ≡ Some x) × (p x ≡ true)
+pub place_found : {X : Type 0} (p : X → Bool) (xs : List X) (k : ℕ) → position_from p 0 xs ≡ Some k → (x : X) × (slice_get xs k ≡ Some x)
+    × (p x ≡ true)
 place_found p xs k e =
     let any : list_any p xs ≡ true = sym (is_some-position p 0 xs) ∙ ap is_some e in
     let found = find_any p xs any in

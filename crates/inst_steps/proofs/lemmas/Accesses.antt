@@ -34,7 +34,8 @@ cost all t = sizes all t.reqs + op_sizes all t.nodes
 one_req : (all : Tables) (rs : List Req) (r : Req) (n : ℕ) → sizes all (rs ++ r ∷ []) + n ≤ sizes all rs + n + size_of all r.space r.fields
 one_req all rs r n = let e = sum_by_push (λ (r : Req). size_of all r.space r.fields) rs r in omega (arith, e)
 
-one_node : (all : Tables) (ns : List LogNode) (x : LogNode) (n : ℕ) → n + op_sizes all (ns ++ x ∷ []) ≤ n + op_sizes all ns + op_size all x.op
+one_node : (all : Tables) (ns : List LogNode) (x : LogNode) (n : ℕ)
+    → n + op_sizes all (ns ++ x ∷ []) ≤ n + op_sizes all ns + op_size all x.op
 one_node all ns x n = let e = sum_by_push (λ (n : LogNode). op_size all n.op) ns x in omega (arith, e)
 
 one_record : (all t : Tables) (line : ℕ) (r : Record) → cost all (with_record t line r) ≤ cost all t + accesses all r
@@ -47,7 +48,8 @@ one_record all t line (records.Fold src dst space fields done waits) = one_node 
 one_record all t line (records.Merge done waits) = one_node all t.nodes _ (sizes all t.reqs)
 one_record all t line _ = omega arith
 
-all_records : (all t : Tables) (log : List Lined) → cost all (fold (λ t (l : Lined). with_record t l.line l.rec) t log) ≤ cost all t + sum_by (accesses all) (records_of log)
+all_records : (all t : Tables) (log : List Lined)
+    → cost all (fold (λ t (l : Lined). with_record t l.line l.rec) t log) ≤ cost all t + sum_by (accesses all) (records_of log)
 all_records all t [] = omega arith
 all_records all t (l ∷ log) =
     let rest = all_records all (with_record t l.line l.rec) log in
@@ -64,22 +66,29 @@ ends_with t line _ e = absurd (true≢false (sym e))
 abbrev asked : List Lined → ℕ
 asked log = sum_by (accesses (tables_of log)) (records_of log)
 
-at_end : (log : List Record) (earlier : List Lined) (l : Lined) → Unbroken log earlier l.rec → is_end l.rec ≡ true → asked (earlier ++ l ∷ []) ≤ 4194304
+at_end : (log : List Record) (earlier : List Lined) (l : Lined) → Unbroken log earlier l.rec → is_end l.rec ≡ true
+    → asked (earlier ++ l ∷ []) ≤ 4194304
 at_end log earlier l u is =
     let t = tables_of earlier in
     let last = ends_with t l.line l.rec is in
-    let same : tables_of (earlier ++ l ∷ []) ≡ t = fold-append (λ t (l : Lined). with_record t l.line l.rec) no_tables earlier (l ∷ []) ∙ last.0 in
-    let within : sum_by (accesses t) (records_of earlier) + accesses t l.rec ≤ 4194304 = ltb-false 4194304 (sum_by (accesses t) (records_of earlier) + accesses t l.rec) (rule_kept codes.TooManyAccesses refl u) in
+    let same : tables_of (earlier ++ l ∷ []) ≡ t =
+    fold-append (λ t (l : Lined). with_record t l.line l.rec) no_tables earlier (l ∷ []) ∙ last.0 in
+    let within : sum_by (accesses t) (records_of earlier) + accesses t l.rec ≤ 4194304 =
+    ltb-false 4194304 (sum_by (accesses t) (records_of earlier) + accesses t l.rec) (rule_kept codes.TooManyAccesses refl u) in
     subst (λ (u : Tables). sum_by (accesses u) (records_of (earlier ++ l ∷ [])) ≤ 4194304) (sym same) (rest t earlier l within)
   where
-    rest : (t : Tables) (earlier : List Lined) (l : Lined) → sum_by (accesses t) (records_of earlier) + accesses t l.rec ≤ 4194304 → sum_by (accesses t) (records_of (earlier ++ l ∷ [])) ≤ 4194304
-    rest t earlier l within = let e = sum_by_push (λ (l : Lined). accesses t l.rec) earlier l in omega (arith, within, e, both t (earlier ++ l ∷ []), both t earlier)
+    rest : (t : Tables) (earlier : List Lined) (l : Lined) → sum_by (accesses t) (records_of earlier) + accesses t l.rec ≤ 4194304
+        → sum_by (accesses t) (records_of (earlier ++ l ∷ [])) ≤ 4194304
+    rest t earlier l within = let e = sum_by_push (λ (l : Lined). accesses t l.rec) earlier l in
+        omega (arith, within, e, both t (earlier ++ l ∷ []), both t earlier)
       where
         both : (t : Tables) (ls : List Lined) → sum_by (accesses t) (records_of ls) ≡ sum_by (λ (l : Lined). accesses t l.rec) ls
         both t [] = refl
-        both t (l ∷ ls) = sum_by-cons (accesses t) l.rec (records_of ls) ∙ ap (λ n. accesses t l.rec + n) (both t ls) ∙ sym (sum_by-cons (λ (l : Lined). accesses t l.rec) l ls)
+        both t (l ∷ ls) = sum_by-cons (accesses t) l.rec (records_of ls) ∙ ap (λ n. accesses t l.rec + n) (both t ls)
+            ∙ sym (sum_by-cons (λ (l : Lined). accesses t l.rec) l ls)
 
-to_end : (log : List Record) (lines : ℕ) (earlier rest : List Lined) → records_fault log earlier rest ≡ None → ended_fault lines rest ≡ None → asked (earlier ++ rest) ≤ 4194304
+to_end : (log : List Record) (lines : ℕ) (earlier rest : List Lined) → records_fault log earlier rest ≡ None → ended_fault lines rest ≡ None
+    → asked (earlier ++ rest) ≤ 4194304
 to_end log lines earlier [] e ended = absurd cc
 to_end log lines earlier (l ∷ []) e ended = elim (cases_Bool (is_end l.rec)) [
   | inl is ↦ at_end log earlier l (unbroken log earlier l [] e).0 is
@@ -88,7 +97,8 @@ to_end log lines earlier (l ∷ []) e ended = elim (cases_Bool (is_end l.rec)) [
 to_end log lines earlier (l ∷ m ∷ rest) e ended = elim (cases_Bool (is_end l.rec)) [
   | inl is ↦ absurd (let bad = rw is at ended in cc)
   | inr other ↦
-      subst (λ ls. asked ls ≤ 4194304) (append_assoc earlier (l ∷ []) (m ∷ rest)) (to_end log lines (earlier ++ l ∷ []) (m ∷ rest) (unbroken log earlier l (m ∷ rest) e).1 (rw other at ended))
+      subst (λ ls. asked ls ≤ 4194304) (append_assoc earlier (l ∷ []) (m ∷ rest))
+      (to_end log lines (earlier ++ l ∷ []) (m ∷ rest) (unbroken log earlier l (m ∷ rest) e).1 (rw other at ended))
 ]
 
 pub few_accesses : (t : Tables) → AreDeclared t → cost t t ≤ 4194304

@@ -31,11 +31,13 @@ use Rattle.inst_steps.proofs.lemmas.Accesses.{sizes, data_size, op_size, op_size
 
 -- ---- lengths
 
-flat_append : {X Y : Type 0} (g : X → List Y) (xs ys : List X) → length (flat_map g (xs ++ ys)) ≡ length (flat_map g xs) + length (flat_map g ys)
+flat_append : {X Y : Type 0} (g : X → List Y) (xs ys : List X)
+    → length (flat_map g (xs ++ ys)) ≡ length (flat_map g xs) + length (flat_map g ys)
 flat_append g xs ys = ap length (flat_map-append g xs ys) ∙ length-append (flat_map g xs) (flat_map g ys)
 
 -- What different elements of a list give is no more than what the list gives.
-flat_few : {X Y : Type 0} (g : X → List Y) (ks ns : List X) → Apart ks → ((x : X) → Member ks x → Member ns x) → length (flat_map g ks) ≤ length (flat_map g ns)
+flat_few : {X Y : Type 0} (g : X → List Y) (ks ns : List X) → Apart ks → ((x : X) → Member ks x → Member ns x)
+    → length (flat_map g ks) ≤ length (flat_map g ns)
 flat_few g [] ns h within = omega arith
 flat_few g (k ∷ ks) ns h within =
     let s = split_at ns k (within k (inl refl)) in
@@ -72,7 +74,8 @@ grid_size (x ∷ points) fields =
 
 -- ---- the moves of an operation
 
-cells_few : (t : Tables) (does : Req → Cell → List Move) → ((r : Req) (c : Cell) → length (does r c) ≤ 1) → (rs : List Req) → length (at_cells t does rs) ≤ length (flat_map (req_grid t) rs)
+cells_few : (t : Tables) (does : Req → Cell → List Move) → ((r : Req) (c : Cell) → length (does r c) ≤ 1) → (rs : List Req)
+    → length (at_cells t does rs) ≤ length (flat_map (req_grid t) rs)
 cells_few t does one [] = omega arith
 cells_few t does one (r ∷ rs) =
     let here = flat_ones (λ p. does r (mapped_cell t r p)) (λ p. one r (mapped_cell t r p)) (req_grid t r) in
@@ -97,7 +100,8 @@ run_few : (t : Tables) (task : ℕ) (rs : List Req) → length (run_moves t task
 run_few t task rs =
     let reads = cells_few t (λ r c. reads_by task r.number r.access c) (λ r c. one_read task r.number r.access c) rs in
     let changes = cells_few t (λ r c. changes_by task r.number r.access c) (λ r c. one_change task r.number r.access c) rs in
-    let a = length-append (at_cells t (λ r c. reads_by task r.number r.access c) rs) (at_cells t (λ r c. changes_by task r.number r.access c) rs) in
+    let a = length-append (at_cells t (λ r c. reads_by task r.number r.access c) rs)
+    (at_cells t (λ r c. changes_by task r.number r.access c) rs) in
     omega (arith, reads, changes, a)
 
 abbrev runs_of : Op → List ℕ
@@ -123,7 +127,8 @@ owned_more t (item ∷ items) others =
 
 data_few : (t : Tables) (o : Option DataOp) → length (data_moves t o) ≤ 2 * 0 + data_size t o
 data_few t None = omega arith
-data_few t (Some d) = let a = length-map (grid (points_in t d.space) d.fields) (move_of t d.act) in let b = grid_size (points_in t d.space) d.fields in omega (arith, a, b)
+data_few t (Some d) = let a = length-map (grid (points_in t d.space) d.fields) (move_of t d.act) in let b =
+    grid_size (points_in t d.space) d.fields in omega (arith, a, b)
 
 op_few : (t : Tables) (op : Op) → length (moves_of t op) ≤ 2 * owned t (runs_of op) + op_size t op
 op_few t (operations.Run item) =
@@ -152,8 +157,10 @@ by_places : (t : Tables) (first : ℕ) (ns : List LogNode) → ((k : ℕ) → sl
 by_places t first [] at = refl
 by_places t first (n ∷ ns) at =
     let one : first + 0 ≡ first = omega arith in
-    let here : moves_at t first ≡ moves_of t n.op = ap (λ o. option_map_or (λ (n : LogNode). moves_of t n.op) o []) (ap (slice_get t.nodes) (sym one) ∙ at 0) in
-    let rest = by_places t (first + 1) ns (λ k. let far : first + 1 + k ≡ first + suc k = omega arith in ap (slice_get t.nodes) far ∙ at (suc k)) in
+    let here : moves_at t first ≡ moves_of t n.op =
+    ap (λ o. option_map_or (λ (n : LogNode). moves_of t n.op) o []) (ap (slice_get t.nodes) (sym one) ∙ at 0) in
+    let rest = by_places t (first + 1) ns (λ k. let far : first + 1 + k ≡ first + suc k = omega arith in
+    ap (slice_get t.nodes) far ∙ at (suc k)) in
     let a = length-append (steps_at t first) (flat_map (steps_at t) (range_with_len (first + 1) (length ns))) in
     let step : Move → Step = λ m. record { node = first; move = m } in
     let b = length-map (moves_at t first) step in
@@ -181,13 +188,16 @@ flat_more : {X Y : Type 0} (g : X → List Y) (xs : List X) (x : X) → flat_map
 flat_more g [] x = append-nil (g x)
 flat_more g (y ∷ xs) x = ap (λ zs. g y ++ zs) (flat_more g xs x) ∙ sym (append_assoc (g y) (flat_map g xs) (g x))
 
-node_once : (ns : List LogNode) (n : LogNode) → ((i : ℕ) → Member (runs_of n.op) i → Member (run_items ns) i → ⊥) → Apart (run_items ns) → Apart (run_items (ns ++ n ∷ []))
-node_once ns n new h = subst Apart (sym (flat_more (λ (n : LogNode). runs_of n.op) ns n)) (pairs_append (λ x y. x ≢ y) (run_items ns) (runs_of n.op) h (one_run n.op) (λ x y a b e. new y b (subst (Member (run_items ns)) e a)))
+node_once : (ns : List LogNode) (n : LogNode) → ((i : ℕ) → Member (runs_of n.op) i → Member (run_items ns) i → ⊥) → Apart (run_items ns)
+    → Apart (run_items (ns ++ n ∷ []))
+node_once ns n new h = subst Apart (sym (flat_more (λ (n : LogNode). runs_of n.op) ns n))
+    (pairs_append (λ x y. x ≢ y) (run_items ns) (runs_of n.op) h (one_run n.op) (λ x y a b e. new y b (subst (Member (run_items ns)) e a)))
 
 more_once : (t : Tables) (line : ℕ) (r : Record) → is_run_again t r ≡ false → RunOnce t → RunOnce (with_record t line r)
 more_once t line (records.Run task done waits) e h = node_once t.nodes _ (λ i here there.
     let at = not_run t.nodes i there in
-    true≢false (sym at.2 ∙ subst (λ i. runs_item i at.0.op ≡ false) (sym (only here)) (none_at (λ (n : LogNode). runs_item (place_of t.items task) n.op) t.nodes at.0 e at.1))) h
+    true≢false (sym at.2 ∙ subst (λ i. runs_item i at.0.op ≡ false) (sym (only here))
+    (none_at (λ (n : LogNode). runs_item (place_of t.items task) n.op) t.nodes at.0 e at.1))) h
 more_once t line (records.Copy src dst space fields done waits) e h = node_once t.nodes _ (λ i here there. here) h
 more_once t line (records.Put inst space fields n done waits) e h = node_once t.nodes _ (λ i here there. here) h
 more_once t line (records.Reset inst space fields done waits) e h = node_once t.nodes _ (λ i here there. here) h
@@ -205,7 +215,8 @@ run_once t d = subst RunOnce (sym d.tables) (by_records (λ r. Unit {0}) RunOnce
 own_few : (t : Tables) → Apart t.reqs → (items : List ℕ) → Apart items → owned t items ≤ sizes t t.reqs
 own_few t reqs items h =
     let apart = apart_flat (reqs_of t) items (λ i m. apart_filter (λ (r : Req). r.item == i) t.reqs reqs)
-    (λ i j r _ _ a b. sym (eqb-true r.item i (member_filter (λ (r : Req). r.item == i) t.reqs r a).1) ∙ eqb-true r.item j (member_filter (λ (r : Req). r.item == j) t.reqs r b).1) h in
+    (λ i j r _ _ a b. sym (eqb-true r.item i (member_filter (λ (r : Req). r.item == i) t.reqs r a).1)
+    ∙ eqb-true r.item j (member_filter (λ (r : Req). r.item == j) t.reqs r b).1) h in
     let some = flat_few (req_grid t) (own_reqs t items) t.reqs apart (λ r m.
     let at = member_flat (reqs_of t) items r m in (member_filter (λ (r : Req). r.item == at.0) t.reqs r at.2).0) in
     let all = grids t t.reqs in
@@ -231,9 +242,11 @@ steps_few t d =
     let same = by_places t 0 t.nodes (λ k. let e : 0 + k ≡ k = omega arith in ap (slice_get t.nodes) e) in
     omega (arith, all, own, nodes, same)
 
-replay_few : (t : Tables) → AreDeclared t → (ks : List ℕ) → AllPairs (λ a b. a ≢ b) ks → ((k : ℕ) → Contains ks k → k < length t.nodes) → length (steps_by t ks) < 2 ^ 31
+replay_few : (t : Tables) → AreDeclared t → (ks : List ℕ) → AllPairs (λ a b. a ≢ b) ks → ((k : ℕ) → Contains ks k → k < length t.nodes)
+    → length (steps_by t ks) < 2 ^ 31
 replay_few t d ks once within =
-    let some = flat_few (steps_at t) ks (range_with_len 0 (length t.nodes)) (pairs_from (λ a b. a ≢ b) ks once) (λ k m. number_in (length t.nodes) k (within k (contains_of ks k m))) in
+    let some = flat_few (steps_at t) ks (range_with_len 0 (length t.nodes)) (pairs_from (λ a b. a ≢ b) ks once)
+    (λ k m. number_in (length t.nodes) k (within k (contains_of ks k m))) in
     let all = steps_few t d in
     omega (arith, some, all)
 
@@ -244,7 +257,8 @@ steps_are_few t d listed = by listed
     few : length (steps_by t (replay_order (graph_of t.nodes))) < 2 ^ 31
     few =
         let ns = graph_of t.nodes in
-        replay_few t d (replay_order ns) (once (replay ns).taken) (λ k h. subst (λ n. k < n) (length-map t.nodes _) ((listed_decides ns k).0 h).0)
+        replay_few t d (replay_order ns) (once (replay ns).taken)
+        (λ k h. subst (λ n. k < n) (length-map t.nodes _) ((listed_decides ns k).0 h).0)
 
     by : (listed : Option (List ℕ)) → length (replay_steps (cut_to listed t)) < 2 ^ 31
     by None = few

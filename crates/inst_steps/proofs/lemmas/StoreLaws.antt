@@ -18,11 +18,13 @@ use Rattle.inst_steps.proofs.lemmas.StoreMaps.{get_put}
 
 get_at : (m : Contents) (c : Cell) (v : Value) (q : Cell) → get (insert m c v) q ≡ cond (same_cell q c) (Some v) (get m q)
 unfolding same_cell
-get_at m c v q = get_put m c v q ∙ ap (λ b. cond b (Some v) (get m q)) (sym (and_assoc (nat_eq q.inst c.inst) (nat_eq q.point c.point) (nat_eq q.field c.field)))
+get_at m c v q = get_put m c v q ∙ ap (λ b. cond b (Some v) (get m q))
+    (sym (and_assoc (nat_eq q.inst c.inst) (nat_eq q.point c.point) (nat_eq q.field c.field)))
 
 -- ---- which cells there are
 
-kept_cells : (m : Contents) (cell : Cell) (v : Value) (c : Cell) → contains_key m cell ≡ true → contains_key (insert m cell v) c ≡ contains_key m c
+kept_cells : (m : Contents) (cell : Cell) (v : Value) (c : Cell) → contains_key m cell ≡ true
+    → contains_key (insert m cell v) c ≡ contains_key m c
 kept_cells m cell v c there = ap is_some (get_at m cell v c) ∙ elim (cases_Bool (same_cell c cell)) [
   | inl here ↦ rw here (sym (ap (contains_key m) (one_cell c cell here) ∙ there))
   | inr other ↦ rw other refl
@@ -54,7 +56,8 @@ none_there ps t c none = elim (none_or_some (inst_at t c.inst)) [
 held_in : (m : Contents) (s : State) (c : Cell) → Holds m s → contains_key m c ≡ true → value_in m c ≡ s c
 held_in m s c held there = ap (λ o. unwrap_or o (plain Raw)) (held c there)
 
-put_held : (m : Contents) (s : State) (cell : Cell) (v w : Value) → contains_key m cell ≡ true → v ≡ w → Holds m s → Holds (insert m cell v) (stored s cell w)
+put_held : (m : Contents) (s : State) (cell : Cell) (v w : Value) → contains_key m cell ≡ true → v ≡ w → Holds m s
+    → Holds (insert m cell v) (stored s cell w)
 put_held m s cell v w there same held c has = get_at m cell v c ∙ elim (cases_Bool (same_cell c cell)) [
   | inl here ↦ rw here (ap (λ v. Some v) same)
   | inr other ↦ rw other (held c (sym (kept_cells m cell v c there) ∙ has))
@@ -63,11 +66,13 @@ put_held m s cell v w there same held c has = get_at m cell v c ∙ elim (cases_
 pub move_held : (step : Move) (m : Contents) (s : State) → HasCells m step → Holds m s → Holds (after_move step m) (effect step s)
 move_held (moves.Read task req cell) m s h held = held
 move_held (moves.Write task cell) m s h held = put_held m s cell _ _ h refl held
-move_held (moves.Reduce task req op cell) m s h held = put_held m s cell _ _ h (ap (add_one op (record { task = task; req = req })) (held_in m s cell held h)) held
+move_held (moves.Reduce task req op cell) m s h held =
+    put_held m s cell _ _ h (ap (add_one op (record { task = task; req = req })) (held_in m s cell held h)) held
 move_held (moves.Copy from to) m s h held = put_held m s to _ _ h.1 (held_in m s from held h.0) held
 move_held (moves.Put cell n) m s h held = put_held m s cell _ _ h refl held
 move_held (moves.Reset cell) m s h held = put_held m s cell _ _ h refl held
-move_held (moves.Fold op from to) m s h held = put_held m s to _ _ h.1 (ap₂ (λ w v. fold_in w op v) (held_in m s to held h.1) (held_in m s from held h.0)) held
+move_held (moves.Fold op from to) m s h held =
+    put_held m s to _ _ h.1 (ap₂ (λ w v. fold_in w op v) (held_in m s to held h.1) (held_in m s from held h.0)) held
 
 pub start_held : (t : Tables) (m : Contents) → IsStart t m → Holds m (start t)
 start_held t m is c has = elim (cases_Bool (has_cell t c)) [
@@ -79,12 +84,14 @@ start_held t m is c has = elim (cases_Bool (has_cell t c)) [
 pub listed_start_held : (ps : List ℕ) (t : Tables) (m : Contents) → IsStart (cut ps t) m → Holds m (start t)
 listed_start_held ps t m is c has = elim (cases_Bool (is_in ps c.point)) [
   | inl listed ↦ start_held (cut ps t) m is c has ∙ ap (λ v. Some v) (start_cut ps t c listed)
-  | inr other ↦ absurd (false≢true (sym (ap is_some (is c ∙ ap (λ b. cond b (Some (start (cut ps t) c)) None) (none_there ps t c other))) ∙ has))
+  | inr other ↦ absurd (false≢true (sym (ap is_some (is c ∙ ap (λ b. cond b (Some (start (cut ps t) c)) None) (none_there ps t c other)))
+      ∙ has))
 ]
 
 -- ---- weights
 
-lighter : (m : Contents) (cell : Cell) (v : Value) (n : ℕ) (c : Cell) → weight_of v ≤ n → weight_of (value_in (insert m cell v) c) ≤ cond (same_cell c cell) n (weight_at m c)
+lighter : (m : Contents) (cell : Cell) (v : Value) (n : ℕ) (c : Cell) → weight_of v ≤ n
+    → weight_of (value_in (insert m cell v) c) ≤ cond (same_cell c cell) n (weight_at m c)
 lighter m cell v n c le = elim (cases_Bool (same_cell c cell)) [
   | inl here ↦ rw (get_at m cell v c, here) le
   | inr other ↦ rw (get_at m cell v c, other) (omega arith)
@@ -97,4 +104,5 @@ weighs (moves.Reduce task req op cell) m c = lighter m cell _ (weight_at m cell 
 weighs (moves.Copy from to) m c = lighter m to _ (weight_at m from) c (omega arith)
 weighs (moves.Put cell n) m c = lighter m cell _ 0 c (omega arith)
 weighs (moves.Reset cell) m c = lighter m cell _ 0 c (omega arith)
-weighs (moves.Fold op from to) m c = lighter m to _ (weight_at m to + weight_at m from) c (weight_folded (value_in m to) op (value_in m from))
+weighs (moves.Fold op from to) m c = lighter m to _ (weight_at m to + weight_at m from) c
+    (weight_folded (value_in m to) op (value_in m from))

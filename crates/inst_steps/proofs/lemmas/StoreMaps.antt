@@ -19,10 +19,15 @@ use Rattle.inst_steps.specs.Stores.{cell_cmp, Contents, value_in}
 
 -- Cells that compare alike are one.
 pub exact_cells : CmpEqualImpliesEq cell_cmp
-exact_cells a b h = ap (λ (p : ℕ × (ℕ × ℕ)). record { inst = p.0; point = p.1.0; field = p.1.1 }) (exact_pairs nat_cmp _ exact_unsigned (exact_pairs nat_cmp nat_cmp exact_unsigned exact_unsigned) (a.inst, (a.point, a.field)) (b.inst, (b.point, b.field)) h)
+exact_cells a b h = ap (λ (p : ℕ × (ℕ × ℕ)). record { inst = p.0; point = p.1.0; field = p.1.1 })
+    (exact_pairs nat_cmp _ exact_unsigned (exact_pairs nat_cmp nat_cmp exact_unsigned exact_unsigned) (a.inst, (a.point, a.field)) (
+      b.inst,
+      (b.point, b.field),
+    ) h)
 
 pub cells_total : IsTotalOrder cell_cmp
-cells_total = then_total (on_total (λ (c : Cell). c.inst) nat_cmp_total) (then_total (on_total (λ (c : Cell). c.point) nat_cmp_total) (on_total (λ (c : Cell). c.field) nat_cmp_total))
+cells_total = then_total (on_total (λ (c : Cell). c.inst) nat_cmp_total)
+    (then_total (on_total (λ (c : Cell). c.point) nat_cmp_total) (on_total (λ (c : Cell). c.field) nat_cmp_total))
 
 is_equal : (r : Ordering) → is_eq r ≡ true → r ≡ Equal
 is_equal Less e = absurd (false≢true e)
@@ -45,7 +50,8 @@ same a b = nat_eq a.inst b.inst && (nat_eq a.point b.point && nat_eq a.field b.f
 cells_tie : (c q : Cell) → is_at (cell_cmp c) q ≡ same c q
 cells_tie c q =
     sym (tied_then (nat_cmp c.inst q.inst) (ordering_then (nat_cmp c.point q.point) (nat_cmp c.field q.field)))
-    ∙ ap₂ (λ a b. a && b) (numbers_tie c.inst q.inst) (sym (tied_then (nat_cmp c.point q.point) (nat_cmp c.field q.field)) ∙ ap₂ (λ a b. a && b) (numbers_tie c.point q.point) (numbers_tie c.field q.field))
+    ∙ ap₂ (λ a b. a && b) (numbers_tie c.inst q.inst) (sym (tied_then (nat_cmp c.point q.point) (nat_cmp c.field q.field))
+    ∙ ap₂ (λ a b. a && b) (numbers_tie c.point q.point) (numbers_tie c.field q.field))
 
 -- The map that the entries of a table make.
 abbrev pub map_of : List (Cell × Value) → Contents
@@ -77,7 +83,8 @@ module _ (es : List (Cell × Value)) (m : Contents) (c : Cell) (view : map_of es
   value_there v is = ap (λ o. unwrap_or o (plain Raw)) (sym (is ∙ got))
 
   -- Entries that differ at one cell make the map in which one value is put.
-  pub put_at : (fs : List (Cell × Value)) (v : Value) → ((q : Cell) → lookup (same q) fs ≡ cond (same c q) (Some v) (lookup (same q) es)) → map_of fs ≡ insert m c v
+  pub put_at : (fs : List (Cell × Value)) (v : Value) → ((q : Cell) → lookup (same q) fs ≡ cond (same c q) (Some v) (lookup (same q) es))
+      → map_of fs ≡ insert m c v
   put_at fs v h = same_map cells_total exact_cells _ _ (λ q.
       get_same fs q ∙ h q ∙ ap (λ b. cond b (Some v) (lookup (same q) es)) (sym (cells_tie c q) ∙ (eq_by_cmp_equiv cells_total).symm c q)
       ∙ sym (get-insert cells_total m c v q ∙ ap (cond (is_at (cell_cmp q) c) (Some v)) (ap (λ m. get m q) (sym view) ∙ get_same es q)))

@@ -17,7 +17,12 @@ use Rattle.interference.proofs.Rows.{meeting, rows_step}
 use Rattle.log_laws.proofs.lemmas.Lists.{filter_short, filter_map_of}
 
 row_few : (us : List (List Usage)) (a from : ℕ) → length (row None us a from) ≤ length us
-row_few us a from = omega (arith, length-map (filter (met_at None us a) (range_with_len from (length us - from))) (meeting us a), filter_short (met_at None us a) (range_with_len from (length us - from)), length-range_with_len from (length us - from))
+row_few us a from = omega (
+  arith,
+  length-map (filter (met_at None us a) (range_with_len from (length us - from))) (meeting us a),
+  filter_short (met_at None us a) (range_with_len from (length us - from)),
+  length-range_with_len from (length us - from),
+)
 
 flat_few : (f : ℕ → List Pair) (xs : List ℕ) → ((x : ℕ) → length (f x) ≤ 4294967295) → length (flat_map f xs) ≤ length xs * 4294967295
 flat_few f [] h = omega arith
@@ -26,14 +31,23 @@ flat_few f (x ∷ xs) h = omega (arith, length-append (f x) (flat_map f xs), h x
 few_left : (q : Pair → Bool) (us : List (List Usage)) → length us < 2 ^ 32 → length (filter q (left None us 0 1)) < 2 ^ 64
 few_left q us small =
     let all = flat_few (λ i. row None us i (i + 1)) (range_with_len 0 (length us - 0)) (λ a. omega (arith, row_few us a (a + 1), small)) in
-    omega (arith, filter_short q (left None us 0 1), ap length (sym (rows_step None us 0)), all, length-range_with_len 0 (length us - 0), small)
+    omega (
+      arith,
+      filter_short q (left None us 0 1),
+      ap length (sym (rows_step None us 0)),
+      all,
+      length-range_with_len 0 (length us - 0),
+      small,
+    )
 
 -- ---- steps of the count
 
-pub count_here : (q : Pair → Bool) (it : List Pair) (p : Pair) (rest : List Pair) → it ≡ p ∷ rest → q p ≡ true → length (filter q it) ≡ 1 + length (filter q rest)
+pub count_here : (q : Pair → Bool) (it : List Pair) (p : Pair) (rest : List Pair) → it ≡ p ∷ rest → q p ≡ true
+    → length (filter q it) ≡ 1 + length (filter q rest)
 count_here q it p rest e t = ap (λ ps. length (filter q ps)) e ∙ rw t (omega arith)
 
-pub count_past : (q : Pair → Bool) (it : List Pair) (p : Pair) (rest : List Pair) → it ≡ p ∷ rest → q p ≡ false → length (filter q it) ≡ length (filter q rest)
+pub count_past : (q : Pair → Bool) (it : List Pair) (p : Pair) (rest : List Pair) → it ≡ p ∷ rest → q p ≡ false
+    → length (filter q it) ≡ length (filter q rest)
 count_past q it p rest e f = ap (λ ps. length (filter q ps)) e ∙ rw f refl
 
 pub task_pairs_are : (t : Tables) → length (filter (are_tasks t.items) (all_pairs t)) ≡ length (task_pairs t)

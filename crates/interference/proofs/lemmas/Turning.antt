@@ -27,7 +27,8 @@ use Rattle.list_lemmas.proofs.lemmas.Places.{find_map}
 abbrev against : List ℕ → Pair → Bool
 against places p = nat_lt (get_or places p.b 0) (get_or places p.a 0)
 
-kept_both : {X Y : Type 0} (m : X → Y) (q : Y → Bool) (f : X → Bool) (xs : List X) → map m (filter (λ x. q (m x) && f x) xs) ≡ filter q (map m (filter f xs))
+kept_both : {X Y : Type 0} (m : X → Y) (q : Y → Bool) (f : X → Bool) (xs : List X)
+    → map m (filter (λ x. q (m x) && f x) xs) ≡ filter q (map m (filter f xs))
 kept_both m q f [] = refl
 kept_both m q f (x ∷ xs) =
     let rest = kept_both m q f xs in
@@ -36,17 +37,24 @@ kept_both m q f (x ∷ xs) =
       | inr n ↦ elim (cases_Bool (q (m x))) [ inl e ↦ rw (n, e) rest | inr e ↦ rw (n, e) rest ]
     ]
 
-kept_flat : {X Y : Type 0} (q : Y → Bool) (g h : X → List Y) (xs : List X) → ((x : X) → h x ≡ filter q (g x)) → flat_map h xs ≡ filter q (flat_map g xs)
+kept_flat : {X Y : Type 0} (q : Y → Bool) (g h : X → List Y) (xs : List X) → ((x : X) → h x ≡ filter q (g x))
+    → flat_map h xs ≡ filter q (flat_map g xs)
 kept_flat q g h [] same = refl
-kept_flat q g h (x ∷ xs) same = ap (λ ys. ys ++ flat_map h xs) (same x) ∙ ap (λ ys. filter q (g x) ++ ys) (kept_flat q g h xs same) ∙ sym (filter-append q (g x) (flat_map g xs))
+kept_flat q g h (x ∷ xs) same = ap (λ ys. ys ++ flat_map h xs) (same x) ∙ ap (λ ys. filter q (g x) ++ ys) (kept_flat q g h xs same)
+    ∙ sym (filter-append q (g x) (flat_map g xs))
 
-row_against : (places : List ℕ) (us : List (List Usage)) (a from : ℕ) → row (Some places) us a from ≡ filter (against places) (row None us a from)
-row_against places us a from = kept_both (meeting us a) (against places) (λ b. not (is_free (kind_between (usages_at us a) (usages_at us b)))) (range_with_len from (length us - from))
+row_against : (places : List ℕ) (us : List (List Usage)) (a from : ℕ)
+    → row (Some places) us a from ≡ filter (against places) (row None us a from)
+row_against places us a from = kept_both (meeting us a) (against places)
+    (λ b. not (is_free (kind_between (usages_at us a) (usages_at us b)))) (range_with_len from (length us - from))
 
-left_against : (places : List ℕ) (us : List (List Usage)) (a from : ℕ) → left (Some places) us a from ≡ filter (against places) (left None us a from)
+left_against : (places : List ℕ) (us : List (List Usage)) (a from : ℕ)
+    → left (Some places) us a from ≡ filter (against places) (left None us a from)
 left_against places us a from =
     ap (λ ps. ps ++ rows (Some places) us (a + 1)) (row_against places us a from)
-    ∙ ap (λ ps. filter (against places) (row None us a from) ++ ps) (kept_flat (against places) (λ i. row None us i (i + 1)) (λ i. row (Some places) us i (i + 1)) (range_with_len (a + 1) (length us - (a + 1))) (λ i. row_against places us i (i + 1)))
+    ∙ ap (λ ps. filter (against places) (row None us a from) ++ ps)
+    (kept_flat (against places) (λ i. row None us i (i + 1)) (λ i. row (Some places) us i (i + 1))
+    (range_with_len (a + 1) (length us - (a + 1))) (λ i. row_against places us i (i + 1)))
     ∙ sym (filter-append (against places) (row None us a from) (rows None us (a + 1)))
 
 find_kept : {X : Type 0} (p q : X → Bool) (xs : List X) → find p (filter q xs) ≡ find (λ x. p x && q x) xs
@@ -58,14 +66,21 @@ find_kept p q (x ∷ xs) =
       | inr e ↦ elim (cases_Bool (p x)) [ inl t ↦ rw (e, t) rest | inr n ↦ rw (e, n) rest ]
     ]
 
-first_against : (places : List ℕ) (us : List (List Usage)) → find (λ (p : Pair). is_before p.kind) (left (Some places) us 0 1) ≡ turned places (left None us 0 1)
-first_against places us = ap (find (λ (p : Pair). is_before p.kind)) (left_against places us 0 1) ∙ find_kept (λ (p : Pair). is_before p.kind) (against places) (left None us 0 1)
+first_against : (places : List ℕ) (us : List (List Usage))
+    → find (λ (p : Pair). is_before p.kind) (left (Some places) us 0 1) ≡ turned places (left None us 0 1)
+first_against places us = ap (find (λ (p : Pair). is_before p.kind)) (left_against places us 0 1)
+    ∙ find_kept (λ (p : Pair). is_before p.kind) (against places) (left None us 0 1)
 
 -- ---- the first that is turned
 
 find_same : {X : Type 0} (p q : X → Bool) (xs : List X) → ((x : X) → Member xs x → p x ≡ q x) → find p xs ≡ find q xs
 find_same p q [] h = refl
-find_same p q (x ∷ xs) h = elim (cases_Bool (q x)) [ inl t ↦ rw (h x (inl refl) ∙ t, t) refl | inr f ↦ rw (h x (inl refl) ∙ f, f) (find_same p q xs (λ y m. h y (inr m))) ]
+find_same p q (x ∷ xs) h =
+    elim (cases_Bool (q x)) [
+      | inl t ↦ rw (h x (inl refl) ∙ t, t) refl
+      | inr f ↦
+          rw (h x (inl refl) ∙ f, f) (find_same p q xs (λ y m. h y (inr m)))
+    ]
 
 find_none : {X : Type 0} (p : X → Bool) (xs : List X) → ((x : X) → Member xs x → p x ≡ false) → find p xs ≡ None
 find_none p [] h = refl
@@ -78,17 +93,26 @@ pub record OfPair (t : Tables) (p : ℕ × ℕ) : Type 0 where
 
 pub pair_within : (t : Tables) (p : ℕ × ℕ) → Member (kinds.pairs t) p → OfPair t p
 pair_within t p m =
-    let at = member_flat (λ a. map (λ b. (a, b)) (filter (λ b. not (is_free (item_kind t a b))) (range_with_len (a + 1) (length t.items - (a + 1))))) (range_with_len 0 (length t.items)) p m in
-    let of = member_map (λ b. (at.0, b)) (filter (λ b. not (is_free (item_kind t at.0 b))) (range_with_len (at.0 + 1) (length t.items - (at.0 + 1)))) p at.2 in
+    let at = member_flat (λ a. map (λ b. (a, b))
+    (filter (λ b. not (is_free (item_kind t a b))) (range_with_len (a + 1) (length t.items - (a + 1)))))
+    (range_with_len 0 (length t.items)) p m in
+    let of = member_map (λ b. (at.0, b)) (filter (λ b. not (is_free (item_kind t at.0 b)))
+    (range_with_len (at.0 + 1) (length t.items - (at.0 + 1)))) p at.2 in
     let f = member_filter (λ b. not (is_free (item_kind t at.0 b))) (range_with_len (at.0 + 1) (length t.items - (at.0 + 1))) of.0 of.1 in
     let n = number_between (at.0 + 1) (length t.items - (at.0 + 1)) of.0 f.0 in
-    subst (OfPair t) (sym of.2) (record { order = omega (arith, n.0); within = omega (arith, n.0, n.1); meets = not-true (is_free (item_kind t at.0 of.0)) f.1 })
+    subst (OfPair t) (sym of.2) (record {
+      order = omega (arith, n.0);
+      within = omega (arith, n.0, n.1);
+      meets =
+          not-true (is_free (item_kind t at.0 of.0)) f.1;
+    })
 
 -- The test of the definitions.
 abbrev is_turned_pair : Tables → ℕ × ℕ → Bool
 is_turned_pair t p = is_before (item_kind t p.0 p.1) && nat_lt (serial_place t p.1) (serial_place t p.0)
 
-turned_is : (t : Tables) (places : List ℕ) → ArePlacesIn (serial t) (length t.items) places → turned places (all_pairs t) ≡ option_map (pair_of t) (turned_pair t)
+turned_is : (t : Tables) (places : List ℕ) → ArePlacesIn (serial t) (length t.items) places
+    → turned places (all_pairs t) ≡ option_map (pair_of t) (turned_pair t)
 turned_is t places is =
     find_map (is_turned places) (pair_of t) (kinds.pairs t)
     ∙ ap (option_map (pair_of t)) (find_same (λ p. is_turned places (pair_of t p)) (is_turned_pair t) (kinds.pairs t)
@@ -106,7 +130,8 @@ place_number k (suc n) zero lt = let same : k ≡ k + 0 = omega arith in rw (eq-
 place_number k (suc n) (suc i) lt =
     let other : (k ≡ k + suc i → ⊥) = λ e. omega (arith, e) in
     let same : k + suc i ≡ k + 1 + i = omega arith in
-    let rest : position_or_len (λ j. j == k + suc i) (range_with_len (k + 1) n) ≡ i = rw same (place_number (k + 1) n i (omega (arith, lt))) in
+    let rest : position_or_len (λ j. j == k + suc i) (range_with_len (k + 1) n) ≡ i =
+    rw same (place_number (k + 1) n i (omega (arith, lt))) in
     rw (ne_eqb k (k + suc i) other, rest) (omega arith)
 
 position_number : (k n i : ℕ) → i < n → position (λ j. j == k + i) (range_with_len k n) ≡ Some i
@@ -116,23 +141,27 @@ place_unlisted : (t : Tables) (i : ℕ) → length t.serials ≡ 0 → i < lengt
 place_unlisted t i e lt =
     let all : serial t ≡ range_with_len 0 (length t.items) = rw e refl in
     let same : 0 + i ≡ i = omega arith in
-    let at : position (λ j. j == i) (range_with_len 0 (length t.items)) ≡ Some i = subst (λ m. position (λ j. j == m) (range_with_len 0 (length t.items)) ≡ Some i) same (position_number 0 (length t.items) i lt) in
+    let at : position (λ j. j == i) (range_with_len 0 (length t.items)) ≡ Some i =
+    subst (λ m. position (λ j. j == m) (range_with_len 0 (length t.items)) ≡ Some i) same (position_number 0 (length t.items) i lt) in
     ap (λ ns. unwrap_or (position (λ j. j == i) ns) (length ns)) all ∙ ap (λ o. unwrap_or o (length (range_with_len 0 (length t.items)))) at
 
 pub none_turned : (t : Tables) → length t.serials ≡ 0 → turned_pair t ≡ None
 none_turned t e = find_none (is_turned_pair t) (kinds.pairs t) (λ p m.
     let w = pair_within t p m in
     and_right (is_before (item_kind t p.0 p.1)) (nat_lt (serial_place t p.1) (serial_place t p.0))
-    (le-ltb (serial_place t p.1) (serial_place t p.0) (omega (arith, place_unlisted t p.0 e (omega (arith, w.order, w.within)), place_unlisted t p.1 e w.within, w.order))))
+    (le-ltb (serial_place t p.1) (serial_place t p.0)
+    (omega (arith, place_unlisted t p.0 e (omega (arith, w.order, w.within)), place_unlisted t p.1 e w.within, w.order))))
 
 -- What the search found is the pair of the definitions, with its place.
 has_place : (t : Tables) (a b : ℕ) → is_free (item_kind t a b) ≡ false → least_place t a b ≡ Some (unwrap_or (least_place t a b) no_place)
 has_place t a b e = elim (none_or_some (least_place t a b)) [
-  | inl none ↦ absurd (let free = kind_is t a b ∙ none_free (usages_of t a) (usages_of t b) (sym (place_is t a b) ∙ none) in let bad = sym e ∙ ap is_free free in cc)
+  | inl none ↦ absurd (let free = kind_is t a b ∙ none_free (usages_of t a) (usages_of t b) (sym (place_is t a b) ∙ none) in let bad =
+      sym e ∙ ap is_free free in cc)
   | inr some ↦ rw some.1 refl
 ]
 
-pub turned_found : (t : Tables) (p : Pair) → option_map (pair_of t) (turned_pair t) ≡ Some p → (turned_pair t ≡ Some (p.a, p.b)) × (least_place t p.a p.b ≡ Some p.place)
+pub turned_found : (t : Tables) (p : Pair) → option_map (pair_of t) (turned_pair t) ≡ Some p → (turned_pair t ≡ Some (p.a, p.b))
+    × (least_place t p.a p.b ≡ Some p.place)
 turned_found t p e = by (turned_pair t) refl
   where
     by : (o : Option (ℕ × ℕ)) → turned_pair t ≡ o → (turned_pair t ≡ Some (p.a, p.b)) × (least_place t p.a p.b ≡ Some p.place)
@@ -150,7 +179,8 @@ none_found t e = by (turned_pair t) refl
     by (Some q) f = absurd (let bad = rw f at e in cc)
 
 -- What the search against the places of the serial order finds.
-pub first_is : (t : Tables) (us : List (List Usage)) (asked : Option (List ℕ)) (places : List ℕ) (o : Option Pair) → usages t ≡ us → ArePlacesIn (serial t) (length t.items) places → asked ≡ Some places
+pub first_is : (t : Tables) (us : List (List Usage)) (asked : Option (List ℕ)) (places : List ℕ) (o : Option Pair) → usages t ≡ us
+    → ArePlacesIn (serial t) (length t.items) places → asked ≡ Some places
     → o ≡ find (λ (p : Pair). is_before p.kind) (left asked us 0 1) → option_map (pair_of t) (turned_pair t) ≡ o
 first_is t us asked places o e are is found =
     sym (turned_is t places are) ∙ ap (turned places) (sym (all_are t us e)) ∙ sym (first_against places us)
@@ -168,7 +198,8 @@ pub pair_end : (t : Tables) (p : Pair) → Contains (all_pairs t) p → p.b < le
 pair_end t p m = let of = of_list t p m in subst (λ (r : Pair). r.b < length t.items) (sym of.2) (pair_within t of.0 of.1).within
 
 pub pair_place : (t : Tables) (p : Pair) → Contains (all_pairs t) p → least_place t p.a p.b ≡ Some p.place
-pair_place t p m = let of = of_list t p m in subst (λ (r : Pair). least_place t r.a r.b ≡ Some r.place) (sym of.2) (has_place t of.0.0 of.0.1 (pair_within t of.0 of.1).meets)
+pair_place t p m = let of = of_list t p m in subst (λ (r : Pair). least_place t r.a r.b ≡ Some r.place) (sym of.2)
+    (has_place t of.0.0 of.0.1 (pair_within t of.0 of.1).meets)
 
 pub turned_within : (t : Tables) (p : ℕ × ℕ) → turned_pair t ≡ Some p → (p.0 < p.1) × (p.1 < length t.items)
 turned_within t p e = let w = pair_within t p (found_at (is_turned_pair t) (kinds.pairs t) p e).0 in (w.order, w.within)

@@ -24,13 +24,15 @@ use Rattle.item_uses.proofs.lemmas.LeastPlaces.{is_it_free, strongest_not_free}
 kind_by_place : (q r : Usage) → is_free (shared_kind q r) ≡ not (is_some (kind_place q r))
 kind_by_place q r = by (is_free (usage_kind q r)) refl (shared_place q r) refl
   where
-    by : (b : Bool) → is_free (usage_kind q r) ≡ b → (o : Option Place) → shared_place q r ≡ o → is_free (shared_kind q r) ≡ not (is_some (kind_place q r))
+    by : (b : Bool) → is_free (usage_kind q r) ≡ b → (o : Option Place) → shared_place q r ≡ o
+        → is_free (shared_kind q r) ≡ not (is_some (kind_place q r))
     by true e None f = rw (e, f) refl
     by true e (Some p) f = rw (f, e) refl
     by false e None f = rw (e, f) refl
     by false e (Some p) f = rw (f, e) refl
 
-free_member : (qs rs : List Usage) → ((q r : Usage) → Member qs q → Member rs r → is_free (shared_kind q r) ≡ true) → kind_between qs rs ≡ Free
+free_member : (qs rs : List Usage) → ((q r : Usage) → Member qs q → Member rs r → is_free (shared_kind q r) ≡ true)
+    → kind_between qs rs ≡ Free
 free_member qs rs h = only_free (kind_between qs rs) (strongest_below (flat_map (λ q. map (shared_kind q) rs) qs) Free
     (λ k m. let one = member_flat (λ q. map (shared_kind q) rs) qs k m in
     let other = member_map (shared_kind one.0) rs k one.2 in
@@ -39,19 +41,24 @@ free_member qs rs h = only_free (kind_between qs rs) (strongest_below (flat_map 
 pub none_free : (qs rs : List Usage) → place_between qs rs ≡ None → kind_between qs rs ≡ Free
 none_free qs rs e = free_member qs rs (λ q r m n. elim (none_or_some (kind_place q r)) [
   | inl none ↦ kind_by_place q r ∙ ap (λ o. not (is_some o)) none
-  | inr some ↦ absurd (subst (IsLeastPlace (flat_map (λ q. filter_map (kind_place q) rs) qs)) e (place_is_least (flat_map (λ q. filter_map (kind_place q) rs) qs)) some.0 (flat_member (λ q. filter_map (kind_place q) rs) qs q some.0 m (filter_map_member (kind_place q) rs r some.0 n some.1)))
+  | inr some ↦ absurd (subst (IsLeastPlace (flat_map (λ q. filter_map (kind_place q) rs) qs)) e
+      (place_is_least (flat_map (λ q. filter_map (kind_place q) rs) qs)) some.0
+      (flat_member (λ q. filter_map (kind_place q) rs) qs q some.0 m (filter_map_member (kind_place q) rs r some.0 n some.1)))
 ])
 
 pub some_not : (qs rs : List Usage) (p : Place) → place_between qs rs ≡ Some p → is_free (kind_between qs rs) ≡ false
 some_not qs rs p e =
-    let least = subst (IsLeastPlace (flat_map (λ q. filter_map (kind_place q) rs) qs)) e (place_is_least (flat_map (λ q. filter_map (kind_place q) rs) qs)) in
+    let least = subst (IsLeastPlace (flat_map (λ q. filter_map (kind_place q) rs) qs)) e
+    (place_is_least (flat_map (λ q. filter_map (kind_place q) rs) qs)) in
     let one = member_flat (λ q. filter_map (kind_place q) rs) qs p least.0 in
     let other = member_filter_map (kind_place one.0) rs p one.2 in
     strongest_not_free (flat_map (λ q. map (shared_kind q) rs) qs) (shared_kind one.0 other.0)
-    (flat_member (λ q. map (shared_kind q) rs) qs one.0 (shared_kind one.0 other.0) one.1 (map_member (shared_kind one.0) rs other.0 other.1))
+    (flat_member (λ q. map (shared_kind q) rs) qs one.0 (shared_kind one.0 other.0) one.1
+    (map_member (shared_kind one.0) rs other.0 other.1))
     (kind_by_place one.0 other.0 ∙ ap (λ o. not (is_some o)) other.2)
 
-pub free_both : (qs rs : List Usage) → (kind_between qs rs ≡ Free → place_between qs rs ≡ None) × (place_between qs rs ≡ None → kind_between qs rs ≡ Free)
+pub free_both : (qs rs : List Usage) → (kind_between qs rs ≡ Free → place_between qs rs ≡ None)
+    × (place_between qs rs ≡ None → kind_between qs rs ≡ Free)
 free_both qs rs = (
   λ free. elim (none_or_some (place_between qs rs)) [
     | inl none ↦ none
@@ -74,7 +81,8 @@ not_both low high from to x e a b c d = elim (apart low high from to e) [ inl p 
 pub nothing_shared : (s z : Span) (q r : Usage) → IsWithin s q → IsWithin z r → spans_overlap s z ≡ false → shared_place q r ≡ None
 nothing_shared s z q r a b e = by (eqb q.tree r.tree) refl (least_shared q.points r.points) refl (least_shared q.fields r.fields) refl
   where
-    by : (t : Bool) → eqb q.tree r.tree ≡ t → (x : Option ℕ) → least_shared q.points r.points ≡ x → (f : Option ℕ) → least_shared q.fields r.fields ≡ f → shared_place q r ≡ None
+    by : (t : Bool) → eqb q.tree r.tree ≡ t → (x : Option ℕ) → least_shared q.points r.points ≡ x → (f : Option ℕ)
+        → least_shared q.fields r.fields ≡ f → shared_place q r ≡ None
     by false et x ex f ef = rw et refl
     by true et None ex f ef = rw (et, ex) refl
     by true et (Some x) ex None ef = rw (et, ex, ef) refl
@@ -86,11 +94,15 @@ nothing_shared s z q r a b e = by (eqb q.tree r.tree) refl (least_shared q.point
         let p2 = b.points x (contains_of r.points x xs.1) in
         let g = a.fields f (contains_of q.fields f fs.0) in
         let g2 = b.fields f (contains_of r.fields f fs.1) in
-        absurd (elim (and_cases (overlap s.first_point s.last_point z.first_point z.last_point && overlap s.first_tree s.last_tree z.first_tree z.last_tree) (overlap s.first_field s.last_field z.first_field z.last_field) e) [
-          | inl here ↦ elim (and_cases (overlap s.first_point s.last_point z.first_point z.last_point) (overlap s.first_tree s.last_tree z.first_tree z.last_tree) here) [
-            | inl points ↦ not_both _ _ _ _ x points p.0 p.1 p2.0 p2.1
-            | inr trees ↦ not_both s.first_tree s.last_tree z.first_tree z.last_tree q.tree trees a.tree.0 a.tree.1 (omega (arith, b.tree, same)) (omega (arith, b.tree, same))
-          ]
+        absurd (elim (and_cases (overlap s.first_point s.last_point z.first_point z.last_point
+        && overlap s.first_tree s.last_tree z.first_tree z.last_tree)
+        (overlap s.first_field s.last_field z.first_field z.last_field) e) [
+          | inl here ↦ elim (and_cases (overlap s.first_point s.last_point z.first_point z.last_point)
+              (overlap s.first_tree s.last_tree z.first_tree z.last_tree) here) [
+                | inl points ↦ not_both _ _ _ _ x points p.0 p.1 p2.0 p2.1
+                | inr trees ↦ not_both s.first_tree s.last_tree z.first_tree z.last_tree q.tree trees a.tree.0 a.tree.1
+                    (omega (arith, b.tree, same)) (omega (arith, b.tree, same))
+              ]
           | inr fields ↦ not_both _ _ _ _ f fields g.0 g.1 g2.0 g2.1
         ])
 
@@ -106,7 +118,8 @@ agreeing Mixed y p q a b e = absurd cc
 
 free_within : (s z : Span) (q r : Usage) → IsWithin s q → IsWithin z r → may_interfere s z ≡ false → is_free (shared_kind q r) ≡ true
 free_within s z q r a b e = elim (and_cases (not (all_agree s.accesses z.accesses)) (spans_overlap s z) e) [
-  | inl same ↦ agreed q r (agreeing s.accesses z.accesses q.access r.access a.access b.access (not-false (all_agree s.accesses z.accesses) same))
+  | inl same ↦ agreed q r (agreeing s.accesses z.accesses q.access r.access a.access b.access
+      (not-false (all_agree s.accesses z.accesses) same))
   | inr apart ↦ ap is_free (none_kind q r (nothing_shared s z q r a b apart))
 ]
   where

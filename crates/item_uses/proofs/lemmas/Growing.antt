@@ -33,14 +33,16 @@ usages_is t a lt = at_number (usages_of t) 0 (length t.items) a [] lt ∙ ap (us
 abbrev pub with_reqs : Tables → List Req → Tables
 with_reqs t rs = record t { reqs = rs }
 
-map_each : {X Y : Type 0} (f : ℕ → Y) (g : X → Y) (xs : List X) (k : ℕ) → ((i : ℕ) (x : X) → slice_get xs i ≡ Some x → f (k + i) ≡ g x) → map f (range_with_len k (length xs)) ≡ map g xs
+map_each : {X Y : Type 0} (f : ℕ → Y) (g : X → Y) (xs : List X) (k : ℕ) → ((i : ℕ) (x : X) → slice_get xs i ≡ Some x → f (k + i) ≡ g x)
+    → map f (range_with_len k (length xs)) ≡ map g xs
 map_each f g [] k h = refl
 map_each f g (x ∷ xs) k h =
     let here : k + 0 ≡ k = omega arith in
     ap (λ y. y ∷ map f (range_with_len (k + 1) (length xs))) (ap f (sym here) ∙ h 0 x refl)
     ∙ ap (λ ys. g x ∷ ys) (map_each f g xs (k + 1) (λ i y e. let there : k + 1 + i ≡ k + suc i = omega arith in ap f there ∙ h (suc i) y e))
 
-own_is : (t : Tables) (i : ℕ) (it : Item) → (b : ItemBody) → it.body ≡ b → map (usage_of t) (uses_of_item (with_reqs t []) i it) ≡ own_usages t it
+own_is : (t : Tables) (i : ℕ) (it : Item) → (b : ItemBody) → it.body ≡ b
+    → map (usage_of t) (uses_of_item (with_reqs t []) i it) ≡ own_usages t it
 own_is t i it Task e = rw e refl
 own_is t i it (Fill tree space fields n) e = rw e refl
 
@@ -62,7 +64,8 @@ reqs_here t r i e = filter-append (λ (r : Req). r.item == i) t.reqs (r ∷ []) 
 reqs_other : (t : Tables) (r : Req) (i : ℕ) → (r.item == i) ≡ false → reqs_of (with_req t r) i ≡ reqs_of t i
 reqs_other t r i e = filter-append (λ (r : Req). r.item == i) t.reqs (r ∷ []) ∙ rw e (append-nil (reqs_of t i))
 
-item_other : (t : Tables) (r : Req) (i : ℕ) (it : Item) → (r.item == i) ≡ false → (b : ItemBody) → it.body ≡ b → uses_of_item (with_req t r) i it ≡ uses_of_item t i it
+item_other : (t : Tables) (r : Req) (i : ℕ) (it : Item) → (r.item == i) ≡ false → (b : ItemBody) → it.body ≡ b
+    → uses_of_item (with_req t r) i it ≡ uses_of_item t i it
 item_other t r i it e Task f = rw f (reqs_other t r i e)
 item_other t r i it e (Fill tree space fields n) f = rw f refl
 
@@ -88,7 +91,8 @@ uses_of_no_task t r i e = by (slice_get t.items i) refl
 uses_of_task : (t : Tables) (r : Req) → is_task_at t r.item ≡ true → uses_of (with_req t r) r.item ≡ uses_of t r.item ++ r ∷ []
 uses_of_task t r e = by (slice_get t.items r.item) refl
   where
-    task : (it : Item) → slice_get t.items r.item ≡ Some it → (b : ItemBody) → it.body ≡ b → uses_of (with_req t r) r.item ≡ uses_of t r.item ++ r ∷ []
+    task : (it : Item) → slice_get t.items r.item ≡ Some it → (b : ItemBody) → it.body ≡ b
+        → uses_of (with_req t r) r.item ≡ uses_of t r.item ++ r ∷ []
     task it f Task g = rw (f, g) (reqs_here t r r.item (eq-eqb r.item r.item refl))
     task it f (Fill tree space fields n) g = absurd (let bad = rw (f, g) at e in cc)
 
@@ -108,19 +112,28 @@ map_same : {X : Type 0} (f g : ℕ → X) (ns : List ℕ) → ((j : ℕ) → Mem
 map_same f g [] h = refl
 map_same f g (n ∷ ns) h = ap (λ x. x ∷ map g ns) (h n (inl refl)) ∙ ap (λ xs. f n ∷ xs) (map_same f g ns (λ j m. h j (inr m)))
 
-map_set : {X : Type 0} (f g : ℕ → X) (k n i : ℕ) → i < n → ((j : ℕ) → (j ≡ k + i → ⊥) → g j ≡ f j) → map g (range_with_len k n) ≡ set (map f (range_with_len k n)) i (g (k + i))
+map_set : {X : Type 0} (f g : ℕ → X) (k n i : ℕ) → i < n → ((j : ℕ) → (j ≡ k + i → ⊥) → g j ≡ f j)
+    → map g (range_with_len k n) ≡ set (map f (range_with_len k n)) i (g (k + i))
 map_set f g k zero i lt h = absurd (omega (arith, lt))
 map_set f g k (suc n) zero lt h =
     let same : k ≡ k + 0 = omega arith in
-    ap (λ xs. g k ∷ xs) (map_same f g (range_with_len (k + 1) n) (λ j m. h j (λ e. omega (arith, e, (number_between (k + 1) n j m).0)))) ∙ ap (λ j. g j ∷ map f (range_with_len (k + 1) n)) same
+    ap (λ xs. g k ∷ xs) (map_same f g (range_with_len (k + 1) n) (λ j m. h j (λ e. omega (arith, e, (number_between (k + 1) n j m).0))))
+    ∙ ap (λ j. g j ∷ map f (range_with_len (k + 1) n)) same
 map_set f g k (suc n) (suc i) lt h =
     let same : k + 1 + i ≡ k + suc i = omega arith in
     let other : (k ≡ k + suc i → ⊥) = λ e. omega (arith, e) in
     ap (λ x. x ∷ map g (range_with_len (k + 1) n)) (h k other)
-    ∙ ap (λ xs. f k ∷ xs) (map_set f g (k + 1) n i (omega (arith, lt)) (λ j d. h j (λ e. d (e ∙ sym same))) ∙ ap (λ j. set (map f (range_with_len (k + 1) n)) i (g j)) same)
+    ∙ ap (λ xs. f k ∷ xs) (map_set f g (k + 1) n i (omega (arith, lt)) (λ j d. h j (λ e. d (e ∙ sym same)))
+    ∙ ap (λ j. set (map f (range_with_len (k + 1) n)) i (g j)) same)
 
 pub usages_with_req : (t : Tables) (r : Req) → usages (with_req t r) ≡ with_usage t (usages t) r.item (usage_of t r)
-usages_with_req t r = elim (cases_Bool (is_task_at t r.item)) [ inl task ↦ rw task (at_task task) | inr other ↦ rw other (map_same (usages_of t) (usages_of (with_req t r)) (range_with_len 0 (length t.items)) (λ j m. ap (map (usage_of t)) (still other j))) ]
+usages_with_req t r =
+    elim (cases_Bool (is_task_at t r.item)) [
+      | inl task ↦ rw task (at_task task)
+      | inr other ↦
+          rw other (map_same (usages_of t) (usages_of (with_req t r)) (range_with_len 0 (length t.items))
+          (λ j m. ap (map (usage_of t)) (still other j)))
+    ]
   where
     still : is_task_at t r.item ≡ false → (j : ℕ) → uses_of (with_req t r) j ≡ uses_of t j
     still other j = elim (cases_Bool (r.item == j)) [
@@ -133,10 +146,12 @@ usages_with_req t r = elim (cases_Bool (is_task_at t r.item)) [ inl task ↦ rw 
         let at : 0 + r.item ≡ r.item = omega arith in
         map_set (usages_of t) (usages_of (with_req t r)) 0 (length t.items) r.item (task_within t r.item task)
         (λ j d. ap (map (usage_of t)) (uses_other t r j (ne_eqb r.item j (λ same. d (sym same ∙ sym at)))))
-        ∙ ap (λ us. set (usages t) r.item us) (ap (usages_of (with_req t r)) at ∙ ap (map (usage_of t)) (uses_of_task t r task) ∙ map-append (usage_of t) (uses_of t r.item) (r ∷ [])
+        ∙ ap (λ us. set (usages t) r.item us) (ap (usages_of (with_req t r)) at ∙ ap (map (usage_of t)) (uses_of_task t r task)
+        ∙ map-append (usage_of t) (uses_of t r.item) (r ∷ [])
         ∙ ap (λ us. us ++ usage_of t r ∷ []) (sym (usages_is t r.item (task_within t r.item task))))
 
-pub usages_step : (t : Tables) (us : List (List Usage)) (rs : List Req) (i : ℕ) (r : Req) → us ≡ usages (with_reqs t (take i rs)) → i < length rs → r ≡ get_or rs i r
+pub usages_step : (t : Tables) (us : List (List Usage)) (rs : List Req) (i : ℕ) (r : Req) → us ≡ usages (with_reqs t (take i rs))
+    → i < length rs → r ≡ get_or rs i r
     → with_usage t us r.item (usage_of t r) ≡ usages (with_reqs t (take (i + 1) rs))
 usages_step t us rs i r so_far lt is =
     ap (λ us. with_usage t us r.item (usage_of t r)) so_far ∙ sym (usages_with_req (with_reqs t (take i rs)) r)

@@ -20,7 +20,8 @@ covers_tells t p r e =
     (eqb-true r.tree p.tree a.0, member_in (points_in t r.space) p.point b.0, member_in r.fields p.field b.1)
 
 pub covers_so : (t : Tables) (p : Place) (r : Req) → Covers t p r → covers t p r ≡ true
-covers_so t p r c = and_from _ _ (eq-eqb r.tree p.tree c.0) (and_from _ _ (is_in_of (points_in t r.space) p.point c.1) (is_in_of r.fields p.field c.2))
+covers_so t p r c = and_from _ _ (eq-eqb r.tree p.tree c.0)
+    (and_from _ _ (is_in_of (points_in t r.space) p.point c.1) (is_in_of r.fields p.field c.2))
 
 -- The places that an item covers are those that one of its requirements covers.
 abbrev places_of_req : Tables → Req → List Place
@@ -29,10 +30,13 @@ places_of_req t r = map (λ (p : ℕ × ℕ). record { tree = r.tree; point = p.
 pub item_place : (t : Tables) (item : ℕ) (p : Place) (r : Req) → Member (uses_of t item) r → Covers t p r → Member (item_places t item) p
 item_place t item p r m c =
     let at : Member (places_of_req t r) (record { tree = r.tree; point = p.point; field = p.field }) =
-    map_member (λ (p : ℕ × ℕ). record { tree = r.tree; point = p.0; field = p.1 }) (req_grid t r) (p.point, p.field) (grid_member (points_in t r.space) r.fields p.point p.field c.1 c.2) in
-    flat_member (places_of_req t) (uses_of t item) r p m (subst (λ tree. Member (places_of_req t r) (record { tree = tree; point = p.point; field = p.field })) c.0 at)
+    map_member (λ (p : ℕ × ℕ). record { tree = r.tree; point = p.0; field = p.1 }) (req_grid t r) (p.point, p.field)
+    (grid_member (points_in t r.space) r.fields p.point p.field c.1 c.2) in
+    flat_member (places_of_req t) (uses_of t item) r p m
+    (subst (λ tree. Member (places_of_req t r) (record { tree = tree; point = p.point; field = p.field })) c.0 at)
 
-pub place_of_item : (t : Tables) (item : ℕ) (p : Place) → Member (item_places t item) p → (r : Req) × Member (uses_of t item) r × Covers t p r
+pub place_of_item : (t : Tables) (item : ℕ) (p : Place) → Member (item_places t item) p → (r : Req) × Member (uses_of t item) r
+    × Covers t p r
 place_of_item t item p m =
     let at = member_flat (places_of_req t) (uses_of t item) p m in
     let of = member_map (λ (p : ℕ × ℕ). record { tree = at.0.tree; point = p.0; field = p.1 }) (req_grid t at.0) p at.2 in
@@ -41,16 +45,20 @@ place_of_item t item p m =
 
 -- The kinds at a place.
 abbrev pub kinds_at : Tables → ℕ → ℕ → Place → List Kind
-kinds_at t a b p = flat_map (λ (q : Req). map (λ (r : Req). kind_of q.access q.coherence r.access r.coherence) (filter (covers t p) (uses_of t b))) (filter (covers t p) (uses_of t a))
+kinds_at t a b p = flat_map (λ (q : Req). map (λ (r : Req). kind_of q.access q.coherence r.access r.coherence)
+    (filter (covers t p) (uses_of t b))) (filter (covers t p) (uses_of t a))
 
 abbrev pub req_kind : Tables → Req → Req → Kind
 req_kind t q r = usage_kind (usage_of t q) (usage_of t r)
 
-pub kind_here : (t : Tables) (a b : ℕ) (p : Place) (q r : Req) → Member (uses_of t a) q → Member (uses_of t b) r → Covers t p q → Covers t p r → Member (kinds_at t a b p) (req_kind t q r)
+pub kind_here : (t : Tables) (a b : ℕ) (p : Place) (q r : Req) → Member (uses_of t a) q → Member (uses_of t b) r → Covers t p q
+    → Covers t p r → Member (kinds_at t a b p) (req_kind t q r)
 kind_here t a b p q r m n c d =
-    flat_member (λ (q : Req). map (λ (r : Req). kind_of q.access q.coherence r.access r.coherence) (filter (covers t p) (uses_of t b))) (filter (covers t p) (uses_of t a)) q (req_kind t q r)
+    flat_member (λ (q : Req). map (λ (r : Req). kind_of q.access q.coherence r.access r.coherence) (filter (covers t p) (uses_of t b)))
+    (filter (covers t p) (uses_of t a)) q (req_kind t q r)
     (filter_member (covers t p) (uses_of t a) q m (covers_so t p q c))
-    (map_member (λ (r : Req). kind_of q.access q.coherence r.access r.coherence) (filter (covers t p) (uses_of t b)) r (filter_member (covers t p) (uses_of t b) r n (covers_so t p r d)))
+    (map_member (λ (r : Req). kind_of q.access q.coherence r.access r.coherence) (filter (covers t p) (uses_of t b)) r
+    (filter_member (covers t p) (uses_of t b) r n (covers_so t p r d)))
 
 -- A kind at a place, with its two requirements.
 pub record Meets (t : Tables) (a b : ℕ) (p : Place) (k : Kind) : Type 0 where
@@ -64,24 +72,37 @@ pub record Meets (t : Tables) (a b : ℕ) (p : Place) (k : Kind) : Type 0 where
 
 pub meets_here : (t : Tables) (a b : ℕ) (p : Place) (k : Kind) → Member (kinds_at t a b p) k → Meets t a b p k
 meets_here t a b p k m =
-    let at = member_flat (λ (q : Req). map (λ (r : Req). kind_of q.access q.coherence r.access r.coherence) (filter (covers t p) (uses_of t b))) (filter (covers t p) (uses_of t a)) k m in
+    let at = member_flat (λ (q : Req). map (λ (r : Req). kind_of q.access q.coherence r.access r.coherence)
+    (filter (covers t p) (uses_of t b))) (filter (covers t p) (uses_of t a)) k m in
     let of = member_map (λ (r : Req). kind_of at.0.access at.0.coherence r.access r.coherence) (filter (covers t p) (uses_of t b)) k at.2 in
     let one = member_filter (covers t p) (uses_of t a) at.0 at.1 in
     let other = member_filter (covers t p) (uses_of t b) of.0 of.1 in
-    record { q = at.0; r = of.0; of_a = one.0; of_b = other.0; q_covers = covers_tells t p at.0 one.1; r_covers = covers_tells t p of.0 other.1; is = of.2 }
+    record {
+      q = at.0;
+      r = of.0;
+      of_a = one.0;
+      of_b = other.0;
+      q_covers = covers_tells t p at.0 one.1;
+      r_covers =
+          covers_tells t p of.0 other.1;
+      is = of.2;
+    }
 
 -- Two requirements that cover a place share one, no greater; and a place that they share is covered by both.
 pub shares : (t : Tables) (p : Place) (q r : Req) → Covers t p q → Covers t p r
-    → (x : ℕ) × (f : ℕ) × (x ≤ p.point) × (f ≤ p.field) × (shared_place (usage_of t q) (usage_of t r) ≡ Some (record { tree = p.tree; point = x; field = f }))
+    → (x : ℕ) × (f : ℕ) × (x ≤ p.point) × (f ≤ p.field)
+    × (shared_place (usage_of t q) (usage_of t r) ≡ Some (record { tree = p.tree; point = x; field = f }))
 shares t p q r c d =
     let x = shared_at (points_in t q.space) (points_in t r.space) p.point c.1 d.1 in
     let f = shared_at q.fields r.fields p.field c.2 d.2 in
     (x.0, f.0, x.2, f.2, rw (eq-eqb q.tree r.tree (c.0 ∙ sym d.0), x.1, f.1, c.0) refl)
 
 pub both_cover : (t : Tables) (p : Place) (q r : Req) → shared_place (usage_of t q) (usage_of t r) ≡ Some p → Covers t p q × Covers t p r
-both_cover t p q r = by (eqb q.tree r.tree) refl (least_shared (points_in t q.space) (points_in t r.space)) refl (least_shared q.fields r.fields) refl
+both_cover t p q r = by (eqb q.tree r.tree) refl (least_shared (points_in t q.space) (points_in t r.space)) refl
+    (least_shared q.fields r.fields) refl
   where
-    by : (b : Bool) → eqb q.tree r.tree ≡ b → (x : Option ℕ) → least_shared (points_in t q.space) (points_in t r.space) ≡ x → (f : Option ℕ) → least_shared q.fields r.fields ≡ f
+    by : (b : Bool) → eqb q.tree r.tree ≡ b → (x : Option ℕ) → least_shared (points_in t q.space) (points_in t r.space) ≡ x → (f : Option ℕ)
+        → least_shared q.fields r.fields ≡ f
         → shared_place (usage_of t q) (usage_of t r) ≡ Some p → Covers t p q × Covers t p r
     by false e x ex f ef h = absurd (let bad = rw e at h in cc)
     by true e None ex f ef h = absurd (let bad = rw (e, ex) at h in cc)
@@ -95,15 +116,19 @@ both_cover t p q r = by (eqb q.tree r.tree) refl (least_shared (points_in t q.sp
 
 -- ---- the kind of two items
 
-some_kind : (t : Tables) (q r : Req) (p : Place) → shared_place (usage_of t q) (usage_of t r) ≡ Some p → shared_kind (usage_of t q) (usage_of t r) ≡ req_kind t q r
+some_kind : (t : Tables) (q r : Req) (p : Place) → shared_place (usage_of t q) (usage_of t r) ≡ Some p
+    → shared_kind (usage_of t q) (usage_of t r) ≡ req_kind t q r
 some_kind t q r p e = rw e refl
 
-pub kind_of_two : (t : Tables) (a b : ℕ) (q r : Req) → Member (uses_of t a) q → Member (uses_of t b) r → Member (flat_map (λ q. map (shared_kind q) (usages_of t b)) (usages_of t a)) (shared_kind (usage_of t q) (usage_of t r))
-kind_of_two t a b q r m n = flat_member (λ q. map (shared_kind q) (usages_of t b)) (usages_of t a) (usage_of t q) (shared_kind (usage_of t q) (usage_of t r)) (map_member (usage_of t) (uses_of t a) q m)
+pub kind_of_two : (t : Tables) (a b : ℕ) (q r : Req) → Member (uses_of t a) q → Member (uses_of t b) r
+    → Member (flat_map (λ q. map (shared_kind q) (usages_of t b)) (usages_of t a)) (shared_kind (usage_of t q) (usage_of t r))
+kind_of_two t a b q r m n = flat_member (λ q. map (shared_kind q) (usages_of t b)) (usages_of t a) (usage_of t q)
+    (shared_kind (usage_of t q) (usage_of t r)) (map_member (usage_of t) (uses_of t a) q m)
     (map_member (shared_kind (usage_of t q)) (usages_of t b) (usage_of t r) (map_member (usage_of t) (uses_of t b) r n))
 
 -- The kind at a place is at most that of the items.
-at_most_items : (t : Tables) (a b : ℕ) (p : Place) (k : Kind) → Member (kinds_at t a b p) k → AtMost k (kind_between (usages_of t a) (usages_of t b))
+at_most_items : (t : Tables) (a b : ℕ) (p : Place) (k : Kind) → Member (kinds_at t a b p) k
+    → AtMost k (kind_between (usages_of t a) (usages_of t b))
 at_most_items t a b p k m =
     let h = meets_here t a b p k m in
     let s = shares t p h.q h.r h.q_covers h.r_covers in
@@ -111,24 +136,29 @@ at_most_items t a b p k m =
     (below_strongest _ (shared_kind (usage_of t h.q) (usage_of t h.r)) (kind_of_two t a b h.q h.r h.of_a h.of_b))
 
 -- What two requirements share is at most the kind at that place, and so of the items.
-at_most_places : (t : Tables) (a b : ℕ) (q r : Req) → Member (uses_of t a) q → Member (uses_of t b) r → AtMost (shared_kind (usage_of t q) (usage_of t r)) (item_kind t a b)
+at_most_places : (t : Tables) (a b : ℕ) (q r : Req) → Member (uses_of t a) q → Member (uses_of t b) r
+    → AtMost (shared_kind (usage_of t q) (usage_of t r)) (item_kind t a b)
 at_most_places t a b q r m n = by (shared_place (usage_of t q) (usage_of t r)) refl
   where
-    by : (o : Option Place) → shared_place (usage_of t q) (usage_of t r) ≡ o → AtMost (shared_kind (usage_of t q) (usage_of t r)) (item_kind t a b)
+    by : (o : Option Place) → shared_place (usage_of t q) (usage_of t r) ≡ o
+        → AtMost (shared_kind (usage_of t q) (usage_of t r)) (item_kind t a b)
     by None e = rw e refl
     by (Some p) e =
         let c = both_cover t p q r e in
         let here = below_strongest (kinds_at t a b p) (req_kind t q r) (kind_here t a b p q r m n c.0 c.1) in
         let there = below_strongest _ (kind_at t a b p) (map_member (kind_at t a b) (item_places t a) p (item_place t a p q m c.0)) in
-        subst (λ k. AtMost k (item_kind t a b)) (sym (some_kind t q r p e)) (at_most_trans (req_kind t q r) (kind_at t a b p) (item_kind t a b) here there)
+        subst (λ k. AtMost k (item_kind t a b)) (sym (some_kind t q r p e))
+        (at_most_trans (req_kind t q r) (kind_at t a b p) (item_kind t a b) here there)
 
 pub kind_is : (t : Tables) (a b : ℕ) → item_kind t a b ≡ kind_between (usages_of t a) (usages_of t b)
 kind_is t a b = strongest_same (map (kind_at t a b) (item_places t a)) (flat_map (λ q. map (shared_kind q) (usages_of t b)) (usages_of t a))
     (λ k m. let at = member_map (kind_at t a b) (item_places t a) k m in
-    subst (λ k. AtMost k (kind_between (usages_of t a) (usages_of t b))) (sym at.2) (strongest_below (kinds_at t a b at.0) (kind_between (usages_of t a) (usages_of t b)) (at_most_items t a b at.0)))
+    subst (λ k. AtMost k (kind_between (usages_of t a) (usages_of t b))) (sym at.2)
+    (strongest_below (kinds_at t a b at.0) (kind_between (usages_of t a) (usages_of t b)) (at_most_items t a b at.0)))
     (λ k m.
     let one = member_flat (λ q. map (shared_kind q) (usages_of t b)) (usages_of t a) k m in
     let other = member_map (shared_kind one.0) (usages_of t b) k one.2 in
     let q = member_map (usage_of t) (uses_of t a) one.0 one.1 in
     let r = member_map (usage_of t) (uses_of t b) other.0 other.1 in
-    subst (λ k. AtMost k (item_kind t a b)) (sym (other.2 ∙ ap (shared_kind one.0) r.2 ∙ ap (λ u. shared_kind u (usage_of t r.0)) q.2)) (at_most_places t a b q.0 r.0 q.1 r.1))
+    subst (λ k. AtMost k (item_kind t a b)) (sym (other.2 ∙ ap (shared_kind one.0) r.2 ∙ ap (λ u. shared_kind u (usage_of t r.0)) q.2))
+    (at_most_places t a b q.0 r.0 q.1 r.1))

@@ -27,7 +27,8 @@ some_not_free (Before ∷ ks) e = (Before, inl refl, refl)
 pub strongest_not_free : (ks : List Kind) (k : Kind) → Member ks k → is_free k ≡ false → is_free (strongest ks) ≡ false
 strongest_not_free ks k m e = elim (cases_Bool (is_free (strongest ks))) [
   | inr not_so ↦ not_so
-  | inl so ↦ absurd (true≢false (sym (ap is_free (only_free k (subst (AtMost k) (is_it_free (strongest ks) so) (below_strongest ks k m)))) ∙ e))
+  | inl so ↦ absurd (true≢false (sym (ap is_free (only_free k (subst (AtMost k) (is_it_free (strongest ks) so) (below_strongest ks k m))))
+      ∙ e))
 ]
 
 abbrev interferes : Tables → ℕ → ℕ → Place → Bool
@@ -39,7 +40,8 @@ kind_place_of q r p e f = rw e f
 kind_place_tells : (q r : Usage) (p : Place) → kind_place q r ≡ Some p → (is_free (usage_kind q r) ≡ false) × (shared_place q r ≡ Some p)
 kind_place_tells q r p = by (is_free (usage_kind q r)) refl
   where
-    by : (b : Bool) → is_free (usage_kind q r) ≡ b → kind_place q r ≡ Some p → (is_free (usage_kind q r) ≡ false) × (shared_place q r ≡ Some p)
+    by : (b : Bool) → is_free (usage_kind q r) ≡ b → kind_place q r ≡ Some p → (is_free (usage_kind q r) ≡ false)
+        × (shared_place q r ≡ Some p)
     by true e h = absurd (let bad = rw e at h in cc)
     by false e h = (e, rw e at h)
 
@@ -52,23 +54,28 @@ within t a b p m =
     let other = member_filter_map (kind_place one.0) (usages_of t b) p one.2 in
     let q = member_map (usage_of t) (uses_of t a) one.0 one.1 in
     let r = member_map (usage_of t) (uses_of t b) other.0 other.1 in
-    let is : kind_place (usage_of t q.0) (usage_of t r.0) ≡ Some p = ap (kind_place (usage_of t q.0)) (sym r.2) ∙ ap (λ u. kind_place u other.0) (sym q.2) ∙ other.2 in
+    let is : kind_place (usage_of t q.0) (usage_of t r.0) ≡ Some p =
+    ap (kind_place (usage_of t q.0)) (sym r.2) ∙ ap (λ u. kind_place u other.0) (sym q.2) ∙ other.2 in
     let tells = kind_place_tells (usage_of t q.0) (usage_of t r.0) p is in
     let c = both_cover t p q.0 r.0 tells.1 in
     filter_member (interferes t a b) (item_places t a) p (item_place t a p q.0 q.1 c.0)
     (ap not (strongest_not_free (kinds_at t a b p) (req_kind t q.0 r.0) (kind_here t a b p q.0 r.0 q.1 r.1 c.0 c.1) tells.0))
 
-below : (t : Tables) (a b : ℕ) (p : Place) → Member (filter (interferes t a b) (item_places t a)) p → (q : Place) × Member (places_of_two t a b) q × (first p q ≡ false)
+below : (t : Tables) (a b : ℕ) (p : Place) → Member (filter (interferes t a b) (item_places t a)) p → (q : Place)
+    × Member (places_of_two t a b) q × (first p q ≡ false)
 below t a b p m =
     let at = member_filter (interferes t a b) (item_places t a) p m in
     let k = some_not_free (kinds_at t a b p) (not-true (is_free (kind_at t a b p)) at.1) in
     let h = meets_here t a b p k.0 k.1 in
     let s = shares t p h.q h.r h.q_covers h.r_covers in
     let place : Place = record { tree = p.tree; point = s.0; field = s.1 } in
-    let is : kind_place (usage_of t h.q) (usage_of t h.r) ≡ Some place = kind_place_of (usage_of t h.q) (usage_of t h.r) place (ap is_free (sym h.is) ∙ k.2) s.4 in (
+    let is : kind_place (usage_of t h.q) (usage_of t h.r) ≡ Some place =
+    kind_place_of (usage_of t h.q) (usage_of t h.r) place (ap is_free (sym h.is) ∙ k.2) s.4 in (
       place,
-      flat_member (λ q. filter_map (kind_place q) (usages_of t b)) (usages_of t a) (usage_of t h.q) place (map_member (usage_of t) (uses_of t a) h.q h.of_a)
-          (filter_map_member (kind_place (usage_of t h.q)) (usages_of t b) (usage_of t h.r) place (map_member (usage_of t) (uses_of t b) h.r h.of_b) is),
+      flat_member (λ q. filter_map (kind_place q) (usages_of t b)) (usages_of t a) (usage_of t h.q) place
+          (map_member (usage_of t) (uses_of t a) h.q h.of_a)
+          (filter_map_member (kind_place (usage_of t h.q)) (usages_of t b) (usage_of t h.r) place
+          (map_member (usage_of t) (uses_of t b) h.r h.of_b) is),
       not_behind place p refl s.2 s.3,
     )
 

@@ -27,7 +27,8 @@ in_flat f (z ∷ xs) x y h k = elim (one_of z xs x h) [
   | inr later ↦ Contains-append_right (f z) (flat_map f xs) y (in_flat f xs x y later k)
 ]
 
-pub of_flat : {X Y : Type 0} (f : X → List Y) (xs : List X) (y : Y) → Contains (flat_map f xs) y → (x : X) × Contains xs x × Contains (f x) y
+pub of_flat : {X Y : Type 0} (f : X → List Y) (xs : List X) (y : Y) → Contains (flat_map f xs) y → (x : X) × Contains xs x
+    × Contains (f x) y
 of_flat f [] y h = absurd (omega (arith, h.1))
 of_flat f (x ∷ xs) y h = elim (Contains-append_cases (f x) (flat_map f xs) y h) [
   | inl first ↦ (x, (0, omega arith, refl), first)

@@ -18,17 +18,20 @@ pub or_none : {X : Type 0} (o : Option X) → option_or o None ≡ o
 or_none None = refl
 or_none (Some x) = refl
 
-pub position_from-map : {X K : Type 0} (f : X → K) (p : K → Bool) (k : ℕ) (xs : List X) → position_from p k (map f xs) ≡ position_from (λ x. p (f x)) k xs
+pub position_from-map : {X K : Type 0} (f : X → K) (p : K → Bool) (k : ℕ) (xs : List X)
+    → position_from p k (map f xs) ≡ position_from (λ x. p (f x)) k xs
 position_from-map f p k [] = refl
 position_from-map f p k (x ∷ xs) = ap (cond (p (f x)) (Some k)) (position_from-map f p (k + 1) xs)
 
 -- the element at the first place is the first element
-find_from : {X : Type 0} (p : X → Bool) (k i : ℕ) (xs : List X) → position_from p k xs ≡ Some i → (k ≤ i) × (find p xs ≡ slice_get xs (i - k))
+find_from : {X : Type 0} (p : X → Bool) (k i : ℕ) (xs : List X) → position_from p k xs ≡ Some i → (k ≤ i)
+    × (find p xs ≡ slice_get xs (i - k))
 find_from p k i [] e = absurd (none-some i e)
 find_from p k i (x ∷ xs) e =
     elim (cases_Bool (p x)) [
       | inl hit ↦ let here : k ≡ i = same_Some k i (rw hit at e) in let z : i - k ≡ 0 = omega arith in (omega arith, rw (hit, z) refl)
-      | inr miss ↦ let h = find_from p (k + 1) i xs (rw miss at e) in let z : i - k ≡ suc (i - (k + 1)) = omega (arith, h.0) in (omega (arith, h.0), rw (miss, z) h.1)
+      | inr miss ↦ let h = find_from p (k + 1) i xs (rw miss at e) in let z : i - k ≡ suc (i - (k + 1)) = omega (arith, h.0) in
+          (omega (arith, h.0), rw (miss, z) h.1)
     ]
 
 pub find_place : {X : Type 0} (p : X → Bool) (i : ℕ) (xs : List X) → position_from p 0 xs ≡ Some i → find p xs ≡ slice_get xs i
@@ -37,21 +40,28 @@ find_place p i xs e = let z : i - 0 ≡ i = omega arith in rw z at (find_from p 
 find_none_from : {X : Type 0} (p : X → Bool) (k : ℕ) (xs : List X) → position_from p k xs ≡ None → find p xs ≡ None
 find_none_from p k [] e = refl
 find_none_from p k (x ∷ xs) e =
-    elim (cases_Bool (p x)) [ inl hit ↦ absurd (none-some k (sym (rw hit at e))) | inr miss ↦ rw miss (find_none_from p (k + 1) xs (rw miss at e)) ]
+    elim (cases_Bool (p x)) [
+      | inl hit ↦ absurd (none-some k (sym (rw hit at e)))
+      | inr miss ↦
+          rw miss (find_none_from p (k + 1) xs (rw miss at e))
+    ]
 
 pub find_none : {X : Type 0} (p : X → Bool) (xs : List X) → position_from p 0 xs ≡ None → find p xs ≡ None
 find_none p xs e = find_none_from p 0 xs e
 
-pub find_by_place : {X : Type 0} (p : X → Bool) (xs : List X) (o : Option ℕ) → o ≡ position_from p 0 xs → option_and_then (slice_get xs) o ≡ find p xs
+pub find_by_place : {X : Type 0} (p : X → Bool) (xs : List X) (o : Option ℕ) → o ≡ position_from p 0 xs
+    → option_and_then (slice_get xs) o ≡ find p xs
 find_by_place p xs (Some i) e = sym (find_place p i xs (sym e))
 find_by_place p xs None e = sym (find_none p xs (sym e))
 
 -- an item through a function
-pub seen_at : {X Y : Type 0} (f : X → Y) (xs : List X) (o : Option ℕ) → option_map f (option_and_then (slice_get xs) o) ≡ option_and_then (slice_get (map f xs)) o
+pub seen_at : {X Y : Type 0} (f : X → Y) (xs : List X) (o : Option ℕ)
+    → option_map f (option_and_then (slice_get xs) o) ≡ option_and_then (slice_get (map f xs)) o
 seen_at f xs (Some i) = sym (slice_get-map f xs i)
 seen_at f xs None = refl
 
-pub seen_back : {X Y : Type 0} (f : X → Y) (xs : List X) (i : ℕ) (y : Y) → slice_get (map f xs) i ≡ Some y → (x : X) × (slice_get xs i ≡ Some x) × (f x ≡ y)
+pub seen_back : {X Y : Type 0} (f : X → Y) (xs : List X) (i : ℕ) (y : Y) → slice_get (map f xs) i ≡ Some y → (x : X)
+    × (slice_get xs i ≡ Some x) × (f x ≡ y)
 seen_back f xs i y at = map_cases f (slice_get xs i) y (sym (slice_get-map f xs i) ∙ at)
 
 pub seen_behind : {X Y : Type 0} (f : X → Y) (r : Option (Bor X)) → option_map (λ s. f s.now) r ≡ option_map f (option_copied r)

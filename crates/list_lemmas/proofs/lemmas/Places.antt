@@ -7,7 +7,8 @@ use Rattle.std.proofs.lemmas.Option.{none-some, same_Some}
 use Rattle.std.proofs.lemmas.List.Elements.{All-head, All-tail}
 
 -- one row more
-pub position_more : {X : Type 0} (p : X → Bool) (k : ℕ) (xs : List X) (x : X) → position_from p k (xs ++ x ∷ []) ≡ option_or (position_from p k xs) (cond (p x) (Some (k + length xs)) None)
+pub position_more : {X : Type 0} (p : X → Bool) (k : ℕ) (xs : List X) (x : X)
+    → position_from p k (xs ++ x ∷ []) ≡ option_or (position_from p k xs) (cond (p x) (Some (k + length xs)) None)
 position_more p k [] x = let z : k + 0 ≡ k = omega arith in rw z refl
 position_more p k (y ∷ ys) x =
     elim (cases_Bool (p y)) [
@@ -38,6 +39,7 @@ all_found P p (y ∷ ys) x all e =
       | inr miss ↦ all_found P p ys x (All-tail P y ys all) (rw miss at e)
     ]
 
-pub all_found_behind : {X : Type 0} (P : X → Type 0) (p : X → Bool) (xs : List X) (o : Option (Bor X)) → All P xs → option_copied o ≡ find p xs → IfSome o (λ r. P r.now)
+pub all_found_behind : {X : Type 0} (P : X → Type 0) (p : X → Bool) (xs : List X) (o : Option (Bor X)) → All P xs
+    → option_copied o ≡ find p xs → IfSome o (λ r. P r.now)
 all_found_behind P p xs None all e = tt
 all_found_behind P p xs (Some r) all e = all_found P p xs r.now all (sym e)

@@ -10,21 +10,27 @@ use Rattle.spy_grammar.specs.declared.record.Record.TheVariants.{Ispace, Fields,
 use Rattle.log_tables.specs.Views.{Ascends}
 
 -- Where each element stands before the next.
-rise : {X : Type 0} (before : X → X → Bool) (R : X → X → Type 0) → ((x y : X) → before x y ≡ true → R x y) → (xs : List X) → ascends before xs ≡ true → (k : ℕ) (d : X) → k + 1 < length xs → R (get_or xs k d) (get_or xs (k + 1) d)
+rise : {X : Type 0} (before : X → X → Bool) (R : X → X → Type 0) → ((x y : X) → before x y ≡ true → R x y) → (xs : List X)
+    → ascends before xs ≡ true → (k : ℕ) (d : X) → k + 1 < length xs → R (get_or xs k d) (get_or xs (k + 1) d)
 rise before R tells [] up k d lt = absurd (omega (arith, lt))
 rise before R tells (x ∷ []) up k d lt = absurd (omega (arith, lt))
 rise before R tells (x ∷ y ∷ xs) up zero d lt = tells x y (and_parts (before x y) (ascends before (y ∷ xs)) up).0
 rise before R tells (x ∷ y ∷ xs) up (suc k) d lt =
     let next : suc (k + 1) ≡ suc k + 1 = omega arith in
-    subst (λ m. R (get_or (y ∷ xs) k d) (get_or (x ∷ y ∷ xs) m d)) next (rise before R tells (y ∷ xs) (and_parts (before x y) (ascends before (y ∷ xs)) up).1 k d (omega (arith, lt)))
+    subst (λ m. R (get_or (y ∷ xs) k d) (get_or (x ∷ y ∷ xs) m d)) next
+    (rise before R tells (y ∷ xs) (and_parts (before x y) (ascends before (y ∷ xs)) up).1 k d (omega (arith, lt)))
 
 spans : (ps : List (ℕ × ℕ)) → All IsSpan ps → All (λ (p : ℕ × ℕ). p.0 ≤ p.1) ps
 spans ps all k d lt = (all k d lt).0
 
 pub good_ascends : (r : Record) → Good r → Ascends r
-good_ascends (Ispace id set) good = (spans set (All-from_recursion IsSpan set good.1.0.0), rise span_before (λ p q. p.1 < q.0) (λ p q e. ltb-true p.1 q.0 e) set good.1.0.1)
+good_ascends (Ispace id set) good = (
+  spans set (All-from_recursion IsSpan set good.1.0.0),
+  rise span_before (λ p q. p.1 < q.0) (λ p q e. ltb-true p.1 q.0 e) set good.1.0.1,
+)
 good_ascends (Fields id fields) good = λ k. rise nat_lt (λ m n. m < n) (λ m n e. ltb-true m n e) fields good.1.0.1 k 0
-good_ascends (Req task tree space fields access atomic) good = λ k. rise nat_lt (λ m n. m < n) (λ m n e. ltb-true m n e) fields good.1.1.1.0.1 k 0
+good_ascends (Req task tree space fields access atomic) good =
+    λ k. rise nat_lt (λ m n. m < n) (λ m n e. ltb-true m n e) fields good.1.1.1.0.1 k 0
 good_ascends (Fill id tree space fields n) good = λ k. rise nat_lt (λ m n. m < n) (λ m n e. ltb-true m n e) fields good.1.1.1.0.1 k 0
 good_ascends (Inst id tree space fields kind) good = λ k. rise nat_lt (λ m n. m < n) (λ m n e. ltb-true m n e) fields good.1.1.1.0.1 k 0
 good_ascends _ good = tt

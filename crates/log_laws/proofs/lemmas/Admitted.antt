@@ -18,7 +18,8 @@ pub record Unbroken (log : List Record) (earlier : List Lined) (r : Record) : Ty
   pub none : first_broken (record_in log earlier r) ≡ None
 
 -- So it does not break the rule with this code, which is one of those on single records.
-pub rule_kept : {log : List Record} {earlier : List Lined} {r : Record} (code : Code) → is_record_rule code ≡ true → Unbroken log earlier r → breaks (record_in log earlier r) code ≡ false
+pub rule_kept : {log : List Record} {earlier : List Lined} {r : Record} (code : Code) → is_record_rule code ≡ true → Unbroken log earlier r
+    → breaks (record_in log earlier r) code ≡ false
 rule_kept {log} {earlier} {r} code is u = none_passes (breaks (record_in log earlier r)) u.none code is
 
 -- Where no record breaks a rule, the first does not, nor do the later.
@@ -30,17 +31,21 @@ unbroken log earlier l rest e =
 
 -- What holds of no tables, and stays with each good record that breaks no rule, holds of the tables of the log. (`G` is what is known of each record by itself.)
 pub by_records : (G : Record → Type 0) (P : Tables → Type 0) (log : List Record)
-    → ((earlier : List Lined) (l : Lined) → Unbroken log earlier l.rec → G l.rec → P (tables_of earlier) → P (with_record (tables_of earlier) l.line l.rec))
-    → (earlier rest : List Lined) → AllByRecursion G (records_of rest) → records_fault log earlier rest ≡ None → P (tables_of earlier) → P (tables_of (earlier ++ rest))
+    → ((earlier : List Lined) (l : Lined) → Unbroken log earlier l.rec → G l.rec → P (tables_of earlier)
+    → P (with_record (tables_of earlier) l.line l.rec))
+    → (earlier rest : List Lined) → AllByRecursion G (records_of rest) → records_fault log earlier rest ≡ None → P (tables_of earlier)
+    → P (tables_of (earlier ++ rest))
 by_records G P log step earlier [] good e h = subst (λ ls. P (tables_of ls)) (sym (append-nil earlier)) h
 by_records G P log step earlier (l ∷ rest) good e h =
     let parts = unbroken log earlier l rest e in
     let one_more = fold-append (λ t (l : Lined). with_record t l.line l.rec) no_tables earlier (l ∷ []) in
     let next : P (tables_of (earlier ++ l ∷ [])) = subst P (sym one_more) (step earlier l parts.0 good.0 h) in
-    subst (λ ls. P (tables_of ls)) (append_assoc earlier (l ∷ []) rest) (by_records G P log step (earlier ++ l ∷ []) rest good.1 parts.1 next)
+    subst (λ ls. P (tables_of ls)) (append_assoc earlier (l ∷ []) rest)
+    (by_records G P log step (earlier ++ l ∷ []) rest good.1 parts.1 next)
 
 -- Each record of a log without a broken rule breaks none at its place.
-pub each_unbroken : (log : List Record) (earlier rest : List Lined) → records_fault log earlier rest ≡ None → (r : Record) → Member (records_of rest) r → (before : List Lined) × Unbroken log before r
+pub each_unbroken : (log : List Record) (earlier rest : List Lined) → records_fault log earlier rest ≡ None → (r : Record)
+    → Member (records_of rest) r → (before : List Lined) × Unbroken log before r
 each_unbroken log earlier [] e r m = absurd m
 each_unbroken log earlier (l ∷ rest) e r (inl is) = (earlier, subst (Unbroken log earlier) (sym is) (unbroken log earlier l rest e).0)
 each_unbroken log earlier (l ∷ rest) e r (inr later) = each_unbroken log (earlier ++ l ∷ []) rest (unbroken log earlier l rest e).1 r later
@@ -48,7 +53,13 @@ each_unbroken log earlier (l ∷ rest) e r (inr later) = each_unbroken log (earl
 pub keeps_of : (log : List Record) (earlier : List Lined) (r : Record) → Unbroken log earlier r → Keeps (tables_of earlier) r
 keeps_of log earlier r u =
     let known = or_parts (not (list_all (is_declared (tables_of earlier)) (names r))) _ (rule_kept codes.UnknownId refl u) in
-    record { declared = not-false _ known.0; named = known.1; own = rule_kept codes.SelfInterference refl u; tree = rule_kept codes.WrongTree refl u }
+    record {
+      declared = not-false _ known.0;
+      named = known.1;
+      own = rule_kept codes.SelfInterference refl u;
+      tree =
+          rule_kept codes.WrongTree refl u;
+    }
 
 -- What the laws use of a log of which a command shows no fault. Nothing of it is about the serial order.
 pub record IsFaultless (command : Command) (log : List Lined) : Type 0 where
@@ -68,11 +79,14 @@ faultless command lines log e =
     record { records = no_broken_rule lines log both.0; maps = (both_none (serial_fault (tables_of log)) _ both.1).1 }
 
 pub sane : (command : Command) (log : List Lined) → IsFaultless command log → AreSane (tables_of log)
-sane command log f = by_records (λ r. Unit {0}) AreSane (records_of log) (λ earlier l u _. with_kept (tables_of earlier) l.line l.rec (keeps_of (records_of log) earlier l.rec u))
+sane command log f = by_records (λ r. Unit {0}) AreSane (records_of log)
+    (λ earlier l u _. with_kept (tables_of earlier) l.line l.rec (keeps_of (records_of log) earlier l.rec u))
     [] log (recursion_from_All _ (records_of log) (λ k d lt. tt)) f.records nothing_sane
 
 -- Each field of a requirement is mapped.
-pub all_mapped : (log : List Lined) → IsFaultless Check log → (r : Req) (field : ℕ) → Member (tables_of log).reqs r → Member r.fields field → is_some (mapped (tables_of log) r field) ≡ true
+pub all_mapped : (log : List Lined) → IsFaultless Check log → (r : Req) (field : ℕ) → Member (tables_of log).reqs r → Member r.fields field
+    → is_some (mapped (tables_of log) r field) ≡ true
 all_mapped log f r field m is =
-    let none = none_found (λ (r : Req). not (list_all (λ n. is_some (mapped (tables_of log) r n)) r.fields)) (tables_of log).reqs r (unmapped_none _ _ f.maps) m in
+    let none = none_found (λ (r : Req). not (list_all (λ n. is_some (mapped (tables_of log) r n)) r.fields)) (tables_of log).reqs r
+    (unmapped_none _ _ f.maps) m in
     all_at (λ n. is_some (mapped (tables_of log) r n)) r.fields field (not-false _ none) is

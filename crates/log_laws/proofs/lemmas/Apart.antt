@@ -16,7 +16,9 @@ PairsBy R (x ∷ xs) = ((y : _) → Member xs y → R x y) × PairsBy R xs
 
 pub all_pairs : {X : Type 0} (R : X → X → Type 0) (xs : List X) → PairsBy R xs → AllPairs R xs
 all_pairs R [] h = λ i j d lt within. absurd (omega (arith, within))
-all_pairs R (x ∷ xs) h = AllPairs-cons R x xs (λ k d within. h.0 (get_or xs k d) (member_of xs (get_or xs k d) (Contains-get_or xs k d within))) (all_pairs R xs h.1)
+all_pairs R (x ∷ xs) h =
+    AllPairs-cons R x xs (λ k d within. h.0 (get_or xs k d) (member_of xs (get_or xs k d) (Contains-get_or xs k d within)))
+    (all_pairs R xs h.1)
 
 pub pairs_from : {X : Type 0} (R : X → X → Type 0) (xs : List X) → AllPairs R xs → PairsBy R xs
 pairs_from R [] h = tt
@@ -25,7 +27,8 @@ pairs_from R (x ∷ xs) h = (
   pairs_from R xs (λ i j d lt within. h (suc i) (suc j) d (omega (arith, lt)) (omega (arith, within))),
 )
 
-pub pairs_append : {X : Type 0} (R : X → X → Type 0) (xs ys : List X) → PairsBy R xs → PairsBy R ys → ((x y : X) → Member xs x → Member ys y → R x y) → PairsBy R (xs ++ ys)
+pub pairs_append : {X : Type 0} (R : X → X → Type 0) (xs ys : List X) → PairsBy R xs → PairsBy R ys
+    → ((x y : X) → Member xs x → Member ys y → R x y) → PairsBy R (xs ++ ys)
 pairs_append R [] ys h g between = g
 pairs_append R (x ∷ xs) ys h g between = (
   λ y m. elim (member_append xs ys y m) [ inl l ↦ h.0 y l | inr r ↦ between x y (inl refl) r ],
@@ -40,15 +43,18 @@ pub pairs_where : {X : Type 0} (R : X → X → Type 0) (xs : List X) → ((x y 
 pairs_where R [] h = tt
 pairs_where R (x ∷ xs) h = (λ y m. h x y (inl refl) (inr m), pairs_where R xs (λ a b m n. h a b (inr m) (inr n)))
 
-pub pairs_so : {X : Type 0} (R S : X → X → Type 0) (xs : List X) → ((x y : X) → Member xs x → Member xs y → R x y → S x y) → PairsBy R xs → PairsBy S xs
+pub pairs_so : {X : Type 0} (R S : X → X → Type 0) (xs : List X) → ((x y : X) → Member xs x → Member xs y → R x y → S x y) → PairsBy R xs
+    → PairsBy S xs
 pairs_so R S [] so h = tt
 pairs_so R S (x ∷ xs) so h = (λ y m. so x y (inl refl) (inr m) (h.0 y m), pairs_so R S xs (λ a b m n. so a b (inr m) (inr n)) h.1)
 
-pub pairs_more : {X : Type 0} (R : X → X → Type 0) (xs : List X) (y : X) → PairsBy R xs → ((x : X) → Member xs x → R x y) → PairsBy R (xs ++ y ∷ [])
+pub pairs_more : {X : Type 0} (R : X → X → Type 0) (xs : List X) (y : X) → PairsBy R xs → ((x : X) → Member xs x → R x y)
+    → PairsBy R (xs ++ y ∷ [])
 pairs_more R xs y h new = pairs_append R xs (y ∷ []) h (λ z m. absurd m, tt) (λ x z m n. subst (R x) (sym (only n)) (new x m))
 
 -- Two members are one, or one of them is the earlier.
-pub pairs_of : {X : Type 0} (R : X → X → Type 0) (xs : List X) → PairsBy R xs → (x y : X) → Member xs x → Member xs y → (x ≡ y) ⊎ (R x y ⊎ R y x)
+pub pairs_of : {X : Type 0} (R : X → X → Type 0) (xs : List X) → PairsBy R xs → (x y : X) → Member xs x → Member xs y → (x ≡ y)
+    ⊎ (R x y ⊎ R y x)
 pairs_of R [] h x y m n = absurd m
 pairs_of R (z ∷ xs) h x y (inl a) (inl b) = inl (a ∙ sym b)
 pairs_of R (z ∷ xs) h x y (inl a) (inr n) = inr (inl (subst (λ z. R z y) (sym a) (h.0 y n)))
@@ -73,9 +79,11 @@ pub apart_filter : {X : Type 0} (p : X → Bool) (xs : List X) → Apart xs → 
 apart_filter p xs h = pairs_from (λ x y. x ≢ y) (filter p xs) (AllPairs-filter (λ x y. x ≢ y) p xs (all_pairs (λ x y. x ≢ y) xs h))
 
 -- Lists made of different elements have nothing in common.
-pub apart_flat : {X Y : Type 0} (f : X → List Y) (xs : List X) → ((x : X) → Member xs x → Apart (f x)) → ((x y : X) (z : Y) → Member xs x → Member xs y → Member (f x) z → Member (f y) z → x ≡ y)
+pub apart_flat : {X Y : Type 0} (f : X → List Y) (xs : List X) → ((x : X) → Member xs x → Apart (f x))
+    → ((x y : X) (z : Y) → Member xs x → Member xs y → Member (f x) z → Member (f y) z → x ≡ y)
     → Apart xs → Apart (flat_map f xs)
-apart_flat f xs each one h = pairs_flat (λ x y. x ≢ y) f xs each (pairs_so (λ x y. x ≢ y) _ xs (λ x y m n d a b i j e. d (one x y a m n i (subst (Member (f y)) (sym e) j))) h)
+apart_flat f xs each one h = pairs_flat (λ x y. x ≢ y) f xs each
+    (pairs_so (λ x y. x ≢ y) _ xs (λ x y m n d a b i j e. d (one x y a m n i (subst (Member (f y)) (sym e) j))) h)
 
 -- ---- numbers
 
@@ -89,7 +97,12 @@ number_within n k m = omega (arith, (number_between 0 n k m).1)
 
 pub number_from : (first n k : ℕ) → first ≤ k → k < first + n → Member (range_with_len first n) k
 number_from first zero k low high = absurd (omega (arith, low, high))
-number_from first (suc n) k low high = elim (cases_eq first k) [ inl e ↦ inl (sym e) | inr ne ↦ inr (number_from (first + 1) n k (omega (arith, low, ne)) (omega (arith, high))) ]
+number_from first (suc n) k low high =
+    elim (cases_eq first k) [
+      | inl e ↦ inl (sym e)
+      | inr ne ↦
+          inr (number_from (first + 1) n k (omega (arith, low, ne)) (omega (arith, high)))
+    ]
 
 pub number_in : (n k : ℕ) → k < n → Member (range_with_len 0 n) k
 number_in n k h = number_from 0 n k (omega arith) (omega (arith, h))
@@ -97,7 +110,8 @@ number_in n k h = number_from 0 n k (omega arith) (omega (arith, h))
 -- One number more.
 pub range-more : (first n : ℕ) → range_with_len first (suc n) ≡ range_with_len first n ++ (first + n) ∷ []
 range-more first zero = ap (λ a. a ∷ []) (omega arith)
-range-more first (suc n) = ap (λ ns. first ∷ ns) (range-more (first + 1) n) ∙ ap (λ a. first ∷ (range_with_len (first + 1) n ++ a ∷ [])) (omega arith)
+range-more first (suc n) = ap (λ ns. first ∷ ns) (range-more (first + 1) n)
+    ∙ ap (λ a. first ∷ (range_with_len (first + 1) n ++ a ∷ [])) (omega arith)
 
 -- Each number is below all that follow it.
 abbrev pub Rise : List ℕ → Type 0
@@ -114,7 +128,8 @@ pub numbers_apart : (first n : ℕ) → Apart (range_with_len first n)
 numbers_apart first n = rise_apart (range_with_len first n) (numbers_rise first n)
 
 -- Where each element stands before the next, it stands before each later one.
-module _ {X : Type 0} (before : X → X → Bool) (P : X → Type 0) (R : X → X → Type 0) (tells : (x y : X) → P y → before x y ≡ true → R x y) (trans : (x y z : X) → R x y → R y z → R x z) where
+module _ {X : Type 0} (before : X → X → Bool) (P : X → Type 0) (R : X → X → Type 0) (tells : (x y : X) → P y → before x y ≡ true → R x y)
+    (trans : (x y z : X) → R x y → R y z → R x z) where
   ascending : (xs : List X) → AllByRecursion P xs → ascends before xs ≡ true → PairsBy R xs
   ascending [] good up = tt
   ascending (x ∷ []) good up = (λ y m. absurd m, tt)
@@ -135,9 +150,12 @@ span p = range_with_len p.0 (p.1 + 1 - p.0)
 
 pub points_rise : (ps : List (ℕ × ℕ)) → IsGood classes.points ps → Rise (points_of ps)
 points_rise ps good =
-    let all : points_of ps ≡ flat_map span ps = same_from_clauses points_of (flat_map span) (λ p xs. span p ++ xs) refl (λ p ps. refl) (λ p ps. refl) ps in
-    let rise = ascending span_before IsSpan (λ p q. (p.1 < q.0) × (q.0 ≤ q.1)) (λ p q good lt. (ltb-true p.1 q.0 lt, good.0)) (λ p q r a b. (omega arith, b.1)) ps good.0 good.1 in
-    subst Rise (sym all) (pairs_flat (λ x y. x < y) span ps (λ p _. numbers_rise p.0 (p.1 + 1 - p.0)) (pairs_so _ _ ps (λ p q _ _ up a b m n.
+    let all : points_of ps ≡ flat_map span ps = same_from_clauses points_of (flat_map span) (λ p xs. span p ++ xs) refl (λ p ps. refl)
+    (λ p ps. refl) ps in
+    let rise = ascending span_before IsSpan (λ p q. (p.1 < q.0) × (q.0 ≤ q.1)) (λ p q good lt. (ltb-true p.1 q.0 lt, good.0))
+    (λ p q r a b. (omega arith, b.1)) ps good.0 good.1 in
+    subst Rise (sym all) (pairs_flat (λ x y. x < y) span ps (λ p _. numbers_rise p.0 (p.1 + 1 - p.0))
+    (pairs_so _ _ ps (λ p q _ _ up a b m n.
     omega (arith, number_between p.0 (p.1 + 1 - p.0) a m, number_between q.0 (q.1 + 1 - q.0) b n, up)) rise))
 
 pub points_apart : (ps : List (ℕ × ℕ)) → IsGood classes.points ps → Apart (points_of ps)
@@ -150,8 +168,10 @@ member_grid points fields p m =
     subst (λ (p : ℕ × ℕ). Member points p.0 × Member fields p.1) (sym of.2) (at.1, of.1)
 
 pub grid_apart : (points fields : List ℕ) → Apart points → Apart fields → Apart (grid points fields)
-grid_apart points fields p f = apart_flat (λ x. map (λ g. (x, g)) fields) points (λ x m. apart_map (λ g. (x, g)) fields (λ a b e. ap (λ (q : ℕ × ℕ). q.1) e) f)
-    (λ x y z a b m n. let s = member_map (λ g. (x, g)) fields z m in let t = member_map (λ g. (y, g)) fields z n in ap (λ (q : ℕ × ℕ). q.0) (sym s.2 ∙ t.2)) p
+grid_apart points fields p f = apart_flat (λ x. map (λ g. (x, g)) fields) points
+    (λ x m. apart_map (λ g. (x, g)) fields (λ a b e. ap (λ (q : ℕ × ℕ). q.1) e) f)
+    (λ x y z a b m n. let s = member_map (λ g. (x, g)) fields z m in let t = member_map (λ g. (y, g)) fields z n in
+    ap (λ (q : ℕ × ℕ). q.0) (sym s.2 ∙ t.2)) p
 
 pub grid_member : (points fields : List ℕ) (x f : ℕ) → Member points x → Member fields f → Member (grid points fields) (x, f)
 grid_member points fields x f m n = flat_member (λ x. map (λ f. (x, f)) fields) points x (x, f) m (map_member (λ f. (x, f)) fields f n)

@@ -21,7 +21,8 @@ apart_front : (xs ys : List ℕ) → AllPairs (λ a b. a ≢ b) (xs ++ ys) → A
 apart_front xs ys h i j d lt within = grind (arith, common_steps, h i j d)
 
 module _ (nodes : List Node) where
-  chain_more : (start : ℕ) (between : List ℕ) (mid end : ℕ) → IsChain nodes start between mid → WaitsOn nodes end mid → IsChain nodes start (between ++ mid ∷ []) end
+  chain_more : (start : ℕ) (between : List ℕ) (mid end : ℕ) → IsChain nodes start between mid → WaitsOn nodes end mid
+      → IsChain nodes start (between ++ mid ∷ []) end
   chain_more start [] mid end chain waits = (chain, waits)
   chain_more start (next ∷ between) mid end chain waits = (chain.0, chain_more next between mid end chain.1 waits)
 
@@ -42,7 +43,8 @@ module _ (nodes : List Node) where
 
   pub stuck_in : (k : ℕ) → k < length nodes → is_stuck nodes k ≡ true → Member (stuck_nodes nodes) k
   stuck_in k lt is = member_in (stuck_nodes nodes) k
-      (any-filter_same (λ j. j == k) (is_stuck nodes) true (λ j e. rw (eqb-true j k e) is) (positions nodes) ∙ is_in_of (positions nodes) k (number_in (length nodes) k lt))
+      (any-filter_same (λ j. j == k) (is_stuck nodes) true (λ j e. rw (eqb-true j k e) is) (positions nodes)
+      ∙ is_in_of (positions nodes) k (number_in (length nodes) k lt))
 
   stuck_from : (k : ℕ) → Member (stuck_nodes nodes) k → (k < length nodes) × (is_stuck nodes k ≡ true)
   stuck_from k m = let at = member_filter (is_stuck nodes) (positions nodes) k m in (number_within (length nodes) k at.0, at.1)
@@ -51,7 +53,8 @@ module _ (nodes : List Node) where
   abbrev lists : ℕ → ℕ → Bool
   lists k j = list_any (λ event. has_event nodes event j) (waits_at nodes k)
 
-  waits_on : (k j event : ℕ) (by on : Node) → slice_get nodes k ≡ Some by → slice_get nodes j ≡ Some on → Contains by.waits event → has_event nodes event j ≡ true → WaitsOn nodes k j
+  waits_on : (k j event : ℕ) (by on : Node) → slice_get nodes k ≡ Some by → slice_get nodes j ≡ Some on → Contains by.waits event
+      → has_event nodes event j ≡ true → WaitsOn nodes k j
   waits_on k j event by on by_is on_is waits has =
       let same : event ≡ on.done = sym (eqb-true on.done event (rw on_is at has)) in
       record { on = on; by = by; on_is = on_is; by_is = by_is; listed = subst (Contains by.waits) same waits }
@@ -62,7 +65,8 @@ module _ (nodes : List Node) where
   Trail k (w ∷ ws) = WaitsOn nodes w k × Trail w ws
 
   -- Where the walk comes to a node again, the nodes from there on are a first part of those walked, and make a chain.
-  up_to_chain : (k start : ℕ) (ws : List ℕ) (end : ℕ) → Trail start ws → Member ws k → WaitsOn nodes end k → IsChain nodes start (up_to k ws) end × (back : List ℕ) × (ws ≡ up_to k ws ++ back)
+  up_to_chain : (k start : ℕ) (ws : List ℕ) (end : ℕ) → Trail start ws → Member ws k → WaitsOn nodes end k
+      → IsChain nodes start (up_to k ws) end × (back : List ℕ) × (ws ≡ up_to k ws ++ back)
   up_to_chain k start [] end trail m waits = absurd m
   up_to_chain k start (w ∷ ws) end trail m waits = elim (cases_Bool (w == k)) [
     | inl here ↦ rw here ((trail.0, rw (eqb-true w k here) waits), ws, refl)
@@ -99,37 +103,48 @@ module _ (nodes : List Node) where
     cycle_is_stuck ks cycle k m =
         let cut = split_at ks k m in
         let from_k : IsCycle nodes (k ∷ (cut.1 ++ cut.0)) = turned cut.0 (k ∷ cut.1) (subst (IsCycle nodes) cut.2 cycle) in
-        true_from_ne_false (is_stuck nodes k) (λ free. not_before_itself (replay nodes).taken linked k (listed nodes k free) (cut.1 ++ cut.0, from_k.1))
+        true_from_ne_false (is_stuck nodes k) (λ free. not_before_itself (replay nodes).taken linked k (listed nodes k free)
+        (cut.1 ++ cut.0, from_k.1))
 
     -- A stuck node waits on a stuck node: the next of the walk.
-    next : (k : ℕ) → Member (stuck_nodes nodes) k → (j : ℕ) × (stuck_wait nodes k ≡ Some j) × Member (stuck_nodes nodes) j × WaitsOn nodes k j
+    next : (k : ℕ) → Member (stuck_nodes nodes) k → (j : ℕ) × (stuck_wait nodes k ≡ Some j) × Member (stuck_nodes nodes) j
+        × WaitsOn nodes k j
     next k m =
         let stuck = stuck_from k m in
         let none : Node = record { done = 0; waits = [] } in
         let by : Node = get_or nodes k none in
         let by_is : slice_get nodes k ≡ Some by = slice_get-get_or nodes k none stuck.0 in
-        let waits : (event : ℕ) → Member (waits_at nodes k) event → Contains by.waits event = λ event m. contains_of by.waits event (rw by_is at m) in
+        let waits : (event : ℕ) → Member (waits_at nodes k) event → Contains by.waits event =
+        λ event m. contains_of by.waits event (rw by_is at m) in
         let unmet = one_fails (is_met nodes (replay_order nodes)) (waits_at nodes k) (rw stuck.1 at ((replay nodes).full k stuck.0)) in
         let some = linked.linked by unmet.0 (Contains-get_or nodes k none stuck.0) (waits unmet.0 unmet.1) in
         let j : ℕ = some.1.0 in
         let has : has_event nodes unmet.0 j ≡ true = grind (arith, nat_tests, gets, some.1.1, some.1.2, some.2) in
-        let j_stuck = true_from_ne_false (is_stuck nodes j) (λ free. false≢true (sym unmet.2 ∙ any_at (has_event nodes unmet.0) (replay_order nodes) j (listed nodes j free) has)) in
+        let j_stuck = true_from_ne_false (is_stuck nodes j)
+        (λ free. false≢true (sym unmet.2 ∙ any_at (has_event nodes unmet.0) (replay_order nodes) j (listed nodes j free) has)) in
         let listed_there : lists k j ≡ true = any_at (λ event. has_event nodes event j) (waits_at nodes k) unmet.0 unmet.1 has in
-        let first = find_any (lists k) (stuck_nodes nodes) (any_at (lists k) (stuck_nodes nodes) j (stuck_in j some.1.1 j_stuck) listed_there) in
+        let first = find_any (lists k) (stuck_nodes nodes)
+        (any_at (lists k) (stuck_nodes nodes) j (stuck_in j some.1.1 j_stuck) listed_there) in
         let found = found_at (lists k) (stuck_nodes nodes) first.0 first.1 in
         let one = any_found (λ event. has_event nodes event first.0) (waits_at nodes k) found.1 in
         let on_is = slice_get-get_or nodes first.0 none (stuck_from first.0 found.0).0 in
         (first.0, first.1, found.0, waits_on k first.0 one.0 by (get_or nodes first.0 none) by_is on_is (waits one.0 one.1) one.2)
 
     -- The walk meets no more nodes than there are, so it comes to one again.
-    walk_cycle : (n : ℕ) (walked : List ℕ) (k : ℕ) → IsWalk k walked → Member (stuck_nodes nodes) k → length walked + n ≡ length nodes + 1 → IsCycle nodes (walk nodes n walked k)
-    walk_cycle zero walked k so_far stuck many = absurd (omega (arith, many, few walked (length nodes) so_far.0 (λ j m. (stuck_from j (so_far.1 j m)).0)))
+    walk_cycle : (n : ℕ) (walked : List ℕ) (k : ℕ) → IsWalk k walked → Member (stuck_nodes nodes) k → length walked + n ≡ length nodes + 1
+        → IsCycle nodes (walk nodes n walked k)
+    walk_cycle zero walked k so_far stuck many =
+        absurd (omega (arith, many, few walked (length nodes) so_far.0 (λ j m. (stuck_from j (so_far.1 j m)).0)))
     walk_cycle (suc n) walked k so_far stuck many = elim (cases_Bool (is_in walked k)) [
       | inl back ↦ rw back (closed walked k so_far (member_in walked k back))
       | inr new ↦
           let step = next k stuck in
-          let apart : Apart (k ∷ walked) = (λ j m e. both_ways (is_in walked k) new (is_in_of walked k (subst (Member walked) (sym e) m)), so_far.0) in
-          let all_stuck : (j : ℕ) → Member (k ∷ walked) j → Member (stuck_nodes nodes) j = λ j m. elim m [ inl is ↦ rw is stuck | inr before ↦ so_far.1 j before ] in
+          let apart : Apart (k ∷ walked) = (
+            λ j m e. both_ways (is_in walked k) new (is_in_of walked k (subst (Member walked) (sym e) m)),
+            so_far.0,
+          ) in
+          let all_stuck : (j : ℕ) → Member (k ∷ walked) j → Member (stuck_nodes nodes) j =
+          λ j m. elim m [ inl is ↦ rw is stuck | inr before ↦ so_far.1 j before ] in
           rw (new, step.1) (walk_cycle n (k ∷ walked) step.0 (apart, all_stuck, (step.3, so_far.2)) step.2 (omega (arith, many)))
     ]
 
@@ -140,7 +155,8 @@ module _ (nodes : List Node) where
     pub has_cycle : (k : ℕ) → k < length nodes → is_stuck nodes k ≡ true → (c : List ℕ) × IsCycle nodes c
     has_cycle k within stuck = (_, stuck_cycle k (stuck_in k within stuck))
 
-    shown_from : (ks : List ℕ) → ((k : ℕ) → Member ks k → Member (stuck_nodes nodes) k) → (c : List ℕ) → cycle_from nodes ks ≡ Some c → IsCycle nodes c
+    shown_from : (ks : List ℕ) → ((k : ℕ) → Member ks k → Member (stuck_nodes nodes) k) → (c : List ℕ) → cycle_from nodes ks ≡ Some c
+        → IsCycle nodes c
     shown_from [] all c e = absurd (cc e)
     shown_from (k ∷ ks) all c e = subst (IsCycle nodes) (same_Some _ c e) (from_least_cycle _ (stuck_cycle k (all k (inl refl))))
 

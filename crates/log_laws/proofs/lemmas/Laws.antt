@@ -10,13 +10,15 @@ use Rattle.log_laws.proofs.Strict.{strict}
 use Rattle.log_laws.proofs.Linked.{linked}
 use Rattle.log_laws.proofs.Replay.{at_position, interleaves}
 
-pub faultless_linked : (command : Command) (log : List Lined) → AllByRecursion Good (records_of log) → IsFaultless command log → AreLinked (graph_of (tables_of log).nodes)
+pub faultless_linked : (command : Command) (log : List Lined) → AllByRecursion Good (records_of log) → IsFaultless command log
+    → AreLinked (graph_of (tables_of log).nodes)
 faultless_linked command log good f = linked command log f (strict command log good f)
 
 pub faultless_tidy : (log : List Lined) → IsFaultless Check log → IsTidy (tables_of log)
 faultless_tidy log f = tidy (tables_of log) (sane Check log f) (all_mapped log f)
 
-pub replay_interleaves : (log : List Lined) → AllByRecursion Good (records_of log) → IsFaultless Check log → HasNoCycle (tables_of log) → IsInterleaving (tables_of log) (replay_steps (tables_of log))
+pub replay_interleaves : (log : List Lined) → AllByRecursion Good (records_of log) → IsFaultless Check log → HasNoCycle (tables_of log)
+    → IsInterleaving (tables_of log) (replay_steps (tables_of log))
 replay_interleaves log good f no_cycle =
     let t = tables_of log in
     let clear = strict Check log good f in

@@ -27,7 +27,8 @@ pub record AreListed (log : List Record) (t : Tables) : Type 0 where
   pub of_log : Each (λ (i : Item). (r : Record) × Member log r × Member (items_declared r) i.id) t.items
   pub once : Apart (listed t)
   pub known : Each (λ id. is_declared t (item_id id) ≡ true) (listed t)
-  pub whole : 0 < length t.serials → length (filter lists log) ≡ length t.serials → (r : Record) (id : ℕ) → Member log r → Member (items_declared r) id → Member (listed t) id
+  pub whole : 0 < length t.serials → length (filter lists log) ≡ length t.serials → (r : Record) (id : ℕ) → Member log r
+      → Member (items_declared r) id → Member (listed t) id
 
 -- A list without a repeat has nothing twice.
 not_repeated : (ns : List ℕ) → has_repeat ns ≡ false → Apart ns
@@ -37,23 +38,27 @@ not_repeated (n ∷ ns) e =
     (λ m is same. true≢false (sym (is_in_of ns n (subst (Member ns) (sym same) is)) ∙ parts.0), not_repeated ns parts.1)
 
 -- These facts stay with an item more, with a line more, and so with each record that breaks no rule.
-one_more_item : (log : List Record) (t : Tables) (line id : ℕ) (body : ItemBody) → (r : Record) × Member log r × Member (items_declared r) id → list_any (is_declared t) (item_id id ∷ []) ≡ false
+one_more_item : (log : List Record) (t : Tables) (line id : ℕ) (body : ItemBody) → (r : Record) × Member log r
+    × Member (items_declared r) id → list_any (is_declared t) (item_id id ∷ []) ≡ false
     → AreListed log t → AreListed log (with_item t line id body)
 one_more_item log t line id body of new h =
     let fresh = none_at (is_declared t) (item_id id ∷ []) (item_id id) new (inl refl) in
     record {
-      ids = pairs_more (λ (i j : Item). i.id ≢ j.id) t.items _ h.ids (λ i m same. true≢false (sym (eq-eqb i.id id same) ∙ none_at (λ (i : Item). i.id == id) t.items i fresh m));
+      ids = pairs_more (λ (i j : Item). i.id ≢ j.id) t.items _ h.ids
+          (λ i m same. true≢false (sym (eq-eqb i.id id same) ∙ none_at (λ (i : Item). i.id == id) t.items i fresh m));
       of_log = each_more _ t.items _ h.of_log of;
       once = h.once;
       known = λ n m. list_any-append (λ (i : Item). i.id == n) t.items _ ∙ rw (h.known n m) refl;
       whole = h.whole;
     }
 
-one_more_line : (log : List Record) (t : Tables) (line : ℕ) (ids : List ℕ) → Keeps t (records.Serial ids) → is_bad_serial log t (records.Serial ids) ≡ false
+one_more_line : (log : List Record) (t : Tables) (line : ℕ) (ids : List ℕ) → Keeps t (records.Serial ids)
+    → is_bad_serial log t (records.Serial ids) ≡ false
     → AreListed log t → AreListed log (with_record t line (records.Serial ids))
 one_more_line log t line ids k good h =
     let s : Serial = record { line = line; ids = ids } in
-    let more : flat_map (λ (s : Serial). s.ids) (t.serials ++ s ∷ []) ≡ listed t ++ ids = flat_map-append (λ (s : Serial). s.ids) t.serials (s ∷ []) ∙ ap (λ ns. listed t ++ ns) (append-nil ids) in
+    let more : flat_map (λ (s : Serial). s.ids) (t.serials ++ s ∷ []) ≡ listed t ++ ids =
+    flat_map-append (λ (s : Serial). s.ids) t.serials (s ∷ []) ∙ ap (λ ns. listed t ++ ns) (append-nil ids) in
     let last = λ (r : Record). list_all (is_in (listed t ++ ids)) (items_declared r) in
     let rules = or_parts (has_repeat ids || meets ids (listed t)) _ good in
     let twice = or_parts (has_repeat ids) (meets ids (listed t)) rules.0 in
@@ -67,34 +72,42 @@ one_more_line log t line ids k good h =
         | inr here ↦ all_at (is_declared t) (names (records.Serial ids)) (item_id n) k.declared (map_member (λ id. item_id id) ids n here)
       ];
       whole = λ _ count r id m is.
-          let all : list_all last log ≡ true = not-false _ (rw (eq-eqb (length (filter lists log)) (length t.serials + 1) (count ∙ length-append t.serials (s ∷ []))) at rules.1) in
-          subst (λ ns. Member ns id) (sym more) (member_in (listed t ++ ids) id (all_at (is_in (listed t ++ ids)) (items_declared r) id (all_at last log r all m) is));
+          let all : list_all last log ≡ true = not-false _
+          (rw (eq-eqb (length (filter lists log)) (length t.serials + 1) (count ∙ length-append t.serials (s ∷ []))) at rules.1) in
+          subst (λ ns. Member ns id) (sym more) (member_in (listed t ++ ids) id
+          (all_at (is_in (listed t ++ ids)) (items_declared r) id (all_at last log r all m) is));
     }
 
-one_more : (log : List Record) (t : Tables) (line : ℕ) (r : Record) → Member log r → Keeps t r → repeats_id t r ≡ false → is_bad_serial log t r ≡ false
+one_more : (log : List Record) (t : Tables) (line : ℕ) (r : Record) → Member log r → Keeps t r → repeats_id t r ≡ false
+    → is_bad_serial log t r ≡ false
     → AreListed log t → AreListed log (with_record t line r)
 one_more log t line (records.Task id) m k new good h = one_more_item log t line id _ (records.Task id, m, inl refl) new h
-one_more log t line (records.Fill id tree space fields n) m k new good h = one_more_item log t line id _ (records.Fill id tree space fields n, m, inl refl) new h
+one_more log t line (records.Fill id tree space fields n) m k new good h =
+    one_more_item log t line id _ (records.Fill id tree space fields n, m, inl refl) new h
 one_more log t line (records.Serial ids) m k new good h = one_more_line log t line ids k good h
 one_more log t line _ m k new good h = record { ids = h.ids; of_log = h.of_log; once = h.once; known = h.known; whole = h.whole }
 
 one_more_unbroken : (log : List Record) (earlier : List Lined) (l : Lined) → Unbroken log earlier l.rec → Member log l.rec
     → AreListed log (tables_of earlier) → AreListed log (with_record (tables_of earlier) l.line l.rec)
-one_more_unbroken log earlier l u m = one_more log (tables_of earlier) l.line l.rec m (keeps_of log earlier l.rec u) (rule_kept codes.RepeatedId refl u) (rule_kept codes.Serial refl u)
+one_more_unbroken log earlier l u m = one_more log (tables_of earlier) l.line l.rec m (keeps_of log earlier l.rec u)
+    (rule_kept codes.RepeatedId refl u) (rule_kept codes.Serial refl u)
 
 pub are_listed : (log : List Lined) → records_fault (records_of log) [] log ≡ None → AreListed (records_of log) (tables_of log)
-are_listed log none = by_records (Member (records_of log)) (AreListed (records_of log)) (records_of log) (one_more_unbroken (records_of log))
+are_listed log none = by_records (Member (records_of log)) (AreListed (records_of log)) (records_of log)
+    (one_more_unbroken (records_of log))
     [] log (recursion_from_All _ (records_of log) (λ k d lt. member_of (records_of log) _ (Contains-get_or (records_of log) k d lt))) none
     (record { ids = tt; of_log = λ i m. absurd m; once = tt; known = λ n m. absurd m; whole = λ some. absurd (omega (arith, some)) })
 
 -- ---- all lines that list items
 
 -- Each record that lists items adds a line to the tables.
-line_added : (t : Tables) (line : ℕ) (r : Record) → length (with_record t line r).serials ≡ length t.serials + length (filter lists (r ∷ []))
+line_added : (t : Tables) (line : ℕ) (r : Record)
+    → length (with_record t line r).serials ≡ length t.serials + length (filter lists (r ∷ []))
 line_added t line (records.Serial ids) = length-append t.serials _
 line_added t line _ = omega arith
 
-lines_counted : (t : Tables) (log : List Lined) → length (fold (λ t (l : Lined). with_record t l.line l.rec) t log).serials ≡ length t.serials + length (filter lists (records_of log))
+lines_counted : (t : Tables) (log : List Lined)
+    → length (fold (λ t (l : Lined). with_record t l.line l.rec) t log).serials ≡ length t.serials + length (filter lists (records_of log))
 lines_counted t [] = omega arith
 lines_counted t (l ∷ log) =
     let split = ap length (filter-append lists (l.rec ∷ []) (records_of log)) ∙ length-append (filter lists (l.rec ∷ [])) _ in
@@ -105,7 +118,8 @@ pub item_at : (items : List Item) (k : ℕ) → k < length items → (i : Item) 
 item_at items k lt = elim (slice_get_cases items k).1 [ inl at ↦ (at.0, at.2) | inr past ↦ absurd (omega (arith, lt, past.0)) ]
 
 -- Where a line lists items, each item is listed.
-pub each_listed : (log : List Lined) → records_fault (records_of log) [] log ≡ None → 0 < length (tables_of log).serials → (item : ℕ) → item < length (tables_of log).items
+pub each_listed : (log : List Lined) → records_fault (records_of log) [] log ≡ None → 0 < length (tables_of log).serials → (item : ℕ)
+    → item < length (tables_of log).items
     → Member (listed (tables_of log)) (id_of (tables_of log) item)
 each_listed log none some item lt =
     let h = are_listed log none in
@@ -114,7 +128,8 @@ each_listed log none some item lt =
     rw i.1 (h.whole some (omega (arith, lines_counted no_tables log)) of.0 i.0.id of.1 of.2)
 
 -- A line that lists an id is found.
-pub line_found : (serials : List Serial) (id : ℕ) → Member (flat_map (λ (s : Serial). s.ids) serials) id → IsSome (find (λ (s : Serial). is_in s.ids id) serials)
+pub line_found : (serials : List Serial) (id : ℕ) → Member (flat_map (λ (s : Serial). s.ids) serials) id
+    → IsSome (find (λ (s : Serial). is_in s.ids id) serials)
 line_found serials id m =
     let at = member_flat (λ (s : Serial). s.ids) serials id m in
     ap is_some (find_any (λ (s : Serial). is_in s.ids id) serials (any_at _ serials at.0 at.1 (is_in_of at.0.ids id at.2))).1

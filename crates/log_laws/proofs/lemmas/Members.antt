@@ -58,7 +58,8 @@ pub member_right : {X : Type 0} (xs ys : List X) (x : X) → Member ys x → Mem
 member_right xs ys x m = member_of (xs ++ ys) x (Contains-append_right xs ys x (contains_of ys x m))
 
 pub member_append : {X : Type 0} (xs ys : List X) (x : X) → Member (xs ++ ys) x → Member xs x ⊎ Member ys x
-member_append xs ys x m = elim (Contains-append_cases xs ys x (contains_of (xs ++ ys) x m)) [ inl l ↦ inl (member_of xs x l) | inr r ↦ inr (member_of ys x r) ]
+member_append xs ys x m =
+    elim (Contains-append_cases xs ys x (contains_of (xs ++ ys) x m)) [ inl l ↦ inl (member_of xs x l) | inr r ↦ inr (member_of ys x r) ]
 
 pub each_more : {X : Type 0} (P : X → Type 0) (xs : List X) (y : X) → Each P xs → P y → Each P (xs ++ y ∷ [])
 each_more P xs y h new x m = elim (member_append xs (y ∷ []) x m) [ inl old ↦ h x old | inr last ↦ subst P (sym (only last)) new ]
@@ -76,34 +77,49 @@ flat_member f (z ∷ xs) x y (inl e) n = member_left (f z) (flat_map f xs) y (su
 flat_member f (z ∷ xs) x y (inr m) n = member_right (f z) (flat_map f xs) y (flat_member f xs x y m n)
 
 pub member_map : {X Y : Type 0} (f : X → Y) (xs : List X) (y : Y) → Member (map f xs) y → (x : X) × Member xs x × (y ≡ f x)
-member_map f xs y m = let r = member_flat (λ x. f x ∷ []) xs y (subst (λ ys. Member ys y) (sym (flat_map_single f xs)) m) in (r.0, r.1, only r.2)
+member_map f xs y m = let r = member_flat (λ x. f x ∷ []) xs y (subst (λ ys. Member ys y) (sym (flat_map_single f xs)) m) in
+    (r.0, r.1, only r.2)
 
 pub map_member : {X Y : Type 0} (f : X → Y) (xs : List X) (x : X) → Member xs x → Member (map f xs) (f x)
 map_member f xs x m = subst (λ ys. Member ys (f x)) (flat_map_single f xs) (flat_member (λ x. f x ∷ []) xs x (f x) m (inl refl))
 
-pub member_filter_map : {X Y : Type 0} (f : X → Option Y) (xs : List X) (y : Y) → Member (filter_map f xs) y → (x : X) × Member xs x × (f x ≡ Some y)
+pub member_filter_map : {X Y : Type 0} (f : X → Option Y) (xs : List X) (y : Y) → Member (filter_map f xs) y → (x : X) × Member xs x
+    × (f x ≡ Some y)
 member_filter_map f [] y m = absurd m
-member_filter_map f (x ∷ xs) y m = elim (first_or_later (f x) (filter_map f xs) m) [ inl is ↦ (x, inl refl, is) | inr later ↦ let r = member_filter_map f xs y later in (r.0, inr r.1, r.2) ]
+member_filter_map f (x ∷ xs) y m = elim (first_or_later (f x) (filter_map f xs) m) [
+  | inl is ↦ (x, inl refl, is)
+  | inr later ↦ let r =
+      member_filter_map f xs y later in (r.0, inr r.1, r.2)
+]
   where
     first_or_later : {Y : Type 0} {y : Y} (o : Option Y) (ys : List Y) → Member (cons_option o ys) y → (o ≡ Some y) ⊎ Member ys y
     first_or_later None ys m = inr m
     first_or_later (Some z) ys (inl is) = inl (ap (λ y. Some y) (sym is))
     first_or_later (Some z) ys (inr m) = inr m
 
-pub filter_map_member : {X Y : Type 0} (f : X → Option Y) (xs : List X) (x : X) (y : Y) → Member xs x → f x ≡ Some y → Member (filter_map f xs) y
+pub filter_map_member : {X Y : Type 0} (f : X → Option Y) (xs : List X) (x : X) (y : Y) → Member xs x → f x ≡ Some y
+    → Member (filter_map f xs) y
 filter_map_member f [] x y m e = absurd m
 filter_map_member f (z ∷ xs) x y (inl is) e = rw (ap f (sym is) ∙ e) (inl refl)
-filter_map_member f (z ∷ xs) x y (inr m) e = elim (none_or_some (f z)) [ inl none ↦ rw none (filter_map_member f xs x y m e) | inr some ↦ rw some.1 (inr (filter_map_member f xs x y m e)) ]
+filter_map_member f (z ∷ xs) x y (inr m) e =
+    elim (none_or_some (f z)) [
+      | inl none ↦ rw none (filter_map_member f xs x y m e)
+      | inr some ↦
+          rw some.1 (inr (filter_map_member f xs x y m e))
+    ]
 
 pub member_filter : {X : Type 0} (p : X → Bool) (xs : List X) (x : X) → Member (filter p xs) x → Member xs x × (p x ≡ true)
 member_filter p xs x m =
-    let c = contains_of (filter p xs) x m in
-    (member_of xs x (All-contains (Contains xs) (filter p xs) x (All-filter p (Contains xs) xs (All-contains_itself xs)) c), All-contains (λ x. p x ≡ true) (filter p xs) x (filter_passes p xs) c)
+    let c = contains_of (filter p xs) x m in (
+      member_of xs x (All-contains (Contains xs) (filter p xs) x (All-filter p (Contains xs) xs (All-contains_itself xs)) c),
+      All-contains (λ x. p x ≡ true) (filter p xs) x (filter_passes p xs) c,
+    )
 
 pub filter_member : {X : Type 0} (p : X → Bool) (xs : List X) (x : X) → Member xs x → p x ≡ true → Member (filter p xs) x
 filter_member p [] x m e = absurd m
 filter_member p (y ∷ ys) x (inl is) e = rw (ap p (sym is) ∙ e) (inl is)
-filter_member p (y ∷ ys) x (inr m) e = elim (cases_Bool (p y)) [ inl kept ↦ rw kept (inr (filter_member p ys x m e)) | inr left ↦ rw left (filter_member p ys x m e) ]
+filter_member p (y ∷ ys) x (inr m) e =
+    elim (cases_Bool (p y)) [ inl kept ↦ rw kept (inr (filter_member p ys x m e)) | inr left ↦ rw left (filter_member p ys x m e) ]
 
 -- What holds of each element, place by place.
 pub all_contained : {X : Type 0} (P : X → Type 0) (xs : List X) → ((x : X) → Contains xs x → P x) → All P xs
@@ -153,4 +169,9 @@ none_found p xs x e m = false_from_ne_true (p x) (λ is. let bad = sym e ∙ (fi
 
 pub find_none : {X : Type 0} (p : X → Bool) (xs : List X) → list_any p xs ≡ false → find p xs ≡ None
 find_none p [] e = refl
-find_none p (y ∷ ys) e = elim (cases_Bool (p y)) [ inl passes ↦ absurd (true≢false (sym (any_at p (y ∷ ys) y (inl refl) passes) ∙ e)) | inr fails ↦ rw fails (find_none p ys (rw fails at e)) ]
+find_none p (y ∷ ys) e =
+    elim (cases_Bool (p y)) [
+      | inl passes ↦ absurd (true≢false (sym (any_at p (y ∷ ys) y (inl refl) passes) ∙ e))
+      | inr fails ↦
+          rw fails (find_none p ys (rw fails at e))
+    ]

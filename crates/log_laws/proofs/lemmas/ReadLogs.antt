@@ -29,14 +29,18 @@ held_is_good line (l ∷ lines) log (inr h) = rw h.4 (h.2, held_is_good (line + 
 
 -- Of any kind of log whose lines are read so that a spelling is read as its record, and what is passed over as none.
 module _ {R L : Type 0} (read : List ℕ → Result (Option R) LineFault) (IsGood : R → Type 0) (spelled : R → List ℕ) (on : ℕ → R → L)
-    (again : (r : R) → IsGood r → read (spelled r) ≡ Ok (Some r)) (passed : (line : List ℕ) → is_passed_over line ≡ true → read line ≡ Ok None) where
+    (again : (r : R) → IsGood r → read (spelled r) ≡ Ok (Some r)) (passed : (line : List ℕ) → is_passed_over line ≡ true
+    → read line ≡ Ok None) where
   no_record : (line : List ℕ) (r : R) → is_passed_over line ≡ true → IsGood r → line ≡ spelled r → ⊥
-  no_record line r over good is = let both : ◌≡◌ {A = Result (Option R) LineFault} (Ok None) (Ok (Some r)) = sym (passed line over) ∙ ap read is ∙ again r good in absurd cc
+  no_record line r over good is = let both : ◌≡◌ {A = Result (Option R) LineFault} (Ok None) (Ok (Some r)) =
+      sym (passed line over) ∙ ap read is ∙ again r good in absurd cc
 
   one_record : (line : List ℕ) (r s : R) → IsGood r → line ≡ spelled r → IsGood s → line ≡ spelled s → r ≡ s
-  one_record line r s good is fine so = let both : ◌≡◌ {A = Result (Option R) LineFault} (Ok (Some r)) (Ok (Some s)) = sym (again r good) ∙ ap read (sym is ∙ so) ∙ again s fine in cc
+  one_record line r s good is fine so = let both : ◌≡◌ {A = Result (Option R) LineFault} (Ok (Some r)) (Ok (Some s)) =
+      sym (again r good) ∙ ap read (sym is ∙ so) ∙ again s fine in cc
 
-  held_once : (n : ℕ) (lines : List (List ℕ)) (log other : List L) → HoldBy IsGood spelled on n lines log → HoldBy IsGood spelled on n lines other → log ≡ other
+  held_once : (n : ℕ) (lines : List (List ℕ)) (log other : List L) → HoldBy IsGood spelled on n lines log
+      → HoldBy IsGood spelled on n lines other → log ≡ other
   held_once n [] log other a b = a ∙ sym b
   held_once n (l ∷ ls) log other (inl a) (inl b) = held_once (n + 1) ls log other a.1 b.1
   held_once n (l ∷ ls) log other (inl a) (inr b) = absurd (no_record l b.0 a.0 b.2 b.3)
@@ -44,7 +48,8 @@ module _ {R L : Type 0} (read : List ℕ → Result (Option R) LineFault) (IsGoo
   held_once n (l ∷ ls) log other (inr a) (inr b) =
       a.4 ∙ ap₂ (λ r rest. on n r ∷ rest) (one_record l a.0 b.0 a.2 a.3 b.2 b.3) (held_once (n + 1) ls a.1 b.1 a.5 b.5) ∙ sym b.4
 
-  pub one_read_by : (bytes : List ℕ) (log other : List L) → ReadsBy IsGood spelled on bytes log → ReadsBy IsGood spelled on bytes other → log ≡ other
+  pub one_read_by : (bytes : List ℕ) (log other : List L) → ReadsBy IsGood spelled on bytes log → ReadsBy IsGood spelled on bytes other
+      → log ≡ other
   one_read_by bytes log other a b = held_once 1 _ log other a.hold b.hold
 
 line_passed : (line : List ℕ) → is_passed_over line ≡ true → line_at line ≡ Ok None
@@ -70,10 +75,13 @@ one_nested_read = one_read_by nested_line_at GoodNested nested_spelling on_neste
 
 -- ---- what a log is printed as
 
-all_but_last : (ls : List (List ℕ)) → (take (length (ls ++ [] ∷ []) - 1) (ls ++ [] ∷ []) ≡ ls) × (drop (length (ls ++ [] ∷ []) - 1) (ls ++ [] ∷ []) ≡ [] ∷ [])
-all_but_last ls = let count : length ls ≡ length (ls ++ [] ∷ []) - 1 = omega (arith, length_push ls []) in (take_at ls ([] ∷ []) _ count, drop_at ls ([] ∷ []) _ count)
+all_but_last : (ls : List (List ℕ)) → (take (length (ls ++ [] ∷ []) - 1) (ls ++ [] ∷ []) ≡ ls)
+    × (drop (length (ls ++ [] ∷ []) - 1) (ls ++ [] ∷ []) ≡ [] ∷ [])
+all_but_last ls = let count : length ls ≡ length (ls ++ [] ∷ []) - 1 = omega (arith, length_push ls []) in
+    (take_at ls ([] ∷ []) _ count, drop_at ls ([] ∷ []) _ count)
 
-no_longer : (n : ℕ) (lines : List (List ℕ)) (log : List Lined) → Hold n lines log → length (text_of (records_of log)) ≤ length (join_with_byte 10 (lines ++ [] ∷ []))
+no_longer : (n : ℕ) (lines : List (List ℕ)) (log : List Lined) → Hold n lines log
+    → length (text_of (records_of log)) ≤ length (join_with_byte 10 (lines ++ [] ∷ []))
 no_longer n [] log h = rw h (omega arith)
 no_longer n (l ∷ []) log (inl h) = grind (arith, common_steps, no_longer (n + 1) [] log h.1)
 no_longer n (l ∷ k ∷ ls) log (inl h) = grind (arith, common_steps, no_longer (n + 1) (k ∷ ls) log h.1)
@@ -84,12 +92,18 @@ printed_fits : (bytes : List ℕ) (log : List Lined) → Reads bytes log → len
 printed_fits bytes log h =
     let lines : List (List ℕ) = take (line_count bytes) (parts_of bytes) in
     let parts : lines ++ [] ∷ [] ≡ parts_of bytes = rw (← h.ended) (take-append-drop (line_count bytes) (parts_of bytes)) in
-    omega (arith, ap (λ ps. length (join_with_byte 10 ps)) parts, ap length (join_with_byte-slice_split 10 bytes), no_longer 1 lines log h.hold)
+    omega (
+      arith,
+      ap (λ ps. length (join_with_byte 10 ps)) parts,
+      ap length (join_with_byte-slice_split 10 bytes),
+      no_longer 1 lines log h.hold,
+    )
 
 parts_printed : (rs : List Record) → AllByRecursion Good rs → parts_of (text_of rs) ≡ map spelling rs ++ [] ∷ []
 parts_printed [] good = refl
 parts_printed (r ∷ rs) good =
-    slice_split_at (λ b. b == 10) (spelling r) 10 (text_of rs) (λ k d lt. ne_eqb _ 10 (no_line_feed r good.0 k d lt)) refl ∙ ap (λ ps. spelling r ∷ ps) (parts_printed rs good.1)
+    slice_split_at (λ b. b == 10) (spelling r) 10 (text_of rs) (λ k d lt. ne_eqb _ 10 (no_line_feed r good.0 k d lt)) refl
+    ∙ ap (λ ps. spelling r ∷ ps) (parts_printed rs good.1)
 
 pub printed_is_read : (rs : List Record) → AllByRecursion Good rs → Reads (text_of rs) (lined rs)
 printed_is_read rs good = record {
@@ -111,7 +125,8 @@ not_long : (bytes : List ℕ) → text_fault bytes ≡ None → is_too_long byte
 unfolding text_fault
 not_long bytes e = grind (arith, nat_tests, e)
 
-pub printed_has_no_fault : (bytes : List ℕ) (log : List Lined) → text_fault bytes ≡ None → Reads bytes log → text_fault (text_of (records_of log)) ≡ None
+pub printed_has_no_fault : (bytes : List ℕ) (log : List Lined) → text_fault bytes ≡ None → Reads bytes log
+    → text_fault (text_of (records_of log)) ≡ None
 printed_has_no_fault bytes log e h =
     let is_short : is_too_long (text_of (records_of log)) ≡ false = grind (arith, nat_tests, printed_fits bytes log h, not_long bytes e) in
     text_has_no_fault (records_of log) (held_is_good 1 _ log h.hold) is_short

@@ -14,7 +14,8 @@ use Rattle.log_laws.proofs.lemmas.Apart.{pairs_from, number_within, number_in}
 use Rattle.log_laws.proofs.lemmas.Lists.{few}
 
 -- No event is at two positions.
-one_place : (nodes : List Node) → AreLinked nodes → (i j : ℕ) (n : Node) → has_event nodes n.done i ≡ true → slice_get nodes j ≡ Some n → i ≡ j
+one_place : (nodes : List Node) → AreLinked nodes → (i j : ℕ) (n : Node) → has_event nodes n.done i ≡ true → slice_get nodes j ≡ Some n
+    → i ≡ j
 one_place nodes linked i j n has at = grind (arith, nat_tests, gets, slice_get_cases nodes i, linked.apart i j n, linked.apart j i n)
 
 -- Whether a node with this event was taken.
@@ -25,13 +26,21 @@ is_met nodes taken event = list_any (has_event nodes event) taken
 pub record AreTaken (nodes : List Node) (ks : List ℕ) : Type 0 where
   pub at : (i d : ℕ) → i < length ks → (get_or ks i d < length nodes) × (is_ready nodes (take i ks) (get_or ks i d) ≡ true)
 
-taken_more : (nodes : List Node) (ks : List ℕ) (k : ℕ) → AreTaken nodes ks → k < length nodes → is_ready nodes ks k ≡ true → AreTaken nodes (ks ++ k ∷ [])
+taken_more : (nodes : List Node) (ks : List ℕ) (k : ℕ) → AreTaken nodes ks → k < length nodes → is_ready nodes ks k ≡ true
+    → AreTaken nodes (ks ++ k ∷ [])
 taken_more nodes ks k h within ready = record { at = λ i d lt. grind (arith, common_steps, h.at i d) }
 
 module _ {nodes : List Node} {ks : List ℕ} (h : AreTaken nodes ks) where
   -- No node is taken twice.
   pub once : AllPairs (λ a b. a ≢ b) ks
-  once i j d lt within e = grind (arith, common_steps, nat_tests, h.at j d within, list_any_at (λ m. m == get_or ks j d) (take j ks) i d, length-take-le j ks)
+  once i j d lt within e = grind (
+    arith,
+    common_steps,
+    nat_tests,
+    h.at j d within,
+    list_any_at (λ m. m == get_or ks j d) (take j ks) i d,
+    length-take-le j ks,
+  )
 
   pub taken_within : (k : ℕ) → Member ks k → k < length nodes
   taken_within k m = let at = contains_of ks k m in subst (λ j. j < length nodes) at.2 (h.at at.0 k at.1).0
@@ -44,12 +53,17 @@ module _ {nodes : List Node} {ks : List ℕ} (h : AreTaken nodes ks) where
     waits_before : (i d j : ℕ) → i < length ks → WaitsOn nodes (get_or ks i d) j → (n : ℕ) × (n < i) × (get_or ks n j ≡ j)
     waits_before i d j lt w =
         let all_met : list_all (is_met nodes (take i ks)) (waits_at nodes (get_or ks i d)) ≡ true = grind (arith, h.at i d lt) in
-        let met = all_at (is_met nodes (take i ks)) (waits_at nodes (get_or ks i d)) w.on.done all_met (rw w.by_is (member_of w.by.waits w.on.done w.listed)) in
+        let met = all_at (is_met nodes (take i ks)) (waits_at nodes (get_or ks i d)) w.on.done all_met
+        (rw w.by_is (member_of w.by.waits w.on.done w.listed)) in
         let found = Any-from_list_any (has_event nodes w.on.done) (take i ks) met in
-        let same : found.1 ≡ j = one_place nodes linked found.1 j w.on found.4 w.on_is in
-        (found.0, omega (arith, found.2, length-take-le i ks), grind (arith, common_steps, found.2, found.3, same, get_or_default (take i ks) found.0 j found.1))
+        let same : found.1 ≡ j = one_place nodes linked found.1 j w.on found.4 w.on_is in (
+          found.0,
+          omega (arith, found.2, length-take-le i ks),
+          grind (arith, common_steps, found.2, found.3, same, get_or_default (take i ks) found.0 j found.1),
+        )
 
-    stands_before : (i d j : ℕ) → i < length ks → (between : List ℕ) → IsChain nodes j between (get_or ks i d) → (n : ℕ) × (n < i) × (get_or ks n j ≡ j)
+    stands_before : (i d j : ℕ) → i < length ks → (between : List ℕ) → IsChain nodes j between (get_or ks i d) → (n : ℕ) × (n < i)
+        × (get_or ks n j ≡ j)
     stands_before i d j lt [] waits = waits_before i d j lt waits
     stands_before i d j lt (m ∷ between) chain =
         let next = stands_before i d m lt between chain.1 in
@@ -70,24 +84,32 @@ pub record IsReplay (nodes : List Node) (ks : List ℕ) : Type 0 where
   pub full : (k : ℕ) → k < length nodes → is_ready nodes ks k ≡ false
 
 -- Each round takes a node that may be taken. So many rounds more leave none, where there is room for no more than so many.
-rounds : (nodes : List Node) (n : ℕ) (ks : List ℕ) → AreTaken nodes ks → ((k : ℕ) → k < length nodes → is_ready nodes ks k ≡ true → length nodes ≤ length ks + n) → IsReplay nodes (after_rounds nodes n ks)
+rounds : (nodes : List Node) (n : ℕ) (ks : List ℕ) → AreTaken nodes ks
+    → ((k : ℕ) → k < length nodes → is_ready nodes ks k ≡ true → length nodes ≤ length ks + n) → IsReplay nodes (after_rounds nodes n ks)
 rounds nodes zero ks h room = record {
   taken = h;
-  full = λ k lt. false_from_ne_true (is_ready nodes ks k) (λ ready. omega (arith, room k lt ready, length_push ks k, no_more (taken_more nodes ks k h lt ready)));
+  full = λ k lt. false_from_ne_true (is_ready nodes ks k)
+      (λ ready. omega (arith, room k lt ready, length_push ks k, no_more (taken_more nodes ks k h lt ready)));
 }
 rounds nodes (suc n) ks h room = elim (none_or_some (find (is_ready nodes ks) (positions nodes))) [
-  | inl none ↦ rw none (rounds nodes n ks h (λ k lt ready. grind (arith, none_found (is_ready nodes ks) (positions nodes) k none (number_in (length nodes) k lt))))
+  | inl none ↦ rw none
+      (rounds nodes n ks h (λ k lt ready. grind (
+        arith,
+        none_found (is_ready nodes ks) (positions nodes) k none (number_in (length nodes) k lt),
+      )))
   | inr some ↦
       let found = found_at (is_ready nodes ks) (positions nodes) some.0 some.1 in
       let lt : some.0 < length nodes = number_within (length nodes) some.0 found.0 in
-      rw some.1 (rounds nodes n (ks ++ some.0 ∷ []) (taken_more nodes ks some.0 h lt found.1) (λ k _ _. omega (arith, room some.0 lt found.1, length_push ks some.0)))
+      rw some.1 (rounds nodes n (ks ++ some.0 ∷ []) (taken_more nodes ks some.0 h lt found.1)
+      (λ k _ _. omega (arith, room some.0 lt found.1, length_push ks some.0)))
 ]
 
 pub replay : (nodes : List Node) → IsReplay nodes (replay_order nodes)
 unfolding replay_order
 replay nodes = rounds nodes (length nodes) [] (record { at = λ i d lt. absurd (omega arith) }) (λ k lt ready. omega arith)
 
-pub before_met : (nodes : List Node) → AreLinked nodes → (front : List ℕ) (k : ℕ) (back : List ℕ) → replay_order nodes ≡ front ++ k ∷ back → (j : ℕ) → Before nodes j k → Contains front j
+pub before_met : (nodes : List Node) → AreLinked nodes → (front : List ℕ) (k : ℕ) (back : List ℕ) → replay_order nodes ≡ front ++ k ∷ back
+    → (j : ℕ) → Before nodes j k → Contains front j
 before_met nodes linked front k back is j before =
     let taken = subst (AreTaken nodes) is (replay nodes).taken in
     let within : length front < length (front ++ k ∷ back) = omega (arith, length-append front (k ∷ back)) in
@@ -100,6 +122,9 @@ listed nodes k free = member_in (replay_order nodes) k (not-false (is_in (replay
 
 pub listed_decides : (nodes : List Node) (k : ℕ) → Contains (replay_order nodes) k ↔ ((k < length nodes) × (is_stuck nodes k ≡ false))
 listed_decides nodes k = (
-  λ h. (taken_within (replay nodes).taken k (member_of (replay_order nodes) k h), rw (is_in_of (replay_order nodes) k (member_of (replay_order nodes) k h)) refl),
+  λ h. (
+    taken_within (replay nodes).taken k (member_of (replay_order nodes) k h),
+    rw (is_in_of (replay_order nodes) k (member_of (replay_order nodes) k h)) refl,
+  ),
   λ h. contains_of (replay_order nodes) k (listed nodes k h.1),
 )

@@ -39,19 +39,29 @@ pub record Keeps (t : Tables) (r : Record) : Type 0 where
 
 -- ---- one entry more
 
-grid_stays : (t : Tables) (s : Space) (r : Req) → is_declared t (space_id r.space) ≡ true → req_grid (record t { spaces = t.spaces ++ s ∷ [] }) r ≡ req_grid t r
+grid_stays : (t : Tables) (s : Space) (r : Req) → is_declared t (space_id r.space) ≡ true
+    → req_grid (record t { spaces = t.spaces ++ s ∷ [] }) r ≡ req_grid t r
 grid_stays t s r e =
     let found = find_any (λ (s : Space). s.id == r.space) t.spaces e in
-    ap (λ o. grid (option_map_or (λ (s : Space). s.points) o []) r.fields) (find_still (λ (s : Space). s.id == r.space) t.spaces (s ∷ []) found.0 found.1 ∙ sym found.1)
+    ap (λ o. grid (option_map_or (λ (s : Space). s.points) o []) r.fields)
+    (find_still (λ (s : Space). s.id == r.space) t.spaces (s ∷ []) found.0 found.1 ∙ sym found.1)
 
 -- A requirement that does not interfere with its own task's agrees with each of them where they share a place.
 agrees : (t : Tables) (item tree space : ℕ) (fields : List ℕ) (access : Priv)
-    → list_any (λ (q : Req). (q.item == item) && ((q.tree == tree) && (meets (points_in t q.space) (points_in t space) && (meets q.fields fields && not (agree q.access access))))) t.reqs ≡ false
-    → (q : Req) → Member t.reqs q → q.item ≡ item → (p : ℕ × ℕ) → Member (req_grid t q) p → Member (grid (points_in t space) fields) p → q.tree ≡ tree → agree q.access access ≡ true
+    → list_any (λ (q : Req). (q.item == item) &&
+    ((q.tree == tree) && (meets (points_in t q.space) (points_in t space)
+    && (meets q.fields fields && not (agree q.access access))))) t.reqs ≡ false
+    → (q : Req) → Member t.reqs q → q.item ≡ item → (p : ℕ × ℕ) → Member (req_grid t q) p → Member (grid (points_in t space) fields) p
+    → q.tree ≡ tree → agree q.access access ≡ true
 agrees t item tree space fields access none q m at p in_q in_r of =
     let a = member_grid (points_in t q.space) q.fields p in_q in
     let b = member_grid (points_in t space) fields p in_r in
-    not-false _ (rw (eq-eqb q.item item at, eq-eqb q.tree tree of, meets_of (points_in t q.space) (points_in t space) p.0 a.0 b.0, meets_of q.fields fields p.1 a.1 b.1) at (none_at _ t.reqs q none m))
+    not-false _ (rw (
+      eq-eqb q.item item at,
+      eq-eqb q.tree tree of,
+      meets_of (points_in t q.space) (points_in t space) p.0 a.0 b.0,
+      meets_of q.fields fields p.1 a.1 b.1,
+    ) at (none_at _ t.reqs q none m))
 
 -- Where a `map` names a requirement, and an instance of its tree, these are found.
 named_by : (o : Option Req) (p : Option Inst) → not (is_some o) ≡ false
@@ -64,23 +74,35 @@ named_by _ _ known of = absurd cc
 pub with_kept : (t : Tables) (line : ℕ) (r : Record) → Keeps t r → AreSane t → AreSane (with_record t line r)
 with_kept t line (records.Ispace id set) k h = record {
   known = λ r m. ((h.known r m).0, list_any-append (λ (s : Space). s.id == r.space) t.spaces _ ∙ rw (h.known r m).1 refl);
-  reqs = pairs_so (FitTogether t) _ t.reqs (λ q r a b fit item. ((fit item).0, rw (grid_stays t _ q (h.known q a).1, grid_stays t _ r (h.known r b).1) (fit item).1)) h.reqs;
+  reqs = pairs_so (FitTogether t) _ t.reqs (λ q r a b fit item. (
+    (fit item).0,
+    rw (grid_stays t _ q (h.known q a).1, grid_stays t _ r (h.known r b).1) (fit item).1,
+  )) h.reqs;
   named = h.named;
 }
 with_kept t line (records.Req task tree space fields access atomic) k h =
-    let declared = all_at (is_declared t) (names (records.Req task tree space fields access atomic)) (space_id space) k.declared (inr (inr (inl refl))) in
+    let declared = all_at (is_declared t) (names (records.Req task tree space fields access atomic)) (space_id space) k.declared
+    (inr (inr (inl refl))) in
     record {
       known = each_more _ t.reqs _ (λ r m. (omega (arith, sum_by-append {X = Req}, (h.known r m).0), (h.known r m).1))
           (rw (sum_by-append, eq-eqb (place_of t.items task) (place_of t.items task) refl) (omega arith), declared);
-      reqs = pairs_more (FitTogether t) t.reqs _ h.reqs (λ q m item. (omega (arith, (h.known q m).0, ap (reqs_before t.reqs) item), agrees t _ tree space fields _ k.own q m item));
-      named = λ m is. let n = h.named m is in (n.0, n.1, find_still (λ (r : Req). (r.item == m.item) && (r.number == m.number)) t.reqs _ n.0 n.2, n.3, n.4);
+      reqs = pairs_more (FitTogether t) t.reqs _ h.reqs
+          (λ q m item. (omega (arith, (h.known q m).0, ap (reqs_before t.reqs) item), agrees t _ tree space fields _ k.own q m item));
+      named = λ m is. let n = h.named m is in (
+        n.0,
+        n.1,
+        find_still (λ (r : Req). (r.item == m.item) && (r.number == m.number)) t.reqs _ n.0 n.2,
+        n.3,
+        n.4,
+      );
     }
 with_kept t line (records.Inst id tree space fields kind) k h = record {
   known = h.known;
   reqs = h.reqs;
   named = λ m is. let n = h.named m is in (n.0, n.1, n.2, find_still (λ (i : Inst). i.id == m.inst) t.insts _ n.1 n.3, n.4);
 }
-with_kept t line (records.Map task number fields inst) k h = record { known = h.known; reqs = h.reqs; named = each_more (Names t) t.maps _ h.named (named_by _ _ k.named k.tree) }
+with_kept t line (records.Map task number fields inst) k h =
+    record { known = h.known; reqs = h.reqs; named = each_more (Names t) t.maps _ h.named (named_by _ _ k.named k.tree) }
 with_kept t line _ k h = record { known = h.known; reqs = h.reqs; named = h.named }
 
 pub nothing_sane : AreSane no_tables
@@ -94,12 +116,15 @@ agree_back (privileges.Red a) (privileges.Red b) e = eq-eqb b a (sym (eqb-true a
 agree_back _ _ e = absurd cc
 
 -- Two requirements of one item are one, or they have different numbers and agree where they share a place.
-pub two_reqs : (t : Tables) → AreSane t → (q r : Req) → Member t.reqs q → Member t.reqs r → q.item ≡ r.item → (q ≡ r) ⊎ ((q.number ≢ r.number) × AgreeWhere t q r)
+pub two_reqs : (t : Tables) → AreSane t → (q r : Req) → Member t.reqs q → Member t.reqs r → q.item ≡ r.item → (q ≡ r)
+    ⊎ ((q.number ≢ r.number) × AgreeWhere t q r)
 two_reqs t sane q r a b item = elim (pairs_of (FitTogether t) t.reqs sane.reqs q r a b) [
   | inl is ↦ inl is
   | inr (inl before) ↦ let fit = before item in inr (λ e. omega (arith, fit.0, e), fit.1)
-  | inr (inr after) ↦ let fit = after (sym item) in inr (λ e. omega (arith, fit.0, e), λ p in_q in_r tree. agree_back r.access q.access (fit.1 p in_r in_q (sym tree)))
+  | inr (inr after) ↦ let fit = after (sym item) in
+      inr (λ e. omega (arith, fit.0, e), λ p in_q in_r tree. agree_back r.access q.access (fit.1 p in_r in_q (sym tree)))
 ]
 
 pub reqs_apart : (t : Tables) → AreSane t → Apart t.reqs
-reqs_apart t sane = pairs_so (FitTogether t) (λ q r. q ≢ r) t.reqs (λ q r _ _ fit e. omega (arith, (fit (ap (λ (r : Req). r.item) e)).0, ap (λ (r : Req). r.number) e)) sane.reqs
+reqs_apart t sane = pairs_so (FitTogether t) (λ q r. q ≢ r) t.reqs
+    (λ q r _ _ fit e. omega (arith, (fit (ap (λ (r : Req). r.item) e)).0, ap (λ (r : Req). r.number) e)) sane.reqs

@@ -21,12 +21,16 @@ module _ (items : List Item) (ids : PairsBy (λ (i j : Item). i.id ≢ j.id) ite
   place_is k i at =
       let within = slice_get_within items k i at in
       let here = get_or_from_slice_get items k i i at in
-      let earlier : (j : ℕ) → j < k → ((get_or items j i).id == i.id) ≡ false = λ j lt. ne_eqb _ _ (λ same. all_pairs (λ (i j : Item). i.id ≢ j.id) items ids j k i lt within (same ∙ ap (λ (i : Item). i.id) (sym here))) in
-      let first = position_or_len_is (λ (j : Item). j.id == i.id) items k i (omega (arith, within)) earlier (λ _. eq-eqb _ _ (ap (λ (i : Item). i.id) here)) in
+      let earlier : (j : ℕ) → j < k → ((get_or items j i).id == i.id) ≡ false =
+      λ j lt. ne_eqb _ _ (λ same. all_pairs (λ (i j : Item). i.id ≢ j.id) items ids j k i lt within (same
+      ∙ ap (λ (i : Item). i.id) (sym here))) in
+      let first = position_or_len_is (λ (j : Item). j.id == i.id) items k i (omega (arith, within)) earlier
+      (λ _. eq-eqb _ _ (ap (λ (i : Item). i.id) here)) in
       grind (arith, common_steps, nat_tests, first, within)
 
   -- The item of an id that is declared.
-  item_of : (id : ℕ) → list_any (λ (i : Item). i.id == id) items ≡ true → (i : Item) × (slice_get items (place_of items id) ≡ Some i) × (i.id ≡ id)
+  item_of : (id : ℕ) → list_any (λ (i : Item). i.id == id) items ≡ true → (i : Item) × (slice_get items (place_of items id) ≡ Some i)
+      × (i.id ≡ id)
   item_of id e =
       let found = any_found (λ (i : Item). i.id == id) items e in
       let at = contains_of items found.0 found.1 in
@@ -54,20 +58,26 @@ module _ (log : List Record) (t : Tables) (h : AreListed log t) where
       let j = item_of t.items h.ids n (h.known n b) in
       sym i.2 ∙ ap (λ (i : Item). i.id) (same_Some i.0 j.0 (sym i.1 ∙ ap (slice_get t.items) same ∙ j.1)) ∙ j.2
 
-  serial_has_each_by : (0 < length t.serials → (item : ℕ) → item < length t.items → Member (listed t) (id_of t item)) → HasEachBelow (length t.items) (serial t)
-  serial_has_each_by whole = cond_both (length t.serials == 0) (range_with_len 0 (length t.items)) (map (place_of t.items) (listed t)) (HasEachBelow (length t.items))
+  serial_has_each_by : (0 < length t.serials → (item : ℕ) → item < length t.items → Member (listed t) (id_of t item))
+      → HasEachBelow (length t.items) (serial t)
+  serial_has_each_by whole = cond_both (length t.serials == 0) (range_with_len 0 (length t.items)) (map (place_of t.items) (listed t))
+      (HasEachBelow (length t.items))
       (λ _. (numbers_apart 0 (length t.items), λ k. (number_within (length t.items) k, number_in (length t.items) k)))
       (λ some. (
-        pairs_map (λ a b. a ≢ b) (place_of t.items) (listed t) (pairs_so (λ m n. m ≢ n) _ (listed t) (λ m n a b differ same. differ (one_place m n a b same)) h.once),
+        pairs_map (λ a b. a ≢ b) (place_of t.items) (listed t)
+            (pairs_so (λ m n. m ≢ n) _ (listed t) (λ m n a b differ same. differ (one_place m n a b same)) h.once),
         λ k. (
           λ m. let id = member_map (place_of t.items) (listed t) k m in subst (λ k. k < length t.items) (sym id.2) (place_within id.0 id.1),
-          λ lt. subst (Member (map (place_of t.items) (listed t))) (place_of_item k lt) (map_member (place_of t.items) (listed t) (id_of t k) (whole (grind (arith, nat_tests, some)) k lt)),
+          λ lt. subst (Member (map (place_of t.items) (listed t))) (place_of_item k lt)
+              (map_member (place_of t.items) (listed t) (id_of t k) (whole (grind (arith, nat_tests, some)) k lt)),
         ),
       ))
 
-pub serial_has_each : (log : List Lined) → records_fault (records_of log) [] log ≡ None → HasEachBelow (length (tables_of log).items) (serial (tables_of log))
+pub serial_has_each : (log : List Lined) → records_fault (records_of log) [] log ≡ None
+    → HasEachBelow (length (tables_of log).items) (serial (tables_of log))
 serial_has_each log none = serial_has_each_by (records_of log) (tables_of log) (are_listed log none) (each_listed log none)
 
 -- The item with the id of an item is this one.
-pub items_placed : (log : List Lined) → records_fault (records_of log) [] log ≡ None → (item : ℕ) → item < length (tables_of log).items → place_of (tables_of log).items (id_of (tables_of log) item) ≡ item
+pub items_placed : (log : List Lined) → records_fault (records_of log) [] log ≡ None → (item : ℕ) → item < length (tables_of log).items
+    → place_of (tables_of log).items (id_of (tables_of log) item) ≡ item
 items_placed log none = place_of_item (records_of log) (tables_of log) (are_listed log none)

@@ -22,14 +22,20 @@ unfolding same_cell
 one_cell a b e =
     let both = and_parts (a.inst == b.inst && a.point == b.point) (a.field == b.field) e in
     let first = and_parts (a.inst == b.inst) (a.point == b.point) both.0 in
-    λ i. record { inst = eqb-true a.inst b.inst first.0 i; point = eqb-true a.point b.point first.1 i; field = eqb-true a.field b.field both.1 i }
+    λ i. record {
+      inst = eqb-true a.inst b.inst first.0 i;
+      point = eqb-true a.point b.point first.1 i;
+      field =
+          eqb-true a.field b.field both.1 i;
+    }
 
 pub untouched : (a : Access) → conflicts a Untouched ≡ false
 untouched Untouched = refl
 untouched _ = refl
 
 -- An access that does not conflict with itself does not where it is at two cells either.
-calm_with_itself : (here : Access) (a b : Bool) → conflicts here here ≡ false → conflicts (cond a here Untouched) (cond b here Untouched) ≡ false
+calm_with_itself : (here : Access) (a b : Bool) → conflicts here here ≡ false
+    → conflicts (cond a here Untouched) (cond b here Untouched) ≡ false
 calm_with_itself here true true e = e
 calm_with_itself here true false e = untouched here
 calm_with_itself here false b e = refl
@@ -53,10 +59,12 @@ abbrev pub Ends : (Cell → Type 0) → Move → Type 0
 Ends P m = P (ends m).0 × P (ends m).1
 
 at_cell_touches : (P : Cell → Type 0) (cell : Cell) (here : Access) (c : Cell) → at_cell cell here c ≢ Untouched → P cell → P c
-at_cell_touches P cell here c = cond_both (same_cell c cell) here Untouched (λ a. a ≢ Untouched → P cell → P c) (λ is h. subst P (sym (one_cell c cell is))) (λ no h. absurd (h refl))
+at_cell_touches P cell here c = cond_both (same_cell c cell) here Untouched (λ a. a ≢ Untouched → P cell → P c)
+    (λ is h. subst P (sym (one_cell c cell is))) (λ no h. absurd (h refl))
 
 from_to_touches : (P : Cell → Type 0) (from to : Cell) (here : Access) (c : Cell) → from_to from to here c ≢ Untouched → P from × P to → P c
-from_to_touches P from to here c = cond_both (same_cell c to) (cond (same_cell c from) Writes here) (at_cell from Reads c) (λ a. a ≢ Untouched → P from × P to → P c)
+from_to_touches P from to here c = cond_both (same_cell c to) (cond (same_cell c from) Writes here) (at_cell from Reads c)
+    (λ a. a ≢ Untouched → P from × P to → P c)
     (λ is h both. subst P (sym (one_cell c to is)) both.1)
     (λ no h both. at_cell_touches P from Reads c h both.0)
 
@@ -79,14 +87,16 @@ place c = (c.point, c.field)
 
 -- Two of some moves conflict only where the one is a read and the other is none.
 abbrev AreTidy : List Move → Type 0
-AreTidy ms = (m n : Move) (c : Cell) → Member ms m → Member ms n → m ≢ n → conflicts (access m c) (access n c) ≡ true → is_read m ≢ is_read n
+AreTidy ms = (m n : Move) (c : Cell) → Member ms m → Member ms n → m ≢ n → conflicts (access m c) (access n c) ≡ true
+    → is_read m ≢ is_read n
 
 -- Of moves of one shape, over points and fields, two that conflict are one.
 one_shape : (of : ℕ × ℕ → Move) (ps : List (ℕ × ℕ)) → ((p : ℕ × ℕ) → Ends (λ c. place c ≡ p) (of p)) → AreTidy (map of ps)
 one_shape of ps at m n c a b differ e =
     let x = member_map of ps m a in
     let y = member_map of ps n b in
-    let both = meet (λ c. place c ≡ x.0) (λ c. place c ≡ y.0) m n c e (subst (Ends (λ c. place c ≡ x.0)) (sym x.2) (at x.0)) (subst (Ends (λ c. place c ≡ y.0)) (sym y.2) (at y.0)) in
+    let both = meet (λ c. place c ≡ x.0) (λ c. place c ≡ y.0) m n c e (subst (Ends (λ c. place c ≡ x.0)) (sym x.2) (at x.0))
+    (subst (Ends (λ c. place c ≡ y.0)) (sym y.2) (at y.0)) in
     absurd (differ (x.2 ∙ ap of (sym both.0 ∙ both.1) ∙ sym y.2))
 
 -- ---- the moves of a task
@@ -105,8 +115,10 @@ is_of t rs does m h =
     let p = member_flat (λ p. does r.0 (mapped_cell t r.0 p)) (req_grid t r.0) m r.2 in
     record { req = r.0; at = p.0; is_req = r.1; is_at = p.1; is_done = p.2 }
 
-pub read_is : (task number : ℕ) (access : Priv) (c : Cell) (m : Move) → Member (reads_by task number access c) m → m ≡ moves.Read task number c
-read_is task number access c m = cond_both (may_read access) (moves.Read task number c ∷ []) [] (λ ms. Member ms m → m ≡ moves.Read task number c) (λ _ h. only h) (λ _ none. absurd none)
+pub read_is : (task number : ℕ) (access : Priv) (c : Cell) (m : Move) → Member (reads_by task number access c) m
+    → m ≡ moves.Read task number c
+read_is task number access c m = cond_both (may_read access) (moves.Read task number c ∷ []) [] (λ ms. Member ms m
+    → m ≡ moves.Read task number c) (λ _ h. only h) (λ _ none. absurd none)
 
 -- How a task changes a cell for a requirement that lets it.
 abbrev pub change_of : ℕ → ℕ → Priv → Cell → Move
@@ -119,10 +131,12 @@ change_tells task number privileges.Ro c m none = absurd none
 change_tells task number _ c m h = let is = only h in (is, ap is_read is, subst (Ends (λ x. x ≡ c)) (sym is) (refl, refl))
 
 -- Changes for two requirements that agree are reductions with one operator.
-pub reductions : (task j k : ℕ) (p q : Priv) (a b : Cell) (m n : Move) → agree p q ≡ true → Member (changes_by task j p a) m → Member (changes_by task k q b) n
+pub reductions : (task j k : ℕ) (p q : Priv) (a b : Cell) (m n : Move) → agree p q ≡ true → Member (changes_by task j p a) m
+    → Member (changes_by task k q b) n
     → (op : ℕ) × (m ≡ moves.Reduce task j op a) × (n ≡ moves.Reduce task k op b)
 reductions task j k privileges.Ro q a b m n e none y = absurd none
-reductions task j k (privileges.Red o) (privileges.Red p) a b m n e x y = (o, only x, only y ∙ ap (λ op. moves.Reduce task k op b) (sym (eqb-true o p e)))
+reductions task j k (privileges.Red o) (privileges.Red p) a b m n e x y =
+    (o, only x, only y ∙ ap (λ op. moves.Reduce task k op b) (sym (eqb-true o p e)))
 reductions task j k _ _ a b m n e x y = absurd cc
 
 -- What a task does for a requirement at a cell: its reads, and its changes.
@@ -138,39 +152,49 @@ a_read task t rs m x = ap is_read (read_is task x.req.number x.req.access (mappe
 pub no_read : (task : ℕ) (t : Tables) (rs : List Req) (m : Move) → IsOf t rs (changes task) m → is_read m ≡ false
 no_read task t rs m x = (change_tells task x.req.number x.req.access (mapped_cell t x.req x.at) m x.is_done).1
 
-of_run : (task : ℕ) (t : Tables) (rs : List Req) (m : Move) → Member (run_moves t task rs) m → IsOf t rs (reads task) m ⊎ IsOf t rs (changes task) m
-of_run task t rs m h = elim (member_append (at_cells t (reads task) rs) (at_cells t (changes task) rs) m h) [ inl r ↦ inl (is_of t rs _ m r) | inr c ↦ inr (is_of t rs _ m c) ]
+of_run : (task : ℕ) (t : Tables) (rs : List Req) (m : Move) → Member (run_moves t task rs) m → IsOf t rs (reads task) m
+    ⊎ IsOf t rs (changes task) m
+of_run task t rs m h =
+    elim (member_append (at_cells t (reads task) rs) (at_cells t (changes task) rs) m h) [
+      | inl r ↦ inl (is_of t rs _ m r)
+      | inr c ↦
+          inr (is_of t rs _ m c)
+    ]
 
 read_once : (task number : ℕ) (access : Priv) (c : Cell) → Apart (reads_by task number access c)
-read_once task number access c = cond_both (may_read access) (moves.Read task number c ∷ []) [] Apart (λ _. (λ m none. absurd none, tt)) (λ _. tt)
+read_once task number access c = cond_both (may_read access) (moves.Read task number c ∷ []) [] Apart (λ _. (λ m none. absurd none, tt))
+    (λ _. tt)
 
 change_once : (task number : ℕ) (access : Priv) (c : Cell) → Apart (changes_by task number access c)
 change_once task number privileges.Ro c = tt
 change_once task number _ c = (λ m none. absurd none, tt)
 
-module _ (t : Tables) (sane : AreSane t) (whole : (r : Req) (field : ℕ) → Member t.reqs r → Member r.fields field → is_some (mapped t r field) ≡ true) where
+module _ (t : Tables) (sane : AreSane t) (whole : (r : Req) (field : ℕ) → Member t.reqs r → Member r.fields field
+    → is_some (mapped t r field) ≡ true) where
   -- The cell to which a requirement is mapped is of its tree.
   mapped_tree : (r : Req) (p : ℕ × ℕ) → Member t.reqs r → Member (req_grid t r) p → tree_of_inst t (mapped_cell t r p).inst ≡ Some r.tree
-  mapped_tree r p is at = elim (none_or_some (find (λ (m : Map). (m.item == r.item) && ((m.number == r.number) && is_in m.fields p.1)) t.maps)) [
-    | inl none ↦ absurd (true≢false (sym (whole r p.1 is (member_grid (points_in t r.space) r.fields p at).1) ∙ rw none refl))
-    | inr some ↦
-        let m : Map = some.0 in
-        let found = found_at (λ (m : Map). (m.item == r.item) && ((m.number == r.number) && is_in m.fields p.1)) t.maps m some.1 in
-        let names = sane.named m found.0 in
-        let q : Req = names.0 in
-        let named = found_at (λ (r : Req). (r.item == m.item) && (r.number == m.number)) t.reqs q names.2 in
-        elim (two_reqs t sane q r named.0 is (grind (arith, nat_tests, found.1, named.1))) [
-          | inl one ↦ rw (some.1, names.3) (ap (λ n. Some n) (names.4 ∙ ap (λ (r : Req). r.tree) one))
-          | inr two ↦ absurd (two.0 (grind (arith, nat_tests, found.1, named.1)))
-        ]
-  ]
+  mapped_tree r p is at =
+      elim (none_or_some (find (λ (m : Map). (m.item == r.item) && ((m.number == r.number) && is_in m.fields p.1)) t.maps)) [
+        | inl none ↦ absurd (true≢false (sym (whole r p.1 is (member_grid (points_in t r.space) r.fields p at).1) ∙ rw none refl))
+        | inr some ↦
+            let m : Map = some.0 in
+            let found = found_at (λ (m : Map). (m.item == r.item) && ((m.number == r.number) && is_in m.fields p.1)) t.maps m some.1 in
+            let names = sane.named m found.0 in
+            let q : Req = names.0 in
+            let named = found_at (λ (r : Req). (r.item == m.item) && (r.number == m.number)) t.reqs q names.2 in
+            elim (two_reqs t sane q r named.0 is (grind (arith, nat_tests, found.1, named.1))) [
+              | inl one ↦ rw (some.1, names.3) (ap (λ n. Some n) (names.4 ∙ ap (λ (r : Req). r.tree) one))
+              | inr two ↦ absurd (two.0 (grind (arith, nat_tests, found.1, named.1)))
+            ]
+      ]
 
   module _ (item : ℕ) where
     pub own : (r : Req) → Member (reqs_of t item) r → Member t.reqs r × (r.item ≡ item)
     own r m = let f = member_filter (λ (r : Req). r.item == item) t.reqs r m in (f.0, eqb-true r.item item f.1)
 
     -- Two requirements of one task are one, or have different numbers and agree, if they are mapped to one cell.
-    pub one_or_agree : (q r : Req) (p s : ℕ × ℕ) → Member (reqs_of t item) q → Member (reqs_of t item) r → Member (req_grid t q) p → Member (req_grid t r) s → mapped_cell t q p ≡ mapped_cell t r s
+    pub one_or_agree : (q r : Req) (p s : ℕ × ℕ) → Member (reqs_of t item) q → Member (reqs_of t item) r → Member (req_grid t q) p
+        → Member (req_grid t r) s → mapped_cell t q p ≡ mapped_cell t r s
         → (q ≡ r) ⊎ ((q.number ≢ r.number) × (agree q.access r.access ≡ true))
     one_or_agree q r p s is_q is_r at_p at_s here =
         let a = own q is_q in
@@ -181,7 +205,8 @@ module _ (t : Tables) (sane : AreSane t) (whole : (r : Req) (field : ℕ) → Me
           | inr two ↦ inr (two.0, two.1 p at_p (subst (Member (req_grid t r)) (sym (ap place here)) at_s) (same_Some q.tree r.tree trees))
         ]
 
-    two_changes : (task : ℕ) (m n : Move) (c : Cell) → IsOf t (reqs_of t item) (changes task) m → IsOf t (reqs_of t item) (changes task) n → m ≢ n → conflicts (access m c) (access n c) ≡ false
+    two_changes : (task : ℕ) (m n : Move) (c : Cell) → IsOf t (reqs_of t item) (changes task) m → IsOf t (reqs_of t item) (changes task) n
+        → m ≢ n → conflicts (access m c) (access n c) ≡ false
     two_changes task m n c x y differ = false_from_ne_true (conflicts (access m c) (access n c)) (λ e.
         let a = mapped_cell t x.req x.at in
         let b = mapped_cell t y.req y.at in
@@ -192,7 +217,8 @@ module _ (t : Tables) (sane : AreSane t) (whole : (r : Req) (field : ℕ) → Me
           | inl one ↦ differ (first.0 ∙ ap₂ (λ (r : Req) c. change_of task r.number r.access c) one (sym both.0 ∙ both.1) ∙ sym second.0)
           | inr two ↦
               let r = reductions task x.req.number y.req.number x.req.access y.req.access a b m n two.1 x.is_done y.is_done in
-              true≢false (sym e ∙ ap₂ (λ m n. conflicts (access m c) (access n c)) r.1 r.2 ∙ calm_with_itself (Folds r.0) (same_cell c a) (same_cell c b) (ap not (eq-eqb r.0 r.0 refl)))
+              true≢false (sym e ∙ ap₂ (λ m n. conflicts (access m c) (access n c)) r.1 r.2
+              ∙ calm_with_itself (Folds r.0) (same_cell c a) (same_cell c b) (ap not (eq-eqb r.0 r.0 refl)))
         ])
 
     run_tidy : (task : ℕ) → AreTidy (run_moves t task (reqs_of t item))
@@ -224,8 +250,10 @@ module _ (t : Tables) (sane : AreSane t) (whole : (r : Req) (field : ℕ) → Me
 
     module _ (item task : ℕ) where
       -- A task does once at each cell what it does for its requirements, if each move tells its cell, and of requirements that agree the number of its own.
-      module _ (does : Req → Cell → List Move) (each : (r : Req) (c : Cell) → Apart (does r c)) (cell : (r : Req) (c : Cell) (m : Move) → Member (does r c) m → (ends m).0 ≡ c)
-          (number : (q r : Req) (a b : Cell) (m : Move) → agree q.access r.access ≡ true → Member (does q a) m → Member (does r b) m → q.number ≡ r.number) where
+      module _ (does : Req → Cell → List Move) (each : (r : Req) (c : Cell) → Apart (does r c)) (cell : (r : Req) (c : Cell) (m : Move)
+          → Member (does r c) m → (ends m).0 ≡ c)
+          (number : (q r : Req) (a b : Cell) (m : Move) → agree q.access r.access ≡ true → Member (does q a) m → Member (does r b) m
+          → q.number ≡ r.number) where
         cells_once : Apart (at_cells t does (reqs_of t item))
         cells_once = apart_flat (λ r. flat_map (λ p. does r (mapped_cell t r p)) (req_grid t r)) (reqs_of t item)
             (λ r is. apart_flat (λ p. does r (mapped_cell t r p)) (req_grid t r) (λ p at. each r (mapped_cell t r p))
@@ -235,18 +263,26 @@ module _ (t : Tables) (sane : AreSane t) (whole : (r : Req) (field : ℕ) → Me
             let x = member_flat (λ p. does q (mapped_cell t q p)) (req_grid t q) m a in
             let y = member_flat (λ p. does r (mapped_cell t r p)) (req_grid t r) m b in
             let here = sym (cell q (mapped_cell t q x.0) m x.2) ∙ cell r (mapped_cell t r y.0) m y.2 in
-            elim (one_or_agree item q r x.0 y.0 is_q is_r x.1 y.1 here) [ inl one ↦ one | inr two ↦ absurd (two.0 (number q r _ _ m two.1 x.2 y.2)) ])
+            elim (one_or_agree item q r x.0 y.0 is_q is_r x.1 y.1 here) [
+              | inl one ↦ one
+              | inr two ↦
+                  absurd (two.0 (number q r _ _ m two.1 x.2 y.2))
+            ])
             (apart_filter (λ (r : Req). r.item == item) t.reqs (reqs_apart t sane))
 
       run_once : Apart (run_moves t task (reqs_of t item))
       run_once = pairs_append (λ m n. m ≢ n) _ _
-          (cells_once (reads task) (λ r c. read_once task r.number r.access c) (λ r c m h. ap (λ m. (ends m).0) (read_is task r.number r.access c m h))
-          (λ q r a b m _ x y. let same : moves.Read task q.number a ≡ moves.Read task r.number b = sym (read_is task q.number q.access a m x) ∙ read_is task r.number r.access b m y in cc))
-          (cells_once (changes task) (λ r c. change_once task r.number r.access c) (λ r c m h. (change_tells task r.number r.access c m h).2.0)
+          (cells_once (reads task) (λ r c. read_once task r.number r.access c)
+          (λ r c m h. ap (λ m. (ends m).0) (read_is task r.number r.access c m h))
+          (λ q r a b m _ x y. let same : moves.Read task q.number a ≡ moves.Read task r.number b =
+          sym (read_is task q.number q.access a m x) ∙ read_is task r.number r.access b m y in cc))
+          (cells_once (changes task) (λ r c. change_once task r.number r.access c)
+          (λ r c m h. (change_tells task r.number r.access c m h).2.0)
           (λ q r a b m e x y.
           let both = reductions task q.number r.number q.access r.access a b m m e x y in
           let same : moves.Reduce task q.number both.0 a ≡ moves.Reduce task r.number both.0 b = sym both.1 ∙ both.2 in cc))
-          (λ m n x y e. true≢false (sym (a_read task t (reqs_of t item) m (is_of t (reqs_of t item) _ m x)) ∙ ap is_read e ∙ no_read task t (reqs_of t item) n (is_of t (reqs_of t item) _ n y)))
+          (λ m n x y e. true≢false (sym (a_read task t (reqs_of t item) m (is_of t (reqs_of t item) _ m x)) ∙ ap is_read e
+          ∙ no_read task t (reqs_of t item) n (is_of t (reqs_of t item) _ n y)))
 
     pub moves_once : (op : Op) → HasFieldsApart op → Apart (moves_of t op)
     moves_once (operations.Run item) h = run_once item (id_of t item)

@@ -30,13 +30,21 @@ rises : (xs : List ℕ) → IsStrictlyIncreasing xs → (i j : ℕ) → i ≤ j 
 rises xs up i j le lt =
     elim (cases_eq i j) [
       | inl e ↦ let h : get_or xs i 0 ≡ get_or xs j 0 = ap (λ k. get_or xs k 0) e in omega arith
-      | inr ne ↦ let less : i < j = omega arith in let h : get_or xs i 0 < get_or xs j 0 = AllPairs-from_increasing xs up i j 0 less lt in omega arith
+      | inr ne ↦ let less : i < j = omega arith in let h : get_or xs i 0 < get_or xs j 0 = AllPairs-from_increasing xs up i j 0 less lt in
+          omega arith
     ]
 
-pub is_in-search : (xs : List ℕ) (n : ℕ) (r : Result ℕ ℕ) → IsStrictlyIncreasing xs → IsBinarySearchResult (λ y. nat_cmp y n) xs r → is_ok r ≡ is_in xs n
+pub is_in-search : (xs : List ℕ) (n : ℕ) (r : Result ℕ ℕ) → IsStrictlyIncreasing xs → IsBinarySearchResult (λ y. nat_cmp y n) xs r
+    → is_ok r ≡ is_in xs n
 is_in-search xs n (Ok i) up found =
     let h = searched xs n (Ok i) found (rises xs up) in
     sym (list_any_at (λ m. m == n) xs i 0 h.0 (eq-eqb (get_or xs i 0) n h.1))
 is_in-search xs n (Err i) up found =
     let h = searched xs n (Err i) found (rises xs up) in
-    sym (list_any_none (λ m. m == n) xs (λ k d lt. let e : get_or xs k d ≡ get_or xs k 0 = get_or_default_zero xs k d lt in ap (λ m. m == n) e ∙ elim (cases_lt k i) [ inl low ↦ let g : get_or xs k 0 < n = h.1 k low in ne_eqb (get_or xs k 0) n (omega arith) | inr high ↦ let g : n < get_or xs k 0 = h.2 k high lt in ne_eqb (get_or xs k 0) n (omega arith) ]))
+    sym (list_any_none (λ m. m == n) xs (λ k d lt. let e : get_or xs k d ≡ get_or xs k 0 = get_or_default_zero xs k d lt in
+    ap (λ m. m == n) e ∙ elim (cases_lt k i) [
+      | inl low ↦ let g : get_or xs k 0 < n = h.1 k low in
+          ne_eqb (get_or xs k 0) n (omega arith)
+      | inr high ↦ let g : n < get_or xs k 0 = h.2 k high lt in
+          ne_eqb (get_or xs k 0) n (omega arith)
+    ]))

@@ -16,8 +16,15 @@ use Rattle.long_values.proofs.lemmas.Right.{right_same}
 
 differ_long : (t : Tables) (r : Seen) → Differs t r → DiffersLong t r
 differ_long t r d xs il =
-    let e = listed_read t xs (start_long t) d.node r.task r.number (record { inst = d.inst; point = r.point; field = r.field }) r.got (subst (λ s. ReadsIn xs s (read_step d.node d.inst r) r.got) (sym (short_start t)) (d.sees xs il)) in
-    (d.inst, e.0, contains_of _ e.0 e.1, e.2, λ same. d.differ (sym e.2.value_is ∙ ap short same ∙ short_wanted t (place_of t.items e.0.task) e.0.place ∙ (λ i. wanted t (place_of t.items (e.2.task_is i)) (e.2.place_is i))))
+    let e = listed_read t xs (start_long t) d.node r.task r.number (record { inst = d.inst; point = r.point; field = r.field }) r.got
+    (subst (λ s. ReadsIn xs s (read_step d.node d.inst r) r.got) (sym (short_start t)) (d.sees xs il)) in (
+      d.inst,
+      e.0,
+      contains_of _ e.0 e.1,
+      e.2,
+      λ same. d.differ (sym e.2.value_is ∙ ap short same
+          ∙ short_wanted t (place_of t.items e.0.task) e.0.place ∙ (λ i. wanted t (place_of t.items (e.2.task_is i)) (e.2.place_is i))),
+    )
 
 finds_same : (t : Tables) → IsRight t ↔ IsRightLong t → (f : Finding) → CheckFinds t f ↔ CheckFindsLong t f
 finds_same t same (findings.Differ task number point field got want) = (
@@ -30,7 +37,9 @@ finds_same t same (findings.Accepted tasks operations reads) = (
 )
 finds_same t same _ = (λ h. h, λ h. h)
 
-tables_same : (lines : ℕ) (log : List Lined) (f : Finding) → ((log_fault Check lines log ≡ None) × CheckFinds (tables_of log) f) ↔ ((log_fault Check lines log ≡ None) × CheckFindsLong (tables_of log) f)
+tables_same : (lines : ℕ) (log : List Lined) (f : Finding)
+    → ((log_fault Check lines log ≡ None) × CheckFinds (tables_of log) f)
+    ↔ ((log_fault Check lines log ≡ None) × CheckFindsLong (tables_of log) f)
 tables_same lines log f = (
   λ h. (h.0, (finds_same (tables_of log) (right_same lines log h.0) f).0 h.1),
   λ h. (h.0, (finds_same (tables_of log) (right_same lines log h.0) f).1 h.1),
@@ -45,11 +54,24 @@ outcome_same bytes f = (there, back)
   where
     there : IsOutcome Check bytes f → IsOutcomeLong bytes f
     there (inl h) = inl h
-    there (inr h) = inr (record { spelled = h.spelled; log = h.log; reads = h.reads; found = (found_same (line_count bytes) h.log f).0 h.found })
+    there (inr h) = inr (record {
+      spelled = h.spelled;
+      log = h.log;
+      reads = h.reads;
+      found =
+          (found_same (line_count bytes) h.log f).0 h.found;
+    })
 
     back : IsOutcomeLong bytes f → IsOutcome Check bytes f
     back (inl h) = inl h
-    back (inr h) = inr (record { spelled = h.spelled; log = h.log; reads = h.reads; found = (found_same (line_count bytes) h.log f).1 h.found })
+    back (inr h) = inr (record {
+      spelled = h.spelled;
+      log = h.log;
+      reads = h.reads;
+      found =
+          (found_same (line_count bytes) h.log f).1 h.found;
+    })
 
-pub check_same : (lines : ℕ) (log : List Lined) → log_fault Check lines log ≡ None → (f : Finding) → CheckFinds (tables_of log) f ↔ CheckFindsLong (tables_of log) f
+pub check_same : (lines : ℕ) (log : List Lined) → log_fault Check lines log ≡ None → (f : Finding)
+    → CheckFinds (tables_of log) f ↔ CheckFindsLong (tables_of log) f
 check_same lines log none = finds_same (tables_of log) (right_same lines log none)

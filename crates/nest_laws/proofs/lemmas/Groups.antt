@@ -10,11 +10,15 @@ use Rattle.nest_laws.proofs.Licensed.{member_licensed}
 use Rattle.nest_laws.proofs.FreeGroups.{tasks_free}
 
 -- Each group above a task licenses what it asks for.
-pub task_licensed : (t : Tables) (n : Nesting) → shown_unlicensed t n ≡ None → (g item : ℕ) → IsTaskBelow t n g item → (r : Req) → Contains (reqs_of t item) r → (p : Place) → covers t p r ≡ true → licenses t n g p r.access ≡ true
+pub task_licensed : (t : Tables) (n : Nesting) → shown_unlicensed t n ≡ None → (g item : ℕ) → IsTaskBelow t n g item → (r : Req)
+    → Contains (reqs_of t item) r → (p : Place) → covers t p r ≡ true → licenses t n g p r.access ≡ true
 task_licensed t n none g item below r asks p here =
-    member_licensed t n none below.member (member_of n.members below.member below.of) g below.below r (subst (λ (k : ℕ). Member (reqs_of t k) r) below.item_is (member_of (reqs_of t item) r asks)) p here
+    member_licensed t n none below.member (member_of n.members below.member below.of) g below.below r
+    (subst (λ (k : ℕ). Member (reqs_of t k) r) below.item_is (member_of (reqs_of t item) r asks)) p here
 
 -- Tasks below two groups that are free of each other do not interfere.
-pub free_tasks : (lines : ℕ) (log : List NLined) → nested_fault lines log ≡ None → shown_unlicensed (nested_tables log) (nesting_of log) ≡ None → (g h : ℕ) → are_free (nested_tables log) (nesting_of log) g h ≡ true
-    → (a b : ℕ) → IsTaskBelow (nested_tables log) (nesting_of log) g a → IsTaskBelow (nested_tables log) (nesting_of log) h b → item_kind (nested_tables log) a b ≡ Free
+pub free_tasks : (lines : ℕ) (log : List NLined) → nested_fault lines log ≡ None
+    → shown_unlicensed (nested_tables log) (nesting_of log) ≡ None → (g h : ℕ) → are_free (nested_tables log) (nesting_of log) g h ≡ true
+    → (a b : ℕ) → IsTaskBelow (nested_tables log) (nesting_of log) g a → IsTaskBelow (nested_tables log) (nesting_of log) h b
+    → item_kind (nested_tables log) a b ≡ Free
 free_tasks = tasks_free

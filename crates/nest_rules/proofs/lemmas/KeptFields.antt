@@ -18,44 +18,59 @@ use Rattle.log_laws.proofs.lemmas.Admitted.{Unbroken, by_records, keeps_of}
 abbrev AreFielded : Tables → Type 0
 AreFielded t = Each (λ (r : trees.Tree). is_declared t (field_space_id r.fspace) ≡ true) t.trees
 
-still_declared : (xs ys : List fspaces.FieldSpace) (id : ℕ) → list_any (λ (f : fspaces.FieldSpace). f.id == id) xs ≡ true → list_any (λ (f : fspaces.FieldSpace). f.id == id) (xs ++ ys) ≡ true
+still_declared : (xs ys : List fspaces.FieldSpace) (id : ℕ) → list_any (λ (f : fspaces.FieldSpace). f.id == id) xs ≡ true
+    → list_any (λ (f : fspaces.FieldSpace). f.id == id) (xs ++ ys) ≡ true
 still_declared xs ys id e = list_any-append (λ (f : fspaces.FieldSpace). f.id == id) xs ys ∙ rw e refl
 
-fielded_with : (log : List Record) (earlier : List Lined) (line : ℕ) (r : Record) → Unbroken log earlier r → AreFielded (tables_of earlier) → AreFielded (with_record (tables_of earlier) line r)
+fielded_with : (log : List Record) (earlier : List Lined) (line : ℕ) (r : Record) → Unbroken log earlier r → AreFielded (tables_of earlier)
+    → AreFielded (with_record (tables_of earlier) line r)
 fielded_with log earlier line (Tree id space fspace) u h =
     let t : Tables = tables_of earlier in
     let named = and_parts (is_declared t (space_id space)) _ (keeps_of log earlier (Tree id space fspace) u).declared in
-    each_more (λ (r : trees.Tree). is_declared t (field_space_id r.fspace) ≡ true) t.trees (record { id = id; space = space; fspace = fspace }) h (and_parts (is_declared t (field_space_id fspace)) true named.1).0
+    each_more (λ (r : trees.Tree). is_declared t (field_space_id r.fspace) ≡ true) t.trees
+    (record { id = id; space = space; fspace = fspace }) h (and_parts (is_declared t (field_space_id fspace)) true named.1).0
 fielded_with log earlier line (Fields id fields) u h = λ r m. still_declared (tables_of earlier).field_spaces _ r.fspace (h r m)
 fielded_with log earlier line _ u h = h
 
 fielded : (log : List Record) (rest : List Lined) → records_fault log [] rest ≡ None → AreFielded (tables_of rest)
-fielded log rest e = by_records (λ r. Unit {0}) AreFielded log (λ earlier l u _. fielded_with log earlier l.line l.rec u) [] rest (recursion_from_All _ (records_of rest) (λ k d lt. tt)) e (λ r m. absurd m)
+fielded log rest e = by_records (λ r. Unit {0}) AreFielded log (λ earlier l u _. fielded_with log earlier l.line l.rec u) [] rest
+    (recursion_from_All _ (records_of rest) (λ k d lt. tt)) e (λ r m. absurd m)
 
 -- What is found of a tree is found later.
 record IsKept (t u : Tables) : Type 0 where
   tree : (id : ℕ) (r : trees.Tree) → tree_at t id ≡ Some r → tree_at u id ≡ Some r
-  fields : (id : ℕ) → is_declared t (field_space_id id) ≡ true → (is_declared u (field_space_id id) ≡ true) × (fields_in u id ≡ fields_in t id)
+  fields : (id : ℕ) → is_declared t (field_space_id id) ≡ true → (is_declared u (field_space_id id) ≡ true)
+      × (fields_in u id ≡ fields_in t id)
 
 kept_with : (t u : Tables) (line : ℕ) (r : Record) → IsKept t u → IsKept t (with_record u line r)
-kept_with t u line (Tree id space fspace) h = record { tree = λ k r e. find_still (λ (r : trees.Tree). r.id == k) u.trees _ r (h.tree k r e); fields = h.fields }
+kept_with t u line (Tree id space fspace) h = record {
+  tree =
+      λ k r e. find_still (λ (r : trees.Tree). r.id == k) u.trees _ r (h.tree k r e);
+  fields = h.fields;
+}
 kept_with t u line (Fields id fields) h = record {
   tree = h.tree;
   fields = λ k e.
       let was = h.fields k e in
       let found = find_any (λ (f : fspaces.FieldSpace). f.id == k) u.field_spaces was.0 in (
         still_declared u.field_spaces _ k was.0,
-        ap (λ o. option_map_or (λ (f : fspaces.FieldSpace). f.fields) o []) (find_still (λ (f : fspaces.FieldSpace). f.id == k) u.field_spaces (record { id = id; fields = fields } ∷ []) found.0 found.1 ∙ sym found.1) ∙ was.1,
+        ap (λ o. option_map_or (λ (f : fspaces.FieldSpace). f.fields) o [])
+            (find_still (λ (f : fspaces.FieldSpace). f.id == k) u.field_spaces (record { id = id; fields = fields } ∷ []) found.0 found.1
+            ∙ sym found.1) ∙ was.1,
       );
 }
 kept_with t u line _ h = record { tree = h.tree; fields = h.fields }
 
-kept : (earlier rest : List Lined) (log : List Record) → records_fault log earlier rest ≡ None → IsKept (tables_of earlier) (tables_of (earlier ++ rest))
-kept earlier rest log e = by_records (λ r. Unit {0}) (IsKept (tables_of earlier)) log (λ before l u _. kept_with (tables_of earlier) (tables_of before) l.line l.rec) earlier rest (recursion_from_All _ (records_of rest) (λ k d lt. tt)) e
+kept : (earlier rest : List Lined) (log : List Record) → records_fault log earlier rest ≡ None
+    → IsKept (tables_of earlier) (tables_of (earlier ++ rest))
+kept earlier rest log e = by_records (λ r. Unit {0}) (IsKept (tables_of earlier)) log
+    (λ before l u _. kept_with (tables_of earlier) (tables_of before) l.line l.rec) earlier rest
+    (recursion_from_All _ (records_of rest) (λ k d lt. tt)) e
     (record { tree = λ id r e. e; fields = λ id e. (e, refl) })
 
 -- Where no record breaks a rule, none of the first ones does, nor of the others.
-parted : (log : List Record) (earlier first rest : List Lined) → records_fault log earlier (first ++ rest) ≡ None → (records_fault log earlier first ≡ None) × (records_fault log (earlier ++ first) rest ≡ None)
+parted : (log : List Record) (earlier first rest : List Lined) → records_fault log earlier (first ++ rest) ≡ None
+    → (records_fault log earlier first ≡ None) × (records_fault log (earlier ++ first) rest ≡ None)
 parted log earlier [] rest e = (refl, subst (λ ls. records_fault log ls rest ≡ None) (sym (nothing earlier)) e)
   where
     nothing : {X : Type 0} (xs : List X) → xs ++ [] ≡ xs
@@ -67,7 +82,8 @@ parted log earlier (l ∷ first) rest e =
     (rw (here.0, later.0) refl, subst (λ ls. records_fault log ls rest ≡ None) (append_assoc earlier (l ∷ []) first) later.1)
 
 -- So a tree that is declared early has the fields that it has at last.
-pub same_fields : (log : List Record) (earlier rest : List Lined) (tree : ℕ) (fields : List ℕ) → records_fault log [] (earlier ++ rest) ≡ None → is_declared (tables_of earlier) (tree_id tree) ≡ true
+pub same_fields : (log : List Record) (earlier rest : List Lined) (tree : ℕ) (fields : List ℕ)
+    → records_fault log [] (earlier ++ rest) ≡ None → is_declared (tables_of earlier) (tree_id tree) ≡ true
     → exceeds_tree (tables_of earlier) tree fields ≡ exceeds_tree (tables_of (earlier ++ rest)) tree fields
 same_fields log earlier rest tree fields e is =
     let t : Tables = tables_of earlier in
@@ -76,5 +92,6 @@ same_fields log earlier rest tree fields e is =
     let found = find_any (λ (r : trees.Tree). r.id == tree) t.trees is in
     let at : tree_at t tree ≡ Some found.0 = found.1 in
     let later = stays.tree tree found.0 at in
-    let of = stays.fields found.0.fspace (fielded log earlier both.0 found.0 (found_at (λ (r : trees.Tree). r.id == tree) t.trees found.0 at).0) in
+    let of = stays.fields found.0.fspace (fielded log earlier both.0 found.0
+    (found_at (λ (r : trees.Tree). r.id == tree) t.trees found.0 at).0) in
     rw (at, later, of.1) refl

@@ -47,7 +47,8 @@ stays_above : (log : List NLined) → StaysAbove log
 stays_above [] = λ low h. tt
 stays_above (l ∷ log) = λ low h. by_kind low l.line l.rec log (stays_above log) h
   where
-    by_kind : (low line : ℕ) (r : NRecord) (log : List NLined) → StaysAbove log → (low < line) × Above line (lines_in log) → Above low (lines_on (plain_log (record { line = line; rec = r } ∷ log)))
+    by_kind : (low line : ℕ) (r : NRecord) (log : List NLined) → StaysAbove log → (low < line) × Above line (lines_in log)
+        → Above low (lines_on (plain_log (record { line = line; rec = r } ∷ log)))
     by_kind low line (records.Plain r) log later h = (h.0, later line h.1)
     by_kind low line (records.Group id parent) log later h = lower low line _ h.0 (later line h.1)
     by_kind low line (records.Greq group tree space fields access) log later h = lower low line _ h.0 (later line h.1)
@@ -60,7 +61,9 @@ stays_within : (lines : ℕ) (log : List NLined) → StaysWithin lines log
 stays_within lines [] = λ h. tt
 stays_within lines (l ∷ log) = λ h. by_kind lines l.line l.rec log (stays_within lines log) h.0 h.1
   where
-    by_kind : (lines line : ℕ) (r : NRecord) (log : List NLined) → StaysWithin lines log → line ≤ lines → AllByRecursion (λ (l : NLined). l.line ≤ lines) log → AllByRecursion (λ (l : Lined). l.line ≤ lines) (plain_log (record { line = line; rec = r } ∷ log))
+    by_kind : (lines line : ℕ) (r : NRecord) (log : List NLined) → StaysWithin lines log → line ≤ lines
+        → AllByRecursion (λ (l : NLined). l.line ≤ lines) log
+        → AllByRecursion (λ (l : Lined). l.line ≤ lines) (plain_log (record { line = line; rec = r } ∷ log))
     by_kind lines line (records.Plain r) log later g h = (g, later h)
     by_kind lines line (records.Group id parent) log later g h = later h
     by_kind lines line (records.Greq group tree space fields access) log later g h = later h
@@ -76,7 +79,8 @@ rising (l ∷ log) up = by_kind l.line l.rec log (rising log (tail l.line (lines
         let next : suc k + 1 ≡ suc (k + 1) = omega arith in
         subst (λ m. get_or xs k 0 < get_or (x ∷ xs) m 0) next (up (suc k) (omega (arith, lt)))
 
-    by_kind : (line : ℕ) (r : NRecord) (log : List NLined) → IsStrictlyIncreasing (lines_on (plain_log log)) → Above line (lines_in log) → IsStrictlyIncreasing (lines_on (plain_log (record { line = line; rec = r } ∷ log)))
+    by_kind : (line : ℕ) (r : NRecord) (log : List NLined) → IsStrictlyIncreasing (lines_on (plain_log log)) → Above line (lines_in log)
+        → IsStrictlyIncreasing (lines_on (plain_log (record { line = line; rec = r } ∷ log)))
     by_kind line (records.Plain r) log later h = above_to line (lines_on (plain_log log)) (stays_above log line h)
     by_kind line (records.Group id parent) log later h = later
     by_kind line (records.Greq group tree space fields access) log later h = later
@@ -85,6 +89,7 @@ rising (l ∷ log) up = by_kind l.line l.rec log (rising log (tail l.line (lines
 pub plain_lines : (lines : ℕ) (log : List NLined) → AreLinesBy (λ (l : NLined). l.line) lines log → AreLines lines (plain_log log)
 plain_lines lines log stand = record {
   ascend = rising log stand.ascend;
-  within = All-from_recursion (λ (l : Lined). l.line ≤ lines) (plain_log log) (stays_within lines log (recursion_from_All (λ (l : NLined). l.line ≤ lines) log stand.within));
+  within = All-from_recursion (λ (l : Lined). l.line ≤ lines) (plain_log log)
+      (stays_within lines log (recursion_from_All (λ (l : NLined). l.line ≤ lines) log stand.within));
   few = stand.few;
 }

@@ -26,7 +26,8 @@ use Rattle.point_laws.proofs.lemmas.Raced.{is_step, touched_point, both_touched}
 -- ---- the points of cut tables
 
 found_cut : (ps : List ℕ) (id : ℕ) (spaces : List Space)
-    → option_map_or (λ (s : Space). s.points) (find (λ (s : Space). s.id == id) (map (cut_space ps) spaces)) [] ≡ filter (is_in ps) (option_map_or (λ (s : Space). s.points) (find (λ (s : Space). s.id == id) spaces) [])
+    → option_map_or (λ (s : Space). s.points) (find (λ (s : Space). s.id == id) (map (cut_space ps) spaces)) []
+    ≡ filter (is_in ps) (option_map_or (λ (s : Space). s.points) (find (λ (s : Space). s.id == id) spaces) [])
 found_cut ps id [] = refl
 found_cut ps id (s ∷ spaces) = elim (cases_Bool (s.id == id)) [ inl here ↦ rw here refl | inr other ↦ rw other (found_cut ps id spaces) ]
 
@@ -42,10 +43,12 @@ kept_nothing (Some ps) = refl
 kept_nothing None = refl
 
 pub in_both : (ps xs : List ℕ) (q : ℕ) → Contains (filter (is_in ps) xs) q → Contains xs q × Contains ps q
-in_both ps xs q h = let m = member_filter (is_in ps) xs q (member_of (filter (is_in ps) xs) q h) in (contains_of xs q m.0, contains_of ps q (member_in ps q m.1))
+in_both ps xs q h = let m = member_filter (is_in ps) xs q (member_of (filter (is_in ps) xs) q h) in
+    (contains_of xs q m.0, contains_of ps q (member_in ps q m.1))
 
 pub in_kept : (ps xs : List ℕ) (q : ℕ) → Contains xs q → Contains ps q → Contains (filter (is_in ps) xs) q
-in_kept ps xs q here there = contains_of (filter (is_in ps) xs) q (filter_member (is_in ps) xs q (member_of xs q here) (is_in_of ps q (member_of ps q there)))
+in_kept ps xs q here there = contains_of (filter (is_in ps) xs) q
+    (filter_member (is_in ps) xs q (member_of xs q here) (is_in_of ps q (member_of ps q there)))
 
 pub kept_within : (listed : Option (List ℕ)) (xs : List ℕ) (q : ℕ) → Contains (kept listed xs) q → Contains xs q
 kept_within (Some ps) xs q h = (in_both ps xs q h).0
@@ -66,36 +69,44 @@ in_cut ps t p at id = ap (λ ns. is_in ns p) (points_cut ps t id) ∙ in_filter 
 -- ---- the steps of cut tables
 
 module _ (ps : List ℕ) (t : Tables) where
-  cells_cut : (does : Does) → ((r : Req) (c : Cell) → filter (at_points ps) (does r c) ≡ cond (is_in ps c.point) (does r c) []) → (rs : List Req) → at_cells (cut ps t) does rs ≡ filter (at_points ps) (at_cells t does rs)
+  cells_cut : (does : Does) → ((r : Req) (c : Cell) → filter (at_points ps) (does r c) ≡ cond (is_in ps c.point) (does r c) [])
+      → (rs : List Req) → at_cells (cut ps t) does rs ≡ filter (at_points ps) (at_cells t does rs)
   cells_cut does kept rs =
       let part : Req → List Move = λ r. flat_map (λ x. does r (mapped_cell t r x)) (req_grid t r) in
       let one : (r : Req) → flat_map (λ x. does r (mapped_cell t r x)) (req_grid (cut ps t) r) ≡ filter (at_points ps) (part r) = λ r.
       ap (λ points. flat_map (λ x. does r (mapped_cell t r x)) (grid points r.fields)) (points_cut ps t r.space)
-      ∙ sym (kept_grid (at_points ps) (is_in ps) (λ x. does r (mapped_cell t r x)) (λ x f. kept r (mapped_cell t r (x, f))) (points_in t r.space) r.fields) in
+      ∙ sym (kept_grid (at_points ps) (is_in ps) (λ x. does r (mapped_cell t r x)) (λ x f. kept r (mapped_cell t r (x, f)))
+      (points_in t r.space) r.fields) in
       ap (λ g. flat_map g rs) (fun_ext one) ∙ sym (filter_flat (at_points ps) part rs)
 
-  each_cut : (space : ℕ) (fields : List ℕ) (does : ℕ × ℕ → Move) → ((x f : ℕ) → (target (does (x, f))).point ≡ x) → map does (grid (points_in (cut ps t) space) fields) ≡ filter (at_points ps) (map does (grid (points_in t space) fields))
+  each_cut : (space : ℕ) (fields : List ℕ) (does : ℕ × ℕ → Move) → ((x f : ℕ) → (target (does (x, f))).point ≡ x)
+      → map does (grid (points_in (cut ps t) space) fields) ≡ filter (at_points ps) (map does (grid (points_in t space) fields))
   each_cut space fields does at =
       ap (λ points. map does (grid points fields)) (points_cut ps t space)
       ∙ sym (flat_map_single does (grid (filter (is_in ps) (points_in t space)) fields))
-      ∙ sym (kept_grid (at_points ps) (is_in ps) (λ x. does x ∷ []) (λ x f. ap (λ y. cond (is_in ps y) (does (x, f) ∷ []) []) (at x f)) (points_in t space) fields)
+      ∙ sym (kept_grid (at_points ps) (is_in ps) (λ x. does x ∷ []) (λ x f. ap (λ y. cond (is_in ps y) (does (x, f) ∷ []) []) (at x f))
+      (points_in t space) fields)
       ∙ ap (filter (at_points ps)) (flat_map_single does (grid (points_in t space) fields))
 
   moves_cut : (op : Op) → moves_of (cut ps t) op ≡ filter (at_points ps) (moves_of t op)
   moves_cut (operations.Run item) =
-      ap₂ ◌++◌ (cells_cut (λ r c. reads_by (id_of t item) r.number r.access c) (λ r c. reads_kept ps (id_of t item) r.number r.access c) (reqs_of t item))
-      (cells_cut (λ r c. changes_by (id_of t item) r.number r.access c) (λ r c. changes_kept ps (id_of t item) r.number r.access c) (reqs_of t item))
+      ap₂ ◌++◌ (cells_cut (λ r c. reads_by (id_of t item) r.number r.access c) (λ r c. reads_kept ps (id_of t item) r.number r.access c)
+      (reqs_of t item))
+      (cells_cut (λ r c. changes_by (id_of t item) r.number r.access c) (λ r c. changes_kept ps (id_of t item) r.number r.access c)
+      (reqs_of t item))
       ∙ sym (filter-append (at_points ps) _ _)
   moves_cut (operations.Copy src dst space fields) = each_cut space fields (λ x. moves.Copy (cell_in src x) (cell_in dst x)) (λ x f. refl)
   moves_cut (operations.Put inst space fields n) = each_cut space fields (λ x. moves.Put (cell_in inst x) n) (λ x f. refl)
   moves_cut (operations.Reset inst space fields) = each_cut space fields (λ x. moves.Reset (cell_in inst x)) (λ x f. refl)
-  moves_cut (operations.Fold src dst space fields) = each_cut space fields (λ x. moves.Fold (operator_of t src) (cell_in src x) (cell_in dst x)) (λ x f. refl)
+  moves_cut (operations.Fold src dst space fields) =
+      each_cut space fields (λ x. moves.Fold (operator_of t src) (cell_in src x) (cell_in dst x)) (λ x f. refl)
   moves_cut operations.Merge = refl
 
   steps_at_cut : (k : ℕ) → steps_at (cut ps t) k ≡ filter (is_at ps) (steps_at t k)
   steps_at_cut k = elim (none_or_some (slice_get t.nodes k)) [
     | inl none ↦ rw none refl
-    | inr some ↦ rw some.1 (ap (map (λ m. record { node = k; move = m })) (moves_cut some.0.op) ∙ sym (filter_map_of (is_at ps) (λ m. record { node = k; move = m }) (moves_of t some.0.op)))
+    | inr some ↦ rw some.1 (ap (map (λ m. record { node = k; move = m })) (moves_cut some.0.op)
+        ∙ sym (filter_map_of (is_at ps) (λ m. record { node = k; move = m }) (moves_of t some.0.op)))
   ]
 
   pub steps_cut : (nodes : List ℕ) → steps_by (cut ps t) nodes ≡ filter (is_at ps) (steps_by t nodes)
@@ -109,19 +120,24 @@ module _ (ps : List ℕ) (t : Tables) where
     | inr some ↦ rw (some.1, in_cut ps t c.point at some.0.space) refl
   ]
 
-  uses_cut : (i : Item) (rs : List Req) (p : Place) (v : Value) → is_in ps p.point ≡ true → after_uses (cut ps t) i rs p v ≡ after_uses t i rs p v
+  uses_cut : (i : Item) (rs : List Req) (p : Place) (v : Value) → is_in ps p.point ≡ true
+      → after_uses (cut ps t) i rs p v ≡ after_uses t i rs p v
   uses_cut i [] p v at = refl
   uses_cut i (r ∷ rs) p v at =
-      ap (λ b. after_uses (cut ps t) i rs p (if (r.tree == p.tree) && (b && is_in r.fields p.field) then changed i r v else v)) (in_cut ps t p.point at r.space)
+      ap (λ b. after_uses (cut ps t) i rs p (if (r.tree == p.tree) && (b && is_in r.fields p.field) then changed i r v else v))
+      (in_cut ps t p.point at r.space)
       ∙ uses_cut i rs p (if covers t p r then changed i r v else v) at
 
-  one_cut : (o : Option Item) (rs : List Req) (p : Place) (v : Value) → is_in ps p.point ≡ true → option_map_or (λ i. after_uses (cut ps t) i rs p v) o v ≡ option_map_or (λ i. after_uses t i rs p v) o v
+  one_cut : (o : Option Item) (rs : List Req) (p : Place) (v : Value) → is_in ps p.point ≡ true
+      → option_map_or (λ i. after_uses (cut ps t) i rs p v) o v ≡ option_map_or (λ i. after_uses t i rs p v) o v
   one_cut None rs p v at = refl
   one_cut (Some i) rs p v at = uses_cut i rs p v at
 
-  pub items_cut : (items : List ℕ) (p : Place) (v : Value) → is_in ps p.point ≡ true → after_items (cut ps t) items p v ≡ after_items t items p v
+  pub items_cut : (items : List ℕ) (p : Place) (v : Value) → is_in ps p.point ≡ true
+      → after_items (cut ps t) items p v ≡ after_items t items p v
   items_cut [] p v at = refl
-  items_cut (item ∷ items) p v at = ap (after_items (cut ps t) items p) (one_cut (slice_get t.items item) (uses_of t item) p v at) ∙ items_cut items p _ at
+  items_cut (item ∷ items) p v at = ap (after_items (cut ps t) items p) (one_cut (slice_get t.items item) (uses_of t item) p v at)
+      ∙ items_cut items p _ at
 
   pub wanted_cut : (item : ℕ) (p : Place) → is_in ps p.point ≡ true → wanted (cut ps t) item p ≡ wanted t item p
   wanted_cut item p at = items_cut (take (serial_place t item) (serial t)) p (plain Init) at
@@ -131,35 +147,45 @@ module _ (ps : List ℕ) (t : Tables) where
   difference_cut : (m : Move) (s : State) → is_in ps (target m).point ≡ true → difference (cut ps t) m s ≡ difference t m s
   difference_cut (moves.Read task number c) s at =
       let tree = option_map_or (λ (r : Req). r.tree) (req_at t (place_of t.items task) number) 0 in
-      ap (λ w. if same_value (s c) w then None else Some (record { task = task; number = number; point = c.point; field = c.field; got = s c }))
+      ap (λ w. if same_value (s c) w then None else Some
+      (record { task = task; number = number; point = c.point; field = c.field; got = s c }))
       (wanted_cut (place_of t.items task) (record { tree = tree; point = c.point; field = c.field }) at)
   difference_cut _ s at = refl
 
-  differences_cut : (xs : List Step) → Stay xs → Each (λ x. is_at ps x ≡ true) xs → (r s : State) → Agree ps r s → first_difference (cut ps t) xs r ≡ first_difference t xs s
+  differences_cut : (xs : List Step) → Stay xs → Each (λ x. is_at ps x ≡ true) xs → (r s : State) → Agree ps r s
+      → first_difference (cut ps t) xs r ≡ first_difference t xs s
   differences_cut [] stay at r s agree = refl
   differences_cut (x ∷ xs) stay at r s agree =
       let here = at x (inl refl) in
       ap₂ option_or (difference_cut x.move r here ∙ difference_agrees t ps x.move r s here agree)
-      (differences_cut xs (λ y m. stay y (inr m)) (λ y m. at y (inr m)) (effect x.move r) (effect x.move s) (kept_agree ps x.move (stay x (inl refl)) here r s agree))
+      (differences_cut xs (λ y m. stay y (inr m)) (λ y m. at y (inr m)) (effect x.move r) (effect x.move s)
+      (kept_agree ps x.move (stay x (inl refl)) here r s agree))
 
-  pub shown_cut : (nodes : List ℕ) → first_difference (cut ps t) (steps_by (cut ps t) nodes) (start (cut ps t)) ≡ first_difference t (filter (is_at ps) (steps_by t nodes)) (start t)
+  pub shown_cut : (nodes : List ℕ) → first_difference (cut ps t) (steps_by (cut ps t) nodes) (start (cut ps t))
+      ≡ first_difference t (filter (is_at ps) (steps_by t nodes)) (start t)
   shown_cut nodes =
       let xs = filter (is_at ps) (steps_by t nodes) in
       ap (λ xs. first_difference (cut ps t) xs (start (cut ps t))) (steps_cut nodes)
-      ∙ differences_cut xs (λ x m. steps_stay t nodes x (member_filter (is_at ps) (steps_by t nodes) x m).0) (λ x m. (member_filter (is_at ps) (steps_by t nodes) x m).1) (start (cut ps t)) (start t) start_cut
+      ∙ differences_cut xs (λ x m. steps_stay t nodes x (member_filter (is_at ps) (steps_by t nodes) x m).0)
+      (λ x m. (member_filter (is_at ps) (steps_by t nodes) x m).1) (start (cut ps t)) (start t) start_cut
 
 -- Tables that are cut to first points show the differing read of the whole.
-pub shown_whole : (t : Tables) → HasPointsInOrder t → (firsts : List ℕ) → AreFirsts t firsts → shown_difference (cut firsts t) ≡ shown_difference t
-shown_whole t order firsts are_firsts = let nodes = replay_order (graph_of t.nodes) in shown_cut firsts t nodes ∙ shown_at_first t order firsts are_firsts nodes
+pub shown_whole : (t : Tables) → HasPointsInOrder t → (firsts : List ℕ) → AreFirsts t firsts
+    → shown_difference (cut firsts t) ≡ shown_difference t
+shown_whole t order firsts are_firsts = let nodes = replay_order (graph_of t.nodes) in
+    shown_cut firsts t nodes ∙ shown_at_first t order firsts are_firsts nodes
 
 -- ---- races
 
 module _ (ps : List ℕ) (t : Tables) (a b : ℕ) (cell : Cell) where
   step_in_cut : (x : Step) → Contains (steps (cut ps t)) x → Member (steps t) x × (is_at ps x ≡ true)
-  step_in_cut x c = member_filter (is_at ps) (steps t) x (subst (λ xs. Member xs x) (steps_cut ps t (range_with_len 0 (length t.nodes))) (member_of (steps (cut ps t)) x c))
+  step_in_cut x c = member_filter (is_at ps) (steps t) x
+      (subst (λ xs. Member xs x) (steps_cut ps t (range_with_len 0 (length t.nodes))) (member_of (steps (cut ps t)) x c))
 
   cut_has_step : (x : Step) → Contains (steps t) x → is_at ps x ≡ true → Contains (steps (cut ps t)) x
-  cut_has_step x c at = contains_of (steps (cut ps t)) x (subst (λ xs. Member xs x) (sym (steps_cut ps t (range_with_len 0 (length t.nodes)))) (filter_member (is_at ps) (steps t) x (member_of (steps t) x c) at))
+  cut_has_step x c at = contains_of (steps (cut ps t)) x
+      (subst (λ xs. Member xs x) (sym (steps_cut ps t (range_with_len 0 (length t.nodes))))
+      (filter_member (is_at ps) (steps t) x (member_of (steps t) x c) at))
 
   of_cut : Race (cut ps t) a b cell → (is_in ps cell.point ≡ true) × Race t a b cell
   of_cut r =
@@ -167,15 +193,27 @@ module _ (ps : List ℕ) (t : Tables) (a b : ℕ) (cell : Cell) where
       let other = step_in_cut (record { node = b; move = r.other }) r.other_in in
       let stays = (is_step t (range_with_len 0 (length t.nodes)) _ one.0).stays in (
         ap (is_in ps) (touched_point r.one cell stays (both_touched (access r.one cell) (access r.other cell) r.conflict).0) ∙ one.1,
-        record { differ = r.differ; one = r.one; other = r.other; one_in = contains_of (steps t) _ one.0; other_in = contains_of (steps t) _ other.0; conflict = r.conflict; not_before = r.not_before; not_after = r.not_after },
+        record {
+          differ = r.differ;
+          one = r.one;
+          other = r.other;
+          one_in = contains_of (steps t) _ one.0;
+          other_in =
+              contains_of (steps t) _ other.0;
+          conflict = r.conflict;
+          not_before = r.not_before;
+          not_after = r.not_after;
+        },
       )
 
   in_cut_too : (is_in ps cell.point ≡ true) × Race t a b cell → Race (cut ps t) a b cell
   in_cut_too (at, r) =
       let ks = range_with_len 0 (length t.nodes) in
       let touched = both_touched (access r.one cell) (access r.other cell) r.conflict in
-      let first = touched_point r.one cell (is_step t ks (record { node = a; move = r.one }) (member_of (steps t) _ r.one_in)).stays touched.0 in
-      let second = touched_point r.other cell (is_step t ks (record { node = b; move = r.other }) (member_of (steps t) _ r.other_in)).stays touched.1 in
+      let first = touched_point r.one cell (is_step t ks (record { node = a; move = r.one })
+      (member_of (steps t) _ r.one_in)).stays touched.0 in
+      let second = touched_point r.other cell (is_step t ks (record { node = b; move = r.other })
+      (member_of (steps t) _ r.other_in)).stays touched.1 in
       record {
         differ = r.differ;
         one = r.one;

@@ -16,7 +16,8 @@ with_good : (t : Tables) (line : ℕ) (r : Record) → Good r → SpacesRise t �
 with_good t line (records.Ispace id set) good h = each_more _ t.spaces _ h (points_rise set good.1.0)
 with_good t line _ good h = h
 
-all_good : (t : Tables) (log : List Lined) → AllByRecursion Good (records_of log) → SpacesRise t → SpacesRise (fold (λ t (l : Lined). with_record t l.line l.rec) t log)
+all_good : (t : Tables) (log : List Lined) → AllByRecursion Good (records_of log) → SpacesRise t
+    → SpacesRise (fold (λ t (l : Lined). with_record t l.line l.rec) t log)
 all_good t [] good h = h
 all_good t (l ∷ log) good h = all_good (with_record t l.line l.rec) log good.1 (with_good t l.line l.rec good.0 h)
 
@@ -28,7 +29,8 @@ good_in_order log good s c = all_pairs _ s.points (all_good no_tables log good (
 pub points_in_rise : (t : Tables) → HasPointsInOrder t → (id : ℕ) → Rise (points_in t id)
 points_in_rise t order id = elim (none_or_some (find (λ (s : Space). s.id == id) t.spaces)) [
   | inl none ↦ rw none tt
-  | inr some ↦ rw some.1 (pairs_from _ some.0.points (order some.0 (contains_of t.spaces some.0 (found_at (λ (s : Space). s.id == id) t.spaces some.0 some.1).0)))
+  | inr some ↦ rw some.1 (pairs_from _ some.0.points
+      (order some.0 (contains_of t.spaces some.0 (found_at (λ (s : Space). s.id == id) t.spaces some.0 some.1).0)))
 ]
 
 pub points_in_apart : (t : Tables) → HasPointsInOrder t → (id : ℕ) → Apart (points_in t id)

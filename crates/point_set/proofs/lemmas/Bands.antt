@@ -36,17 +36,21 @@ x_fits rects k h lt = (h k (record { x0 = 0; x1 = 0; y0 = 0; y1 = 0 }) lt).0
 pub y_fits : (rects : List Rect) (k : ℕ) → AreSmall rects → k < length rects → (rect_at rects k).y1 < 2 ^ 32
 y_fits rects k h lt = (h k (record { x0 = 0; x1 = 0; y0 = 0; y1 = 0 }) lt).1
 
-before_by : (rects : List Rect) (j n : ℕ) → AreBanded rects → j + 1 + n < length rects → ComesBefore (rect_at rects j) (rect_at rects (j + 1 + n))
+before_by : (rects : List Rect) (j n : ℕ) → AreBanded rects → j + 1 + n < length rects
+    → ComesBefore (rect_at rects j) (rect_at rects (j + 1 + n))
 before_by rects j zero h lt =
     let e : j + 1 + 0 ≡ j + 1 = omega arith in
     rw e (either (rect_at rects j) (rect_at rects (j + 1)) (h.order j (record { x0 = 0; x1 = 0; y0 = 0; y1 = 0 }) (omega arith)))
 before_by rects j (suc n) h lt =
     let e : j + 1 + suc n ≡ j + 1 + n + 1 = omega arith in
     let within : j + 1 + n < length rects = omega arith in
-    rw e (before_trans (rect_at rects j) (rect_at rects (j + 1 + n)) (rect_at rects (j + 1 + n + 1)) (wide rects (j + 1 + n) h within) (high rects (j + 1 + n) h within)
-    (before_by rects j n h within) (either (rect_at rects (j + 1 + n)) (rect_at rects (j + 1 + n + 1)) (h.order (j + 1 + n) (record { x0 = 0; x1 = 0; y0 = 0; y1 = 0 }) (omega arith))))
+    rw e (before_trans (rect_at rects j) (rect_at rects (j + 1 + n)) (rect_at rects (j + 1 + n + 1)) (wide rects (j + 1 + n) h within)
+    (high rects (j + 1 + n) h within)
+    (before_by rects j n h within) (either (rect_at rects (j + 1 + n)) (rect_at rects (j + 1 + n + 1))
+    (h.order (j + 1 + n) (record { x0 = 0; x1 = 0; y0 = 0; y1 = 0 }) (omega arith))))
 
-pub comes_before : (rects : List Rect) (j k : ℕ) → AreBanded rects → j < k → k < length rects → ComesBefore (rect_at rects j) (rect_at rects k)
+pub comes_before : (rects : List Rect) (j k : ℕ) → AreBanded rects → j < k → k < length rects
+    → ComesBefore (rect_at rects j) (rect_at rects k)
 comes_before rects j k h lt within =
     let e : j + 1 + (k - (j + 1)) ≡ k = omega arith in
     subst (λ i. ComesBefore (rect_at rects j) (rect_at rects i)) e (before_by rects j (k - (j + 1)) h (omega arith))
@@ -58,4 +62,5 @@ last_below r s wide high fits (inr above) = omega (arith, above.1, above.2, high
 -- the last points of rectangles ascend
 pub lasts_rise : (rects : List Rect) → AreBanded rects → AreSmall rects → IsNonDecreasingBy (λ (r : Rect). r.x1 * 2 ^ 32 + r.y1) rects
 lasts_rise rects h small = IsNonDecreasingBy-from_all_adjacent (λ (r : Rect). r.x1 * 2 ^ 32 + r.y1) rects
-    (λ k d lt. last_below (get_or rects k d) (get_or rects (k + 1) d) (h.some (k + 1) d lt).0 (h.some (k + 1) d lt).1 (small k d (omega arith)).1 (either (get_or rects k d) (get_or rects (k + 1) d) (h.order k d lt)))
+    (λ k d lt. last_below (get_or rects k d) (get_or rects (k + 1) d) (h.some (k + 1) d lt).0 (h.some (k + 1) d lt).1
+    (small k d (omega arith)).1 (either (get_or rects k d) (get_or rects (k + 1) d) (h.order k d lt)))

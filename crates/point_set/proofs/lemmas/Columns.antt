@@ -24,7 +24,8 @@ of_range a n p low high =
     let e : a + (p - a) ≡ p = omega arith in
     (p - a, omega (arith, lt, length-range_with_len a n), get_or-range_with_len a n (p - a) p lt ∙ e)
 
-in_columns : (f : ℕ → List ℕ) (a n p : ℕ) → Contains (flat_map f (range_with_len a n)) p → (x : ℕ) × (a ≤ x) × (x < a + n) × Contains (f x) p
+in_columns : (f : ℕ → List ℕ) (a n p : ℕ) → Contains (flat_map f (range_with_len a n)) p → (x : ℕ) × (a ≤ x) × (x < a + n)
+    × Contains (f x) p
 in_columns f a zero p h = absurd (omega (arith, h.1))
 in_columns f a (suc n) p h = elim (Contains-append_cases (f a) (flat_map f (range_with_len (a + 1) n)) p h) [
   | inl here ↦ (a, omega arith, omega arith, here)
@@ -34,8 +35,10 @@ in_columns f a (suc n) p h = elim (Contains-append_cases (f a) (flat_map f (rang
 of_columns : (f : ℕ → List ℕ) (a n x p : ℕ) → a ≤ x → x < a + n → Contains (f x) p → Contains (flat_map f (range_with_len a n)) p
 of_columns f a zero x p low high h = absurd (omega arith)
 of_columns f a (suc n) x p low high h = elim (cases_lt a x) [
-  | inl behind ↦ Contains-append_right (f a) (flat_map f (range_with_len (a + 1) n)) p (of_columns f (a + 1) n x p (omega arith) (omega arith) h)
-  | inr le ↦ let e : x ≡ a = omega arith in Contains-append_left (f a) (flat_map f (range_with_len (a + 1) n)) p (subst (λ z. Contains (f z) p) e h)
+  | inl behind ↦ Contains-append_right (f a) (flat_map f (range_with_len (a + 1) n)) p
+      (of_columns f (a + 1) n x p (omega arith) (omega arith) h)
+  | inr le ↦ let e : x ≡ a = omega arith in Contains-append_left (f a) (flat_map f (range_with_len (a + 1) n)) p
+      (subst (λ z. Contains (f z) p) e h)
 ]
 
 -- ---- Which points there are.
@@ -58,7 +61,8 @@ of_rect : (x y : ℕ) (r : Rect) → Holds r x y → Contains (column_points x r
 of_rect x y r h =
     let low = h.low in
     let high = h.high in
-    rw (le-leb r.x0 x h.left, le-leb x r.x1 h.right) (of_range (x * 2 ^ 32 + r.y0) (r.y1 + 1 - r.y0) (x * 2 ^ 32 + y) (omega arith) (omega arith))
+    rw (le-leb r.x0 x h.left, le-leb x r.x1 h.right)
+    (of_range (x * 2 ^ 32 + r.y0) (r.y1 + 1 - r.y0) (x * 2 ^ 32 + y) (omega arith) (omega arith))
 
 -- a point of a column, in some rectangle
 pub record InColumn (rects : List Rect) (x p : ℕ) : Type 0 where
@@ -70,13 +74,17 @@ in_column : (x : ℕ) (rects : List Rect) (p : ℕ) → Contains (flat_map (colu
 in_column x [] p h = absurd (omega (arith, h.1))
 in_column x (r ∷ rs) p h = elim (Contains-append_cases (column_points x r) (flat_map (column_points x) rs) p h) [
   | inl here ↦ let i = in_rect x r p here in record { y = i.0; has = record { place = 0; within = omega arith; holds = i.1 }; is = i.2 }
-  | inr behind ↦ let i = in_column x rs p behind in record { y = i.y; has = record { place = suc i.has.place; within = omega (arith, i.has.within); holds = i.has.holds }; is = i.is }
+  | inr behind ↦ let i = in_column x rs p behind in
+      record { y = i.y; has = record { place = suc i.has.place; within = omega (arith, i.has.within); holds = i.has.holds }; is = i.is }
 ]
 
-of_column : (x y : ℕ) (rects : List Rect) (k : ℕ) → k < length rects → Holds (rect_at rects k) x y → Contains (flat_map (column_points x) rects) (x * 2 ^ 32 + y)
+of_column : (x y : ℕ) (rects : List Rect) (k : ℕ) → k < length rects → Holds (rect_at rects k) x y
+    → Contains (flat_map (column_points x) rects) (x * 2 ^ 32 + y)
 of_column x y [] k lt h = absurd (omega arith)
-of_column x y (r ∷ rs) zero lt h = Contains-append_left (column_points x r) (flat_map (column_points x) rs) (x * 2 ^ 32 + y) (of_rect x y r h)
-of_column x y (r ∷ rs) (suc k) lt h = Contains-append_right (column_points x r) (flat_map (column_points x) rs) (x * 2 ^ 32 + y) (of_column x y rs k (omega arith) h)
+of_column x y (r ∷ rs) zero lt h = Contains-append_left (column_points x r) (flat_map (column_points x) rs) (x * 2 ^ 32 + y)
+    (of_rect x y r h)
+of_column x y (r ∷ rs) (suc k) lt h = Contains-append_right (column_points x r) (flat_map (column_points x) rs) (x * 2 ^ 32 + y)
+    (of_column x y rs k (omega arith) h)
 
 below_end : (rects : List Rect) (k : ℕ) → k < length rects → (rect_at rects k).x1 < columns_end rects
 below_end [] k lt = absurd (omega arith)
@@ -88,7 +96,8 @@ pub of_has : (rects : List Rect) (x y : ℕ) → Has rects x y → Contains (rec
 of_has rects x y h =
     let right = h.holds.right in
     let end = below_end rects h.place h.within in
-    of_columns (λ z. flat_map (column_points z) rects) 0 (columns_end rects) x (x * 2 ^ 32 + y) (omega arith) (omega arith) (of_column x y rects h.place h.within h.holds)
+    of_columns (λ z. flat_map (column_points z) rects) 0 (columns_end rects) x (x * 2 ^ 32 + y) (omega arith) (omega arith)
+    (of_column x y rects h.place h.within h.holds)
 
 -- a point, with its column and row
 pub record At (rects : List Rect) (p : ℕ) : Type 0 where
@@ -145,11 +154,13 @@ rises_range : (low a n high : ℕ) → low ≤ a → a + n ≤ high → RisesTo 
 rises_range low a zero high le end = omega arith
 rises_range low a (suc n) high le end = (le, rises_range (a + 1) (a + 1) n high (omega arith) (omega arith))
 
-rises_columns : (f : ℕ → List ℕ) (a n : ℕ) → ((x : ℕ) → RisesTo (x * 2 ^ 32) ((x + 1) * 2 ^ 32) (f x)) → RisesTo (a * 2 ^ 32) ((a + n) * 2 ^ 32) (flat_map f (range_with_len a n))
+rises_columns : (f : ℕ → List ℕ) (a n : ℕ) → ((x : ℕ) → RisesTo (x * 2 ^ 32) ((x + 1) * 2 ^ 32) (f x))
+    → RisesTo (a * 2 ^ 32) ((a + n) * 2 ^ 32) (flat_map f (range_with_len a n))
 rises_columns f a zero h = omega arith
 rises_columns f a (suc n) h =
     let e : a + suc n ≡ a + 1 + n = omega arith in
-    rw e (rises_append (a * 2 ^ 32) ((a + 1) * 2 ^ 32) ((a + 1 + n) * 2 ^ 32) (f a) (flat_map f (range_with_len (a + 1) n)) (h a) (rises_columns f (a + 1) n h))
+    rw e (rises_append (a * 2 ^ 32) ((a + 1) * 2 ^ 32) ((a + 1 + n) * 2 ^ 32) (f a) (flat_map f (range_with_len (a + 1) n)) (h a)
+    (rises_columns f (a + 1) n h))
 
 -- a rectangle comes before each of these
 abbrev pub BeforeAll : Rect → List Rect → Type 0
@@ -167,7 +178,12 @@ before_all r s (t ∷ ts) wide high h all = (before_trans r s t wide high h all.
 
 chain : (rects : List Rect) → AreBanded rects → AreSmall rects → Chain rects
 chain [] h small = tt
-chain (r ∷ []) h small = ((All-head (λ (r : Rect). (r.x0 ≤ r.x1) × (r.y0 ≤ r.y1)) r [] h.some).1, (All-head (λ (r : Rect). (r.x1 < 2 ^ 32) × (r.y1 < 2 ^ 32)) r [] small).1, tt, tt)
+chain (r ∷ []) h small = (
+  (All-head (λ (r : Rect). (r.x0 ≤ r.x1) × (r.y0 ≤ r.y1)) r [] h.some).1,
+  (All-head (λ (r : Rect). (r.x1 < 2 ^ 32) × (r.y1 < 2 ^ 32)) r [] small).1,
+  tt,
+  tt,
+)
 chain (r ∷ s ∷ rs) h small =
     let here = All-head (λ (r : Rect). (r.x0 ≤ r.x1) × (r.y0 ≤ r.y1)) r (s ∷ rs) h.some in
     let fits = All-head (λ (r : Rect). (r.x1 < 2 ^ 32) × (r.y1 < 2 ^ 32)) r (s ∷ rs) small in
@@ -186,13 +202,19 @@ above_first : (x : ℕ) (r : Rect) (rs : List Rect) → has_column x r ≡ true 
 above_first x r [] so all = tt
 above_first x r (s ∷ ss) so all = (
   λ also. elim all.0 [
-    | inl left ↦ absurd (omega (arith, left, leb-true x r.x1 (and_parts (nat_le r.x0 x) (nat_le x r.x1) so).1, leb-true s.x0 x (and_parts (nat_le s.x0 x) (nat_le x s.x1) also).0))
+    | inl left ↦ absurd (omega (
+      arith,
+      left,
+      leb-true x r.x1 (and_parts (nat_le r.x0 x) (nat_le x r.x1) so).1,
+      leb-true s.x0 x (and_parts (nat_le s.x0 x) (nat_le x s.x1) also).0,
+    ))
     | inr above ↦ omega (arith, above.2)
   ],
   above_first x r ss so all.1,
 )
 
-rises_column : (x low : ℕ) (rects : List Rect) → low ≤ (x + 1) * 2 ^ 32 → Chain rects → AllAbove x low rects → RisesTo low ((x + 1) * 2 ^ 32) (flat_map (column_points x) rects)
+rises_column : (x low : ℕ) (rects : List Rect) → low ≤ (x + 1) * 2 ^ 32 → Chain rects → AllAbove x low rects
+    → RisesTo low ((x + 1) * 2 ^ 32) (flat_map (column_points x) rects)
 rises_column x low [] le h above = le
 rises_column x low (r ∷ rs) le h above = elim (cases_Bool (has_column x r)) [
   | inl so ↦
@@ -200,7 +222,8 @@ rises_column x low (r ∷ rs) le h above = elim (cases_Bool (has_column x r)) [
       let fits = h.1 in
       let from = above.0 so in
       let mid : x * 2 ^ 32 + r.y1 + 1 ≤ (x + 1) * 2 ^ 32 = omega (arith, fits) in
-      rw so (rises_append low (x * 2 ^ 32 + r.y1 + 1) ((x + 1) * 2 ^ 32) (range_with_len (x * 2 ^ 32 + r.y0) (r.y1 + 1 - r.y0)) (flat_map (column_points x) rs)
+      rw so (rises_append low (x * 2 ^ 32 + r.y1 + 1) ((x + 1) * 2 ^ 32) (range_with_len (x * 2 ^ 32 + r.y0) (r.y1 + 1 - r.y0))
+      (flat_map (column_points x) rs)
       (rises_range low (x * 2 ^ 32 + r.y0) (r.y1 + 1 - r.y0) (x * 2 ^ 32 + r.y1 + 1) from (omega arith))
       (rises_column x (x * 2 ^ 32 + r.y1 + 1) rs mid h.3 (above_first x r rs so h.2)))
   | inr nay ↦ rw nay (rises_column x low rs le h.3 above.1)
@@ -214,9 +237,11 @@ increasing : (low high : ℕ) (ps : List ℕ) → RisesTo low high ps → IsStri
 increasing low high [] h k lt = absurd (omega arith)
 increasing low high (p ∷ []) h k lt = absurd (omega arith)
 increasing low high (p ∷ q ∷ ps) h zero lt = omega (arith, h.1.0)
-increasing low high (p ∷ q ∷ ps) h (suc k) lt = rw (add-one (suc k)) (rw (add-one k) at (increasing (p + 1) high (q ∷ ps) h.1 k (omega arith)))
+increasing low high (p ∷ q ∷ ps) h (suc k) lt =
+    rw (add-one (suc k)) (rw (add-one k) at (increasing (p + 1) high (q ∷ ps) h.1 k (omega arith)))
 
 -- the points of banded rectangles ascend
 pub points_ascend : (rects : List Rect) → AreBanded rects → AreSmall rects → IsStrictlyIncreasing (rect_points rects)
 points_ascend rects h small = increasing (0 * 2 ^ 32) ((0 + columns_end rects) * 2 ^ 32) (rect_points rects)
-    (rises_columns (λ x. flat_map (column_points x) rects) 0 (columns_end rects) (λ x. rises_column x (x * 2 ^ 32) rects (omega arith) (chain rects h small) (above_zero x rects)))
+    (rises_columns (λ x. flat_map (column_points x) rects) 0 (columns_end rects)
+    (λ x. rises_column x (x * 2 ^ 32) rects (omega arith) (chain rects h small) (above_zero x rects)))

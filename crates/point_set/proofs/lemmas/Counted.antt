@@ -18,7 +18,8 @@ total_both f g a zero = refl
 total_both f g a (suc n) = let more = total_both f g (a + 1) n in omega (arith, more)
 
 total_split : (f : ℕ → ℕ) (a n m : ℕ) → total f a (n + m) ≡ total f a n + total f (a + n) m
-total_split f a zero m = let e : a + 0 ≡ a = omega arith in let z : 0 + m ≡ m = omega arith in let t : total f a 0 ≡ 0 = refl in rw (e, z) (omega (arith, t))
+total_split f a zero m = let e : a + 0 ≡ a = omega arith in let z : 0 + m ≡ m = omega arith in let t : total f a 0 ≡ 0 = refl in
+    rw (e, z) (omega (arith, t))
 total_split f a (suc n) m =
     let e : suc n + m ≡ suc (n + m) = omega arith in
     let s : a + suc n ≡ a + 1 + n = omega arith in
@@ -35,7 +36,8 @@ total_same f a (suc n) h same =
 
 length_columns : (f : ℕ → List ℕ) (a n : ℕ) → length (flat_map f (range_with_len a n)) ≡ total (λ x. length (f x)) a n
 length_columns f a zero = refl
-length_columns f a (suc n) = length-append (f a) (flat_map f (range_with_len (a + 1) n)) ∙ ap (λ k. length (f a) + k) (length_columns f (a + 1) n)
+length_columns f a (suc n) = length-append (f a) (flat_map f (range_with_len (a + 1) n))
+    ∙ ap (λ k. length (f a) + k) (length_columns f (a + 1) n)
 
 -- the points of one rectangle in a column
 in_it : (x : ℕ) (r : Rect) → r.x0 ≤ x → x ≤ r.x1 → length (column_points x r) ≡ r.y1 + 1 - r.y0
@@ -57,8 +59,10 @@ one_rect r n le lt =
     let w = r.x1 + 1 - r.x0 in
     let e : n ≡ r.x0 + (r.x1 + 1 - r.x0 + (n - (r.x1 + 1))) = omega arith in
     let first : total f 0 r.x0 ≡ r.x0 * 0 = total_same f 0 r.x0 0 (λ x a b. left_of_it x r (omega arith)) in
-    let mid : total f (0 + r.x0) (r.x1 + 1 - r.x0) ≡ (r.x1 + 1 - r.x0) * (r.y1 + 1 - r.y0) = total_same f (0 + r.x0) (r.x1 + 1 - r.x0) (r.y1 + 1 - r.y0) (λ x a b. in_it x r (omega arith) (omega arith)) in
-    let last : total f (0 + r.x0 + (r.x1 + 1 - r.x0)) (n - (r.x1 + 1)) ≡ (n - (r.x1 + 1)) * 0 = total_same f (0 + r.x0 + (r.x1 + 1 - r.x0)) (n - (r.x1 + 1)) 0 (λ x a b. right_of_it x r (omega arith)) in
+    let mid : total f (0 + r.x0) (r.x1 + 1 - r.x0) ≡ (r.x1 + 1 - r.x0) * (r.y1 + 1 - r.y0) =
+    total_same f (0 + r.x0) (r.x1 + 1 - r.x0) (r.y1 + 1 - r.y0) (λ x a b. in_it x r (omega arith) (omega arith)) in
+    let last : total f (0 + r.x0 + (r.x1 + 1 - r.x0)) (n - (r.x1 + 1)) ≡ (n - (r.x1 + 1)) * 0 =
+    total_same f (0 + r.x0 + (r.x1 + 1 - r.x0)) (n - (r.x1 + 1)) 0 (λ x a b. right_of_it x r (omega arith)) in
     let cut = total_split f 0 r.x0 (r.x1 + 1 - r.x0 + (n - (r.x1 + 1))) in
     let again = total_split f (0 + r.x0) (r.x1 + 1 - r.x0) (n - (r.x1 + 1)) in
     subst (λ k. total f 0 k ≡ area r) (sym e) (omega (arith, cut, again, first, mid, last))
@@ -83,7 +87,9 @@ total_alike f g a (suc n) same = let here = same a in let more = total_alike f g
 all_rects : (rects : List Rect) (n : ℕ) → AllWide n rects → total (λ x. length (flat_map (column_points x) rects)) 0 n ≡ areas rects
 all_rects [] n wide = nothing 0 n
 all_rects (r ∷ rs) n wide =
-    let cut = total_alike (λ x. length (flat_map (column_points x) (r ∷ rs))) (λ x. length (column_points x r) + length (flat_map (column_points x) rs)) 0 n (λ x. length-append (column_points x r) (flat_map (column_points x) rs)) in
+    let cut = total_alike (λ x. length (flat_map (column_points x) (r ∷ rs)))
+    (λ x. length (column_points x r) + length (flat_map (column_points x) rs)) 0 n
+    (λ x. length-append (column_points x r) (flat_map (column_points x) rs)) in
     let both = total_both (λ x. length (column_points x r)) (λ x. length (flat_map (column_points x) rs)) 0 n in
     cut ∙ both ∙ (let one = one_rect r n wide.0 wide.1 in let more = all_rects rs n wide.2 in rw (one, more) refl)
 
@@ -96,16 +102,20 @@ all_wide [] some = tt
 all_wide (r ∷ rs) some = (
   (All-head (λ (r : Rect). (r.x0 ≤ r.x1) × (r.y0 ≤ r.y1)) r rs some).0,
   omega arith,
-  wide_more (columns_end rs) (columns_end (r ∷ rs)) rs (omega arith) (all_wide rs (All-tail (λ (r : Rect). (r.x0 ≤ r.x1) × (r.y0 ≤ r.y1)) r rs some)),
+  wide_more (columns_end rs) (columns_end (r ∷ rs)) rs (omega arith)
+      (all_wide rs (All-tail (λ (r : Rect). (r.x0 ≤ r.x1) × (r.y0 ≤ r.y1)) r rs some)),
 )
 
 -- as many as the areas of the rectangles together
 pub counted : (rects : List Rect) → All (λ (r : Rect). (r.x0 ≤ r.x1) × (r.y0 ≤ r.y1)) rects → length (rect_points rects) ≡ areas rects
-counted rects some = length_columns (λ x. flat_map (column_points x) rects) 0 (columns_end rects) ∙ all_rects rects (columns_end rects) (all_wide rects some)
+counted rects some = length_columns (λ x. flat_map (column_points x) rects) 0 (columns_end rects)
+    ∙ all_rects rects (columns_end rects) (all_wide rects some)
 
 areas_append : (rs ss : List Rect) → areas (rs ++ ss) ≡ areas rs + areas ss
 areas_append [] ss = let e : 0 + areas ss ≡ areas ss = omega arith in sym e
 areas_append (r ∷ rs) ss = let more = areas_append rs ss in rw more (omega arith)
 
 pub areas_more : (rects : List Rect) (k : ℕ) → k < length rects → areas (take (k + 1) rects) ≡ areas (take k rects) + area (rect_at rects k)
-areas_more rects k lt = ap areas (take_more rects k (record { x0 = 0; x1 = 0; y0 = 0; y1 = 0 }) lt) ∙ areas_append (take k rects) (rect_at rects k ∷ []) ∙ (let z : area (rect_at rects k) + 0 ≡ area (rect_at rects k) = omega arith in ap (λ n. areas (take k rects) + n) z)
+areas_more rects k lt = ap areas (take_more rects k (record { x0 = 0; x1 = 0; y0 = 0; y1 = 0 }) lt)
+    ∙ areas_append (take k rects) (rect_at rects k ∷ [])
+    ∙ (let z : area (rect_at rects k) + 0 ≡ area (rect_at rects k) = omega arith in ap (λ n. areas (take k rects) + n) z)

@@ -24,7 +24,8 @@ apart_lower : (low high : ℕ) (runs : List (ℕ × ℕ)) → low ≤ high → S
 apart_lower low high [] le h = tt
 apart_lower low high (run ∷ runs) le h = (omega (arith, h.0), h.1, h.2)
 
-apart_with_run : (low : ℕ) (run : ℕ × ℕ) (runs : List (ℕ × ℕ)) → low ≤ run.0 → run.0 ≤ run.1 → StandApart (run.1 + 1) runs → StandApart low (with_run run runs)
+apart_with_run : (low : ℕ) (run : ℕ × ℕ) (runs : List (ℕ × ℕ)) → low ≤ run.0 → run.0 ≤ run.1 → StandApart (run.1 + 1) runs
+    → StandApart low (with_run run runs)
 apart_with_run low run [] le up h = (le, up, tt)
 apart_with_run low run (next ∷ runs) le up h =
     elim (cases_eq next.0 (run.1 + 1)) [
@@ -41,7 +42,8 @@ sorted_apart p (q ∷ ps) up =
 
 stand_apart : (ps : List ℕ) → IsStrictlyIncreasing ps → StandApart 0 (maximal_runs ps)
 stand_apart [] up = tt
-stand_apart (p ∷ ps) up = apart_lower 0 p (maximal_runs (p ∷ ps)) (omega arith) (sorted_apart p ps (sorted_from_strictly_increasing (p ∷ ps) up))
+stand_apart (p ∷ ps) up = apart_lower 0 p (maximal_runs (p ∷ ps)) (omega arith)
+    (sorted_apart p ps (sorted_from_strictly_increasing (p ∷ ps) up))
 
 nonempty : (low : ℕ) (runs : List (ℕ × ℕ)) → StandApart low runs → All (λ run. run.0 ≤ run.1) runs
 nonempty low [] h = All-nil (λ (run : ℕ × ℕ). run.0 ≤ run.1)
@@ -51,7 +53,8 @@ separate : (low : ℕ) (runs : List (ℕ × ℕ)) → StandApart low runs → Ar
 separate low [] h k d lt = absurd (omega arith)
 separate low (run ∷ []) h k d lt = absurd (omega arith)
 separate low (run ∷ next ∷ runs) h zero d lt = omega (arith, h.2.0)
-separate low (run ∷ next ∷ runs) h (suc k) d lt = rw (add-one (suc k)) (rw (add-one k) at (separate (run.1 + 2) (next ∷ runs) h.2 k d (omega arith)))
+separate low (run ∷ next ∷ runs) h (suc k) d lt =
+    rw (add-one (suc k)) (rw (add-one k) at (separate (run.1 + 2) (next ∷ runs) h.2 k d (omega arith)))
 
 pub runs_apart : (ps : List ℕ) → IsStrictlyIncreasing ps → AreApart (maximal_runs ps)
 runs_apart ps up = separate 0 (maximal_runs ps) (stand_apart ps up)
@@ -70,17 +73,20 @@ range-append a (suc m) n =
     let k : suc m + n ≡ suc (m + n) = omega arith in
     rw (k, ← e) (ap (λ ps. a ∷ ps) (range-append (a + 1) m n))
 
-pub joined_run : (run next : ℕ × ℕ) → run.0 ≤ run.1 → next.0 ≤ next.1 → next.0 ≡ run.1 + 1 → run_points (run.0, next.1) ≡ run_points run ++ run_points next
+pub joined_run : (run next : ℕ × ℕ) → run.0 ≤ run.1 → next.0 ≤ next.1 → next.0 ≡ run.1 + 1
+    → run_points (run.0, next.1) ≡ run_points run ++ run_points next
 joined_run run next le le' e =
     let n : next.1 + 1 - run.0 ≡ (run.1 + 1 - run.0) + (next.1 + 1 - next.0) = omega arith in
     let at : next.0 ≡ run.0 + (run.1 + 1 - run.0) = omega arith in
     rw (n, at) (sym (range-append run.0 (run.1 + 1 - run.0) (next.1 + 1 - (run.0 + (run.1 + 1 - run.0)))))
 
-points_of-with_run : (low : ℕ) (run : ℕ × ℕ) (runs : List (ℕ × ℕ)) → run.0 ≤ run.1 → StandApart low runs → points_of (with_run run runs) ≡ run_points run ++ points_of runs
+points_of-with_run : (low : ℕ) (run : ℕ × ℕ) (runs : List (ℕ × ℕ)) → run.0 ≤ run.1 → StandApart low runs
+    → points_of (with_run run runs) ≡ run_points run ++ points_of runs
 points_of-with_run low run [] le h = refl
 points_of-with_run low run (next ∷ runs) le h =
     elim (cases_eq next.0 (run.1 + 1)) [
-      | inl e ↦ rw (touching run next runs e, joined_run run next le h.1 e) (append_assoc (run_points run) (run_points next) (points_of runs))
+      | inl e ↦ rw (touching run next runs e, joined_run run next le h.1 e)
+          (append_assoc (run_points run) (run_points next) (points_of runs))
       | inr ne ↦ rw (apart run next runs ne) refl
     ]
 
@@ -88,5 +94,7 @@ pub points_of-maximal_runs : (ps : List ℕ) → IsStrictlyIncreasing ps → poi
 points_of-maximal_runs [] up = refl
 points_of-maximal_runs (p ∷ ps) up =
     let one : p + 1 - p ≡ 1 = omega arith in
-    let rest : IsStrictlyIncreasing ps = IsStrictlyIncreasing-from_sorted ps (sorted_tail nat_cmp p ps (sorted_from_strictly_increasing (p ∷ ps) up)) in
-    points_of-with_run 0 (p, p) (maximal_runs ps) (omega arith) (stand_apart ps rest) ∙ rw one (ap (λ qs. p ∷ qs) (points_of-maximal_runs ps rest))
+    let rest : IsStrictlyIncreasing ps = IsStrictlyIncreasing-from_sorted ps
+    (sorted_tail nat_cmp p ps (sorted_from_strictly_increasing (p ∷ ps) up)) in
+    points_of-with_run 0 (p, p) (maximal_runs ps) (omega arith) (stand_apart ps rest)
+    ∙ rw one (ap (λ qs. p ∷ qs) (points_of-maximal_runs ps rest))

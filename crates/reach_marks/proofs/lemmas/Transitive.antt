@@ -3,11 +3,13 @@ use Rattle.std.proofs.Common.{◌≡◌, ℕ, true, List, [], ◌∷◌, ◌++�
 use Rattle.vocabulary.specs.Prelude.{Node, IsChain}
 use Rattle.reach_marks.specs.Reached.{AreMarksOf, Marks, before_in}
 
-pub chains_join : (nodes : List Node) (a : ℕ) (first : List ℕ) (b : ℕ) (second : List ℕ) (c : ℕ) → IsChain nodes a first b → IsChain nodes b second c → IsChain nodes a (first ++ b ∷ second) c
+pub chains_join : (nodes : List Node) (a : ℕ) (first : List ℕ) (b : ℕ) (second : List ℕ) (c : ℕ) → IsChain nodes a first b
+    → IsChain nodes b second c → IsChain nodes a (first ++ b ∷ second) c
 chains_join nodes a [] b second c one two = (one, two)
 chains_join nodes a (next ∷ first) b second c one two = (one.0, chains_join nodes next first b second c one.1 two)
 
-pub transitive : (nodes : List Node) (m : Marks) → AreMarksOf nodes m → (a b c : ℕ) → before_in m a b ≡ true → before_in m b c ≡ true → before_in m a c ≡ true
+pub transitive : (nodes : List Node) (m : Marks) → AreMarksOf nodes m → (a b c : ℕ) → before_in m a b ≡ true → before_in m b c ≡ true
+    → before_in m a c ≡ true
 transitive nodes m h a b c one two =
     let w = h.within a b one in
     let v = h.within b c two in

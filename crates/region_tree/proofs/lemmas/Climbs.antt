@@ -32,7 +32,8 @@ at_most d n space e root m h =
     ]
 
 -- what has a parent is a declared subspace
-pub sub_from_parent : (d : Regions) (space up : ℕ) → parent_of d space ≡ Some up → (s : Sub) × (i : ℕ) × (sub_of d space ≡ Some s) × (slice_get d.subs i ≡ Some s) × (s.space ≡ space) × (whole_of d s.part ≡ Some up)
+pub sub_from_parent : (d : Regions) (space up : ℕ) → parent_of d space ≡ Some up → (s : Sub) × (i : ℕ) × (sub_of d space ≡ Some s)
+    × (slice_get d.subs i ≡ Some s) × (s.space ≡ space) × (whole_of d s.part ≡ Some up)
 sub_from_parent d space up e =
     option_and_then_some (λ (s : Sub). whole_of d s.part) (sub_of d space) up e
     (λ s at whole. let h = find_some (λ (s : Sub). s.space == space) d.subs s at in (s, h.0, at, h.1, eqb-true s.space space h.2, whole))
@@ -41,7 +42,8 @@ parent_within : (d : Regions) (n space root : ℕ) → ancestor_of d (suc n) spa
 parent_within d n space root e =
     let one : ancestor_of d (0 + 1) space ≡ parent_of d space = ancestor_more d 0 space space refl in
     elim (cases_option (parent_of d space)) [
-      | inl none ↦ let z : suc n ≡ n + 1 = omega arith in absurd (none-some root (sym (ends d 1 n space (one ∙ none)) ∙ ap (λ k. ancestor_of d k space) (sym z) ∙ e))
+      | inl none ↦ let z : suc n ≡ n + 1 = omega arith in
+          absurd (none-some root (sym (ends d 1 n space (one ∙ none)) ∙ ap (λ k. ancestor_of d k space) (sym z) ∙ e))
       | inr some ↦ some
     ]
 
@@ -62,7 +64,9 @@ pub acyclic_from : (d : Regions) → ((space : ℕ) → IsShallow d space) → (
 acyclic_from d shallow space below = let h = round d space below.0 65 below.1 in omega (arith, h.1, shallow space space h.0 h.2)
 
 -- a climb that ends and did not meet the root
-pub never_met : (d : Regions) (n space root : ℕ) → ((m : ℕ) → ancestor_of d m space ≡ Some root → m ≤ n) → ((k : ℕ) → k < n → ancestor_of d k space ≡ Some root → ⊥) → (ancestor_of d n space ≡ Some root → ⊥) → (m : ℕ) → ancestor_of d m space ≡ Some root → ⊥
+pub never_met : (d : Regions) (n space root : ℕ) → ((m : ℕ) → ancestor_of d m space ≡ Some root → m ≤ n)
+    → ((k : ℕ) → k < n → ancestor_of d k space ≡ Some root → ⊥) → (ancestor_of d n space ≡ Some root → ⊥) → (m : ℕ)
+    → ancestor_of d m space ≡ Some root → ⊥
 never_met d n space root most passed here m e =
     elim (cases_lt m n) [
       | inl lt ↦ passed m lt e

@@ -19,17 +19,21 @@ sub_after d s x = find-append (λ (u : Sub). u.space == x) d.subs (s ∷ [])
 
 parent_other : (d : Regions) (s : Sub) (x : ℕ) → (x ≡ s.space → ⊥) → parent_of (with_sub d s) x ≡ parent_of d x
 parent_other d s x ne =
-    ap (option_and_then (λ (u : Sub). whole_of d u.part)) (sub_after d s x ∙ ap (λ b. option_or (sub_of d x) (cond b (Some s) None)) (ne_eqb s.space x (λ e. ne (sym e))) ∙ or_none (sub_of d x))
+    ap (option_and_then (λ (u : Sub). whole_of d u.part)) (sub_after d s x
+    ∙ ap (λ b. option_or (sub_of d x) (cond b (Some s) None)) (ne_eqb s.space x (λ e. ne (sym e))) ∙ or_none (sub_of d x))
 
 no_sub : (d : Regions) (s : Sub) → All (λ (u : Sub). u.space ≢ s.space) d.subs → sub_of d s.space ≡ None
 no_sub d s all = elim (cases_option (sub_of d s.space)) [
   | inl none ↦ none
-  | inr some ↦ let h = find_some (λ (u : Sub). u.space == s.space) d.subs some.0 some.1 in absurd (all_at (λ (u : Sub). u.space ≢ s.space) d.subs h.0 some.0 all h.1 (eqb-true (some.0).space s.space h.2))
+  | inr some ↦ let h = find_some (λ (u : Sub). u.space == s.space) d.subs some.0 some.1 in
+      absurd (all_at (λ (u : Sub). u.space ≢ s.space) d.subs h.0 some.0 all h.1 (eqb-true (some.0).space s.space h.2))
 ]
 
 parent_new : (d : Regions) (s : Sub) → All (λ (u : Sub). u.space ≢ s.space) d.subs → parent_of (with_sub d s) s.space ≡ whole_of d s.part
 parent_new d s all =
-    ap (option_and_then (λ (u : Sub). whole_of d u.part)) (sub_after d s s.space ∙ ap (λ (o : Option Sub). option_or o (cond (s.space == s.space) (Some s) None)) (no_sub d s all) ∙ ap (λ b. cond b (Some s) None) (eq-eqb s.space s.space refl))
+    ap (option_and_then (λ (u : Sub). whole_of d u.part)) (sub_after d s s.space
+    ∙ ap (λ (o : Option Sub). option_or o (cond (s.space == s.space) (Some s) None)) (no_sub d s all)
+    ∙ ap (λ b. cond b (Some s) None) (eq-eqb s.space s.space refl))
 
 -- No space lies right below a space that is not split.
 not_split : (d : Regions) (space x : ℕ) → All (λ (p : Part). p.space ≢ space) d.parts → parent_of d x ≡ Some space → ⊥
@@ -44,12 +48,14 @@ not_split d space x all e =
     ])
 
 -- What lies above another space is not the new subspace.
-above_other : (d : Regions) (s : Sub) (x : ℕ) → All (λ (p : Part). p.space ≢ s.space) d.parts → (x ≡ s.space → ⊥) → (n y : ℕ) → ancestor_of d n x ≡ Some y → y ≡ s.space → ⊥
+above_other : (d : Regions) (s : Sub) (x : ℕ) → All (λ (p : Part). p.space ≢ s.space) d.parts → (x ≡ s.space → ⊥) → (n y : ℕ)
+    → ancestor_of d n x ≡ Some y → y ≡ s.space → ⊥
 above_other d s x all ne zero y e is = ne (same_Some x y e ∙ is)
 above_other d s x all ne (suc n) y e is =
     option_and_then_some (parent_of d) (ancestor_of d n x) y e (λ z at up. not_split d s.space z all (up ∙ ap (λ k. Some k) is))
 
-ancestors_other : (d : Regions) (s : Sub) (x : ℕ) → All (λ (p : Part). p.space ≢ s.space) d.parts → (x ≡ s.space → ⊥) → (n : ℕ) → ancestor_of (with_sub d s) n x ≡ ancestor_of d n x
+ancestors_other : (d : Regions) (s : Sub) (x : ℕ) → All (λ (p : Part). p.space ≢ s.space) d.parts → (x ≡ s.space → ⊥) → (n : ℕ)
+    → ancestor_of (with_sub d s) n x ≡ ancestor_of d n x
 ancestors_other d s x all ne zero = refl
 ancestors_other d s x all ne (suc n) =
     ap (option_and_then (parent_of (with_sub d s))) (ancestors_other d s x all ne n)
@@ -62,7 +68,8 @@ ancestors_other d s x all ne (suc n) =
     ]
 
 -- The new subspace is one step further down than the space that its partition splits.
-ancestors_new : (d : Regions) (s : Sub) (may : MaySub d s) (root n : ℕ) → ancestor_of (with_sub d s) (suc n) s.space ≡ Some root → (whole : ℕ) × (whole_of d s.part ≡ Some whole) × (ancestor_of d n whole ≡ Some root)
+ancestors_new : (d : Regions) (s : Sub) (may : MaySub d s) (root n : ℕ) → ancestor_of (with_sub d s) (suc n) s.space ≡ Some root
+    → (whole : ℕ) × (whole_of d s.part ≡ Some whole) × (ancestor_of d n whole ≡ Some root)
 ancestors_new d s may root n e =
     let z : n + 1 ≡ suc n = omega arith in
     elim (cases_option (whole_of d s.part)) [
@@ -71,7 +78,8 @@ ancestors_new d s may root n e =
           absurd (none-some root (sym (ends n up) ∙ e))
       | inr some ↦
           let up : ancestor_of (with_sub d s) 1 s.space ≡ Some some.0 = parent_new d s may.sub ∙ some.1 in
-          let here : ancestor_of (with_sub d s) n some.0 ≡ Some root = sym (ancestor-sum (with_sub d s) n 1 s.space some.0 up) ∙ ap (λ k. ancestor_of (with_sub d s) k s.space) z ∙ e in
+          let here : ancestor_of (with_sub d s) n some.0 ≡ Some root =
+          sym (ancestor-sum (with_sub d s) n 1 s.space some.0 up) ∙ ap (λ k. ancestor_of (with_sub d s) k s.space) z ∙ e in
           let other : some.0 ≡ s.space → ⊥ = λ is. not_whole some.0 some.1 is in
           (some.0, some.1, sym (ancestors_other d s some.0 may.whole other n) ∙ here)
     ]
@@ -90,7 +98,8 @@ ancestors_new d s may root n e =
     ]
 
 -- so no space lies too deep
-pub shallow_sub : (d : Regions) (s : Sub) → IsGrown d → MaySub d s → (space root n : ℕ) → ancestor_of (with_sub d s) n space ≡ Some root → n ≤ 64
+pub shallow_sub : (d : Regions) (s : Sub) → IsGrown d → MaySub d s → (space root n : ℕ) → ancestor_of (with_sub d s) n space ≡ Some root
+    → n ≤ 64
 shallow_sub d s grown may space root zero e = omega arith
 shallow_sub d s grown may space root (suc n) e = elim (cases_eq space s.space) [
   | inl is ↦
@@ -100,7 +109,8 @@ shallow_sub d s grown may space root (suc n) e = elim (cases_eq space s.space) [
   | inr ne ↦ grown.forest.shallow space root (suc n) (sym (ancestors_other d s space may.whole ne (suc n)) ∙ e)
 ]
 
-pub counted_sub : (d : Regions) (s : Sub) → IsGrown d → MaySub d s → (space root n : ℕ) → ancestor_of (with_sub d s) n space ≡ Some root → n ≤ length (with_sub d s).subs
+pub counted_sub : (d : Regions) (s : Sub) → IsGrown d → MaySub d s → (space root n : ℕ) → ancestor_of (with_sub d s) n space ≡ Some root
+    → n ≤ length (with_sub d s).subs
 counted_sub d s grown may space root zero e = omega arith
 counted_sub d s grown may space root (suc n) e = elim (cases_eq space s.space) [
   | inl is ↦
@@ -150,8 +160,10 @@ stays {X} o p q e h = subst (λ (r : Option X). IsSome r) (sym (e ∙ kept o p h
 pub grown_space : (d : Regions) (s : Space) → IsGrown d → All (λ (t : Space). t.id ≢ s.id) d.spaces → IsGrown (with_space d s)
 grown_space d s grown new =
     let forest = grown.forest in
-    let declared : (x : ℕ) → IsSome (space_of d x) → IsSome (space_of (with_space d s) x) = λ x h. stays (space_of d x) _ _ (find-append (λ (t : Space). t.id == x) d.spaces (s ∷ [])) h in
-    let shallow : (space root n : ℕ) → ancestor_of (with_space d s) n space ≡ Some root → n ≤ 64 = λ space root n e. forest.shallow space root n (sym (ancestors_same (with_space d s) d (λ x. refl) n space) ∙ e) in
+    let declared : (x : ℕ) → IsSome (space_of d x) → IsSome (space_of (with_space d s) x) =
+    λ x h. stays (space_of d x) _ _ (find-append (λ (t : Space). t.id == x) d.spaces (s ∷ [])) h in
+    let shallow : (space root n : ℕ) → ancestor_of (with_space d s) n space ≡ Some root → n ≤ 64 =
+    λ space root n e. forest.shallow space root n (sym (ancestors_same (with_space d s) d (λ x. refl) n space) ∙ e) in
     record {
       forest = record {
         space_ids = all_pairs_push (λ (t u : Space). t.id ≢ u.id) d.spaces s forest.space_ids new;
@@ -170,9 +182,11 @@ grown_space d s grown new =
 part_kept : (d : Regions) (p : Part) (x : ℕ) → IsSome (part_of d x) → part_of (with_part d p) x ≡ part_of d x
 part_kept d p x h = find-append (λ (q : Part). q.id == x) d.parts (p ∷ []) ∙ kept (part_of d x) _ h
 
-parent_kept : (d : Regions) (p : Part) → All (λ (u : Sub). IsSome (part_of d u.part)) d.subs → (x : ℕ) → parent_of (with_part d p) x ≡ parent_of d x
+parent_kept : (d : Regions) (p : Part) → All (λ (u : Sub). IsSome (part_of d u.part)) d.subs → (x : ℕ)
+    → parent_of (with_part d p) x ≡ parent_of d x
 parent_kept d p all x = elim (cases_option (sub_of d x)) [
-  | inl none ↦ ap (option_and_then (λ (u : Sub). whole_of (with_part d p) u.part)) none ∙ sym (ap (option_and_then (λ (u : Sub). whole_of d u.part)) none)
+  | inl none ↦ ap (option_and_then (λ (u : Sub). whole_of (with_part d p) u.part)) none
+      ∙ sym (ap (option_and_then (λ (u : Sub). whole_of d u.part)) none)
   | inr some ↦
       let h = find_some (λ (u : Sub). u.space == x) d.subs some.0 some.1 in
       let has : IsSome (part_of d (some.0).part) = all_at (λ (u : Sub). IsSome (part_of d u.part)) d.subs h.0 some.0 all h.1 in
@@ -181,11 +195,13 @@ parent_kept d p all x = elim (cases_option (sub_of d x)) [
       ∙ sym (ap (option_and_then (λ (u : Sub). whole_of d u.part)) some.1)
 ]
 
-pub grown_part : (d : Regions) (p : Part) → IsGrown d → All (λ (q : Part). q.id ≢ p.id) d.parts → IsSome (space_of d p.space) → IsGrown (with_part d p)
+pub grown_part : (d : Regions) (p : Part) → IsGrown d → All (λ (q : Part). q.id ≢ p.id) d.parts → IsSome (space_of d p.space)
+    → IsGrown (with_part d p)
 grown_part d p grown new has =
     let forest = grown.forest in
     let same = ancestors_same (with_part d p) d (parent_kept d p forest.parts_declared) in
-    let shallow : (space root n : ℕ) → ancestor_of (with_part d p) n space ≡ Some root → n ≤ 64 = λ space root n e. forest.shallow space root n (sym (same n space) ∙ e) in
+    let shallow : (space root n : ℕ) → ancestor_of (with_part d p) n space ≡ Some root → n ≤ 64 =
+    λ space root n e. forest.shallow space root n (sym (same n space) ∙ e) in
     record {
       forest = record {
         space_ids = forest.space_ids;
@@ -193,7 +209,8 @@ grown_part d p grown new has =
         steps = forest.steps;
         sub_spaces = forest.sub_spaces;
         wholes_declared = All-push (λ (q : Part). IsSome (space_of d q.space)) d.parts p forest.wholes_declared has;
-        parts_declared = λ k u lt. let h = forest.parts_declared k u lt in subst (λ (o : Option Part). IsSome o) (sym (part_kept d p _ h)) h;
+        parts_declared = λ k u lt. let h = forest.parts_declared k u lt in
+            subst (λ (o : Option Part). IsSome o) (sym (part_kept d p _ h)) h;
         spaces_declared = forest.spaces_declared;
         acyclic = acyclic_from (with_part d p) shallow;
         shallow = shallow;
@@ -207,11 +224,13 @@ nothing = record { spaces = []; parts = []; subs = [] }
 
 none_above : (space root n : ℕ) → ancestor_of nothing n space ≡ Some root → n ≤ 0
 none_above space root zero e = omega arith
-none_above space root (suc n) e = option_and_then_some (parent_of nothing) (ancestor_of nothing n space) root e (λ at is up. absurd (none-some root up))
+none_above space root (suc n) e = option_and_then_some (parent_of nothing) (ancestor_of nothing n space) root e
+    (λ at is up. absurd (none-some root up))
 
 pub grown_none : IsGrown nothing
 grown_none =
-    let shallow : (space root n : ℕ) → ancestor_of nothing n space ≡ Some root → n ≤ 64 = λ space root n e. omega (arith, none_above space root n e) in
+    let shallow : (space root n : ℕ) → ancestor_of nothing n space ≡ Some root → n ≤ 64 =
+    λ space root n e. omega (arith, none_above space root n e) in
     record {
       forest = record {
         space_ids = λ i j d above within. absurd (omega (arith, within));

@@ -24,7 +24,8 @@ one_first : (o : Option Node) (ns : List Node) → option_to_list o ++ ns ≡ co
 one_first None ns = refl
 one_first (Some n) ns = refl
 
-nodes_folded : (t : Tables) (log : List Lined) → graph_of (fold (λ t (l : Lined). with_record t l.line l.rec) t log).nodes ≡ graph_of t.nodes ++ filter_map node_of (records_of log)
+nodes_folded : (t : Tables) (log : List Lined)
+    → graph_of (fold (λ t (l : Lined). with_record t l.line l.rec) t log).nodes ≡ graph_of t.nodes ++ filter_map node_of (records_of log)
 nodes_folded t [] = sym (append-nil (graph_of t.nodes))
 nodes_folded t (l ∷ log) =
     nodes_folded (with_record t l.line l.rec) log ∙ ap (λ ns. ns ++ filter_map node_of (records_of log)) (node_added t l.line l.rec)

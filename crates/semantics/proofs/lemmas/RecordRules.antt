@@ -16,7 +16,8 @@ is_among codes code = list_any (sameb the_type code) codes
 abbrev pub is_record_rule : Code → Bool
 is_record_rule code = is_among record_rules code
 
-passed_by : (test : Code → Bool) (codes : List Code) → find test codes ≡ None → (code : Code) → is_among codes code ≡ true → test code ≡ false
+passed_by : (test : Code → Bool) (codes : List Code) → find test codes ≡ None → (code : Code) → is_among codes code ≡ true
+    → test code ≡ false
 passed_by test [] none code among = absurd (true≢false (sym among))
 passed_by test (first ∷ rest) none code among = elim (cases_Bool (test first)) [
   | inl passes ↦ absurd (none-some first (sym (rw passes at none)))

@@ -24,11 +24,18 @@ marked_later node j m ms w h = record { i = suc h.i; node_is = h.node_is; k_is =
 
 is_marked : (node j : ℕ) (ms : List Bool) (w : ListedWait) → Member (marked node j ms) w → IsMarked node j ms w
 is_marked node j [] w m = absurd m
-is_marked node j (true ∷ ms) w (inl is) = record { i = 0; node_is = ap (λ (v : ListedWait). v.node) is; k_is = ap (λ (v : ListedWait). v.k) is ∙ omega arith; set = refl }
+is_marked node j (true ∷ ms) w (inl is) = record {
+  i = 0;
+  node_is = ap (λ (v : ListedWait). v.node) is;
+  k_is =
+      ap (λ (v : ListedWait). v.k) is ∙ omega arith;
+  set = refl;
+}
 is_marked node j (true ∷ ms) w (inr later) = marked_later node j true ms w (is_marked node (j + 1) ms w later)
 is_marked node j (false ∷ ms) w later = marked_later node j false ms w (is_marked node (j + 1) ms w later)
 
-marked_in : (node j : ℕ) (ms : List Bool) (i k : ℕ) → slice_get ms i ≡ Some true → k ≡ j + i → Member (marked node j ms) (record { node = node; k = k })
+marked_in : (node j : ℕ) (ms : List Bool) (i k : ℕ) → slice_get ms i ≡ Some true → k ≡ j + i
+    → Member (marked node j ms) (record { node = node; k = k })
 marked_in node j [] i k set is = absurd (omega (arith, slice_get_within [] i true set))
 marked_in node j (true ∷ ms) zero k set is = let same : k ≡ j = omega (arith, is) in inl (ap (λ n. record { node = node; k = n }) same)
 marked_in node j (false ∷ ms) zero k set is = absurd cc
@@ -37,17 +44,26 @@ marked_in node j (false ∷ ms) (suc i) k set is = marked_in node (j + 1) ms i k
 
 marked_order : (node j : ℕ) (ms : List Bool) → PairsBy IsAhead (marked node j ms)
 marked_order node j [] = tt
-marked_order node j (true ∷ ms) = (λ w m. let h = is_marked node (j + 1) ms w m in inr (sym h.node_is, omega (arith, h.k_is)), marked_order node (j + 1) ms)
+marked_order node j (true ∷ ms) = (
+  λ w m. let h = is_marked node (j + 1) ms w m in
+      inr (sym h.node_is, omega (arith, h.k_is)),
+  marked_order node (j + 1) ms,
+)
 marked_order node j (false ∷ ms) = marked_order node (j + 1) ms
 
 -- One mark more.
-pub marked_push : (node j : ℕ) (ms : List Bool) (m : Bool) → marked node j (ms ++ m ∷ []) ≡ marked node j ms ++ (if m then record { node = node; k = j + length ms } ∷ [] else [])
+pub marked_push : (node j : ℕ) (ms : List Bool) (m : Bool)
+    → marked node j (ms ++ m ∷ []) ≡ marked node j ms ++ (if m then record { node = node; k = j + length ms } ∷ [] else [])
 marked_push node j [] true = ap (λ n. record { node = node; k = n } ∷ []) (omega arith)
 marked_push node j [] false = refl
-marked_push node j (true ∷ ms) m = ap (λ ws. record { node = node; k = j } ∷ ws) (marked_push node (j + 1) ms m) ∙ ap (λ n. record { node = node; k = j } ∷ marked node (j + 1) ms ++ (if m then record { node = node; k = n } ∷ [] else [])) (omega arith)
-marked_push node j (false ∷ ms) m = marked_push node (j + 1) ms m ∙ ap (λ n. marked node (j + 1) ms ++ (if m then record { node = node; k = n } ∷ [] else [])) (omega arith)
+marked_push node j (true ∷ ms) m = ap (λ ws. record { node = node; k = j } ∷ ws) (marked_push node (j + 1) ms m)
+    ∙ ap (λ n. record { node = node; k = j } ∷ marked node (j + 1) ms ++ (if m then record { node = node; k = n } ∷ [] else []))
+    (omega arith)
+marked_push node j (false ∷ ms) m = marked_push node (j + 1) ms m
+    ∙ ap (λ n. marked node (j + 1) ms ++ (if m then record { node = node; k = n } ∷ [] else [])) (omega arith)
 
-pub marked_step : (node k : ℕ) (ms : List Bool) → k < length ms → marked node 0 (take (k + 1) ms) ≡ marked node 0 (take k ms) ++ (if get_or ms k false then record { node = node; k = k } ∷ [] else [])
+pub marked_step : (node k : ℕ) (ms : List Bool) → k < length ms
+    → marked node 0 (take (k + 1) ms) ≡ marked node 0 (take k ms) ++ (if get_or ms k false then record { node = node; k = k } ∷ [] else [])
 marked_step node k ms lt =
     let last : 0 + length (take k ms) ≡ k = omega (arith, length-take-le k ms (omega (arith, lt))) in
     ap (marked node 0) (take_more ms k false lt) ∙ marked_push node 0 (take k ms) (get_or ms k false)
@@ -67,15 +83,19 @@ module _ (nodes : List Node) where
     few = omega arith;
   }
 
-  listed_more : (node : ℕ) → node < length nodes → listed_count (take (node + 1) nodes) ≡ listed_count (take node nodes) + length (waits_at nodes node)
+  listed_more : (node : ℕ) → node < length nodes
+      → listed_count (take (node + 1) nodes) ≡ listed_count (take node nodes) + length (waits_at nodes node)
   listed_more node within =
       let none : Node = record { done = 0; waits = [] } in
       let own : waits_at nodes node ≡ (get_or nodes node none).waits = rw (slice_get-get_or nodes node none within) refl in
-      ap listed_count (take_more nodes node none within) ∙ sum_by_push (λ (n : Node). length n.waits) (take node nodes) (get_or nodes node none)
+      ap listed_count (take_more nodes node none within)
+      ∙ sum_by_push (λ (n : Node). length n.waits) (take node nodes) (get_or nodes node none)
       ∙ ap (λ (ws : List ℕ). listed_count (take node nodes) + length ws) (sym own)
 
   -- The spare waits of one node more.
-  pub node_more : (node : ℕ) (list : List ListedWait) (ms : List Bool) → node < length nodes → length ms ≡ length (waits_at nodes node) → AreUpTo nodes node list → ((k : ℕ) → (slice_get ms k ≡ Some true) ↔ IsSpare nodes node k) → AreUpTo nodes (node + 1) (list ++ marked node 0 ms)
+  pub node_more : (node : ℕ) (list : List ListedWait) (ms : List Bool) → node < length nodes → length ms ≡ length (waits_at nodes node)
+      → AreUpTo nodes node list → ((k : ℕ) → (slice_get ms k ≡ Some true) ↔ IsSpare nodes node k)
+      → AreUpTo nodes (node + 1) (list ++ marked node 0 ms)
   node_more node list ms within many h tells =
       let new = marked node 0 ms in
       record {
@@ -84,8 +104,10 @@ module _ (nodes : List Node) where
             | inl old ↦ let r = (h.each w).0 (contains_of list w old) in (r.0, omega (arith, r.1))
             | inr here ↦
                 let r = is_marked node 0 ms w here in
-                let place : r.i ≡ w.k = omega (arith, r.k_is) in
-                (subst (λ n. IsSpare nodes n w.k) (sym r.node_is) (subst (IsSpare nodes node) place ((tells r.i).0 r.set)), omega (arith, r.node_is))
+                let place : r.i ≡ w.k = omega (arith, r.k_is) in (
+                  subst (λ n. IsSpare nodes n w.k) (sym r.node_is) (subst (IsSpare nodes node) place ((tells r.i).0 r.set)),
+                  omega (arith, r.node_is),
+                )
           ],
           λ s. contains_of (list ++ new) w (elim (cases_eq w.node node) [
             | inl here ↦
@@ -95,7 +117,8 @@ module _ (nodes : List Node) where
             | inr other ↦ member_left list new w (member_of list w ((h.each w).1 (s.0, omega (arith, s.1, other))))
           ]),
         );
-        in_order = all_pairs IsAhead (list ++ new) (pairs_append IsAhead list new (pairs_from IsAhead list h.in_order) (marked_order node 0 ms)
+        in_order = all_pairs IsAhead (list ++ new)
+            (pairs_append IsAhead list new (pairs_from IsAhead list h.in_order) (marked_order node 0 ms)
             (λ v w m n. let r = is_marked node 0 ms w n in inl (omega (arith, ((h.each v).0 (contains_of list v m)).1, r.node_is))));
         few = omega (arith, h.few, length-append list new, marked_few node 0 ms, many, listed_more node within);
       }
@@ -106,10 +129,12 @@ module _ (nodes : List Node) where
     in_order = h.in_order;
   }
 
-  pub finished : (node : ℕ) (list result : List ListedWait) → AreUpTo nodes node list → node ≡ length nodes → result ≡ list → AreSpareWaits nodes result
+  pub finished : (node : ℕ) (list result : List ListedWait) → AreUpTo nodes node list → node ≡ length nodes → result ≡ list
+      → AreSpareWaits nodes result
   finished node list result h all is = subst (AreSpareWaits nodes) (sym is) (all_nodes list (subst (λ n. AreUpTo nodes n list) all h))
 
-  pub finished_few : (node : ℕ) (list result : List ListedWait) → AreUpTo nodes node list → node ≡ length nodes → result ≡ list → length result ≤ listed_count nodes
+  pub finished_few : (node : ℕ) (list result : List ListedWait) → AreUpTo nodes node list → node ≡ length nodes → result ≡ list
+      → length result ≤ listed_count nodes
   finished_few node list result h all is =
       let whole : take node nodes ≡ nodes = take_all node nodes (omega (arith, all)) in
       omega (arith, h.few, ap listed_count whole, ap (λ (ws : List ListedWait). length ws) is)
@@ -119,11 +144,14 @@ module _ (nodes : List Node) where
     λ e.
         let r = any_found (λ (w : ListedWait). (w.node == node) && (w.k == k)) list e in
         let parts = and_parts (eqb r.0.node node) (eqb r.0.k k) r.2 in
-        subst (λ n. IsSpare nodes n k) (eqb-true r.0.node node parts.0) (subst (IsSpare nodes r.0.node) (eqb-true r.0.k k parts.1) ((h.each r.0).0 (contains_of list r.0 r.1))),
+        subst (λ n. IsSpare nodes n k) (eqb-true r.0.node node parts.0)
+        (subst (IsSpare nodes r.0.node) (eqb-true r.0.k k parts.1) ((h.each r.0).0 (contains_of list r.0 r.1))),
     λ s.
         let w : ListedWait = record { node = node; k = k } in
-        any_at (λ (w : ListedWait). (w.node == node) && (w.k == k)) list w (member_of list w ((h.each w).1 s)) (and_from (eqb node node) (eqb k k) (eq-eqb node node refl) (eq-eqb k k refl)),
+        any_at (λ (w : ListedWait). (w.node == node) && (w.k == k)) list w (member_of list w ((h.each w).1 s))
+        (and_from (eqb node node) (eqb k k) (eq-eqb node node refl) (eq-eqb k k refl)),
   )
 
-  pub not_among : (list : List ListedWait) → AreSpareWaits nodes list → (w : ListedWait) → (Contains list w → ⊥) → is_among list w.node w.k ≡ false
+  pub not_among : (list : List ListedWait) → AreSpareWaits nodes list → (w : ListedWait) → (Contains list w → ⊥)
+      → is_among list w.node w.k ≡ false
   not_among list are w out = false_from_ne_true (is_among list w.node w.k) (λ e. out ((are.each w).1 ((among list are w.node w.k).0 e)))

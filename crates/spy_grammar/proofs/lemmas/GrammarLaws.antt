@@ -24,15 +24,19 @@ no_word c = refl
 
 -- where no fault was met and no word is left, the words are those of what was read
 row_takes : (r : Row) (ws : List (List ℕ)) (met : Option LineFault) → let out = read_row r (record { words = ws; met = met }) in
-    met_at_end out.1.words out.1.met ≡ None → (met ≡ None) × (ws ≡ words_in (row_items r out.0)) × AllByRecursion IsGoodItem (row_items r out.0)
+    met_at_end out.1.words out.1.met ≡ None → (met ≡ None) × (ws ≡ words_in (row_items r out.0))
+    × AllByRecursion IsGoodItem (row_items r out.0)
 unfolding read_word read_ids
 row_takes no_more [] met e = (e, refl, tt)
 row_takes no_more (w ∷ ws) met e = absurd (grind arith)
 row_takes some_ids ws met e =
     let k = kept_ok met (ids_at ws) [] e in
     let some = tested_ok Form has_some (each (number_from 1) ws) _ k.1 in
-    let t = each_takes ℕ (number_from 1) decimal (IsNumberFrom 1) 45 (number_agrees 1) ([], None) ws _ some.0 in
-    (k.0, t.words ∙ ap (map decimal) t.all ∙ sym (append-nil (map decimal _)), ((subst (AllByRecursion (IsNumberFrom 1)) t.all t.fit, (some_tested _).0 some.1), tt))
+    let t = each_takes ℕ (number_from 1) decimal (IsNumberFrom 1) 45 (number_agrees 1) ([], None) ws _ some.0 in (
+      k.0,
+      t.words ∙ ap (map decimal) t.all ∙ sym (append-nil (map decimal _)),
+      ((subst (AllByRecursion (IsNumberFrom 1)) t.all t.fit, (some_tested _).0 some.1), tt),
+    )
 row_takes (c & r) [] met e =
     let k = kept met (meaning_at c []) (about c).stand_in in
     let first = kept_ok met (meaning_at c []) (about c).stand_in (row_takes r [] k.1 e).0 in
@@ -46,20 +50,25 @@ row_takes (c & r) (w ∷ ws) met e =
     (first.0, cc (t.0, rest.1), (t.1, rest.2))
 
 row_again : (r : Row) (m : RowMeaning r) → AllByRecursion IsGoodItem (row_items r m)
-    → (read_row r (record { words = words_in (row_items r m); met = None }) ≡ (m, record { words = []; met = None })) × AllByRecursion (Above 32) (words_in (row_items r m))
+    → (read_row r (record { words = words_in (row_items r m); met = None }) ≡ (m, record { words = []; met = None }))
+    × AllByRecursion (Above 32) (words_in (row_items r m))
 unfolding read_word read_ids
 row_again no_more m g = (refl, tt)
 row_again some_ids [] g = absurd (g.0.1 refl)
 row_again some_ids (n ∷ ns) g =
     let words = map decimal (n ∷ ns) in
     let again = each_again ℕ (number_from 1) decimal (IsNumberFrom 1) 45 (number_agrees 1) [] (n ∷ ns) g.0.0 in
-    subst (λ (ws : List (List ℕ)). (read_ids (record { words = ws; met = None }) ≡ (n ∷ ns, record { words = []; met = None })) × AllByRecursion (Above 32) ws) (sym (append-nil words))
+    subst (λ (ws : List (List ℕ)). (read_ids (record { words = ws; met = None }) ≡ (n ∷ ns, record { words = []; met = None }))
+    × AllByRecursion (Above 32) ws) (sym (append-nil words))
     (ap (λ r. next (kept None (tested Form has_some r) []) []) again.0, all_lower 32 45 words (omega arith) again.1)
 row_again (c & r) m g =
     let first = class_again c m.0 g.0 in
     let rest = row_again r m.1 g.1 in
-    let one = ap (λ x. next (kept None x (about c).stand_in) (words_in (row_items r m.1))) first.0 in
-    (ap (λ (p : Meaning c × Left). ((p.0, (read_row r p.1).0), (read_row r p.1).1)) one ∙ ap (λ (q : RowMeaning r × Left). ((m.0, q.0), q.1)) rest.0, (first.1, rest.1))
+    let one = ap (λ x. next (kept None x (about c).stand_in) (words_in (row_items r m.1))) first.0 in (
+      ap (λ (p : Meaning c × Left). ((p.0, (read_row r p.1).0), (read_row r p.1).1)) one
+          ∙ ap (λ (q : RowMeaning r × Left). ((m.0, q.0), q.1)) rest.0,
+      (first.1, rest.1),
+    )
 
 -- ---- tables
 
@@ -88,24 +97,30 @@ named_so {K} g w k e = (text_takes K (λ k. (g.entry k).name) (λ k. Unit {0}) g
 -- ---- tables that include another
 
 -- one of some values of another kind is found where that value is
-pub named_along : {A B : Type 0} (f : A → B) (spell : B → List ℕ) (xs : List A) (w : List ℕ) → text_at spell (map f xs) w (Err Word) ≡ map_ok f (text_at (λ x. spell (f x)) xs w (Err Word))
+pub named_along : {A B : Type 0} (f : A → B) (spell : B → List ℕ) (xs : List A) (w : List ℕ)
+    → text_at spell (map f xs) w (Err Word) ≡ map_ok f (text_at (λ x. spell (f x)) xs w (Err Word))
 named_along f spell [] w = refl
-named_along {A} {B} f spell (x ∷ xs) w = ap (cond (bytes_eq w (spell (f x))) (Ok (f x))) (named_along f spell xs w) ∙ by (bytes_eq w (spell (f x))) (text_at (λ x. spell (f x)) xs w (Err Word))
+named_along {A} {B} f spell (x ∷ xs) w = ap (cond (bytes_eq w (spell (f x))) (Ok (f x))) (named_along f spell xs w)
+    ∙ by (bytes_eq w (spell (f x))) (text_at (λ x. spell (f x)) xs w (Err Word))
   where
-    by : (t : Bool) (rest : Result A LineFault) → ◌≡◌ {A = Result B LineFault} (cond t (Ok (f x)) (map_ok f rest)) (map_ok f (cond t (Ok x) rest))
+    by : (t : Bool) (rest : Result A LineFault) → ◌≡◌ {A =
+        Result B LineFault} (cond t (Ok (f x)) (map_ok f rest)) (map_ok f (cond t (Ok x) rest))
     by true rest = refl
     by false rest = refl
 
-applied_then : {R S : Type 0} (f : R → S) (r : Row) (make : Makes R r) (m : RowMeaning r) → applied r (makes_then f r make) m ≡ f (applied r make m)
+applied_then : {R S : Type 0} (f : R → S) (r : Row) (make : Makes R r) (m : RowMeaning r)
+    → applied r (makes_then f r make) m ≡ f (applied r make m)
 applied_then f no_more rec m = refl
 applied_then f some_ids make ns = refl
 applied_then f (c & r) make m = applied_then f r (make m.0) m.1
 
 -- what a line of another table reads, the line that includes it reads too
-pub read_included : {R S : Type 0} (f : R → S) (e : Entry R) (s t : Left) (r : R) → read_record e s ≡ (r, t) → read_record (included f e) s ≡ (f r, t)
+pub read_included : {R S : Type 0} (f : R → S) (e : Entry R) (s t : Left) (r : R) → read_record e s ≡ (r, t)
+    → read_record (included f e) s ≡ (f r, t)
 unfolding read_record
 read_included {R} {S} f e s t r is =
-    ap (λ (x : S). (x, (read_row e.row s).1)) (applied_then f e.row e.record_of (read_row e.row s).0) ∙ ap (λ (p : R × Left). (f p.0, p.1)) is
+    ap (λ (x : S). (x, (read_row e.row s).1)) (applied_then f e.row e.record_of (read_row e.row s).0)
+    ∙ ap (λ (p : R × Left). (f p.0, p.1)) is
 
 -- ---- what a grammar reads
 
@@ -127,16 +142,19 @@ module _ {K R : Type 0} (g : Grammar K R) (table : IsTable K R g) where
       let t = row_takes (g.entry k).row ws None u.0 in
       let words : name ∷ ws ≡ (g.entry k).name ∷ words_in (row_items (g.entry k).row out.0) = cc (named_so g name k is, t.1) in
       let apart : g.parts_of r ≡ (k, out.0) = ap g.parts_of (sym u.1) ∙ (table.in_table k).apart out.0 in
-      subst (λ (p : Parts g). (name ∷ ws ≡ (g.entry p.0).name ∷ words_in (row_items (g.entry p.0).row p.1)) × AllByRecursion IsGoodItem (row_items (g.entry p.0).row p.1)) (sym apart) (words, t.2)
+      subst (λ (p : Parts g). (name ∷ ws ≡ (g.entry p.0).name ∷ words_in (row_items (g.entry p.0).row p.1))
+      × AllByRecursion IsGoodItem (row_items (g.entry p.0).row p.1)) (sym apart) (words, t.2)
 
   no_name : (k : K) → [] ≡ (g.entry k).name → ⊥
   no_name k e = let t = ap is_passed_over e in let f = (table.in_table k).kept in absurd cc
 
-  record_takes : (ws : List (List ℕ)) (r : R) → record_in g ws ≡ Ok r → (ws ≡ (g.entry (g.parts_of r).0).name ∷ words_in (items_of g r)) × GoodIn g r
+  record_takes : (ws : List (List ℕ)) (r : R) → record_in g ws ≡ Ok r → (ws ≡ (g.entry (g.parts_of r).0).name ∷ words_in (items_of g r))
+      × GoodIn g r
   unfolding record_in
   record_takes [] r e = nothing (kind_in g []) refl e
     where
-      nothing : (o : Result K LineFault) → kind_in g [] ≡ o → named_record g o [] ≡ Ok r → ([] ≡ (g.entry (g.parts_of r).0).name ∷ words_in (items_of g r)) × GoodIn g r
+      nothing : (o : Result K LineFault) → kind_in g [] ≡ o → named_record g o [] ≡ Ok r
+          → ([] ≡ (g.entry (g.parts_of r).0).name ∷ words_in (items_of g r)) × GoodIn g r
       nothing (Err f) is e = absurd cc
       nothing (Ok k) is e = absurd (no_name k (named_so g [] k is))
   record_takes (name ∷ ws) r e = by_kind name ws r (kind_in g name) refl e
@@ -146,10 +164,12 @@ module _ {K R : Type 0} (g : Grammar K R) (table : IsTable K R g) where
   record_again r good =
       let k = (g.parts_of r).0 in
       ap (λ o. named_record g o (words_in (items_of g r))) (table.in_table k).named
-      ∙ ap (λ (p : RowMeaning (g.entry k).row × Left). ended (made g k p.0, p.1)) (row_again (g.entry k).row (g.parts_of r).1 good).0 ∙ ap (λ r. Ok r) (table.again r)
+      ∙ ap (λ (p : RowMeaning (g.entry k).row × Left). ended (made g k p.0, p.1)) (row_again (g.entry k).row (g.parts_of r).1 good).0
+      ∙ ap (λ r. Ok r) (table.again r)
 
   words_above : (r : R) → GoodIn g r → AllByRecursion (Above 32) ((g.entry (g.parts_of r).0).name ∷ words_in (items_of g r))
-  words_above r good = let k = (g.parts_of r).0 in (above_all 32 (g.entry k).name (table.in_table k).letters, (row_again (g.entry k).row (g.parts_of r).1 good).1)
+  words_above r good = let k = (g.parts_of r).0 in
+      (above_all 32 (g.entry k).name (table.in_table k).letters, (row_again (g.entry k).row (g.parts_of r).1 good).1)
 
   -- ---- lines
 
@@ -170,11 +190,16 @@ module _ {K R : Type 0} (g : Grammar K R) (table : IsTable K R g) where
 
   pub line_again : (r : R) → GoodIn g r → line_in g (spelling_in g r) ≡ Ok (Some r)
   unfolding line_in spelling_in
-  line_again r good = rw (not_passed r, parts_join 32 (g.entry (g.parts_of r).0).name (words_in (items_of g r)) (words_above r good), record_again r good) refl
+  line_again r good = rw (
+    not_passed r,
+    parts_join 32 (g.entry (g.parts_of r).0).name (words_in (items_of g r)) (words_above r good),
+    record_again r good,
+  ) refl
 
   -- no two good records are spelled alike
   pub spelled_apart : (r s : R) → GoodIn g r → GoodIn g s → spelling_in g r ≡ spelling_in g s → r ≡ s
-  spelled_apart r s good fine e = let t : ◌≡◌ {A = Result (Option R) LineFault} (Ok (Some r)) (Ok (Some s)) = sym (line_again r good) ∙ ap (line_in g) e ∙ line_again s fine in cc
+  spelled_apart r s good fine e = let t : ◌≡◌ {A = Result (Option R) LineFault} (Ok (Some r)) (Ok (Some s)) =
+      sym (line_again r good) ∙ ap (line_in g) e ∙ line_again s fine in cc
 
   pub spelling_some : (r : R) → GoodIn g r → spelling_in g r ≢ []
   spelling_some r good e = let t = ap is_passed_over e in let f = not_passed r in absurd cc
@@ -183,7 +208,8 @@ module _ {K R : Type 0} (g : Grammar K R) (table : IsTable K R g) where
   unfolding spelling_in
   no_line_feed r good =
       let words = (g.entry (g.parts_of r).0).name ∷ words_in (items_of g r) in
-      All-from_recursion _ _ (other (spelling_in g r) (above_join 31 32 words (omega arith) (all_lower 31 32 words (omega arith) (words_above r good))))
+      All-from_recursion _ _ (other (spelling_in g r)
+      (above_join 31 32 words (omega arith) (all_lower 31 32 words (omega arith) (words_above r good))))
     where
       other : (w : List ℕ) → Above 31 w → AllByRecursion (λ b. b ≢ 10) w
       other [] h = tt

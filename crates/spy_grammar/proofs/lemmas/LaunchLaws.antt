@@ -41,6 +41,10 @@ unfolding launch_line_at launch_spelling
 launch_again = GrammarLaws.line_again launch_log launch_table
 
 -- the kinds of a log are found after the further ones
-pub launch_named : (word : List ℕ) → kind_in launch_log word ≡ cond (bytes_eq word (codes "launch")) (Ok kinds.Launch) (cond (bytes_eq word (codes "lreq")) (Ok kinds.Lreq) (map_ok (λ k. kinds.Plain k) (kind_in plain_log word)))
+pub launch_named : (word : List ℕ) → kind_in launch_log word
+    ≡ cond (bytes_eq word (codes "launch")) (Ok kinds.Launch)
+    (cond (bytes_eq word (codes "lreq")) (Ok kinds.Lreq) (map_ok (λ k. kinds.Plain k) (kind_in plain_log word)))
 unfolding kind_in
-launch_named word = ap (λ (rest : Result LaunchKind LineFault). cond (bytes_eq word (codes "launch")) (Ok kinds.Launch) (cond (bytes_eq word (codes "lreq")) (Ok kinds.Lreq) rest)) (GrammarLaws.named_along (λ k. kinds.Plain k) (λ k. (launch_entry k).name) KINDS word)
+launch_named word = ap (λ (rest : Result LaunchKind LineFault). cond (bytes_eq word (codes "launch")) (Ok kinds.Launch)
+    (cond (bytes_eq word (codes "lreq")) (Ok kinds.Lreq) rest))
+    (GrammarLaws.named_along (λ k. kinds.Plain k) (λ k. (launch_entry k).name) KINDS word)

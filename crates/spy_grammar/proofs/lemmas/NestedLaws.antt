@@ -41,6 +41,11 @@ unfolding nested_line_at nested_spelling
 nested_again = GrammarLaws.line_again nested_log nested_table
 
 -- the kinds of a log are found after the further ones
-pub nested_named : (word : List ℕ) → kind_in nested_log word ≡ cond (bytes_eq word (codes "group")) (Ok kinds.Group) (cond (bytes_eq word (codes "greq")) (Ok kinds.Greq) (cond (bytes_eq word (codes "member")) (Ok kinds.Member) (map_ok (λ k. kinds.Plain k) (kind_in plain_log word))))
+pub nested_named : (word : List ℕ) → kind_in nested_log word
+    ≡ cond (bytes_eq word (codes "group")) (Ok kinds.Group)
+    (cond (bytes_eq word (codes "greq")) (Ok kinds.Greq)
+    (cond (bytes_eq word (codes "member")) (Ok kinds.Member) (map_ok (λ k. kinds.Plain k) (kind_in plain_log word))))
 unfolding kind_in
-nested_named word = ap (λ (rest : Result NestedKind LineFault). cond (bytes_eq word (codes "group")) (Ok kinds.Group) (cond (bytes_eq word (codes "greq")) (Ok kinds.Greq) (cond (bytes_eq word (codes "member")) (Ok kinds.Member) rest))) (GrammarLaws.named_along (λ k. kinds.Plain k) (λ k. (nested_entry k).name) KINDS word)
+nested_named word = ap (λ (rest : Result NestedKind LineFault). cond (bytes_eq word (codes "group")) (Ok kinds.Group)
+    (cond (bytes_eq word (codes "greq")) (Ok kinds.Greq) (cond (bytes_eq word (codes "member")) (Ok kinds.Member) rest)))
+    (GrammarLaws.named_along (λ k. kinds.Plain k) (λ k. (nested_entry k).name) KINDS word)

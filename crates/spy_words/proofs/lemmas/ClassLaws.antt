@@ -31,13 +31,15 @@ both_ok a b y e = grind arith
 pub map_is_ok : {A B : Type 0} (f : A → B) (r : Result A LineFault) (y : B) → map_ok f r ≡ Ok y → (x : A) × (r ≡ Ok x) × (f x ≡ y)
 map_is_ok f r y e = search (rules, arith)
 
-pub tested_ok : {A : Type 0} (f : LineFault) (test : A → Bool) (r : Result A LineFault) (y : A) → tested f test r ≡ Ok y → (r ≡ Ok y) × (test y ≡ true)
+pub tested_ok : {A : Type 0} (f : LineFault) (test : A → Bool) (r : Result A LineFault) (y : A) → tested f test r ≡ Ok y → (r ≡ Ok y)
+    × (test y ≡ true)
 tested_ok f test r y e = grind arith
 
 pub unmet : {A : Type 0} (met : Option LineFault) (x y : A) → unless_met met x ≡ Ok y → (met ≡ None) × (x ≡ y)
 unmet met x y e = grind arith
 
-pub kept_ok : {A : Type 0} (met : Option LineFault) (r : Result A LineFault) (other : A) → (kept met r other).1 ≡ None → (met ≡ None) × (r ≡ Ok (kept met r other).0)
+pub kept_ok : {A : Type 0} (met : Option LineFault) (r : Result A LineFault) (other : A) → (kept met r other).1 ≡ None → (met ≡ None)
+    × (r ≡ Ok (kept met r other).0)
 kept_ok met r other e = grind arith
 
 -- ---- numbers and runs of points
@@ -60,8 +62,11 @@ span_takes (v ∷ w ∷ []) p e =
     let b = both_ok (number_from 0 v) (number_from 0 w) p o.0 in
     let s = number_takes 0 v p.0 b.0 in
     let t = number_takes 0 w p.1 b.1 in
-    let up : p.0 < p.1 = ltb-true p.0 p.1 o.1 in
-    (rw (ne_eqb p.0 p.1 (λ e. absurd (omega (arith, up, e)))) (ap (λ (x : List ℕ). x ++ 45 ∷ w) s.0 ∙ ap (λ (x : List ℕ). decimal p.0 ++ 45 ∷ x) t.0), (omega (arith, up), t.1.1))
+    let up : p.0 < p.1 = ltb-true p.0 p.1 o.1 in (
+      rw (ne_eqb p.0 p.1 (λ e. absurd (omega (arith, up, e)))) (ap (λ (x : List ℕ). x ++ 45 ∷ w) s.0
+          ∙ ap (λ (x : List ℕ). decimal p.0 ++ 45 ∷ x) t.0),
+      (omega (arith, up), t.1.1),
+    )
 span_takes vs p e = absurd cc
 
 span_again : (p : ℕ × ℕ) → IsSpan p → (span_among 0 (parts 45 (span_word p)) ≡ Ok p) × Above 44 (span_word p)
@@ -73,12 +78,27 @@ span_again p good = by_test (eqb p.0 p.1) refl
     last : (number_from 0 (decimal p.1) ≡ Ok p.1) × Above 45 (decimal p.1)
     last = number_again 0 p.1 (omega arith, good.1)
 
-    by_test : (t : Bool) → eqb p.0 p.1 ≡ t → let w = cond t (decimal p.0) (decimal p.0 ++ 45 ∷ decimal p.1) in (span_among 0 (parts 45 w) ≡ Ok p) × Above 44 w
-    by_test true is = (rw (parts_join 45 (decimal p.0) [] (first.1, tt), first.0) (ap (λ (n : ℕ). Ok (p.0, n)) (eqb-true p.0 p.1 is)), above_lower 44 45 (decimal p.0) (omega arith) first.1)
+    by_test : (t : Bool) → eqb p.0 p.1 ≡ t → let w = cond t (decimal p.0) (decimal p.0 ++ 45 ∷ decimal p.1) in
+        (span_among 0 (parts 45 w) ≡ Ok p) × Above 44 w
+    by_test true is = (
+      rw (parts_join 45 (decimal p.0) [] (first.1, tt), first.0) (ap (λ (n : ℕ). Ok (p.0, n)) (eqb-true p.0 p.1 is)),
+      above_lower 44 45 (decimal p.0) (omega arith) first.1,
+    )
     by_test false is =
         let other = eqb-false p.0 p.1 is in
-        let again : span_among 0 (parts 45 (decimal p.0 ++ 45 ∷ decimal p.1)) ≡ Ok p = rw (parts_join 45 (decimal p.0) (decimal p.1 ∷ []) (first.1, (last.1, tt)), first.0, last.0, lt-ltb p.0 p.1 (omega (arith, good.0, other))) refl in
-        (again, above_append 44 (decimal p.0) (45 ∷ decimal p.1) (above_lower 44 45 (decimal p.0) (omega arith) first.1) (omega arith, above_lower 44 45 (decimal p.1) (omega arith) last.1))
+        let again : span_among 0 (parts 45 (decimal p.0 ++ 45 ∷ decimal p.1)) ≡ Ok p =
+        rw (
+          parts_join 45 (decimal p.0) (decimal p.1 ∷ []) (first.1, (last.1, tt)),
+          first.0,
+          last.0,
+          lt-ltb p.0 p.1 (omega (arith, good.0, other)),
+        ) refl in (
+          again,
+          above_append 44 (decimal p.0) (45 ∷ decimal p.1) (above_lower 44 45 (decimal p.0) (omega arith) first.1) (
+            omega arith,
+            above_lower 44 45 (decimal p.1) (omega arith) last.1,
+          ),
+        )
 
 span_agrees : Agree (ℕ × ℕ) (span_from 0) span_word IsSpan 44
 unfolding span_from
@@ -90,7 +110,8 @@ span_agrees = record {
 -- ---- lists
 
 -- words were read after others: each has its value, and no fault was met
-pub record AreRead (A : Type 0) (spell : A → List ℕ) (IsFit : A → Type 0) (p : List A × Option LineFault) (ws : List (List ℕ)) (ys : List A) : Type 0 where
+pub record AreRead (A : Type 0) (spell : A → List ℕ) (IsFit : A → Type 0) (p : List A × Option LineFault) (ws : List (List ℕ))
+    (ys : List A) : Type 0 where
   pub met : p.1 ≡ None
   pub values : List A
   pub all : p.0 ++ values ≡ ys
@@ -98,27 +119,42 @@ pub record AreRead (A : Type 0) (spell : A → List ℕ) (IsFit : A → Type 0) 
   pub fit : AllByRecursion IsFit values
 
 -- each word gives its value, and the other way
-pub each_takes : (A : Type 0) (read : List ℕ → Result A LineFault) (spell : A → List ℕ) (IsFit : A → Type 0) (m : ℕ) → Agree A read spell IsFit m → (p : List A × Option LineFault) (ws : List (List ℕ)) (ys : List A)
+pub each_takes : (A : Type 0) (read : List ℕ → Result A LineFault) (spell : A → List ℕ) (IsFit : A → Type 0) (m : ℕ)
+    → Agree A read spell IsFit m → (p : List A × Option LineFault) (ws : List (List ℕ)) (ys : List A)
     → each_after p read ws ≡ Ok ys → AreRead A spell IsFit p ws ys
-each_takes A read spell IsFit m laws p [] ys e = let u = unmet p.1 p.0 ys e in record { met = u.0; values = []; all = append-nil p.0 ∙ u.1; words = refl; fit = tt }
-each_takes A read spell IsFit m laws p (w ∷ ws) ys e = by_word (read w) refl (each_takes A read spell IsFit m laws (with_part p (read w)) ws ys e)
+each_takes A read spell IsFit m laws p [] ys e = let u = unmet p.1 p.0 ys e in
+    record { met = u.0; values = []; all = append-nil p.0 ∙ u.1; words = refl; fit = tt }
+each_takes A read spell IsFit m laws p (w ∷ ws) ys e =
+    by_word (read w) refl (each_takes A read spell IsFit m laws (with_part p (read w)) ws ys e)
   where
     by_word : (r : Result A LineFault) → read w ≡ r → AreRead A spell IsFit (with_part p r) ws ys → AreRead A spell IsFit p (w ∷ ws) ys
     by_word (Err f) is t = let met = t.met in absurd (grind arith)
     by_word (Ok x) is t =
         let said = laws.takes w x is in
-        record { met = t.met; values = x ∷ t.values; all = sym (append_assoc p.0 (x ∷ []) t.values) ∙ t.all; words = cc (said.0, t.words); fit = (said.1, t.fit) }
+        record {
+          met = t.met;
+          values = x ∷ t.values;
+          all = sym (append_assoc p.0 (x ∷ []) t.values) ∙ t.all;
+          words =
+              cc (said.0, t.words);
+          fit = (said.1, t.fit);
+        }
 
-pub each_again : (A : Type 0) (read : List ℕ → Result A LineFault) (spell : A → List ℕ) (IsFit : A → Type 0) (m : ℕ) → Agree A read spell IsFit m → (front xs : List A) → AllByRecursion IsFit xs
+pub each_again : (A : Type 0) (read : List ℕ → Result A LineFault) (spell : A → List ℕ) (IsFit : A → Type 0) (m : ℕ)
+    → Agree A read spell IsFit m → (front xs : List A) → AllByRecursion IsFit xs
     → (each_after (front, None) read (map spell xs) ≡ Ok (front ++ xs)) × AllByRecursion (Above m) (map spell xs)
 each_again A read spell IsFit m laws front [] h = (ap (λ zs. Ok zs) (sym (append-nil front)), tt)
 each_again A read spell IsFit m laws front (x ∷ xs) h =
     let first = laws.again x h.0 in
-    let rest = each_again A read spell IsFit m laws (front ++ x ∷ []) xs h.1 in
-    (ap (λ r. each_after (with_part (front, None) r) read (map spell xs)) first.0 ∙ rest.0 ∙ ap (λ zs. Ok zs) (append_assoc front (x ∷ []) xs), (first.1, rest.1))
+    let rest = each_again A read spell IsFit m laws (front ++ x ∷ []) xs h.1 in (
+      ap (λ r. each_after (with_part (front, None) r) read (map spell xs)) first.0 ∙ rest.0
+          ∙ ap (λ zs. Ok zs) (append_assoc front (x ∷ []) xs),
+      (first.1, rest.1),
+    )
 
 -- what stands between commas, or none for a dash, which is no part
-list_agrees : (A : Type 0) (read : List ℕ → Result A LineFault) (spell : A → List ℕ) (IsFit : A → Type 0) (m : ℕ) → 44 ≤ m → Agree A read spell IsFit m
+list_agrees : (A : Type 0) (read : List ℕ → Result A LineFault) (spell : A → List ℕ) (IsFit : A → Type 0) (m : ℕ) → 44 ≤ m
+    → Agree A read spell IsFit m
     → ((xs : List A) → each read (codes "-" ∷ []) ≡ Ok xs → ⊥) → Agree (List A) (list_at read) (list_word spell) (AllByRecursion IsFit) 32
 unfolding list_at
 list_agrees A read spell IsFit m le laws no_part = record { takes = takes; again = again }
@@ -129,7 +165,8 @@ list_agrees A read spell IsFit m le laws no_part = record { takes = takes; again
 
     takes : (w : List ℕ) (xs : List A) → list_at read w ≡ Ok xs → (w ≡ list_word spell xs) × AllByRecursion IsFit xs
     takes w xs e = elim (cases_Bool (bytes_eq w (codes "-"))) [
-      | inl is ↦ let none : [] ≡ xs = grind arith in subst (λ ys. (w ≡ list_word spell ys) × AllByRecursion IsFit ys) none ((bytes_eq-Decides w (codes "-")).0 is, tt)
+      | inl is ↦ let none : [] ≡ xs = grind arith in
+          subst (λ ys. (w ≡ list_word spell ys) × AllByRecursion IsFit ys) none ((bytes_eq-Decides w (codes "-")).0 is, tt)
       | inr other ↦
           let t = each_takes A read spell IsFit m laws ([], None) (parts 44 w) xs (grind arith) in
           subst (λ ys. (w ≡ list_word spell ys) × AllByRecursion IsFit ys) t.all (spelled w t.values t.words, t.fit)
@@ -145,9 +182,12 @@ list_agrees A read spell IsFit m le laws no_part = record { takes = takes; again
     again [] fit = (refl, (omega arith, tt))
     again (x ∷ xs) fit =
         let words = each_again A read spell IsFit m laws [] (x ∷ xs) fit in
-        let lower : (n : ℕ) → n ≤ 44 → AllByRecursion (Above n) (map spell (x ∷ xs)) = λ n lt. all_lower n m (map spell (x ∷ xs)) (omega arith) words.1 in
-        let cut = parts_join 44 (spell x) (map spell xs) (lower 44 (omega arith)) in
-        (no_dash (list_word spell (x ∷ xs)) (x ∷ xs) (ap (each read) cut ∙ words.0), above_join 32 44 (map spell (x ∷ xs)) (omega arith) (lower 32 (omega arith)))
+        let lower : (n : ℕ) → n ≤ 44 → AllByRecursion (Above n) (map spell (x ∷ xs)) =
+        λ n lt. all_lower n m (map spell (x ∷ xs)) (omega arith) words.1 in
+        let cut = parts_join 44 (spell x) (map spell xs) (lower 44 (omega arith)) in (
+          no_dash (list_word spell (x ∷ xs)) (x ∷ xs) (ap (each read) cut ∙ words.0),
+          above_join 32 44 (map spell (x ∷ xs)) (omega arith) (lower 32 (omega arith)),
+        )
 
 points_agree : Agree (List (ℕ × ℕ)) (list_at (span_from 0)) (list_word span_word) (AllByRecursion IsSpan) 32
 unfolding span_from number_from
@@ -155,14 +195,16 @@ points_agree = list_agrees (ℕ × ℕ) (span_from 0) span_word IsSpan 44 (omega
 
 numbers_agree : (least : ℕ) → Agree (List ℕ) (list_at (number_from least)) (list_word decimal) (AllByRecursion (IsNumberFrom least)) 32
 unfolding number_from
-numbers_agree least = list_agrees ℕ (number_from least) decimal (IsNumberFrom least) 45 (omega arith) (number_agrees least) (λ xs e. absurd cc)
+numbers_agree least = list_agrees ℕ (number_from least) decimal (IsNumberFrom least) 45 (omega arith) (number_agrees least)
+    (λ xs e. absurd cc)
 
 pub some_tested : {A : Type 0} (xs : List A) → (has_some xs ≡ true) ↔ (xs ≢ [])
 some_tested [] = (λ e. absurd cc, λ full. absurd (full refl))
 some_tested (x ∷ xs) = (λ e empty. absurd cc, λ full. refl)
 
 -- a value is found by its text, or read otherwise
-pub text_takes : (A : Type 0) (spell : A → List ℕ) (IsFit : A → Type 0) (xs : List A) (w : List ℕ) (otherwise : Result A LineFault) (y : A) → AllByRecursion IsFit xs → (otherwise ≡ Ok y → (w ≡ spell y) × IsFit y) → text_at spell xs w otherwise ≡ Ok y → (w ≡ spell y) × IsFit y
+pub text_takes : (A : Type 0) (spell : A → List ℕ) (IsFit : A → Type 0) (xs : List A) (w : List ℕ) (otherwise : Result A LineFault) (y : A)
+    → AllByRecursion IsFit xs → (otherwise ≡ Ok y → (w ≡ spell y) × IsFit y) → text_at spell xs w otherwise ≡ Ok y → (w ≡ spell y) × IsFit y
 text_takes A spell IsFit [] w otherwise y fit later e = later e
 text_takes A spell IsFit (x ∷ xs) w otherwise y fit later e = elim (cases_Bool (bytes_eq w (spell x))) [
   | inl is ↦ let same : x ≡ y = grind arith in subst (λ y. (w ≡ spell y) × IsFit y) same ((bytes_eq-Decides w (spell x)).0 is, fit.0)
@@ -179,14 +221,17 @@ operator_takes w op e =
     let t = number_takes 1 (drop 4 w) op number in
     ((starts_is Decides-eqb w (codes "red:") _ refl).0 begins ∙ ap (λ (x : List ℕ). codes "red:" ++ x) t.0, t.1)
 
-reduction_takes : {A : Type 0} (spell : A → List ℕ) (IsFit : A → Type 0) (make : ℕ → A) (w : List ℕ) (y : A) → ((op : ℕ) → IsNumberFrom 1 op → (codes "red:" ++ decimal op ≡ spell (make op)) × IsFit (make op)) → map_ok make (operator_at w) ≡ Ok y → (w ≡ spell y) × IsFit y
+reduction_takes : {A : Type 0} (spell : A → List ℕ) (IsFit : A → Type 0) (make : ℕ → A) (w : List ℕ) (y : A)
+    → ((op : ℕ) → IsNumberFrom 1 op → (codes "red:" ++ decimal op ≡ spell (make op)) × IsFit (make op)) → map_ok make (operator_at w) ≡ Ok y
+    → (w ≡ spell y) × IsFit y
 reduction_takes {A = A} spell IsFit make w y made e =
     let m = map_is_ok make (operator_at w) y e in
     let t = operator_takes w m.0 m.1 in
     subst (λ (y : A). (w ≡ spell y) × IsFit y) m.2 (t.0 ∙ (made m.0 t.1).0, (made m.0 t.1).1)
 
 reduction_above : (op : ℕ) → IsNumberFrom 1 op → Above 32 (codes "red:" ++ decimal op)
-reduction_above op good = above_append 32 (codes "red:") (decimal op) (above_all 32 (codes "red:") refl) (above_lower 32 45 (decimal op) (omega arith) (number_again 1 op good).1)
+reduction_above op good = above_append 32 (codes "red:") (decimal op) (above_all 32 (codes "red:") refl)
+    (above_lower 32 45 (decimal op) (omega arith) (number_again 1 op good).1)
 
 -- ---- every class
 
@@ -201,9 +246,14 @@ class_takes fields w x e =
     (t.0, (t.1, o.1, (some_tested x).0 some.1))
 class_takes waits w x e = (numbers_agree 1).takes w x e
 class_takes split w x e = text_takes Bool split_word (IsGood split) (true ∷ false ∷ []) w (Err Form) x (tt, (tt, tt)) (λ e. absurd cc) e
-class_takes access w x e = text_takes PrivWord access_word HasOperator (privileges.Ro ∷ privileges.Rw ∷ privileges.Wd ∷ []) w _ x (tt, (tt, (tt, tt))) (reduction_takes access_word HasOperator (λ op. privileges.Red op) w x (λ op good. (refl, good))) e
-class_takes coherence w x e = text_takes Bool coherence_word (IsGood coherence) (true ∷ false ∷ []) w (Err Form) x (tt, (tt, tt)) (λ e. absurd cc) e
-class_takes layout w x e = text_takes InstKind layout_word HoldsOperator (instances.Plain ∷ instances.Home ∷ []) w _ x (tt, (tt, tt)) (reduction_takes layout_word HoldsOperator (λ op. instances.Red op) w x (λ op good. (refl, good))) e
+class_takes access w x e = text_takes PrivWord access_word HasOperator (privileges.Ro ∷ privileges.Rw ∷ privileges.Wd ∷ []) w _ x (
+  tt,
+  (tt, (tt, tt)),
+) (reduction_takes access_word HasOperator (λ op. privileges.Red op) w x (λ op good. (refl, good))) e
+class_takes coherence w x e = text_takes Bool coherence_word (IsGood coherence) (true ∷ false ∷ []) w (Err Form) x (tt, (tt, tt))
+    (λ e. absurd cc) e
+class_takes layout w x e = text_takes InstKind layout_word HoldsOperator (instances.Plain ∷ instances.Home ∷ []) w _ x (tt, (tt, tt))
+    (reduction_takes layout_word HoldsOperator (λ op. instances.Red op) w x (λ op good. (refl, good))) e
 
 pub class_again : (c : Class) (x : Meaning c) → IsGood c x → (meaning_at c (word_of c x) ≡ Ok x) × Above 32 (word_of c x)
 unfolding meaning_at operator_at

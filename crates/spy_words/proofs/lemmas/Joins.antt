@@ -42,7 +42,8 @@ lacks : (c : ℕ) (w : List ℕ) → Above c w → AllByRecursion (λ b. eqb b c
 lacks c [] h = tt
 lacks c (b ∷ w) h = (ne_eqb b c (λ e. absurd (omega (arith, h.0, e))), lacks c w h.1)
 
-pub parts_join : (c : ℕ) (w : List ℕ) (ws : List (List ℕ)) → AllByRecursion (Above c) (w ∷ ws) → parts c (join_with_byte c (w ∷ ws)) ≡ w ∷ ws
+pub parts_join : (c : ℕ) (w : List ℕ) (ws : List (List ℕ)) → AllByRecursion (Above c) (w ∷ ws)
+    → parts c (join_with_byte c (w ∷ ws)) ≡ w ∷ ws
 parts_join c w [] h = slice_split_none (λ b. eqb b c) w (All-from_recursion _ w (lacks c w h.0))
 parts_join c w (v ∷ vs) h =
     slice_split_at (λ b. eqb b c) w c (join_with_byte c (v ∷ vs)) (All-from_recursion _ w (lacks c w h.0)) (eq-eqb c c refl)
@@ -58,7 +59,8 @@ pub join_follow : (c : ℕ) (w : List ℕ) (ws : List (List ℕ)) → join_with_
 join_follow c w [] = sym (append-nil w)
 join_follow c w (v ∷ vs) = ap (λ (x : List ℕ). w ++ c ∷ x) (join_follow c v vs)
 
-first_at : (c at : ℕ) (bs : List ℕ) → at < length bs → ((j : ℕ) → j < at → eqb (get_or bs j 0) c ≡ true → ⊥) → eqb (get_or bs at 0) c ≡ true → parts c bs ≡ take at bs ∷ parts c (drop (suc at) bs)
+first_at : (c at : ℕ) (bs : List ℕ) → at < length bs → ((j : ℕ) → j < at → eqb (get_or bs j 0) c ≡ true → ⊥) → eqb (get_or bs at 0) c ≡ true
+    → parts c bs ≡ take at bs ∷ parts c (drop (suc at) bs)
 first_at c at [] lt h e = absurd (omega arith)
 first_at c zero (b ∷ bs) lt h e = slice_split-cons_yes (λ x. eqb x c) b bs e
 first_at c (suc at) (b ∷ bs) lt h e =
@@ -72,9 +74,11 @@ none_at c (b ∷ bs) h =
     ∙ ap (onto_first b) (none_at c bs (λ j lt f. h (suc j) (omega arith) f))
 
 -- the first piece, and the pieces of the rest
-pub first_piece : (c at : ℕ) (bs : List ℕ) → IsFirstByte (is_byte c) bs (Some at) → parts c bs ≡ take at bs ∷ parts c (take (length bs - (at + 1)) (drop (at + 1) bs))
+pub first_piece : (c at : ℕ) (bs : List ℕ) → IsFirstByte (is_byte c) bs (Some at)
+    → parts c bs ≡ take at bs ∷ parts c (take (length bs - (at + 1)) (drop (at + 1) bs))
 first_piece c at bs first =
-    let rest : take (length bs - (at + 1)) (drop (at + 1) bs) ≡ drop (at + 1) bs = take_all _ (drop (at + 1) bs) (omega (arith, length-drop (at + 1) bs)) in
+    let rest : take (length bs - (at + 1)) (drop (at + 1) bs) ≡ drop (at + 1) bs =
+    take_all _ (drop (at + 1) bs) (omega (arith, length-drop (at + 1) bs)) in
     rw (rest, add-one) (first_at c at bs first.0.high (λ j lt e. first.0.before j (omega arith) lt e) first.1)
 
 pub only_piece : (c : ℕ) (bs : List ℕ) → IsFirstByte (is_byte c) bs None → parts c bs ≡ bs ∷ []

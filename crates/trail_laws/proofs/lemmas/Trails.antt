@@ -53,13 +53,15 @@ no_adds t (s ∷ ls) h = (sym (adds_of t s.by s.cell s.adds) ∙ h.0, no_adds t 
 -- ---- what the last link puts
 
 -- What a step of an operation puts of its own is what the operation does.
-changes_put : (t : Tables) (item number : ℕ) (access : Priv) (c : Cell) (v : Value) → own_put (change_of (id_of t item) number access c) ≡ Some v → put_by t (operations.Run item) ≡ Some v
+changes_put : (t : Tables) (item number : ℕ) (access : Priv) (c : Cell) (v : Value)
+    → own_put (change_of (id_of t item) number access c) ≡ Some v → put_by t (operations.Run item) ≡ Some v
 changes_put t item number (privileges.Red op) c v e = absurd cc
 changes_put t item number privileges.Ro c v e = e
 changes_put t item number privileges.Rw c v e = e
 changes_put t item number privileges.Wd c v e = e
 
-of_map : {X : Type 0} (f : X → Move) (xs : List X) (m : Move) (o : Option Value) → ((x : X) → own_put (f x) ≡ o) → Member (map f xs) m → own_put m ≡ o
+of_map : {X : Type 0} (f : X → Move) (xs : List X) (m : Move) (o : Option Value) → ((x : X) → own_put (f x) ≡ o) → Member (map f xs) m
+    → own_put m ≡ o
 of_map f xs m o all is = let x = member_map f xs m is in ap own_put x.2 ∙ all x.0
 
 none_put : (m : Move) (v : Value) (o : Option Value) → own_put m ≡ None → own_put m ≡ Some v → o ≡ Some v
@@ -79,10 +81,15 @@ move_puts t (operations.Run item) m v is e =
           let is = (change_tells task of.req.number of.req.access (mapped_cell t of.req of.at) m of.is_done).0 in
           changes_put t item of.req.number of.req.access (mapped_cell t of.req of.at) v (sym (ap own_put is) ∙ e)
     ]
-move_puts t (operations.Copy src dst space fields) m v is e = none_put m v None (of_map (move_of t (Copies src dst)) (grid (points_in t space) fields) m None (λ p. refl) is) e
-move_puts t (operations.Put inst space fields n) m v is e = sym (of_map (move_of t (Puts inst n)) (grid (points_in t space) fields) m (put_by t (operations.Put inst space fields n)) (λ p. refl) is) ∙ e
-move_puts t (operations.Reset inst space fields) m v is e = none_put m v None (of_map (move_of t (Resets inst)) (grid (points_in t space) fields) m None (λ p. refl) is) e
-move_puts t (operations.Fold src dst space fields) m v is e = none_put m v None (of_map (move_of t (Folds src dst)) (grid (points_in t space) fields) m None (λ p. refl) is) e
+move_puts t (operations.Copy src dst space fields) m v is e =
+    none_put m v None (of_map (move_of t (Copies src dst)) (grid (points_in t space) fields) m None (λ p. refl) is) e
+move_puts t (operations.Put inst space fields n) m v is e =
+    sym (of_map (move_of t (Puts inst n)) (grid (points_in t space) fields) m (put_by t (operations.Put inst space fields n))
+    (λ p. refl) is) ∙ e
+move_puts t (operations.Reset inst space fields) m v is e =
+    none_put m v None (of_map (move_of t (Resets inst)) (grid (points_in t space) fields) m None (λ p. refl) is) e
+move_puts t (operations.Fold src dst space fields) m v is e =
+    none_put m v None (of_map (move_of t (Folds src dst)) (grid (points_in t space) fields) m None (λ p. refl) is) e
 move_puts t operations.Merge m v is e = absurd is
 
 -- A link puts what the operation with its event puts.
@@ -98,10 +105,12 @@ module _ (t : Tables) (graph : AreLinked (graph_of t.nodes)) (ask : Ask) where
   link_puts None c n taken there v e = ap (λ p. Some (start t (cell_in c.inst p))) (sym there) ∙ e
   link_puts (Some x) c n taken there v e =
       let of = of_node t _ x (taken x refl) in
-      let put = ap (λ o. option_map_or (λ (n : LogNode). put_by t n.op) o None) (found_by_event t graph x.node of.node of.is_node) ∙ move_puts t of.node.op x.move v of.is_move e in
+      let put = ap (λ o. option_map_or (λ (n : LogNode). put_by t n.op) o None) (found_by_event t graph x.node of.node of.is_node)
+      ∙ move_puts t of.node.op x.move v of.is_move e in
       kind_puts t ask x.move (event_of t x.node) c.inst n v e put
 
-  last_puts : (ls : List Source) → ((s : Source) (x : Step) → Member ls s → s.by ≡ Some x → Member (steps t) x) → ((s : Source) → Member ls s → place s.cell ≡ (ask.point, ask.field))
+  last_puts : (ls : List Source) → ((s : Source) (x : Step) → Member ls s → s.by ≡ Some x → Member (steps t) x)
+      → ((s : Source) → Member ls s → place s.cell ≡ (ask.point, ask.field))
       → (v : Value) → last_value t ls ≡ Some v → last_put t ask (map (link_of t) ls) ≡ Some v
   last_puts [] taken there v e = absurd cc
   last_puts (s ∷ []) taken there v e = link_puts s.by s.cell s.adds (λ x is. taken s x (inl refl) is) (there s (inl refl)) v e
@@ -114,7 +123,8 @@ pub why_faults : (ask : Ask) (lines : ℕ) (log : List Lined) → log_fault (Why
 unfolding log_fault
 why_faults ask lines log = refl
 
-module _ (log : List Lined) (good : AllByRecursion Good (records_of log)) (f : IsFaultless Check log) (no_cycle : HasNoCycle (tables_of log)) where
+module _ (log : List Lined) (good : AllByRecursion Good (records_of log)) (f : IsFaultless Check log)
+    (no_cycle : HasNoCycle (tables_of log)) where
   abbrev t : Tables
   t = tables_of log
 
@@ -127,7 +137,8 @@ module _ (log : List Lined) (good : AllByRecursion Good (records_of log)) (f : I
       let xs = replay_steps t in
       let same : a.read ≡ b.read = one_asked log f ask a.read b.read a.is_step b.is_step a.asked b.asked in
       let mine : ComesFrom [] xs b.read a.sources = subst (λ x. ComesFrom [] xs x a.sources) same (a.trail xs replay) in
-      let sources : a.sources ≡ b.sources = seen_once follow looks xs (held []) b.read a.sources b.sources (once t xs replay) (seen_from [] xs b.read a.sources mine) (seen_from [] xs b.read b.sources (b.trail xs replay)) in
+      let sources : a.sources ≡ b.sources = seen_once follow looks xs (held []) b.read a.sources b.sources (once t xs replay)
+      (seen_from [] xs b.read a.sources mine) (seen_from [] xs b.read b.sources (b.trail xs replay)) in
       a.links_are ∙ ap (map (link_of t)) sources ∙ sym b.links_are
 
   -- A read that is not there has none.
@@ -138,10 +149,15 @@ module _ (log : List Lined) (good : AllByRecursion Good (records_of log)) (f : I
   pub ends : (ask : Ask) (ls : List Link) → AreLinksOf t ask ls → EndsInOrigin ls
   ends ask ls a = let xs = replay_steps t in subst EndsInOrigin (sym a.links_are) (comes_ends t [] xs a.read a.sources (a.trail xs replay))
 
-  taken : (ask : Ask) (ls : List Link) → (a : AreLinksOf t ask ls) → (s : Source) (x : Step) → Member a.sources s → s.by ≡ Some x → Member (steps t) x
+  taken : (ask : Ask) (ls : List Link) → (a : AreLinksOf t ask ls) → (s : Source) (x : Step) → Member a.sources s → s.by ≡ Some x
+      → Member (steps t) x
   taken ask ls a s x m is =
       let xs = replay_steps t in
-      elim (comes_of [] xs a.read a.sources (a.trail xs replay) s x m is) [ inl before ↦ absurd before | inr in_xs ↦ member_of (steps t) x (replay.in_log x (contains_of xs x in_xs)) ]
+      elim (comes_of [] xs a.read a.sources (a.trail xs replay) s x m is) [
+        | inl before ↦ absurd before
+        | inr in_xs ↦
+            member_of (steps t) x (replay.in_log x (contains_of xs x in_xs))
+      ]
 
   -- Exactly the start has no operation.
   pub starts : (ask : Ask) (ls : List Link) → AreLinksOf t ask ls → (l : Link) → Contains ls l → (l.done ≡ 0) ↔ (l.kind ≡ kinds.Start)
@@ -155,20 +171,26 @@ module _ (log : List Lined) (good : AllByRecursion Good (records_of log)) (f : I
   tell_value ask ls a no_add xs il x asked v r =
       let in_log : Contains (steps t) x = il.in_log x (contains_of xs x (reads_member xs (start t) x v r)) in
       let same : x ≡ a.read = one_asked log f ask x a.read in_log a.is_step asked a.asked in
-      let kept : (y : Step) → Member xs y → KeepsAway t y.move = λ y m. steps_kept log f y (member_of (steps t) y (il.in_log y (contains_of xs y m))) in
+      let kept : (y : Step) → Member xs y → KeepsAway t y.move =
+      λ y m. steps_kept log f y (member_of (steps t) y (il.in_log y (contains_of xs y m))) in
       let comes_so : ComesFrom [] xs a.read a.sources = a.trail xs il in
       let value : last_value t a.sources ≡ Some v = told t [] xs (start t) (once t xs il) kept (shows_start t) a.read a.sources comes_so
-      (no_adds t a.sources (subst (AllByRecursion (λ (l : Link). l.adds ≡ 0)) a.links_are no_add)) v (subst (λ x. ReadsIn xs (start t) x v) same r) in
+      (no_adds t a.sources (subst (AllByRecursion (λ (l : Link). l.adds ≡ 0)) a.links_are no_add)) v
+      (subst (λ x. ReadsIn xs (start t) x v) same r) in
       let tells = asked_tells ask a.read.move a.asked in
-      let there : AreThere tells.cell a.sources = comes_there t [] xs (λ y m. absurd m) kept a.read a.sources comes_so tells.cell (ap cell_read tells.is) in
+      let there : AreThere tells.cell a.sources =
+      comes_there t [] xs (λ y m. absurd m) kept a.read a.sources comes_so tells.cell (ap cell_read tells.is) in
       let at : place tells.cell ≡ (ask.point, ask.field) = λ i. (tells.at_point i, tells.at_field i) in
       subst (λ ls. last_put t ask ls ≡ Some v) (sym a.links_are)
       (last_puts t (faultless_linked Check log good f) ask a.sources (taken ask ls a) (λ s m. there s m ∙ at) v value)
 
   module _ (free : IsRaceFree (tables_of log)) where
     -- What a read came from in one interleaving it came from in every other.
-    pub alike : (xs ys : List Step) → IsInterleaving t xs → IsInterleaving t ys → (x : Step) (ls : List Source) → ComesFrom [] xs x ls → ComesFrom [] ys x ls
-    alike xs ys a b x ls h = from_seen [] ys x ls ((all_agree Origins (List Source) follow looks turn keep t (faultless_tidy log f) free ys xs b a).sights (held []) x ls (seen_from [] xs x ls h))
+    pub alike : (xs ys : List Step) → IsInterleaving t xs → IsInterleaving t ys → (x : Step) (ls : List Source) → ComesFrom [] xs x ls
+        → ComesFrom [] ys x ls
+    alike xs ys a b x ls h = from_seen [] ys x ls
+        ((all_agree Origins (List Source) follow looks turn keep t (faultless_tidy log f) free ys xs b a).sights (held []) x ls
+        (seen_from [] xs x ls h))
 
     -- So what it came from in the replay is its trail.
     pub trail_of_replay : (x : Step) (ls : List Source) → ComesFrom [] (replay_steps t) x ls → IsTrail t x ls
@@ -181,7 +203,19 @@ module _ (log : List Lined) (good : AllByRecursion Good (records_of log)) (f : I
           let x = any_found (λ (x : Step). is_asked ask x.move) (steps t) some in
           let is_step = contains_of (steps t) x.0 x.1 in
           let tells = asked_tells ask x.0.move x.2 in
-          let found = comes [] (replay_steps t) x.0 tells.cell (member_of (replay_steps t) x.0 (replay.whole x.0 is_step)) (ap cell_read tells.is) in
-          inl (map (link_of t) found.0, record { read = x.0; is_step = is_step; asked = x.2; sources = found.0; links_are = refl; trail = trail_of_replay x.0 found.0 found.1 })
+          let found = comes [] (replay_steps t) x.0 tells.cell (member_of (replay_steps t) x.0 (replay.whole x.0 is_step))
+          (ap cell_read tells.is) in
+          inl (
+            map (link_of t) found.0,
+            record {
+              read = x.0;
+              is_step = is_step;
+              asked = x.2;
+              sources = found.0;
+              links_are = refl;
+              trail =
+                  trail_of_replay x.0 found.0 found.1;
+            },
+          )
       | inr none ↦ inr (λ x is. none_at (λ (x : Step). is_asked ask x.move) (steps t) x none (member_of (steps t) x is))
     ]

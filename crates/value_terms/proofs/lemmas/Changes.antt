@@ -8,7 +8,8 @@ use Rattle.value_terms.specs.Values.{Bag, Value, extended, add, plain, fold_part
 use Rattle.value_terms.proofs.lemmas.Counting.{joined_joined}
 
 -- A group that others follow stays.
-pub extended_later : (op : ℕ) (a b : Bag) (g h : Group) (groups : List Group) → extended op a (g ∷ extended op b (h ∷ groups)) ≡ g ∷ extended op a (extended op b (h ∷ groups))
+pub extended_later : (op : ℕ) (a b : Bag) (g h : Group) (groups : List Group)
+    → extended op a (g ∷ extended op b (h ∷ groups)) ≡ g ∷ extended op a (extended op b (h ∷ groups))
 unfolding extended
 extended_later op a b g h [] = elim (eqb_tells h.op op) [ inl is ↦ rw is.0 | inr is ↦ rw is.0 ]
 extended_later op a b g h (k ∷ groups) = refl

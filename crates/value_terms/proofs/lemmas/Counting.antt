@@ -12,15 +12,18 @@ pub counted_none : (c : Contribution) (n : ℕ) → counted c n [] ≡ (c, n) �
 unfolding counted
 counted_none c n = refl
 
-pub counted_same : (c : Contribution) (n : ℕ) (e : Contribution × ℕ) (bag : Bag) → same_contribution c e.0 ≡ true → counted c n (e ∷ bag) ≡ (e.0, e.1 + n) ∷ bag
+pub counted_same : (c : Contribution) (n : ℕ) (e : Contribution × ℕ) (bag : Bag) → same_contribution c e.0 ≡ true
+    → counted c n (e ∷ bag) ≡ (e.0, e.1 + n) ∷ bag
 unfolding counted
 counted_same c n e bag h = rw h
 
-pub counted_here : (c : Contribution) (n : ℕ) (e : Contribution × ℕ) (bag : Bag) → same_contribution c e.0 ≡ false → comes_before c e.0 ≡ true → counted c n (e ∷ bag) ≡ (c, n) ∷ e ∷ bag
+pub counted_here : (c : Contribution) (n : ℕ) (e : Contribution × ℕ) (bag : Bag) → same_contribution c e.0 ≡ false
+    → comes_before c e.0 ≡ true → counted c n (e ∷ bag) ≡ (c, n) ∷ e ∷ bag
 unfolding counted
 counted_here c n e bag h g = rw (h, g)
 
-pub counted_later : (c : Contribution) (n : ℕ) (e : Contribution × ℕ) (bag : Bag) → same_contribution c e.0 ≡ false → comes_before c e.0 ≡ false → counted c n (e ∷ bag) ≡ e ∷ counted c n bag
+pub counted_later : (c : Contribution) (n : ℕ) (e : Contribution × ℕ) (bag : Bag) → same_contribution c e.0 ≡ false
+    → comes_before c e.0 ≡ false → counted c n (e ∷ bag) ≡ e ∷ counted c n bag
 unfolding counted
 counted_later c n e bag h g = rw (h, g)
 
@@ -28,7 +31,16 @@ pub ruleset counts = (counted_none, counted_same, counted_here, counted_later)
 
 counted_counted : (c d : Contribution) (n m : ℕ) (bag : Bag) → counted c n (counted d m bag) ≡ counted d m (counted c n bag)
 counted_counted c d n m [] = grind (arith, counts, pair_path, compared c d)
-counted_counted c d n m (e ∷ bag) = grind (arith, counts, pair_path, before_trans, compared c d, compared c e.0, compared d e.0, counted_counted c d n m bag)
+counted_counted c d n m (e ∷ bag) = grind (
+  arith,
+  counts,
+  pair_path,
+  before_trans,
+  compared c d,
+  compared c e.0,
+  compared d e.0,
+  counted_counted c d n m bag,
+)
 
 pub joined_counted : (a b : Bag) (c : Contribution) (n : ℕ) → joined (counted c n a) b ≡ counted c n (joined a b)
 unfolding joined
@@ -41,7 +53,8 @@ unfolding joined
 joined_joined g [] b = refl
 joined_joined g (e ∷ a) b = joined_joined (counted e.0 e.1 g) a b ∙ ap (λ w. joined w a) (joined_counted g b e.0 e.1)
 
-count_counted : (d c : Contribution) (n : ℕ) (bag : Bag) → count_in d (counted c n bag) ≡ (if same_contribution d c then n else 0) + count_in d bag
+count_counted : (d c : Contribution) (n : ℕ) (bag : Bag)
+    → count_in d (counted c n bag) ≡ (if same_contribution d c then n else 0) + count_in d bag
 unfolding count_in
 count_counted d c n [] = rw counted_none
 count_counted d c n (e ∷ bag) = grind (arith, counts, compared c e.0, count_counted d c n bag)
@@ -51,7 +64,8 @@ unfolding joined count_in
 count_joined d a [] = grind arith
 count_joined d a (e ∷ b) = grind (arith, count_counted, count_joined d (counted e.0 e.1 a) b)
 
-pub all_after : (c d : Contribution) (bag : Bag) → comes_before c d ≡ true → AllByRecursion (λ f. comes_before d f.0 ≡ true) bag → AllByRecursion (λ f. comes_before c f.0 ≡ true) bag
+pub all_after : (c d : Contribution) (bag : Bag) → comes_before c d ≡ true → AllByRecursion (λ f. comes_before d f.0 ≡ true) bag
+    → AllByRecursion (λ f. comes_before c f.0 ≡ true) bag
 all_after c d [] h hs = tt
 all_after c d (e ∷ bag) h hs = (before_trans c d e.0 h hs.0, all_after c d bag h hs.1)
 
@@ -67,11 +81,13 @@ first_there : (e : Contribution × ℕ) (bag : Bag) → 1 ≤ e.1 → count_in e
 unfolding count_in
 first_there e bag h is = grind (arith, (same_decides e.0 e.0).1 refl)
 
-same_first : (e f : Contribution × ℕ) (a b : Bag) → Ascends (e ∷ a) → Ascends (f ∷ b) → count_in e.0 (e ∷ a) ≡ count_in e.0 (f ∷ b) → e.0 ≡ f.0 → e.1 ≡ f.1
+same_first : (e f : Contribution × ℕ) (a b : Bag) → Ascends (e ∷ a) → Ascends (f ∷ b) → count_in e.0 (e ∷ a) ≡ count_in e.0 (f ∷ b)
+    → e.0 ≡ f.0 → e.1 ≡ f.1
 unfolding count_in
 same_first e f a b x y h first = grind (arith, (same_decides e.0 e.0).1 refl, absent e.0 a x.0, absent f.0 b y.0)
 
-same_rest : (e f : Contribution × ℕ) (a b : Bag) (c : Contribution) → e.0 ≡ f.0 → e.1 ≡ f.1 → count_in c (e ∷ a) ≡ count_in c (f ∷ b) → count_in c a ≡ count_in c b
+same_rest : (e f : Contribution × ℕ) (a b : Bag) (c : Contribution) → e.0 ≡ f.0 → e.1 ≡ f.1 → count_in c (e ∷ a) ≡ count_in c (f ∷ b)
+    → count_in c a ≡ count_in c b
 unfolding count_in
 same_rest e f a b c first count h = grind arith
 

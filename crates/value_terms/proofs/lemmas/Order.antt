@@ -48,6 +48,7 @@ below c d h = record { differ = (before_differ c d h).0; differ_too = (before_di
 pub compared : (c d : Contribution) → Same c d ⊎ (Below c d ⊎ Below d c)
 compared c d = by_tests (same_contribution c d) refl (comes_before c d) refl where
   by_tests : (s : Bool) → same_contribution c d ≡ s → (b : Bool) → comes_before c d ≡ b → Same c d ⊎ (Below c d ⊎ Below d c)
-  by_tests true s b t = let equal = (same_decides c d).0 s in inl (record { equal = equal; same = s; same_too = (same_decides d c).1 (sym equal) })
+  by_tests true s b t = let equal = (same_decides c d).0 s in
+      inl (record { equal = equal; same = s; same_too = (same_decides d c).1 (sym equal) })
   by_tests false s true t = inr (inl (below c d t))
   by_tests false s false t = inr (inr (below d c (one_before c d s t)))

@@ -10,7 +10,8 @@ use Rattle.value_terms.specs.Values.{Bag, Value, comes_before, count_in, counted
 use Rattle.value_terms.proofs.lemmas.Order.{compared}
 use Rattle.value_terms.proofs.lemmas.Counting.{counts, counted_none, counted_same, counted_here, counted_later, all_after, rest_of, count_joined, equal_by_counts}
 
-counted_after : (d c : Contribution) (n : ℕ) (bag : Bag) → comes_before d c ≡ true → AllByRecursion (λ f. comes_before d f.0 ≡ true) bag → AllByRecursion (λ f. comes_before d f.0 ≡ true) (counted c n bag)
+counted_after : (d c : Contribution) (n : ℕ) (bag : Bag) → comes_before d c ≡ true → AllByRecursion (λ f. comes_before d f.0 ≡ true) bag
+    → AllByRecursion (λ f. comes_before d f.0 ≡ true) (counted c n bag)
 counted_after d c n [] below h = rw counted_none (below, tt)
 counted_after d c n (e ∷ bag) below h = elim (compared c e.0) [
   | inl s ↦ rw (counted_same c n e bag s.same) h
@@ -22,10 +23,12 @@ counted_bag : (c : Contribution) (n : ℕ) (bag : Bag) → 1 ≤ n → IsWellFor
 counted_bag c n [] some h = rw counted_none (record { counts = (some, tt); ascends = (tt, tt) })
 counted_bag c n (e ∷ bag) some h = elim (compared c e.0) [
   | inl s ↦ rw (counted_same c n e bag s.same) (record { counts = (omega arith, h.counts.1); ascends = h.ascends })
-  | inr (inl b) ↦ rw (counted_here c n e bag b.differ b.before) (record { counts = (some, h.counts); ascends = ((b.before, all_after c e.0 bag b.before h.ascends.0), h.ascends) })
+  | inr (inl b) ↦ rw (counted_here c n e bag b.differ b.before)
+      (record { counts = (some, h.counts); ascends = ((b.before, all_after c e.0 bag b.before h.ascends.0), h.ascends) })
   | inr (inr b) ↦
       let rest = counted_bag c n bag some (rest_of h) in
-      rw (counted_later c n e bag b.differ_too b.not_after) (record { counts = (h.counts.0, rest.counts); ascends = (counted_after e.0 c n bag b.before h.ascends.0, rest.ascends) })
+      rw (counted_later c n e bag b.differ_too b.not_after)
+      (record { counts = (h.counts.0, rest.counts); ascends = (counted_after e.0 c n bag b.before h.ascends.0, rest.ascends) })
 ]
 
 joined_bag : (a b : Bag) → IsWellFormedBag a → CountsEach b → IsWellFormedBag (joined a b)
@@ -39,7 +42,8 @@ no_bag = record { counts = tt; ascends = tt }
 -- A bag counted anew is itself.
 pub joined_anew : (bag : Bag) → IsWellFormedBag bag → joined [] bag ≡ bag
 unfolding count_in
-joined_anew bag h = equal_by_counts (joined [] bag) bag (joined_bag [] bag no_bag h.counts) h (λ c. count_joined c [] bag ∙ zero-add (count_in c bag))
+joined_anew bag h = equal_by_counts (joined [] bag) bag (joined_bag [] bag no_bag h.counts) h (λ c. count_joined c [] bag
+    ∙ zero-add (count_in c bag))
 
 counted_some : (c : Contribution) (n : ℕ) (bag : Bag) → counted c n bag ≢ []
 counted_some c n [] = λ h. grind (arith, counts)
@@ -51,17 +55,21 @@ joined_some a [] h = h
 joined_some a (e ∷ b) h = joined_some (counted e.0 e.1 a) b (counted_some e.0 e.1 a)
 
 -- What holds of a new group, and stays when a bag is counted in, holds of all groups.
-pub extended_all : (P : Group → Type 0) (op : ℕ) (bag : Bag) (groups : List Group) → P (group_of op bag) → ((g : Group) → P g → P (record g { bag = joined g.bag bag })) → AllByRecursion P groups → AllByRecursion P (extended op bag groups)
+pub extended_all : (P : Group → Type 0) (op : ℕ) (bag : Bag) (groups : List Group) → P (group_of op bag)
+    → ((g : Group) → P g → P (record g { bag = joined g.bag bag })) → AllByRecursion P groups → AllByRecursion P (extended op bag groups)
 unfolding extended
 extended_all P op bag [] new more h = (new, tt)
-extended_all P op bag (g ∷ []) new more h = elim (eqb_tells g.op op) [ inl is ↦ rw is.0 (more g h.0, tt) | inr is ↦ rw is.0 (h.0, (new, tt)) ]
+extended_all P op bag (g ∷ []) new more h =
+    elim (eqb_tells g.op op) [ inl is ↦ rw is.0 (more g h.0, tt) | inr is ↦ rw is.0 (h.0, (new, tt)) ]
 extended_all P op bag (g ∷ h ∷ groups) new more hs = (hs.0, extended_all P op bag (h ∷ groups) new more hs.1)
 
-extended_neighbours_differ : (op : ℕ) (bag : Bag) (groups : List Group) → NeighboursDiffer groups → NeighboursDiffer (extended op bag groups)
+extended_neighbours_differ : (op : ℕ) (bag : Bag) (groups : List Group) → NeighboursDiffer groups
+    → NeighboursDiffer (extended op bag groups)
 unfolding extended
 extended_neighbours_differ op bag [] h = tt
 extended_neighbours_differ op bag (g ∷ []) h = elim (eqb_tells g.op op) [ inl is ↦ rw is.0 tt | inr is ↦ rw is.0 (is.1, tt) ]
-extended_neighbours_differ op bag (g ∷ h ∷ []) hs = elim (eqb_tells h.op op) [ inl is ↦ rw is.0 (hs.0, tt) | inr is ↦ rw is.0 (hs.0, (is.1, tt)) ]
+extended_neighbours_differ op bag (g ∷ h ∷ []) hs =
+    elim (eqb_tells h.op op) [ inl is ↦ rw is.0 (hs.0, tt) | inr is ↦ rw is.0 (hs.0, (is.1, tt)) ]
 extended_neighbours_differ op bag (g ∷ h ∷ k ∷ groups) hs = (hs.0, extended_neighbours_differ op bag (h ∷ k ∷ groups) hs.1)
 
 pub plain_well_formed : (base : Base) → IsWellFormed (plain base)
@@ -75,14 +83,18 @@ add_well_formed op (e ∷ bag) v counts h = added (is_raw v.base) refl where
   added true is = h
   added false is = record {
     raw_is_plain = λ raw. cc;
-    no_bag_is_empty = extended_all (λ g. g.bag ≢ []) op (e ∷ bag) v.groups (joined_some (counted e.0 e.1 []) bag (counted_some e.0 e.1 [])) (λ g some. joined_some g.bag (e ∷ bag) some) h.no_bag_is_empty;
-    bags = extended_all (λ g. IsWellFormedBag g.bag) op (e ∷ bag) v.groups (joined_bag [] (e ∷ bag) no_bag counts) (λ g is. joined_bag g.bag (e ∷ bag) is counts) h.bags;
+    no_bag_is_empty = extended_all (λ g. g.bag ≢ []) op (e ∷ bag) v.groups (joined_some (counted e.0 e.1 []) bag (counted_some e.0 e.1 []))
+        (λ g some. joined_some g.bag (e ∷ bag) some) h.no_bag_is_empty;
+    bags = extended_all (λ g. IsWellFormedBag g.bag) op (e ∷ bag) v.groups (joined_bag [] (e ∷ bag) no_bag counts)
+        (λ g is. joined_bag g.bag (e ∷ bag) is counts) h.bags;
     neighbours_differ = extended_neighbours_differ op (e ∷ bag) v.groups h.neighbours_differ;
   }
 
-fold_parts_well_formed : (w : Value) (op : ℕ) (base : Base) (groups : List Group) → IsWellFormed w → AllByRecursion (λ g. IsWellFormedBag g.bag) groups → IsWellFormed (fold_parts w op base groups)
+fold_parts_well_formed : (w : Value) (op : ℕ) (base : Base) (groups : List Group) → IsWellFormed w
+    → AllByRecursion (λ g. IsWellFormedBag g.bag) groups → IsWellFormed (fold_parts w op base groups)
 fold_parts_well_formed w op Ident [] h bags = h
-fold_parts_well_formed w op Ident (g ∷ []) h bags = elim (eqb_tells g.op op) [ inl is ↦ rw is.0 (add_well_formed op g.bag w bags.0.counts h) | inr is ↦ rw is.0 (plain_well_formed Raw) ]
+fold_parts_well_formed w op Ident (g ∷ []) h bags =
+    elim (eqb_tells g.op op) [ inl is ↦ rw is.0 (add_well_formed op g.bag w bags.0.counts h) | inr is ↦ rw is.0 (plain_well_formed Raw) ]
 fold_parts_well_formed w op base groups h bags = plain_well_formed Raw
 
 pub fold_well_formed : (w : Value) (op : ℕ) (v : Value) → IsWellFormed w → IsWellFormed v → IsWellFormed (fold_in w op v)

@@ -10,8 +10,11 @@ loop-p-preserved c = (
 
 pub returns : goal.returns
 returns c =
-    let e : c.loop-p.p - c.args.first ≡ c.args.last + 1 - c.args.first = end_is c.args.first c.args.last c.loop-p.p c.loop-p-test.false c.loop-p.auto.p c.loop-p.invariant.1 (λ h. let g = c.loop-p.auto.p-end h in omega arith) in
+    let e : c.loop-p.p - c.args.first ≡ c.args.last + 1 - c.args.first =
+    end_is c.args.first c.args.last c.loop-p.p c.loop-p-test.false c.loop-p.auto.p c.loop-p.invariant.1 (λ h. let g =
+    c.loop-p.auto.p-end h in omega arith) in
     rw e at c.loop-p.invariant.0
 
 pub returns-in_ok-push : goal.returns-in_ok-push
-returns-in_ok-push c = one_more c.args.points.now.items c.loop-p.points.items _ c.args.first c.loop-p.p _ c.loop-p.invariant.0 c.in_ok-push.ensures.items c.loop-p.auto.p (omega arith)
+returns-in_ok-push c =
+    one_more c.args.points.now.items c.loop-p.points.items _ c.args.first c.loop-p.p _ c.loop-p.invariant.0 c.in_ok-push.ensures.items c.loop-p.auto.p (omega arith)

@@ -8,7 +8,8 @@ pub returns-in_err-span : goal.returns-in_err-span
 returns-in_err-span c =
     let spans = c.args.spans.now in
     let k = c.run_from-place.result in
-    subst (IsAtomAt spans c.args.p) (sym c.from_residual.ensures) (none_behind spans c.args.p k c.args.p c.run_from-place.ensures (no_run spans k c.in_err-span.ensures.lookup) (omega arith))
+    subst (IsAtomAt spans c.args.p) (sym c.from_residual.ensures)
+    (none_behind spans c.args.p k c.args.p c.run_from-place.ensures (no_run spans k c.in_err-span.ensures.lookup) (omega arith))
 
 pub returns-then-span-p : goal.returns-then-span-p
 returns-then-span-p c =
@@ -22,4 +23,5 @@ returns-else-span-p c =
     let spans = c.args.spans.now in
     let k = c.run_from-place.result in
     let span = some_run spans k c.in_ok-span.span c.in_ok-span.ensures.lookup in
-    none_at spans c.args.p k c.requires c.run_from-place.ensures span.0 (subst (λ (s : ℕ × ℕ). c.args.p < s.0) (sym span.1) c.if-span-p.false)
+    none_at spans c.args.p k c.requires c.run_from-place.ensures span.0
+    (subst (λ (s : ℕ × ℕ). c.args.p < s.0) (sym span.1) c.if-span-p.false)

@@ -13,4 +13,5 @@ returns g c =
     let all = c.args.spaces.now in
     let seen = space_seen g.P.PointSet.points in
     let end : length all ≤ c.loop-space.space-index = c.loop-space-test.false in
-    gathered_all seen all c.loop-space.edges.items (subst (λ xs. AreGathered seen all xs c.loop-space.edges.items) (take_all c.loop-space.space-index all end) c.loop-space.invariant)
+    gathered_all seen all c.loop-space.edges.items
+    (subst (λ xs. AreGathered seen all xs c.loop-space.edges.items) (take_all c.loop-space.space-index all end) c.loop-space.invariant)

@@ -16,10 +16,14 @@ loop-next-preserved c =
     let next = get_or rest i none in
     let later = parts_from (joined begin next) (drop (i + 1) rest) in
     rw (c.max.ensures, c.in_ok-push_part.ensures)
-    (append_assoc c.loop-next.spans.items (part_before begin next.at) later ∙ ap (λ parts. c.loop-next.spans.items ++ parts) (sym (at_drop_more (parts_from begin) rest i none c.loop-next-test.true)) ∙ c.loop-next.invariant)
+    (append_assoc c.loop-next.spans.items (part_before begin next.at) later
+    ∙ ap (λ parts. c.loop-next.spans.items ++ parts) (sym (at_drop_more (parts_from begin) rest i none c.loop-next-test.true))
+    ∙ c.loop-next.invariant)
 
 pub returns : goal.returns
 returns c =
     let rest = c.in-Some.rest.now in
     let begin = c.loop-next.begin in
-    c.in_ok-push_last.ensures ∙ ap (λ parts. c.loop-next.spans.items ++ parts) (sym (at_drop_all (parts_from begin) rest c.loop-next.next-index c.loop-next-test.false)) ∙ c.loop-next.invariant ∙ sym (ap parts_of c.in-Some.ensures.cases.0)
+    c.in_ok-push_last.ensures ∙ ap (λ parts. c.loop-next.spans.items ++ parts)
+    (sym (at_drop_all (parts_from begin) rest c.loop-next.next-index c.loop-next-test.false)) ∙ c.loop-next.invariant
+    ∙ sym (ap parts_of c.in-Some.ensures.cases.0)

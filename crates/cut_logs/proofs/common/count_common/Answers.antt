@@ -19,7 +19,8 @@ loop-point-preserved g c =
     let lt = c.loop-point-test.true in
     let test = same_test points _ c.has.result c.has.ensures in
     elim c.if-has.branch [
-      | then-has w ↦ w.count-is ∙ ap (λ n. n + 1) c.loop-point.invariant ∙ sym (count_more (is_in points) listed i lt (test ∙ w.if-has.true))
+      | then-has w ↦ w.count-is ∙ ap (λ n. n + 1) c.loop-point.invariant
+          ∙ sym (count_more (is_in points) listed i lt (test ∙ w.if-has.true))
       | else-has w ↦ w.count-is ∙ c.loop-point.invariant ∙ sym (ap length (none_more (is_in points) listed i lt (test ∙ w.if-has.false)))
     ]
 

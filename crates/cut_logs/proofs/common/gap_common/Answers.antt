@@ -10,7 +10,8 @@ returns-in-Some-Some g c =
     let p = c.args.p in
     gap_both listed points p c.in-Some-Some.one c.in-Some-Some.other c.min.result
     (subst (IsLeastGap points p) c.in-Some-Some.is-0 c.gap_from.ensures)
-    (subst (IsLeastGap listed p) c.in-Some-Some.is-1 (subst (λ xs. IsLeastGap xs p c.gap_from-gap.result) c.in-Some.ensures.points c.gap_from-gap.ensures))
+    (subst (IsLeastGap listed p) c.in-Some-Some.is-1
+    (subst (λ xs. IsLeastGap xs p c.gap_from-gap.result) c.in-Some.ensures.points c.gap_from-gap.ensures))
     c.min.ensures
 
 pub returns-in-Some-None : goal.returns-in-Some-None
@@ -20,7 +21,8 @@ returns-in-Some-None g c =
     let p = c.args.p in
     gap_set listed points p c.in-Some-None.one
     (subst (IsLeastGap points p) c.in-Some-None.is-0 c.gap_from.ensures)
-    (subst (IsLeastGap listed p) c.in-Some-None.is-1 (subst (λ xs. IsLeastGap xs p c.gap_from-gap.result) c.in-Some.ensures.points c.gap_from-gap.ensures))
+    (subst (IsLeastGap listed p) c.in-Some-None.is-1
+    (subst (λ xs. IsLeastGap xs p c.gap_from-gap.result) c.in-Some.ensures.points c.gap_from-gap.ensures))
 
 pub returns-in-None-default : goal.returns-in-None-default
 returns-in-None-default g c =

@@ -17,7 +17,8 @@ loop-point-preserved g c =
     let so_far = IsGreatestOf (filter (is_in points) (take (i + 1) listed)) in
     elim c.if-has.branch [
       | then-has w ↦ subst so_far (sym w.last-is) (last_more (is_in points) listed i lt c.requires (test ∙ w.if-has.true))
-      | else-has w ↦ subst so_far (sym w.last-is) (last_still (is_in points) listed i lt c.loop-point.last (test ∙ w.if-has.false) c.loop-point.invariant)
+      | else-has w ↦ subst so_far (sym w.last-is)
+          (last_still (is_in points) listed i lt c.loop-point.last (test ∙ w.if-has.false) c.loop-point.invariant)
     ]
 
 pub returns : goal.returns
@@ -25,5 +26,6 @@ returns g c =
     let points = g.P.PointSet.points c.args.set.now in
     let listed = c.args.listed.now in
     subst (λ xs. IsGreatestOf xs c.loop-point.last)
-    (ap (filter (is_in points)) (take_all c.loop-point.point-index listed c.loop-point-test.false) ∙ turned listed points c.requires (g.met.P.PointSet.ascends c.args.set.now))
+    (ap (filter (is_in points)) (take_all c.loop-point.point-index listed c.loop-point-test.false)
+    ∙ turned listed points c.requires (g.met.P.PointSet.ascends c.args.set.now))
     c.loop-point.invariant

@@ -7,6 +7,8 @@ use Rattle.event_graph.proofs.cycle_walk.least_unmarked.Given as goal
 abbrev pub invariant-loop-event : goal.invariant-loop-event
 invariant-loop-event l = record {
   within : l.best ≤ length l.marks;
-  found : l.best < length l.marks → (get_or l.marks l.best false ≡ false) × (list_any (λ e. is_place l.best (get nat_eq l.places e)) (take l.event-index l.waits) ≡ true);
-  least : (j : ℕ) → j < l.best → get_or l.marks j false ≡ false → list_any (λ e. is_place j (get nat_eq l.places e)) (take l.event-index l.waits) ≡ false;
+  found : l.best < length l.marks → (get_or l.marks l.best false ≡ false)
+      × (list_any (λ e. is_place l.best (get nat_eq l.places e)) (take l.event-index l.waits) ≡ true);
+  least : (j : ℕ) → j < l.best → get_or l.marks j false ≡ false
+      → list_any (λ e. is_place j (get nat_eq l.places e)) (take l.event-index l.waits) ≡ false;
 }

@@ -8,19 +8,26 @@ use Rattle.event_graph.proofs.Walks.{stuck_wait_some, stuck_wait_none}
 use Rattle.event_graph.proofs.cycle_walk.next_stuck.Goals as goal
 
 pub least_unmarked-best-requires : goal.least_unmarked-best-requires
-least_unmarked-best-requires c = rw c.waits_of.ensures (placed_within c.args.nodes.now (get nat_eq c.args.places.now) c.requires.indexed.places (waits_at c.args.nodes.now c.args.k) (c.requires.indexed.waits c.args.k) (length c.args.taken.now) c.requires.taken.each)
+least_unmarked-best-requires c = rw c.waits_of.ensures
+    (placed_within c.args.nodes.now (get nat_eq c.args.places.now) c.requires.indexed.places (waits_at c.args.nodes.now c.args.k)
+    (c.requires.indexed.waits c.args.k) (length c.args.taken.now) c.requires.taken.each)
 
 pub returns-then-best-taken-clause-next : goal.returns-then-best-taken-clause-next
 returns-then-best-taken-clause-next c =
     let best = c.least_unmarked-best.result in
     let found = c.least_unmarked-best.ensures.found c.if-best-taken.true in
-    let is = stuck_wait_some c.args.nodes.now c.args.taken.now c.requires.taken (get nat_eq c.args.places.now) c.requires.indexed.places c.args.k best (omega (arith, c.if-best-taken.true, c.requires.taken.each)) found.0
+    let is = stuck_wait_some c.args.nodes.now c.args.taken.now c.requires.taken
+    (get nat_eq c.args.places.now) c.requires.indexed.places c.args.k best
+    (omega (arith, c.if-best-taken.true, c.requires.taken.each)) found.0
     (subst (λ ws. list_any (λ e. is_place best (get nat_eq c.args.places.now e)) ws ≡ true) c.waits_of.ensures found.1)
-    (λ j lt un. subst (λ ws. list_any (λ e. is_place j (get nat_eq c.args.places.now e)) ws ≡ false) c.waits_of.ensures (c.least_unmarked-best.ensures.least j lt un)) in
+    (λ j lt un. subst (λ ws. list_any (λ e. is_place j (get nat_eq c.args.places.now e)) ws ≡ false) c.waits_of.ensures
+    (c.least_unmarked-best.ensures.least j lt un)) in
     sym (ap (λ o. unwrap_or o c.args.k) is)
 
 pub returns-else-best-taken-clause-next : goal.returns-else-best-taken-clause-next
 returns-else-best-taken-clause-next c =
-    let is = stuck_wait_none c.args.nodes.now c.args.taken.now c.requires.taken (get nat_eq c.args.places.now) c.requires.indexed.places c.args.k
-    (λ j lt un. subst (λ ws. list_any (λ e. is_place j (get nat_eq c.args.places.now e)) ws ≡ false) c.waits_of.ensures (c.least_unmarked-best.ensures.least j (omega (arith, lt, c.if-best-taken.false, c.requires.taken.each)) un)) in
+    let is = stuck_wait_none c.args.nodes.now c.args.taken.now c.requires.taken
+    (get nat_eq c.args.places.now) c.requires.indexed.places c.args.k
+    (λ j lt un. subst (λ ws. list_any (λ e. is_place j (get nat_eq c.args.places.now e)) ws ≡ false) c.waits_of.ensures
+    (c.least_unmarked-best.ensures.least j (omega (arith, lt, c.if-best-taken.false, c.requires.taken.each)) un)) in
     sym (ap (λ o. unwrap_or o c.args.k) is)

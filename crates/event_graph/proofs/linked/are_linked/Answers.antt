@@ -10,7 +10,8 @@ returns c =
     let again = c.as_slice-2.ensures.value ∙ c.in_ok-events.ensures in
     let first = λ (e : ℕ). c.in_ok-places.ensures e ∙ ap (position_from (nat_eq e) 0) events in (
       λ known. linked_if c.args.nodes.now (get nat_eq c.in_ok-places.places) first
-          (subst (λ (xs : List ℕ). (k : ℕ) → k < length xs → get nat_eq c.in_ok-places.places (get_or xs k 0) ≡ Some k) again (c.are_first.ensures.0 c.if-not-are_first.false))
+          (subst (λ (xs : List ℕ). (k : ℕ) → k < length xs → get nat_eq c.in_ok-places.places (get_or xs k 0) ≡ Some k) again
+          (c.are_first.ensures.0 c.if-not-are_first.false))
           (c.are_waits_known.ensures.0 known),
       λ linked. c.are_waits_known.ensures.1 (waits_stand c.args.nodes.now linked (get nat_eq c.in_ok-places.places) first),
     )
@@ -22,5 +23,6 @@ returns-then-not-are_first c =
     let first = λ (e : ℕ). c.in_ok-places.ensures e ∙ ap (position_from (nat_eq e) 0) events in (
       λ linked. absurd (cc linked),
       λ linked. sym c.if-not-are_first.true ∙ c.are_first.ensures.1
-          (subst (λ (xs : List ℕ). (k : ℕ) → k < length xs → get nat_eq c.in_ok-places.places (get_or xs k 0) ≡ Some k) (sym again) (stands_first c.args.nodes.now linked (get nat_eq c.in_ok-places.places) first)),
+          (subst (λ (xs : List ℕ). (k : ℕ) → k < length xs → get nat_eq c.in_ok-places.places (get_or xs k 0) ≡ Some k) (sym again)
+          (stands_first c.args.nodes.now linked (get nat_eq c.in_ok-places.places) first)),
     )

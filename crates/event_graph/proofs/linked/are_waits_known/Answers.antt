@@ -5,4 +5,8 @@ use Rattle.vocabulary.specs.Prelude.{Node}
 use Rattle.event_graph.proofs.linked.are_waits_known.Goals as goal
 
 pub returns : goal.returns
-returns c = (λ _. subst (All (λ (n : Node). All (λ e. is_some (get nat_eq c.args.places.now e) ≡ true) n.waits)) (take_all c.loop-node.node-index c.args.nodes.now (omega arith)) c.loop-node.invariant, λ _. refl)
+returns c = (
+  λ _. subst (All (λ (n : Node). All (λ e. is_some (get nat_eq c.args.places.now e) ≡ true) n.waits))
+      (take_all c.loop-node.node-index c.args.nodes.now (omega arith)) c.loop-node.invariant,
+  λ _. refl,
+)

@@ -15,8 +15,11 @@ loop-field-preserved c =
       omega (arith, c.min-low.ensures, was.0),
       omega (arith, c.max-high.ensures, was.1),
       subst (All (λ f. (from ≤ f) × (f ≤ to))) (sym (take_more xs i 0 c.loop-field-test.true))
-          (All-push (λ f. (from ≤ f) × (f ≤ to)) (take i xs) x (wider c.loop-field.low c.loop-field.high from to (take i xs) (omega (arith, c.min-low.ensures)) (omega (arith, c.max-high.ensures)) was.2) (omega (arith, c.min-low.ensures), omega (arith, c.max-high.ensures))),
+          (All-push (λ f. (from ≤ f) × (f ≤ to)) (take i xs) x
+          (wider c.loop-field.low c.loop-field.high from to (take i xs) (omega (arith, c.min-low.ensures))
+          (omega (arith, c.max-high.ensures)) was.2) (omega (arith, c.min-low.ensures), omega (arith, c.max-high.ensures))),
     )
 
 pub returns-clause-fields : goal.returns-clause-fields
-returns-clause-fields c = all_taken (λ f. (c.loop-field.low ≤ f) × (f ≤ c.loop-field.high)) c.args.fields.now c.loop-field.field-index c.loop-field-test.false c.loop-field.invariant.2
+returns-clause-fields c = all_taken (λ f. (c.loop-field.low ≤ f)
+    × (f ≤ c.loop-field.high)) c.args.fields.now c.loop-field.field-index c.loop-field-test.false c.loop-field.invariant.2

@@ -10,7 +10,8 @@ loop-point-init g c =
     let start = c.into_iter-point-iterator.ensures.into_iter_gives ∙ c.points_in-point-items.ensures in (
       tt,
       tt,
-      λ cell. ap (λ (xs : List ℕ). cond (is_at_points c.args.inst (is_in xs) c.args.fields.now cell) (Some (plain c.args.base)) (get c.args.store.now cell)) start,
+      λ cell. ap (λ (xs : List ℕ). cond (is_at_points c.args.inst (is_in xs) c.args.fields.now cell) (Some (plain c.args.base))
+          (get c.args.store.now cell)) start,
     )
 
 pub loop-point-preserved : goal.loop-point-preserved
@@ -20,6 +21,7 @@ loop-point-preserved g c =
       tt,
       tt,
       more_points c.args.inst c.in-Some.point rest c.args.fields.now c.args.base c.loop-point.store c.hold_fields.new.store _
-          (λ cell. sym (ap (λ (xs : List ℕ). cond (is_at_points c.args.inst (is_in xs) c.args.fields.now cell) (Some (plain c.args.base)) (get c.loop-point.store cell)) steps) ∙ c.loop-point.invariant.2 cell)
+          (λ cell. sym (ap (λ (xs : List ℕ). cond (is_at_points c.args.inst (is_in xs) c.args.fields.now cell) (Some (plain c.args.base))
+          (get c.loop-point.store cell)) steps) ∙ c.loop-point.invariant.2 cell)
           c.in_ok-hold_fields.ensures,
     )

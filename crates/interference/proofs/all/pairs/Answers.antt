@@ -6,4 +6,5 @@ use Rattle.interference.proofs.all.pairs.Goals as goal
 pub returns : goal.returns
 returns g c =
     let items = c.of-search.result.items.now in
-    c.of.ensures ∙ ap (λ asked. left (asked_of asked) items 0 1) c.of-search.ensures.asked ∙ all_are c.args.log.now items (sym c.of-search.ensures.items)
+    c.of.ensures ∙ ap (λ asked. left (asked_of asked) items 0 1) c.of-search.ensures.asked
+    ∙ all_are c.args.log.now items (sym c.of-search.ensures.items)

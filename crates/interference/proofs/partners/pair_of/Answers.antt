@@ -8,10 +8,13 @@ use Rattle.interference.proofs.Answering.{none_met, some_met}
 use Rattle.interference.proofs.partners.pair_of.Goals as goal
 
 pub returns-clause-none : goal.returns-clause-none
-returns-clause-none g c = none_met (asked_of c.args.search.now.asked) c.args.search.now.items.now c.args.a c.args.b c.interference-found.result c.pair_with.result c.interference-found.ensures.found c.pair_with.ensures
+returns-clause-none g c =
+    none_met (asked_of c.args.search.now.asked) c.args.search.now.items.now c.args.a c.args.b c.interference-found.result c.pair_with.result c.interference-found.ensures.found c.pair_with.ensures
 
 pub returns-clause-some : goal.returns-clause-some
-returns-clause-some g c = some_met (asked_of c.args.search.now.asked) c.args.search.now.items.now c.args.a c.args.b c.interference-found.result c.pair_with.result (sym c.is_asked.ensures ∙ c.if-not-is_asked.false) c.interference-found.ensures.found c.pair_with.ensures
+returns-clause-some g c =
+    some_met (asked_of c.args.search.now.asked) c.args.search.now.items.now c.args.a c.args.b c.interference-found.result c.pair_with.result
+    (sym c.is_asked.ensures ∙ c.if-not-is_asked.false) c.interference-found.ensures.found c.pair_with.ensures
 
 pub returns-then-not-may_interfere-clause-none : goal.returns-then-not-may_interfere-clause-none
 returns-then-not-may_interfere-clause-none g c =

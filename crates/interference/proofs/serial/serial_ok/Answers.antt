@@ -15,12 +15,21 @@ of-search-requires g c = c.serial_places.ensures.each
 
 pub returns-in-Some-clause-pair : goal.returns-in-Some-clause-pair
 returns-in-Some-clause-pair g c =
-    (turned_found c.args.log.now c.in-Some.pair (first_is c.args.log.now c.of-search.result.items.now (asked_of c.of-search.result.asked) c.serial_places.result.now c.first_turned.result (sym c.of-search.ensures.items) c.serial_places.ensures (ap asked_of c.of-search.ensures.asked) c.first_turned.ensures ∙ c.in-Some.is)).0
+    (turned_found c.args.log.now c.in-Some.pair (first_is c.args.log.now c.of-search.result.items.now
+    (asked_of c.of-search.result.asked) c.serial_places.result.now c.first_turned.result
+    (sym c.of-search.ensures.items) c.serial_places.ensures (ap asked_of c.of-search.ensures.asked) c.first_turned.ensures
+    ∙ c.in-Some.is)).0
 
 pub returns-in-Some-clause-place : goal.returns-in-Some-clause-place
 returns-in-Some-clause-place g c =
-    (turned_found c.args.log.now c.in-Some.pair (first_is c.args.log.now c.of-search.result.items.now (asked_of c.of-search.result.asked) c.serial_places.result.now c.first_turned.result (sym c.of-search.ensures.items) c.serial_places.ensures (ap asked_of c.of-search.ensures.asked) c.first_turned.ensures ∙ c.in-Some.is)).1
+    (turned_found c.args.log.now c.in-Some.pair (first_is c.args.log.now c.of-search.result.items.now
+    (asked_of c.of-search.result.asked) c.serial_places.result.now c.first_turned.result
+    (sym c.of-search.ensures.items) c.serial_places.ensures (ap asked_of c.of-search.ensures.asked) c.first_turned.ensures
+    ∙ c.in-Some.is)).1
 
 pub returns-in-None-clause-ok : goal.returns-in-None-clause-ok
 returns-in-None-clause-ok g c =
-    none_found c.args.log.now (first_is c.args.log.now c.of-search.result.items.now (asked_of c.of-search.result.asked) c.serial_places.result.now c.first_turned.result (sym c.of-search.ensures.items) c.serial_places.ensures (ap asked_of c.of-search.ensures.asked) c.first_turned.ensures ∙ c.in-None.is)
+    none_found c.args.log.now (first_is c.args.log.now c.of-search.result.items.now
+    (asked_of c.of-search.result.asked) c.serial_places.result.now c.first_turned.result
+    (sym c.of-search.ensures.items) c.serial_places.ensures (ap asked_of c.of-search.ensures.asked) c.first_turned.ensures
+    ∙ c.in-None.is)

@@ -12,12 +12,16 @@ loop-pair-init g c =
 
 pub loop-pair-preserved-then-are_tasks : goal.loop-pair-preserved-then-are_tasks
 loop-pair-preserved-then-are_tasks g c =
-    let one = count_here (are_tasks c.items-items.result.now) c.loop-pair.pair-iterator c.in-Some.pair c.next.new.self c.in-Some.ensures.steps (sym c.are_tasks.ensures ∙ c.if-are_tasks.true) in
+    let one = count_here
+    (are_tasks c.items-items.result.now) c.loop-pair.pair-iterator c.in-Some.pair c.next.new.self c.in-Some.ensures.steps
+    (sym c.are_tasks.ensures ∙ c.if-are_tasks.true) in
     (tt, tt, omega (arith, one, c.loop-pair.invariant.2), c.loop-pair.invariant.3)
 
 pub loop-pair-preserved : goal.loop-pair-preserved
 loop-pair-preserved g c =
-    let none = count_past (are_tasks c.items-items.result.now) c.loop-pair.pair-iterator c.in-Some.pair c.next.new.self c.in-Some.ensures.steps (sym c.are_tasks.ensures ∙ c.if-are_tasks.false) in
+    let none = count_past
+    (are_tasks c.items-items.result.now) c.loop-pair.pair-iterator c.in-Some.pair c.next.new.self c.in-Some.ensures.steps
+    (sym c.are_tasks.ensures ∙ c.if-are_tasks.false) in
     (tt, tt, omega (arith, none, c.loop-pair.invariant.2), c.loop-pair.invariant.3)
 
 pub returns : goal.returns

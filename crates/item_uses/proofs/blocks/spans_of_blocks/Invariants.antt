@@ -7,5 +7,6 @@ use Rattle.item_uses.proofs.blocks.spans_of_blocks.Given as goal
 abbrev pub invariant-loop-k : goal.invariant-loop-k
 invariant-loop-k g l = record {
   long : length l.blocks.items ≡ l.k;
-  bounds : (k i : ℕ) (d : Span) → k < length l.blocks.items → 64 * k ≤ i → i < 64 * k + 64 → i < length l.items → Bounds (get_or l.blocks.items k d) (usages_at l.items i);
+  bounds : (k i : ℕ) (d : Span) → k < length l.blocks.items → 64 * k ≤ i → i < 64 * k + 64 → i < length l.items
+      → Bounds (get_or l.blocks.items k d) (usages_at l.items i);
 }

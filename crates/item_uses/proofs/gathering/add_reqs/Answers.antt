@@ -6,7 +6,8 @@ pub loop-req-init : goal.loop-req-init
 loop-req-init g c = c.requires ∙ sym (usages_without_reqs c.args.draft.now)
 
 pub add_req-requires-clause-each : goal.add_req-requires-clause-each
-add_req-requires-clause-each g c = ap length c.loop-req.invariant ∙ usages_length (with_reqs c.args.draft.now (take c.loop-req.req-index c.reqs-req-items.result.now))
+add_req-requires-clause-each g c = ap length c.loop-req.invariant
+    ∙ usages_length (with_reqs c.args.draft.now (take c.loop-req.req-index c.reqs-req-items.result.now))
 
 pub loop-req-preserved : goal.loop-req-preserved
 loop-req-preserved g c =

@@ -24,5 +24,6 @@ returns-clause-none c =
     let o = c.first_up_to.result in
     let perm = subst (λ (xs : List Claim). IsPermutation xs sorted) c.in_ok-sorted.ensures.items c.sort.ensures.claims in
     let found = subst (λ (xs : List Claim). IsFirstUpTo xs most o) c.as_slice-2.ensures.value c.first_up_to.ensures in
-    let above = subst (λ (xs : List Claim). (x : Claim) → Contains xs x → x.record ≤ most) c.as_slice.ensures.value c.highest_record-highest.ensures in
+    let above = subst (λ (xs : List Claim). (x : Claim) → Contains xs x
+    → x.record ≤ most) c.as_slice.ensures.value c.highest_record-highest.ensures in
     none_found c.args.claims.now sorted most o perm above found

@@ -4,4 +4,5 @@ use Rattle.launch_claims.specs.declared.requirement.Requirement.{Requirement}
 use Rattle.launch_claims.proofs.interference.sort_by_task.Goals as goal
 
 pub returns-clause-order : goal.returns-clause-order
-returns-clause-order c = IsNonDecreasingBy-from_sort_by_key (λ (r : Requirement). r.task) _ c.sort_unstable_by_key.ensures.sorted (λ a r q k. search rules)
+returns-clause-order c = IsNonDecreasingBy-from_sort_by_key (λ (r : Requirement). r.task) _ c.sort_unstable_by_key.ensures.sorted
+    (λ a r q k. search rules)

@@ -15,7 +15,10 @@ returns c =
     c.partition_point.ensures.partitioned (λ (r : Requirement). nat_lt r.task t) (always_returns_same _ _ _ (λ a r f called. search rules))
     (IsPartitionedBy-ltb (λ (r : Requirement). r.task) reqs t c.requires) in
     record {
-      below = λ u. subst (λ (xs : List Requirement). Contains xs u ↔ (Contains reqs u × (u.task < t))) (sym c.split_at.ensures.front) (in_front (λ (r : Requirement). r.task) t reqs i parts u);
-      others = λ u. subst (λ (xs : List Requirement). Contains xs u ↔ (Contains reqs u × (t ≤ u.task))) (sym c.split_at.ensures.back) (in_back (λ (r : Requirement). r.task) t reqs i parts u);
-      order = subst (IsNonDecreasingBy (λ (r : Requirement). r.task)) (sym c.split_at.ensures.front) (IsNonDecreasingBy-take (λ (r : Requirement). r.task) i reqs c.requires);
+      below = λ u. subst (λ (xs : List Requirement). Contains xs u ↔ (Contains reqs u × (u.task < t))) (sym c.split_at.ensures.front)
+          (in_front (λ (r : Requirement). r.task) t reqs i parts u);
+      others = λ u. subst (λ (xs : List Requirement). Contains xs u ↔ (Contains reqs u × (t ≤ u.task))) (sym c.split_at.ensures.back)
+          (in_back (λ (r : Requirement). r.task) t reqs i parts u);
+      order = subst (IsNonDecreasingBy (λ (r : Requirement). r.task)) (sym c.split_at.ensures.front)
+          (IsNonDecreasingBy-take (λ (r : Requirement). r.task) i reqs c.requires);
     }

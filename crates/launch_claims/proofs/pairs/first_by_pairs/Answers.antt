@@ -15,8 +15,11 @@ loop-req-preserved c =
     let so_far = c.loop-req.invariant in
     let within = c.loop-req-test.true in
     elim c.if-interferes_with_some.branch [
-      | then-interferes_with_some w ↦ subst (IsLeast (AmongPairs l (take (k + 1) reqs) reqs)) (sym (w.first-is ∙ ap (λ (m : ℕ). Some m) w.least_with.ensures)) (pairs_found l reqs k _ c.loop-req.first c.interferes_with_some.result within c.interferes_with_some.ensures w.if-interferes_with_some.true so_far)
-      | else-interferes_with_some w ↦ subst (IsLeast (AmongPairs l (take (k + 1) reqs) reqs)) (sym w.first-is) (pairs_passed l reqs k _ c.loop-req.first c.interferes_with_some.result within c.interferes_with_some.ensures w.if-interferes_with_some.false so_far)
+      | then-interferes_with_some w ↦ subst (IsLeast (AmongPairs l (take (k + 1) reqs) reqs))
+          (sym (w.first-is ∙ ap (λ (m : ℕ). Some m) w.least_with.ensures))
+          (pairs_found l reqs k _ c.loop-req.first c.interferes_with_some.result within c.interferes_with_some.ensures w.if-interferes_with_some.true so_far)
+      | else-interferes_with_some w ↦ subst (IsLeast (AmongPairs l (take (k + 1) reqs) reqs)) (sym w.first-is)
+          (pairs_passed l reqs k _ c.loop-req.first c.interferes_with_some.result within c.interferes_with_some.ensures w.if-interferes_with_some.false so_far)
     ]
 
 pub returns : goal.returns

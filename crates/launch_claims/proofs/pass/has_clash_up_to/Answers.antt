@@ -21,13 +21,16 @@ loop-claim-preserved c =
           let more = sym (seen_more n claims k blank within (omega (arith, w.if-claim-number.true))) in
           let told = w.clashes_so_far.ensures seen inv.reach behind inv.none in
           record {
-            reach = subst (λ o. MeasuresSoFar o (asked_below n (take (k + 1) claims))) (sym w.reach-is) (subst (Measures w.reach_with.result) more (w.reach_with.ensures seen inv.reach behind));
-            none = subst (λ s. ¬ HasClash s) more (none_more seen here inv.none (λ some. both_ways w.clashes_so_far.result w.if-clashes_so_far.false (told.1 some)));
+            reach = subst (λ o. MeasuresSoFar o (asked_below n (take (k + 1) claims))) (sym w.reach-is)
+                (subst (Measures w.reach_with.result) more (w.reach_with.ensures seen inv.reach behind));
+            none = subst (λ s. ¬ HasClash s) more (none_more seen here inv.none
+                (λ some. both_ways w.clashes_so_far.result w.if-clashes_so_far.false (told.1 some)));
           }
       | else-claim-number w ↦
           let same = sym (seen_same n claims k blank within (omega (arith, w.if-claim-number.false))) in
           record {
-            reach = subst (λ o. MeasuresSoFar o (asked_below n (take (k + 1) claims))) (sym w.reach-is) (subst (MeasuresSoFar c.loop-claim.reach) same inv.reach);
+            reach = subst (λ o. MeasuresSoFar o (asked_below n (take (k + 1) claims))) (sym w.reach-is)
+                (subst (MeasuresSoFar c.loop-claim.reach) same inv.reach);
             none = subst (λ s. ¬ HasClash s) same inv.none;
           }
     ]

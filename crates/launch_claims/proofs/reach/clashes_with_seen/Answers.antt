@@ -6,7 +6,8 @@ use Rattle.launch_claims.proofs.reach.clashes_with_seen.Goals as goal
 pub returns-then-not-share_field : goal.returns-then-not-share_field
 returns-then-not-share_field c = λ seen h behind none. (
   λ told. absurd (false≢true told),
-  λ some. absurd (no_clash_apart seen c.args.reach.now c.args.claim.now (sym c.share_field.ensures ∙ c.if-not-share_field.true) h behind some),
+  λ some. absurd (no_clash_apart seen c.args.reach.now c.args.claim.now (sym c.share_field.ensures
+      ∙ c.if-not-share_field.true) h behind some),
 )
 
 pub returns-then-claim : goal.returns-then-claim
@@ -22,7 +23,8 @@ returns-then-is_within c = λ seen h behind none.
     let p = c.reach_of_other_accesses-accesses.result in
     let tasks = c.reach_of_other_tasks-tasks.ensures seen h in
     let accesses = c.reach_of_other_accesses-accesses.ensures seen h in (
-      λ told. clash_where_both seen d o p tasks accesses behind c.if-claim.false none (c.is_within.ensures.0 c.if-is_within.true) (c.is_within-then-is_within.ensures.0 told),
+      λ told. clash_where_both seen d o p tasks accesses behind c.if-claim.false none (c.is_within.ensures.0 c.if-is_within.true)
+          (c.is_within-then-is_within.ensures.0 told),
       λ some. c.is_within-then-is_within.ensures.1 (both_where_clash seen d o p tasks accesses some).1,
     )
 

@@ -6,7 +6,8 @@ use Rattle.launch_laws.proofs.lemmas.WrittenLogs.{written_clean, written_good}
 use Rattle.launch_laws.proofs.laws.written_logs_are_logs.Goals as goal
 
 pub returns-clause-good : goal.returns-clause-good
-returns-clause-good c lines log good none = All-from_recursion Good (written_log log) (written_good lines log (recursion_from_All _ log good) none)
+returns-clause-good c lines log good none = All-from_recursion Good (written_log log)
+    (written_good lines log (recursion_from_All _ log good) none)
 
 pub returns-clause-fault : goal.returns-clause-fault
 returns-clause-fault c lines log good none = written_clean lines log (recursion_from_All _ log good) none

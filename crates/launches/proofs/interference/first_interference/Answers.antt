@@ -18,7 +18,10 @@ returns c =
     let spaces = map space_seen c.in_ok-spaces.spaces in
     let tasks = c.as_slice-4.result.now in
     let reqs = c.as_slice-5.result.now in
-    let are = c.as_slice-4.ensures.value ∙ c.in_ok-tasks.ensures ∙ ap (λ (ns : List ℕ). map tasks_by (zip ns launches)) c.as_slice-3.ensures.value in
+    let are = c.as_slice-4.ensures.value ∙ c.in_ok-tasks.ensures
+    ∙ ap (λ (ns : List ℕ). map tasks_by (zip ns launches)) c.as_slice-3.ensures.value in
     let declared = c.in_ok-spaces.ensures ∙ ap (λ (ns : List ℕ). filter_map space_by_record (zip ns written)) c.as_slice.ensures.value in
-    let asked = ap (λ (rs : List Requirement). map use_seen rs) c.as_slice-5.ensures.value ∙ c.in_ok-reqs.ensures ∙ ap (λ (ns : List ℕ). filter_map (asked_by spaces) (zip ns written)) c.as_slice-2.ensures.value in
-    IfOk-weaker c.first_interference.result (IsLeast (InterferesAt tasks reqs)) (IsLeast (BreaksAt ls ws)) (λ o. first_broken ls ws tasks spaces reqs o c.requires.order are declared asked) c.first_interference.ensures
+    let asked = ap (λ (rs : List Requirement). map use_seen rs) c.as_slice-5.ensures.value ∙ c.in_ok-reqs.ensures
+    ∙ ap (λ (ns : List ℕ). filter_map (asked_by spaces) (zip ns written)) c.as_slice-2.ensures.value in
+    IfOk-weaker c.first_interference.result (IsLeast (InterferesAt tasks reqs)) (IsLeast (BreaksAt ls ws))
+    (λ o. first_broken ls ws tasks spaces reqs o c.requires.order are declared asked) c.first_interference.ensures

@@ -30,7 +30,8 @@ returns c =
     let none = none_where c.early_broken-early.result (sym c.is_some.ensures ∙ c.if-is_some.false) in
     let step = c.in_ok-write.ensures.step in
     record {
-      code = late_told e c.args.rec _ c.late_broken.result (sym c.early_broken-early.ensures ∙ none) (ap (λ (x : Expanded). x.written) step) c.late_broken.ensures;
+      code = late_told e c.args.rec _ c.late_broken.result (sym c.early_broken-early.ensures ∙ none)
+          (ap (λ (x : Expanded). x.written) step) c.late_broken.ensures;
       step = λ kept. step;
       kept = kept_more e _ c.args.rec step;
       fit = c.in_ok-write.ensures.fit;

@@ -4,4 +4,5 @@ use Rattle.launches.specs.Steps.{expanded_as}
 use Rattle.launches.proofs.rules.repeats_launch.Goals as goal
 
 pub returns-in-Launch : goal.returns-in-Launch
-returns-in-Launch c = λ written. c.has_launch.ensures written ∙ ap (repeats_launch (expanded_as c.args.launches.now written)) (sym c.in-Launch.is)
+returns-in-Launch c = λ written. c.has_launch.ensures written
+    ∙ ap (repeats_launch (expanded_as c.args.launches.now written)) (sym c.in-Launch.is)

@@ -22,5 +22,6 @@ write_reqs-requires c =
       id = good_base a.base a.tree a.part a.fields a.access a.atomic good;
       good = good_reqs a.base a.tree a.part a.fields a.access a.atomic good;
       fit = c.requires.fit;
-      found = none_lacking e a.base a.tree a.part a.fields a.access a.atomic (subst (λ r. names_no_launch e r ≡ false) a.is c.requires.known);
+      found = none_lacking e a.base a.tree a.part a.fields a.access a.atomic
+          (subst (λ r. names_no_launch e r ≡ false) a.is c.requires.known);
     }

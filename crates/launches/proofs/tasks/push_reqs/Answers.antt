@@ -16,10 +16,13 @@ loop-colour-preserved c =
     record {
       at = omega (arith, inv.at);
       same = λ other.
-          ap (λ (rs : List Record). space_by rs reqs.part other) (c.in_ok-push.ensures ∙ ap (λ (r : Record). was ++ r ∷ []) c.in_ok-rec.ensures.req)
-          ∙ space_stays was id reqs.tree (unwrap_or (space_by was reqs.part colour) 0) reqs.fields.now reqs.access reqs.atomic reqs.part other
+          ap (λ (rs : List Record). space_by rs reqs.part other) (c.in_ok-push.ensures
+          ∙ ap (λ (r : Record). was ++ r ∷ []) c.in_ok-rec.ensures.req)
+          ∙ space_stays was id reqs.tree (unwrap_or
+          (space_by was reqs.part colour) 0) reqs.fields.now reqs.access reqs.atomic reqs.part other
           ∙ inv.same other;
-      written = one_task_more (req_for c.args.writing.now reqs) c.args.writing.now was c.push.new.self c.args.base id c.loop-colour.colour-index c.args.colours.now inv.written inv.at c.loop-colour-test.true
+      written = one_task_more
+          (req_for c.args.writing.now reqs) c.args.writing.now was c.push.new.self c.args.base id c.loop-colour.colour-index c.args.colours.now inv.written inv.at c.loop-colour-test.true
           (c.in_ok-push.ensures ∙ ap (λ (r : Record). was ++ r ∷ []) (c.in_ok-rec.ensures.req
           ∙ ap (λ (o : Option ℕ). records.Req id reqs.tree (unwrap_or o 0) reqs.fields.now reqs.access reqs.atomic) (inv.same colour)));
     }

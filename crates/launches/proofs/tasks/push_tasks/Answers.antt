@@ -8,5 +8,6 @@ loop-colour-preserved c =
     let inv = c.loop-colour.invariant in
     record {
       at = omega (arith, inv.at);
-      written = one_task_more (λ id colour. records.Task id) c.args.writing.now c.loop-colour.writing c.push.new.self c.args.base c.loop-colour.id c.loop-colour._colour-index c.args.colours.now inv.written inv.at c.loop-colour-test.true c.in_ok-push.ensures;
+      written = one_task_more
+          (λ id colour. records.Task id) c.args.writing.now c.loop-colour.writing c.push.new.self c.args.base c.loop-colour.id c.loop-colour._colour-index c.args.colours.now inv.written inv.at c.loop-colour-test.true c.in_ok-push.ensures;
     }

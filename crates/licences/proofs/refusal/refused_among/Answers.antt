@@ -11,10 +11,12 @@ loop-field-preserved g c =
     let asked = c.args.asked.now in
     let i = c.loop-field.field-index in
     let fields = c.fields-field-items.result.now in
-    let here = subst (λ (fs : List ℕ). IsLeastAmong all asked (take i fs) c.loop-field.least) (sym c.fields-field-items.ensures) c.loop-field.invariant in
+    let here = subst (λ (fs : List ℕ). IsLeastAmong all asked (take i fs) c.loop-field.least)
+    (sym c.fields-field-items.ensures) c.loop-field.invariant in
     let next = field_step all asked fields i c.loop-field.least c.refused_at.result c.loop-field-test.true here c.refused_at.ensures in
     subst (λ o. IsLeastAmong all asked (take (i + 1) asked.fields) o) (sym c.lesser_of-least.ensures)
-    (subst (λ (fs : List ℕ). IsLeastAmong all asked (take (i + 1) fs) (lesser_place c.loop-field.least c.refused_at.result)) c.fields-field-items.ensures next)
+    (subst (λ (fs : List ℕ). IsLeastAmong all asked (take (i + 1) fs)
+    (lesser_place c.loop-field.least c.refused_at.result)) c.fields-field-items.ensures next)
 
 pub returns : goal.returns
 returns g c =
@@ -22,4 +24,5 @@ returns g c =
     let asked = c.args.asked.now in
     let end = subst (λ (fs : List ℕ). length fs ≤ c.loop-field.field-index) c.fields-field-items.ensures c.loop-field-test.false in
     least_told all asked c.loop-field.least
-    (subst (λ (fs : List ℕ). IsLeastAmong all asked fs c.loop-field.least) (take_all c.loop-field.field-index asked.fields end) c.loop-field.invariant)
+    (subst (λ (fs : List ℕ). IsLeastAmong all asked fs c.loop-field.least)
+    (take_all c.loop-field.field-index asked.fields end) c.loop-field.invariant)

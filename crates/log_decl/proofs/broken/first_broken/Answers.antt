@@ -5,7 +5,8 @@ use Rattle.log_decl.specs.Walk.{breaks_other, seen}
 use Rattle.log_decl.proofs.broken.first_broken.Goals as goal
 
 -- Where the first does not pass, the others tell.
-past_first : {X : Type 0} (test : X → Bool) (xs : List X) (d : X) → 1 ≤ length xs → test (get_or xs 0 d) ≡ false → find test (take (length xs - 1) (drop 1 xs)) ≡ find test xs
+past_first : {X : Type 0} (test : X → Bool) (xs : List X) (d : X) → 1 ≤ length xs → test (get_or xs 0 d) ≡ false
+    → find test (take (length xs - 1) (drop 1 xs)) ≡ find test xs
 past_first test [] d some fails = absurd (omega (arith, some))
 past_first test (x ∷ xs) d some fails =
     let others : length (x ∷ xs) - 1 ≡ length xs = omega arith in
@@ -16,5 +17,6 @@ loop-rest-init g c = λ earlier is at. ap (find (breaks_other (seen c.args.at.no
 
 pub loop-rest-preserved : goal.loop-rest-preserved
 loop-rest-preserved g c = λ earlier is at.
-    past_first (breaks_other (seen c.args.at.now earlier)) c.loop-rest.rest.now TooLong c.in-len1-up.len_at_least (sym (c.in_ok-breaks.ensures earlier is at) ∙ c.if-branch.false)
+    past_first (breaks_other (seen c.args.at.now earlier)) c.loop-rest.rest.now TooLong c.in-len1-up.len_at_least
+    (sym (c.in_ok-breaks.ensures earlier is at) ∙ c.if-branch.false)
     ∙ c.loop-rest.invariant earlier is at

@@ -6,11 +6,21 @@ use Rattle.log_decl.proofs.Ending.{after_frame}
 use Rattle.log_decl.proofs.declaring.declarations.Goals as goal
 
 pub grow-requires : goal.grow-requires
-grow-requires g c κs = ((refl, tt), (c.new-draft.ensures, ((λ k d lt. good_ascends _ (c.requires.good k d lt)), few_records c.args.lines c.args.records.now c.requires.lines)))
+grow-requires g c κs = (
+  (refl, tt),
+  (
+    c.new-draft.ensures,
+    (
+      (λ k d lt. good_ascends _ (c.requires.good k d lt)),
+      few_records c.args.lines c.args.records.now c.requires.lines,
+    ),
+  ),
+)
 
 pub returns-in-Ok-clause-faultless : goal.returns-in-Ok-clause-faultless
 returns-in-Ok-clause-faultless g c =
     let log = c.args.records.now in
-    after_frame (header_fault c.args.lines log) (ended_fault c.args.lines log) (count_fault log) (records_fault (records_of log) [] log) None
+    after_frame (header_fault c.args.lines log) (ended_fault c.args.lines log) (count_fault log)
+    (records_fault (records_of log) [] log) None
     (subst (λ o. o ≡ None) c.frame_fault.ensures c.in_default.is)
     c.in-Ok.ensures.faultless

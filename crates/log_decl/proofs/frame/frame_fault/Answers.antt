@@ -8,4 +8,6 @@ use Rattle.log_decl.proofs.frame.frame_fault.Goals as goal
 pub returns : goal.returns
 returns c =
     let lines = c.args.lines in
-    c.frame_fault.ensures ∙ ap (λ (log : List Lined). option_or (header_fault lines log) (option_or (ended_fault lines log) (count_fault log))) (map-id c.args.records.now)
+    c.frame_fault.ensures
+    ∙ ap (λ (log : List Lined). option_or (header_fault lines log) (option_or (ended_fault lines log) (count_fault log)))
+    (map-id c.args.records.now)

@@ -24,7 +24,9 @@ of-requires g c κs =
     )
 
 pub returns-in-Ok-of-clause-faultless : goal.returns-in-Ok-of-clause-faultless
-returns-in-Ok-of-clause-faultless g c = ap (λ (log : List Lined). declaration_fault c.args.lines log) (sym c.deref.ensures.value) ∙ c.in-Ok.ensures.faultless
+returns-in-Ok-of-clause-faultless g c = ap (λ (log : List Lined). declaration_fault c.args.lines log) (sym c.deref.ensures.value)
+    ∙ c.in-Ok.ensures.faultless
 
 pub returns-in-Err-clause-fault : goal.returns-in-Err-clause-fault
-returns-in-Err-clause-fault g c = λ line code is. ap (λ (log : List Lined). declaration_fault c.args.lines log) (sym c.deref.ensures.value) ∙ c.declarations.ensures.fault line code (grind (arith, c.in-Err.is, is))
+returns-in-Err-clause-fault g c = λ line code is. ap (λ (log : List Lined). declaration_fault c.args.lines log) (sym c.deref.ensures.value)
+    ∙ c.declarations.ensures.fault line code (grind (arith, c.in-Err.is, is))

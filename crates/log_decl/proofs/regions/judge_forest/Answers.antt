@@ -24,7 +24,8 @@ line_of_sub-requires g c =
     let is = c.regions.ensures ∙ ap regions_of c.requires.tables in
     let keep = c.requires.keep in
     let arm = c.in-Err-NotWithin in
-    let first = subst (λ (d : Regions). FirstNotWithin d arm.sub arm.field-0-1) is (c.judge.ensures.not_within arm.sub arm.field-0-1 (arm.is ∙ ap (λ e. Err e) arm.field-0-is)) in
+    let first = subst (λ (d : Regions). FirstNotWithin d arm.sub arm.field-0-1) is
+    (c.judge.ensures.not_within arm.sub arm.field-0-1 (arm.is ∙ ap (λ e. Err e) arm.field-0-is)) in
     listed c.args.records.now arm.sub codes.NotWithin (not_within keep.0 c.args.records.now keep.1 arm.sub arm.field-0-1 first)
 
 pub returns-in-Err-NotWithin-clause-fault : goal.returns-in-Err-NotWithin-clause-fault
@@ -32,8 +33,10 @@ returns-in-Err-NotWithin-clause-fault g c = λ line code e.
     let is = c.regions.ensures ∙ ap regions_of c.requires.tables in
     let keep = c.requires.keep in
     let arm = c.in-Err-NotWithin in
-    let first = subst (λ (d : Regions). FirstNotWithin d arm.sub arm.field-0-1) is (c.judge.ensures.not_within arm.sub arm.field-0-1 (arm.is ∙ ap (λ e. Err e) arm.field-0-is)) in
-    let told = told_at c.args.records.now arm.sub codes.NotWithin c.line_of_sub.result (not_within keep.0 c.args.records.now keep.1 arm.sub arm.field-0-1 first) c.line_of_sub.ensures in
+    let first = subst (λ (d : Regions). FirstNotWithin d arm.sub arm.field-0-1) is
+    (c.judge.ensures.not_within arm.sub arm.field-0-1 (arm.is ∙ ap (λ e. Err e) arm.field-0-is)) in
+    let told = told_at c.args.records.now arm.sub codes.NotWithin c.line_of_sub.result
+    (not_within keep.0 c.args.records.now keep.1 arm.sub arm.field-0-1 first) c.line_of_sub.ensures in
     same_fault _ _ line _ code told e
 
 pub line_of_sub-requires-in-Err-NotDisjoint : goal.line_of_sub-requires-in-Err-NotDisjoint
@@ -41,14 +44,18 @@ line_of_sub-requires-in-Err-NotDisjoint g c =
     let is = c.regions.ensures ∙ ap regions_of c.requires.tables in
     let keep = c.requires.keep in
     let arm = c.in-Err-NotDisjoint in
-    let first = subst (λ (d : Regions). FirstNotDisjoint d arm.sub arm.field-0-1 arm.field-0-2) is (c.judge.ensures.not_disjoint arm.sub arm.field-0-1 arm.field-0-2 (arm.is ∙ ap (λ e. Err e) arm.field-0-is)) in
-    listed c.args.records.now arm.sub codes.NotDisjoint (not_disjoint keep.0 c.args.records.now keep.1 arm.sub arm.field-0-1 arm.field-0-2 first)
+    let first = subst (λ (d : Regions). FirstNotDisjoint d arm.sub arm.field-0-1 arm.field-0-2) is
+    (c.judge.ensures.not_disjoint arm.sub arm.field-0-1 arm.field-0-2 (arm.is ∙ ap (λ e. Err e) arm.field-0-is)) in
+    listed c.args.records.now arm.sub codes.NotDisjoint
+    (not_disjoint keep.0 c.args.records.now keep.1 arm.sub arm.field-0-1 arm.field-0-2 first)
 
 pub returns-in-Err-NotDisjoint-clause-fault : goal.returns-in-Err-NotDisjoint-clause-fault
 returns-in-Err-NotDisjoint-clause-fault g c = λ line code e.
     let is = c.regions.ensures ∙ ap regions_of c.requires.tables in
     let keep = c.requires.keep in
     let arm = c.in-Err-NotDisjoint in
-    let first = subst (λ (d : Regions). FirstNotDisjoint d arm.sub arm.field-0-1 arm.field-0-2) is (c.judge.ensures.not_disjoint arm.sub arm.field-0-1 arm.field-0-2 (arm.is ∙ ap (λ e. Err e) arm.field-0-is)) in
-    let told = told_at c.args.records.now arm.sub codes.NotDisjoint c.line_of_sub-in-Err-NotDisjoint.result (not_disjoint keep.0 c.args.records.now keep.1 arm.sub arm.field-0-1 arm.field-0-2 first) c.line_of_sub-in-Err-NotDisjoint.ensures in
+    let first = subst (λ (d : Regions). FirstNotDisjoint d arm.sub arm.field-0-1 arm.field-0-2) is
+    (c.judge.ensures.not_disjoint arm.sub arm.field-0-1 arm.field-0-2 (arm.is ∙ ap (λ e. Err e) arm.field-0-is)) in
+    let told = told_at c.args.records.now arm.sub codes.NotDisjoint c.line_of_sub-in-Err-NotDisjoint.result
+    (not_disjoint keep.0 c.args.records.now keep.1 arm.sub arm.field-0-1 arm.field-0-2 first) c.line_of_sub-in-Err-NotDisjoint.ensures in
     same_fault _ _ line _ code told e

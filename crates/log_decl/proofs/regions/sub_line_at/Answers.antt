@@ -10,4 +10,6 @@ pub returns : goal.returns
 returns c =
     sym (option_map_id c.nth.result)
     ∙ nth_from_yields_List c.nth.result _ c.args.sub c.nth.ensures.ran
-    (YieldsList-from_filter_map _ (λ (l : Lined). sub_line l.line l.rec) (YieldsList-from_slice c.args.records.now (ap (λ s. s.rest.now) c.filter_map.ensures.source ∙ c.iter.ensures.rest)) c.filter_map.ensures.closure (λ x r q k. search rules))
+    (YieldsList-from_filter_map _ (λ (l : Lined). sub_line l.line l.rec)
+    (YieldsList-from_slice c.args.records.now (ap (λ s. s.rest.now) c.filter_map.ensures.source
+    ∙ c.iter.ensures.rest)) c.filter_map.ensures.closure (λ x r q k. search rules))

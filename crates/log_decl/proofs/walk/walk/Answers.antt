@@ -27,7 +27,9 @@ loop-l-preserved g c =
     let l = c.l-item.result in
     let r = c.l-item.result.rec in
     let told = c.in_ok-code.ensures es inv.tally (counted log c.loop-l.kept i inv.at (omega (arith, c.loop-l-test.true))) in
-    let none : broken_of (records_of log) es t r ≡ None = ap (λ (w : List Record). broken_of w es t r) (sym c.requires.whole) ∙ sym told ∙ none_where c.in_ok-code.code (sym c.is_some.ensures ∙ c.if-is_some.false) in
+    let none : broken_of (records_of log) es t r ≡ None =
+    ap (λ (w : List Record). broken_of w es t r) (sym c.requires.whole) ∙ sym told
+    ∙ none_where c.in_ok-code.code (sym c.is_some.ensures ∙ c.if-is_some.false) in
     let next = c.in_ok-add.ensures.ok in
     let tally = c.in_ok-tally.ensures es l.line inv.tally (may_count (records_of log) es t r none) in
     record {

@@ -7,8 +7,13 @@ use Rattle.log_findings.proofs.dependences.deps_of.Goals as goal
 
 pub loop-pair-init : goal.loop-pair-init
 loop-pair-init g c =
-    let same = c.into_iter-pair-iterator.ensures.into_iter_gives ∙ c.pairs-pair-items.ensures in
-    (tt, tt, λ p m. subst (λ ps. Contains ps p) same m, all_listed c.args.log.now (pair_place c.args.log.now) c.new-list.result.items c.into_iter-pair-iterator.result c.new-list.ensures.items same)
+    let same = c.into_iter-pair-iterator.ensures.into_iter_gives ∙ c.pairs-pair-items.ensures in (
+      tt,
+      tt,
+      λ p m. subst (λ ps. Contains ps p) same m,
+      all_listed c.args.log.now
+          (pair_place c.args.log.now) c.new-list.result.items c.into_iter-pair-iterator.result c.new-list.ensures.items same,
+    )
 
 pub dep_of-one-requires : goal.dep_of-one-requires
 dep_of-one-requires g c =

@@ -8,7 +8,8 @@ use Rattle.log_laws.proofs.lemmas.SerialOrder.{serial_has_each}
 use Rattle.log_laws.proofs.serial_laws.serial_order_lists.Goals as goal
 
 pub returns-clause-once : goal.returns-clause-once
-returns-clause-once c lines log none = all_pairs (λ a b. a ≢ b) (serial (tables_of log)) (serial_has_each log (no_broken_rule lines log none)).0
+returns-clause-once c lines log none = all_pairs (λ a b. a ≢ b) (serial (tables_of log))
+    (serial_has_each log (no_broken_rule lines log none)).0
 
 pub returns-clause-items : goal.returns-clause-items
 returns-clause-items c lines log none item =

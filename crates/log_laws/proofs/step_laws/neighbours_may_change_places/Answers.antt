@@ -14,7 +14,10 @@ returns-clause-interleaving c = swapped
 pub returns-clause-state : goal.returns-clause-state
 returns-clause-state c lines log none free x y u =
     let tidy = faultless_tidy log (faultless Check lines log none) in
-    swapped_state x.move y.move (calm (tables_of log) tidy free x y u.one_in u.other_in (u.differ, u.not_after) (λ e. u.differ (sym e), u.not_before))
+    swapped_state x.move y.move (calm (tables_of log) tidy free x y u.one_in u.other_in (u.differ, u.not_after) (
+      λ e. u.differ (sym e),
+      u.not_before,
+    ))
 
 pub returns-clause-sight : goal.returns-clause-sight
 returns-clause-sight c lines log none free x y u s =

@@ -13,4 +13,5 @@ returns c lines log good none =
     let t = tables_of log in
     let f = faultless Check lines log none in
     let clear = strict Check log good f in
-    all_pairs (λ x y. x ≢ y) (steps t) (steps_once t (at_position t Apart tt (λ n m. moves_once t (sane Check log f) (all_mapped log f) clear n.op (clear.operations n m))))
+    all_pairs (λ x y. x ≢ y) (steps t) (steps_once t
+    (at_position t Apart tt (λ n m. moves_once t (sane Check log f) (all_mapped log f) clear n.op (clear.operations n m))))

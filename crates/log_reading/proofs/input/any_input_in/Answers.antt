@@ -10,14 +10,17 @@ use Rattle.log_reading.specs.declared.reading.SpellEnd.{SpellEnd}
 use Rattle.log_reading.proofs.lemmas.Lines.{lines_fault_is, lines_spell, long_by, same_end}
 use Rattle.log_reading.proofs.input.any_input_in.Goals as goal
 
-spelled_by : {R L : Type 0} (read : List ℕ → Result (Option R) LineFault) (IsGood : R → Type 0) (spelled : R → List ℕ) (on : ℕ → R → L) (bytes : List ℕ) (list : List (List ℕ)) (result : Result (Input L) SpellEnd)
+spelled_by : {R L : Type 0} (read : List ℕ → Result (Option R) LineFault) (IsGood : R → Type 0) (spelled : R → List ℕ) (on : ℕ → R → L)
+    (bytes : List ℕ) (list : List (List ℕ)) (result : Result (Input L) SpellEnd)
     → with_ends list ≡ bytes → All IsLine list → length bytes ≤ 2 ^ 26
-    → IfOk result (λ i. HoldBy IsGood spelled on 1 list i.records.items) → OnOk result (lines_fault_by read 1 list ≡ None) → IfOk result (λ i. i.lines ≡ length list)
+    → IfOk result (λ i. HoldBy IsGood spelled on 1 list i.records.items) → OnOk result (lines_fault_by read 1 list ≡ None)
+    → IfOk result (λ i. i.lines ≡ length list)
     → IfOk result (λ i. SpellsBy (text_fault_by read) IsGood spelled on bytes i.lines i.records.items)
 spelled_by read IsGood spelled on bytes list (Ok i) whole single short held clean count =
     let fits = subst (λ bs. length bs ≤ 2 ^ 26) (sym whole) short in
     subst (λ bs. SpellsBy (text_fault_by read) IsGood spelled on bs i.lines i.records.items) whole
-    (subst (λ n. SpellsBy (text_fault_by read) IsGood spelled on (with_ends list) n i.records.items) (sym count) (lines_spell read IsGood spelled on list i.records.items single fits clean held))
+    (subst (λ n. SpellsBy (text_fault_by read) IsGood spelled on (with_ends list) n i.records.items) (sym count)
+    (lines_spell read IsGood spelled on list i.records.items single fits clean held))
 spelled_by read IsGood spelled on bytes list (Err e) whole single short held clean count = tt
 
 pub returns-clause-spelled : goal.returns-clause-spelled
@@ -38,4 +41,5 @@ pub returns-then-len-gt-MOST_BYTES-clause-fault : goal.returns-then-len-gt-MOST_
 returns-then-len-gt-MOST_BYTES-clause-fault g c line code is =
     let read = g.L.LogLine.read in
     let long_input : 2 ^ 26 < length c.args.bytes.items = omega arith in
-    same_end (λ l k. text_fault_by read c.args.bytes.items ≡ Some (record { line = l; code = k })) 0 line TooLong code is (long_by read c.args.bytes.items long_input)
+    same_end (λ l k. text_fault_by read c.args.bytes.items ≡ Some (record { line = l; code = k })) 0 line TooLong code is
+    (long_by read c.args.bytes.items long_input)

@@ -15,8 +15,10 @@ loop-text-preserved g c =
     record {
       held = λ more h.
           let behind = held_behind g.L.LogLine.good g.L.LogLine.spelled g.L.LogLine.on line c.in-Some.text.now rest c.loop-text.records.items c.add_said.new.records.items more c.in_ok-said.said c.in_ok-said.ensures.said c.in_ok-add_said.ensures.said h in
-          subst (Held 1 c.args.list.now) behind.2 (c.loop-text.invariant.held behind.0 (subst (λ ls. Held line ls behind.0) (sym cut) behind.1));
-      fault = c.loop-text.invariant.fault ∙ ap (lines_fault_by g.L.LogLine.read line) cut ∙ ap (λ o. option_or o (lines_fault_by g.L.LogLine.read (line + 1) rest)) c.in_ok-said.ensures.clean;
+          subst (Held 1 c.args.list.now) behind.2 (c.loop-text.invariant.held behind.0
+          (subst (λ ls. Held line ls behind.0) (sym cut) behind.1));
+      fault = c.loop-text.invariant.fault ∙ ap (lines_fault_by g.L.LogLine.read line) cut
+          ∙ ap (λ o. option_or o (lines_fault_by g.L.LogLine.read (line + 1) rest)) c.in_ok-said.ensures.clean;
       count = omega (arith, c.loop-text.invariant.count, ap length cut);
       few = omega (arith, c.loop-text.invariant.few, ap length cut);
     }

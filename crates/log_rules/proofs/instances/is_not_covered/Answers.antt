@@ -8,7 +8,11 @@ returns-in-Map g c = c.lacks_of_req.ensures ∙ ap (is_not_covered c.args.draft.
 pub returns-in-Copy : goal.returns-in-Copy
 returns-in-Copy g c =
     let rule = is_not_covered c.args.draft.now in
-    elim c.in-Copy.is [ inl copy ↦ c.any_lacks-in-Copy.ensures ∙ ap rule (sym copy.2) | inr fold ↦ c.any_lacks-in-Copy.ensures ∙ ap rule (sym fold.2) ]
+    elim c.in-Copy.is [
+      | inl copy ↦ c.any_lacks-in-Copy.ensures ∙ ap rule (sym copy.2)
+      | inr fold ↦ c.any_lacks-in-Copy.ensures
+          ∙ ap rule (sym fold.2)
+    ]
 
 pub returns-in-Put : goal.returns-in-Put
 returns-in-Put g c =

@@ -9,7 +9,8 @@ pub returns-then-first_clashes : goal.returns-then-first_clashes
 returns-then-first_clashes g c = λ are.
     let t = c.args.draft.now in
     let claims = c.args.claims.now in
-    let kept = list_any (clashes_row claims c.args.asked.now.item c.args.asked.now.tree c.args.asked.now.fields.now c.args.asked.now.access) (points_in t c.args.asked.now.space) in
+    let kept = list_any (clashes_row claims c.args.asked.now.item c.args.asked.now.tree c.args.asked.now.fields.now c.args.asked.now.access)
+    (points_in t c.args.asked.now.space) in
     c.if-first_clashes.true
     ∙ ap (λ b. b || kept) (sym c.if-first_clashes.true ∙ c.first_clashes.ensures)
     ∙ own_by_claims t claims c.args.asked.now.item c.args.asked.now.tree c.args.asked.now.space c.args.asked.now.fields.now c.args.asked.now.access are
@@ -18,7 +19,8 @@ pub returns-else-first_clashes : goal.returns-else-first_clashes
 returns-else-first_clashes g c = λ are.
     let t = c.args.draft.now in
     let claims = c.args.claims.now in
-    let kept = list_any (clashes_row claims c.args.asked.now.item c.args.asked.now.tree c.args.asked.now.fields.now c.args.asked.now.access) (points_in t c.args.asked.now.space) in
+    let kept = list_any (clashes_row claims c.args.asked.now.item c.args.asked.now.tree c.args.asked.now.fields.now c.args.asked.now.access)
+    (points_in t c.args.asked.now.space) in
     c.clashes_with_claims.ensures
     ∙ ap (λ b. b || kept) (sym c.if-first_clashes.false ∙ c.first_clashes.ensures)
     ∙ own_by_claims t claims c.args.asked.now.item c.args.asked.now.tree c.args.asked.now.space c.args.asked.now.fields.now c.args.asked.now.access are

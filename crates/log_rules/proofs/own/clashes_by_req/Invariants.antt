@@ -5,4 +5,6 @@ use Rattle.log_rules.specs.Own.{clashes_with}
 use Rattle.log_rules.proofs.own.clashes_by_req.Given as goal
 
 abbrev pub invariant-loop-req : goal.invariant-loop-req
-invariant-loop-req g l = list_any (clashes_with l.draft l.asked.item l.asked.tree (points_in l.draft l.asked.space) l.asked.fields.now l.asked.access) (take l.req-index l.draft.reqs) ≡ false
+invariant-loop-req g l =
+    list_any (clashes_with l.draft l.asked.item l.asked.tree (points_in l.draft l.asked.space) l.asked.fields.now l.asked.access)
+    (take l.req-index l.draft.reqs) ≡ false

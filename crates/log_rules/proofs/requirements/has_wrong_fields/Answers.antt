@@ -7,5 +7,9 @@ returns-in-Req g c =
     let rule = has_wrong_fields c.args.draft.now in
     elim c.in-Req.is [
       | inl req ↦ c.exceeds_tree.ensures ∙ ap rule (sym req.4)
-      | inr other ↦ elim other [ inl fill ↦ c.exceeds_tree.ensures ∙ ap rule (sym fill.3) | inr inst ↦ c.exceeds_tree.ensures ∙ ap rule (sym inst.3) ]
+      | inr other ↦ elim other [
+        | inl fill ↦ c.exceeds_tree.ensures ∙ ap rule (sym fill.3)
+        | inr inst ↦ c.exceeds_tree.ensures
+            ∙ ap rule (sym inst.3)
+      ]
     ]

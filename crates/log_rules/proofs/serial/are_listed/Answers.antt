@@ -11,5 +11,6 @@ returns-then-not-is_listed c =
     let p : Record → Bool = is_listed (contains nat_eq c.args.listed.now) (contains nat_eq c.args.here.now) in
     sym
     (list_all-map p (λ (l : Lined). l.rec) log
-    ∙ list_all_at (λ (l : Lined). p l.rec) log c.loop-l.l-index c.l-item.result c.loop-l-test.true (ap (λ (l : Lined). p l.rec) (sym c.l-item.is) ∙ sym c.if-not-is_listed.ensures)
+    ∙ list_all_at (λ (l : Lined). p l.rec) log c.loop-l.l-index c.l-item.result c.loop-l-test.true
+    (ap (λ (l : Lined). p l.rec) (sym c.l-item.is) ∙ sym c.if-not-is_listed.ensures)
     )

@@ -10,6 +10,7 @@ pub returns-in-Some : goal.returns-in-Some
 returns-in-Some g c =
     let t = c.args.draft.now in
     let above = space_above t c.in-Some.part.space in
-    deep_test (length (spaces_above t c.in-Some.part.space)) c.height.result (c.height.ensures ∙ cut_off t (length t.subs) 64 c.min.result above (c.min.ensures ∙ ap (λ n. min n 64) c.sub_count.ensures))
+    deep_test (length (spaces_above t c.in-Some.part.space)) c.height.result (c.height.ensures
+    ∙ cut_off t (length t.subs) 64 c.min.result above (c.min.ensures ∙ ap (λ n. min n 64) c.sub_count.ensures))
     ∙ ap (λ (o : Option Part). nat_lt 64 (1 + option_map_or (λ (p : Part). length (spaces_above t p.space)) o 0)) c.in-Some.ensures
     ∙ ap (is_too_deep t) (sym c.in-Sub.is)

@@ -12,13 +12,15 @@ returns-then-req_count-eq0 g c = λ k a.
     let none = sym (c.req_count.ensures.count ∙ ap (reqs_before t.reqs) c.place-item.ensures) ∙ c.if-req_count-eq0.true in
     sym (or-false (clashes_in c.args.claims.now k a))
     ∙ ap (λ b. clashes_in c.args.claims.now k a || b)
-    (sym (first_claims_nothing t req.task req.tree req.space req.fields req.access req.atomic none k a) ∙ ap (λ r. claimed t r k a) (sym req.is))
+    (sym (first_claims_nothing t req.task req.tree req.space req.fields req.access req.atomic none k a)
+    ∙ ap (λ r. claimed t r k a) (sym req.is))
 
 pub returns-in_ok-claim_req-in-Req : goal.returns-in_ok-claim_req-in-Req
 returns-in_ok-claim_req-in-Req g c = λ k a.
     let t = c.args.draft.now in
     let req = c.in-Req in
-    let some : reqs_before t.reqs (place_of t.items req.task) ≡ 0 → ⊥ = λ none. c.if-req_count-eq0.false (c.req_count.ensures.count ∙ ap (reqs_before t.reqs) c.place-item.ensures ∙ none) in
+    let some : reqs_before t.reqs (place_of t.items req.task) ≡ 0 → ⊥ =
+    λ none. c.if-req_count-eq0.false (c.req_count.ensures.count ∙ ap (reqs_before t.reqs) c.place-item.ensures ∙ none) in
     let points = points_in t req.space in
     c.in_ok-claim_req-in-Req.ensures k a
     ∙ ap (λ b. clashes_in c.args.claims.now k a || b)

@@ -12,7 +12,9 @@ loop-field-preserved c = record {
       let fields = c.args.fields.now in
       let inv = c.loop-field.invariant in
       c.in_ok-note_first.ensures.ok k
-      ∙ ap (λ (o : Option ℕ). option_or o (cond (same_field (record { item = c.args.item; number = c.args.number; field = get_or fields i 0 }) k) (Some c.args.inst) None)) (inv.noted k)
+      ∙ ap (λ (o : Option ℕ). option_or o
+      (cond (same_field (record { item = c.args.item; number = c.args.number; field = get_or fields i 0 }) k) (Some c.args.inst) None))
+      (inv.noted k)
       ∙ fields_more (get same_field c.args.insts.now k) c.args.item c.args.number c.args.inst fields i 0 k c.loop-field-test.true;
   room = λ le. omega (arith, c.in_ok-note_first.ensures.spare, c.loop-field.invariant.room le);
 }

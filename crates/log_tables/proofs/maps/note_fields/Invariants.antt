@@ -6,6 +6,7 @@ use Rattle.log_tables.proofs.maps.note_fields.Given as goal
 
 abbrev pub invariant-loop-field : goal.invariant-loop-field
 invariant-loop-field l = record {
-  noted : NotesFirst (get same_field l.fn.insts) (get same_field l.insts) (names_field l.item l.number (take l.field-index l.fields)) l.inst;
+  noted : NotesFirst (get same_field l.fn.insts) (get same_field l.insts)
+      (names_field l.item l.number (take l.field-index l.fields)) l.inst;
   room : length l.fields ≤ spare l.fn.insts → length l.fields - l.field-index ≤ spare l.insts;
 }

@@ -9,7 +9,8 @@ pub returns : goal.returns
 returns c = record {
   exact = λ t n. (
     λ none child of r asks. child_licensed t n none child (member_of (children n) child of) r (member_of (reqs_of_child t n child) r asks),
-    λ all. none_shown t n (λ child of r asks. all child (contains_of (children n) child of) r (contains_of (reqs_of_child t n child) r asks)),
+    λ all. none_shown t n (λ child of r asks. all child (contains_of (children n) child of) r
+        (contains_of (reqs_of_child t n child) r asks)),
   );
   above = task_licensed;
 }

@@ -14,11 +14,13 @@ loop-l-init c =
     record {
       can = tt;
       finite = tt;
-      plain = ap (λ (xs : List Lined). xs ++ plain_log (into_iter_items c.into_iter-l-iterator.result)) c.new.ensures.items ∙ ap plain_log all;
+      plain = ap (λ (xs : List Lined). xs ++ plain_log (into_iter_items c.into_iter-l-iterator.result)) c.new.ensures.items
+          ∙ ap plain_log all;
       nested = (
         no_tables,
         subst (AreIds no_tables) (sym c.new-ids.ensures) (record { spaces = refl; trees = refl; tasks = refl }),
-        ap (λ (xs : List Pending). xs ++ pending_from no_tables (into_iter_items c.into_iter-l-iterator.result)) c.new-2.ensures.items ∙ ap (pending_from no_tables) all,
+        ap (λ (xs : List Pending). xs ++ pending_from no_tables (into_iter_items c.into_iter-l-iterator.result)) c.new-2.ensures.items
+            ∙ ap (pending_from no_tables) all,
       );
     }
 
@@ -32,12 +34,15 @@ loop-l-preserved c =
     record {
       can = tt;
       finite = tt;
-      plain = plain_step l rest c.loop-l.parts.plain.items c.push.new.parts.plain.items (plain_log c.args.records.items) c.in_ok-push.ensures.plain
+      plain = plain_step l rest c.loop-l.parts.plain.items c.push.new.parts.plain.items
+          (plain_log c.args.records.items) c.in_ok-push.ensures.plain
           (subst (λ (ls : List NLined). c.loop-l.parts.plain.items ++ plain_log ls ≡ plain_log c.args.records.items) here.0 inv.plain);
       nested = (
         with_plain t l,
         subst (AreIds (with_plain t l)) (sym c.in_ok-push.ensures.ids) (ids_more t c.loop-l.ids l.line l.rec inv.nested.1),
-        nested_step t c.loop-l.ids l rest c.loop-l.parts.nested.items c.push.new.parts.nested.items (pending_from no_tables c.args.records.items) inv.nested.1 c.in_ok-push.ensures.nested
-            (subst (λ (ls : List NLined). c.loop-l.parts.nested.items ++ pending_from t ls ≡ pending_from no_tables c.args.records.items) here.0 inv.nested.2),
+        nested_step t c.loop-l.ids l rest c.loop-l.parts.nested.items c.push.new.parts.nested.items
+            (pending_from no_tables c.args.records.items) inv.nested.1 c.in_ok-push.ensures.nested
+            (subst (λ (ls : List NLined). c.loop-l.parts.nested.items ++ pending_from t ls
+            ≡ pending_from no_tables c.args.records.items) here.0 inv.nested.2),
       );
     }

@@ -10,5 +10,6 @@ invariant-loop-l l = record {
   can : goal.iterator-loop-l.can_next l.l-iterator;
   finite : goal.iterator-loop-l.is_finite l.l-iterator;
   plain : l.parts.plain.items ++ plain_log (into_iter_items l.l-iterator) ≡ plain_log l.fn.records.items;
-  nested : (t : Tables) × AreIds t l.ids × (l.parts.nested.items ++ pending_from t (into_iter_items l.l-iterator) ≡ pending_from no_tables l.fn.records.items);
+  nested : (t : Tables) × AreIds t l.ids × (l.parts.nested.items ++ pending_from t (into_iter_items l.l-iterator)
+      ≡ pending_from no_tables l.fn.records.items);
 }

@@ -10,9 +10,11 @@ returns-in_default c = no_place c.args.groups.now c.args.id c.place.result c.pla
 pub returns-in_default-row_in_place : goal.returns-in_default-row_in_place
 returns-in_default-row_in_place c =
     sym (ap (λ o. option_and_then parent_of (option_copied o)) c.in_default-row_in_place.is)
-    ∙ at_place c.args.groups.now c.args.id c.in-Some.place c.place.result c.groups.result.now (option_copied c.row_in_place.result) c.place.ensures c.in-Some.is c.groups.ensures c.row_in_place.ensures
+    ∙ at_place c.args.groups.now c.args.id c.in-Some.place c.place.result c.groups.result.now
+    (option_copied c.row_in_place.result) c.place.ensures c.in-Some.is c.groups.ensures c.row_in_place.ensures
 
 pub returns : goal.returns
 returns c =
     c.parent_of.ensures ∙ sym (ap (λ o. option_and_then parent_of (option_copied o)) c.in-Some-row_in_place.is)
-    ∙ at_place c.args.groups.now c.args.id c.in-Some.place c.place.result c.groups.result.now (option_copied c.row_in_place.result) c.place.ensures c.in-Some.is c.groups.ensures c.row_in_place.ensures
+    ∙ at_place c.args.groups.now c.args.id c.in-Some.place c.place.result c.groups.result.now
+    (option_copied c.row_in_place.result) c.place.ensures c.in-Some.is c.groups.ensures c.row_in_place.ensures

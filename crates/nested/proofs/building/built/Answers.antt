@@ -3,13 +3,19 @@ use Rattle.nested.proofs.Origins.{end_told, faultless_told, good_told, licensed_
 use Rattle.nested.proofs.building.built.Goals as goal
 
 pub plain_log_of-requires : goal.plain_log_of-requires
-plain_log_of-requires g c κs = ((refl, tt), plain_told c.args.lines c.args.records.items c.in-Ok.field-0.plain.items c.in-Ok.ensures.plain c.requires.good c.requires.lines)
+plain_log_of-requires g c κs =
+    ((refl, tt), plain_told c.args.lines c.args.records.items c.in-Ok.field-0.plain.items c.in-Ok.ensures.plain c.requires.good c.requires.lines)
 
 pub nest_of-requires : goal.nest_of-requires
 nest_of-requires g c κs =
     let log = c.args.records.items in
-    let are = parts_told c.args.lines log c.in-Ok.field-0.plain.items c.in-Ok.field-0.nested.items c.in-Ok-plain_log_of.log c.in-Ok.ensures.plain c.in-Ok.ensures.nested c.in-Ok-plain_log_of.ensures.tables c.in-Ok-plain_log_of.ensures.faultless in
-    ((refl, tt), (good_told log c.in-Ok.field-0.nested.items c.in-Ok.ensures.nested c.requires.good, origin_told c.args.lines log c.in-Ok-plain_log_of.log c.in-Ok.field-0.nested.items are))
+    let are = parts_told c.args.lines log c.in-Ok.field-0.plain.items c.in-Ok.field-0.nested.items c.in-Ok-plain_log_of.log c.in-Ok.ensures.plain c.in-Ok.ensures.nested c.in-Ok-plain_log_of.ensures.tables c.in-Ok-plain_log_of.ensures.faultless in (
+      (refl, tt),
+      (
+        good_told log c.in-Ok.field-0.nested.items c.in-Ok.ensures.nested c.requires.good,
+        origin_told c.args.lines log c.in-Ok-plain_log_of.log c.in-Ok.field-0.nested.items are,
+      ),
+    )
 
 pub returns-in-Ok-nest_of-clause-seen : goal.returns-in-Ok-nest_of-clause-seen
 returns-in-Ok-nest_of-clause-seen g c =
@@ -44,4 +50,5 @@ returns-in-Err-nest_of-clause-end g c =
     end_told c.args.lines log t ps c.in-Err-nest_of.end are c.in-Err-nest_of.ensures.end
 
 pub returns-in-Err-clause-end : goal.returns-in-Err-clause-end
-returns-in-Err-clause-end g c = plain_end_told c.args.lines c.args.records.items c.in-Ok.field-0.plain.items c.in-Err.end c.in-Ok.ensures.plain c.in-Err.ensures.end
+returns-in-Err-clause-end g c =
+    plain_end_told c.args.lines c.args.records.items c.in-Ok.field-0.plain.items c.in-Err.end c.in-Ok.ensures.plain c.in-Err.ensures.end

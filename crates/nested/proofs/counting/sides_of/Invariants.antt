@@ -5,4 +5,5 @@ use Rattle.nested.specs.Sides.{side_at}
 use Rattle.nested.proofs.counting.sides_of.Given as goal
 
 abbrev pub invariant-loop-group : goal.invariant-loop-group
-invariant-loop-group g l = (l.place ≡ l.group-index) × (l.sides.items ≡ map (λ (h : Group). side_at l.groups h.id (row_in l.draft l.groups h.id)) (take l.group-index l.groups.groups))
+invariant-loop-group g l = (l.place ≡ l.group-index)
+    × (l.sides.items ≡ map (λ (h : Group). side_at l.groups h.id (row_in l.draft l.groups h.id)) (take l.group-index l.groups.groups))

@@ -7,4 +7,5 @@ pub returns : goal.returns
 returns g c = λ t rows named.
     let n = c.args.groups.now in
     let place = c.in-Some.place in
-    seen_row c.row_in_place.result (row_in t n c.args.id) [] (c.row_in_place.ensures ∙ ap (λ rs. slice_get rs place) rows ∙ row_found t n c.args.id place (sym c.place.ensures ∙ c.in-Some.is))
+    seen_row c.row_in_place.result (row_in t n c.args.id) [] (c.row_in_place.ensures ∙ ap (λ rs. slice_get rs place) rows
+    ∙ row_found t n c.args.id place (sym c.place.ensures ∙ c.in-Some.is))

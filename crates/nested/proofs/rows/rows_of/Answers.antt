@@ -9,4 +9,5 @@ returns g c =
     let t = c.args.draft.now in
     let n = c.args.groups.now in
     subst (λ (gs : List Group). IfOk c.rows_among.result (λ rows. rows.items ≡ map (row_among t n.privileges) gs)) c.groups.ensures
-    (subst (λ (qs : List GroupReq). IfOk c.rows_among.result (λ rows. rows.items ≡ map (row_among t qs) c.groups.result.now)) c.privileges.ensures.privileges c.rows_among.ensures)
+    (subst (λ (qs : List GroupReq). IfOk c.rows_among.result
+    (λ rows. rows.items ≡ map (row_among t qs) c.groups.result.now)) c.privileges.ensures.privileges c.rows_among.ensures)

@@ -7,7 +7,12 @@ use Rattle.point_set.proofs.plane.gap_right_of.Goals as goal
 
 pub returns-in_default : goal.returns-in_default
 returns-in_default c =
-    no_gap_behind c.args.rects.now c.args.x c.loop-column.full (elim (cases_lt (c.loop-column.full + 1) 4294967296) [ inl lt ↦ absurd (c.in_default.ensures lt) | inr far ↦ far ]) c.loop-column.invariant.filled
+    no_gap_behind c.args.rects.now c.args.x c.loop-column.full
+    (elim (cases_lt (c.loop-column.full + 1) 4294967296) [
+      | inl lt ↦ absurd (c.in_default.ensures lt)
+      | inr far ↦
+          far
+    ]) c.loop-column.invariant.filled
 
 pub returns-in-Some-gap_row : goal.returns-in-Some-gap_row
 returns-in-Some-gap_row c =

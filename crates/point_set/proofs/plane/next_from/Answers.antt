@@ -11,7 +11,8 @@ returns-in-Some c =
     let x = c.column_and_row-x.result.0 in
     let y = c.column_and_row-x.result.1 in
     subst (λ q. IsLeastFrom (rect_points rects) c.args.p (Some q)) (sym c.point.ensures)
-    (subst (λ p. IsLeastFrom (rect_points rects) p (Some (x * 2 ^ 32 + c.in-Some.row))) (sym at.0) (next_in_row rects x y c.in-Some.row c.requires at.2 c.in-Some.ensures))
+    (subst (λ p. IsLeastFrom (rect_points rects) p (Some (x * 2 ^ 32 + c.in-Some.row))) (sym at.0)
+    (next_in_row rects x y c.in-Some.row c.requires at.2 c.in-Some.ensures))
 
 pub returns-in-None : goal.returns-in-None
 returns-in-None c =

@@ -8,7 +8,8 @@ pub returns-then-x-band : goal.returns-then-x-band
 returns-then-x-band c = next_right c.args.rects.now c.args.x c.args.y c.in-Some.band c.requires c.in-Some.ensures c.if-x-band.true
 
 pub returns-then-x-rect : goal.returns-then-x-rect
-returns-then-x-rect c = next_off c.args.rects.now c.args.x c.args.y c.in-Some.band c.in-Some-first_at.rect c.requires c.in-Some.ensures c.if-x-band.false c.in-Some-first_at.ensures c.if-x-rect.true
+returns-then-x-rect c =
+    next_off c.args.rects.now c.args.x c.args.y c.in-Some.band c.in-Some-first_at.rect c.requires c.in-Some.ensures c.if-x-band.false c.in-Some-first_at.ensures c.if-x-rect.true
 
 pub returns-else-x-rect : goal.returns-else-x-rect
 returns-else-x-rect c =

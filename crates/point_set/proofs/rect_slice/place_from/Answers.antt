@@ -10,5 +10,6 @@ pub returns : goal.returns
 returns c =
     let rects = c.args.rects.now in
     parted (λ (r : Rect). r.x1 * 2 ^ 32 + r.y1) c.args.p rects c.partition_point.result
-    (c.partition_point.ensures.partitioned (λ (r : Rect). nat_lt (r.x1 * 2 ^ 32 + r.y1) c.args.p) (always_returns_same _ _ _ (λ a r f called. search rules))
+    (c.partition_point.ensures.partitioned (λ (r : Rect). nat_lt (r.x1 * 2 ^ 32 + r.y1) c.args.p)
+    (always_returns_same _ _ _ (λ a r f called. search rules))
     (IsPartitionedBy-ltb (λ (r : Rect). r.x1 * 2 ^ 32 + r.y1) rects c.args.p (lasts_rise rects c.requires.0 c.requires.1)))

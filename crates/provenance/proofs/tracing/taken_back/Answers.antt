@@ -17,8 +17,11 @@ pub taken_of-requires : goal.taken_of-requires
 taken_of-requires g c κs =
     let nodes = c.args.log.now.nodes in
     let order = c.args.order.now in
-    let all = all_contained (λ k. k < length (graph_of nodes)) order (order_within (graph_of nodes) order c.requires.order) in
-    ((refl, tt), rw c.as_slice.ensures (subst (λ (u : Tables). All (λ k. k < length u.nodes) order) (sym c.at-cut.ensures) (subst (λ n. All (λ k. k < n) order) (length-map nodes _) all)))
+    let all = all_contained (λ k. k < length (graph_of nodes)) order (order_within (graph_of nodes) order c.requires.order) in (
+      (refl, tt),
+      rw c.as_slice.ensures (subst (λ (u : Tables). All (λ k. k < length u.nodes) order) (sym c.at-cut.ensures)
+          (subst (λ n. All (λ k. k < n) order) (length-map nodes _) all)),
+    )
 
 pub returns-clause-steps : goal.returns-clause-steps
 returns-clause-steps g c =
@@ -27,7 +30,8 @@ returns-clause-steps g c =
     let field = c.args.field in
     let ks = c.as_slice.result.now in
     listed_back t (cut ps t) ps field ks c.in_ok-taken.taken.items c.reverse.new.self.items
-    (steps_cut ps t ks) (c.as_slice.ensures ∙ c.requires.order.replayed) (c.in_ok-taken.ensures ∙ ap (λ u. taken_before u field ks (length ks)) c.at-cut.ensures) c.reverse.ensures.items
+    (steps_cut ps t ks) (c.as_slice.ensures ∙ c.requires.order.replayed) (c.in_ok-taken.ensures
+    ∙ ap (λ u. taken_before u field ks (length ks)) c.at-cut.ensures) c.reverse.ensures.items
 
 pub returns-clause-few : goal.returns-clause-few
 returns-clause-few g c =
@@ -36,5 +40,6 @@ returns-clause-few g c =
     let field = c.args.field in
     let ks = c.as_slice.result.now in
     few_back (cut ps t) field ks c.in_ok-taken.taken.items c.reverse.new.self.items
-    (subst (λ ks. length (steps_by (cut ps t) ks) < 2 ^ 31) (sym (c.as_slice.ensures ∙ c.requires.order.replayed)) (steps_are_few t c.is_declared.ensures (Some ps)))
+    (subst (λ ks. length (steps_by (cut ps t) ks) < 2 ^ 31) (sym (c.as_slice.ensures ∙ c.requires.order.replayed))
+    (steps_are_few t c.is_declared.ensures (Some ps)))
     (c.in_ok-taken.ensures ∙ ap (λ u. taken_before u field ks (length ks)) c.at-cut.ensures) c.reverse.ensures.items

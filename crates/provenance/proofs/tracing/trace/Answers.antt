@@ -18,8 +18,10 @@ returns-in-None-clause-none g c =
 pub unreachable-requires : goal.unreachable-requires
 unreachable-requires g c =
     let found = position-Some (λ (x : Taken). is_asked c.args.ask.now x.step) c.in_ok-taken.taken.items c.in-Some.place c.index.result.now
-    (subst (λ xs. position (λ (x : Taken). is_asked c.args.ask.now x.step) xs ≡ Some c.in-Some.place) c.as_slice.ensures.value (sym c.in-Some.ensures)) in
-    let reads = asked_reads c.args.ask.now c.index.result.now.step (ap (λ (y : Taken). is_asked c.args.ask.now y.step) c.index.ensures ∙ found.1) in
+    (subst (λ xs. position (λ (x : Taken). is_asked c.args.ask.now x.step) xs ≡ Some c.in-Some.place) c.as_slice.ensures.value
+    (sym c.in-Some.ensures)) in
+    let reads = asked_reads c.args.ask.now c.index.result.now.step (ap (λ (y : Taken). is_asked c.args.ask.now y.step) c.index.ensures
+    ∙ found.1) in
     c.in_default.not-Read reads.0 reads.1 reads.2 reads.3
 
 pub returns-clause-links : goal.returns-clause-links
@@ -28,7 +30,8 @@ returns-clause-links g c =
     let k : Keeps t = keeps t c.is_declared.ensures c.requires.mapped c.requires.order.free c.requires.free in
     let rest = take_rest c.deref.result.now (c.in-Some.place + 1) ∙ ap (drop (c.in-Some.place + 1)) c.deref.ensures.value in
     traced t k c.args.ask.now c.in_ok-taken.taken.items c.in-Some.place c.index.result.now c.in-Read.task c.in-Read.req c.in-Read.cell c.in_ok-links.links.items c.in_ok-taken.ensures.steps
-    (subst (λ xs. position (λ (x : Taken). is_asked c.args.ask.now x.step) xs ≡ Some c.in-Some.place) c.as_slice.ensures.value (sym c.in-Some.ensures))
+    (subst (λ xs. position (λ (x : Taken). is_asked c.args.ask.now x.step) xs ≡ Some c.in-Some.place) c.as_slice.ensures.value
+    (sym c.in-Some.ensures))
     c.index.ensures c.in-Read.is (c.in_ok-links.ensures ∙ ap (λ xs. links_behind t xs c.in-Read.cell) rest)
 
 pub returns-clause-value : goal.returns-clause-value

@@ -7,5 +7,6 @@ use Rattle.provenance.proofs.walking.walk.Given as goal
 abbrev pub invariant-loop-taken : goal.invariant-loop-taken
 invariant-loop-taken g l = record {
   few : l.adds ≤ l.taken-index;
-  same : links_behind l.log l.earlier l.fn.cell ≡ l.links.items ++ map (link_of l.log) (sources_of (map step_of (drop l.taken-index l.earlier)) l.at l.adds);
+  same : links_behind l.log l.earlier l.fn.cell ≡ l.links.items
+      ++ map (link_of l.log) (sources_of (map step_of (drop l.taken-index l.earlier)) l.at l.adds);
 }

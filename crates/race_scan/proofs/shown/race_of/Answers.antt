@@ -11,11 +11,15 @@ use Rattle.race_scan.proofs.shown.race_of.Goals as goal
 pub touches_of-requires : goal.touches_of-requires
 touches_of-requires g c κs =
     let nodes = c.args.log.now.nodes in
-    let placed = all_placed c.args.graph.now c.args.order.now c.args.reach.now c.requires.order c.requires.reach c.len-linked.ensures.linked in
-    ((refl, tt), rw c.as_slice.ensures (subst (λ n. All (λ k. k < n) c.args.order.now) (ap (λ ns. length ns) c.requires.graph ∙ length-map nodes _) placed.within))
+    let placed = all_placed c.args.graph.now c.args.order.now c.args.reach.now c.requires.order c.requires.reach c.len-linked.ensures.linked in (
+      (refl, tt),
+      rw c.as_slice.ensures (subst (λ n. All (λ k. k < n) c.args.order.now) (ap (λ ns. length ns) c.requires.graph
+          ∙ length-map nodes _) placed.within),
+    )
 
 pub shown_clash-requires-clause-within : goal.shown_clash-requires-clause-within
-shown_clash-requires-clause-within g c = rw (c.in_ok-touches.ensures, c.as_slice.ensures) (places_within c.args.log.now c.args.order.now (length c.args.order.now))
+shown_clash-requires-clause-within g c = rw (c.in_ok-touches.ensures, c.as_slice.ensures)
+    (places_within c.args.log.now c.args.order.now (length c.args.order.now))
 
 pub returns : goal.returns
 returns g c =
@@ -26,6 +30,7 @@ returns g c =
     found_race t order marks
     (subst (λ ns. order ≡ replay_order ns) c.requires.graph c.requires.order.replayed)
     (subst (λ ns. AreMarksOf ns marks) c.requires.graph c.requires.reach)
-    (subst (λ ns. ArePlaced (length ns) order marks) c.requires.graph (all_placed c.args.graph.now order marks c.requires.order c.requires.reach c.len-linked.ensures.linked))
+    (subst (λ ns. ArePlaced (length ns) order marks) c.requires.graph
+    (all_placed c.args.graph.now order marks c.requires.order c.requires.reach c.len-linked.ensures.linked))
     c.in_ok-clash.clash
     (rw (← same) c.in_ok-clash.ensures)

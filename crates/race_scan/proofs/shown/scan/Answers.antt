@@ -12,7 +12,8 @@ returns-in-None-clause-free g c =
     let t = c.args.log.now in
     let u = c.at-log.result in
     let free = subst (λ o. MatchOption o (IsRaceFree u) (IsShownIn u)) c.in-None.is c.in_ok-race_of.ensures in
-    free_whole t (first_points c.args.atoms.now) c.requires.atoms (subst (λ ps. IsRaceFree (cut ps t)) c.firsts.ensures.firsts (subst IsRaceFree c.at-log.ensures free))
+    free_whole t (first_points c.args.atoms.now) c.requires.atoms
+    (subst (λ ps. IsRaceFree (cut ps t)) c.firsts.ensures.firsts (subst IsRaceFree c.at-log.ensures free))
 
 pub returns-in-Some-clause-race : goal.returns-in-Some-clause-race
 returns-in-Some-clause-race g c =
@@ -21,4 +22,5 @@ returns-in-Some-clause-race g c =
     let s = c.in-Some.field-0 in
     let shown = subst (λ o. MatchOption o (IsRaceFree u) (IsShownIn u)) c.in-Some.is c.in_ok-race_of.ensures in
     shown_whole t (first_points c.args.atoms.now) c.requires.atoms s.a s.b s.cell
-    (subst (λ ps. IsShownRace (cut ps t) s.a s.b s.cell) c.firsts.ensures.firsts (subst (λ u. IsShownRace u s.a s.b s.cell) c.at-log.ensures shown))
+    (subst (λ ps. IsShownRace (cut ps t) s.a s.b s.cell) c.firsts.ensures.firsts
+    (subst (λ u. IsShownRace u s.a s.b s.cell) c.at-log.ensures shown))

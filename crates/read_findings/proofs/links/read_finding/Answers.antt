@@ -5,4 +5,5 @@ use Rattle.semantics.specs.declared.links.LinkKind.TheVariants as kinds
 use Rattle.read_findings.proofs.links.read_finding.Goals as goal
 
 pub links_found-requires-clause-starts : goal.links_found-requires-clause-starts
-links_found-requires-clause-starts g c = subst (λ (ls : List Link). (l : Link) → Contains ls l → (l.done ≡ 0) ↔ (l.kind ≡ kinds.Start)) (sym c.deref.ensures.value) c.in-Ok.ensures.starts
+links_found-requires-clause-starts g c = subst (λ (ls : List Link). (l : Link) → Contains ls l → (l.done ≡ 0) ↔ (l.kind ≡ kinds.Start))
+    (sym c.deref.ensures.value) c.in-Ok.ensures.starts

@@ -11,8 +11,13 @@ loop-up-preserved g c =
     record {
       above = ancestor_more d c.loop-up._up c.args.space c.loop-up.top c.loop-up.invariant.above ∙ h.5;
       declared = whole_declared d h.0.part c.in-Some.whole c.requires.forest h.3;
-      leads = rw c.in_ok-insert-in-Some.ensures.ok (leads_from d c.loop-up.top c.in-Some.whole c.args.space c.in-Some.step c.loop-up.steps.items up c.loop-up.invariant.leads);
+      leads = rw c.in_ok-insert-in-Some.ensures.ok
+          (leads_from d c.loop-up.top c.in-Some.whole c.args.space c.in-Some.step c.loop-up.steps.items up c.loop-up.invariant.leads);
     }
 
 pub unreachable-requires : goal.unreachable-requires
-unreachable-requires g c = omega (arith, c.requires.forest.shallow c.args.space c.loop-up.top c.loop-up._up c.loop-up.invariant.above, c.loop-up-test.false)
+unreachable-requires g c = omega (
+  arith,
+  c.requires.forest.shallow c.args.space c.loop-up.top c.loop-up._up c.loop-up.invariant.above,
+  c.loop-up-test.false,
+)

@@ -1,17 +1,24 @@
-use Rattle.std.proofs.lemmas.Bool.{both_ways}
 use Rattle.std.proofs.Common.{refl}
 use Rattle.region_tree.specs.Faults.{IsOutside}
-use Rattle.region_tree.proofs.Finding.{least_none, not_faulty}
+use Rattle.region_tree.proofs.Clashing.{met_none, met_some}
+use Rattle.region_tree.proofs.Finding.{first_meeting, least_none, not_faulty}
 use Rattle.region_tree.proofs.faults.judge_sub.Goals as goal
 
-pub returns-then-not-meets-clause-ok : goal.returns-then-not-meets-clause-ok
-returns-then-not-meets-clause-ok g c =
-    let inside = least_none (IsOutside c.args.decls.now c.args.i) c.outside.result c.outside.ensures c.in_default.not-Some in
-    not_faulty c.args.decls.now c.args.i inside (λ j met. both_ways c.args.meets c.if-not-meets.true (c.requires.1 (j, met)))
+pub returns-in_default-met-clause-ok : goal.returns-in_default-met-clause-ok
+returns-in_default-met-clause-ok g c =
+    not_faulty c.args.decls.now c.args.i (λ p h. c.in_default.ensures p h)
+    (met_none c.args.decls.now c.args.i c.args.met c.requires c.in_default-met.not-Some)
 
 pub unreachable-requires : goal.unreachable-requires
-unreachable-requires g c = let met = c.requires.0 c.if-not-meets.false in c.in-None.ensures met.0 met.1
+unreachable-requires g c =
+    let met = met_some c.args.decls.now c.args.i c.in-Some-met.other c.args.met c.in-Some-met.is c.requires in
+    met.meets (λ h. c.in-None.ensures h.0 h.1)
 
 pub returns-clause-shown : goal.returns-clause-shown
 returns-clause-shown g c =
-    (refl, least_none (IsOutside c.args.decls.now c.args.i) c.outside.result c.outside.ensures c.in_default.not-Some, c.in-Some-first_met.ensures.0, c.in-Some-first_met.ensures.1)
+    let d = c.args.decls.now in
+    let i = c.args.i in
+    let other = c.in-Some-met.other in
+    let met = met_some d i other c.args.met c.in-Some-met.is c.requires in
+    let first = first_meeting d i other c.in-Some-shared.point met.before c.in-Some-shared.ensures in
+    (refl, least_none (IsOutside d i) c.outside.result c.outside.ensures c.in_default.not-Some, first.0, first.1)

@@ -11,4 +11,5 @@ returns-in-Some g c =
 pub returns-in-None : goal.returns-in-None
 returns-in-None g c =
     outside_from c.args.decls.now c.args.i c.in_ok-sub.sub c.first.result (sym c.in_ok-sub.ensures)
-    (rw c.in_ok-ours.ensures.points (least_outside_none (g.P.PointSet.points c.in_ok-ours.ours.now) (points_cut c.args.decls.now c.in_ok-sub.sub.part) c.first.result c.in-None.ensures c.first.ensures))
+    (rw c.in_ok-ours.ensures.points (least_outside_none (g.P.PointSet.points c.in_ok-ours.ours.now)
+    (points_cut c.args.decls.now c.in_ok-sub.sub.part) c.first.result c.in-None.ensures c.first.ensures))

@@ -15,7 +15,8 @@ pub run-requires-clause-versions : goal.run-requires-clause-versions
 run-requires-clause-versions g c =
     let t = c.args.log.now in
     let k = c.args.versions.now in
-    subst (λ u. AreVersionsIn u k) (sym (c.at-cut.ensures ∙ ap (λ ps. cut ps t) c.firsts.ensures.firsts)) (versions_in (first_points c.args.atoms.now) t k c.requires.versions)
+    subst (λ u. AreVersionsIn u k) (sym (c.at-cut.ensures ∙ ap (λ ps. cut ps t) c.firsts.ensures.firsts))
+    (versions_in (first_points c.args.atoms.now) t k c.requires.versions)
 
 pub returns-in-Ok-clause-right : goal.returns-in-Ok-clause-right
 returns-in-Ok-clause-right g c =

@@ -16,9 +16,11 @@ returns-then-is_headed c =
     let lines = view c.args.lines.now in
     let last = c.saturating_sub-last.ensures ∙ ap (λ n. n - 2) (sym (length-map c.args.lines.now (λ (w : Bor (List ℕ)). w.now))) in
     let begun = c.in_ok-first.ensures ∙ ap (parts 32) c.word_at.ensures in
-    let told = sym (take-map (λ (w : Bor (List ℕ)). w.now) c.saturating_sub-last.result c.after_first-others.result.now) ∙ ap (take c.saturating_sub-last.result) c.after_first-others.ensures.words in
+    let told = sym (take-map (λ (w : Bor (List ℕ)). w.now) c.saturating_sub-last.result c.after_first-others.result.now)
+    ∙ ap (take c.saturating_sub-last.result) c.after_first-others.ensures.words in
     subst (λ (g : Finding). IfOk c.report_at.result (λ f. f ≡ g))
-    (first_told lines _ _ _ c.saturating_sub-last.result last (ap view c.deref.ensures.value ∙ begun) (sym c.if-is_headed.ensures) told (ap view c.deref-then-is_headed.ensures.value ∙ begun))
+    (first_told lines _ _ _ c.saturating_sub-last.result last (ap view c.deref.ensures.value ∙ begun) (sym c.if-is_headed.ensures) told
+    (ap view c.deref-then-is_headed.ensures.value ∙ begun))
     c.report_at.ensures
 
 pub returns : goal.returns
@@ -29,4 +31,5 @@ returns c =
     let begun = ap view c.deref.ensures.value ∙ c.in_ok-first.ensures ∙ ap (parts 32) c.word_at.ensures in
     let told = sym (take-map (λ (w : Bor (List ℕ)). w.now) c.saturating_sub-last.result c.args.lines.now) in
     let said = ap view c.deref-2.ensures.value ∙ c.in_ok-words.ensures ∙ ap (parts 32) c.word_at-2.ensures in
-    subst (λ (g : Finding). IfOk c.report_at-2.result (λ f. f ≡ g)) (last_told lines _ _ _ c.saturating_sub-last.result last begun (sym c.if-is_headed.ensures) told said) c.report_at-2.ensures
+    subst (λ (g : Finding). IfOk c.report_at-2.result (λ f. f ≡ g))
+    (last_told lines _ _ _ c.saturating_sub-last.result last begun (sym c.if-is_headed.ensures) told said) c.report_at-2.ensures

@@ -21,20 +21,27 @@ returns-then-is_bag_of c =
     let marks = c.args.marks.now in
     let end = c.args.end in
     subst (λ (rest : List Change). IsRest g cs rest × AreMarksUntil end marks rest) (sym (take_rest cs n)) (
-      right-run g n cs c.requires.adds (omega (arith, c.if-n-eq0.false)) c.run_length-n.ensures.bound c.run_length-n.ensures.run c.run_length-n.ensures.rest (sym c.as_slice.ensures ∙ c.if-is_bag_of.ensures.0 refl),
+      right-run g n cs c.requires.adds (omega (
+        arith,
+        c.if-n-eq0.false,
+      )) c.run_length-n.ensures.bound c.run_length-n.ensures.run c.run_length-n.ensures.rest (sym c.as_slice.ensures
+          ∙ c.if-is_bag_of.ensures.0 refl),
       last-told end marks cs (drop n cs) c.requires.marks (take n cs, sym (take-append-drop n cs)),
     )
 
 pub returns-else-is_bag_of : goal.returns-else-is_bag_of
 returns-else-is_bag_of c =
     let n = c.run_length-n.result in
-    wrong-run c.args.group.now n c.args.changes.now c.requires.adds (omega (arith, c.if-n-eq0.false)) c.run_length-n.ensures.bound c.run_length-n.ensures.run c.run_length-n.ensures.rest (λ e. true≢false (sym (c.if-is_bag_of.ensures.1 (c.as_slice.ensures ∙ e))))
+    wrong-run c.args.group.now n c.args.changes.now c.requires.adds
+    (omega (arith, c.if-n-eq0.false)) c.run_length-n.ensures.bound c.run_length-n.ensures.run c.run_length-n.ensures.rest
+    (λ e. true≢false (sym (c.if-is_bag_of.ensures.1 (c.as_slice.ensures ∙ e))))
 
 pub is_bag_of-requires-clause-adds : goal.is_bag_of-requires-clause-adds
 is_bag_of-requires-clause-adds c = all-front c.run_length-n.result c.args.changes.now c.requires.adds
 
 pub is_bag_of-requires-clause-fits : goal.is_bag_of-requires-clause-fits
-is_bag_of-requires-clause-fits c = run-fits c.args.end c.run_length-n.result c.args.changes.now c.requires.marks.within c.run_length-n.ensures.bound c.ranges.end.fits
+is_bag_of-requires-clause-fits c =
+    run-fits c.args.end c.run_length-n.result c.args.changes.now c.requires.marks.within c.run_length-n.ensures.bound c.ranges.end.fits
 
 pub is_bag_of-requires-clause-tell : goal.is_bag_of-requires-clause-tell
 is_bag_of-requires-clause-tell c =

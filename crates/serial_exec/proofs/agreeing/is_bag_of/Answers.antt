@@ -8,7 +8,10 @@ use Rattle.serial_exec.proofs.Marking.{told-count, count-told}
 use Rattle.serial_exec.proofs.agreeing.is_bag_of.Goals as goal
 
 pub returns-then-is_in_order : goal.returns-then-is_in_order
-returns-then-is_in_order c = (λ _. in-order-is c.args.bag.now c.args.run.now c.requires.bag (c.is_in_order.ensures c.if-is_in_order.true), λ _. refl)
+returns-then-is_in_order c = (
+  λ _. in-order-is c.args.bag.now c.args.run.now c.requires.bag (c.is_in_order.ensures c.if-is_in_order.true),
+  λ _. refl,
+)
 
 pub returns-then-is_total : goal.returns-then-is_total
 returns-then-is_total c =
@@ -17,8 +20,10 @@ returns-then-is_total c =
     let marks = c.args.marks.now in
     let from = c.args.from in (
       λ h. counts-tell bag run c.requires.bag c.requires.adds (c.is_total.ensures.0 c.if-is_total.true)
-          (each (IsCounted marks from (from + length run)) (λ e. e.1 ≡ count_in e.0 (all_added run)) bag (told-count marks from run c.requires.tell) (c.are_counts.ensures.0 h)),
-      λ is. c.are_counts.ensures.1 (each (λ e. e.1 ≡ count_in e.0 (all_added run)) (IsCounted marks from (from + length run)) bag (count-told marks from run c.requires.tell) (right-counts bag run c.requires.bag is)),
+          (each (IsCounted marks from (from + length run)) (λ e. e.1 ≡ count_in e.0 (all_added run)) bag
+          (told-count marks from run c.requires.tell) (c.are_counts.ensures.0 h)),
+      λ is. c.are_counts.ensures.1 (each (λ e. e.1 ≡ count_in e.0 (all_added run)) (IsCounted marks from (from + length run)) bag
+          (count-told marks from run c.requires.tell) (right-counts bag run c.requires.bag is)),
     )
 
 pub returns-else-is_total : goal.returns-else-is_total

@@ -6,13 +6,17 @@ use Rattle.serial_exec.proofs.agreeing.is_sum.Goals as goal
 pub returns-then-not-same_base : goal.returns-then-not-same_base
 returns-then-not-same_base c = (
   λ h. absurd (true≢false (sym h)),
-  λ e. absurd (other-base c.args.v.now c.args.base c.args.added.now c.requires.adds (λ same. true≢false (sym (c.same_base.ensures.1 (c.base.ensures ∙ same)) ∙ c.if-not-same_base.true)) e),
+  λ e. absurd (other-base c.args.v.now c.args.base c.args.added.now c.requires.adds
+      (λ same. true≢false (sym (c.same_base.ensures.1 (c.base.ensures ∙ same)) ∙ c.if-not-same_base.true)) e),
 )
 
 pub returns-then-is_raw : goal.returns-then-is_raw
 returns-then-is_raw c =
-    let same = sym c.base.ensures ∙ c.same_base.ensures.0 c.if-not-same_base.false in
-    (λ h. raw-is c.args.v.now c.args.base c.args.added.now c.rules.ensures.well_formed c.requires.adds same (sym c.is_raw.ensures ∙ c.if-is_raw.true), λ e. refl)
+    let same = sym c.base.ensures ∙ c.same_base.ensures.0 c.if-not-same_base.false in (
+      λ h. raw-is c.args.v.now c.args.base c.args.added.now c.rules.ensures.well_formed c.requires.adds same (sym c.is_raw.ensures
+          ∙ c.if-is_raw.true),
+      λ e. refl,
+    )
 
 pub returns : goal.returns
 returns c =

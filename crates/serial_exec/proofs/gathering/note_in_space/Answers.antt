@@ -6,9 +6,12 @@ use Rattle.serial_exec.proofs.gathering.note_in_space.Goals as goal
 
 pub returns-in-Some : goal.returns-in-Some
 returns-in-Some g c =
-    subst (λ (points : List ℕ). OnOk c.note_all.result (Adds c.args.change (covered c.args.tree points c.args.fields.now) (changes_at c.args.histories.now) (changes_at c.note_all.new.self)))
+    subst (λ (points : List ℕ). OnOk c.note_all.result
+    (Adds c.args.change (covered c.args.tree points c.args.fields.now) (changes_at c.args.histories.now)
+    (changes_at c.note_all.new.self)))
     (sym c.in-Some.ensures) c.note_all.ensures
 
 pub returns-in-None : goal.returns-in-None
 returns-in-None g c = λ p.
-    nothing-covered c.args.log.now c.args.space c.args.tree c.args.fields.now c.args.change (changes_at c.args.histories.now p) p c.in-None.ensures
+    nothing-covered c.args.log.now c.args.space c.args.tree c.args.fields.now c.args.change
+    (changes_at c.args.histories.now p) p c.in-None.ensures

@@ -39,7 +39,9 @@ returns-in-Fill g c =
     let t = c.args.log.now in
     let lt = c.in-Some.ensures.lookup.3.0 in
     on_ok c.note_in_space.result (λ h p. h p
-    ∙ ap (λ fields. changes_at c.args.histories.now p ++ cond (covered c.in-Fill.tree (points_in t c.in-Fill.space) fields p) (record { moment = c.args.moment; action = Put (Const c.in-Fill.n) } ∷ []) []) c.as_slice-fields.ensures
+    ∙ ap (λ fields. changes_at c.args.histories.now p
+    ++ cond (covered c.in-Fill.tree (points_in t c.in-Fill.space) fields p)
+    (record { moment = c.args.moment; action = Put (Const c.in-Fill.n) } ∷ []) []) c.as_slice-fields.ensures
     ∙ ap (λ xs. changes_at c.args.histories.now p ++ xs)
     (fill-item t c.args.moment c.args.item p c.in-Some.found.now c.in-Fill.tree c.in-Fill.space c.in-Fill.fields c.in-Fill.n
     (item-here c.items.result.now t.items c.args.item c.in-Some.found.now c.items.ensures lt c.in-Some.ensures.lookup.1)

@@ -6,5 +6,6 @@ use Rattle.serial_exec.proofs.marks.sort.Goals as goal
 
 pub returns-clause-order : goal.returns-clause-order
 returns-clause-order c =
-    let sorted = c.sort_unstable_by_key.ensures.sorted (λ (x : Mark). (x.by.task, x.by.req, x.position)) (always_returns_same _ _ _ (λ a r f called. search rules)) in
+    let sorted = c.sort_unstable_by_key.ensures.sorted (λ (x : Mark). (x.by.task, x.by.req, x.position))
+    (always_returns_same _ _ _ (λ a r f called. search rules)) in
     in-order c.sort_unstable_by_key.new.self.items (λ k d lt. sorted k d (omega arith) lt)

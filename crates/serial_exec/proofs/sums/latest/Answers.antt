@@ -8,7 +8,8 @@ use Rattle.serial_exec.proofs.sums.latest.Goals as goal
 
 pub returns-in-Put-clause-same : goal.returns-in-Put-clause-same
 returns-in-Put-clause-same c =
-    put-latest c.args.changes.now c.loop-from.from _ c.in-Put.base (plain bases.Init) c.loop-from-test.true c.loop-from.invariant.0 c.in-Put.is
+    put-latest c.args.changes.now c.loop-from.from _ c.in-Put.base
+    (plain bases.Init) c.loop-from-test.true c.loop-from.invariant.0 c.in-Put.is
     ∙ ap (λ cs. after_changes cs (plain c.in-Put.base)) (sym (take_rest c.args.changes.now c.loop-from.from))
 
 pub returns-in-Put-clause-last : goal.returns-in-Put-clause-last

@@ -13,6 +13,7 @@ loop-change-preserved c =
     let i = c.loop-change.change-index in
     let more : weight_of c.in_ok-value.value ≤ weight_of c.loop-change.value + 1 = c.in_ok-value.ensures.weight in
     let light : weight_of c.loop-change.value ≤ i = c.loop-change.invariant.1 in (
-      c.in_ok-value.ensures.value ∙ ap (acted_by (get_or c.args.changes.now i d).action) c.loop-change.invariant.0 ∙ sym (after-more c.args.changes.now i d (plain c.args.base) c.loop-change-test.true),
+      c.in_ok-value.ensures.value ∙ ap (acted_by (get_or c.args.changes.now i d).action) c.loop-change.invariant.0
+          ∙ sym (after-more c.args.changes.now i d (plain c.args.base) c.loop-change-test.true),
       omega (arith, more, light),
     )

@@ -7,10 +7,14 @@ use Rattle.serial_exec.proofs.Keeping.{taken-parted}
 use Rattle.serial_exec.proofs.versions.changes_until.Goals as goal
 
 pub returns-clause-first : goal.returns-clause-first
-returns-clause-first c = (drop c.partition_point-end.result c.args.changes.now, sym (take-append-drop c.partition_point-end.result c.args.changes.now))
+returns-clause-first c = (
+  drop c.partition_point-end.result c.args.changes.now,
+  sym (take-append-drop c.partition_point-end.result c.args.changes.now),
+)
 
 pub returns-clause-before : goal.returns-clause-before
 returns-clause-before c =
-    let at = c.partition_point-end.ensures.partitioned (λ (d : Change). nat_lt d.moment c.args.moment) (always_returns_same _ _ _ (λ a r f called. search rules))
+    let at = c.partition_point-end.ensures.partitioned (λ (d : Change). nat_lt d.moment c.args.moment)
+    (always_returns_same _ _ _ (λ a r f called. search rules))
     (IsPartitionedBy-ltb (λ (d : Change). d.moment) c.args.changes.now c.args.moment c.requires) in
     taken-parted (λ (d : Change). nat_lt d.moment c.args.moment) c.args.changes.now c.partition_point-end.result at.0 at.1

@@ -7,6 +7,14 @@ pub loop-k-preserved : goal.loop-k-preserved
 loop-k-preserved c =
     let step = marked_step c.args.node c.loop-k.k c.args.marks.now c.loop-k-test.true in
     elim c.if-marks-k.branch [
-      | then-marks-k+in_ok-push w ↦ grind (arith, step, c.loop-k.invariant, w.if-marks-k.true, w.in_ok-push.ensures.items, w.list-is, append_assoc)
+      | then-marks-k+in_ok-push w ↦ grind (
+        arith,
+        step,
+        c.loop-k.invariant,
+        w.if-marks-k.true,
+        w.in_ok-push.ensures.items,
+        w.list-is,
+        append_assoc,
+      )
       | else-marks-k w ↦ grind (arith, step, c.loop-k.invariant, w.if-marks-k.false, w.list-is, append-nil)
     ]

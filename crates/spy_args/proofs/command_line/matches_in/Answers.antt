@@ -17,9 +17,11 @@ returns c =
     let task_app = c.in_ok-arg-3.ensures.shape c.option-2.ensures.own ∙ ap₂ with_rule size_app c.option-2.ensures.rule in
     let req_app = c.in_ok-arg-4.ensures.shape c.option-3.ensures.own ∙ ap₂ with_rule task_app c.option-3.ensures.rule in
     let point_app = c.in_ok-arg-5.ensures.shape c.option-4.ensures.own ∙ ap₂ with_rule req_app c.option-4.ensures.rule in
-    let app_is : app_of c.in_ok-spy.spy ≡ spy_app = c.in_ok-spy.ensures.shape c.option-5.ensures.own ∙ ap₂ with_rule point_app c.option-5.ensures.rule in
+    let app_is : app_of c.in_ok-spy.spy ≡ spy_app =
+    c.in_ok-spy.ensures.shape c.option-5.ensures.own ∙ ap₂ with_rule point_app c.option-5.ensures.rule in
     let fails : FailsBy (fault_of spy_app words) parse.result =
-    subst (λ (a : App). FailsBy (fault_of a words) parse.result) app_is (parse.ensures.kinds (ap is_simple_and_free app_is ∙ spy_is_free)) in
+    subst (λ (a : App). FailsBy (fault_of a words) parse.result) app_is
+    (parse.ensures.kinds (ap is_simple_and_free app_is ∙ spy_is_free)) in
     let has : IfOk parse.result (HasMatchesOf spy_app words) =
     subst (λ (a : App). IfOk parse.result (HasMatchesOf a words)) app_is parse.ensures.matches in
     record {

@@ -6,4 +6,5 @@ use Rattle.spy_cli.proofs.printing.printed_report.Goals as goal
 
 pub printed_text-requires : goal.printed_text-requires
 printed_text-requires c =
-    subst (λ log. AllByRecursion Good (records_of log)) (sym c.deref.ensures.value) (good_records c.in-Ok.input.records.items c.in-Ok.ensures.good)
+    subst (λ log. AllByRecursion Good (records_of log)) (sym c.deref.ensures.value)
+    (good_records c.in-Ok.input.records.items c.in-Ok.ensures.good)

@@ -12,10 +12,12 @@ add-requires-clause-fits c =
 pub returns-then-last_has-clause-ok : goal.returns-then-last_has-clause-ok
 returns-then-last_has-clause-ok c =
     let there = told _ _ c.args.groups.now.items _ _ c.deref.ensures.value c.last_has.ensures c.if-last_has.true in
-    extended_last c.args.op _ c.args.groups.now.items _ _ _ there (omega arith) c.index_mut-group.ensures.value (c.in_ok-add.ensures.ok ∙ sym (joined_one _ c.args.c c.args.n))
+    extended_last c.args.op _ c.args.groups.now.items _ _ _ there (omega arith) c.index_mut-group.ensures.value (c.in_ok-add.ensures.ok
+    ∙ sym (joined_one _ c.args.c c.args.n))
 
 pub returns-clause-ok : goal.returns-clause-ok
 returns-clause-ok c =
     let other = told _ _ c.args.groups.now.items _ _ c.deref.ensures.value c.last_has.ensures c.if-last_has.false in
     let new = appended c.args.op _ _ c.args.groups.now.items other (c.in_ok-bag.ensures ∙ sym (joined_one [] c.args.c c.args.n)) in
-    c.in_ok-push.ensures.items ∙ ap (λ (gs : List Group). gs ++ record { op = c.args.op; bag = c.in_ok-bag.bag } ∷ []) c.in_ok-reserve.ensures.items ∙ new
+    c.in_ok-push.ensures.items ∙ ap (λ (gs : List Group). gs ++ record { op = c.args.op; bag = c.in_ok-bag.bag }
+    ∷ []) c.in_ok-reserve.ensures.items ∙ new

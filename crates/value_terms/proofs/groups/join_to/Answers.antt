@@ -19,4 +19,5 @@ pub returns-clause-ok : goal.returns-clause-ok
 returns-clause-ok c =
     let other = told _ _ c.args.groups.now.items _ _ c.deref.ensures.value c.last_has.ensures c.if-last_has.false in
     let new = appended c.args.op _ _ c.args.groups.now.items other (c.in_ok-bag.ensures ∙ sym (joined_none _ c.requires.bag.ascends)) in
-    c.in_ok-push.ensures.items ∙ ap (λ (gs : List Group). gs ++ record { op = c.args.op; bag = c.in_ok-bag.bag } ∷ []) c.in_ok-reserve.ensures.items ∙ new
+    c.in_ok-push.ensures.items ∙ ap (λ (gs : List Group). gs ++ record { op = c.args.op; bag = c.in_ok-bag.bag }
+    ∷ []) c.in_ok-reserve.ensures.items ∙ new

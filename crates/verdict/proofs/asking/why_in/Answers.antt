@@ -11,5 +11,6 @@ use Rattle.verdict.proofs.asking.why_in.Goals as goal
 pub returns-in-Ok-clause-found : goal.returns-in-Ok-clause-found
 returns-in-Ok-clause-found g c =
     IfOk-weaker c.read_found.result (WhyFinds c.in-Ok.declared c.args.ask.now) (IsFoundOf (Why c.args.ask.now) c.args.log)
-    (λ (f : Finding) h. why_found c.args.log c.args.ask.now c.in-Ok.ensures.keeps f (subst (λ (t : Tables). WhyFinds t c.args.ask.now f) c.in-Ok.ensures.declared h))
+    (λ (f : Finding) h. why_found c.args.log c.args.ask.now c.in-Ok.ensures.keeps f
+    (subst (λ (t : Tables). WhyFinds t c.args.ask.now f) c.in-Ok.ensures.declared h))
     c.read_found.ensures.found

@@ -9,4 +9,5 @@ use Rattle.verdict.proofs.checking.passed.Goals as goal
 
 pub returns-in-Ok-clause-stop : goal.returns-in-Ok-clause-stop
 returns-in-Ok-clause-stop g c =
-    IfErr-weaker c.replay.result _ _ (λ (s : Stop) h. subst (λ (t : Tables). IsStop (CheckFinds t) s) c.in-Ok.ensures.clean (stop_of_difference c.in-Ok.clean s h)) c.replay.ensures.stop
+    IfErr-weaker c.replay.result _ _ (λ (s : Stop) h. subst (λ (t : Tables). IsStop (CheckFinds t) s) c.in-Ok.ensures.clean
+    (stop_of_difference c.in-Ok.clean s h)) c.replay.ensures.stop

@@ -13,20 +13,28 @@ use Rattle.verdict.proofs.reads.judged_reads.Goals as goal
 pub returns-in-Ok-clause-sound : goal.returns-in-Ok-clause-sound
 returns-in-Ok-clause-sound g c =
     let t = c.args.log.now in
-    let law = of_declared (λ (s : Tables). HasNoCycle s → IsRaceFree s → shown_difference s ≡ None → IsRight s) right_everywhere t c.is_declared.ensures c.requires.faultless in
-    record { no_cycle = c.requires.sorted.order.free; no_race = c.requires.free; right = law c.requires.sorted.order.free c.requires.free c.in-Ok.ensures.right }
+    let law = of_declared (λ (s : Tables). HasNoCycle s → IsRaceFree s → shown_difference s ≡ None
+    → IsRight s) right_everywhere t c.is_declared.ensures c.requires.faultless in
+    record {
+      no_cycle = c.requires.sorted.order.free;
+      no_race = c.requires.free;
+      right =
+          law c.requires.sorted.order.free c.requires.free c.in-Ok.ensures.right;
+    }
 
 pub returns-in-Err-Differ-clause-stop : goal.returns-in-Err-Differ-clause-stop
 returns-in-Err-Differ-clause-stop g c =
     let t = c.args.log.now in
-    let law = of_declared (λ (s : Tables). HasNoCycle s → IsRaceFree s → (r : Seen) → shown_difference s ≡ Some r → Differs s r) differs_everywhere t c.is_declared.ensures c.requires.faultless in
+    let law = of_declared (λ (s : Tables). HasNoCycle s → IsRaceFree s → (r : Seen) → shown_difference s ≡ Some r
+    → Differs s r) differs_everywhere t c.is_declared.ensures c.requires.faultless in
     let w = c.in-Err-Differ in
     let end = told t c.replayed.result w.field-0 w.task w.req w.point w.field w.got w.want c.replayed.ensures.end w.is w.field-0-is in (
-      subst (FindsDifference t) (sym (c.differ_found.ensures.finding ∙ same_reads w.task-is w.req-is w.point-is w.field-is w.got-is w.want-is)) (
-        c.requires.sorted.order.free,
-        c.requires.free,
-        record { shown = end.0; differs = law c.requires.sorted.order.free c.requires.free _ end.0; want_is = end.1 },
-      ),
+      subst (FindsDifference t) (sym (c.differ_found.ensures.finding
+          ∙ same_reads w.task-is w.req-is w.point-is w.field-is w.got-is w.want-is)) (
+            c.requires.sorted.order.free,
+            c.requires.free,
+            record { shown = end.0; differs = law c.requires.sorted.order.free c.requires.free _ end.0; want_is = end.1 },
+          ),
       c.differ_found.ensures.good,
     )
 

@@ -26,7 +26,8 @@ loop-run-preserved c =
 pub unreachable-requires : goal.unreachable-requires
 unreachable-requires c =
     let joined = c.loop-run.joined.items in
-    let all : joined ++ c.loop-run.rest.now ≡ joined = ap (λ (rs : List (ℕ × ℕ)). joined ++ rs) c.in_default.ensures.none ∙ append-nil joined in
+    let all : joined ++ c.loop-run.rest.now ≡ joined =
+    ap (λ (rs : List (ℕ × ℕ)). joined ++ rs) c.in_default.ensures.none ∙ append-nil joined in
     let are = are_runs 0 joined (subst (AreRunsFrom 0) all c.loop-run.invariant.order) in
     let no : false ≡ true = c.in-None.ensures.ordered.1 (subst AreRuns (sym c.into_bump_slice.ensures) are) in
     cc

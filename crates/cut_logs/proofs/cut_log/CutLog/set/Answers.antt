@@ -9,10 +9,12 @@ pub returns-in-Some : goal.returns-in-Some
 returns-in-Some g c =
     let listed = listed_of c.self.inside.listed in
     let space = c.args.space in
-    ap (λ t. points_in t space) (sym c.self.view_is) ∙ points_cut_to listed c.self.inside.log.now space ∙ ap (kept listed) c.in-Some.ensures ∙ sym c.at.ensures
+    ap (λ t. points_in t space) (sym c.self.view_is) ∙ points_cut_to listed c.self.inside.log.now space ∙ ap (kept listed) c.in-Some.ensures
+    ∙ sym c.at.ensures
 
 pub returns-in-None : goal.returns-in-None
 returns-in-None g c =
     let listed = listed_of c.self.inside.listed in
     let space = c.args.space in
-    ap (λ t. points_in t space) (sym c.self.view_is) ∙ points_cut_to listed c.self.inside.log.now space ∙ ap (kept listed) c.in-None.ensures ∙ kept_nothing listed
+    ap (λ t. points_in t space) (sym c.self.view_is) ∙ points_cut_to listed c.self.inside.log.now space ∙ ap (kept listed) c.in-None.ensures
+    ∙ kept_nothing listed

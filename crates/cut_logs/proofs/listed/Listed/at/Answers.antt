@@ -3,7 +3,9 @@ use Rattle.cut_logs.proofs.Keeping.{kept_ascends, kept_bounded}
 use Rattle.cut_logs.proofs.listed.Listed.at.Goals as goal
 
 pub invariant_of-result-clause-ascends : goal.invariant_of-result-clause-ascends
-invariant_of-result-clause-ascends g c = kept_ascends (listed_of c.args.listed) (g.S.PointSet.points c.args.set.now) (g.met.S.PointSet.ascends c.args.set.now)
+invariant_of-result-clause-ascends g c = kept_ascends (listed_of c.args.listed) (g.S.PointSet.points c.args.set.now)
+    (g.met.S.PointSet.ascends c.args.set.now)
 
 pub invariant_of-result-clause-bounded : goal.invariant_of-result-clause-bounded
-invariant_of-result-clause-bounded g c = kept_bounded (listed_of c.args.listed) (g.S.PointSet.points c.args.set.now) (g.met.S.PointSet.bounded c.args.set.now)
+invariant_of-result-clause-bounded g c = kept_bounded (listed_of c.args.listed) (g.S.PointSet.points c.args.set.now)
+    (g.met.S.PointSet.bounded c.args.set.now)

@@ -5,7 +5,8 @@ use Rattle.event_graph.specs.Marked.{AreMarked}
 use Rattle.event_graph.proofs.Walks.{order_within, none_stuck, first_stuck}
 use Rattle.event_graph.proofs.graph.Graph.cycle.Goals as goal
 
-marked : (nodes : List Node) (marks seen : List Bool) (count : ℕ) (taken : List ℕ) → AreMarked marks count taken → seen ≡ marks → count ≡ length nodes → taken ≡ replay_order nodes → AreMarked seen (length nodes) (replay_order nodes)
+marked : (nodes : List Node) (marks seen : List Bool) (count : ℕ) (taken : List ℕ) → AreMarked marks count taken → seen ≡ marks
+    → count ≡ length nodes → taken ≡ replay_order nodes → AreMarked seen (length nodes) (replay_order nodes)
 marked nodes marks seen count taken h is many same = rw (is, ← many, ← same) h
 
 pub marks_of-requires : goal.marks_of-requires
@@ -19,8 +20,10 @@ returns-in-Some c =
     let are = marked c.args.self.now c.in_ok-marks.marks.items c.as_slice.result.now c.len.result c.args.taken.now c.in_ok-marks.ensures c.as_slice.ensures.value count c.requires in
     let some = c.in-Some.ensures.some in
     let nodes : c.as_slice-in-Some.result.now ≡ c.args.self.now = c.as_slice-in-Some.ensures.value ∙ c.self.view_is in
-    let round = c.as_slice-in-Some-3.ensures.value ∙ (c.in_ok-round-in-Some.ensures ∙ ap (λ (ns : List Node). walk ns (length ns + 1) [] c.in-Some.start) nodes) in
-    ap (λ (ks : List ℕ). Some ks) (c.in_ok-turned-in-Some.ensures ∙ ap from_least round) ∙ sym (first_stuck c.args.self.now c.as_slice.result.now are c.in-Some.start some.0 some.1 c.in-Some.ensures.first)
+    let round = c.as_slice-in-Some-3.ensures.value
+    ∙ (c.in_ok-round-in-Some.ensures ∙ ap (λ (ns : List Node). walk ns (length ns + 1) [] c.in-Some.start) nodes) in
+    ap (λ (ks : List ℕ). Some ks) (c.in_ok-turned-in-Some.ensures ∙ ap from_least round)
+    ∙ sym (first_stuck c.args.self.now c.as_slice.result.now are c.in-Some.start some.0 some.1 c.in-Some.ensures.first)
 
 pub returns : goal.returns
 returns c =

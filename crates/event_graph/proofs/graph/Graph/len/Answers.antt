@@ -5,4 +5,5 @@ use Rattle.event_graph.proofs.Waited.{linked_from}
 use Rattle.event_graph.proofs.graph.Graph.len.Goals as goal
 
 pub returns-clause-linked : goal.returns-clause-linked
-returns-clause-linked c = subst AreLinked c.self.view_is (linked_from c.self.inside.nodes.items (get nat_eq c.self.inside.places) c.self.invariant.1)
+returns-clause-linked c = subst AreLinked c.self.view_is
+    (linked_from c.self.inside.nodes.items (get nat_eq c.self.inside.places) c.self.invariant.1)

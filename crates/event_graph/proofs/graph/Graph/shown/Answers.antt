@@ -9,16 +9,19 @@ use Rattle.event_graph.proofs.graph.Graph.shown.Goals as goal
 
 pub events_at-requires : goal.events_at-requires
 events_at-requires c =
-    let linked = subst AreLinked c.self.view_is (linked_from c.self.inside.nodes.items (get nat_eq c.self.inside.places) c.self.invariant.1) in
+    let linked = subst AreLinked c.self.view_is (linked_from c.self.inside.nodes.items
+    (get nat_eq c.self.inside.places) c.self.invariant.1) in
     let is = shown_is_cycle c.args.self.now linked c.args.cycle.now c.requires in
     rw (c.as_slice.ensures.value, c.self.view_is) (cycle_within c.args.self.now c.args.cycle.now is)
 
 pub returns : goal.returns
 returns c =
-    let linked = subst AreLinked c.self.view_is (linked_from c.self.inside.nodes.items (get nat_eq c.self.inside.places) c.self.invariant.1) in
+    let linked = subst AreLinked c.self.view_is (linked_from c.self.inside.nodes.items
+    (get nat_eq c.self.inside.places) c.self.invariant.1) in
     record {
       cycle = c.args.cycle.now;
       is_cycle = shown_is_cycle c.args.self.now linked c.args.cycle.now c.requires;
       shown = c.requires;
-      events_are = c.in_ok-events.ensures ∙ ap (λ (ns : List Node). map (event_at ns) c.args.cycle.now) (c.as_slice.ensures.value ∙ c.self.view_is);
+      events_are = c.in_ok-events.ensures ∙ ap (λ (ns : List Node). map (event_at ns) c.args.cycle.now) (c.as_slice.ensures.value
+          ∙ c.self.view_is);
     }

@@ -15,7 +15,8 @@ pub returns-then-k-events-clause-some : goal.returns-then-k-events-clause-some
 returns-then-k-events-clause-some c =
     let events = c.waits_of-events.ensures ∙ ap (λ (ns : List Node). waits_at ns c.args.node) c.as_slice.ensures.value in
     subst (λ (ns : List Node). IsWait ns c.args.node c.args.k c.place_of.result) c.self.view_is
-    (wait_found c.self.inside.nodes.items (get nat_eq c.self.inside.places) c.self.invariant.1 c.args.node c.args.k c.place_of.result c.waits_of-events.result.now events c.if-k-events.true c.place_of.ensures)
+    (wait_found c.self.inside.nodes.items
+    (get nat_eq c.self.inside.places) c.self.invariant.1 c.args.node c.args.k c.place_of.result c.waits_of-events.result.now events c.if-k-events.true c.place_of.ensures)
 
 pub returns-else-node-len-clause-none : goal.returns-else-node-len-clause-none
 returns-else-node-len-clause-none c =

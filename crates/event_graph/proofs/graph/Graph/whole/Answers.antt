@@ -23,12 +23,15 @@ pub of-requires-clause-whole : goal.of-requires-clause-whole
 of-requires-clause-whole c = λ k lt.
     let count : c.len.result ≡ length c.args.self.now = cc in
     let within : k < length c.args.self.now = omega (arith, count, lt) in
-    subst (λ (ks : List ℕ). Contains ks k) (sym c.requires.taken) ((listed_decides c.args.self.now k).1 (within, (none_shown c.args.self.now).0 c.requires.none k within))
+    subst (λ (ks : List ℕ). Contains ks k) (sym c.requires.taken)
+    ((listed_decides c.args.self.now k).1 (within, (none_shown c.args.self.now).0 c.requires.none k within))
 
 pub returns : goal.returns
 returns c =
-    let linked = subst AreLinked c.self.view_is (linked_from c.self.inside.nodes.items (get nat_eq c.self.inside.places) c.self.invariant.1) in
+    let linked = subst AreLinked c.self.view_is (linked_from c.self.inside.nodes.items
+    (get nat_eq c.self.inside.places) c.self.invariant.1) in
     record {
       replayed = c.in_ok-order.ensures ∙ c.requires.taken;
-      free = no_cycle c.args.self.now ((none_shown c.args.self.now).0 c.requires.none) (λ ks cycle k h. cycle_is_stuck c.args.self.now linked ks cycle k (member_of ks k h));
+      free = no_cycle c.args.self.now ((none_shown c.args.self.now).0 c.requires.none)
+          (λ ks cycle k h. cycle_is_stuck c.args.self.now linked ks cycle k (member_of ks k h));
     }

@@ -7,4 +7,5 @@ pub returns-clause-place : goal.returns-clause-place
 returns-clause-place c =
     c.number_at.ensures ∙ (ap (λ (ps : List ℕ). slice_get ps c.args.node) c.as_slice.ensures.value
     ∙ (found_place c.self.inside.nodes.items c.self.inside.places.items c.self.invariant c.args.node
-    ∙ (sym (position_from-zero (λ m. m == c.args.node) c.self.inside.nodes.items) ∙ ap (λ (ns : List ℕ). position (λ m. m == c.args.node) ns) c.self.view_is)))
+    ∙ (sym (position_from-zero (λ m. m == c.args.node) c.self.inside.nodes.items)
+    ∙ ap (λ (ns : List ℕ). position (λ m. m == c.args.node) ns) c.self.view_is)))

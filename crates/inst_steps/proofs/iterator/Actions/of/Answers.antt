@@ -8,7 +8,8 @@ use Rattle.inst_steps.proofs.iterator.Actions.of.Goals as goal
 pub returns-clause-steps : goal.returns-clause-steps
 returns-clause-steps g c =
     let t = c.args.log.now in
-    rw c.again.ensures (ap steps_in c.start_from-at.ensures.actions ∙ all_steps t _ ∙ node_moves t c.nodes.result.now c.args.node c.index-nodes-node.result c.nodes.ensures c.requires)
+    rw c.again.ensures (ap steps_in c.start_from-at.ensures.actions ∙ all_steps t _
+    ∙ node_moves t c.nodes.result.now c.args.node c.index-nodes-node.result c.nodes.ensures c.requires)
 
 pub returns-clause-by : goal.returns-clause-by
 returns-clause-by g c =

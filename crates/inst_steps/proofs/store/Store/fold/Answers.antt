@@ -7,7 +7,8 @@ use Rattle.inst_steps.proofs.store.Store.fold.Goals.{in-Some, in-None}
 use Rattle.inst_steps.proofs.store.Store.fold.Goals as goal
 
 pub fold-requires : goal.fold-requires
-fold-requires c = rw (sym (value_there c.self.inside.cells.entries c.args.self.now c.args.cell c.self.view_is c.in-Some.slot.now c.in-Some.ensures.value)) c.requires.fits
+fold-requires c = rw
+    (sym (value_there c.self.inside.cells.entries c.args.self.now c.args.cell c.self.view_is c.in-Some.slot.now c.in-Some.ensures.value)) c.requires.fits
 
 pub returns-clause-ok : goal.returns-clause-ok
 returns-clause-ok c =
@@ -32,7 +33,8 @@ returns-clause-err c =
       | in-Some w ↦
           let new = w.fold.new.self in
           rw (w.result-is, w.self-inside-is) (on_err_weaker w.fold.result
-          (λ e. same_written es c.args.self.now c.args.cell c.self.view_is (c.get_mut.follows.lender new).entries new (ap (λ v. Some v) e ∙ w.in-Some.ensures.value) (c.get_mut.follows.holds new).0)
+          (λ e. same_written es c.args.self.now c.args.cell c.self.view_is (c.get_mut.follows.lender new).entries new (ap (λ v. Some v) e
+          ∙ w.in-Some.ensures.value) (c.get_mut.follows.holds new).0)
           w.fold.ensures.err)
       | in-None w ↦ not_missing es c.args.self.now c.args.cell c.self.view_is (sym w.in-None.ensures.value) c.requires.there
     ]

@@ -10,6 +10,7 @@ returns c =
     elim c.match-get_mut.branch [
       | in-Some w ↦
           let h = (c.get_mut.follows.holds c.args.value).3 there in
-          rw w.self-inside-is (put_at es c.args.self.now c.args.cell c.self.view_is (c.get_mut.follows.lender c.args.value).entries c.args.value h.0)
+          rw w.self-inside-is (put_at es c.args.self.now c.args.cell c.self.view_is
+          (c.get_mut.follows.lender c.args.value).entries c.args.value h.0)
       | in_default w ↦ not_missing es c.args.self.now c.args.cell c.self.view_is (sym w.in_default.ensures.value) c.requires
     ]

@@ -6,7 +6,9 @@ use Rattle.interference.proofs.search.Search.of.Goals as goal
 
 pub returns-clause-search : goal.returns-clause-search
 returns-clause-search g c = record {
-  asked = subst (λ (n : ℕ). IfSome c.args.asked (λ places. length places.now ≡ n)) (sym (usages_length c.args.log.now) ∙ sym (ap length c.uses-items.ensures)) c.requires;
+  asked = subst (λ (n : ℕ). IfSome c.args.asked (λ places. length places.now ≡ n)) (sym (usages_length c.args.log.now)
+      ∙ sym (ap length c.uses-items.ensures)) c.requires;
   blocks = subst (AreBlocks c.blocks-spans.result.now) (sym c.uses-items.ensures) c.blocks-spans.ensures;
-  representatives = subst (AreRepresentatives c.representatives-chosen.result.now) (sym c.uses-items.ensures) c.representatives-chosen.ensures;
+  representatives = subst (AreRepresentatives c.representatives-chosen.result.now)
+      (sym c.uses-items.ensures) c.representatives-chosen.ensures;
 }

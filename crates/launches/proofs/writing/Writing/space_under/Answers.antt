@@ -13,4 +13,5 @@ returns-clause-space c =
 pub returns-clause-id : goal.returns-clause-id
 returns-clause-id c =
     let was = c.self.inside in
-    space_good was.written.items was.subs was.inner was.bytes c.args.part c.args.colour c.self.invariant c.space_of_step.result (c.space_of_step.ensures ∙ space_found was.written.items was.subs was.inner was.bytes c.args.part c.args.colour c.self.invariant)
+    space_good was.written.items was.subs was.inner was.bytes c.args.part c.args.colour c.self.invariant c.space_of_step.result
+    (c.space_of_step.ensures ∙ space_found was.written.items was.subs was.inner was.bytes c.args.part c.args.colour c.self.invariant)

@@ -12,4 +12,5 @@ returns c = λ k a.
     let joins : clashes (Some c.joined-claim.result) a ≡ (clashes (old c.args.place) a || not (agree access a)) =
     c.joined-claim.ensures a ∙ ap (λ o. clashes o a || not (agree access a)) (c.copied-kept.ensures ∙ c.get.ensures.value)
     in
-    clashes-put old c.args.place k c.joined-claim.result (get same_place c.insert.new.self k) access a (c.in_ok-insert.ensures.updates.0 k) joins
+    clashes-put old c.args.place k c.joined-claim.result (get same_place c.insert.new.self k) access a
+    (c.in_ok-insert.ensures.updates.0 k) joins

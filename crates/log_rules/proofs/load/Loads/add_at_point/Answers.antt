@@ -5,4 +5,5 @@ use Rattle.log_rules.proofs.load.Loads.add_at_point.Goals as goal
 pub loop-field-preserved : goal.loop-field-preserved
 loop-field-preserved c = λ k.
     load-field (load_in c.args.self.now k) (load_in c.loop-field.self k) (load_in c.add.new.self k)
-    c.args.tree c.args.point c.args.fields.now c.loop-field.field-index k c.requires c.loop-field-test.true (c.loop-field.invariant k) (c.in_ok-add.ensures k)
+    c.args.tree c.args.point c.args.fields.now c.loop-field.field-index k c.requires c.loop-field-test.true (c.loop-field.invariant k)
+    (c.in_ok-add.ensures k)

@@ -7,4 +7,5 @@ abbrev pub invariant-loop-point : goal.invariant-loop-point
 invariant-loop-point g l =
     (goal.iterator-loop-point g).can_next l.point-iterator × (goal.iterator-loop-point g).is_finite l.point-iterator
     × (l.load < 2 ^ 128)
-    × (cut (l.load + grid_load (load_in l.self) l.tree l.fields l.point-iterator) ≡ cut (grid_load (load_in l.self) l.tree l.fields (g.P.PointSet.points l.set)))
+    × (cut (l.load + grid_load (load_in l.self) l.tree l.fields l.point-iterator)
+    ≡ cut (grid_load (load_in l.self) l.tree l.fields (g.P.PointSet.points l.set)))

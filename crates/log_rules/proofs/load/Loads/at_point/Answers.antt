@@ -11,5 +11,6 @@ loop-field-preserved c =
     let f = λ (n : ℕ). load_in c.args.self.now (record { tree = c.args.tree; point = c.args.point; field = n }) in
     let more = sum_by_more f fields i 0 c.loop-field-test.true in
     let before : c.loop-field.load ≡ cut (sum_by f (take i fields)) = c.loop-field.invariant in
-    let kept : c.raised-load.result ≡ cut (sum_by f (take (i + 1) fields)) = omega (arith, more, before, c.raised-load.ensures.sum, c.at.ensures) in
+    let kept : c.raised-load.result ≡ cut (sum_by f (take (i + 1) fields)) =
+    omega (arith, more, before, c.raised-load.ensures.sum, c.at.ensures) in
     kept

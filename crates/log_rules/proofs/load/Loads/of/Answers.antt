@@ -14,5 +14,6 @@ loop-req-preserved g c = λ k.
     let mid = load_in c.loop-req.loads k in
     let P : List Req → Type 0 = λ xs. i < length xs in
     let is = c.req-item.is ∙ ap (λ (xs : List Req). get_or xs i item) c.reqs-req-items.ensures.reqs in
-    load-req t k t.reqs i item mid (load_in c.add_req.new.self k) (subst P c.reqs-req-items.ensures.reqs c.loop-req-test.true) (c.loop-req.invariant k)
+    load-req t k t.reqs i item mid (load_in c.add_req.new.self k) (subst P c.reqs-req-items.ensures.reqs c.loop-req-test.true)
+    (c.loop-req.invariant k)
     (c.in_ok-add_req.ensures k ∙ ap (λ (q : Req). cut (mid + one (reduces q.access && covers t k q))) is)

@@ -14,5 +14,6 @@ loop-inst-preserved g c =
     let before : c.loop-inst.load ≡ cut (sum_by f (take i insts)) = c.loop-inst.invariant in
     let same : f item ≡ f (get_or insts i item) = ap f c.inst-item.is in
     let here : c.of_inst.result ≡ cut (f item) = c.of_inst.ensures in
-    let kept : c.raised-load.result ≡ cut (sum_by f (take (i + 1) insts)) = omega (arith, more, before, same, here, c.raised-load.ensures.sum) in
+    let kept : c.raised-load.result ≡ cut (sum_by f (take (i + 1) insts)) =
+    omega (arith, more, before, same, here, c.raised-load.ensures.sum) in
     kept

@@ -21,13 +21,16 @@ returns g c = λ earlier line is may.
     record {
       points =
           c.raised.ensures.sum ∙ ap (λ m. cut (old.points + m)) c.points_asked.ensures
-          ∙ cut-both old.points (points_asked r) most ∙ points-exact t r old.points is.points c.raised.ensures.fits may.points ∙ sym (point_total-add t line r);
+          ∙ cut-both old.points (points_asked r) most ∙ points-exact t r old.points is.points c.raised.ensures.fits may.points
+          ∙ sym (point_total-add t line r);
       cells =
           c.raised-2.ensures.sum ∙ ap (λ m. cut (old.cells + m)) c.cells_asked.ensures
-          ∙ cut-both old.cells (cells_asked t r) most ∙ cells-exact t r old.cells is.cells c.raised-2.ensures.fits may.cells ∙ sym (cell_total-add t line r is.known.insts may.known);
+          ∙ cut-both old.cells (cells_asked t r) most ∙ cells-exact t r old.cells is.cells c.raised-2.ensures.fits may.cells
+          ∙ sym (cell_total-add t line r is.known.insts may.known);
       accesses =
           c.raised-3.ensures.sum ∙ ap (λ m. cut (old.accesses + m)) c.accesses.ensures
-          ∙ cut-both old.accesses (accesses t r) most ∙ accesses-exact earlier t r old.accesses is.accesses may.accesses ∙ sym (access_total-add earlier t line r is.known.accesses may.known);
+          ∙ cut-both old.accesses (accesses t r) most ∙ accesses-exact earlier t r old.accesses is.accesses may.accesses
+          ∙ sym (access_total-add earlier t line r is.known.accesses may.known);
       lists = λ n. c.in_ok-note_listed.ensures n ∙ ap (λ b. b || is_in (ids_listed r) n) (is.lists n) ∙ sym (listed-add t line r n);
       claims = AreClaims-add t line r old.claims c.note_claims.new.claims is.claims is.known.reqs c.in_ok-note_claims.ensures;
       known = AreKnown-add earlier t line r is.known may.known;

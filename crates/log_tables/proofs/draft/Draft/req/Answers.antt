@@ -5,4 +5,5 @@ use Rattle.list_lemmas.proofs.lemmas.Places.{all_found_behind}
 use Rattle.log_tables.proofs.draft.Draft.req.Goals as goal
 
 pub returns-clause-ascend : goal.returns-clause-ascend
-returns-clause-ascend g c = all_found_behind (λ (r : Req). IsStrictlyIncreasing r.fields) (λ (r : Req). (r.item == c.args.item) && (r.number == c.args.number)) _ c.get.result c.self.invariant.reqs c.get.ensures
+returns-clause-ascend g c = all_found_behind (λ (r : Req). IsStrictlyIncreasing r.fields)
+    (λ (r : Req). (r.item == c.args.item) && (r.number == c.args.number)) _ c.get.result c.self.invariant.reqs c.get.ensures

@@ -13,4 +13,5 @@ returns-clause-place g c =
 pub returns-clause-req : goal.returns-clause-req
 returns-clause-req g c =
     let test = λ (r : Req). (r.item == c.args.item) && (r.number == c.args.number) in
-    find_by_place test c.args.self.now.reqs c.place.result (c.place.ensures ∙ ap (λ (t : Tables). position_from test 0 t.reqs) c.self.view_is)
+    find_by_place test c.args.self.now.reqs c.place.result (c.place.ensures
+    ∙ ap (λ (t : Tables). position_from test 0 t.reqs) c.self.view_is)

@@ -17,7 +17,14 @@ returns-in-Some-clause-end g c =
     let u = c.in-Some.field-0 in
     let unlike = MatchOption-at_some _ _ u c.in-Some.is c.in_ok-unlike_at.ensures in
     let wanted = want_is t c.args.self.now.versions.now c.requires.versions c.args.item c.args.task c.args.req c.tree_of.result c.args.cell.now u.got c.requires.item.0 c.requires.item.1 c.requires.inst c.tree_of.ensures in
-    let seen : Value → Seen = λ v. record { task = c.args.task; number = c.args.req; point = c.args.cell.now.point; field = c.args.cell.now.field; got = v } in (
+    let seen : Value → Seen = λ v. record {
+      task = c.args.task;
+      number = c.args.req;
+      point = c.args.cell.now.point;
+      field =
+          c.args.cell.now.field;
+      got = v;
+    } in (
       ap (λ v. differing t (seen v)) (sym unlike.got_is) ∙ differs t (seen u.got) (λ e. unlike.differ (sym unlike.got_is ∙ e ∙ sym wanted)),
       unlike.want_is ∙ wanted,
     )

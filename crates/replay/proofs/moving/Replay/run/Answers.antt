@@ -12,7 +12,9 @@ pub take_nodes-requires-clause-nodes : goal.take_nodes-requires-clause-nodes
 take_nodes-requires-clause-nodes g c =
     let t = c.args.self.now.log.now in
     let same = c.as_slice.ensures ∙ c.requires.order.replayed in
-    let within = all_contained (λ k. k < length t.nodes) c.as_slice.result.now (λ k h. subst (λ n. k < n) (length-map t.nodes _) ((listed_decides (graph_of t.nodes) k).0 (subst (λ ns. Contains ns k) same h)).0) in
+    let within = all_contained (λ k. k < length t.nodes) c.as_slice.result.now
+    (λ k h. subst (λ n. k < n) (length-map t.nodes _)
+    ((listed_decides (graph_of t.nodes) k).0 (subst (λ ns. Contains ns k) same h)).0) in
     subst (λ ns. All (λ k. k < length ns) c.as_slice.result.now) (sym (cut_nodes t c.args.self.now.cut.now c.requires.cut)) within
 
 pub take_nodes-requires-clause-stands : goal.take_nodes-requires-clause-stands
@@ -21,4 +23,5 @@ take_nodes-requires-clause-stands g c =
     let u = c.args.self.now.cut.now in
     let of = c.requires.cut in
     let same = c.as_slice.ensures ∙ c.requires.order.replayed ∙ ap (λ ns. replay_order (graph_of ns)) (sym (cut_nodes t u of)) in
-    subst (λ ks. Stands u (steps_by u ks) c.in_ok-store.store) (sym same) (cut_stands t c.is_declared.ensures u of c.requires.mapped c.in_ok-store.store c.in_ok-store.ensures)
+    subst (λ ks. Stands u (steps_by u ks) c.in_ok-store.store) (sym same)
+    (cut_stands t c.is_declared.ensures u of c.requires.mapped c.in_ok-store.store c.in_ok-store.ensures)

@@ -13,7 +13,9 @@ loop-action-init g c =
       tt,
       tt,
       subst (AllByRecursion (IsBy t)) (sym of) by,
-      stands_in c.args.self.now.cut.now c.args.order.now c.args.place (steps_in c.into_iter-action-iterator.result) c.args.store.now c.requires.place (ap steps_in of ∙ c.actions_of-action-items.ensures.steps) c.requires.stands,
+      stands_in c.args.self.now.cut.now c.args.order.now c.args.place
+          (steps_in c.into_iter-action-iterator.result) c.args.store.now c.requires.place (ap steps_in of
+          ∙ c.actions_of-action-items.ensures.steps) c.requires.stands,
     )
 
 pub loop-action-preserved : goal.loop-action-preserved
@@ -23,6 +25,11 @@ loop-action-preserved g c =
     let node = slice_index order c.args.place in
     let left = left_in t order c.args.place node (steps_in c.next.new.self) in
     let by = subst (AllByRecursion (IsBy c.args.self.now.log.now)) c.in-Some.ensures.steps c.loop-action.invariant.2 in
-    let before = subst (λ rest. Stands t (left_in t order c.args.place node (steps_in rest)) c.loop-action.store) c.in-Some.ensures.steps c.loop-action.invariant.3 in
-    let after = stands_on t (record { node = node; move = c.in-Some.action.step }) left c.loop-action.store before c.in_ok-take.ensures.right in
+    let before = subst (λ rest. Stands t (left_in t order c.args.place node
+    (steps_in rest)) c.loop-action.store) c.in-Some.ensures.steps c.loop-action.invariant.3 in
+    let after = stands_on t (record {
+      node = node;
+      move =
+          c.in-Some.action.step;
+    }) left c.loop-action.store before c.in_ok-take.ensures.right in
     (tt, tt, by.1, subst (Stands t left) (sym c.in_ok-take.ensures.moved) after)

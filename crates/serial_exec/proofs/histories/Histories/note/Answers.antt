@@ -18,8 +18,11 @@ pub returns : goal.returns
 returns c = λ p.
     let empty = get same_place c.get_mut.follows.lender-at-none in
     let old = get same_place c.args.self.now.lists in
-    let none = ap (λ m. get same_place m c.args.place) c.get_mut.follows.holds-at-none ∙ sym c.get_mut.ensures.value ∙ ap option_copied_mut c.in_default.is in
+    let none = ap (λ m. get same_place m c.args.place) c.get_mut.follows.holds-at-none ∙ sym c.get_mut.ensures.value
+    ∙ ap option_copied_mut c.in_default.is in
     list-put (λ v. v.items) empty (get same_place c.insert.new.self p) c.args.place p c.push-2.new.self c.args.change
     (c.in_ok-insert.ensures.updates.0 p)
-    (c.in_ok-push-2.ensures.items ∙ ap (λ xs. xs ++ c.args.change ∷ []) (c.in_ok-list.ensures.items ∙ ap (λ o. option_map_or (λ v. v.items) o []) (sym none)))
-    ∙ ap (λ m. option_map_or (λ v. v.items) (get same_place m p) [] ++ cond (same_place c.args.place p) (c.args.change ∷ []) []) c.get_mut.follows.holds-at-none
+    (c.in_ok-push-2.ensures.items ∙ ap (λ xs. xs ++ c.args.change ∷ []) (c.in_ok-list.ensures.items
+    ∙ ap (λ o. option_map_or (λ v. v.items) o []) (sym none)))
+    ∙ ap (λ m. option_map_or (λ v. v.items) (get same_place m p) []
+    ++ cond (same_place c.args.place p) (c.args.change ∷ []) []) c.get_mut.follows.holds-at-none

@@ -14,7 +14,8 @@ loop-point-init g c =
       tt,
       tt,
       subst P (sym start) (AllPairs-from_increasing (g.P.PointSet.points set) (g.met.P.PointSet.ascends set)),
-      λ p. ap (λ (xs : List ℕ). changes_at c.args.self.now p ++ cond (covered c.args.tree xs c.args.fields.now p) (c.args.change ∷ []) []) start,
+      λ p. ap (λ (xs : List ℕ). changes_at c.args.self.now p
+          ++ cond (covered c.args.tree xs c.args.fields.now p) (c.args.change ∷ []) []) start,
     )
 
 pub loop-point-preserved : goal.loop-point-preserved

@@ -10,4 +10,5 @@ use Rattle.serial_exec.proofs.marks.Marks.of.Given as goal
 abbrev pub invariant-loop-place : goal.invariant-loop-place
 invariant-loop-place l =
     IsDistinct same_place (keys_of l.place-iterator)
-    × ((p : Place) → MatchOption (lookup (same_place p) l.place-iterator) (AreMarksOf (marks_at l.marks p) (changes_at l.histories p)) (λ v. (marks_at l.marks p ≡ []) × (changes_at l.histories p ≡ v.items)))
+    × ((p : Place) → MatchOption (lookup (same_place p) l.place-iterator) (AreMarksOf (marks_at l.marks p) (changes_at l.histories p))
+    (λ v. (marks_at l.marks p ≡ []) × (changes_at l.histories p ≡ v.items)))

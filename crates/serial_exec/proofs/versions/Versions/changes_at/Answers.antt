@@ -11,7 +11,8 @@ returns-in-Some c =
     let h = c.self.inside.histories in
     let p = c.args.place.now in
     c.as_slice.ensures.value
-    ∙ sym (found-at (λ v. v.items) (get same_place h.lists p) (Some c.in-Some.list.now) (sym (ap option_copied c.in-Some.is) ∙ c.get.ensures.value))
+    ∙ sym (found-at (λ v. v.items) (get same_place h.lists p) (Some c.in-Some.list.now) (sym (ap option_copied c.in-Some.is)
+    ∙ c.get.ensures.value))
     ∙ sym (kept-changes c.self.inside.moments.items h p)
     ∙ ap (λ (k : Kept). changes_in k p) c.self.view_is
 

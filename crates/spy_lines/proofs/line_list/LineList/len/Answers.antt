@@ -4,4 +4,5 @@ use Rattle.spy_lines.proofs.line_list.LineList.len.Goals as goal
 
 pub returns-clause-count : goal.returns-clause-count
 returns-clause-count c =
-    c.count_feeds.ensures ∙ ap (count_by (λ (b : ℕ). b == 10)) c.deref.ensures.value ∙ sym (length-lines_of c.self.inside.bytes.items) ∙ ap length c.self.view_is
+    c.count_feeds.ensures ∙ ap (count_by (λ (b : ℕ). b == 10)) c.deref.ensures.value ∙ sym (length-lines_of c.self.inside.bytes.items)
+    ∙ ap length c.self.view_is

@@ -2,4 +2,5 @@ use Rattle.std.proofs.lemmas.Iterator.Consumers.{nth_from_yields_List, YieldsLis
 use Rattle.spy_lines.proofs.line_list.LineList.line.Goals as goal
 
 pub returns : goal.returns
-returns c = nth_from_yields_List c.nth.result c.nth.new.self c.args.k c.nth.ensures.ran (YieldsList-from_first (λ line. line.now) (λ lines. lines) c.args.self.now c.iter.ensures.lines)
+returns c = nth_from_yields_List c.nth.result c.nth.new.self c.args.k c.nth.ensures.ran
+    (YieldsList-from_first (λ line. line.now) (λ lines. lines) c.args.self.now c.iter.ensures.lines)

@@ -6,7 +6,8 @@ use Rattle.spy_lines.proofs.lines.Lines.finish.Goals as goal
 pub returns-clause-bytes : goal.returns-clause-bytes
 returns-clause-bytes c =
     ap with_ends c.from_bytes.ensures
-    ∙ with_ends-lines_of c.self.inside.bytes.items (λ unended. let no = c.if-is_unended.ensures.1 (subst IsUnended (sym c.deref.ensures.value) unended) in cc)
+    ∙ with_ends-lines_of c.self.inside.bytes.items (λ unended. let no =
+    c.if-is_unended.ensures.1 (subst IsUnended (sym c.deref.ensures.value) unended) in cc)
     ∙ c.self.view_is
 
 pub returns-clause-lines : goal.returns-clause-lines

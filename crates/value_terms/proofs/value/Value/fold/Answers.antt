@@ -15,4 +15,5 @@ pub returns-in-Nothing-clause-ok : goal.returns-in-Nothing-clause-ok
 returns-in-Nothing-clause-ok c = nothing_folded c.args.op c.args.self.now c.args.from.now c.in-Nothing.ensures
 
 pub returns-in_ok-join-in-Adds-clause-ok : goal.returns-in_ok-join-in-Adds-clause-ok
-returns-in_ok-join-in-Adds-clause-ok c = c.in_ok-join-in-Adds.ensures.ok ∙ group_folded c.args.op _ c.args.self.now c.args.from.now c.in-Adds.ensures
+returns-in_ok-join-in-Adds-clause-ok c = c.in_ok-join-in-Adds.ensures.ok
+    ∙ group_folded c.args.op _ c.args.self.now c.args.from.now c.in-Adds.ensures

@@ -1,0 +1,185 @@
+-- Rectangles and their blocks of cells.
+use Rattle.std.proofs.Common.{◌≡◌, ℕ, zero, suc, ◌+◌, ◌-◌, ◌<◌, ◌≤◌, ◌&&◌, ◌||◌, nat_le, nat_lt, Bool, true, false, List, map, [], ◌∷◌, ◌++◌, All, Contains, length, get_or, take, filter, refl, sym, ap, ◌∙◌, subst, inl, inr, arith}
+use Rattle.std.specs.List.{flat_map, range_with_len}
+use Rattle.std.specs.List.Sorted.{IsStrictlyIncreasing}
+use Rattle.std.proofs.lemmas.Bool.{cases_lt, le-leb, lt-leb, lt-ltb, le-ltb}
+use Rattle.std.proofs.lemmas.List.{take_more}
+use Rattle.std.proofs.lemmas.List.Elements.{All-nil, All-cons, All-head, All-tail, Contains-get_or}
+use Rattle.point_set.specs.declared.rect.Rect.{Rect}
+use Rattle.point_set.specs.Rects.{rect_at}
+use Rattle.point_set.proofs.lemmas.Ahead.{spread}
+use Rattle.grid.specs.Cuts.{Cuts, IsInSpan, cuts, grid_of, span_count, x_ends, y_ends}
+use Rattle.grid.proofs.lemmas.Cutting.{begins, cuts_ascend, has_ends, has_span}
+use Rattle.covered_cells.specs.declared.blocks.Block.{Block}
+use Rattle.covered_cells.specs.declared.grid_cell.GridCell.{GridCell}
+use Rattle.covered_cells.specs.Covered.{HavePoints, cell_at, cells_of, column_cells, holds, is_covered}
+use Rattle.covered_cells.specs.Marks.{AreBlocks, AreBlocksOf, IsBehind, IsBlockOf, IsWithin, cells_before, cells_below, has_cell, is_in_blocks, one_if, times}
+
+-- a rectangle of the grid lies in its columns and rows
+pub is_within : (rects : List Rect) (r : Rect) → Contains rects r → (r.x0 ≤ r.x1) × (r.y0 ≤ r.y1) → IsWithin (grid_of rects) r
+is_within rects r has some =
+    let ends = has_ends rects r has in
+    let x_up = cuts_ascend (x_ends rects) in
+    let y_up = cuts_ascend (y_ends rects) in
+    record {
+      left = has_span (cuts (x_ends rects)) r.x0 (r.x1 + 1) r.x0 x_up ends.left ends.right (omega arith) (omega (arith, some.0));
+      right = has_span (cuts (x_ends rects)) r.x0 (r.x1 + 1) r.x1 x_up ends.left ends.right some.0 (omega arith);
+      low = has_span (cuts (y_ends rects)) r.y0 (r.y1 + 1) r.y0 y_up ends.low ends.high (omega arith) (omega (arith, some.1));
+      high = has_span (cuts (y_ends rects)) r.y0 (r.y1 + 1) r.y1 y_up ends.low ends.high some.1 (omega arith);
+    }
+
+pub all_within : (rects : List Rect) (grid : Cuts) (k : ℕ) → grid ≡ grid_of rects → HavePoints rects → k < length rects
+    → IsWithin grid (rect_at rects k)
+all_within rects grid k is points lt =
+    let none : Rect = record { x0 = 0; x1 = 0; y0 = 0; y1 = 0 } in
+    subst (λ g. IsWithin g (rect_at rects k)) (sym is)
+    (is_within rects (rect_at rects k) (Contains-get_or rects k none lt) (points k none lt))
+
+-- one block more
+push_block : (grid : Cuts) (rs : List Rect) (bs : List Block) (r : Rect) (b : Block) → AreBlocksOf grid rs bs → IsBlockOf grid r b
+    → AreBlocksOf grid (rs ++ r ∷ []) (bs ++ b ∷ [])
+push_block grid [] [] r b are is = (is, tt)
+push_block grid [] (c ∷ bs) r b are is = absurd are
+push_block grid (s ∷ rs) [] r b are is = absurd are
+push_block grid (s ∷ rs) (c ∷ bs) r b are is = (are.0, push_block grid rs bs r b are.1 is)
+
+pub block_more : (grid : Cuts) (rects : List Rect) (k : ℕ) (bs cs : List Block) (b : Block) → k < length rects
+    → AreBlocksOf grid (take k rects) bs → IsBlockOf grid (rect_at rects k) b → cs ≡ bs ++ b ∷ []
+    → AreBlocksOf grid (take (k + 1) rects) cs
+block_more grid rects k bs cs b lt are is more =
+    rw (take_more rects k (record { x0 = 0; x1 = 0; y0 = 0; y1 = 0 }) lt, more)
+    (push_block grid (take k rects) bs (rect_at rects k) b are is)
+
+-- ---- A block has a cell where its rectangle has the first point of it.
+
+same_low : (ns : List ℕ) (k c n : ℕ) → IsStrictlyIncreasing ns → IsInSpan ns c n → Contains ns n → k < length ns
+    → nat_le n (get_or ns k 0) ≡ nat_le c k
+same_low ns k c n up is has lt =
+    let at = begins ns c n up is has in
+    elim (cases_lt k c) [
+      | inl before ↦
+          let far = spread ns k c up (omega arith) (omega (arith, is.0)) in
+          lt-leb n (get_or ns k 0) (omega (arith, at, far, before)) ∙ sym (lt-leb c k before)
+      | inr from ↦
+          let far = spread ns c k up from lt in
+          le-leb n (get_or ns k 0) (omega (arith, at, far)) ∙ sym (le-leb c k from)
+    ]
+
+same_high : (ns : List ℕ) (k e n : ℕ) → IsStrictlyIncreasing ns → IsBehind ns n e → k < length ns → nat_le (get_or ns k 0) n ≡ nat_lt k e
+same_high ns k e n up is lt = elim (cases_lt k e) [
+  | inl before ↦
+      let far = spread ns k (e - 1) up (omega (arith, is.0)) (omega (arith, is.1.0)) in
+      le-leb (get_or ns k 0) n (omega (arith, far, is.1.1)) ∙ sym (lt-ltb k e before)
+  | inr behind ↦
+      let z : e - 1 + 1 ≡ e = omega (arith, is.0) in
+      let above : n < get_or ns e 0 = rw z at is.1.2 in
+      let far = spread ns e k up behind lt in
+      lt-leb (get_or ns k 0) n (omega (arith, far, above)) ∙ sym (le-ltb k e behind)
+]
+
+both : (a b c d p q r s : Bool) → a ≡ p → b ≡ q → c ≡ r → d ≡ s → ((a && b) && (c && d)) ≡ ((p && q) && (r && s))
+both a b c d p q r s e f g h = rw (e, f, g, h) refl
+
+-- what is known of a grid and a rectangle of it
+pub record Cut (grid : Cuts) (r : Rect) : Type 0 where
+  pub left : Contains grid.xs r.x0
+  pub low : Contains grid.ys r.y0
+
+same_holds : (grid : Cuts) (r : Rect) (b : Block) (k l : ℕ) → IsStrictlyIncreasing grid.xs → IsStrictlyIncreasing grid.ys
+    → Cut grid r → IsBlockOf grid r b
+    → k < length grid.xs → l < length grid.ys → holds (get_or grid.xs k 0) (get_or grid.ys l 0) r ≡ has_cell k l b
+same_holds grid r b k l x_up y_up cut is k_lt l_lt =
+    both (nat_le r.x0 (get_or grid.xs k 0)) (nat_le (get_or grid.xs k 0) r.x1) (nat_le r.y0 (get_or grid.ys l 0))
+    (nat_le (get_or grid.ys l 0) r.y1)
+    (nat_le b.column k) (nat_lt k b.column_end) (nat_le b.row l) (nat_lt l b.row_end)
+    (same_low grid.xs k b.column r.x0 x_up is.left cut.left k_lt) (same_high grid.xs k b.column_end r.x1 x_up is.right k_lt)
+    (same_low grid.ys l b.row r.y0 y_up is.low cut.low l_lt) (same_high grid.ys l b.row_end r.y1 y_up is.high l_lt)
+
+one_more : (b : Bool) (n : ℕ) → nat_lt 0 (one_if b + n) ≡ (b || nat_lt 0 n)
+one_more true n = lt-ltb 0 (1 + n) (omega arith)
+one_more false n = let e : 0 + n ≡ n = omega arith in rw e refl
+
+same_any : (grid : Cuts) (rects : List Rect) (blocks : List Block) (k l : ℕ) → IsStrictlyIncreasing grid.xs
+    → IsStrictlyIncreasing grid.ys → All (Cut grid) rects → AreBlocksOf grid rects blocks
+    → k < length grid.xs → l < length grid.ys → is_in_blocks blocks k l ≡ is_covered rects grid k l
+same_any grid [] [] k l x_up y_up cut are k_lt l_lt = refl
+same_any grid [] (b ∷ bs) k l x_up y_up cut are k_lt l_lt = absurd are
+same_any grid (r ∷ rs) [] k l x_up y_up cut are k_lt l_lt = absurd are
+same_any grid (r ∷ rs) (b ∷ bs) k l x_up y_up cut are k_lt l_lt =
+    let more = same_any grid rs bs k l x_up y_up (All-tail (Cut grid) r rs cut) are.1 k_lt l_lt in
+    let here = same_holds grid r b k l x_up y_up (All-head (Cut grid) r rs cut) are.0 k_lt l_lt in
+    one_more (has_cell k l b) (times (has_cell k l) bs) ∙ ap (λ t. has_cell k l b || t) more
+    ∙ ap (λ t. t || is_covered rs grid k l) (sym here)
+
+-- ---- The cells of blocks are the cells of rectangles.
+
+filter_range : (p q : ℕ → Bool) (a n : ℕ) → ((l : ℕ) → l < a + n → p l ≡ q l)
+    → filter p (range_with_len a n) ≡ filter q (range_with_len a n)
+filter_range p q a zero same = refl
+filter_range p q a (suc n) same =
+    let more = filter_range p q (a + 1) n (λ l lt. same l (omega (arith, lt))) in
+    rw (same a (omega arith), more) refl
+
+flat_map_range : (f g : ℕ → List GridCell) (a n : ℕ) → ((k : ℕ) → k < a + n → f k ≡ g k)
+    → flat_map f (range_with_len a n) ≡ flat_map g (range_with_len a n)
+flat_map_range f g a zero same = refl
+flat_map_range f g a (suc n) same =
+    let more = flat_map_range f g (a + 1) n (λ k lt. same k (omega (arith, lt))) in
+    rw (same a (omega arith), more) refl
+
+same_column : (grid : Cuts) (rects : List Rect) (blocks : List Block) (k : ℕ) → IsStrictlyIncreasing grid.xs
+    → IsStrictlyIncreasing grid.ys → All (Cut grid) rects → AreBlocksOf grid rects blocks
+    → k < length grid.xs → cells_below grid blocks k (span_count grid.ys) ≡ column_cells rects grid k
+same_column grid rects blocks k x_up y_up cut are k_lt =
+    ap (map (cell_at grid k)) (filter_range (is_in_blocks blocks k) (is_covered rects grid k) 0 (span_count grid.ys)
+    (λ l lt. same_any grid rects blocks k l x_up y_up cut are k_lt (omega (arith, lt))))
+
+all_cut : (rects : List Rect) → All (Cut (grid_of rects)) rects
+all_cut rects k d lt =
+    let ends = has_ends rects (get_or rects k d) (Contains-get_or rects k d lt) in
+    record { left = ends.left; low = ends.low }
+
+pub same_cells : (rects : List Rect) (blocks : List Block) → AreBlocksOf (grid_of rects) rects blocks
+    → cells_before (grid_of rects) blocks (span_count (grid_of rects).xs) ≡ cells_of rects
+same_cells rects blocks are =
+    flat_map_range (λ k. cells_below (grid_of rects) blocks k (span_count (grid_of rects).ys))
+    (column_cells rects (grid_of rects)) 0 (span_count (grid_of rects).xs)
+    (λ k lt. same_column (grid_of rects) rects blocks k (cuts_ascend (x_ends rects)) (cuts_ascend (y_ends rects))
+    (all_cut rects) are (omega (arith, lt)))
+
+-- a block begins where it ends or before
+ends_behind : (ns : List ℕ) (b e low high : ℕ) → IsStrictlyIncreasing ns → IsInSpan ns b low → IsBehind ns high e → low ≤ high → b ≤ e
+ends_behind ns b e low high up begin end le = elim (cases_lt e b) [
+  | inl before ↦
+      let z : e - 1 + 1 ≡ e = omega (arith, end.0) in
+      let above : high < get_or ns e 0 = rw z at end.1.2 in
+      let far = spread ns e b up (omega arith) (omega (arith, begin.0)) in
+      absurd (omega (arith, above, far, begin.1, le))
+  | inr from ↦ from
+]
+
+pub are_blocks : (grid : Cuts) (rects : List Rect) (blocks : List Block) → IsStrictlyIncreasing grid.xs
+    → IsStrictlyIncreasing grid.ys → HavePoints rects → AreBlocksOf grid rects blocks → AreBlocks blocks
+are_blocks grid [] [] x_up y_up points are = All-nil (λ (b : Block). (b.column ≤ b.column_end) × (b.row ≤ b.row_end))
+are_blocks grid [] (b ∷ bs) x_up y_up points are = absurd are
+are_blocks grid (r ∷ rs) [] x_up y_up points are = absurd are
+are_blocks grid (r ∷ rs) (b ∷ bs) x_up y_up points are =
+    let some = All-head (λ (q : Rect). (q.x0 ≤ q.x1) × (q.y0 ≤ q.y1)) r rs points in
+    let more = are_blocks grid rs bs x_up y_up (All-tail (λ (q : Rect). (q.x0 ≤ q.x1) × (q.y0 ≤ q.y1)) r rs points) are.1 in
+    let columns = ends_behind grid.xs b.column b.column_end r.x0 r.x1 x_up are.0.left are.0.right some.0 in
+    let rows = ends_behind grid.ys b.row b.row_end r.y0 r.y1 y_up are.0.low are.0.high some.1 in
+    All-cons (λ (q : Block). (q.column ≤ q.column_end) × (q.row ≤ q.row_end)) b bs (columns, rows) more
+
+-- the same of a grid that is that of the rectangles
+pub blocks_begin : (rects : List Rect) (grid : Cuts) (blocks : List Block) → grid ≡ grid_of rects → HavePoints rects
+    → AreBlocksOf grid rects blocks → AreBlocks blocks
+blocks_begin rects grid blocks is points are =
+    are_blocks (grid_of rects) rects blocks (cuts_ascend (x_ends rects)) (cuts_ascend (y_ends rects)) points
+    (subst (λ g. AreBlocksOf g rects blocks) is are)
+
+pub same_list : (rects : List Rect) (grid : Cuts) (blocks : List Block) (cells : List GridCell) → grid ≡ grid_of rects
+    → AreBlocksOf grid rects blocks
+    → cells ≡ cells_before grid blocks (span_count grid.xs) → cells ≡ cells_of rects
+same_list rects grid blocks cells is are listed =
+    subst (λ g. cells ≡ cells_before g blocks (span_count g.xs)) is listed
+    ∙ same_cells rects blocks (subst (λ g. AreBlocksOf g rects blocks) is are)

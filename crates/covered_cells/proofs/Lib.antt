@@ -1,0 +1,6 @@
+mod Bounded
+mod Corners
+mod Listed
+mod Marked
+mod Rising
+mod Swept

@@ -1,0 +1,3 @@
+mod Clashing
+mod Halving
+mod Lists
