@@ -8,7 +8,7 @@ use grid::Grid;
 use point_set::Rect;
 
 /// Cells of a grid: those of some columns and rows next to one another.
-#[derive(Clone, Copy, Debug)]
+#[derive(Clone, Copy)]
 pub struct Block {
     /// The first column, and the one behind the last.
     pub column: usize,

@@ -5,7 +5,7 @@ use grid::Grid;
 use memory::Memory;
 
 /// What a column and a row of a grid have in common, by their places, and the first point of it.
-#[derive(Clone, Copy, Debug, PartialEq, Eq)]
+#[derive(Clone, Copy, PartialEq, Eq)]
 pub struct GridCell {
     pub column: usize,
     pub row: usize,

@@ -14,14 +14,14 @@ use point_set::Rect;
 use std::alloc::Global;
 
 /// A corner of a block of cells.
-#[derive(Clone, Copy, Debug)]
+#[derive(Clone, Copy)]
 pub struct Mark {
     pub column: usize,
     pub row: usize,
 }
 
 /// The marks that count for blocks, and those that count against them.
-#[derive(Debug, Drop)]
+#[derive(Drop)]
 pub(crate) struct BlockMarks {
     pub(crate) plus: Vec<Mark>,
     pub(crate) minus: Vec<Mark>,

@@ -8,7 +8,7 @@ use std::alloc::Global;
 use std::marker::Model;
 
 /// The cuts of columns and of rows, which contracts see as two ascending lists. A cut may be 2^32, where a rectangle has the last column or row.
-#[derive(Debug, Drop)]
+#[derive(Drop)]
 pub struct Grid {
     xs: Vec<u64>,
     ys: Vec<u64>,

@@ -7,14 +7,14 @@ use point_set::Rect;
 use std::alloc::{AllocError, Global};
 
 /// The row above all rectangles so far, and the row above all of them that have all columns.
-#[derive(Clone, Copy, Debug)]
+#[derive(Clone, Copy)]
 pub(crate) struct Ends {
     pub any: u64,
     pub spanning: u64,
 }
 
 /// The columns from one to another.
-#[derive(Clone, Copy, Debug)]
+#[derive(Clone, Copy)]
 pub(crate) struct Columns {
     pub lo: u32,
     pub hi: u32,

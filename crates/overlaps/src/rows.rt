@@ -7,7 +7,7 @@ ghost use Rattle.overlaps.specs.Rows.{AreTall, IsPast, IsReached, NoneBeginsIn, 
 use point_set::Rect;
 
 /// How many rectangles begin up to some row, and the row above all of these.
-#[derive(Clone, Copy, Debug)]
+#[derive(Clone, Copy)]
 pub(crate) struct Reached {
     pub count: usize,
     pub end: u64,

@@ -9,7 +9,7 @@ use std::alloc::{AllocError, Global};
 const END: u64 = 4_294_967_296;
 
 /// How far the plane was gone through: all columns before `x0`, and the rows before `y` of the columns from `x0` on and before `x1`.
-#[derive(Clone, Copy, Debug)]
+#[derive(Clone, Copy)]
 pub(crate) struct Edge {
     pub x0: u64,
     pub x1: u64,

@@ -15,17 +15,23 @@ use Rattle.overlaps.specs.Meeting.{AreApart, IsNoHigher}
 use Rattle.region_tree.specs.declared.claims.Claim.{Claim}
 use Rattle.vocabulary.specs.Prelude.{Sub}
 use Rattle.log_tables.specs.Regions.{Regions, space_points}
-use Rattle.region_tree.specs.Faults.{is_disjoint, MeetsEarlier}
-use Rattle.region_tree.specs.Claims.{AreClaims, AreInOrder, AreOfOnePart, AreOwn, AreReady, IsBefore, IsFirstMeeting, IsFirstMetBy, IsFirstOverlap, IsMet, IsPartCut, IsRect, NoneMeets, NoneOverlap, is_kept, met_by, rects_kept}
+use Rattle.region_tree.specs.declared.claims.Asked.{Asked}
+use Rattle.region_tree.specs.declared.claims.Asked.TheVariants.{Apart, Within}
+use Rattle.region_tree.specs.Faults.{IsOutside, is_disjoint, MeetsEarlier, points_cut}
+use Rattle.region_tree.specs.Wholes.{AreHeld, IsFirstOutside, IsHeld, NoneOutside, whole_at}
+use Rattle.region_tree.specs.Claims.{AreClaims, AreInOrder, AreOfOneGroup, AreOwn, AreReady, HaveOneWhole, IsBefore, IsFirstFailing, IsFirstMeeting, IsFirstMetBy, IsGroupCut, IsMet, NoneFails, NoneLeave, NoneMeets, NoneOverlap, is_kept, met_by, rects_kept, whole_number}
+use Rattle.plane_gaps.specs.Gaps.{IsRect}
+use Rattle.point_set.proofs.lemmas.Ahead.{in_or_not}
+use Rattle.region_tree.proofs.Claiming.{by_part, of_part, whole_is}
 
--- ---- Partition by partition.
+-- ---- Group by group.
 
 abbrev zero_claim : Claim
-zero_claim = record { part = 0; sub = 0; rect = record { x0 = 0; x1 = 0; y0 = 0; y1 = 0 } }
+zero_claim = record { group = 0; sub = 0; rect = record { x0 = 0; x1 = 0; y0 = 0; y1 = 0 } }
 
--- the claims begin with those for the first partition
-pub parts_rise : (claims : List Claim) → AreInOrder claims → IsNonDecreasingBy (λ (c : Claim). c.part) claims
-parts_rise claims order i j d le within = elim (cases_lt i j) [
+-- the claims begin with those for the first group
+pub groups_rise : (claims : List Claim) → AreInOrder claims → IsNonDecreasingBy (λ (c : Claim). c.group) claims
+groups_rise claims order i j d le within = elim (cases_lt i j) [
   | inl lt ↦ (order i j d lt within).0
   | inr ge ↦ let e : i ≡ j = omega (arith, le, ge) in rw e (omega arith)
 ]
@@ -40,23 +46,23 @@ dropped : (claims : List Claim) (k : ℕ) (c : Claim) → Contains (drop k claim
     → (j : ℕ) × (k ≤ j) × (j < length claims) × (get_or claims j c ≡ c)
 dropped claims k c h = (k + h.0, omega arith, omega (arith, h.1, length-drop k claims), sym (get_or-drop k claims h.0 c) ∙ h.2)
 
-pub part_cut : (claims : List Claim) (part k : ℕ) (d : Claim) → AreInOrder claims → 0 < length claims
-    → (get_or claims 0 d).part ≡ part
-    → IsPartitionPoint (λ (c : Claim). nat_le c.part part ≡ true) (λ (c : Claim). nat_le c.part part ≡ false) claims k
-    → IsPartCut claims (take k claims) (drop k claims)
-part_cut claims part k d order some first parts =
-    let least : (j : ℕ) (c : Claim) → j < length claims → part ≤ (get_or claims j c).part = λ j c lt.
-    let same = ap (λ (e : Claim). e.part) (get_or_default claims 0 c d some) in
-    let up = parts_rise claims order 0 j c (omega arith) lt in omega (arith, first, same, up) in
-    let of_part : (c : Claim) → Contains (take k claims) c → c.part ≡ part = λ c h.
+pub group_cut : (claims : List Claim) (group k : ℕ) (d : Claim) → AreInOrder claims → 0 < length claims
+    → (get_or claims 0 d).group ≡ group
+    → IsPartitionPoint (λ (c : Claim). nat_le c.group group ≡ true) (λ (c : Claim). nat_le c.group group ≡ false) claims k
+    → IsGroupCut claims (take k claims) (drop k claims)
+group_cut claims group k d order some first parts =
+    let least : (j : ℕ) (c : Claim) → j < length claims → group ≤ (get_or claims j c).group = λ j c lt.
+    let same = ap (λ (e : Claim). e.group) (get_or_default claims 0 c d some) in
+    let up = groups_rise claims order 0 j c (omega arith) lt in omega (arith, first, same, up) in
+    let of_group : (c : Claim) → Contains (take k claims) c → c.group ≡ group = λ c h.
     let t = taken claims k c h in
     let le = leb-true _ _ (parts.0 t.0 c (omega arith) t.1) in
-    let same = ap (λ (e : Claim). e.part) t.3 in
+    let same = ap (λ (e : Claim). e.group) t.3 in
     omega (arith, le, same, least t.0 c t.2) in
-    let past : (c : Claim) → Contains (drop k claims) c → part < c.part = λ c h.
+    let past : (c : Claim) → Contains (drop k claims) c → group < c.group = λ c h.
     let t = dropped claims k c h in
     let gt = leb-false _ _ (parts.1 t.0 c t.1 t.2) in
-    let same = ap (λ (e : Claim). e.part) t.3 in
+    let same = ap (λ (e : Claim). e.group) t.3 in
     omega (arith, gt, same) in
     let none : 0 < k = elim (cases_lt 0 k) [
       | inl lt ↦ lt
@@ -64,124 +70,148 @@ part_cut claims part k d order some first parts =
     ] in
     record {
       joined = sym (take-append-drop k claims);
-      one = λ a b in_a in_b. of_part a in_a ∙ sym (of_part b in_b);
-      others = λ a b in_a in_b same. omega (arith, of_part a in_a, past b in_b, same);
+      one = λ a b in_a in_b. of_group a in_a ∙ sym (of_group b in_b);
+      others = λ a b in_a in_b same. omega (arith, of_group a in_a, past b in_b, same);
       shorter = omega (arith, length-drop k claims, none, some);
     }
 
--- what is known after the partitions that were looked at
-pub record IsPassed (also limit : ℕ) (claims rest : List Claim) : Type 0 where
+-- what is known after the groups that were looked at
+pub record IsPassed (d : Regions) (asked : Asked) (limit : ℕ) (claims rest : List Claim) : Type 0 where
   pub ready : AreReady rest
+  pub wholes : HaveOneWhole d rest
   pub inside : (c : Claim) → Contains rest c → Contains claims c
-  pub enough : NoneOverlap also limit rest → NoneOverlap also limit claims
+  pub enough : NoneFails d asked limit rest → NoneFails d asked limit claims
 
-pub none_passed : (also limit : ℕ) (claims : List Claim) → AreReady claims → IsPassed also limit claims claims
-none_passed also limit claims ready = record { ready = ready; inside = λ c h. h; enough = λ none. none }
+pub none_passed : (d : Regions) (asked : Asked) (limit : ℕ) (claims : List Claim) → AreReady claims → HaveOneWhole d claims
+    → IsPassed d asked limit claims claims
+none_passed d asked limit claims ready wholes = record { ready = ready; wholes = wholes; inside = λ c h. h; enough = λ none. none }
 
-in_group : (rest group behind : List Claim) (c : Claim) → IsPartCut rest group behind → Contains group c → Contains rest c
+in_group : (rest group behind : List Claim) (c : Claim) → IsGroupCut rest group behind → Contains group c → Contains rest c
 in_group rest group behind c cut h = rw cut.joined (Contains-append_left group behind c h)
 
-in_behind : (rest group behind : List Claim) (c : Claim) → IsPartCut rest group behind → Contains behind c → Contains rest c
+in_behind : (rest group behind : List Claim) (c : Claim) → IsGroupCut rest group behind → Contains behind c → Contains rest c
 in_behind rest group behind c cut h = rw cut.joined (Contains-append_right group behind c h)
 
-pub group_ready : (rest group behind : List Claim) → IsPartCut rest group behind → AreReady rest → AreReady group
+pub group_ready : (rest group behind : List Claim) → IsGroupCut rest group behind → AreReady rest → AreReady group
 group_ready rest group behind cut ready = record {
   order = AllPairs-left IsBefore group behind (subst (AllPairs IsBefore) cut.joined ready.order);
   rects = λ c h. ready.rects c (in_group rest group behind c cut h);
   own = AllPairs-left AreOwn group behind (subst (AllPairs AreOwn) cut.joined ready.own);
 }
 
-behind_ready : (rest group behind : List Claim) → IsPartCut rest group behind → AreReady rest → AreReady behind
+behind_ready : (rest group behind : List Claim) → IsGroupCut rest group behind → AreReady rest → AreReady behind
 behind_ready rest group behind cut ready = record {
   order = AllPairs-right IsBefore group behind (subst (AllPairs IsBefore) cut.joined ready.order);
   rects = λ c h. ready.rects c (in_behind rest group behind c cut h);
   own = AllPairs-right AreOwn group behind (subst (AllPairs AreOwn) cut.joined ready.own);
 }
 
-both_none : (also limit : ℕ) (rest group behind : List Claim) → IsPartCut rest group behind → NoneOverlap also limit group
-    → NoneOverlap also limit behind → NoneOverlap also limit rest
-both_none also limit rest group behind cut left right a b in_a in_b kept_a kept_b part ne =
+pub group_wholes : (d : Regions) (rest group behind : List Claim) → IsGroupCut rest group behind → HaveOneWhole d rest
+    → HaveOneWhole d group
+group_wholes d rest group behind cut wholes a b in_a in_b =
+    wholes a b (in_group rest group behind a cut in_a) (in_group rest group behind b cut in_b)
+
+-- what none of the claims has, none of some of them has
+fewer : (d : Regions) (asked : Asked) (limit : ℕ) (claims some : List Claim) → ((c : Claim) → Contains some c → Contains claims c)
+    → NoneFails d asked limit claims → NoneFails d asked limit some
+fewer d (Apart also) limit claims some inside none = λ a b in_a in_b. none a b (inside a in_a) (inside b in_b)
+fewer d Within limit claims some inside none = λ c h. none c (inside c h)
+
+none_at_all : (d : Regions) (asked : Asked) (limit : ℕ) → NoneFails d asked limit []
+none_at_all d (Apart also) limit = λ a b in_a. absurd (omega (arith, in_a.1))
+none_at_all d Within limit = λ c h. absurd (omega (arith, h.1))
+
+both_none : (d : Regions) (asked : Asked) (limit : ℕ) (rest group behind : List Claim) → IsGroupCut rest group behind
+    → NoneFails d asked limit group → NoneFails d asked limit behind → NoneFails d asked limit rest
+both_none d (Apart also) limit rest group behind cut left right = λ a b in_a in_b kept_a kept_b same ne.
     elim (Contains-append_cases group behind a (subst (λ cs. Contains cs a) cut.joined in_a)) [
       | inl a_left ↦ elim (Contains-append_cases group behind b (subst (λ cs. Contains cs b) cut.joined in_b)) [
-        | inl b_left ↦ left a b a_left b_left kept_a kept_b part ne
-        | inr b_right ↦ absurd (cut.others a b a_left b_right part)
+        | inl b_left ↦ left a b a_left b_left kept_a kept_b same ne
+        | inr b_right ↦ absurd (cut.others a b a_left b_right same)
       ]
       | inr a_right ↦ elim (Contains-append_cases group behind b (subst (λ cs. Contains cs b) cut.joined in_b)) [
-        | inl b_left ↦ absurd (cut.others b a b_left a_right (sym part))
-        | inr b_right ↦ right a b a_right b_right kept_a kept_b part ne
+        | inl b_left ↦ absurd (cut.others b a b_left a_right (sym same))
+        | inr b_right ↦ right a b a_right b_right kept_a kept_b same ne
       ]
     ]
+both_none d Within limit rest group behind cut left right = λ c h kept.
+    elim (Contains-append_cases group behind c (subst (λ cs. Contains cs c) cut.joined h)) [
+      | inl in_group ↦ left c in_group kept
+      | inr in_behind ↦ right c in_behind kept
+    ]
 
-pub group_passed : (also limit : ℕ) (claims rest group behind : List Claim) → IsPassed also limit claims rest
-    → IsPartCut rest group behind → NoneOverlap also limit group → IsPassed also limit claims behind
-group_passed also limit claims rest group behind before cut none = record {
+pub group_passed : (d : Regions) (asked : Asked) (limit : ℕ) (claims rest group behind : List Claim)
+    → IsPassed d asked limit claims rest → IsGroupCut rest group behind → NoneFails d asked limit group
+    → IsPassed d asked limit claims behind
+group_passed d asked limit claims rest group behind before cut none = record {
   ready = behind_ready rest group behind cut before.ready;
+  wholes = λ a b in_a in_b. before.wholes a b (in_behind rest group behind a cut in_a) (in_behind rest group behind b cut in_b);
   inside = λ c h. before.inside c (in_behind rest group behind c cut h);
-  enough = λ more. before.enough (both_none also limit rest group behind cut none more);
+  enough = λ more. before.enough (both_none d asked limit rest group behind cut none more);
 }
 
-pub group_fails : (also limit : ℕ) (claims rest group behind : List Claim) → IsPassed also limit claims rest
-    → IsPartCut rest group behind → (NoneOverlap also limit group → ⊥) → IsTrue false ↔ NoneOverlap also limit claims
-group_fails also limit claims rest group behind before cut some = (
+pub group_fails : (d : Regions) (asked : Asked) (limit : ℕ) (claims rest group behind : List Claim)
+    → IsPassed d asked limit claims rest → IsGroupCut rest group behind → (NoneFails d asked limit group → ⊥)
+    → IsTrue false ↔ NoneFails d asked limit claims
+group_fails d asked limit claims rest group behind before cut some = (
   λ no. absurd (let f : ⊥ = cc in f),
-  λ none. absurd (some (λ a b in_a in_b. none a b (before.inside a (in_group rest group behind a cut in_a))
-      (before.inside b (in_group rest group behind b cut in_b)))),
+  λ none. absurd (some (fewer d asked limit claims group (λ c h. before.inside c (in_group rest group behind c cut h)) none)),
 )
 
-pub all_passed : (also limit : ℕ) (claims rest : List Claim) → IsPassed also limit claims rest → rest ≡ []
-    → IsTrue true ↔ NoneOverlap also limit claims
-all_passed also limit claims rest before none = (
-  λ _. before.enough (λ a b in_a. let lt : in_a.0 < 0 = subst (λ (cs : List Claim). in_a.0 < length cs) none in_a.1 in
-      absurd (omega (arith, lt))),
+pub all_passed : (d : Regions) (asked : Asked) (limit : ℕ) (claims rest : List Claim) → IsPassed d asked limit claims rest
+    → rest ≡ [] → IsTrue true ↔ NoneFails d asked limit claims
+all_passed d asked limit claims rest before none = (
+  λ _. before.enough (subst (λ (cs : List Claim). NoneFails d asked limit cs) (sym none) (none_at_all d asked limit)),
   λ _. refl,
 )
 
--- ---- The rectangles for one partition.
+-- ---- The rectangles for one group.
 
-kept_at : (also limit : ℕ) (claims : List Claim) (k : ℕ) (d : Rect) → AreReady claims → k < length (rects_kept also limit claims)
-    → (c : Claim) × Contains claims c × (get_or (rects_kept also limit claims) k d ≡ c.rect)
-kept_at also limit claims k d ready lt =
-    let kept : List Claim = filter (λ (c : Claim). is_kept also limit c.sub) claims in
+kept_at : (asked : Asked) (limit : ℕ) (claims : List Claim) (k : ℕ) (d : Rect) → AreReady claims
+    → k < length (rects_kept asked limit claims) → (c : Claim) × Contains claims c × (get_or (rects_kept asked limit claims) k d ≡ c.rect)
+kept_at asked limit claims k d ready lt =
+    let kept : List Claim = filter (λ (c : Claim). is_kept asked limit c.sub) claims in
     let in_kept : k < length kept = omega (arith, lt, length-map kept (λ (c : Claim). c.rect)) in
     let c = get_or kept k zero_claim in (
       c,
-      (of_filter (λ (e : Claim). is_kept also limit e.sub) claims c (Contains-get_or kept k zero_claim in_kept)).0,
+      (of_filter (λ (e : Claim). is_kept asked limit e.sub) claims c (Contains-get_or kept k zero_claim in_kept)).0,
       get_or-map (λ (e : Claim). e.rect) kept k zero_claim d in_kept,
     )
 
-kept_rects : (also limit : ℕ) (claims : List Claim) (k : ℕ) (d : Rect) → AreReady claims
-    → k < length (rects_kept also limit claims) → IsRect (get_or (rects_kept also limit claims) k d)
-kept_rects also limit claims k d ready lt = let s = kept_at also limit claims k d ready lt in rw s.2 (ready.rects s.0 s.1)
+kept_rects : (asked : Asked) (limit : ℕ) (claims : List Claim) (k : ℕ) (d : Rect) → AreReady claims
+    → k < length (rects_kept asked limit claims) → IsRect (get_or (rects_kept asked limit claims) k d)
+kept_rects asked limit claims k d ready lt = let s = kept_at asked limit claims k d ready lt in rw s.2 (ready.rects s.0 s.1)
 
-pub kept_some : (also limit : ℕ) (claims : List Claim) (rects : List Rect) → AreReady claims
-    → rects ≡ rects_kept also limit claims → All (λ (r : Rect). (r.x0 ≤ r.x1) × (r.y0 ≤ r.y1)) rects
-kept_some also limit claims rects ready is = rw is (λ k d lt. let r = kept_rects also limit claims k d ready lt in (r.wide, r.tall))
+pub kept_some : (asked : Asked) (limit : ℕ) (claims : List Claim) (rects : List Rect) → AreReady claims
+    → rects ≡ rects_kept asked limit claims → All (λ (r : Rect). (r.x0 ≤ r.x1) × (r.y0 ≤ r.y1)) rects
+kept_some asked limit claims rects ready is = rw is (λ k d lt. let r = kept_rects asked limit claims k d ready lt in (r.wide, r.tall))
 
-pub kept_fits : (also limit : ℕ) (claims : List Claim) (rects : List Rect) → AreReady claims
-    → rects ≡ rects_kept also limit claims → AreSmall rects
-kept_fits also limit claims rects ready is = rw is (λ k d lt. let r = kept_rects also limit claims k d ready lt in (r.x_fits, r.y_fits))
+pub kept_fits : (asked : Asked) (limit : ℕ) (claims : List Claim) (rects : List Rect) → AreReady claims
+    → rects ≡ rects_kept asked limit claims → AreSmall rects
+kept_fits asked limit claims rects ready is = rw is (λ k d lt. let r = kept_rects asked limit claims k d ready lt in (r.x_fits, r.y_fits))
 
-pub kept_order : (also limit : ℕ) (claims : List Claim) → AreReady claims → AreOfOnePart claims
-    → AllPairs IsNoHigher (rects_kept also limit claims)
-kept_order also limit claims ready one i j d lt within =
-    let p : Claim → Bool = λ (c : Claim). is_kept also limit c.sub in
+pub kept_order : (asked : Asked) (limit : ℕ) (claims : List Claim) → AreReady claims → AreOfOneGroup claims
+    → AllPairs IsNoHigher (rects_kept asked limit claims)
+kept_order asked limit claims ready one i j d lt within =
+    let p : Claim → Bool = λ (c : Claim). is_kept asked limit c.sub in
     let kept : List Claim = filter p claims in
     let in_j : j < length kept = omega (arith, within, length-map kept (λ (c : Claim). c.rect)) in
     let in_i : i < length kept = omega (arith, lt, in_j) in
     let a = get_or kept i zero_claim in
     let b = get_or kept j zero_claim in
     let before = AllPairs-filter IsBefore p claims ready.order i j zero_claim lt in_j in
-    let part = one a b (of_filter p claims a (Contains-get_or kept i zero_claim in_i)).0
+    let same = one a b (of_filter p claims a (Contains-get_or kept i zero_claim in_i)).0
     (of_filter p claims b (Contains-get_or kept j zero_claim in_j)).0 in
     rw (get_or-map (λ (e : Claim). e.rect) kept i zero_claim d in_i, get_or-map (λ (e : Claim). e.rect) kept j zero_claim d in_j)
-    (before.1 part)
+    (before.1 same)
 
 apart_back : (r s : Rect) → AreApart r s → AreApart s r
 apart_back r s apart x y h k = apart x y k h
 
-apart_none : (also limit : ℕ) (claims : List Claim) → AllPairs AreApart (rects_kept also limit claims) → NoneOverlap also limit claims
-apart_none also limit claims apart a b in_a in_b kept_a kept_b part ne =
-    let p : Claim → Bool = λ (c : Claim). is_kept also limit c.sub in
+apart_none : (also limit : ℕ) (claims : List Claim) → AllPairs AreApart (rects_kept (Apart also) limit claims)
+    → NoneOverlap also limit claims
+apart_none also limit claims apart a b in_a in_b kept_a kept_b same_group ne =
+    let p : Claim → Bool = λ (c : Claim). is_kept (Apart also) limit c.sub in
     let kept : List Claim = filter p claims in
     let at_a : Contains kept a = in_filter p claims a in_a kept_a in
     let at_b : Contains kept b = in_filter p claims b in_b kept_b in
@@ -189,18 +219,18 @@ apart_none also limit claims apart a b in_a in_b kept_a kept_b part ne =
     let other : at_a.0 ≢ at_b.0 = λ same.
     let e : a ≡ b = sym at_a.2 ∙ ap (λ k. get_or kept k a) same ∙ get_or_default kept at_b.0 a b at_b.1 ∙ at_b.2 in
     ne (ap (λ (c : Claim). c.sub) e) in
-    let h = any_two AreApart (rects_kept also limit claims) at_a.0 at_b.0 a.rect apart_back apart other (omega (arith, at_a.1, len))
+    let h = any_two AreApart (rects_kept (Apart also) limit claims) at_a.0 at_b.0 a.rect apart_back apart other (omega (arith, at_a.1, len))
     (omega (arith, at_b.1, len)) in
-    let see_a : get_or (rects_kept also limit claims) at_a.0 a.rect ≡ a.rect =
+    let see_a : get_or (rects_kept (Apart also) limit claims) at_a.0 a.rect ≡ a.rect =
     get_or-map (λ (c : Claim). c.rect) kept at_a.0 a a.rect at_a.1 ∙ ap (λ (c : Claim). c.rect) at_a.2 in
-    let see_b : get_or (rects_kept also limit claims) at_b.0 a.rect ≡ b.rect =
+    let see_b : get_or (rects_kept (Apart also) limit claims) at_b.0 a.rect ≡ b.rect =
     get_or-map (λ (c : Claim). c.rect) kept at_b.0 b a.rect at_b.1 ∙ ap (λ (c : Claim). c.rect) at_b.2 in
-    subst (AreApart a.rect) see_b (subst (λ (r : Rect). AreApart r (get_or (rects_kept also limit claims) at_b.0 a.rect)) see_a h)
+    subst (AreApart a.rect) see_b (subst (λ (r : Rect). AreApart r (get_or (rects_kept (Apart also) limit claims) at_b.0 a.rect)) see_a h)
 
-none_apart : (also limit : ℕ) (claims : List Claim) → AreReady claims → AreOfOnePart claims → NoneOverlap also limit claims
-    → AllPairs AreApart (rects_kept also limit claims)
+none_apart : (also limit : ℕ) (claims : List Claim) → AreReady claims → AreOfOneGroup claims → NoneOverlap also limit claims
+    → AllPairs AreApart (rects_kept (Apart also) limit claims)
 none_apart also limit claims ready one none i j d lt within =
-    let p : Claim → Bool = λ (c : Claim). is_kept also limit c.sub in
+    let p : Claim → Bool = λ (c : Claim). is_kept (Apart also) limit c.sub in
     let kept : List Claim = filter p claims in
     let in_j : j < length kept = omega (arith, within, length-map kept (λ (c : Claim). c.rect)) in
     let in_i : i < length kept = omega (arith, lt, in_j) in
@@ -214,29 +244,55 @@ none_apart also limit claims ready one none i j d lt within =
       | inr ne ↦ none a b of_a.0 of_b.0 of_a.1 of_b.1 (one a b of_a.0 of_b.0) ne
     ])
 
-pub part_tells : (also limit : ℕ) (claims : List Claim) (rects : List Rect) (apart : Bool) → AreReady claims → AreOfOnePart claims
-    → rects ≡ rects_kept also limit claims → IsTrue apart ↔ AllPairs AreApart rects → IsTrue apart ↔ NoneOverlap also limit claims
-part_tells also limit claims rects apart ready one is tells = (
+pub group_tells : (also limit : ℕ) (claims : List Claim) (rects : List Rect) (apart : Bool) → AreReady claims → AreOfOneGroup claims
+    → rects ≡ rects_kept (Apart also) limit claims → IsTrue apart ↔ AllPairs AreApart rects → IsTrue apart ↔ NoneOverlap also limit claims
+group_tells also limit claims rects apart ready one is tells = (
   λ so. apart_none also limit claims (subst (AllPairs AreApart) is (tells.0 so)),
   λ none. tells.1 (subst (AllPairs AreApart) (sym is) (none_apart also limit claims ready one none)),
 )
 
+-- whether the kept rectangles of a group are held by its whole
+pub held_tells : (d : Regions) (limit : ℕ) (claims : List Claim) (first : Claim) (rects : List Rect) (within : Bool)
+    → HaveOneWhole d claims → AreOfOneGroup claims → Contains claims first → rects ≡ rects_kept Within limit claims
+    → IsTrue within ↔ AreHeld (whole_at d first.sub) rects → IsTrue within ↔ NoneLeave d limit claims
+held_tells d limit claims first rects within wholes one in_first is tells =
+    let p : Claim → Bool = λ (c : Claim). is_kept Within limit c.sub in
+    let kept : List Claim = filter p claims in (
+      λ so c h is_kept.
+          let at : Contains kept c = in_filter p claims c h is_kept in
+          let seen : Contains (rects_kept Within limit claims) c.rect = (
+            at.0,
+            omega (arith, at.1, length-map kept (λ (e : Claim). e.rect)),
+            get_or-map (λ (e : Claim). e.rect) kept at.0 c c.rect at.1 ∙ ap (λ (e : Claim). e.rect) at.2,
+          ) in
+          subst (λ ps. IsHeld ps c.rect) (wholes first c in_first h (one first c in_first h))
+          (tells.0 so c.rect (subst (λ (rs : List Rect). Contains rs c.rect) (sym is) seen)),
+      λ none. tells.1 (λ r h.
+          let in_r : Contains (rects_kept Within limit claims) r = subst (λ (rs : List Rect). Contains rs r) is h in
+          let in_kept : in_r.0 < length kept = omega (arith, in_r.1, length-map kept (λ (c : Claim). c.rect)) in
+          let c = get_or kept in_r.0 zero_claim in
+          let of_c = of_filter p claims c (Contains-get_or kept in_r.0 zero_claim in_kept) in
+          let same : c.rect ≡ r = sym (get_or-map (λ (e : Claim). e.rect) kept in_r.0 zero_claim r in_kept) ∙ in_r.2 in
+          subst (λ ps. IsHeld ps r) (wholes c first of_c.0 in_first (one c first of_c.0 in_first))
+          (subst (IsHeld (whole_at d c.sub)) same (none c of_c.0 of_c.1))),
+    )
+
 -- ---- Which subspaces meet.
 
-is_before : (also limit sub : ℕ) → sub < limit → is_kept also limit sub ≡ true
+is_before : (also limit sub : ℕ) → sub < limit → is_kept (Apart also) limit sub ≡ true
 is_before also limit sub lt = rw (lt-ltb sub limit lt) refl
 
-is_also : (also limit : ℕ) → is_kept also limit also ≡ true
+is_also : (also limit : ℕ) → is_kept (Apart also) limit also ≡ true
 is_also also limit = elim (cases_Bool (nat_lt also limit)) [ inl so ↦ rw so refl | inr nay ↦ rw nay (eq-eqb also also refl) ]
 
-pub which_kept : (also limit sub : ℕ) → is_kept also limit sub ≡ true → (sub < limit) ⊎ (sub ≡ also)
+pub which_kept : (also limit sub : ℕ) → is_kept (Apart also) limit sub ≡ true → (sub < limit) ⊎ (sub ≡ also)
 which_kept also limit sub kept = elim (cases_Bool (nat_lt sub limit)) [
   | inl so ↦ inl (ltb-true sub limit so)
   | inr nay ↦ let h : nat_eq sub also ≡ true = rw nay at kept in inr (eqb-true sub also h)
 ]
 
-met_not : (d : Regions) (n also limit : ℕ) (claims : List Claim) (i j : ℕ) → AreClaims d n claims → length d.subs ≤ n
-    → NoneOverlap also limit claims → is_kept also limit i ≡ true → is_kept also limit j ≡ true → ¬ MeetsEarlier d i j
+met_not : (d : Regions) (n also limit : ℕ) (claims : List Claim) (i j : ℕ) → AreClaims d (Apart 0) n claims → length d.subs ≤ n
+    → NoneOverlap also limit claims → is_kept (Apart also) limit i ≡ true → is_kept (Apart also) limit j ≡ true → ¬ MeetsEarlier d i j
 met_not d n also limit claims i j are all none kept_i kept_j h =
     let p = h.0 in
     let m = h.1 in
@@ -247,34 +303,38 @@ met_not d n also limit claims i j are all none kept_i kept_j h =
     let is : p ≡ x * 2 ^ 32 + y = sym (div-add-mod' p (2 ^ 32)) in
     let fits : y < 2 ^ 32 = omega arith in
     let within = slice_get_within d.subs i s m.3 in
+    let disjoint : IsTrue (is_disjoint d t.part) = subst (λ k. IsTrue (is_disjoint d k)) m.5.0 m.5.1 in
     let a = are.whole i s.part x y (omega (arith, within, all)) fits (
       s,
       m.3,
-      refl,
-      m.5.1,
+      by_part d s 0 m.5.1,
       subst (Contains (space_points d s.space)) is m.5.2,
     ) in
-    let b = are.whole j s.part x y (omega (arith, within, all, m.2)) fits (
+    let b = are.whole j t.part x y (omega (arith, within, all, m.2)) fits (
       t,
       m.4,
-      sym m.5.0,
-      m.5.1,
+      by_part d t 0 disjoint,
       subst (Contains (space_points d t.space)) is m.5.3,
     ) in
     let u = (are.sound a.0 a.1).1 in
     let v = (are.sound b.0 b.1).1 in
     let same_a : u.0 ≡ s = same_Some u.0 s (sym u.1 ∙ ap (slice_get d.subs) a.2 ∙ m.3) in
     let same_b : v.0 ≡ t = same_Some v.0 t (sym v.1 ∙ ap (slice_get d.subs) b.2 ∙ m.4) in
-    let part : a.0.part ≡ b.0.part = sym u.2 ∙ ap (λ (w : Sub). w.part) same_a ∙ m.5.0 ∙ ap (λ (w : Sub). w.part) (sym same_b) ∙ v.2 in
-    none a.0 b.0 a.1 b.1 (subst (λ k. is_kept also limit k ≡ true) (sym a.2) kept_i)
-    (subst (λ k. is_kept also limit k ≡ true) (sym b.2) kept_j) part
+    let group_a = (of_part d u.0 0 a.0.group u.2).0 in
+    let group_b = (of_part d v.0 0 b.0.group v.2).0 in
+    let same : a.0.group ≡ b.0.group =
+    sym group_a ∙ ap (λ (w : Sub). w.part) same_a ∙ m.5.0 ∙ ap (λ (w : Sub). w.part) (sym same_b) ∙ group_b in
+    none a.0 b.0 a.1 b.1 (subst (λ k. is_kept (Apart also) limit k ≡ true) (sym a.2) kept_i)
+    (subst (λ k. is_kept (Apart also) limit k ≡ true) (sym b.2) kept_j) same
     (λ e. omega (arith, e, a.2, b.2, m.2)) x y a.3 b.3
 
-met_at : (d : Regions) (n x y : ℕ) (claims : List Claim) (a b : Claim) → AreClaims d n claims → Contains claims a
-    → Contains claims b → a.part ≡ b.part → Holds a.rect x y → Holds b.rect x y → b.sub < a.sub → MeetsEarlier d a.sub b.sub
-met_at d n x y claims a b are in_a in_b part here there lt =
+met_at : (d : Regions) (n x y : ℕ) (claims : List Claim) (a b : Claim) → AreClaims d (Apart 0) n claims → Contains claims a
+    → Contains claims b → a.group ≡ b.group → Holds a.rect x y → Holds b.rect x y → b.sub < a.sub → MeetsEarlier d a.sub b.sub
+met_at d n x y claims a b are in_a in_b same here there lt =
     let u = (are.sound a in_a).1 in
-    let v = (are.sound b in_b).1 in (
+    let v = (are.sound b in_b).1 in
+    let group_a = of_part d u.0 0 a.group u.2 in
+    let group_b = of_part d v.0 0 b.group v.2 in (
       x * 2 ^ 32 + y,
       (
         u.0,
@@ -283,22 +343,22 @@ met_at d n x y claims a b are in_a in_b part here there lt =
         u.1,
         v.1,
         (
-          u.2 ∙ part ∙ sym v.2,
-          subst (λ k. IsTrue (is_disjoint d k)) (sym u.2) u.3,
-          u.4 x y here,
-          v.4 x y there,
+          group_a.0 ∙ same ∙ sym group_b.0,
+          group_a.1,
+          u.3 x y here,
+          v.3 x y there,
         ),
       ),
     )
 
-none_met : (d : Regions) (n also limit : ℕ) (claims : List Claim) → AreClaims d n claims
-    → ((i j : ℕ) → is_kept also limit i ≡ true → is_kept also limit j ≡ true → ¬ MeetsEarlier d i j)
+none_met : (d : Regions) (n also limit : ℕ) (claims : List Claim) → AreClaims d (Apart 0) n claims
+    → ((i j : ℕ) → is_kept (Apart also) limit i ≡ true → is_kept (Apart also) limit j ≡ true → ¬ MeetsEarlier d i j)
     → NoneOverlap also limit claims
-none_met d n also limit claims are none a b in_a in_b kept_a kept_b part ne x y here there = elim (cases_lt b.sub a.sub) [
-  | inl lt ↦ none a.sub b.sub kept_a kept_b (met_at d n x y claims a b are in_a in_b part here there lt)
+none_met d n also limit claims are none a b in_a in_b kept_a kept_b same ne x y here there = elim (cases_lt b.sub a.sub) [
+  | inl lt ↦ none a.sub b.sub kept_a kept_b (met_at d n x y claims a b are in_a in_b same here there lt)
   | inr le ↦
       let no : (a.sub ≡ b.sub → ⊥) = ne in
-      none b.sub a.sub kept_b kept_a (met_at d n x y claims b a are in_b in_a (sym part) there here (omega (arith, le)))
+      none b.sub a.sub kept_b kept_a (met_at d n x y claims b a are in_b in_a (sym same) there here (omega (arith, le)))
 ]
 
 earlier : (d : Regions) (i j : ℕ) → MeetsEarlier d i j → j < i
@@ -306,7 +366,7 @@ earlier d i j h = h.1.2
 
 -- ---- The first of them.
 
-pub none_first : (d : Regions) (claims : List Claim) → AreClaims d (length d.subs) claims → NoneOverlap 0 (length d.subs) claims
+pub none_first : (d : Regions) (claims : List Claim) → AreClaims d (Apart 0) (length d.subs) claims → NoneOverlap 0 (length d.subs) claims
     → (i j : ℕ) → ¬ MeetsEarlier d i j
 none_first d claims are none i j h =
     let within = slice_get_within d.subs i h.1.0 h.1.3 in
@@ -314,12 +374,13 @@ none_first d claims are none i j h =
     (is_before 0 (length d.subs) j (omega (arith, within, earlier d i j h))) h
 
 -- none before the first meeting
-none_earlier : (d : Regions) (claims : List Claim) (i : ℕ) → AreClaims d (length d.subs) claims → NoneOverlap 0 i claims → NoneMeets d i
+none_earlier : (d : Regions) (claims : List Claim) (i : ℕ) → AreClaims d (Apart 0) (length d.subs) claims
+    → NoneOverlap 0 i claims → NoneMeets d i
 none_earlier d claims i are none a b lt h =
     met_not d (length d.subs) 0 i claims a b are (omega arith) none (is_before 0 i a lt)
     (is_before 0 i b (omega (arith, lt, earlier d a b h))) h
 
-pub some_met : (d : Regions) (claims : List Claim) (i : ℕ) → AreClaims d (length d.subs) claims → NoneOverlap 0 i claims
+pub some_met : (d : Regions) (claims : List Claim) (i : ℕ) → AreClaims d (Apart 0) (length d.subs) claims → NoneOverlap 0 i claims
     → (NoneOverlap 0 (i + 1) claims → ⊥) → NoneOverlap i i claims → ⊥
 some_met d claims i are before some none =
     some (none_met d (length d.subs) 0 (i + 1) claims are (λ a b kept_a kept_b h.
@@ -332,8 +393,8 @@ some_met d claims i are before some none =
       | inr ne ↦ let no : (a ≡ i → ⊥) = ne in none_earlier d claims i are before a b (omega (arith, le)) h
     ]))
 
-pub first_met : (d : Regions) (claims : List Claim) (i j : ℕ) → AreClaims d (length d.subs) claims → NoneOverlap 0 i claims
-    → IsFirstOverlap claims i i (Some j) → NoneMeets d i × IsFirstMetBy d i j
+pub first_met : (d : Regions) (claims : List Claim) (i j : ℕ) → AreClaims d (Apart 0) (length d.subs) claims → NoneOverlap 0 i claims
+    → IsFirstFailing d claims (Apart i) i (Some j) → NoneMeets d i × IsFirstMetBy d i j
 first_met d claims i j are before first =
     let none = none_earlier d claims i are before in
     let past : (k : ℕ) → k < j → ¬ MeetsEarlier d i k =
@@ -367,16 +428,17 @@ first_met d claims i j are before first =
 
 -- ---- The search.
 
-pub none_at_first : (also : ℕ) (claims : List Claim) → NoneOverlap also 0 claims
-none_at_first also claims a b in_a in_b kept_a kept_b part ne =
-    let is : (s : ℕ) → is_kept also 0 s ≡ true → s ≡ also =
+pub none_at_first : (d : Regions) (asked : Asked) (claims : List Claim) → NoneFails d asked 0 claims
+none_at_first d (Apart also) claims = λ a b in_a in_b kept_a kept_b same ne.
+    let is : (s : ℕ) → is_kept (Apart also) 0 s ≡ true → s ≡ also =
     λ s kept. elim (which_kept also 0 s kept) [ inl lt ↦ absurd (omega (arith, lt)) | inr e ↦ e ] in
     absurd (ne (is a.sub kept_a ∙ sym (is b.sub kept_b)))
+none_at_first d Within claims = λ c h kept. absurd (omega (arith, ltb-true c.sub 0 kept))
 
-pub some_count : (also count : ℕ) (claims : List Claim) → (NoneOverlap also count claims → ⊥) → 0 < count
-some_count also count claims some = elim (cases_lt 0 count) [
+pub some_count : (d : Regions) (asked : Asked) (count : ℕ) (claims : List Claim) → (NoneFails d asked count claims → ⊥) → 0 < count
+some_count d asked count claims some = elim (cases_lt 0 count) [
   | inl lt ↦ lt
-  | inr le ↦ let e : count ≡ 0 = omega (arith, le) in absurd (some (rw e (none_at_first also claims)))
+  | inr le ↦ let e : count ≡ 0 = omega (arith, le) in absurd (some (rw e (none_at_first d asked claims)))
 ]
 
 -- what the first meeting says of one subspace, where those before it are not faulty
@@ -400,26 +462,74 @@ met_none d i (Some j) met none = absurd (none j refl)
 pub met_some : (d : Regions) (i j : ℕ) (o : Option ℕ) → o ≡ Some j → IsMet d i o → IsFirstMetBy d i j
 met_some d i j o is met = subst (IsMet d i) is met
 
+-- ---- Which subspaces are not within.
+
+inside : (d : Regions) (limit i p : ℕ) (claims : List Claim) → AreClaims d Within (length d.subs) claims → NoneLeave d limit claims
+    → i < limit → ¬ IsOutside d i p
+inside d limit i p claims are none lt h =
+    let s = h.0 in
+    let x = p / 2 ^ 32 in
+    let y = p % 2 ^ 32 in
+    let is : p ≡ x * 2 ^ 32 + y = sym (div-add-mod' p (2 ^ 32)) in
+    let fits : y < 2 ^ 32 = omega arith in
+    let a = are.whole i (whole_number d s.part) x y (slice_get_within d.subs i s h.1) fits (
+      s,
+      h.1,
+      refl,
+      subst (Contains (space_points d s.space)) is h.2,
+    ) in
+    let kept : is_kept Within limit a.0.sub ≡ true = lt-ltb a.0.sub limit (omega (arith, a.2, lt)) in
+    let whole : whole_at d a.0.sub ≡ points_cut d s.part = ap (whole_at d) a.2 ∙ whole_is d i s h.1 in
+    h.3 (subst (Contains (points_cut d s.part)) (sym is)
+    (subst (λ ps. Contains ps (x * 2 ^ 32 + y)) whole (none a.0 a.1 kept x y a.3)))
+
+all_inside : (d : Regions) (limit : ℕ) (claims : List Claim) → AreClaims d Within (length d.subs) claims → NoneOutside d limit
+    → NoneLeave d limit claims
+all_inside d limit claims are none c h kept x y holds = elim (in_or_not (whole_at d c.sub) (x * 2 ^ 32 + y)) [
+  | inl has ↦ has
+  | inr missed ↦
+      let u = (are.sound c h).1 in
+      absurd (none c.sub (x * 2 ^ 32 + y) (ltb-true c.sub limit kept) (
+        u.0,
+        u.1,
+        u.3 x y holds,
+        λ has. missed (subst (λ ps. Contains ps (x * 2 ^ 32 + y)) (sym (whole_is d c.sub u.0 u.1)) has),
+      ))
+]
+
+pub outside_told : (d : Regions) (claims : List Claim) (n : ℕ) (o : Option ℕ) → AreClaims d Within (length d.subs) claims
+    → n ≡ length d.subs → IsFirstFailing d claims Within n o → IsFirstOutside d o
+outside_told d claims n None are is none =
+    λ i p h. inside d n i p claims are none (omega (arith, is, slice_get_within d.subs i h.0 h.1)) h
+outside_told d claims n (Some i) are is first = (
+  λ k p lt. inside d i k p claims are first.1 lt,
+  λ none. first.2 (all_inside d (i + 1) claims are (λ k p lt h. elim (cases_eq k i) [
+    | inl e ↦ none p (subst (λ j. IsOutside d j p) e h)
+    | inr ne ↦ let no : (k ≡ i → ⊥) = ne in inside d i k p claims are first.1 (omega (arith, lt)) h
+  ])),
+)
+
 -- ---- What both searches tell.
 
-none_in : (claims : List Claim) (also count : ℕ) (o : Option ℕ) → IsFirstOverlap claims also count o → ((i : ℕ) → o ≡ Some i → ⊥)
-    → NoneOverlap also count claims
-none_in claims also count None none not_some = none
-none_in claims also count (Some i) first not_some = absurd (not_some i refl)
+none_in : (d : Regions) (claims : List Claim) (also count : ℕ) (o : Option ℕ) → IsFirstFailing d claims (Apart also) count o
+    → ((i : ℕ) → o ≡ Some i → ⊥) → NoneOverlap also count claims
+none_in d claims also count None none not_some = none
+none_in d claims also count (Some i) first not_some = absurd (not_some i refl)
 
-pub search_none : (d : Regions) (claims : List Claim) (n : ℕ) (o : Option ℕ) → AreClaims d (length d.subs) claims
-    → n ≡ length d.subs → IsFirstOverlap claims 0 n o → ((i : ℕ) → o ≡ Some i → ⊥) → (i j : ℕ) → ¬ MeetsEarlier d i j
+pub search_none : (d : Regions) (claims : List Claim) (n : ℕ) (o : Option ℕ) → AreClaims d (Apart 0) (length d.subs) claims
+    → n ≡ length d.subs → IsFirstFailing d claims (Apart 0) n o → ((i : ℕ) → o ≡ Some i → ⊥) → (i j : ℕ) → ¬ MeetsEarlier d i j
 search_none d claims n o are is first not_some =
-    none_first d claims are (subst (λ k. NoneOverlap 0 k claims) is (none_in claims 0 n o first not_some))
+    none_first d claims are (subst (λ k. NoneOverlap 0 k claims) is (none_in d claims 0 n o first not_some))
 
-pub search_fails : (d : Regions) (claims : List Claim) (n i : ℕ) (o p : Option ℕ) → AreClaims d (length d.subs) claims
-    → o ≡ Some i → IsFirstOverlap claims 0 n o → p ≡ None → IsFirstOverlap claims i i p → ⊥
+pub search_fails : (d : Regions) (claims : List Claim) (n i : ℕ) (o p : Option ℕ) → AreClaims d (Apart 0) (length d.subs) claims
+    → o ≡ Some i → IsFirstFailing d claims (Apart 0) n o → p ≡ None → IsFirstFailing d claims (Apart i) i p → ⊥
 search_fails d claims n i o p are is first none second =
-    let h : IsFirstOverlap claims 0 n (Some i) = subst (IsFirstOverlap claims 0 n) is first in
-    some_met d claims i are h.1 h.2 (subst (IsFirstOverlap claims i i) none second)
+    let h : IsFirstFailing d claims (Apart 0) n (Some i) = subst (IsFirstFailing d claims (Apart 0) n) is first in
+    some_met d claims i are h.1 h.2 (subst (IsFirstFailing d claims (Apart i) i) none second)
 
-pub search_some : (d : Regions) (claims : List Claim) (n i j : ℕ) (o p : Option ℕ) → AreClaims d (length d.subs) claims
-    → o ≡ Some i → IsFirstOverlap claims 0 n o → p ≡ Some j → IsFirstOverlap claims i i p → NoneMeets d i × IsFirstMetBy d i j
+pub search_some : (d : Regions) (claims : List Claim) (n i j : ℕ) (o p : Option ℕ) → AreClaims d (Apart 0) (length d.subs) claims
+    → o ≡ Some i → IsFirstFailing d claims (Apart 0) n o → p ≡ Some j → IsFirstFailing d claims (Apart i) i p
+    → NoneMeets d i × IsFirstMetBy d i j
 search_some d claims n i j o p are is first also second =
-    let h : IsFirstOverlap claims 0 n (Some i) = subst (IsFirstOverlap claims 0 n) is first in
-    first_met d claims i j are h.1 (subst (IsFirstOverlap claims i i) also second)
+    let h : IsFirstFailing d claims (Apart 0) n (Some i) = subst (IsFirstFailing d claims (Apart 0) n) is first in
+    first_met d claims i j are h.1 (subst (IsFirstFailing d claims (Apart i) i) also second)

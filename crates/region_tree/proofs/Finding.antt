@@ -1,7 +1,7 @@
 -- Least points and subspaces at which something is wrong.
-use Rattle.std.proofs.Common.{◌≡◌, ℕ, ◌<◌, ◌≤◌, List, [], Option, Some, None, Contains, IsTrue, IfErr, Result, Ok, Err, refl, length, slice_get, subst, sym, ◌∙◌, inl, inr, arith}
+use Rattle.std.proofs.Common.{◌≡◌, ℕ, min, ◌<◌, List, [], Option, Some, None, Contains, IsTrue, IfErr, Result, Ok, Err, refl, length, slice_get, subst, sym, ◌∙◌, inl, inr, arith}
 use Rattle.std.specs.Result.{IsErrAnd}
-use Rattle.std.proofs.lemmas.Option.{same_Some, slice_get_within}
+use Rattle.std.proofs.lemmas.Option.{same_Some}
 use Rattle.std.proofs.lemmas.Bool.{cases_lt}
 use Rattle.point_set.specs.Least.{IsLeast, IsLeastOf, IsLeastCommon, IsLeastOutside}
 use Rattle.vocabulary.specs.Prelude.{Sub}
@@ -9,6 +9,8 @@ use Rattle.region_tree.specs.declared.forest_fault.ForestFault.{ForestFault}
 use Rattle.region_tree.specs.declared.forest_fault.ForestFault.TheVariants.{NotWithin, NotDisjoint, Memory}
 use Rattle.log_tables.specs.Regions.{Regions, space_points}
 use Rattle.region_tree.specs.Faults.{points_cut, is_disjoint, IsOutside, Meets, MeetsEarlier, IsFaulty, FirstNotWithin, FirstNotDisjoint, Shows, ShowsFirst}
+use Rattle.region_tree.specs.Claims.{IsFirstMeeting}
+use Rattle.region_tree.specs.Wholes.{IsFirstFaulty, IsFirstOutside, lesser}
 
 least_alike : (P Q : ℕ → Type 0) (o : Option ℕ) → ((p : ℕ) → P p → Q p) → ((p : ℕ) → Q p → P p) → IsLeast P o → IsLeast Q o
 least_alike P Q (Some p) there back least = (there p least.0, λ q h. least.1 q (back q h))
@@ -62,15 +64,6 @@ first_shown d i (NotDisjoint sub other point) before h =
     subst (λ k. FirstNotDisjoint d k other point) (sym h.0) ((inr (other, h.2.0), before), h.1, h.2, h.3)
 first_shown d i Memory before h = tt
 
--- past the last subspace there is no faulty one
-pub none_past_end : (d : Regions) (n : ℕ) → length d.subs ≤ n → ((k : ℕ) → k < n → ¬ IsFaulty d k) → (i : ℕ) → ¬ IsFaulty d i
-none_past_end d n le before i faulty =
-    let there : i < length d.subs = elim faulty [
-      | inl h ↦ slice_get_within d.subs i h.1.0 h.1.1
-      | inr h ↦ slice_get_within d.subs i h.1.1.0 h.1.1.3
-    ] in
-    before i (omega (arith, there)) faulty
-
 -- the error that a `?` handed on
 pub handed_on : {T E : Type 0} (P : E → Type 0) (r : Result T E) (e : E) → IsErrAnd r (λ f. f ≡ e) → P e → IfErr r P
 handed_on P (Ok x) e is shown = tt
@@ -79,3 +72,45 @@ handed_on P (Err f) e is shown = subst P (sym is) shown
 -- what a refusal shows
 pub refused : {T E : Type 0} (P : E → Type 0) (r : Result T E) (e : E) → IfErr r P → r ≡ Err e → P e
 refused {T} P r e shown is = let Q : Result T _ → Type 0 = λ s. IfErr s P in subst Q is shown
+
+-- ---- The first faulty subspace.
+
+pub first_faulty : (d : Regions) (o : Option ℕ) (m : Option (ℕ × ℕ)) → IsFirstOutside d o → IsFirstMeeting d m
+    → IsFirstFaulty d (lesser o m)
+first_faulty d None None none apart = λ i faulty. elim faulty [ inl h ↦ none i h.0 h.1 | inr h ↦ apart i h.0 h.1 ]
+first_faulty d (Some i) None first apart = (
+  λ k lt faulty. elim faulty [ inl h ↦ first.0 k h.0 lt h.1 | inr h ↦ apart k h.0 h.1 ],
+  λ sound. first.1 (λ p h. sound (inl (p, h))),
+)
+first_faulty d None (Some met) none first = (
+  λ k lt faulty. elim faulty [ inl h ↦ none k h.0 h.1 | inr h ↦ first.0 k h.0 lt h.1 ],
+  λ sound. first.1.meets (λ h. sound (inr (met.1, h))),
+)
+first_faulty d (Some i) (Some met) out first = (
+  λ k lt faulty. elim faulty [
+    | inl h ↦ out.0 k h.0 (omega (arith, lt)) h.1
+    | inr h ↦ first.0 k h.0 (omega (arith, lt)) h.1
+  ],
+  λ sound. elim (cases_lt met.0 i) [
+    | inl lt ↦
+        let e : min i met.0 ≡ met.0 = omega (arith, lt) in
+        let sound' : ¬ IsFaulty d met.0 = subst (λ k. ¬ IsFaulty d k) e sound in
+        first.1.meets (λ h. sound' (inr (met.1, h)))
+    | inr le ↦
+        let e : min i met.0 ≡ i = omega (arith, le) in
+        let sound' : ¬ IsFaulty d i = subst (λ k. ¬ IsFaulty d k) e sound in
+        out.1 (λ p h. sound' (inl (p, h)))
+  ],
+)
+
+pub found_faulty : (d : Regions) (i : ℕ) (o : Option ℕ) → o ≡ Some i → IsFirstFaulty d o
+    → ((k : ℕ) → k < i → ¬ IsFaulty d k) × ¬ ¬ IsFaulty d i
+found_faulty d i o is first = subst (IsFirstFaulty d) is first
+
+pub none_faulty : (d : Regions) (o : Option ℕ) → o ≡ None → IsFirstFaulty d o → (i : ℕ) → ¬ IsFaulty d i
+none_faulty d o is none = subst (IsFirstFaulty d) is none
+
+pub refusal_shown : (d : Regions) (i : ℕ) (r : Result (Unit {0}) ForestFault) → ((k : ℕ) → k < i → ¬ IsFaulty d k)
+    → IfErr r (Shows d i) → IfErr r (ShowsFirst d)
+refusal_shown d i (Ok x) before shown = tt
+refusal_shown d i (Err e) before shown = first_shown d i e before shown

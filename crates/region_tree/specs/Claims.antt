@@ -1,58 +1,62 @@
--- Rectangles of points that subspaces of disjoint partitions claim.
-use Rattle.std.specs.Prelude.{◌≡◌, ◌≢◌, ℕ, ◌+◌, ◌*◌, ◌^◌, ◌<◌, ◌≤◌, ◌||◌, ◌++◌, nat_lt, nat_eq, Bool, cond, List, slice_get, AllPairs, Contains, filter, length, map, Option, Some, None, IsTrue, MatchOption, true}
+-- Rectangles of points that subspaces claim.
+use Rattle.std.specs.Prelude.{◌≡◌, ◌≢◌, ℕ, ◌+◌, ◌*◌, ◌^◌, ◌<◌, ◌≤◌, ◌||◌, ◌++◌, nat_lt, nat_eq, Bool, cond, List, slice_get, AllPairs, Contains, filter, length, map, Option, Some, None, MatchOption, true}
 use Rattle.std.specs.Borrow.{Bor}
+use Rattle.std.specs.Option.{option_map_or}
 use Rattle.point_set.specs.declared.rect.Rect.{Rect}
 use Rattle.point_set.specs.Rects.{Holds}
 use Rattle.overlaps.specs.Meeting.{AreApart}
+use Rattle.plane_gaps.specs.Gaps.{IsRect}
 use Rattle.arena_sets.specs.Pieces.{AreRectsOf}
+use Rattle.region_tree.specs.declared.claims.Asked.{Asked}
+use Rattle.region_tree.specs.declared.claims.Asked.TheVariants.{Apart, Within}
 use Rattle.region_tree.specs.declared.claims.Claim.{Claim}
 use Rattle.vocabulary.specs.Prelude.{Sub}
-use Rattle.log_tables.specs.Regions.{Regions, space_points}
+use Rattle.log_tables.specs.Regions.{Regions, space_points, whole_of}
 use Rattle.region_tree.specs.Faults.{is_disjoint, MeetsEarlier}
+use Rattle.region_tree.specs.Wholes.{IsHeld, whole_at}
 
--- Subspace `i` has the point, and is one of this disjoint partition.
-abbrev pub Claims : Regions → ℕ → ℕ → ℕ → Type 0
-Claims d i part p = (s : Sub) × (slice_get d.subs i ≡ Some s) × (s.part ≡ part) × IsTrue (is_disjoint d part)
+-- One more than the id of the space that a partition cuts, and 0 where none is declared.
+abbrev pub whole_number : Regions → ℕ → ℕ
+whole_number d part = option_map_or (λ id. id + 1) (whole_of d part) 0
+
+-- The group for which a subspace claims its points, if any: its partition, if that is disjoint,
+-- or all partitions that cut one space with its own.
+abbrev pub group_of : Regions → Asked → Sub → Option ℕ
+group_of d (Apart also) s = cond (is_disjoint d s.part) (Some s.part) None
+group_of d Within s = Some (whole_number d s.part)
+
+-- Subspace `i` has the point, and claims it for this group.
+abbrev pub Claims : Regions → Asked → ℕ → ℕ → ℕ → Type 0
+Claims d asked i group p = (s : Sub) × (slice_get d.subs i ≡ Some s) × (group_of d asked s ≡ Some group)
     × Contains (space_points d s.space) p
 
 -- Subspace `i` claims nothing.
-abbrev pub ClaimsNothing : Regions → ℕ → Type 0
-ClaimsNothing d i = (part p : ℕ) → ¬ Claims d i part p
+abbrev pub ClaimsNothing : Regions → Asked → ℕ → Type 0
+ClaimsNothing d asked i = (group p : ℕ) → ¬ Claims d asked i group p
 
--- Subspace `i` claims just these points, for this partition.
-abbrev pub ClaimsAll : Regions → ℕ → ℕ → List ℕ → Type 0
-ClaimsAll d i part points = (s : Sub) × (slice_get d.subs i ≡ Some s) × (s.part ≡ part)
-    × IsTrue (is_disjoint d part) × (space_points d s.space ≡ points)
+-- Subspace `i` claims just these points, for this group.
+abbrev pub ClaimsAll : Regions → Asked → ℕ → ℕ → List ℕ → Type 0
+ClaimsAll d asked i group points = (s : Sub) × (slice_get d.subs i ≡ Some s)
+    × (group_of d asked s ≡ Some group) × (space_points d s.space ≡ points)
 
--- What subspace `i` claims, if anything: a partition, with a set of just the points.
-abbrev pub IsClaimOf : {P : Type 0} → (P → List ℕ) → Regions → ℕ → Option (ℕ × Bor P) → Type 0
-IsClaimOf points d i o = MatchOption o (ClaimsNothing d i) (λ c. ClaimsAll d i c.0 (points c.1.now))
+-- What subspace `i` claims, if anything: a group, with a set of just the points.
+abbrev pub IsClaimOf : {P : Type 0} → (P → List ℕ) → Regions → Asked → ℕ → Option (ℕ × Bor P) → Type 0
+IsClaimOf points d asked i o = MatchOption o (ClaimsNothing d asked i)
+    (λ c. ClaimsAll d asked i c.0 (points c.1.now))
 
 -- A rectangle that is claimed.
 abbrev pub claim : ℕ → ℕ → Rect → Claim
-claim part sub rect = record { part = part; sub = sub; rect = rect }
+claim group sub rect = record { group = group; sub = sub; rect = rect }
 
 -- The new claims are the old ones, and then rectangles of just these points.
-pub record AddsClaims (old new : List Claim) (part sub : ℕ) (points : List ℕ) : Type 0 where
+pub record AddsClaims (old new : List Claim) (group sub : ℕ) (points : List ℕ) : Type 0 where
   pub rects : List Rect
-  pub added : new ≡ old ++ map (claim part sub) rects
+  pub added : new ≡ old ++ map (claim group sub) rects
   pub are : AreRectsOf points rects
 
--- A rectangle with a point, whose numbers are `u32`.
-pub record IsRect (r : Rect) : Type 0 where
-  pub wide : r.x0 ≤ r.x1
-  pub tall : r.y0 ≤ r.y1
-  pub x_fits : r.x1 < 2 ^ 32
-  pub y_fits : r.y1 < 2 ^ 32
-
--- Each point of a rectangle is in the list.
-abbrev pub IsHeld : List ℕ → Rect → Type 0
-IsHeld points r = (x y : ℕ) → Holds r x y → Contains points (x * 2 ^ 32 + y)
-
--- Points of the subspace, which is one of the disjoint partition.
-abbrev pub IsClaim : Regions → Claim → Type 0
-IsClaim d c = (s : Sub) × (slice_get d.subs c.sub ≡ Some s) × (s.part ≡ c.part)
-    × IsTrue (is_disjoint d c.part)
+-- Points of the subspace, which claims them for its group.
+abbrev pub IsClaim : Regions → Asked → Claim → Type 0
+IsClaim d asked c = (s : Sub) × (slice_get d.subs c.sub ≡ Some s) × (group_of d asked s ≡ Some c.group)
     × IsHeld (space_points d s.space) c.rect
 
 -- Where the claims are of one subspace, they share no point.
@@ -60,16 +64,16 @@ abbrev pub AreOwn : Claim → Claim → Type 0
 AreOwn a b = a.sub ≡ b.sub → AreApart a.rect b.rect
 
 -- The claims of the subspaces before `n`.
-pub record AreClaims (d : Regions) (n : ℕ) (claims : List Claim) : Type 0 where
-  pub sound : (c : Claim) → Contains claims c → (c.sub < n) × IsClaim d c
-  pub whole : (i part x y : ℕ) → i < n → y < 2 ^ 32 → Claims d i part (x * 2 ^ 32 + y)
+pub record AreClaims (d : Regions) (asked : Asked) (n : ℕ) (claims : List Claim) : Type 0 where
+  pub sound : (c : Claim) → Contains claims c → (c.sub < n) × IsClaim d asked c
+  pub whole : (i group x y : ℕ) → i < n → y < 2 ^ 32 → Claims d asked i group (x * 2 ^ 32 + y)
       → (c : Claim) × Contains claims c × (c.sub ≡ i) × Holds c.rect x y
   pub rects : (c : Claim) → Contains claims c → IsRect c.rect
   pub own : AllPairs AreOwn claims
 
--- The first claim is of a lesser partition, or of the same one with no greater first row.
+-- The first claim is for a lesser group, or for the same one with no greater first row.
 abbrev pub IsBefore : Claim → Claim → Type 0
-IsBefore a b = (a.part ≤ b.part) × (a.part ≡ b.part → a.rect.y0 ≤ b.rect.y0)
+IsBefore a b = (a.group ≤ b.group) × (a.group ≡ b.group → a.rect.y0 ≤ b.rect.y0)
 
 -- Each claim stands before the later ones.
 abbrev pub AreInOrder : List Claim → Type 0
@@ -81,43 +85,60 @@ pub record AreReady (claims : List Claim) : Type 0 where
   pub rects : (c : Claim) → Contains claims c → IsRect c.rect
   pub own : AllPairs AreOwn claims
 
--- The claims are for one partition.
-abbrev pub AreOfOnePart : List Claim → Type 0
-AreOfOnePart claims = (a b : Claim) → Contains claims a → Contains claims b → a.part ≡ b.part
+-- Claims for one group are of partitions that cut one space, or spaces with the same points.
+abbrev pub HaveOneWhole : Regions → List Claim → Type 0
+HaveOneWhole d claims = (a b : Claim) → Contains claims a → Contains claims b → a.group ≡ b.group
+    → whole_at d a.sub ≡ whole_at d b.sub
 
--- Claims cut into those for one partition, of which there are some, and those for others.
-pub record IsPartCut (claims group behind : List Claim) : Type 0 where
+-- The claims are for one group.
+abbrev pub AreOfOneGroup : List Claim → Type 0
+AreOfOneGroup claims = (a b : Claim) → Contains claims a → Contains claims b → a.group ≡ b.group
+
+-- Claims cut into those for one group, of which there are some, and those for others.
+pub record IsGroupCut (claims group behind : List Claim) : Type 0 where
   pub joined : claims ≡ group ++ behind
-  pub one : AreOfOnePart group
-  pub others : (a b : Claim) → Contains group a → Contains behind b → a.part ≢ b.part
+  pub one : AreOfOneGroup group
+  pub others : (a b : Claim) → Contains group a → Contains behind b → a.group ≢ b.group
   pub shorter : length behind < length claims
 
--- Whether a subspace is before a limit, or the one that is looked at with those.
-abbrev pub is_kept : ℕ → ℕ → ℕ → Bool
-is_kept also limit sub = nat_lt sub limit || nat_eq sub also
+-- Whether a subspace is looked at: it is before a limit, or the one that is looked at with those.
+abbrev pub is_kept : Asked → ℕ → ℕ → Bool
+is_kept (Apart also) limit sub = nat_lt sub limit || nat_eq sub also
+is_kept Within limit sub = nat_lt sub limit
 
 -- The rectangles that the kept subspaces claim.
-abbrev pub rects_kept : ℕ → ℕ → List Claim → List Rect
-rects_kept also limit claims = map (λ (c : Claim). c.rect)
-    (filter (λ (c : Claim). is_kept also limit c.sub) claims)
+abbrev pub rects_kept : Asked → ℕ → List Claim → List Rect
+rects_kept asked limit claims = map (λ (c : Claim). c.rect)
+    (filter (λ (c : Claim). is_kept asked limit c.sub) claims)
 
--- No claims of two kept subspaces for one partition share a point.
+-- No claims of two kept subspaces for one group share a point.
 abbrev pub NoneOverlap : ℕ → ℕ → List Claim → Type 0
 NoneOverlap also limit claims = (a b : Claim) → Contains claims a → Contains claims b
-    → is_kept also limit a.sub ≡ true → is_kept also limit b.sub ≡ true → a.part ≡ b.part → a.sub ≢ b.sub
-    → AreApart a.rect b.rect
+    → is_kept (Apart also) limit a.sub ≡ true → is_kept (Apart also) limit b.sub ≡ true
+    → a.group ≡ b.group → a.sub ≢ b.sub → AreApart a.rect b.rect
 
--- The first subspace before `count` that shares a point with an earlier one or with the subspace `also`.
-abbrev pub IsFirstOverlap : List Claim → ℕ → ℕ → Option ℕ → Type 0
-IsFirstOverlap claims also count o = MatchOption o (NoneOverlap also count claims)
-    (λ i. (i < count) × NoneOverlap also i claims × ¬ NoneOverlap also (i + 1) claims)
+-- No claim of a subspace before a limit has a point that the space which its partition cuts has not.
+abbrev pub NoneLeave : Regions → ℕ → List Claim → Type 0
+NoneLeave d limit claims = (c : Claim) → Contains claims c → is_kept Within limit c.sub ≡ true
+    → IsHeld (whole_at d c.sub) c.rect
 
--- Up to the first limit there is no overlap, and up to the second there is one.
-pub record IsBracket (claims : List Claim) (also count : ℕ) (limits : ℕ × ℕ) : Type 0 where
+-- None of the subspaces that are looked at has the fault that is asked about.
+abbrev pub NoneFails : Regions → Asked → ℕ → List Claim → Type 0
+NoneFails d (Apart also) limit claims = NoneOverlap also limit claims
+NoneFails d Within limit claims = NoneLeave d limit claims
+
+-- The first subspace before `count` that, looked at with those before it, has the fault.
+abbrev pub IsFirstFailing : Regions → List Claim → Asked → ℕ → Option ℕ → Type 0
+IsFirstFailing d claims asked count o = MatchOption o (NoneFails d asked count claims)
+    (λ i. (i < count) × NoneFails d asked i claims × ¬ NoneFails d asked (i + 1) claims)
+
+-- Up to the first limit there is no fault, and up to the second there is one.
+pub record IsBracket (d : Regions) (claims : List Claim) (asked : Asked) (count : ℕ) (limits : ℕ × ℕ)
+    : Type 0 where
   pub order : limits.0 < limits.1
   pub within : limits.1 ≤ count
-  pub apart : NoneOverlap also limits.0 claims
-  pub overlap : ¬ NoneOverlap also limits.1 claims
+  pub none : NoneFails d asked limits.0 claims
+  pub some : ¬ NoneFails d asked limits.1 claims
 
 -- No subspace before `limit` meets an earlier one.
 abbrev pub NoneMeets : Regions → ℕ → Type 0
@@ -129,7 +150,8 @@ pub record IsFirstMetBy (d : Regions) (i j : ℕ) : Type 0 where
   pub before : (k : ℕ) → k < j → ¬ MeetsEarlier d i k
   pub meets : ¬ ¬ MeetsEarlier d i j
 
--- The first subspace that meets an earlier one, with the first one that it meets, or `None` where there is none.
+-- The first subspace that meets an earlier one, with the first one that it meets,
+-- or `None` where there is none.
 abbrev pub IsFirstMeeting : Regions → Option (ℕ × ℕ) → Type 0
 IsFirstMeeting d o = MatchOption o ((i j : ℕ) → ¬ MeetsEarlier d i j)
     (λ met. NoneMeets d met.0 × IsFirstMetBy d met.0 met.1)

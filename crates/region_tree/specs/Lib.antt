@@ -2,6 +2,7 @@ pub mod Firsts
 pub mod Shape
 pub mod Ancestors
 pub mod Faults
+pub mod Wholes
 pub mod Claims
 pub mod Paths
 pub mod Sharing

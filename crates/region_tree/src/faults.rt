@@ -4,10 +4,11 @@ ghost use Rattle.std.specs.Prelude.{◌≡◌, ℕ, ◌<◌, OnOk, IfErr};
 ghost use Rattle.point_set.specs.Least.{IsLeast};
 ghost use Rattle.region_tree.specs.Claims.{IsMet, met_by};
 ghost use Rattle.region_tree.specs.Faults.{IsOutside, Meets, IsFaulty, Shows, ShowsFirst};
+ghost use Rattle.region_tree.specs.Wholes.{lesser};
 
-use crate::clashes::first_meeting;
+use crate::clashes::{first_meeting, first_outside};
 use crate::forest_fault::ForestFault;
-use crate::lookups::{first_common, is_disjoint, sub_at, subs, whole_set};
+use crate::lookups::{first_common, is_disjoint, sub_at, whole_set};
 use arena_sets::SetOfRects;
 use log_tables::Decls;
 use point_set::PointSet;
@@ -70,14 +71,27 @@ fn judge_sub<P: PointSet>(decls: &Decls<P>, i: usize, met: Option<usize>) -> Res
     }
 }
 
+/// The lesser of a subspace and the first one of a pair, if there is one.
+fn lesser(outside: Option<usize>, meeting: Option<(usize, usize)>) -> Option<usize>
+    ensures { result ≡ lesser outside meeting }
+{
+    match (outside, meeting) {
+        (Some(i), Some((sub, _))) => Some(i.min(sub)),
+        (Some(i), None) => Some(i),
+        (None, Some((sub, _))) => Some(sub),
+        (None, None) => None,
+    }
+}
+
 /// Refuses the least faulty subspace, if there is one.
 pub(crate) fn judge<P: SetOfRects>(alloc: Global, decls: &Decls<P>) -> Result<(), ForestFault>
     ensures ok { OnOk result ((i : ℕ) → ¬ IsFaulty decls.now i) }
     ensures shown { IfErr result (ShowsFirst decls.now) }
 {
+    let outside = first_outside(alloc, decls)?;
     let meeting = first_meeting(alloc, decls)?;
-    for i in 0..subs(decls).len() {
-        judge_sub(decls, i, met_by(meeting, i))?;
+    match lesser(outside, meeting) {
+        Some(i) => judge_sub(decls, i, met_by(meeting, i)),
+        None => Ok(()),
     }
-    Ok(())
 }

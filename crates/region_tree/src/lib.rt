@@ -2,8 +2,8 @@
 //!
 //! `Forest::judge` takes declarations exactly where no subspace is faulty, and else shows the least faulty
 //! one with the least point at fault; a `Forest` tells which spaces lie below which, by which path, and
-//! which points two of them share. Begin with `forest`; `faults` judges, with `claims` and `clashes` for
-//! disjoint partitions.
+//! which points two of them share. Begin with `forest`; `faults` judges, by the search of
+//! `clashes` among the rectangles of `claims`. `wholes` tells whether rectangles lie within a space.
 #![tactic(auto)]
 
 mod claims;
@@ -17,6 +17,7 @@ mod lookups;
 mod path;
 mod shape;
 mod sharing;
+mod wholes;
 
 pub use arena_sets::{ArenaRects, ArenaSet, SetOfRects};
 pub use forest::Forest;

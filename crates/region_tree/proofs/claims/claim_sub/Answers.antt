@@ -9,7 +9,8 @@ returns-in-Some g c =
     let points = g.P.PointSet.points c.in-Some.set.now in
     let old = c.args.claims.now.items in
     let new = c.claim_set.new.claims.items in
-    on_ok_weaker c.claim_set.result (claims_more d i c.in-Some.part points old new c.requires c.in-Some.ensures) c.claim_set.ensures
+    on_ok_weaker c.claim_set.result
+    (claims_more d c.args.asked i c.in-Some.group points old new c.requires c.in-Some.ensures) c.claim_set.ensures
 
 pub returns-in-None : goal.returns-in-None
-returns-in-None g c = claims_same c.args.decls.now c.args.i c.args.claims.now.items c.requires c.in-None.ensures
+returns-in-None g c = claims_same c.args.decls.now c.args.asked c.args.i c.args.claims.now.items c.requires c.in-None.ensures

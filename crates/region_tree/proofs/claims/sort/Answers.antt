@@ -6,6 +6,6 @@ use Rattle.region_tree.proofs.claims.sort.Goals as goal
 
 pub returns-clause-order : goal.returns-clause-order
 returns-clause-order c =
-    let sorted = c.sort_unstable_by_key.ensures.sorted (λ (x : Claim). (x.part, x.rect.y0))
+    let sorted = c.sort_unstable_by_key.ensures.sorted (λ (x : Claim). (x.group, x.rect.y0))
     (always_returns_same _ _ _ (λ a r f called. search rules)) in
     in_order c.sort_unstable_by_key.new.self.items (λ k d lt. sorted k d (omega arith) lt)
