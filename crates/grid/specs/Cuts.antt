@@ -1,5 +1,5 @@
 -- The numbers at which rectangles cut columns and rows.
-use Rattle.std.specs.Prelude.{◌↔◌, ℕ, ◌+◌, ◌-◌, ◌^◌, ◌<◌, ◌≤◌, ◌==◌, nat_lt, List, [], ◌∷◌, All, length, get_or, Option, Some, None, MatchOption, if◌then◌else◌}
+use Rattle.std.specs.Prelude.{◌↔◌, ℕ, ◌+◌, ◌-◌, ◌^◌, ◌<◌, ◌≤◌, ◌==◌, ◌&&◌, nat_le, nat_lt, List, [], ◌∷◌, All, length, get_or, filter, Option, Some, None, MatchOption, if◌then◌else◌}
 use Rattle.std.specs.List.{flat_map}
 use Rattle.std.specs.List.Sorted.{IsStrictlyIncreasing}
 use Rattle.point_set.specs.declared.rect.Rect.{Rect}
@@ -51,6 +51,10 @@ IsSpanOf ns x o = MatchOption o ((k : ℕ) → ¬ IsInSpan ns k x) (λ k. IsInSp
 -- Cuts ascend, and none is above 2 ^ 32.
 abbrev pub AreCuts : List ℕ → Type 0
 AreCuts ns = IsStrictlyIncreasing ns × All (λ n. n ≤ 2 ^ 32) ns
+
+-- The cuts from one number to another, both included.
+abbrev pub cuts_within : ℕ → ℕ → List ℕ → List ℕ
+cuts_within low high ns = filter (λ n. nat_le low n && nat_le n high) ns
 
 -- The rectangle has both points, or neither.
 abbrev pub HasBoth : Rect → ℕ → ℕ → ℕ → ℕ → Type 0

@@ -1,6 +1,6 @@
-ghost use Rattle.std.specs.Prelude.{◌≡◌, ◌^◌, ◌<◌, ◌≤◌, All, IfOk, IfSome, length};
+ghost use Rattle.std.specs.Prelude.{◌≡◌, ◌+◌, ◌^◌, ◌<◌, ◌≤◌, All, IfOk, IfSome, length};
 ghost use Rattle.std.specs.List.Sorted.{IsPartitionPoint};
-ghost use Rattle.grid.specs.Cuts.{AreCuts, IsSpanOf, cuts, grid_of, span_at, span_count, x_ends, y_ends};
+ghost use Rattle.grid.specs.Cuts.{AreCuts, IsSpanOf, cuts, cuts_within, grid_of, span_at, span_count, x_ends, y_ends};
 
 use memory::Memory;
 use point_set::Rect;
@@ -93,6 +93,24 @@ fn span_of(cuts: &[u64], x: u32) -> Option<usize>
     Some(next - 1)
 }
 
+/// How many cuts are below `x`, by a binary search.
+fn cuts_below(cuts: &[u64], x: u32) -> usize
+    requires { AreCuts cuts.now }
+    ensures parts { IsPartitionPoint (λ n. n < x) (λ n. x ≤ n) cuts.now result }
+    ensures within { result ≤ length cuts.now }
+{
+    cuts.partition_point(|cut| *cut < u64::from(x))
+}
+
+/// How many cuts there are from `low` to `high`. There is at most one at each number.
+fn count_within(cuts: &[u64], low: u32, high: u32) -> usize
+    requires { AreCuts cuts.now }
+    ensures count { result ≡ length (cuts_within low high cuts.now) }
+    ensures few { result ≤ high + 1 }
+{
+    cuts_until(cuts, high).saturating_sub(cuts_below(cuts, low))
+}
+
 impl Grid {
     /// The grid of some rectangles, by two sorts.
     pub fn build(alloc: Global, rects: &[Rect]) -> Result<Grid, Memory>
@@ -147,5 +165,20 @@ impl Grid {
         ensures low { IfSome result (λ l. l ≤ y) }
     {
         span_of(self.ys.as_slice(), y)
+    }
+    /// How many cuts of columns there are from `low` to `high`, by two binary searches.
+    pub fn column_cuts(&self, low: u32, high: u32) -> usize
+        ensures count { result ≡ length (cuts_within low high self.now.xs) }
+        ensures few { result ≤ high + 1 }
+    {
+        count_within(self.xs.as_slice(), low, high)
+    }
+
+    /// How many cuts of rows there are from `low` to `high`, by two binary searches.
+    pub fn row_cuts(&self, low: u32, high: u32) -> usize
+        ensures count { result ≡ length (cuts_within low high self.now.ys) }
+        ensures few { result ≤ high + 1 }
+    {
+        count_within(self.ys.as_slice(), low, high)
     }
 }
