@@ -16,7 +16,8 @@ pub can_search_below : (x : ℕ) (ns : List ℕ) → IsStrictlyIncreasing ns →
 can_search_below x ns up = IsPartitionedBy-ltb (λ q. q) ns x (non_decreasing_from_sorted ns (sorted_from_strictly_increasing ns up))
 
 -- no more ascending numbers are up to `x` than there are numbers up to it
-pub few_until : (ns : List ℕ) (x n : ℕ) → IsStrictlyIncreasing ns → IsPartitionPoint (λ m. m ≤ x) (λ m. x < m) ns n → n ≤ length ns → n ≤ x + 1
+pub few_until : (ns : List ℕ) (x n : ℕ) → IsStrictlyIncreasing ns → IsPartitionPoint (λ m. m ≤ x) (λ m. x < m) ns n
+    → n ≤ length ns → n ≤ x + 1
 few_until ns x zero up parts le = omega arith
 few_until ns x (suc n) up parts le =
     omega (arith, parts.0 n 0 (omega arith) (omega arith), spread ns 0 n up (omega arith) (omega (arith, le)))
@@ -44,7 +45,8 @@ between low high (n ∷ ns) zero zero le end below until =
 between low high (n ∷ ns) zero (suc b) le end below until =
     let more = between low high ns zero b (omega arith) (omega (arith, end)) (none_before (λ n. n < low) (λ n. low ≤ n) n ns below)
     (behind_first (λ n. n ≤ high) (λ n. high < n) n b ns until) in
-    rw (le-leb low n (below.1 0 0 (omega arith) (omega arith)), le-leb n high (until.0 0 0 (omega arith) (omega arith))) (omega (arith, more))
+    rw (le-leb low n (below.1 0 0 (omega arith) (omega arith)), le-leb n high (until.0 0 0 (omega arith) (omega arith)))
+    (omega (arith, more))
 between low high (n ∷ ns) (suc a) zero le end below until = absurd (omega (arith, le))
 between low high (n ∷ ns) (suc a) (suc b) le end below until =
     let more = between low high ns a b (omega (arith, le)) (omega (arith, end)) (behind_first (λ n. n < low) (λ n. low ≤ n) n a ns below)
@@ -59,8 +61,9 @@ none_within low high (n ∷ ns) lt = elim (cases_lt n low) [
 ]
 
 -- as many as lie between the places that two searches find
-pub counted_within : (low high : ℕ) (ns : List ℕ) (a b : ℕ) → a ≤ length ns → b ≤ length ns → IsPartitionPoint (λ n. n < low) (λ n. low ≤ n) ns a
-    → IsPartitionPoint (λ n. n ≤ high) (λ n. high < n) ns b → b - a ≡ length (cuts_within low high ns)
+pub counted_within : (low high : ℕ) (ns : List ℕ) (a b : ℕ) → a ≤ length ns → b ≤ length ns
+    → IsPartitionPoint (λ n. n < low) (λ n. low ≤ n) ns a → IsPartitionPoint (λ n. n ≤ high) (λ n. high < n) ns b
+    → b - a ≡ length (cuts_within low high ns)
 counted_within low high ns a b a_in b_in below until = elim (cases_lt b a) [
   | inl cross ↦
       let under = below.0 b 0 (omega arith) cross in
