@@ -7,7 +7,7 @@ ghost use Rattle.grid.specs.Cuts.{grid_of};
 use grid::Grid;
 use point_set::Rect;
 
-/// How many points of some rectangles are first points of cells of a grid, by four binary searches for each rectangle. A point that several of the rectangles have counts for each.
+/// How many points of some rectangles are first points of cells of a grid, by four binary searches for each rectangle. A point that several of the rectangles have counts for each. The cuts behind the last column and row, where no cell begins, count like the others, but no rectangle of the grid has them.
 pub fn corner_count(grid: &Grid, rects: &[Rect]) -> u128
     ensures { (all : List Rect) → grid.now ≡ grid_of all
         → result ≡ length (corners_in all (rect_points rects.now)) }

@@ -5,6 +5,8 @@
 #![tactic(auto)]
 
 #[cfg(test)]
+mod counts_tests;
+#[cfg(test)]
 mod planes;
 #[cfg(test)]
 mod point_set_tests;
