@@ -36,7 +36,7 @@ neither_first : (a b : Cell) → comes_first (key a) (key b) ≡ false → comes
 neither_first a b e f = rw (inst_is a b e f, point_is a b e f, field_is a b e f) refl
 
 -- No later touch of a cell is by an earlier node.
-place_after : (x y : Touch) → x.cell ≡ y.cell → comes_before y x ≡ false → x.place ≤ y.place
+pub place_after : (x y : Touch) → x.cell ≡ y.cell → comes_before y x ≡ false → x.place ≤ y.place
 place_after x y same e =
     let at : same_cell y.cell x.cell ≡ true = rw same (same_itself y.cell) in
     ltb-false y.place x.place (sym (ap (λ b. b && nat_lt y.place x.place) at)

@@ -1,23 +1,27 @@
 -- The touches of one cell, as a part of all touches.
-use Rattle.std.proofs.Common.{◌≡◌, ℕ, suc, ◌+◌, ◌-◌, ◌<◌, ◌≤◌, inl, inr, List, [], ◌∷◌, ◌++◌, Some, None, All, refl, sym, ap, ◌∙◌, subst, arith, take, drop, get_or, length, append_assoc, slice_index, min, Bool, true}
+use Rattle.std.proofs.Common.{◌≡◌, ℕ, suc, ◌+◌, ◌-◌, ◌<◌, ◌≤◌, inl, inr, List, [], ◌∷◌, ◌++◌, Some, None, All, refl, sym, ap, ◌∙◌, subst, arith, take, drop, get_or, length, append_assoc, slice_index, min, Bool, true, map}
 use Rattle.std.proofs.lemmas.Bool.{cases_lt}
 use Rattle.std.proofs.lemmas.List.{take-append-drop, drop-drop, drop_more, drop_all, take_at, length-take, length-drop, length-append, get_or-take, get_or-drop, get_or_default}
 use Rattle.std.proofs.lemmas.List.Elements.{All-take}
 use Rattle.std.proofs.lemmas.List.Elements.{All-drop}
 use Rattle.cell_races.specs.declared.touches.Touch.{Touch}
 use Rattle.cell_races.specs.Touches.{AreInOrder}
-use Rattle.cell_races.specs.Visits.{visits_of}
+use Rattle.cell_races.specs.Turns.{AgreeAtPlaces, AreInTurn}
+use Rattle.cell_races.specs.Visits.{visit_of, visits_of}
 use Rattle.cell_races.specs.Races.{race_in}
 use Rattle.cell_races.specs.Clashes.{IsFree, IsShown}
-use Rattle.log_laws.proofs.lemmas.Members.{Member, contains_of, member_append}
+use Rattle.log_laws.proofs.lemmas.Members.{Member, contains_of, member_append, member_left, member_right}
 use Rattle.cell_races.proofs.Ordered.{Ordered, ordered_of, ordered_append}
+use Rattle.log_laws.proofs.lemmas.Apart.{PairsBy, pairs_from}
+use Rattle.log_laws.proofs.lemmas.Lists.{pairs_parts}
+use Rattle.cell_races.proofs.Turning.{AgreesWith, turn_more, calm_run}
 use Rattle.cell_races.proofs.Cells.{IsCellOf, IsApart, BeginsElsewhere, NotAfter, cell_of, free_more, shown_of}
 
 module _ (touches : List Touch) (from end : ℕ) (behind : from < end) (within : end ≤ length touches) where
-  abbrev run : List Touch
+  abbrev pub run : List Touch
   run = take (end - from) (drop from touches)
 
-  drop_parts : drop from touches ≡ run ++ drop end touches
+  pub drop_parts : drop from touches ≡ run ++ drop end touches
   drop_parts =
       let e : from + (end - from) ≡ end = omega (arith, behind) in
       sym (take-append-drop (end - from) (drop from touches))
@@ -31,7 +35,7 @@ module _ (touches : List Touch) (from end : ℕ) (behind : from < end) (within :
       let n : end - from ≡ suc (end - (from + 1)) = omega (arith, behind) in
       rw (n, drop_more touches from d (omega (arith, behind, within))) refl
 
-  take_end : take end touches ≡ take from touches ++ run
+  pub take_end : take end touches ≡ take from touches ++ run
   take_end =
       let long : length (take from touches ++ run) ≡ end =
       rw (
@@ -46,7 +50,7 @@ module _ (touches : List Touch) (from end : ℕ) (behind : from < end) (within :
   module _ (d : Touch) (same : (k : ℕ) (d : Touch) → from ≤ k → k < end → (get_or touches k d).cell ≡ (get_or touches from d).cell)
       (other : (d : Touch) → end < length touches → (get_or touches end d).cell ≡ (get_or touches from d).cell → ⊥)
       (in_order : AreInOrder touches) (apart : IsApart (take from touches) (drop from touches)) where
-    abbrev first : Touch
+    abbrev pub first : Touch
     first = get_or touches from d
 
     abbrev rest : List Touch
@@ -55,7 +59,7 @@ module _ (touches : List Touch) (from end : ℕ) (behind : from < end) (within :
     same_first : (e : Touch) → get_or touches from e ≡ first
     same_first e = get_or_default touches from e d (omega (arith, behind, within))
 
-    at : (x : Touch) → Member run x → x.cell ≡ first.cell
+    pub at : (x : Touch) → Member run x → x.cell ≡ first.cell
     at x m =
         let c = contains_of run x m in
         let n : c.0 < end - from = subst (λ n. c.0 < n) (length-take (end - from) (drop from touches) ∙ short) c.1 in
@@ -78,8 +82,10 @@ module _ (touches : List Touch) (from end : ℕ) (behind : from < end) (within :
 
     is_cell : IsCellOf first.cell (take from touches) run (drop end touches)
     is_cell = rw (head d) (cell_of (take from touches) first rest (drop end touches)
-        (subst (λ zs. Ordered NotAfter (take from touches ++ (zs ++ drop end touches))) (head d) (subst (Ordered NotAfter) whole ordered))
-        (subst (λ zs. IsApart (take from touches) (zs ++ drop end touches)) (head d) (subst (IsApart (take from touches)) drop_parts apart))
+        (subst (λ zs. Ordered NotAfter (take from touches ++ (zs ++ drop end touches))) (head d)
+        (subst (Ordered NotAfter) whole ordered))
+        (subst (λ zs. IsApart (take from touches) (zs ++ drop end touches)) (head d)
+        (subst (IsApart (take from touches)) drop_parts apart))
         (subst (λ zs. (x : Touch) → Member zs x → x.cell ≡ first.cell) (head d) at)
         begins)
 
@@ -88,6 +94,28 @@ module _ (touches : List Touch) (from end : ℕ) (behind : from < end) (within :
       | inl front ↦ is_cell.far x y front n e
       | inr here ↦ is_cell.not_back y n (sym e ∙ is_cell.at x here)
     ]
+
+    run_in_order : Ordered NotAfter run
+    run_in_order = (ordered_append NotAfter run (drop end touches)
+        (ordered_append NotAfter (take from touches) (run ++ drop end touches) (subst (Ordered NotAfter) whole ordered)).1).0
+
+    run_in : (x : Touch) → Member run x → Member touches x
+    run_in x m = subst (λ zs. Member zs x) (sym whole) (member_right (take from touches) (run ++ drop end touches) x
+        (member_left run (drop end touches) x m))
+
+    -- The touches of one cell more are in turn.
+    pub turn_here : (before : ℕ → ℕ → Bool) (order : List ℕ) → AreInTurn before order (take from touches)
+        → race_in before (map (visit_of order) run) ≡ None → AreInTurn before order (take end touches)
+    turn_here before order turn e = subst (AreInTurn before order) (sym take_end)
+        (turn_more before order (take from touches) (drop from touches) run apart
+        (λ x m. subst (λ zs. Member zs x) (sym drop_parts) (member_left run (drop end touches) x m)) run_in_order turn e)
+
+    pub calm_here : (before : ℕ → ℕ → Bool) (order : List ℕ) → AgreeAtPlaces touches → AreInTurn before order touches
+        → race_in before (map (visit_of order) run) ≡ None
+    calm_here before order agree turn = calm_run before order touches run
+        (pairs_parts AgreesWith run (drop end touches) (pairs_parts AgreesWith (take from touches) (run ++ drop end touches)
+        (subst (PairsBy AgreesWith) whole (pairs_from AgreesWith touches agree))).1).0 turn
+        (λ x m. contains_of touches x (run_in x m)) (λ x y m n. at x m ∙ sym (at y n)) run_in_order
 
     module _ (before : ℕ → ℕ → Bool) (order : List ℕ) (free : IsFree before order (take from touches)) where
       pub none_more : race_in before (visits_of order run) ≡ None → IsFree before order (take end touches)

@@ -38,6 +38,15 @@ impl Frontier {
         }
     }
 
+    /// No node again.
+    pub(crate) fn clear(&mut self)
+        ensures { self.new ≡ no_groups }
+    {
+        self.earlier.clear();
+        self.group.clear();
+        self.access = Access::Reads;
+    }
+
     // The group that a node has to come after.
     fn asked(&self, visit: Visit) -> &[usize]
         ensures { result.now ≡ asked self.now visit }

@@ -10,7 +10,7 @@ ghost use Rattle.cell_races.specs.Touches.{AreInOrder, IsCellEnd};
 ghost use Rattle.cell_races.specs.Clashes.{IsFree, IsShown};
 
 use crate::cell_scan::first_race;
-use crate::touches::{Touch, sort};
+use crate::touches::{Touch, sort_touches};
 use crate::visits::visits_of;
 use event_graph::{Graph, Order};
 use reach_marks::Reach;
@@ -26,7 +26,7 @@ pub struct Clashing {
 }
 
 /// The first place after `from` of what is at another cell, or else how many touches there are.
-fn cell_end(touches: &[Touch], from: usize) -> usize
+pub fn cell_end(touches: &[Touch], from: usize) -> usize
     requires { from < length touches.now }
     ensures { IsCellEnd touches.now from result }
 {
@@ -94,7 +94,7 @@ pub fn shown_clash(
         (IsShown (before_in reach.now) (rank_in reach.now) order.now touches.items)) }
 {
     let mut sorted = touches;
-    sort(&mut sorted);
+    sort_touches(&mut sorted);
     let clash = first_clash(alloc, reach, order.as_slice(), sorted.as_slice())?;
     Ok(clash)
 }

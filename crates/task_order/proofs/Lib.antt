@@ -1,2 +1,2 @@
 mod Chains
-mod Searching
+mod Looked

@@ -1,14 +1,22 @@
 //! Whether two tasks are run in serial order.
 
 ghost use Rattle.std.specs.Prelude.{◌↔◌, ◌<◌, List, length, IsTrue};
-ghost use Rattle.vocabulary.specs.Prelude.{Node, Before, graph_of};
+ghost use Rattle.vocabulary.specs.Prelude.{Node, Before};
 ghost use Rattle.semantics.specs.Shown.{IsKept};
 ghost use Rattle.reach_marks.specs.Reached.{AreMarksOf};
-ghost use Rattle.task_order.specs.Runs.{AreRunsOf};
+ghost use Rattle.task_order.specs.Rows.{IsSchedule};
 
 use logs::Log;
 use point_set::PointSet;
 use reach_marks::Reach;
+
+/// What a question about two tasks goes by: their log, which nodes are before which, and the node that runs each item.
+#[derive(Clone, Copy)]
+pub(crate) struct Schedule<'l, 'a, P: PointSet + Copy> {
+    pub(crate) log: &'l Log<'a, P>,
+    pub(crate) reach: &'l Reach,
+    pub(crate) runs: &'l [usize],
+}
 
 /// Whether a node is before another, where there are both.
 fn is_before(reach: &Reach, a: usize, b: usize) -> bool
@@ -22,21 +30,19 @@ fn is_before(reach: &Reach, a: usize, b: usize) -> bool
 
 /// Whether the run of the task that is earlier in serial order is before that of the other.
 pub(crate) fn is_kept<'a, P: PointSet + Copy>(
-    log: &Log<'a, P>,
-    reach: &Reach,
-    runs: &[usize],
+    schedule: &Schedule<'_, 'a, P>,
     a: usize,
     b: usize,
 ) -> bool
-    requires a { a < length log.now.items }
-    requires b { b < length log.now.items }
-    requires marks { AreMarksOf (graph_of log.now.nodes) reach.now }
-    requires runs { AreRunsOf log.now runs.now }
-    ensures { IsTrue result ↔ IsKept log.now (a, b) }
+    requires a { a < length schedule.now.log.now.items }
+    requires b { b < length schedule.now.log.now.items }
+    requires schedule { IsSchedule schedule.now }
+    ensures { IsTrue result ↔ IsKept schedule.now.log.now (a, b) }
 {
-    if log.serial_place(b) < log.serial_place(a) {
-        is_before(reach, runs[b], runs[a])
+    let runs = schedule.runs;
+    if schedule.log.serial_place(b) < schedule.log.serial_place(a) {
+        is_before(schedule.reach, runs[b], runs[a])
     } else {
-        is_before(reach, runs[a], runs[b])
+        is_before(schedule.reach, runs[a], runs[b])
     }
 }

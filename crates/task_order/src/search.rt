@@ -1,21 +1,28 @@
-//! The first two tasks that interfere and are not run in serial order.
+//! Whether the tasks of a log that interfere are run in serial order, or the first two that are not.
 
-ghost use Rattle.std.specs.Prelude.{◌<◌, ◌≤◌, ◌^◌, length, IfErr, IfOk};
-ghost use Rattle.vocabulary.specs.Prelude.{graph_of};
+ghost use Rattle.std.specs.Prelude.{◌≡◌, ◌<◌, ◌^◌, length, true, IfOk, Some};
+ghost use Rattle.vocabulary.specs.Prelude.{graph_of, least_place};
+ghost use Rattle.semantics.specs.Shown.{AreKept};
 ghost use Rattle.reach_marks.specs.Reached.{AreMarksOf};
-ghost use Rattle.task_order.specs.Runs.{AreRunsOf};
-ghost use Rattle.task_order.specs.Searched.{GoesOn, IsTaskOrder, Shows};
+ghost use Rattle.order_laws.specs.Turns.{do_interfere};
+ghost use Rattle.task_users.specs.Users.{AreTaskPlaces};
+ghost use Rattle.task_order.specs.Rows.{IsSchedule};
+ghost use Rattle.task_order.specs.Searched.{IsTaskOrder};
 
-use crate::kept::is_kept;
-use crate::runs::runs_of;
-use interference::{Stretch, are_tasks, pairs};
+use crate::kept::Schedule;
+use crate::least::first_unkept;
+use atoms::Atoms;
 use logs::Log;
 use memory::Memory;
+use order_laws::first_pair_is_shown;
+use pair_rows::Places;
 use point_set::PointSet;
 use reach_marks::Reach;
 use region_tree::ArenaSet;
 use semantics::Place;
 use std::alloc::Global;
+use task_users::{count_task_pairs, task_places};
+use turn_scan::{runs_of, tasks_in_turn, touches_of_tasks};
 
 /// Whether every two tasks that interfere are run in serial order.
 #[derive(Clone, Copy, PartialEq, Eq)]
@@ -26,56 +33,55 @@ pub enum TaskOrder {
     Unordered { a: usize, b: usize, place: Place },
 }
 
-/// How many pairs of a stretch are of two tasks, if these are run in serial order, or the second item of the first pair of which the tasks are not.
-fn kept_in<'a, P: PointSet + Copy>(
+/// What is said where all are run in serial order.
+fn kept_order<'a, P: PointSet + Copy>(
+    alloc: Global,
     log: &Log<'a, P>,
-    reach: &Reach,
-    runs: &[usize],
-    stretch: &Stretch,
-) -> Result<u64, usize>
-    requires order { (stretch.now.a < stretch.now.from) × (stretch.now.from ≤ stretch.now.to) }
-    requires within { stretch.now.to ≤ length log.now.items }
-    requires marks { AreMarksOf (graph_of log.now.nodes) reach.now }
-    requires runs { AreRunsOf log.now runs.now }
-    ensures kept { IfOk result (GoesOn log.now stretch.now) }
-    ensures few { IfOk result (λ n. n ≤ stretch.now.to) }
-    ensures unkept { IfErr result (Shows log.now stretch.now) }
+    places: &Places,
+) -> Result<TaskOrder, Memory>
+    requires few { length log.now.items < 2 ^ 32 }
+    requires places { AreTaskPlaces log.now places.now }
+    requires kept { AreKept log.now }
+    ensures { IfOk result (IsTaskOrder log.now) }
 {
-    let items = log.items();
-    let mut count = 0;
-    for b in stretch.from..stretch.to {
-        if are_tasks(items, stretch.pair(b)) {
-            if !is_kept(log, reach, runs, stretch.a, b) {
-                return Err(b);
-            }
-            count += 1;
-        }
-    }
-    Ok(count)
+    let pairs = count_task_pairs(alloc, log, places)?;
+    Ok(TaskOrder::Kept { pairs })
 }
 
-/// The same by the runs of the items.
-fn order_by_runs<'a, P: ArenaSet<'a>>(log: &Log<'a, P>, reach: &Reach, runs: &[usize]) -> TaskOrder
-    requires few { length log.now.items < 2 ^ 32 }
-    requires marks { AreMarksOf (graph_of log.now.nodes) reach.now }
-    requires runs { AreRunsOf log.now runs.now }
-    ensures { IsTaskOrder log.now result }
+/// The least place at which two tasks that interfere do so.
+fn place_between<'a, P: PointSet + Copy>(log: &Log<'a, P>, a: usize, b: usize) -> Place
+    requires a { a < length log.now.items }
+    requires b { b < length log.now.items }
+    requires interfere { do_interfere log.now a b ≡ true }
+    ensures { least_place log.now a b ≡ Some result }
 {
-    let mut left = pairs(log);
-    let mut count = 0;
-    while let Some(stretch) = left.next_stretch() {
-        match kept_in(log, reach, runs, &stretch) {
-            Ok(kept) => count += kept,
-            Err(b) => {
-                return TaskOrder::Unordered {
-                    a: stretch.a,
-                    b,
-                    place: stretch.place,
-                };
-            }
-        }
+    let uses = log.uses();
+    match uses[a].interference(&uses[b]).place {
+        Some(place) => place,
+        None => unreachable!(),
     }
-    TaskOrder::Kept { pairs: count }
+}
+
+/// What is said where a pair is looked for.
+fn order_by_rows<'a, P: PointSet + Copy>(
+    alloc: Global,
+    schedule: &Schedule<'_, 'a, P>,
+    places: &Places,
+) -> Result<TaskOrder, Memory>
+    requires few { length schedule.now.log.now.items < 2 ^ 32 }
+    requires schedule { IsSchedule schedule.now }
+    requires places { AreTaskPlaces schedule.now.log.now places.now }
+    ensures { IfOk result (IsTaskOrder schedule.now.log.now) }
+{
+    first_pair_is_shown();
+    let log = schedule.log;
+    match first_unkept(alloc, schedule, places)? {
+        Some((a, b)) => {
+            let place = place_between(log, a, b);
+            Ok(TaskOrder::Unordered { a, b, place })
+        }
+        None => kept_order(alloc, log, places),
+    }
 }
 
 /// Whether every two tasks of a log that interfere are run in serial order, by marks of the log's nodes.
@@ -88,6 +94,17 @@ pub fn task_order<'a, P: ArenaSet<'a>>(
     requires marks { AreMarksOf (graph_of log.now.nodes) reach.now }
     ensures { IfOk result (IsTaskOrder log.now) }
 {
+    let atoms = Atoms::build(alloc, log.space_sets())?;
     let runs = runs_of(alloc, log)?;
-    Ok(order_by_runs(log, reach, &runs))
+    let touches = touches_of_tasks(alloc, log, atoms.firsts())?;
+    let places = task_places(alloc, log, &touches)?;
+    if tasks_in_turn(alloc, log, reach, &runs, &touches)? {
+        return kept_order(alloc, log, &places);
+    }
+    let schedule = Schedule {
+        log,
+        reach,
+        runs: &runs,
+    };
+    order_by_rows(alloc, &schedule, &places)
 }

@@ -1,0 +1,155 @@
+-- The tasks that use a place in serial order tell whether those that do not agree there are in turn.
+use Rattle.std.proofs.Common.{◌≡◌, ◌≢◌, ℕ, inl, inr, Bool, true, false, not, ◌⊎◌, List, [], ◌∷◌, ◌++◌, refl, sym, ap, ap₂, ◌∙◌, subst, arith, map, filter, find, None}
+use Rattle.std.proofs.lemmas.Bool.{cases_Bool, true≢false, and_parts, and_from, false_from_ne_true, not-true}
+use Rattle.vocabulary.specs.Prelude.{agree, Place, Req, Tables, is_in, uses_of, covers}
+use Rattle.semantics.specs.SerialOrder.{serial}
+use Rattle.semantics.specs.Shown.{is_task_at, run_of}
+use Rattle.cell_races.specs.declared.access.Visit.{Visit}
+use Rattle.cell_races.specs.Accesses.{conflicts}
+use Rattle.cell_races.specs.Races.{is_loose, race_from, race_in}
+use Rattle.log_laws.proofs.lemmas.Members.{Member, member_of, contains_of, member_append, member_left, member_map, map_member, member_filter, filter_member, none_or_some, none_found, only, found_at}
+use Rattle.log_laws.proofs.lemmas.Apart.{pairs_from}
+use Rattle.order_laws.specs.Turns.{Meeting, AreInTurn, AgreeWithThemselves, ListsItems}
+use Rattle.order_laws.specs.Visited.{access_of, item_visits, task_visits, Tells}
+use Rattle.order_laws.proofs.lemmas.Agreeing.{conflicts_are}
+use Rattle.order_laws.proofs.Earlier.{Earlier, earlier_of, earlier_flat, earlier_map, pairs_earlier, flat_earlier, place_order}
+use Rattle.order_laws.proofs.lemmas.TaskUses.{task_within}
+use Rattle.order_laws.proofs.Kept.{place_is, listed}
+
+-- ---- the race of a list, and its pairs
+
+module _ (before : ℕ → ℕ → Bool) where
+  passes : (behind : List Visit) (b : Visit) (bs : List Visit) → race_from before behind (b ∷ bs) ≡ None
+      → (find (is_loose before b) behind ≡ None) × (race_from before (behind ++ b ∷ []) bs ≡ None)
+  passes behind b bs e = elim (none_or_some (find (is_loose before b) behind)) [
+    | inl none ↦ (none, rw none at e)
+    | inr some ↦ let bad = rw some.1 at e in absurd cc
+  ]
+
+  none_loose : (behind bs : List Visit) → race_from before behind bs ≡ None → (v w : Visit) → (Member behind v × Member bs w)
+      ⊎ Earlier bs v w → is_loose before w v ≡ false
+  none_loose behind [] e v w (inl m) = absurd m.1
+  none_loose behind [] e v w (inr m) = absurd m
+  none_loose behind (b ∷ bs) e v w (inl (m, inl is)) = none_found (is_loose before w) behind v
+      (subst (λ u. find (is_loose before u) behind ≡ None) (sym is) (passes behind b bs e).0) m
+  none_loose behind (b ∷ bs) e v w (inl (m, inr n)) = none_loose (behind ++ b ∷ []) bs (passes behind b bs e).1 v w
+      (inl (member_left behind (b ∷ []) v m, n))
+  none_loose behind (b ∷ bs) e v w (inr (inl (is, n))) = none_loose (behind ++ b ∷ []) bs (passes behind b bs e).1 v w
+      (inl (last behind v b is, n))
+    where
+      last : (behind : List Visit) (v b : Visit) → v ≡ b → Member (behind ++ b ∷ []) v
+      last [] v b is = inl is
+      last (x ∷ xs) v b is = inr (last xs v b is)
+  none_loose behind (b ∷ bs) e v w (inr (inr m)) = none_loose (behind ++ b ∷ []) bs (passes behind b bs e).1 v w (inr m)
+
+  all_calm : (behind bs : List Visit) → ((v w : Visit) → (Member behind v × Member bs w) ⊎ Earlier bs v w
+      → is_loose before w v ≡ false) → race_from before behind bs ≡ None
+  all_calm behind [] h = refl
+  all_calm behind (b ∷ bs) h = elim (none_or_some (find (is_loose before b) behind)) [
+    | inl none ↦ rw none (all_calm (behind ++ b ∷ []) bs (λ v w side. elim side [
+      | inl both ↦ elim (member_append behind (b ∷ []) v both.0) [
+        | inl old ↦ h v w (inl (old, inr both.1))
+        | inr new ↦ h v w (inr (inl (only new, both.1)))
+      ]
+      | inr later ↦ h v w (inr (inr later))
+    ]))
+    | inr some ↦
+        let at = found_at (is_loose before b) behind some.0 some.1 in
+        absurd (true≢false (sym at.1 ∙ h some.0 b (inl (at.0, inl refl))))
+  ]
+
+-- ---- visits of tasks
+
+abbrev visit : Tables → ℕ → Req → Visit
+visit t a r = record { node = run_of t a; access = access_of r.access }
+
+visits_are : (t : Tables) (p : Place) (a : ℕ) → is_task_at t a ≡ true
+    → item_visits t p a ≡ map (visit t a) (filter (covers t p) (uses_of t a))
+visits_are t p a e = rw e refl
+
+no_visits : (t : Tables) (p : Place) (a : ℕ) → is_task_at t a ≡ false → item_visits t p a ≡ []
+no_visits t p a e = rw e refl
+
+visited : (t : Tables) (p : Place) (a : ℕ) (r : Req) → is_task_at t a ≡ true → Member (uses_of t a) r → covers t p r ≡ true
+    → Member (item_visits t p a) (visit t a r)
+visited t p a r task m e = subst (λ vs. Member vs (visit t a r)) (sym (visits_are t p a task))
+    (map_member (visit t a) (filter (covers t p) (uses_of t a)) r (filter_member (covers t p) (uses_of t a) r m e))
+
+pub record Visits (t : Tables) (p : Place) (a : ℕ) (v : Visit) : Type 0 where
+  pub task : is_task_at t a ≡ true
+  pub r : Req
+  pub of_a : Member (uses_of t a) r
+  pub at : covers t p r ≡ true
+  pub is : v ≡ visit t a r
+
+visits_of : (t : Tables) (p : Place) (a : ℕ) (v : Visit) → Member (item_visits t p a) v → Visits t p a v
+visits_of t p a v m = elim (cases_Bool (is_task_at t a)) [
+  | inl task ↦
+      let of = member_map (visit t a) (filter (covers t p) (uses_of t a)) v (subst (λ vs. Member vs v) (visits_are t p a task) m) in
+      let f = member_filter (covers t p) (uses_of t a) of.0 of.1 in
+      record { task = task; r = of.0; of_a = f.0; at = f.1; is = of.2 }
+  | inr other ↦ absurd (subst (λ vs. Member vs v) (no_visits t p a other) m)
+]
+
+module _ (t : Tables) (before : ℕ → ℕ → Bool) (tells : Tells t before) (lists : ListsItems t) where
+  -- What is not loose, and conflicts, is before.
+  is_before : (v w : Visit) → is_loose before w v ≡ false → conflicts v.access w.access ≡ true → before v.node w.node ≡ true
+  is_before v w e c = elim (cases_Bool (before v.node w.node)) [
+    | inl so ↦ so
+    | inr not_so ↦ absurd (true≢false (sym (and_from (conflicts v.access w.access) (not (before v.node w.node)) c (ap not not_so)) ∙ e))
+  ]
+
+  pub in_turn : (points : List ℕ) → ((p : Place) → is_in points p.point ≡ true → race_in before (task_visits t p) ≡ None)
+      → AreInTurn t points
+  in_turn points calm a b p first one other m less =
+      let b_in = listed t lists b (task_within t b other) in
+      let order = earlier_of (serial t) a b (omega (arith, less, place_is t a, place_is t b)) b_in in
+      let v = visit t a m.q in
+      let w = visit t b m.r in
+      let e = flat_earlier (item_visits t p) (serial t) a b v w order
+      (visited t p a m.q one (member_of (uses_of t a) m.q m.of_a) m.at_a)
+      (visited t p b m.r other (member_of (uses_of t b) m.r m.of_b) m.at_b) in
+      let none = none_loose before [] (task_visits t p) (calm p first) v w (inr e) in
+      (tells (run_of t a) (run_of t b)).0 (is_before v w none (conflicts_are m.q.access m.r.access ∙ ap not m.differ))
+
+  pub is_calm : AgreeWithThemselves t → (points : List ℕ) → AreInTurn t points → (p : Place) → is_in points p.point ≡ true
+      → race_in before (task_visits t p) ≡ None
+  is_calm themselves points turn p first = all_calm before [] (task_visits t p) (λ v w side. elim side [
+    | inl both ↦ absurd both.0
+    | inr e ↦
+        let parts = earlier_flat (item_visits t p) (serial t) v w e in
+        let one = visits_of t p parts.a v parts.in_a in
+        let other = visits_of t p parts.b w parts.in_b in
+        false_from_ne_true (is_loose before w v) (λ is_loose_so.
+        let l = and_parts (conflicts v.access w.access) (not (before v.node w.node)) is_loose_so in
+        let c : conflicts (access_of one.r.access) (access_of other.r.access) ≡ true =
+        ap (λ (u : Visit). conflicts (access_of one.r.access) u.access) (sym other.is)
+        ∙ (ap (λ (u : Visit). conflicts u.access w.access) (sym one.is) ∙ l.0) in
+        let m : Meeting t parts.a parts.b p = record {
+          q = one.r;
+          r = other.r;
+          of_a = contains_of (uses_of t parts.a) one.r one.of_a;
+          of_b = contains_of (uses_of t parts.b) other.r other.of_a;
+          at_a = one.at;
+          at_b = other.at;
+          differ = not-true (agree one.r.access other.r.access) (sym (conflicts_are one.r.access other.r.access) ∙ c);
+        } in
+        elim parts.order [
+          | inl order ↦
+              let less = place_order (serial t) parts.a parts.b (pairs_from (λ x y. x ≢ y) (serial t) lists.once) order in
+              let so = (tells (run_of t parts.a) (run_of t parts.b)).1
+              (turn parts.a parts.b p first one.task other.task m (omega (arith, less, place_is t parts.a, place_is t parts.b))) in
+              let same_v : v.node ≡ run_of t parts.a = ap (λ (u : Visit). u.node) one.is in
+              let same_w : w.node ≡ run_of t parts.b = ap (λ (u : Visit). u.node) other.is in
+              true≢false (sym (ap₂ before same_v same_w ∙ so) ∙ not-true (before v.node w.node) l.1)
+          | inr (_, own) ↦
+              let reqs = filter (covers t p) (uses_of t parts.a) in
+              let r = earlier_map (visit t parts.a) reqs v w (subst (λ vs. Earlier vs v w) (visits_are t p parts.a one.task) own) in
+              let agrees = pairs_earlier (λ (q : Req) (r : Req). agree q.access r.access ≡ true) reqs r.0 r.1
+              (pairs_from (λ (q : Req) (r : Req). agree q.access r.access ≡ true) reqs (themselves parts.a p one.task)) r.2 in
+              let c : conflicts (access_of r.0.access) (access_of r.1.access) ≡ true =
+              ap (λ (u : Visit). conflicts (access_of r.0.access) u.access) (sym r.4)
+              ∙ (ap (λ (u : Visit). conflicts u.access w.access) (sym r.3) ∙ l.0) in
+              true≢false (sym agrees ∙ not-true (agree r.0.access r.1.access) (sym (conflicts_are r.0.access r.1.access) ∙ c))
+        ])
+  ])

@@ -1,0 +1,5 @@
+mod BitWords
+mod Counts
+mod Classes
+mod Sums
+mod Pushed

@@ -1,0 +1,4 @@
+pub mod Bits1024
+pub mod Counting
+pub mod Meetings
+pub mod Spans

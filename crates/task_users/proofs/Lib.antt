@@ -1,0 +1,3 @@
+mod Grown
+mod Told
+mod Counted
