@@ -5,4 +5,5 @@ mod Ordered
 mod Pairing
 mod Passing
 mod Reaching
+mod Searched
 mod Splitting

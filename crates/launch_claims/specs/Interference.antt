@@ -1,5 +1,5 @@
 -- When requirements of tasks of a launch interfere.
-use Rattle.std.specs.Prelude.{◌≡◌, ◌≢◌, ℕ, ◌<◌, ◌≤◌, max, min, true, false, List, Contains, Option, Some, None, MatchOption}
+use Rattle.std.specs.Prelude.{◌≡◌, ◌≢◌, ℕ, ◌<◌, ◌≤◌, min, true, false, List, Contains, Option, Some, None, MatchOption}
 use Rattle.privilege.specs.Interference.{agree}
 use Rattle.launch_claims.specs.declared.requirement.LaunchTasks.{LaunchTasks}
 use Rattle.launch_claims.specs.declared.requirement.Requirement.{Requirement}
@@ -12,24 +12,16 @@ IsTaskOf l id = (l.base ≤ id) × (id < l.end)
 abbrev pub ShareNumber : List ℕ → List ℕ → Type 0
 ShareNumber ns ms = (n : ℕ) × Contains ns n × Contains ms n
 
--- Two runs have a point in common.
-abbrev pub RunsMeet : ℕ × ℕ → ℕ × ℕ → Type 0
-RunsMeet p q = max p.0 q.0 ≤ min p.1 q.1
-
--- Some two runs of two lists have a point in common.
-abbrev pub SharePoint : List (ℕ × ℕ) → List (ℕ × ℕ) → Type 0
-SharePoint ps qs = (p : ℕ × ℕ) × (q : ℕ × ℕ) × Contains ps p × Contains qs q × RunsMeet p q
-
--- Two tasks use a common point of a field of a tree, and their privileges do not agree.
-pub record Conflict (u v : Requirement) : Type 0 where
+-- Two tasks use a common point of a field of a tree, and their privileges do not agree. Each set has its points.
+pub record Conflict {P : Type 0} (points_of : P → List ℕ) (u v : Requirement P) : Type 0 where
   pub tasks : u.task ≢ v.task
   pub tree : u.tree ≡ v.tree
   pub fields : ShareNumber u.fields.now v.fields.now
-  pub points : SharePoint u.runs.now v.runs.now
+  pub points : ShareNumber (points_of u.set) (points_of v.set)
   pub accesses : agree u.access v.access ≡ false
 
 -- The record of this number asks for the first requirement, the second is asked for by then, and the launch and all points are known before it.
-pub record IsKnownAt (l : LaunchTasks) (n : ℕ) (u v : Requirement) : Type 0 where
+pub record IsKnownAt {P : Type 0} (l : LaunchTasks) (n : ℕ) (u v : Requirement P) : Type 0 where
   pub launched : l.number < n
   pub asks : u.record ≡ n
   pub declared : u.declared < n
@@ -37,24 +29,25 @@ pub record IsKnownAt (l : LaunchTasks) (n : ℕ) (u v : Requirement) : Type 0 wh
   pub others_declared : v.declared < n
 
 -- At the record of this number, some requirement that it asks for is in conflict with one that is asked for by then.
-abbrev pub InterferesIn : LaunchTasks → List Requirement → ℕ → Type 0
-InterferesIn l reqs n = (u : Requirement) × (v : Requirement) × Contains reqs u × Contains reqs v
-    × IsKnownAt l n u v × Conflict u v
+abbrev pub InterferesIn : {P : Type 0} → (P → List ℕ) → LaunchTasks → List (Requirement P) → ℕ → Type 0
+InterferesIn {P} points_of l reqs n =
+    (u : Requirement P) × (v : Requirement P) × Contains reqs u × Contains reqs v
+    × IsKnownAt l n u v × Conflict points_of u v
 
 -- The privileges of any two of these requirements agree.
-abbrev pub AllAgree : List Requirement → Type 0
-AllAgree reqs = (u v : Requirement) → Contains reqs u → Contains reqs v → agree u.access v.access ≡ true
+abbrev pub AllAgree : {P : Type 0} → List (Requirement P) → Type 0
+AllAgree {P} reqs = (u v : Requirement P) → Contains reqs u → Contains reqs v → agree u.access v.access ≡ true
 
 -- The requirements of the tasks of a launch.
-abbrev pub IsOfLaunch : LaunchTasks → List Requirement → Requirement → Type 0
+abbrev pub IsOfLaunch : {P : Type 0} → LaunchTasks → List (Requirement P) → Requirement P → Type 0
 IsOfLaunch l reqs u = Contains reqs u × IsTaskOf l u.task
 
 -- At the record of this number, some requirement that it asks for interferes with that of another task of a launch.
-abbrev pub InterferesAt : List LaunchTasks → List Requirement → ℕ → Type 0
-InterferesAt launches reqs n =
+abbrev pub InterferesAt : {P : Type 0} → (P → List ℕ) → List LaunchTasks → List (Requirement P) → ℕ → Type 0
+InterferesAt {P} points_of launches reqs n =
     (l : LaunchTasks) × Contains launches l
-    × ((u : Requirement) × (v : Requirement) × IsOfLaunch l reqs u × IsOfLaunch l reqs v
-    × IsKnownAt l n u v × Conflict u v)
+    × ((u : Requirement P) × (v : Requirement P) × IsOfLaunch l reqs u × IsOfLaunch l reqs v
+    × IsKnownAt l n u v × Conflict points_of u v)
 
 -- The least number with a property, if there is one.
 abbrev pub IsLeast : (ℕ → Type 0) → Option ℕ → Type 0

@@ -1,22 +1,42 @@
 //! What requirements claim in a launch.
 
-ghost use Rattle.std.specs.Prelude.{◌≡◌, ◌++◌, map, max, IfOk, OnOk};
-ghost use Rattle.launch_claims.specs.Claiming.{claim_on, claims_of, claims_by, run_of, time_of};
+ghost use Rattle.std.specs.Prelude.{◌≡◌, ◌↔◌, ◌++◌, All, map, max, IfOk, IsTrue, OnOk};
+ghost use Rattle.arena_sets.specs.Pieces.{AreRectsOf};
+ghost use Rattle.launch_claims.specs.Claiming.{AreClaims, AreInFirstColumn, claim_on, claims_by, rows_of, time_of};
 
 use crate::claim::Claim;
 use crate::requirement::{LaunchTasks, Requirement};
+use arena_sets::SetOfRects;
 use memory::Memory;
+use point_set::{PointSet, Rect};
 use std::alloc::Global;
 
+/// Whether a set lies in the first column.
+fn is_in_first_column<P: PointSet>(set: &P) -> bool
+    ensures { IsTrue result ↔ AreInFirstColumn (P.points set.now) }
+{
+    match set.last() {
+        Some(last) => last < 4_294_967_296,
+        None => true,
+    }
+}
+
+/// Whether the set of each requirement lies in the first column, so that what it claims is runs of points.
+pub(crate) fn are_in_first_column<P: PointSet + Copy>(reqs: &[Requirement<'_, P>]) -> bool
+    ensures { IsTrue result ↔ All (λ r. AreInFirstColumn (P.points r.set)) reqs.now }
+{
+    reqs.iter().all(|req| is_in_first_column(&req.set))
+}
+
 /// The first number at which a requirement, its points and a launch are all known.
-fn time_of(launch: &LaunchTasks, req: &Requirement<'_>) -> u32
+fn time_of<P: PointSet + Copy>(launch: &LaunchTasks, req: &Requirement<'_, P>) -> u32
     ensures { result ≡ time_of launch.now req.now }
 {
     launch.number.max(req.record.max(req.declared))
 }
 
 /// What a requirement claims of a field, but for the points.
-fn claim_on(launch: &LaunchTasks, req: &Requirement<'_>, field: u32) -> Claim
+fn claim_on<P: PointSet + Copy>(launch: &LaunchTasks, req: &Requirement<'_, P>, field: u32) -> Claim
     ensures { result ≡ claim_on launch.now req.now field }
 {
     Claim {
@@ -30,52 +50,64 @@ fn claim_on(launch: &LaunchTasks, req: &Requirement<'_>, field: u32) -> Claim
     }
 }
 
-/// The same claim on the points of a run.
-fn run_of(claim: &Claim, run: (u64, u64)) -> Claim
-    ensures { result ≡ run_of claim.now run }
+/// The same claim on the rows of a rectangle.
+fn rows_of(claim: &Claim, rect: Rect) -> Claim
+    ensures { result ≡ rows_of claim.now rect }
 {
     Claim {
-        first: run.0,
-        last: run.1,
+        first: u64::from(rect.y0),
+        last: u64::from(rect.y1),
         ..*claim
     }
 }
 
-/// Adds the same claim on each of some runs.
-fn push_runs(claims: &mut Vec<Claim>, claim: &Claim, runs: &[(u64, u64)]) -> Result<(), Memory>
-    ensures { OnOk result (claims.new.items ≡ claims.old.items ++ map (run_of claim.now) runs.now) }
+/// Adds the same claim on the rows of each of some rectangles.
+fn push_rows(claims: &mut Vec<Claim>, claim: &Claim, rects: &[Rect]) -> Result<(), Memory>
+    ensures { OnOk result (claims.new.items ≡ claims.old.items ++ map (rows_of claim.now) rects.now) }
 {
-    for run in runs {
-        claims.push(run_of(claim, *run))?;
+    for rect in rects {
+        claims.push(rows_of(claim, *rect))?;
     }
     Ok(())
 }
 
-/// Adds what a requirement claims in a launch.
-fn push_claims(
+/// Adds what a requirement claims in a launch, whose points are those of rectangles in the first column.
+fn push_claims<P: PointSet + Copy>(
     claims: &mut Vec<Claim>,
     launch: &LaunchTasks,
-    req: &Requirement<'_>,
+    req: &Requirement<'_, P>,
+    rects: &[Rect],
 ) -> Result<(), Memory>
-    ensures { OnOk result (claims.new.items ≡ claims.old.items ++ claims_by launch.now req.now) }
+    ensures { OnOk result (claims.new.items ≡ claims.old.items ++ claims_by launch.now req.now rects.now) }
 {
     for field in req.fields {
-        push_runs(claims, &claim_on(launch, req, *field), req.runs)?;
+        push_rows(claims, &claim_on(launch, req, *field), rects)?;
     }
     Ok(())
 }
 
-/// What requirements claim in a launch.
-pub(crate) fn claims_of(
+/// The rectangles of a set.
+fn rects_of<P: SetOfRects>(alloc: Global, set: &P) -> Result<Vec<Rect>, Memory>
+    ensures { IfOk result (λ rects. AreRectsOf (P.points set.now) rects.items) }
+{
+    let mut rects = Vec::new(alloc);
+    set.push_rects(&mut rects)?;
+    Ok(rects)
+}
+
+/// What requirements claim in a launch, where each set lies in the first column.
+pub(crate) fn claims_of<P: SetOfRects + Copy>(
     alloc: Global,
     launch: &LaunchTasks,
-    reqs: &[Requirement<'_>],
+    reqs: &[Requirement<'_, P>],
 ) -> Result<Vec<Claim>, Memory>
-    ensures { IfOk result (λ claims. claims.items ≡ claims_of launch.now reqs.now) }
+    requires { All (λ r. AreInFirstColumn (P.points r.set)) reqs.now }
+    ensures { IfOk result (λ claims. AreClaims P.points launch.now reqs.now claims.items) }
 {
     let mut claims = Vec::new(alloc);
     for req in reqs {
-        push_claims(&mut claims, launch, req)?;
+        let rects = rects_of(alloc, &req.set)?;
+        push_claims(&mut claims, launch, req, rects.as_slice())?;
     }
     Ok(claims)
 }

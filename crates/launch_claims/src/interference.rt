@@ -7,16 +7,18 @@ ghost use Rattle.launch_claims.specs.declared.requirement.Requirement.{Requireme
 ghost use Rattle.privilege.specs.Interference.{agree};
 ghost use Rattle.launch_claims.specs.Interference.{AllAgree, InterferesAt, InterferesIn, IsLeast, IsOfLaunch};
 
-use crate::claiming::claims_of;
+use crate::claiming::{are_in_first_column, claims_of};
 use crate::first::first_clash;
 use crate::pairs::{first_by_pairs, lesser};
 use crate::requirement::{LaunchTasks, Requirement};
+use arena_sets::SetOfRects;
 use memory::Memory;
+use point_set::PointSet;
 use privilege::{Priv, agree};
 use std::alloc::Global;
 
 /// Puts requirements in the order of their tasks.
-fn sort_by_task(reqs: &mut Vec<Requirement<'_>>)
+fn sort_by_task<P: PointSet + Copy>(reqs: &mut Vec<Requirement<'_, P>>)
     ensures reqs { IsPermutation reqs.old.items reqs.new.items }
     ensures order { IsNonDecreasingBy (λ r. r.task) reqs.new.items }
 {
@@ -24,22 +26,25 @@ fn sort_by_task(reqs: &mut Vec<Requirement<'_>>)
 }
 
 /// Requirements in the order of their tasks, parted in those of tasks below this one and the others, by a binary search.
-fn split_at_task<'s, 'r>(
-    reqs: &'s [Requirement<'r>],
+fn split_at_task<'s, 'r, P: PointSet + Copy>(
+    reqs: &'s [Requirement<'r, P>],
     task: u64,
-) -> (&'s [Requirement<'r>], &'s [Requirement<'r>])
+) -> (&'s [Requirement<'r, P>], &'s [Requirement<'r, P>])
     requires { IsNonDecreasingBy (λ r. r.task) reqs.now }
-    ensures below { (u : Requirement) → Contains result.0.now u ↔ (Contains reqs.now u × (u.task < task)) }
-    ensures others { (u : Requirement) → Contains result.1.now u ↔ (Contains reqs.now u × (task ≤ u.task)) }
+    ensures below { (u : Requirement P) → Contains result.0.now u ↔ (Contains reqs.now u × (u.task < task)) }
+    ensures others { (u : Requirement P) → Contains result.1.now u ↔ (Contains reqs.now u × (task ≤ u.task)) }
     ensures order { IsNonDecreasingBy (λ r. r.task) result.0.now }
 {
     reqs.split_at(reqs.partition_point(|req| u64::from(req.task) < task))
 }
 
 /// The requirements of the tasks of a launch, which stand side by side.
-fn of_launch<'s, 'r>(launch: &LaunchTasks, reqs: &'s [Requirement<'r>]) -> &'s [Requirement<'r>]
+fn of_launch<'s, 'r, P: PointSet + Copy>(
+    launch: &LaunchTasks,
+    reqs: &'s [Requirement<'r, P>],
+) -> &'s [Requirement<'r, P>]
     requires { IsNonDecreasingBy (λ r. r.task) reqs.now }
-    ensures { (u : Requirement) → Contains result.now u ↔ IsOfLaunch launch.now reqs.now u }
+    ensures { (u : Requirement P) → Contains result.now u ↔ IsOfLaunch launch.now reqs.now u }
 {
     let (below, _) = split_at_task(reqs, launch.end);
     let (_, own) = split_at_task(below, u64::from(launch.base));
@@ -47,28 +52,32 @@ fn of_launch<'s, 'r>(launch: &LaunchTasks, reqs: &'s [Requirement<'r>]) -> &'s [
 }
 
 /// Whether the points of some requirement come with the record of this number.
-fn some_declared_at(reqs: &[Requirement<'_>], number: u32) -> bool
+fn some_declared_at<P: PointSet + Copy>(reqs: &[Requirement<'_, P>], number: u32) -> bool
     ensures { IsTrue result ↔ Any (λ r. r.declared ≡ number) reqs.now }
 {
     reqs.iter().any(|req| req.declared == number)
 }
 
 /// Whether the launch or the points of some requirement come with the record of this number.
-fn is_late(launch: &LaunchTasks, reqs: &[Requirement<'_>], number: u32) -> bool
+fn is_late<P: PointSet + Copy>(
+    launch: &LaunchTasks,
+    reqs: &[Requirement<'_, P>],
+    number: u32,
+) -> bool
     ensures { IsTrue result ↔ ((launch.now.number ≡ number) ⊎ Any (λ r. r.declared ≡ number) reqs.now) }
 {
     launch.number == number || some_declared_at(reqs, number)
 }
 
 /// Whether a privilege agrees with those of all requirements.
-fn agrees_with_all(access: Priv, reqs: &[Requirement<'_>]) -> bool
+fn agrees_with_all<P: PointSet + Copy>(access: Priv, reqs: &[Requirement<'_, P>]) -> bool
     ensures { IsTrue result ↔ All (λ r. agree access r.access ≡ true) reqs.now }
 {
     reqs.iter().all(|req| agree(access, req.access))
 }
 
 /// Whether the privileges of requirements all agree, where there is one. Then none of them interfere, whatever they claim.
-fn all_agree(reqs: &[Requirement<'_>]) -> bool
+fn all_agree<P: PointSet + Copy>(reqs: &[Requirement<'_, P>]) -> bool
     ensures { IsTrue result → AllAgree reqs.now }
 {
     match reqs.first() {
@@ -79,16 +88,21 @@ fn all_agree(reqs: &[Requirement<'_>]) -> bool
 
 /// The first number at which requirements of tasks of a launch interfere.
 ///
-/// Where their claims first clash, one of the two is new. Where it is new since a record asks for it, they interfere. Else the launch or its points are new, which is no interference, and all pairs are compared.
-fn first_in_launch(
+/// Where each set lies in the first column, the requirements claim runs of points. Where these first clash, one of the two is new. Where it is new since a record asks for it, they interfere. Else the launch or its points are new, which is no interference, and all pairs are compared.
+///
+/// Where some set has a point in another column, all pairs are compared too, which takes quadratic time in the requirements of the launch.
+fn first_in_launch<P: SetOfRects + Copy>(
     alloc: Global,
     launch: &LaunchTasks,
-    reqs: &[Requirement<'_>],
+    reqs: &[Requirement<'_, P>],
 ) -> Result<Option<u32>, Memory>
-    ensures { IfOk result (IsLeast (InterferesIn launch.now reqs.now)) }
+    ensures { IfOk result (IsLeast (InterferesIn P.points launch.now reqs.now)) }
 {
     if all_agree(reqs) {
         return Ok(None);
+    }
+    if !are_in_first_column(reqs) {
+        return Ok(first_by_pairs(launch, reqs));
     }
     let claims = claims_of(alloc, launch, reqs)?;
     let Some(number) = first_clash(alloc, claims.as_slice())? else {
@@ -102,13 +116,13 @@ fn first_in_launch(
 }
 
 /// The first number at which requirements interfere that stand in the order of their tasks.
-fn first_in_launches(
+fn first_in_launches<P: SetOfRects + Copy>(
     alloc: Global,
     launches: &[LaunchTasks],
-    reqs: &[Requirement<'_>],
+    reqs: &[Requirement<'_, P>],
 ) -> Result<Option<u32>, Memory>
     requires { IsNonDecreasingBy (λ r. r.task) reqs.now }
-    ensures { IfOk result (IsLeast (InterferesAt launches.now reqs.now)) }
+    ensures { IfOk result (IsLeast (InterferesAt P.points launches.now reqs.now)) }
 {
     let mut first: Option<u32> = None;
     for launch in launches {
@@ -119,12 +133,12 @@ fn first_in_launches(
 }
 
 /// The first number of a record at which requirements of tasks of launches interfere.
-pub fn first_interference(
+pub fn first_interference<P: SetOfRects + Copy>(
     alloc: Global,
     launches: &[LaunchTasks],
-    reqs: &[Requirement<'_>],
+    reqs: &[Requirement<'_, P>],
 ) -> Result<Option<u32>, Memory>
-    ensures { IfOk result (IsLeast (InterferesAt launches.now reqs.now)) }
+    ensures { IfOk result (IsLeast (InterferesAt P.points launches.now reqs.now)) }
 {
     let mut sorted = Vec::from_slice(alloc, reqs)?;
     sort_by_task(&mut sorted);

@@ -1,10 +1,11 @@
 //! What the tasks of launches claim, and the first record at which two of them clash.
 //!
 //! `first_interference` gives the first record at which requirements of two tasks of one launch are in
-//! conflict, or says exactly when there is none, near linearly; `first_clash` does so for claims of runs of
-//! points. `interference.rt` has the call on requirements; begin there. `claiming.rt` has what these claim
-//! in a launch, `first.rt` the first record at which claims clash, `pass.rt` one pass over them, and
-//! `reach.rt` what it keeps. `pairs.rt` compares requirements pair by pair, where claims cannot tell.
+//! conflict, or says exactly when there is none; `first_clash` does so for claims of runs of points.
+//! `interference.rt` has the call on requirements; begin there. `claiming.rt` has what these claim in a
+//! launch, `first.rt` the first record at which claims clash, `pass.rt` one pass over them, and `reach.rt`
+//! what it keeps: together they are near linear. `pairs.rt` compares requirements pair by pair, where claims
+//! cannot tell.
 #![tactic(auto)]
 
 mod claim;

@@ -2,10 +2,11 @@
 
 ghost use Rattle.std.specs.Prelude.{◌≡◌, ◌<◌, ◌≤◌, ◌↔◌, IsTrue, Contains};
 ghost use Rattle.std.specs.List.{Any};
-ghost use Rattle.launch_claims.specs.Interference.{Conflict, InterferesIn, IsKnownAt, IsLeast, least_with, lesser, RunsMeet, ShareNumber, SharePoint};
+ghost use Rattle.launch_claims.specs.Interference.{Conflict, InterferesIn, IsKnownAt, IsLeast, least_with, lesser, ShareNumber};
 ghost use Rattle.launch_claims.specs.declared.requirement.Requirement.{Requirement};
 
 use crate::requirement::{LaunchTasks, Requirement};
+use point_set::PointSet;
 use privilege::agree;
 
 /// Whether two lists have a number in common.
@@ -15,35 +16,35 @@ fn share_number(ours: &[u32], theirs: &[u32]) -> bool
     ours.iter().any(|number| theirs.contains(number))
 }
 
-/// Whether a run has a point in common with one of some runs.
-fn meets_some(run: (u64, u64), runs: &[(u64, u64)]) -> bool
-    ensures { IsTrue result ↔ Any (RunsMeet run) runs.now }
+/// Whether two sets have a point in common.
+fn share_point<P: PointSet>(ours: &P, theirs: &P) -> bool
+    ensures { IsTrue result ↔ ShareNumber (P.points ours.now) (P.points theirs.now) }
 {
-    runs.iter()
-        .any(|other| run.0.max(other.0) <= run.1.min(other.1))
-}
-
-/// Whether some two runs of two lists have a point in common.
-fn share_point(ours: &[(u64, u64)], theirs: &[(u64, u64)]) -> bool
-    ensures { IsTrue result ↔ SharePoint ours.now theirs.now }
-{
-    ours.iter().any(|run| meets_some(*run, theirs))
+    ours.meets(theirs)
 }
 
 /// Whether two requirements are in conflict.
-fn are_in_conflict(ours: &Requirement<'_>, theirs: &Requirement<'_>) -> bool
-    ensures { IsTrue result ↔ Conflict ours.now theirs.now }
+fn are_in_conflict<P: PointSet + Copy>(
+    ours: &Requirement<'_, P>,
+    theirs: &Requirement<'_, P>,
+) -> bool
+    ensures { IsTrue result ↔ Conflict P.points ours.now theirs.now }
 {
     ours.task != theirs.task
         && ours.tree == theirs.tree
         && !agree(ours.access, theirs.access)
         && share_number(ours.fields, theirs.fields)
-        && share_point(ours.runs, theirs.runs)
+        && share_point(&ours.set, &theirs.set)
 }
 
 /// Whether a requirement interferes with another in a launch, at the record that asks for it.
-fn interferes(launch: &LaunchTasks, ours: &Requirement<'_>, theirs: &Requirement<'_>) -> bool
-    ensures { IsTrue result ↔ (IsKnownAt launch.now ours.now.record ours.now theirs.now × Conflict ours.now theirs.now) }
+fn interferes<P: PointSet + Copy>(
+    launch: &LaunchTasks,
+    ours: &Requirement<'_, P>,
+    theirs: &Requirement<'_, P>,
+) -> bool
+    ensures { IsTrue result ↔ (IsKnownAt launch.now ours.now.record ours.now theirs.now
+        × Conflict P.points ours.now theirs.now) }
 {
     launch.number < ours.record
         && ours.declared < ours.record
@@ -53,12 +54,13 @@ fn interferes(launch: &LaunchTasks, ours: &Requirement<'_>, theirs: &Requirement
 }
 
 /// Whether a requirement interferes with one of some in a launch, at the record that asks for it.
-fn interferes_with_some(
+fn interferes_with_some<P: PointSet + Copy>(
     launch: &LaunchTasks,
-    ours: &Requirement<'_>,
-    reqs: &[Requirement<'_>],
+    ours: &Requirement<'_, P>,
+    reqs: &[Requirement<'_, P>],
 ) -> bool
-    ensures { IsTrue result ↔ Any (λ v. IsKnownAt launch.now ours.now.record ours.now v × Conflict ours.now v) reqs.now }
+    ensures { IsTrue result ↔ Any (λ v. IsKnownAt launch.now ours.now.record ours.now v
+        × Conflict P.points ours.now v) reqs.now }
 {
     reqs.iter().any(|theirs| interferes(launch, ours, theirs))
 }
@@ -83,9 +85,12 @@ pub(crate) fn lesser(one: Option<u32>, other: Option<u32>) -> Option<u32>
     }
 }
 
-/// The first number at which requirements of tasks of a launch interfere.
-pub(crate) fn first_by_pairs(launch: &LaunchTasks, reqs: &[Requirement<'_>]) -> Option<u32>
-    ensures { IsLeast (InterferesIn launch.now reqs.now) result }
+/// The first number at which requirements of tasks of a launch interfere. It takes quadratic time in the requirements.
+pub(crate) fn first_by_pairs<P: PointSet + Copy>(
+    launch: &LaunchTasks,
+    reqs: &[Requirement<'_, P>],
+) -> Option<u32>
+    ensures { IsLeast (InterferesIn P.points launch.now reqs.now) result }
 {
     let mut first: Option<u32> = None;
     for req in reqs {

@@ -1,14 +1,15 @@
 //! Requirements of tasks, and launches.
 
+use point_set::PointSet;
 use privilege::Priv;
 
 /// A requirement of a task: it uses points of fields of a tree.
 #[derive(Clone, Copy)]
-pub struct Requirement<'r> {
+pub struct Requirement<'r, P: PointSet + Copy> {
     pub task: u32,
     pub tree: u32,
-    /// The points, as runs from a first to a last one.
-    pub runs: &'r [(u64, u64)],
+    /// The points.
+    pub set: P,
     pub fields: &'r [u32],
     pub access: Priv,
     /// The number of the record that asks for it.

@@ -1,8 +1,8 @@
 use Rattle.std.proofs.Common.{◌≡◌, ◌++◌, ℕ, map, take}
 use Rattle.std.specs.List.{flat_map}
-use Rattle.launch_claims.specs.Claiming.{claim_on, run_of}
+use Rattle.launch_claims.specs.Claiming.{claim_on, rows_of}
 use Rattle.launch_claims.proofs.claiming.push_claims.Given as goal
 
 abbrev pub invariant-loop-field : goal.invariant-loop-field
-invariant-loop-field l = l.claims.items ≡ l.fn.claims.items
-    ++ flat_map (λ (field : ℕ). map (run_of (claim_on l.launch l.req field)) l.req.runs.now) (take l.field-index l.req.fields.now)
+invariant-loop-field g l = l.claims.items ≡ l.fn.claims.items
+    ++ flat_map (λ (field : ℕ). map (rows_of (claim_on l.launch l.req field)) l.rects) (take l.field-index l.req.fields.now)

@@ -2,7 +2,7 @@ use Rattle.std.proofs.Common.{arith}
 use Rattle.launch_claims.proofs.interference.of_launch.Goals as goal
 
 pub returns : goal.returns
-returns c = λ u. (
+returns g c = λ u. (
   λ h.
       let from = (c.split_at_task-2.ensures.others u).0 h in
       let below = (c.split_at_task.ensures.below u).0 from.0 in

@@ -4,4 +4,4 @@ use Rattle.launch_claims.proofs.Pairing.{AmongPairs}
 use Rattle.launch_claims.proofs.pairs.first_by_pairs.Given as goal
 
 abbrev pub invariant-loop-req : goal.invariant-loop-req
-invariant-loop-req l = IsLeast (AmongPairs l.launch (take l.req-index l.reqs) l.reqs) l.first
+invariant-loop-req g l = IsLeast (AmongPairs g.P.PointSet.points l.launch (take l.req-index l.reqs) l.reqs) l.first
