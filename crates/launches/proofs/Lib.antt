@@ -1,6 +1,7 @@
 mod Breaking
 mod Framing
 mod Listing
+mod Placed
 mod Stepping
 mod TaskLists
 mod Using

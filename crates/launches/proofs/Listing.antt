@@ -11,57 +11,61 @@ use Rattle.spy_grammar.specs.declared.record.Record.TheVariants as records
 use Rattle.launches.specs.declared.uses.Space.{Space}
 use Rattle.launches.specs.Uses.{DeclaredSpace, Use, asked_by, space_seen}
 
-asked_where : (rows : List Space) (o : Option Space) (task tree space line : ℕ) (fields : List ℕ) (access : PrivWord) (atomic : Bool)
-    → o ≡ find (λ (s : Space). s.id == space) rows
+asked_where : {P : Type 0} (points : P → List ℕ) (rows : List (Space P)) (o : Option (Space P))
+    (task tree space line : ℕ) (fields : List ℕ) (access : PrivWord) (atomic : Bool)
+    → o ≡ find (λ (s : Space P). s.id == space) rows
     → option_map (λ (s : DeclaredSpace). record {
       task = task;
       tree = tree;
-      runs = s.runs;
+      points = s.points;
       fields = fields;
       access =
           privilege_of access;
       line = line;
       declared = s.line;
-    }) (option_map space_seen o)
-    ≡ asked_by (map space_seen rows) (line, records.Req task tree space fields access atomic)
-asked_where rows o task tree space line fields access atomic is =
+    }) (option_map (space_seen points) o)
+    ≡ asked_by (map (space_seen points) rows) (line, records.Req task tree space fields access atomic)
+asked_where {P = P} points rows o task tree space line fields access atomic is =
     let f : DeclaredSpace → Use = λ (s : DeclaredSpace). record {
       task = task;
       tree = tree;
-      runs = s.runs;
+      points = s.points;
       fields = fields;
       access =
           privilege_of access;
       line = line;
       declared = s.line;
     } in
-    ap (λ (p : Option Space). option_map f (option_map space_seen p)) is
-    ∙ ap (option_map f) (sym (find_map (λ (s : DeclaredSpace). s.id == space) space_seen rows))
+    ap (λ (p : Option (Space P)). option_map f (option_map (space_seen points) p)) is
+    ∙ ap (option_map f) (sym (find_map (λ (s : DeclaredSpace). s.id == space) (space_seen points) rows))
 
-pub asked_none : (rows : List Space) (o : Option Space) (task tree space line : ℕ) (fields : List ℕ) (access : PrivWord) (atomic : Bool)
-    → o ≡ find (λ (s : Space). s.id == space) rows → o ≡ None
-    → None ≡ asked_by (map space_seen rows) (line, records.Req task tree space fields access atomic)
-asked_none rows None task tree space line fields access atomic is none = asked_where rows None task tree space line fields access atomic is
-asked_none rows (Some s) task tree space line fields access atomic is none = absurd (none-some s (sym none))
+pub asked_none : {P : Type 0} (points : P → List ℕ) (rows : List (Space P)) (o : Option (Space P))
+    (task tree space line : ℕ) (fields : List ℕ) (access : PrivWord) (atomic : Bool)
+    → o ≡ find (λ (s : Space P). s.id == space) rows → o ≡ None
+    → None ≡ asked_by (map (space_seen points) rows) (line, records.Req task tree space fields access atomic)
+asked_none points rows None task tree space line fields access atomic is none =
+    asked_where points rows None task tree space line fields access atomic is
+asked_none points rows (Some s) task tree space line fields access atomic is none = absurd (none-some s (sym none))
 
-pub asked_some : (rows : List Space) (o : Option Space) (s : Space) (task tree space line : ℕ) (fields its_fields : List ℕ)
-    (access : PrivWord) (its_access : Priv) (atomic : Bool) → o ≡ find (λ (s : Space). s.id == space) rows → o ≡ Some s
+pub asked_some : {P : Type 0} (points : P → List ℕ) (rows : List (Space P)) (o : Option (Space P)) (s : Space P)
+    (task tree space line : ℕ) (fields its_fields : List ℕ)
+    (access : PrivWord) (its_access : Priv) (atomic : Bool) → o ≡ find (λ (s : Space P). s.id == space) rows → o ≡ Some s
     → its_fields ≡ fields → its_access ≡ privilege_of access
     → Some (record {
       task = task;
       tree = tree;
-      runs = s.runs.now;
+      points = points s.set;
       fields = its_fields;
       access = its_access;
       line = line;
       declared =
           s.line;
-    }) ≡ asked_by (map space_seen rows) (line, records.Req task tree space fields access atomic)
-asked_some rows o s task tree space line fields its_fields access its_access atomic is some same_fields same_access =
+    }) ≡ asked_by (map (space_seen points) rows) (line, records.Req task tree space fields access atomic)
+asked_some points rows o s task tree space line fields its_fields access its_access atomic is some same_fields same_access =
     ap (λ (fs : List ℕ). Some (record {
       task = task;
       tree = tree;
-      runs = s.runs.now;
+      points = points s.set;
       fields = fs;
       access = its_access;
       line =
@@ -71,14 +75,14 @@ asked_some rows o s task tree space line fields its_fields access its_access ato
     ∙ ap (λ (p : Priv). Some (record {
       task = task;
       tree = tree;
-      runs = s.runs.now;
+      points = points s.set;
       fields = fields;
       access = p;
       line = line;
       declared =
           s.line;
     })) same_access
-    ∙ asked_where rows (Some s) task tree space line fields access atomic (sym some ∙ is)
+    ∙ asked_where points rows (Some s) task tree space line fields access atomic (sym some ∙ is)
 
 pub filtered_more : {X Y : Type 0} (h : ℕ × X → Option Y) (ns : List ℕ) (xs : List X) (i : ℕ) (x : X) (now next : List Y) → i < length ns
     → length ns ≤ length xs → x ≡ get_or xs i x

@@ -1,20 +1,19 @@
 -- One record more.
-use Rattle.std.proofs.Common.{◌≡◌, ℕ, ◌+◌, ◌-◌, ◌^◌, ◌≤◌, ◌==◌, Bool, true, false, List, [], ◌∷◌, ◌++◌, Option, Some, None, is_some, is_none, nat_lt, inl, inr, if◌then◌else◌, IfSome, Bor, All, filter, find, map, length, refl, sym, ap, ◌∙◌, subst, arith, append-nil, length-append, ◌<◌}
-use Rattle.std.specs.List.{list_any}
+use Rattle.std.proofs.Common.{◌≡◌, ℕ, ◌+◌, ◌-◌, ◌^◌, ◌≤◌, ◌==◌, true, false, List, [], ◌∷◌, ◌++◌, Option, Some, None, is_some, nat_lt, inl, inr, if◌then◌else◌, IfSome, Bor, All, filter, find, map, length, refl, sym, ap, ◌∙◌, subst, arith, append-nil, ◌<◌}
 use Rattle.std.specs.Option.{option_map, option_copied}
-use Rattle.std.proofs.lemmas.Bool.{eqb-true, ltb-false, or_parts, cases_Bool, false≢true}
+use Rattle.std.proofs.lemmas.Bool.{eqb-true, ltb-false, cases_Bool, false≢true}
 use Rattle.std.proofs.lemmas.List.Elements.{All-push}
 use Rattle.std.proofs.lemmas.Option.{none-some}
 use Rattle.list_lemmas.proofs.lemmas.Firsts.{find_some, all_at, seen_behind}
 use Rattle.list_lemmas.proofs.lemmas.Places.{find_map}
-use Rattle.vocabulary.specs.Prelude.{Record, LRecord, Code, GoodLaunch, Good, spelling, PrivWord, text_of}
+use Rattle.vocabulary.specs.Prelude.{Record, LRecord, Code, text_of}
 use Rattle.spy_grammar.specs.declared.record.Record.TheVariants as records
-use Rattle.spy_grammar.specs.declared.launches.LRecord.TheVariants.{Plain, Launch, Lreq}
+use Rattle.spy_grammar.specs.declared.launches.LRecord.TheVariants.{Plain}
 use Rattle.spy_grammar.specs.declared.code.Code.TheVariants as codes
-use Rattle.semantics.specs.declared.limits.TheConstants.{MOST_BYTES, MOST_COLOURS, MOST_RECORDS}
+use Rattle.semantics.specs.declared.limits.TheConstants.{MOST_BYTES, MOST_RECORDS}
 use Rattle.launches.specs.Written.{is_inner}
 use Rattle.semantics.specs.Faults.{is_end}
-use Rattle.semantics.specs.Launches.{TaskLaunch, Expanded, writes, with_launching, launches_by, names_no_launch, repeats_launch, exceeds_ids, writes_many, writes_long, breaks_launch, space_under, declared_by, colours_of, launch_of}
+use Rattle.semantics.specs.Launches.{TaskLaunch, Expanded, writes, with_launching, launches_by, names_no_launch, repeats_launch, exceeds_ids, writes_many, writes_long, breaks_launch}
 use Rattle.launch_laws.proofs.lemmas.WrittenLogs.{length_text}
 use Rattle.launches.specs.declared.launched.Launched.{Launched}
 use Rattle.launches.specs.Steps.{HasTaskIds, IsKept, launch_seen, expanded_as, early_rules, single_broken}

@@ -1,17 +1,15 @@
 -- Interference among requirements is what breaks the rule.
-use Rattle.std.proofs.Common.{◌≡◌, ◌≢◌, ℕ, ◌+◌, ◌<◌, ◌≤◌, ◌==◌, max, nat_lt, true, false, not, ◌&&◌, List, [], ◌∷◌, ◌++◌, Contains, find, fold, length, map, get_or, Option, Some, None, option_map, refl, sym, ap, subst, ◌∙◌, inl, inr, arith, append_assoc, append-nil, ◌⊎◌, if◌then◌else◌}
+use Rattle.std.proofs.Common.{◌≡◌, ◌≢◌, ℕ, ◌+◌, ◌<◌, ◌≤◌, ◌==◌, nat_lt, true, false, not, ◌&&◌, List, [], ◌∷◌, ◌++◌, Contains, find, fold, length, map, Option, Some, None, option_map, refl, sym, ap, subst, ◌∙◌, inl, inr, arith, append_assoc, append-nil, ◌⊎◌, if◌then◌else◌}
 use Rattle.std.specs.List.{cons_option, filter_map}
 use Rattle.std.specs.Option.{option_map_or}
 use Rattle.std.proofs.lemmas.Bool.{and_from, and_parts, cases_Bool, eq-eqb, eqb-false, eqb-true, false≢true, le-ltb, lt-ltb, ltb-false, ltb-true, ne_eqb, not-true, not_from_false}
-use Rattle.std.proofs.lemmas.List.{get_or_default}
-use Rattle.std.proofs.lemmas.List.Elements.{Contains-append_right, Contains-get_or}
+use Rattle.std.proofs.lemmas.List.Elements.{Contains-append_right}
 use Rattle.std.proofs.lemmas.Option.{none-some}
 use Rattle.list_lemmas.proofs.lemmas.Firsts.{map_cases}
-use Rattle.point_set.proofs.lemmas.InRuns.{in_run, of_run}
 use Rattle.log_tables.proofs.lemmas.Members.{has_in, in_has}
 use Rattle.launch_claims.specs.declared.requirement.LaunchTasks.{LaunchTasks}
 use Rattle.launch_claims.specs.declared.requirement.Requirement.{Requirement}
-use Rattle.launch_claims.specs.Interference.{Conflict, InterferesAt, IsKnownAt, IsLeast, IsTaskOf, ShareNumber, SharePoint}
+use Rattle.launch_claims.specs.Interference.{Conflict, InterferesAt, IsKnownAt, IsLeast, IsTaskOf, ShareNumber}
 use Rattle.launch_claims.proofs.lemmas.Members.{in_map, of_map, one_of}
 use Rattle.launch_claims.proofs.lemmas.Least.{least_same}
 use Rattle.vocabulary.specs.Prelude.{Priv, Coherence, agree, both_atomic, kind_of, is_free, PrivWord, Record, Lined, Tables, Space, meets, is_in, lined, lined_from, no_tables, points_in, points_of, tables_of, with_record, privilege_of, coherence_of}
@@ -78,7 +76,7 @@ rows_from n t (r ∷ rs) =
 -- What is known of the points of a space by its declaration, at a line.
 abbrev points_known : ℕ → Option DeclaredSpace → List ℕ
 points_known n None = []
-points_known n (Some d) = if nat_lt d.line n then points_of d.runs else []
+points_known n (Some d) = if nat_lt d.line n then d.points else []
 
 abbrev points_found : List Space → ℕ → List ℕ
 points_found spaces id = option_map_or (λ (s : Space). s.points) (find (λ (s : Space). s.id == id) spaces) []
@@ -118,14 +116,14 @@ points_at n id ws order = ap (λ (xs : List Space). points_found xs id) (rows_fr
 -- ---- points and fields in common
 
 known_at : (n : ℕ) (o : Option DeclaredSpace) (x : ℕ) → Contains (points_known n o) x → (d : DeclaredSpace) × (o ≡ Some d) × (d.line < n)
-    × Contains (points_of d.runs) x
+    × Contains d.points x
 known_at n None x h = absurd (let lt = h.1 in omega (arith, lt))
 known_at n (Some d) x h = elim (cases_Bool (nat_lt d.line n)) [
   | inl early ↦ (d, refl, ltb-true d.line n early, rw early at h)
   | inr late ↦ let none : Contains [] x = rw late at h in absurd (let lt = none.1 in omega (arith, lt))
 ]
 
-known_from : (n : ℕ) (o : Option DeclaredSpace) (d : DeclaredSpace) (x : ℕ) → o ≡ Some d → d.line < n → Contains (points_of d.runs) x
+known_from : (n : ℕ) (o : Option DeclaredSpace) (d : DeclaredSpace) (x : ℕ) → o ≡ Some d → d.line < n → Contains d.points x
     → Contains (points_known n o) x
 known_from n o d x is lt h = subst (λ (p : Option DeclaredSpace). Contains (points_known n p) x) (sym is) (rw (lt-ltb d.line n lt) h)
 
@@ -134,36 +132,6 @@ meets_of xs ys h = let r = any_of (is_in ys) xs h in (r.0, r.1, has_in ys r.0 r.
 
 meets_from : (xs ys : List ℕ) → ShareNumber xs ys → meets xs ys ≡ true
 meets_from xs ys h = any_from (is_in ys) xs h.0 h.1 (in_has ys h.0 h.2)
-
-runs_at : (ps qs : List (ℕ × ℕ)) (x : ℕ) → Contains (points_of ps) x → Contains (points_of qs) x → SharePoint ps qs
-runs_at ps qs x in_p in_q =
-    let p = in_run ps x in_p in
-    let q = in_run qs x in_q in
-    let a = p.holds.low in
-    let b = p.holds.high in
-    let c = q.holds.low in
-    let d = q.holds.high in (
-      get_or ps p.place (0, 0),
-      get_or qs q.place (0, 0),
-      Contains-get_or ps p.place (0, 0) p.within,
-      Contains-get_or qs q.place (0, 0) q.within,
-      omega arith,
-    )
-
-point_of : (ps : List (ℕ × ℕ)) (p : ℕ × ℕ) (x : ℕ) → Contains ps p → p.0 ≤ x → x ≤ p.1 → Contains (points_of ps) x
-point_of ps p x h low high =
-    let is : p ≡ get_or ps h.0 (0, 0) = sym (get_or_default ps h.0 (0, 0) p h.1 ∙ h.2) in
-    of_run ps h.0 x h.1 (record { low = subst (λ (q : ℕ × ℕ). q.0 ≤ x) is low; high = subst (λ (q : ℕ × ℕ). x ≤ q.1) is high })
-
-point_at : (ps qs : List (ℕ × ℕ)) → SharePoint ps qs → (x : ℕ) × Contains (points_of ps) x × Contains (points_of qs) x
-point_at ps qs h =
-    let p = h.0 in
-    let q = h.1 in
-    let meet = h.4 in (
-      max p.0 q.0,
-      point_of ps p (max p.0 q.0) h.2 (omega arith) (omega (arith, meet)),
-      point_of qs q (max p.0 q.0) h.3 (omega arith) (omega (arith, meet)),
-    )
 
 -- ---- when two requirements clash
 
@@ -189,14 +157,14 @@ record Shared (n : ℕ) (l : ℕ × TaskLaunch) (u v : Use) : Type 0 where
   tasks : u.task ≢ v.task
   tree : u.tree ≡ v.tree
   fields : ShareNumber u.fields v.fields
-  points : SharePoint u.runs v.runs
+  points : ShareNumber u.points v.points
   accesses : agree u.access v.access ≡ false
 
 abbrev use_on : ℕ → ℕ → ℕ → List ℕ → PrivWord → DeclaredSpace → Use
 use_on k task tree fields access s = record {
   task = task;
   tree = tree;
-  runs = s.runs;
+  points = s.points;
   fields = fields;
   access = privilege_of access;
   line =
@@ -238,7 +206,7 @@ clash_shared n ds t l points (k, records.Req task tree space fields access atomi
         tasks = eqb-false task other (not-true _ apart.1);
         tree = eqb-true tree its_tree trees.0;
         fields = meets_of fields its_fields meet.0;
-        points = runs_at one.0.runs two.0.runs point.0 one.3 two.3;
+        points = (point.0, one.3, two.3);
         accesses = sym (free_where (privilege_of access) (privilege_of its_access) (coherence_of atomic) (coherence_of its_atomic))
             ∙ not-true _ place.1;
       },
@@ -257,7 +225,7 @@ shared_clash n ds t l points (k, records.Req task tree space fields access atomi
     let s : Shared n l (use_on k task tree fields access one.0) (use_on j other its_tree its_fields its_access two.0) =
     subst (λ (z : Use). Shared n l z (use_on j other its_tree its_fields its_access two.0)) (sym one.2)
     (subst (λ (z : Use). Shared n l u z) (sym two.2) shared) in
-    let point = point_at one.0.runs two.0.runs s.points in
+    let point = s.points in
     let here = subst (λ (xs : List ℕ). Contains xs point.0) (sym (points space))
     (known_from n (find (λ (d : DeclaredSpace). d.id == space) ds) one.0 point.0 one.1 s.declared point.1) in
     let there = subst (λ (xs : List ℕ). Contains xs point.0) (sym (points its_space))
@@ -280,22 +248,23 @@ asked_line ds (k, _) u asks = absurd (none-some u asks)
 
 -- ---- all of them
 
-breaks_from : (ls : List (ℕ × TaskLaunch)) (ws : List (ℕ × Record)) (reqs : List Requirement) (n : ℕ) → AreInOrder ws
-    → map use_seen reqs ≡ filter_map (asked_by (filter_map space_by_record ws)) ws
-    → InterferesAt (map tasks_by ls) reqs n → BreaksAt ls ws n
-breaks_from ls ws reqs n order are h =
+breaks_from : {P : Type 0} (points : P → List ℕ) (ls : List (ℕ × TaskLaunch)) (ws : List (ℕ × Record))
+    (reqs : List (Requirement P)) (n : ℕ) → AreInOrder ws
+    → map (use_seen points) reqs ≡ filter_map (asked_by (filter_map space_by_record ws)) ws
+    → InterferesAt points (map tasks_by ls) reqs n → BreaksAt ls ws n
+breaks_from points ls ws reqs n order are h =
     let ds = filter_map space_by_record ws in
     let l = of_map tasks_by ls h.0 h.1 in
     let u = h.2.0 in
     let v = h.2.1 in
-    let own = of_filtered (asked_by ds) ws (use_seen u)
-    (subst (λ (xs : List Use). Contains xs (use_seen u)) are (in_map use_seen reqs u h.2.2.0)) in
-    let other = of_filtered (asked_by ds) ws (use_seen v)
-    (subst (λ (xs : List Use). Contains xs (use_seen v)) are (in_map use_seen reqs v h.2.3.0)) in
+    let own = of_filtered (asked_by ds) ws (use_seen points u)
+    (subst (λ (xs : List Use). Contains xs (use_seen points u)) are (in_map (use_seen points) reqs u h.2.2.0)) in
+    let other = of_filtered (asked_by ds) ws (use_seen points v)
+    (subst (λ (xs : List Use). Contains xs (use_seen points v)) are (in_map (use_seen points) reqs v h.2.3.0)) in
     let known : IsKnownAt (tasks_by l.0) n u v = subst (λ (x : LaunchTasks). IsKnownAt x n u v) (sym l.2) h.2.4 in
     let conflict = h.2.5 in
-    let here = asked_line ds own.0 (use_seen u) own.2 in
-    let there = asked_line ds other.0 (use_seen v) other.2 in
+    let here = asked_line ds own.0 (use_seen points u) own.2 in
+    let there = asked_line ds other.0 (use_seen points v) other.2 in
     let asks = known.asks in
     let others = known.others in
     record {
@@ -308,8 +277,8 @@ breaks_from ls ws reqs n order are h =
       earlier = known.launched;
       at = omega (arith, here, asks);
       until = omega (arith, there, others);
-      clash = shared_clash n ds (tables_of (lined (written_before n ws))) l.0 (λ id. points_at n id ws order) own.0 other.0 (use_seen u)
-          (use_seen v) own.2 other.2 (record {
+      clash = shared_clash n ds (tables_of (lined (written_before n ws))) l.0 (λ id. points_at n id ws order) own.0 other.0
+          (use_seen points u) (use_seen points v) own.2 other.2 (record {
             declared = known.declared;
             also = known.others_declared;
             ours = subst (λ (x : LaunchTasks). IsTaskOf x u.task) (sym l.2) h.2.2.1;
@@ -322,18 +291,19 @@ breaks_from ls ws reqs n order are h =
           });
     }
 
-breaks_to : (ls : List (ℕ × TaskLaunch)) (ws : List (ℕ × Record)) (reqs : List Requirement) (n : ℕ) → AreInOrder ws
-    → map use_seen reqs ≡ filter_map (asked_by (filter_map space_by_record ws)) ws
-    → BreaksAt ls ws n → InterferesAt (map tasks_by ls) reqs n
-breaks_to ls ws reqs n order are b =
+breaks_to : {P : Type 0} (points : P → List ℕ) (ls : List (ℕ × TaskLaunch)) (ws : List (ℕ × Record))
+    (reqs : List (Requirement P)) (n : ℕ) → AreInOrder ws
+    → map (use_seen points) reqs ≡ filter_map (asked_by (filter_map space_by_record ws)) ws
+    → BreaksAt ls ws n → InterferesAt points (map tasks_by ls) reqs n
+breaks_to points ls ws reqs n order are b =
     let ds = filter_map space_by_record ws in
     let r = clash_shared n ds (tables_of (lined (written_before n ws))) b.launch (λ id. points_at n id ws order) b.own b.other b.clash in
-    let u = of_map use_seen reqs r.0 (subst (λ (xs : List Use). Contains xs r.0) (sym are)
+    let u = of_map (use_seen points) reqs r.0 (subst (λ (xs : List Use). Contains xs r.0) (sym are)
     (in_filtered (asked_by ds) ws b.own r.0 b.writes r.2)) in
-    let v = of_map use_seen reqs r.1 (subst (λ (xs : List Use). Contains xs r.1) (sym are)
+    let v = of_map (use_seen points) reqs r.1 (subst (λ (xs : List Use). Contains xs r.1) (sym are)
     (in_filtered (asked_by ds) ws b.other r.1 b.has r.3)) in
-    let s : Shared n b.launch (use_seen u.0) (use_seen v.0) =
-    subst (λ (z : Use). Shared n b.launch z (use_seen v.0)) (sym u.2) (subst (λ (z : Use). Shared n b.launch r.0 z) (sym v.2) r.4) in
+    let s : Shared n b.launch (use_seen points u.0) (use_seen points v.0) =
+    subst (λ (z : Use). Shared n b.launch z (use_seen points v.0)) (sym u.2) (subst (λ (z : Use). Shared n b.launch r.0 z) (sym v.2) r.4) in
     let here : u.0.record ≡ b.own.0 = ap (λ (z : Use). z.line) u.2 ∙ asked_line ds b.own r.0 r.2 in
     let there : v.0.record ≡ b.other.0 = ap (λ (z : Use). z.line) v.2 ∙ asked_line ds b.other r.1 r.3 in
     let at = b.at in
@@ -345,7 +315,7 @@ breaks_to ls ws reqs n order are b =
       others = omega (arith, there, until);
       others_declared = s.also;
     } in
-    let conflict : Conflict u.0 v.0 = record {
+    let conflict : Conflict points u.0 v.0 = record {
       tasks = s.tasks;
       tree = s.tree;
       fields = s.fields;
@@ -356,12 +326,12 @@ breaks_to ls ws reqs n order are b =
     (tasks_by b.launch, in_map tasks_by ls b.launch b.launched, (u.0, v.0, (u.1, s.ours), (v.1, s.theirs), known, conflict))
 
 -- The first interference among requirements is the first that breaks the rule.
-pub first_broken : (ls : List (ℕ × TaskLaunch)) (ws : List (ℕ × Record)) (tasks : List LaunchTasks) (spaces : List DeclaredSpace)
-    (reqs : List Requirement) (o : Option ℕ) → AreInOrder ws
-    → tasks ≡ map tasks_by ls → spaces ≡ filter_map space_by_record ws → map use_seen reqs ≡ filter_map (asked_by spaces) ws
-    → IsLeast (InterferesAt tasks reqs) o → IsLeast (BreaksAt ls ws) o
-first_broken ls ws tasks spaces reqs o order are declared asked h =
-    let all : map use_seen reqs ≡ filter_map (asked_by (filter_map space_by_record ws)) ws =
-    subst (λ (ds : List DeclaredSpace). map use_seen reqs ≡ filter_map (asked_by ds) ws) declared asked in
-    least_same (InterferesAt (map tasks_by ls) reqs) (BreaksAt ls ws) (λ n. breaks_from ls ws reqs n order all)
-    (λ n. breaks_to ls ws reqs n order all) o (subst (λ (ts : List LaunchTasks). IsLeast (InterferesAt ts reqs) o) are h)
+pub first_broken : {P : Type 0} (points : P → List ℕ) (ls : List (ℕ × TaskLaunch)) (ws : List (ℕ × Record)) (tasks : List LaunchTasks)
+    (spaces : List DeclaredSpace) (reqs : List (Requirement P)) (o : Option ℕ) → AreInOrder ws
+    → tasks ≡ map tasks_by ls → spaces ≡ filter_map space_by_record ws → map (use_seen points) reqs ≡ filter_map (asked_by spaces) ws
+    → IsLeast (InterferesAt points tasks reqs) o → IsLeast (BreaksAt ls ws) o
+first_broken points ls ws tasks spaces reqs o order are declared asked h =
+    let all : map (use_seen points) reqs ≡ filter_map (asked_by (filter_map space_by_record ws)) ws =
+    subst (λ (ds : List DeclaredSpace). map (use_seen points) reqs ≡ filter_map (asked_by ds) ws) declared asked in
+    least_same (InterferesAt points (map tasks_by ls) reqs) (BreaksAt ls ws) (λ n. breaks_from points ls ws reqs n order all)
+    (λ n. breaks_to points ls ws reqs n order all) o (subst (λ (ts : List LaunchTasks). IsLeast (InterferesAt points ts reqs) o) are h)

@@ -1,10 +1,8 @@
 -- What is known of written records, and of one more.
-use Rattle.std.proofs.Common.{◌≡◌, ℕ, ◌+◌, ◌-◌, ◌^◌, ◌<◌, ◌==◌, ◌&&◌, nat_lt, Bool, true, false, cond, List, [], ◌∷◌, ◌++◌, fold, find, filter, length, All, Option, Some, None, IfSome, option_map, refl, sym, ap, ◌∙◌, subst, arith, append_assoc, length-append}
+use Rattle.std.proofs.Common.{◌≡◌, ℕ, ◌+◌, ◌-◌, ◌^◌, ◌<◌, ◌==◌, ◌&&◌, nat_lt, Bool, true, false, cond, List, [], ◌∷◌, ◌++◌, find, filter, length, Option, IfSome, option_map, refl, sym, ap, ◌∙◌, subst, arith, append_assoc, length-append}
 use Rattle.std.proofs.lemmas.Bool.Decides.{nat_tests}
-use Rattle.std.proofs.lemmas.List.Elements.{recursion_from_All, filter-append, All-push, All-head, All-tail, All-nil}
+use Rattle.std.proofs.lemmas.List.Elements.{recursion_from_All, filter-append, All-push}
 use Rattle.std.proofs.lemmas.List.Sums.{fold-append}
-use Rattle.list_lemmas.proofs.lemmas.Firsts.{map_cases}
-use Rattle.list_lemmas.proofs.lemmas.Places.{all_found}
 use Rattle.vocabulary.specs.Prelude.{IsNumberFrom, Record, Lined, Good, spelling, Sub, lined, lined_from, text_of, Tables, tables_of, with_record, no_tables, PrivWord}
 use Rattle.spy_grammar.specs.declared.record.Record.TheVariants as records
 use Rattle.semantics.specs.declared.limits.TheConstants.{MOST_BYTES, MOST_RECORDS}

@@ -2,18 +2,45 @@
 
 ghost use Rattle.std.specs.Prelude.{◌≡◌, ◌≤◌, All, length, map, IfOk};
 ghost use Rattle.std.specs.List.{zip};
+ghost use Rattle.vocabulary.specs.Prelude.{Good};
 ghost use Rattle.launch_claims.specs.Interference.{IsLeast};
 ghost use Rattle.launches.specs.Interfering.{BreaksAt, first_fault};
 ghost use Rattle.launches.specs.Steps.{HasTaskIds, launch_seen};
 ghost use Rattle.launches.specs.Walks.{AreInOrder};
 
 use crate::launched::Launched;
-use crate::uses::{launch_tasks, requirements_in, spaces_in};
+use crate::uses::{Space, launch_tasks, requirements_in, spaces_in};
 use crate::walk::Lines;
+use arena_sets::ArenaSet;
+use bumpalo::Bump;
+use log_tables::Rows;
 use memory::Memory;
+use point_set::RectSet;
 use semantics::Fault;
 use spy_grammar::{Code, Record};
 use std::alloc::Global;
+
+/// The first line at which the rule on interference is broken. The sets of spaces are placed in the arena.
+fn first_by_sets<'b, P: ArenaSet<'b>>(
+    alloc: Global,
+    bump: &'b Bump,
+    launches: &[Launched],
+    written: &[Record],
+    lines: &Lines,
+) -> Result<Option<u32>, Memory>
+    requires fit { All HasTaskIds launches.now }
+    requires good { All Good written.now }
+    requires launches { length lines.now.launched.items ≤ length launches.now }
+    requires records { length lines.now.written.items ≤ length written.now }
+    requires order { AreInOrder (zip lines.now.written.items written.now) }
+    ensures { IfOk result (IsLeast
+        (BreaksAt (zip lines.now.launched.items (map launch_seen launches.now)) (zip lines.now.written.items written.now))) }
+{
+    let spaces: Rows<u32, Space<P>> = spaces_in(alloc, bump, written, lines.written.as_slice())?;
+    let reqs = requirements_in(alloc, &spaces, written, lines.written.as_slice())?;
+    let tasks = launch_tasks(alloc, launches, lines.launched.as_slice())?;
+    launch_claims::first_interference(alloc, tasks.as_slice(), reqs.as_slice())
+}
 
 /// The first line at which the rule on interference is broken.
 pub(crate) fn first_interference(
@@ -23,16 +50,15 @@ pub(crate) fn first_interference(
     lines: &Lines,
 ) -> Result<Option<u32>, Memory>
     requires fit { All HasTaskIds launches.now }
+    requires good { All Good written.now }
     requires launches { length lines.now.launched.items ≤ length launches.now }
     requires records { length lines.now.written.items ≤ length written.now }
     requires order { AreInOrder (zip lines.now.written.items written.now) }
     ensures { IfOk result (IsLeast
         (BreaksAt (zip lines.now.launched.items (map launch_seen launches.now)) (zip lines.now.written.items written.now))) }
 {
-    let spaces = spaces_in(alloc, written, lines.written.as_slice())?;
-    let reqs = requirements_in(alloc, &spaces, written, lines.written.as_slice())?;
-    let tasks = launch_tasks(alloc, launches, lines.launched.as_slice())?;
-    launch_claims::first_interference(alloc, tasks.as_slice(), reqs.as_slice())
+    let bump = Bump::new(alloc);
+    first_by_sets::<RectSet<'_>>(alloc, &bump, launches, written, lines)
 }
 
 /// The fault at the first line at which the rule on interference is broken, and else another fault.

@@ -3,25 +3,29 @@
 ghost use Rattle.std.specs.Prelude.{◌≡◌, ◌+◌, ◌++◌, ◌^◌, ◌≤◌, ◌==◌, [], All, find, length, map, IfOk, OnOk};
 ghost use Rattle.std.specs.List.{cons_option, filter_map, zip};
 ghost use Rattle.std.specs.Option.{option_map};
+ghost use Rattle.vocabulary.specs.Prelude.{Good};
 ghost use Rattle.launches.specs.Steps.{HasTaskIds, launch_seen};
 ghost use Rattle.launches.specs.Uses.{asked_by, space_by_record, space_seen, tasks_by, use_seen};
 
 use crate::launched::Launched;
+use arena_sets::ArenaSet;
+use bumpalo::Bump;
 use launch_claims::{LaunchTasks, Requirement};
 use log_tables::{Keyed, Rows, priv_of};
 use memory::Memory;
+use point_set::PointSet;
 use spy_grammar::Record;
 use std::alloc::Global;
 
-/// A declared space: its points, as runs from a first to a last one, and the line of the record that declares it.
+/// A declared space: its points, and the line of the record that declares it.
 #[derive(Clone, Copy)]
-pub(crate) struct Space<'w> {
+pub(crate) struct Space<P: PointSet + Copy> {
     pub(crate) id: u32,
-    pub(crate) runs: &'w [(u64, u64)],
+    pub(crate) set: P,
     pub(crate) line: u32,
 }
 
-impl<'w> Keyed<u32> for Space<'w> {
+impl<P: PointSet + Copy> Keyed<u32> for Space<P> {
     ghost key_of = { λ s. s.id };
 
     fn key(&self) -> u32 {
@@ -29,65 +33,72 @@ impl<'w> Keyed<u32> for Space<'w> {
     }
 }
 
-/// The space that a record declares, if it declares one.
-fn space_in(rec: &Record, line: u32) -> Option<Space<'_>>
-    ensures { option_map space_seen result ≡ space_by_record (line, rec.now) }
+/// The space that a record declares, if it declares one. Its set is placed in the arena.
+fn space_in<'b, P: ArenaSet<'b>>(
+    bump: &'b Bump,
+    rec: &Record,
+    line: u32,
+) -> Result<Option<Space<P>>, Memory>
+    requires { Good rec.now }
+    ensures { IfOk result (λ space. option_map (space_seen P.points) space ≡ space_by_record (line, rec.now)) }
 {
-    match rec {
-        Record::Ispace { id, set } => Some(Space {
-            id: *id,
-            runs: set.as_slice(),
-            line,
-        }),
-        _ => None,
-    }
+    let (id, set) = match rec {
+        Record::Ispace { id, set } => (*id, P::place(bump, set.as_slice())?),
+        _ => return Ok(None),
+    };
+    Ok(Some(Space { id, set, line }))
 }
 
 /// Adds the space that a record declares, if it declares one.
-fn push_space<'w>(
-    spaces: &mut Rows<u32, Space<'w>>,
-    rec: &'w Record,
+fn push_space<'b, P: ArenaSet<'b>>(
+    bump: &'b Bump,
+    spaces: &mut Rows<u32, Space<P>>,
+    rec: &Record,
     line: u32,
 ) -> Result<(), Memory>
-    ensures { OnOk result (map space_seen spaces.new
-        ≡ map space_seen spaces.old ++ cons_option (space_by_record (line, rec.now)) []) }
+    requires { Good rec.now }
+    ensures { OnOk result (map (space_seen P.points) spaces.new
+        ≡ map (space_seen P.points) spaces.old ++ cons_option (space_by_record (line, rec.now)) []) }
 {
-    if let Some(space) = space_in(rec, line) {
+    if let Some(space) = space_in(bump, rec, line)? {
         spaces.push(space)?;
     }
     Ok(())
 }
 
 /// The spaces that the first written records declare, as many as there are lines: line `i` is that of record `i`.
-pub(crate) fn spaces_in<'w>(
+pub(crate) fn spaces_in<'b, P: ArenaSet<'b>>(
     alloc: Global,
-    written: &'w [Record],
+    bump: &'b Bump,
+    written: &[Record],
     lines: &[u32],
-) -> Result<Rows<u32, Space<'w>>, Memory>
-    requires { length lines.now ≤ length written.now }
-    ensures { IfOk result (λ spaces. map space_seen spaces ≡ filter_map space_by_record (zip lines.now written.now)) }
+) -> Result<Rows<u32, Space<P>>, Memory>
+    requires good { All Good written.now }
+    requires lines { length lines.now ≤ length written.now }
+    ensures { IfOk result (λ spaces. map (space_seen P.points) spaces
+        ≡ filter_map space_by_record (zip lines.now written.now)) }
 {
     let mut spaces = Rows::new(alloc);
     for i in 0..lines.len() {
-        push_space(&mut spaces, &written[i], lines[i])?;
+        push_space(bump, &mut spaces, &written[i], lines[i])?;
     }
     Ok(spaces)
 }
 
 /// The first space with this id.
-fn space_of<'w>(spaces: &Rows<u32, Space<'w>>, id: u32) -> Option<Space<'w>>
+fn space_of<P: PointSet + Copy>(spaces: &Rows<u32, Space<P>>, id: u32) -> Option<Space<P>>
     ensures { result ≡ find (λ s. s.id == id) spaces.now }
 {
     spaces.get(id).copied()
 }
 
 /// The requirement that a record states, if it states one on a declared space.
-fn requirement_in<'w>(
-    spaces: &Rows<u32, Space<'w>>,
+fn requirement_in<'w, P: PointSet + Copy>(
+    spaces: &Rows<u32, Space<P>>,
     rec: &'w Record,
     line: u32,
-) -> Option<Requirement<'w>>
-    ensures { option_map use_seen result ≡ asked_by (map space_seen spaces.now) (line, rec.now) }
+) -> Option<Requirement<'w, P>>
+    ensures { option_map (use_seen P.points) result ≡ asked_by (map (space_seen P.points) spaces.now) (line, rec.now) }
 {
     match rec {
         Record::Req {
@@ -104,7 +115,7 @@ fn requirement_in<'w>(
             Some(Requirement {
                 task: *task,
                 tree: *tree,
-                runs: space.runs,
+                set: space.set,
                 fields: fields.as_slice(),
                 access: priv_of(*access),
                 record: line,
@@ -116,14 +127,14 @@ fn requirement_in<'w>(
 }
 
 /// Adds the requirement that a record states, if it states one on a declared space.
-fn push_requirement<'w>(
-    reqs: &mut Vec<Requirement<'w>>,
-    spaces: &Rows<u32, Space<'w>>,
+fn push_requirement<'w, P: PointSet + Copy>(
+    reqs: &mut Vec<Requirement<'w, P>>,
+    spaces: &Rows<u32, Space<P>>,
     rec: &'w Record,
     line: u32,
 ) -> Result<(), Memory>
-    ensures { OnOk result (map use_seen reqs.new.items
-        ≡ map use_seen reqs.old.items ++ cons_option (asked_by (map space_seen spaces.now) (line, rec.now)) []) }
+    ensures { OnOk result (map (use_seen P.points) reqs.new.items ≡ map (use_seen P.points) reqs.old.items
+        ++ cons_option (asked_by (map (space_seen P.points) spaces.now) (line, rec.now)) []) }
 {
     if let Some(req) = requirement_in(spaces, rec, line) {
         reqs.push(req)?;
@@ -132,15 +143,15 @@ fn push_requirement<'w>(
 }
 
 /// The requirements that these records state on declared spaces.
-pub(crate) fn requirements_in<'w>(
+pub(crate) fn requirements_in<'w, P: PointSet + Copy>(
     alloc: Global,
-    spaces: &Rows<u32, Space<'w>>,
+    spaces: &Rows<u32, Space<P>>,
     written: &'w [Record],
     lines: &[u32],
-) -> Result<Vec<Requirement<'w>>, Memory>
+) -> Result<Vec<Requirement<'w, P>>, Memory>
     requires { length lines.now ≤ length written.now }
-    ensures { IfOk result (λ reqs. map use_seen reqs.items
-        ≡ filter_map (asked_by (map space_seen spaces.now)) (zip lines.now written.now)) }
+    ensures { IfOk result (λ reqs. map (use_seen P.points) reqs.items
+        ≡ filter_map (asked_by (map (space_seen P.points) spaces.now)) (zip lines.now written.now)) }
 {
     let mut reqs = Vec::new(alloc);
     for i in 0..lines.len() {

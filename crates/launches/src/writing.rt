@@ -113,7 +113,8 @@ impl Writing {
 
     /// The records.
     pub(crate) fn as_slice(&self) -> &[Record]
-        ensures { result.now ≡ self.now }
+        ensures same { result.now ≡ self.now }
+        ensures good { All Good result.now }
     {
         &self.written
     }

@@ -1,6 +1,7 @@
 //! The first records at which claims of launches clash, found by hand.
 
 use launch_claims::{Claim, LaunchTasks, Requirement, first_clash, first_interference};
+use point_set::{PointSet, Rect, RectSet, RunSet};
 use privilege::Priv;
 use std::alloc::Global;
 use std::test::Fail;
@@ -165,12 +166,17 @@ fn places_are_apart(rt: HostRuntime) -> Result<(), Fail> {
     Ok(())
 }
 
-/// A requirement of one launch: its task, the record that asks for it, and the one that declares its points.
-fn requirement(task: u32, record: u32, declared: u32) -> Requirement<'static> {
+/// A requirement of one launch: its points, its task, the record that asks for it, and the one that declares its points.
+fn requirement<P: PointSet + Copy>(
+    set: P,
+    task: u32,
+    record: u32,
+    declared: u32,
+) -> Requirement<'static, P> {
     Requirement {
         task,
         tree: 1,
-        runs: &[(0, 3), (8, 9)],
+        set,
         fields: &[2],
         access: Priv::Rw,
         record,
@@ -178,23 +184,51 @@ fn requirement(task: u32, record: u32, declared: u32) -> Requirement<'static> {
     }
 }
 
-#[test]
-fn first_interferences_are_told(rt: HostRuntime) -> Result<(), Fail> {
-    let launch = LaunchTasks {
+/// A launch of tasks 4 and 5.
+fn launch() -> LaunchTasks {
+    LaunchTasks {
         base: 4,
         end: 6,
         number: 3,
-    };
+    }
+}
+
+#[test]
+fn first_interferences_are_told(rt: HostRuntime) -> Result<(), Fail> {
+    let set = RunSet::over(&[(0, 3), (8, 9)]).ok_or("runs in order")?;
     for (one, other, first) in [
-        (requirement(4, 5, 1), requirement(5, 7, 1), Some(7)),
-        (requirement(4, 2, 1), requirement(5, 7, 1), Some(7)),
-        (requirement(4, 2, 1), requirement(5, 1, 0), None),
-        (requirement(4, 5, 6), requirement(5, 7, 1), Some(7)),
-        (requirement(4, 5, 8), requirement(5, 7, 1), None),
-        (requirement(4, 5, 1), requirement(4, 7, 1), None),
-        (requirement(4, 5, 1), requirement(6, 7, 1), None),
+        (requirement(set, 4, 5, 1), requirement(set, 5, 7, 1), Some(7)),
+        (requirement(set, 4, 2, 1), requirement(set, 5, 7, 1), Some(7)),
+        (requirement(set, 4, 2, 1), requirement(set, 5, 1, 0), None),
+        (requirement(set, 4, 5, 6), requirement(set, 5, 7, 1), Some(7)),
+        (requirement(set, 4, 5, 8), requirement(set, 5, 7, 1), None),
+        (requirement(set, 4, 5, 1), requirement(set, 4, 7, 1), None),
+        (requirement(set, 4, 5, 1), requirement(set, 6, 7, 1), None),
     ] {
-        match first_interference(rt.alloc(), [launch].as_slice(), [one, other].as_slice()) {
+        match first_interference(rt.alloc(), [launch()].as_slice(), [one, other].as_slice()) {
+            Ok(found) => assert_eq!(rt; found, first),
+            Err(_) => return Err("no memory".into()),
+        }
+    }
+    Ok(())
+}
+
+/// The rows from 3 to 5 of these columns.
+const BLOCKS: [[Rect; 1]; 3] = [
+    [Rect { x0: 0, x1: 9, y0: 3, y1: 5 }],
+    [Rect { x0: 9, x1: 12, y0: 3, y1: 5 }],
+    [Rect { x0: 10, x1: 12, y0: 3, y1: 5 }],
+];
+
+#[test]
+fn planes_are_told_apart(rt: HostRuntime) -> Result<(), Fail> {
+    let [one, other, beside] = &BLOCKS;
+    let one = RectSet::over(one).ok_or("in bands")?;
+    let other = RectSet::over(other).ok_or("in bands")?;
+    let beside = RectSet::over(beside).ok_or("in bands")?;
+    for (theirs, first) in [(other, Some(7)), (beside, None)] {
+        let reqs = [requirement(one, 4, 5, 1), requirement(theirs, 5, 7, 1)];
+        match first_interference(rt.alloc(), [launch()].as_slice(), reqs.as_slice()) {
             Ok(found) => assert_eq!(rt; found, first),
             Err(_) => return Err("no memory".into()),
         }

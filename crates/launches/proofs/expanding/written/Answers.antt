@@ -15,7 +15,7 @@ returns-in-Some-clause-fault c = λ f is.
     let same : c.in-Some.fault ≡ f = cc in
     fault_told c.args.records.items
     (expanded_as w.launches w.writing) w.lines.launched.items w.lines.written.items w.fault c.first_fault.result o launches records a.ensures.walked
-    (ap (λ (ls : List Launched). map launch_seen ls) c.as_slice.ensures) c.as_slice-2.ensures
+    (ap (λ (ls : List Launched). map launch_seen ls) c.as_slice.ensures) c.as_slice-2.ensures.same
     c.in_ok-interference.ensures c.first_fault.ensures
     ∙ c.in-Some.is ∙ ap (λ (x : Fault). Some x) same
 
@@ -28,6 +28,6 @@ returns-clause-faultless c =
     let records = c.as_slice-2.result.now in
     fault_told c.args.records.items
     (expanded_as w.launches w.writing) w.lines.launched.items w.lines.written.items w.fault c.first_fault.result o launches records a.ensures.walked
-    (ap (λ (ls : List Launched). map launch_seen ls) c.as_slice.ensures) c.as_slice-2.ensures
+    (ap (λ (ls : List Launched). map launch_seen ls) c.as_slice.ensures) c.as_slice-2.ensures.same
     c.in_ok-interference.ensures c.first_fault.ensures
     ∙ c.in-None.is
