@@ -1,20 +1,16 @@
 -- The touches of one cell, as a part of all touches.
-use Rattle.std.proofs.Common.{◌≡◌, ℕ, suc, ◌+◌, ◌-◌, ◌<◌, ◌≤◌, inl, inr, List, [], ◌∷◌, ◌++◌, Some, None, All, refl, sym, ap, ◌∙◌, subst, arith, take, drop, get_or, length, append_assoc, slice_index, min, Bool, true, map}
+use Rattle.std.proofs.Common.{◌≡◌, ℕ, suc, ◌+◌, ◌-◌, ◌<◌, ◌≤◌, inl, inr, List, [], ◌∷◌, ◌++◌, Some, None, All, refl, sym, ap, ◌∙◌, subst, arith, take, drop, get_or, length, append_assoc, slice_index, min, Bool, true}
 use Rattle.std.proofs.lemmas.Bool.{cases_lt}
 use Rattle.std.proofs.lemmas.List.{take-append-drop, drop-drop, drop_more, drop_all, take_at, length-take, length-drop, length-append, get_or-take, get_or-drop, get_or_default}
 use Rattle.std.proofs.lemmas.List.Elements.{All-take}
 use Rattle.std.proofs.lemmas.List.Elements.{All-drop}
 use Rattle.cell_races.specs.declared.touches.Touch.{Touch}
 use Rattle.cell_races.specs.Touches.{AreInOrder}
-use Rattle.cell_races.specs.Turns.{AgreeAtPlaces, AreInTurn}
-use Rattle.cell_races.specs.Visits.{visit_of, visits_of}
+use Rattle.cell_races.specs.Visits.{visits_of}
 use Rattle.cell_races.specs.Races.{race_in}
 use Rattle.cell_races.specs.Clashes.{IsFree, IsShown}
-use Rattle.log_laws.proofs.lemmas.Members.{Member, contains_of, member_append, member_left, member_right}
+use Rattle.log_laws.proofs.lemmas.Members.{Member, contains_of, member_append}
 use Rattle.cell_races.proofs.Ordered.{Ordered, ordered_of, ordered_append}
-use Rattle.log_laws.proofs.lemmas.Apart.{PairsBy, pairs_from}
-use Rattle.log_laws.proofs.lemmas.Lists.{pairs_parts}
-use Rattle.cell_races.proofs.Turning.{AgreesWith, turn_more, calm_run}
 use Rattle.cell_races.proofs.Cells.{IsCellOf, IsApart, BeginsElsewhere, NotAfter, cell_of, free_more, shown_of}
 
 module _ (touches : List Touch) (from end : ℕ) (behind : from < end) (within : end ≤ length touches) where
@@ -95,27 +91,9 @@ module _ (touches : List Touch) (from end : ℕ) (behind : from < end) (within :
       | inr here ↦ is_cell.not_back y n (sym e ∙ is_cell.at x here)
     ]
 
-    run_in_order : Ordered NotAfter run
+    pub run_in_order : Ordered NotAfter run
     run_in_order = (ordered_append NotAfter run (drop end touches)
         (ordered_append NotAfter (take from touches) (run ++ drop end touches) (subst (Ordered NotAfter) whole ordered)).1).0
-
-    run_in : (x : Touch) → Member run x → Member touches x
-    run_in x m = subst (λ zs. Member zs x) (sym whole) (member_right (take from touches) (run ++ drop end touches) x
-        (member_left run (drop end touches) x m))
-
-    -- The touches of one cell more are in turn.
-    pub turn_here : (before : ℕ → ℕ → Bool) (order : List ℕ) → AreInTurn before order (take from touches)
-        → race_in before (map (visit_of order) run) ≡ None → AreInTurn before order (take end touches)
-    turn_here before order turn e = subst (AreInTurn before order) (sym take_end)
-        (turn_more before order (take from touches) (drop from touches) run apart
-        (λ x m. subst (λ zs. Member zs x) (sym drop_parts) (member_left run (drop end touches) x m)) run_in_order turn e)
-
-    pub calm_here : (before : ℕ → ℕ → Bool) (order : List ℕ) → AgreeAtPlaces touches → AreInTurn before order touches
-        → race_in before (map (visit_of order) run) ≡ None
-    calm_here before order agree turn = calm_run before order touches run
-        (pairs_parts AgreesWith run (drop end touches) (pairs_parts AgreesWith (take from touches) (run ++ drop end touches)
-        (subst (PairsBy AgreesWith) whole (pairs_from AgreesWith touches agree))).1).0 turn
-        (λ x m. contains_of touches x (run_in x m)) (λ x y m n. at x m ∙ sym (at y n)) run_in_order
 
     module _ (before : ℕ → ℕ → Bool) (order : List ℕ) (free : IsFree before order (take from touches)) where
       pub none_more : race_in before (visits_of order run) ≡ None → IsFree before order (take end touches)

@@ -3,8 +3,8 @@
 //! Whoever goes over the steps of nodes adds what each touches (`push_touches`), and `shown_clash` gives the
 //! race at the least cell, exactly where there is one. At one cell neighbours that do not conflict form
 //! groups, and a node is compared with a whole group at once; that this finds the same race is the law
-//! `groups_tell`. `are_in_turn` asks the same groups whether what conflicts is done in a given order. Begin
-//! with `scan.rt`; `frontier.rt` has the groups of one cell.
+//! `groups_tell`. `loose_places` asks the same groups which nodes are not in turn, by an order of their own.
+//! Begin with `scan.rt`; `frontier.rt` has the groups of one cell.
 #![tactic(auto)]
 
 mod access;
@@ -20,4 +20,4 @@ pub use access::{Access, Visit};
 pub use laws::{first_race_is_first, groups_tell};
 pub use scan::{Clashing, cell_end, shown_clash};
 pub use touches::{Touch, push_touches, sort_touches};
-pub use turns::are_in_turn;
+pub use turns::loose_places;

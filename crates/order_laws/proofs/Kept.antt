@@ -1,8 +1,7 @@
 -- Tasks that interfere are run in serial order exactly where those are that do not agree at a first point.
-use Rattle.std.proofs.Common.{◌≡◌, ℕ, ◌+◌, ◌-◌, ◌<◌, ◌≤◌, inl, inr, Bool, true, false, not, ◌&&◌, ◌==◌, List, [], ◌∷◌, refl, sym, ap, ◌∙◌, subst, arith, map, filter, length, slice_get, find}
+use Rattle.std.proofs.Common.{◌≡◌, ℕ, ◌+◌, ◌-◌, ◌<◌, ◌≤◌, inl, inr, Bool, true, false, not, ◌&&◌, ◌==◌, List, [], ◌∷◌, refl, sym, ap, ◌∙◌, subst, arith, map, filter, length, find}
 use Rattle.std.specs.List.{AllByRecursion, range_with_len}
 use Rattle.std.proofs.lemmas.Bool.{cases_Bool, cases_lt, true≢false, not-true, and_parts, and_from, lt-ltb, le-ltb}
-use Rattle.std.proofs.lemmas.Option.{slice_get_within}
 use Rattle.vocabulary.specs.Prelude.{Priv, Coherence, Kind, agree, both_atomic, kind_of, Place, Req, Tables, Space, is_in, points_in, uses_of, covers, kind_at, item_kind, item_places, is_free, strongest, pairs, graph_of}
 use Rattle.privilege.specs.declared.kinds.Kind.TheVariants.{Free, Turn, Before}
 use Rattle.semantics.specs.SerialOrder.{serial, serial_place, by_serial}
@@ -14,7 +13,7 @@ use Rattle.log_laws.proofs.lemmas.Apart.{number_between, number_in, number_from}
 use Rattle.log_laws.proofs.lemmas.Lists.{place_len}
 use Rattle.item_uses.proofs.lemmas.ItemKinds.{covers_tells, covers_so, item_place, kinds_at, kind_here, meets_here, req_kind}
 use Rattle.item_uses.proofs.lemmas.LeastPlaces.{strongest_not_free}
-use Rattle.order_laws.specs.Turns.{Meeting, AreInTurn, ListsItems}
+use Rattle.order_laws.specs.Turns.{Meeting, AreInTurn, AreInTurnBut, AreKeptBut, ListsItems}
 use Rattle.order_laws.proofs.lemmas.TaskUses.{task_within}
 use Rattle.order_laws.proofs.Earlier.{place_in, place_same}
 
@@ -198,26 +197,44 @@ straight t a b le = rw (le-ltb _ _ le) refl
 abbrev Runs : Tables → ℕ × ℕ → Type 0
 Runs t p = events.Before (graph_of t.nodes) (run_of t p.0) (run_of t p.1)
 
-pub are_kept : (t : Tables) (firsts : List ℕ) → AreFirsts t firsts → ListsItems t → AreInTurn t firsts → AreKept t
-are_kept t firsts are_firsts lists turn = all_members (IsKept t) (task_pairs t) (λ p m.
-    let h = of_tasks t p m in
-    let at = meeting_of t p.0 p.1 h.meets in
-    let f = meeting_first t firsts are_firsts p.0 p.1 at.0 at.1 in
-    elim (cases_lt (serial_place t p.0) (serial_place t p.1)) [
-      | inl less ↦ subst (Runs t) (sym (straight t p.0 p.1 (omega (arith, less)))) (turn p.0 p.1 f.0 f.1 h.one h.other f.2 less)
-      | inr not_less ↦ elim (cases_lt (serial_place t p.1) (serial_place t p.0)) [
-        | inl more ↦ subst (Runs t) (sym (turned t p.0 p.1 more))
-            (turn p.1 p.0 f.0 f.1 h.other h.one (meeting_turned t p.0 p.1 f.0 f.2) more)
+pub pair_kept : (t : Tables) (firsts : List ℕ) (out : ℕ → Bool) → AreFirsts t firsts → ListsItems t → AreInTurnBut t firsts out
+    → (a b : ℕ) → OfTasks t a b → out a ≡ false → out b ≡ false → IsKept t (a, b)
+pair_kept t firsts out are_firsts lists turn a b h a_free b_free =
+    let at = meeting_of t a b h.meets in
+    let f = meeting_first t firsts are_firsts a b at.0 at.1 in
+    elim (cases_lt (serial_place t a) (serial_place t b)) [
+      | inl less ↦ subst (Runs t) (sym (straight t a b (omega (arith, less)))) (turn a b f.0 f.1 h.one h.other f.2 less a_free b_free)
+      | inr not_less ↦ elim (cases_lt (serial_place t b) (serial_place t a)) [
+        | inl more ↦ subst (Runs t) (sym (turned t a b more))
+            (turn b a f.0 f.1 h.other h.one (meeting_turned t a b f.0 f.2) more b_free a_free)
         | inr not_more ↦
             let order = h.order in
             let within = h.within in
-            let same : place_in (serial t) p.0 ≡ place_in (serial t) p.1 = sym (place_is t p.0)
-            ∙ (omega (arith, not_less, not_more) ∙ place_is t p.1) in
-            let one : p.0 ≡ p.1 = place_same (serial t) p.0 p.1 (listed t lists p.0 (omega (arith, order, within)))
-            (listed t lists p.1 within) same in
+            let same : place_in (serial t) a ≡ place_in (serial t) b =
+            sym (place_is t a) ∙ (omega (arith, not_less, not_more) ∙ place_is t b) in
+            let one : a ≡ b =
+            place_same (serial t) a b (listed t lists a (omega (arith, order, within))) (listed t lists b within) same in
             absurd (omega (arith, order, one))
       ]
-    ])
+    ]
+
+pub are_kept_but : (t : Tables) (firsts : List ℕ) (out : ℕ → Bool) → AreFirsts t firsts → ListsItems t → AreInTurnBut t firsts out
+    → AreKeptBut t out
+are_kept_but t firsts out are_firsts lists turn a b lt e =
+    let p = and_parts (is_task_at t a && is_task_at t b) (not (is_free (item_kind t a b))) e in
+    let q = and_parts (is_task_at t a) (is_task_at t b) p.0 in
+    pair_kept t firsts out are_firsts lists turn a b (record {
+      order = lt;
+      within = task_within t b q.1;
+      meets = not-true (is_free (item_kind t a b)) p.1;
+      one = q.0;
+      other = q.1;
+    })
+
+pub are_kept : (t : Tables) (firsts : List ℕ) → AreFirsts t firsts → ListsItems t → AreInTurn t firsts → AreKept t
+are_kept t firsts are_firsts lists turn = all_members (IsKept t) (task_pairs t)
+    (λ p m. pair_kept t firsts (λ _. false) are_firsts lists (λ a b q at one other m less _ _. turn a b q at one other m less) p.0 p.1
+    (of_tasks t p m) refl refl)
 
 pub are_in_turn : (t : Tables) (points : List ℕ) → AreKept t → AreInTurn t points
 are_in_turn t points kept a b p listed one other m less = elim (cases_lt a b) [

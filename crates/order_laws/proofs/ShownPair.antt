@@ -1,5 +1,5 @@
 -- The first pair of tasks that interfere and are not run in serial order is the one that is shown.
-use Rattle.std.proofs.Common.{◌≡◌, ℕ, ◌-◌, ◌+◌, ◌<◌, ◌⊎◌, inl, inr, Bool, true, not, ◌&&◌, List, ◌∷◌, ◌++◌, refl, sym, ap, subst, arith, map, filter, length}
+use Rattle.std.proofs.Common.{◌≡◌, ℕ, ◌-◌, ◌+◌, ◌<◌, ◌⊎◌, inl, inr, Bool, true, not, ◌&&◌, ◌∷◌, refl, sym, ap, subst, arith, filter, length}
 use Rattle.std.specs.List.{range_with_len}
 use Rattle.std.proofs.lemmas.Bool.{and_parts, and_from, not-true}
 use Rattle.vocabulary.specs.Prelude.{Tables, item_kind, is_free, pairs}

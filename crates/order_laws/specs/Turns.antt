@@ -41,3 +41,14 @@ pub record IsFirstUnkept (t : Tables) (a b : ℕ) : Type 0 where
   pub unkept : IsKept t (a, b) → ⊥
   pub earlier : (c d : ℕ) → c < d → (c < a) ⊎ ((c ≡ a) × (d < b)) → do_interfere t c d ≡ true
       → IsKept t (c, d)
+
+-- The same of tasks that are not left out.
+abbrev pub AreInTurnBut : Tables → List ℕ → (ℕ → Bool) → Type 0
+AreInTurnBut t points out = (a b : ℕ) (p : Place) → is_in points p.point ≡ true → is_task_at t a ≡ true
+    → is_task_at t b ≡ true → Meeting t a b p → serial_place t a < serial_place t b → out a ≡ false
+    → out b ≡ false → Before (graph_of t.nodes) (run_of t a) (run_of t b)
+
+-- Every two tasks that interfere, neither of which is left out, are run in serial order.
+abbrev pub AreKeptBut : Tables → (ℕ → Bool) → Type 0
+AreKeptBut t out = (a b : ℕ) → a < b → do_interfere t a b ≡ true → out a ≡ false → out b ≡ false
+    → IsKept t (a, b)

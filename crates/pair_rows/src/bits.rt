@@ -1,6 +1,6 @@
 //! 1,024 bits, and how many of them are set.
 
-ghost use Rattle.std.specs.Prelude.{◌≡◌, ◌||◌, ◌&&◌, ◌==◌, not, nat_le, ℕ, ◌<◌, ◌≤◌, false};
+ghost use Rattle.std.specs.Prelude.{◌≡◌, ◌||◌, ◌&&◌, ◌==◌, not, nat_le, ℕ, ◌<◌, ◌≤◌, true, false, ◌↔◌, All};
 ghost use Rattle.std.specs.Int.{bit_at};
 ghost use Rattle.pair_rows.specs.Bits1024.{has_bit};
 ghost use Rattle.pair_rows.specs.Counting.{count_below};
@@ -16,7 +16,7 @@ pub fn has(bits: &[u64; 16], j: usize) -> bool
 
 /// Sets one bit.
 #[inline]
-pub(crate) fn set(bits: &mut [u64; 16], j: usize)
+pub fn set(bits: &mut [u64; 16], j: usize)
     requires { j < 1024 }
     ensures { (i : ℕ) → i < 1024 → has_bit bits.new i ≡ (has_bit bits.old i || (j == i)) }
 {
@@ -33,9 +33,25 @@ pub(crate) fn join(bits: &mut [u64; 16], other: &[u64; 16])
     }
 }
 
+/// Whether all words are this one.
+#[inline]
+fn all_are(bits: &[u64; 16], word: u64) -> bool
+    ensures { (result ≡ true) ↔ All (λ w. w ≡ word) bits.now }
+{
+    bits.iter().all(|w| *w == word)
+}
+
+/// Whether no bit is set.
+#[inline]
+pub fn is_empty(bits: &[u64; 16]) -> bool
+    ensures { (result ≡ true) ↔ ((i : ℕ) → i < 1024 → has_bit bits.now i ≡ false) }
+{
+    all_are(bits, 0)
+}
+
 /// No bits.
 #[inline]
-pub(crate) fn no_bits() -> [u64; 16]
+pub fn no_bits() -> [u64; 16]
     ensures { (i : ℕ) → i < 1024 → has_bit result i ≡ false }
 {
     [0; 16]
@@ -44,14 +60,15 @@ pub(crate) fn no_bits() -> [u64; 16]
 /// A word without the bits of another.
 #[inline]
 fn less(word: u64, other: u64) -> u64
-    ensures { (i : ℕ) → i < 64 → (bit_at result i == 1) ≡ ((bit_at word i == 1) && not (bit_at other i == 1)) }
+    ensures { (i : ℕ) → i < 64
+        → (bit_at result i == 1) ≡ ((bit_at word i == 1) && not (bit_at other i == 1)) }
 {
     word & !other
 }
 
 /// Clears each bit that is set in the others.
 #[inline]
-pub(crate) fn minus(bits: &mut [u64; 16], other: &[u64; 16])
+pub fn minus(bits: &mut [u64; 16], other: &[u64; 16])
     ensures { (i : ℕ) → i < 1024 → has_bit bits.new i ≡ (has_bit bits.old i && not (has_bit other.now i)) }
 {
     for k in 0..16 {

@@ -39,7 +39,8 @@ fn count_row(row: &[u64; 16], a: usize, base: usize) -> u64
 fn count_rows(rows: &[[u64; 16]], base: usize) -> u64
     requires few { length rows.now < 2 ^ 33 }
     requires rows { length rows.now ≤ base + 1024 }
-    ensures count { result ≡ sum_below (λ a. later_in_row (slice_index_or rows.now a []) a base) (length rows.now) }
+    ensures count { result
+        ≡ sum_below (λ a. later_in_row (slice_index_or rows.now a []) a base) (length rows.now) }
     ensures few { result ≤ 1024 * length rows.now }
 {
     let mut count: u64 = 0;

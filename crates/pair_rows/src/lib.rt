@@ -11,7 +11,7 @@ mod places;
 mod rows;
 mod users;
 
-pub use bits::has;
+pub use bits::{has, is_empty, minus, no_bits, set};
 pub use count::{count_pairs, meeting_rows};
 pub use places::Places;
 pub use users::User;

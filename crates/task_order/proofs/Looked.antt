@@ -1,12 +1,13 @@
 -- The first pair of tasks that is not run in serial order, block by block.
-use Rattle.std.proofs.Common.{◌≡◌, ℕ, ◌+◌, ◌<◌, ◌≤◌, inl, inr, true, List, Option, Some, None, length, min, refl, sym, subst, arith}
+use Rattle.std.proofs.Common.{◌≡◌, ℕ, ◌+◌, ◌-◌, ◌<◌, ◌≤◌, ◌&&◌, ◌||◌, ◌∙◌, inl, inr, Bool, true, false, List, Option, Some, None, length, min, refl, sym, subst, arith}
 use Rattle.std.specs.Option.{option_map_or}
-use Rattle.std.proofs.lemmas.Bool.{cases_lt, cases_eq}
+use Rattle.std.proofs.lemmas.Bool.{cases_lt, cases_eq, cases_Bool, true≢false, and_parts, and_from}
 use Rattle.vocabulary.specs.Prelude.{Tables}
 use Rattle.semantics.specs.Shown.{IsKept}
-use Rattle.order_laws.specs.Turns.{do_interfere, IsFirstUnkept}
+use Rattle.order_laws.specs.Turns.{do_interfere, AreKeptBut, IsFirstUnkept}
+use Rattle.pair_rows.specs.Bits1024.{has_bit}
 use Rattle.order_laws.proofs.lemmas.TaskUses.{interfering_within}
-use Rattle.task_order.specs.Rows.{IsKeptWith, IsFirstOf, IsFoundIn, IsFoundBefore}
+use Rattle.task_order.specs.Rows.{IsRow, IsKeptWith, IsFirstOf, IsFoundIn, IsFoundBefore}
 
 module _ (t : Tables) where
   -- One item more.
@@ -131,3 +132,34 @@ module _ (t : Tables) where
 
   pub all_kept : IsFoundBefore t (length t.items) None → (a b : ℕ) → a < b → do_interfere t a b ≡ true → IsKept t (a, b)
   all_kept h a b lt meet = h a b (omega arith) (interfering_within t a b meet) lt meet
+
+  -- What is known of a pair without a bit.
+  pub unset_kept : (base a : ℕ) (row : List ℕ) → IsRow t base a row → ((i : ℕ) → i < 1024 → has_bit row i ≡ false)
+      → IsKeptWith t base (base + 1024) a
+  unset_kept base a row is_row unset b low high order meet =
+      let i = b - base in
+      let at : base + i ≡ b = omega (arith, low) in
+      let lt : i < 1024 = omega (arith, low, high) in
+      elim (is_row.whole i lt (subst (λ n. a < n) (sym at) order) (subst (λ n. do_interfere t a n ≡ true) (sym at) meet)) [
+        | inl bit ↦ absurd (true≢false (sym bit ∙ unset i lt))
+        | inr kept ↦ subst (λ n. IsKept t (a, n)) at kept
+      ]
+
+  -- A row without the bits of pairs of which no item is left out.
+  pub sifted_row : (out : ℕ → Bool) → AreKeptBut t out → (base a : ℕ) (row sifted : List ℕ)
+      → ((i : ℕ) → i < 1024 → has_bit row i ≡ do_interfere t a (base + i))
+      → ((i : ℕ) → i < 1024 → has_bit sifted i ≡ (has_bit row i && (out a || out (base + i)))) → IsRow t base a sifted
+  sifted_row out kept base a row sifted bits sift = record {
+    sound = λ i lt e. sym (bits i lt) ∙ (and_parts (has_bit row i) (out a || out (base + i)) (sym (sift i lt) ∙ e)).0;
+    whole = λ i lt order meet. elim (cases_Bool (out a || out (base + i))) [
+      | inl loose ↦ inl (sift i lt ∙ and_from (has_bit row i) (out a || out (base + i)) (bits i lt ∙ meet) loose)
+      | inr neither ↦
+          let free = or_false (out a) (out (base + i)) neither in
+          inr (kept a (base + i) order meet free.0 free.1)
+    ];
+  }
+    where
+      or_false : (b c : Bool) → (b || c) ≡ false → (b ≡ false) × (c ≡ false)
+      or_false false false e = (refl, refl)
+      or_false false true e = absurd (true≢false e)
+      or_false true c e = absurd (true≢false e)

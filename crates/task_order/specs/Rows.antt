@@ -1,21 +1,25 @@
 -- Which pairs of tasks were found to be run in serial order, row by row.
-use Rattle.std.specs.Prelude.{◌≡◌, ℕ, ◌+◌, ◌<◌, ◌≤◌, true, List, [], length, Option, Some, None, slice_index_or}
+use Rattle.std.specs.Prelude.{◌≡◌, ◌⊎◌, ℕ, ◌+◌, ◌<◌, ◌≤◌, true, List, [], length, Option, Some, None, slice_index_or}
 use Rattle.vocabulary.specs.Prelude.{Tables, graph_of}
 use Rattle.semantics.specs.Shown.{IsKept}
 use Rattle.reach_marks.specs.Reached.{AreMarksOf}
-use Rattle.order_laws.specs.Turns.{do_interfere}
+use Rattle.order_laws.specs.Turns.{AreKeptBut, do_interfere}
+use Rattle.cell_races.specs.Turns.{is_noted}
 use Rattle.pair_rows.specs.Bits1024.{has_bit}
 use Rattle.turn_scan.specs.Runs.{AreRunsOf}
 use Rattle.task_order.specs.declared.kept.Schedule.{Schedule}
 
--- What a question about two runs goes by: the marks of the nodes, and the node that runs each item.
+-- What a question about two runs goes by: the marks of the nodes, the node that runs each item, and items so that every two others are run in serial order.
 pub record IsSchedule {P : Type 0} (s : Schedule P) : Type 0 where
   pub marks : AreMarksOf (graph_of s.log.now.nodes) s.reach.now
   pub runs : AreRunsOf s.log.now s.runs.now
+  pub kept : AreKeptBut s.log.now (is_noted s.loose.now)
 
--- The bits of a row are those of the items, from a base on, with which an item interferes.
-abbrev pub IsRow : Tables → ℕ → ℕ → List ℕ → Type 0
-IsRow t base a row = (i : ℕ) → i < 1024 → has_bit row i ≡ do_interfere t a (base + i)
+-- Each bit of a row is of an item, from a base on, with which the item of the row interferes; and each later one with which it interferes has its bit, or is run in serial order with it.
+pub record IsRow (t : Tables) (base a : ℕ) (row : List ℕ) : Type 0 where
+  pub sound : (i : ℕ) → i < 1024 → has_bit row i ≡ true → do_interfere t a (base + i) ≡ true
+  pub whole : (i : ℕ) → i < 1024 → a < base + i → do_interfere t a (base + i) ≡ true
+      → (has_bit row i ≡ true) ⊎ IsKept t (a, base + i)
 
 abbrev pub AreRows : Tables → ℕ → List (List ℕ) → Type 0
 AreRows t base rows = (a : ℕ) → a < length rows → IsRow t base a (slice_index_or rows a [])

@@ -10,12 +10,13 @@ use logs::Log;
 use point_set::PointSet;
 use reach_marks::Reach;
 
-/// What a question about two tasks goes by: their log, which nodes are before which, and the node that runs each item.
+/// What a question about two tasks goes by: their log, which nodes are before which, the node that runs each item, and items so that every two others that interfere are run in serial order.
 #[derive(Clone, Copy)]
 pub(crate) struct Schedule<'l, 'a, P: PointSet + Copy> {
     pub(crate) log: &'l Log<'a, P>,
     pub(crate) reach: &'l Reach,
     pub(crate) runs: &'l [usize],
+    pub(crate) loose: &'l [bool],
 }
 
 /// Whether a node is before another, where there are both.

@@ -6,7 +6,8 @@ ghost use Rattle.task_users.specs.Users.{AreTaskPlaces};
 ghost use Rattle.task_order.specs.Rows.{AreRows, IsFoundBefore, IsFoundIn, IsFoundOf, IsRow, IsSchedule};
 
 use crate::kept::{Schedule, is_kept};
-use pair_rows::{Places, has, meeting_rows};
+use crate::sifting::sifted_rows;
+use pair_rows::{Places, has, is_empty};
 use point_set::PointSet;
 use std::alloc::{AllocError, Global};
 
@@ -22,6 +23,9 @@ fn first_in_row<'a, P: PointSet + Copy>(
     requires schedule { IsSchedule schedule.now }
     ensures { IsFoundOf schedule.now.log.now base (base + 1024) a result }
 {
+    if is_empty(row) {
+        return None;
+    }
     for i in 0..1024 {
         let b = base + i;
         if a < b && has(row, i) && !is_kept(schedule, a, b) {
@@ -76,7 +80,7 @@ fn found_in_block<'a, P: PointSet + Copy>(
 {
     let items = schedule.log.items().len();
     let count = items_before(found, items).min(base + 1024);
-    let rows = meeting_rows(alloc, places, count, base)?;
+    let rows = sifted_rows(alloc, schedule, places, count, base)?;
     match first_in_rows(schedule, &rows, base) {
         Some(pair) => Ok(Some(pair)),
         None => Ok(found),

@@ -1,9 +1,10 @@
 //! Whether the tasks of a log that interfere are run in serial order, or the first two that are not.
 
-ghost use Rattle.std.specs.Prelude.{◌≡◌, ◌<◌, ◌^◌, length, true, IfOk, Some};
+ghost use Rattle.std.specs.Prelude.{◌≡◌, ℕ, ◌<◌, ◌^◌, length, true, false, IfOk, IsTrue, Some};
 ghost use Rattle.vocabulary.specs.Prelude.{graph_of, least_place};
 ghost use Rattle.semantics.specs.Shown.{AreKept};
 ghost use Rattle.reach_marks.specs.Reached.{AreMarksOf};
+ghost use Rattle.cell_races.specs.Turns.{is_noted};
 ghost use Rattle.order_laws.specs.Turns.{do_interfere};
 ghost use Rattle.task_users.specs.Users.{AreTaskPlaces};
 ghost use Rattle.task_order.specs.Rows.{IsSchedule};
@@ -22,7 +23,7 @@ use region_tree::ArenaSet;
 use semantics::Place;
 use std::alloc::Global;
 use task_users::{count_task_pairs, task_places};
-use turn_scan::{runs_of, tasks_in_turn, touches_of_tasks};
+use turn_scan::{loose_tasks, runs_of, touches_of_tasks};
 
 /// Whether every two tasks that interfere are run in serial order.
 #[derive(Clone, Copy, PartialEq, Eq)]
@@ -62,6 +63,18 @@ fn place_between<'a, P: PointSet + Copy>(log: &Log<'a, P>, a: usize, b: usize) -
     }
 }
 
+/// Whether no item is noted.
+fn none_noted(noted: &[bool]) -> bool
+    ensures { IsTrue result → (item : ℕ) → is_noted noted.now item ≡ false }
+{
+    for flag in noted {
+        if *flag {
+            return false;
+        }
+    }
+    true
+}
+
 /// What is said where a pair is looked for.
 fn order_by_rows<'a, P: PointSet + Copy>(
     alloc: Global,
@@ -84,6 +97,25 @@ fn order_by_rows<'a, P: PointSet + Copy>(
     }
 }
 
+/// What is said of the tasks that use places. Where none is noted, no pair is looked for.
+fn order_of_tasks<'a, P: PointSet + Copy>(
+    alloc: Global,
+    schedule: &Schedule<'_, 'a, P>,
+    places: &Places,
+) -> Result<TaskOrder, Memory>
+    requires few { length schedule.now.log.now.items < 2 ^ 32 }
+    requires schedule { IsSchedule schedule.now }
+    requires places { AreTaskPlaces schedule.now.log.now places.now }
+    ensures { IfOk result (IsTaskOrder schedule.now.log.now) }
+{
+    first_pair_is_shown();
+    if none_noted(schedule.loose) {
+        kept_order(alloc, schedule.log, places)
+    } else {
+        order_by_rows(alloc, schedule, places)
+    }
+}
+
 /// Whether every two tasks of a log that interfere are run in serial order, by marks of the log's nodes.
 pub fn task_order<'a, P: ArenaSet<'a>>(
     alloc: Global,
@@ -97,14 +129,13 @@ pub fn task_order<'a, P: ArenaSet<'a>>(
     let atoms = Atoms::build(alloc, log.space_sets())?;
     let runs = runs_of(alloc, log)?;
     let touches = touches_of_tasks(alloc, log, atoms.firsts())?;
+    let loose = loose_tasks(alloc, log, reach, &runs, &touches)?;
     let places = task_places(alloc, log, &touches)?;
-    if tasks_in_turn(alloc, log, reach, &runs, &touches)? {
-        return kept_order(alloc, log, &places);
-    }
     let schedule = Schedule {
         log,
         reach,
         runs: &runs,
+        loose: &loose,
     };
-    order_by_rows(alloc, &schedule, &places)
+    order_of_tasks(alloc, &schedule, &places)
 }

@@ -1,6 +1,6 @@
 -- The pairs of users that meet are counted as the pairs of tasks that interfere.
-use Rattle.std.proofs.Common.{◌≡◌, ℕ, zero, suc, ◌+◌, ◌≤◌, ◌<◌, Bool, true, false, ◌&&◌, nat_lt, List, refl, sym, ap, ◌∙◌, arith, length, if◌then◌else◌}
-use Rattle.std.proofs.lemmas.Bool.{and_parts, false_from_ne_true}
+use Rattle.std.proofs.Common.{◌≡◌, ℕ, zero, suc, ◌+◌, ◌≤◌, false, ◌&&◌, nat_lt, List, refl, ap, ◌∙◌, arith, length, if◌then◌else◌}
+use Rattle.std.proofs.lemmas.Bool.{false_from_ne_true}
 use Rattle.vocabulary.specs.Prelude.{Tables}
 use Rattle.order_laws.specs.Turns.{do_interfere}
 use Rattle.order_laws.specs.Counting as asked

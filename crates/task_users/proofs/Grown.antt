@@ -1,6 +1,5 @@
 -- The users of places, as the touches of one cell more are added.
-use Rattle.std.proofs.Common.{◌≡◌, ℕ, inl, inr, List, [], ◌∷◌, ◌++◌, All, Contains, refl, sym, ap, subst, map}
-use Rattle.std.specs.List.Sorted.{IsPermutation}
+use Rattle.std.proofs.Common.{◌≡◌, ℕ, inl, inr, List, [], ◌∷◌, ◌++◌, All, Contains, refl, sym, subst, map}
 use Rattle.std.proofs.lemmas.List.Sorted.{Contains-permutation, IsPermutation-sym}
 use Rattle.std.proofs.lemmas.List.Elements.{All-append, All-cons, All-nil}
 use Rattle.log_laws.proofs.lemmas.Members.{Member, member_of, contains_of, member_append, member_left, member_right, member_map, map_member, only}

@@ -5,7 +5,7 @@ use Rattle.std.proofs.lemmas.Bool.{and_parts, and_from, eqb-true, eq-eqb, not-tr
 use Rattle.std.proofs.lemmas.Bool.Decides.{nat_tests}
 use Rattle.std.proofs.lemmas.List.Folds.{Any-from_list_any, list_any-from_Any}
 use Rattle.std.proofs.lemmas.List.Elements.{All-contains}
-use Rattle.vocabulary.specs.Prelude.{Priv, Cell, Place, Req, Tables, agree, is_free, item_kind, is_in, uses_of, covers, reqs_of}
+use Rattle.vocabulary.specs.Prelude.{Priv, Cell, Place, Req, Tables, agree, is_free, item_kind, is_in, uses_of, covers}
 use Rattle.privilege.specs.declared.kinds.Priv.TheVariants.{Ro, Rw, Wd, Red}
 use Rattle.semantics.specs.SerialOrder.{serial, serial_place}
 use Rattle.semantics.specs.Shown.{is_task_at}
@@ -17,7 +17,7 @@ use Rattle.order_laws.specs.Turns.{Meeting, ListsItems, AgreeWithThemselves, do_
 use Rattle.order_laws.specs.Visited.{access_of}
 use Rattle.order_laws.proofs.lemmas.TaskUses.{task_uses, own_req, task_within}
 use Rattle.order_laws.proofs.lemmas.SerialPlaces.{item_at, serial_place_within}
-use Rattle.turn_scan.specs.Gathered.{place_at, IsDoneBy, AreDoneBy}
+use Rattle.turn_scan.specs.Gathered.{place_at, AreDoneBy}
 use Rattle.pair_rows.specs.declared.users.User.{User}
 use Rattle.pair_rows.specs.Meetings.{meets, met, met_at_some, HasOneClass, AreByClass, IsPlace}
 use Rattle.task_users.specs.Users.{class_of, user_of, AreUsersOf, AreTaskPlaces}

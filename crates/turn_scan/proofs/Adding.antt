@@ -2,7 +2,7 @@
 use Rattle.std.proofs.Common.{◌≡◌, ℕ, inl, inr, List, [], ◌∷◌, ◌++◌, Contains, refl, sym, ap, ◌∙◌, subst, map, append_assoc}
 use Rattle.std.specs.List.Sorted.{IsPermutation}
 use Rattle.std.proofs.lemmas.List.Sorted.{Contains-permutation, IsPermutation-sym}
-use Rattle.log_laws.proofs.lemmas.Members.{Member, member_of, contains_of, member_append, member_left, member_right, member_map, map_member, member_flat, flat_member, only}
+use Rattle.log_laws.proofs.lemmas.Members.{member_of, contains_of, member_append, member_left, member_right, member_map, map_member, member_flat, flat_member, only}
 use Rattle.cell_races.specs.declared.touches.Touch.{Touch}
 use Rattle.turn_scan.specs.Gathered.{touch_at, touches_over, IsOneAt, Adds, IsDoneBy, AreDoneBy}
 use Rattle.vocabulary.specs.Prelude.{Req, Tables}

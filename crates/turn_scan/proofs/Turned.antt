@@ -1,28 +1,21 @@
 -- What tasks do at first points tells whether they are in turn.
-use Rattle.std.proofs.Common.{◌≡◌, ℕ, ◌<◌, ◌==◌, ◌&&◌, inl, inr, true, false, not, List, [], Contains, refl, sym, ap, ap₂, ◌∙◌, subst, arith, length, filter, slice_get}
+use Rattle.std.proofs.Common.{◌≡◌, ℕ, ◌<◌, ◌==◌, ◌&&◌, inl, inr, Bool, true, false, not, List, [], Contains, refl, sym, ap, ap₂, ◌∙◌, subst, arith, length, filter}
 use Rattle.std.proofs.lemmas.Bool.{true≢false, and_parts, and_from, eqb-true, eq-eqb}
-use Rattle.std.proofs.lemmas.Option.{slice_get_within}
 use Rattle.vocabulary.specs.Prelude.{Place, Req, Tables, is_in, points_in, covers, graph_of}
 use Rattle.semantics.specs.SerialOrder.{serial, serial_place}
 use Rattle.semantics.specs.Shown.{is_task_at, run_of}
 use Rattle.reach_marks.specs.Reached.{Marks, AreMarksOf, before_in}
-use Rattle.log_laws.proofs.lemmas.Members.{Member, member_of, contains_of, member_filter, filter_member, none_or_some, member_in, is_in_of}
+use Rattle.log_laws.proofs.lemmas.Members.{Member, member_of, contains_of, member_filter, filter_member, member_in, is_in_of}
 use Rattle.cell_races.specs.declared.touches.Touch.{Touch}
 use Rattle.cell_races.specs.Touches.{touch}
 use Rattle.cell_races.specs.Turns as turns
-use Rattle.order_laws.specs.Turns.{AreInTurn, ListsItems}
+use Rattle.order_laws.specs.Turns.{AreInTurnBut, ListsItems}
 use Rattle.order_laws.specs.Visited.{access_of}
 use Rattle.order_laws.proofs.lemmas.Agreeing.{conflicts_are}
-use Rattle.order_laws.proofs.lemmas.TaskUses.{own_req}
+use Rattle.order_laws.proofs.lemmas.TaskUses.{own_req, task_within}
 use Rattle.turn_scan.specs.Gathered.{IsOneAt, Adds, IsDoneBy, AreDoneBy, in_order}
 use Rattle.turn_scan.specs.Runs.{AreRunsOf}
 use Rattle.turn_scan.proofs.Running.{run_at}
-
-pub task_within : (t : Tables) (a : ℕ) → is_task_at t a ≡ true → a < length t.items
-task_within t a e = elim (none_or_some (slice_get t.items a)) [
-  | inl none ↦ absurd (true≢false (sym (rw none at e)))
-  | inr some ↦ slice_get_within t.items a some.0 some.1
-]
 
 -- ---- what one requirement does
 
@@ -60,7 +53,8 @@ adds_done t points pts r one old new task set tree place access h = record {
       h.whole x (record {
         point = x.cell.point;
         field = x.cell.field;
-        in_points = contains_of (filter (is_in points) pts) x.cell.point (filter_member (is_in points) pts x.cell.point in_set d.listed);
+        in_points = contains_of (filter (is_in points) pts) x.cell.point
+            (filter_member (is_in points) pts x.cell.point in_set d.listed);
         in_fields = contains_of r.fields x.cell.field (member_in r.fields x.cell.field b.1);
         is = same_touch x one.cell.inst one.place (sym (eqb-true r.tree x.cell.inst a.0) ∙ sym tree) (d.place ∙ sym place)
             ∙ ap (λ acc. touch one.place (record { inst = one.cell.inst; point = x.cell.point; field = x.cell.field }) acc)
@@ -97,17 +91,20 @@ is_done t points a p r task item covered listed = record {
   access = refl;
 }
 
-pub in_turn : (t : Tables) (marks : Marks) (runs points : List ℕ) (touches : List Touch) → ListsItems t → AreRunsOf t runs
-    → AreMarksOf (graph_of t.nodes) marks
-    → AreDoneBy t points t.reqs touches → turns.AreInTurn (before_in marks) (in_order runs t) touches → AreInTurn t points
-in_turn t marks runs points touches lists are marked done turn a b p listed one other m less =
+pub in_turn : (t : Tables) (marks : Marks) (runs points : List ℕ) (touches : List Touch) (noted : List Bool) (out : ℕ → Bool)
+    → ListsItems t
+    → AreRunsOf t runs → AreMarksOf (graph_of t.nodes) marks → AreDoneBy t points t.reqs touches
+    → turns.AreInTurnBut (before_in marks) (in_order runs t) touches noted
+    → ((item : ℕ) → item < length t.items → out item ≡ turns.is_noted noted (serial_place t item)) → AreInTurnBut t points out
+in_turn t marks runs points touches noted out lists are marked done turn items a b p listed one other m less a_free b_free =
     let q = own_req t a m.q one m.of_a in
     let r = own_req t b m.r other m.of_b in
     let x = done_at t a p m.q in
     let y = done_at t b p m.r in
     let x_in = done.whole m.q x (contains_of t.reqs m.q q.0) (is_done t points a p m.q one q.1 m.at_a listed) in
     let y_in = done.whole m.r y (contains_of t.reqs m.r r.0) (is_done t points b p m.r other r.1 m.at_b listed) in
-    let so = turn x y x_in y_in refl less (conflicts_are m.q.access m.r.access ∙ ap not m.differ) in
+    let so = turn x y x_in y_in refl less (conflicts_are m.q.access m.r.access ∙ ap not m.differ)
+    (sym (items a (task_within t a one)) ∙ a_free) (sym (items b (task_within t b other)) ∙ b_free) in
     let first = run_at t runs lists are a (task_within t a one) in
     let second = run_at t runs lists are b (task_within t b other) in
     let before : before_in marks (run_of t a) (run_of t b) ≡ true = sym (ap₂ (before_in marks) first second) ∙ so in

@@ -1,8 +1,7 @@
 //! Whether the tasks of a log that interfere are run in serial order, told place by place.
 //!
-//! `touches_of_tasks` gathers what tasks do at first points, and `tasks_in_turn` goes over it once, with the
-//! groups of `cell_races`: where it says yes, every two tasks that interfere are run in serial order.
-//! `runs_of` gives the node that runs each item. Begin with `scan.rt`.
+//! `touches_of_tasks` gathers what tasks do at first points, and `loose_tasks` goes over it once, with the
+//! groups of `cell_races`, and notes tasks so that all others are run in serial order. `runs_of` gives the node that runs each item. Begin with `scan.rt`.
 #![tactic(auto)]
 
 mod gathering;
@@ -11,4 +10,4 @@ mod scan;
 
 pub use gathering::touches_of_tasks;
 pub use runs::runs_of;
-pub use scan::tasks_in_turn;
+pub use scan::loose_tasks;

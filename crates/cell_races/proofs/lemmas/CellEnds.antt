@@ -1,5 +1,5 @@
 -- The touches of one cell of touches in order, and those before and after them.
-use Rattle.std.proofs.Common.{◌≡◌, ℕ, ◌-◌, List, ◌++◌, refl, sym, ◌∙◌, take, drop}
+use Rattle.std.proofs.Common.{◌≡◌, ℕ, ◌-◌, List, ◌++◌, sym, ◌∙◌, take, drop}
 use Rattle.log_laws.proofs.lemmas.Members.{Member}
 use Rattle.cell_races.specs.declared.access.Access.TheVariants.{Reads}
 use Rattle.cell_races.specs.declared.touches.Touch.{Touch}

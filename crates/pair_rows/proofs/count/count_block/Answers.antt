@@ -1,4 +1,4 @@
-use Rattle.std.proofs.Common.{◌≡◌, ◌∙◌, [], ap, length, get_or}
+use Rattle.std.proofs.Common.{◌∙◌, [], ap, length, get_or}
 use Rattle.pair_rows.specs.Counting.{sum_below}
 use Rattle.pair_rows.specs.Meetings.{later_in_row}
 use Rattle.pair_rows.proofs.Sums.{block_is}

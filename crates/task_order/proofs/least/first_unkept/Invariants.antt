@@ -1,4 +1,4 @@
-use Rattle.std.proofs.Common.{◌≤◌, ◌-◌, ◌+◌}
+use Rattle.std.proofs.Common.{◌-◌, ◌+◌}
 use Rattle.task_order.specs.Rows.{IsFoundBefore}
 use Rattle.task_order.proofs.least.first_unkept.Given as goal
 

@@ -1,4 +1,4 @@
-use Rattle.std.proofs.Common.{◌≡◌, ◌<◌, ◌∙◌, ◌&&◌, true, not, sym, ap, ap₂, arith, length}
+use Rattle.std.proofs.Common.{◌≡◌, ◌∙◌, ◌&&◌, true, not, sym, ap, ap₂, arith, length}
 use Rattle.std.proofs.lemmas.Bool.{true≢false, and_parts, not-true}
 use Rattle.vocabulary.specs.Prelude.{is_free, item_kind}
 use Rattle.semantics.specs.Shown.{is_task_at}

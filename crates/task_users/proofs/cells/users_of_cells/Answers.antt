@@ -2,7 +2,6 @@ use Rattle.std.proofs.Common.{◌-◌, sym, subst, arith, take, drop}
 use Rattle.std.proofs.lemmas.List.{take_all}
 use Rattle.std.proofs.lemmas.List.Elements.{All-nil}
 use Rattle.log_laws.proofs.lemmas.Members.{Member, member_left}
-use Rattle.cell_races.specs.declared.touches.Touch.{Touch}
 use Rattle.cell_races.proofs.lemmas.CellEnds.{AreApart, take_to_end, rest_parts, one_cell, apart_still}
 use Rattle.pair_rows.specs.Meetings.{AreByClass}
 use Rattle.task_users.specs.Users.{AreUsersOf}

@@ -1,4 +1,4 @@
-use Rattle.std.proofs.Common.{ℕ, List, ◌++◌, sym, ap, ◌∙◌}
+use Rattle.std.proofs.Common.{ℕ, List, ◌++◌, ap, ◌∙◌}
 use Rattle.turn_scan.specs.Gathered.{touches_over}
 use Rattle.turn_scan.proofs.Adding.{over_more}
 use Rattle.turn_scan.proofs.gathering.push_points.Goals as goal

@@ -1,6 +1,5 @@
-use Rattle.std.proofs.Common.{◌≡◌, ◌+◌, List, [], ◌∷◌, ◌++◌, map, length, ap, ap₂, ◌∙◌, arith}
+use Rattle.std.proofs.Common.{◌≡◌, ◌+◌, [], ◌∷◌, ◌++◌, map, length, ap, ap₂, ◌∙◌, arith}
 use Rattle.std.proofs.lemmas.List.{length-append}
-use Rattle.pair_rows.specs.declared.users.User.{User}
 use Rattle.pair_rows.specs.Spans.{users_between}
 use Rattle.pair_rows.proofs.Pushed.{places_more}
 use Rattle.pair_rows.proofs.places.Places.push.Goals as goal

@@ -1,0 +1,287 @@
+-- The touches of a cell that are taken into groups, and those whose places are noted.
+use Rattle.std.proofs.Common.{◌≡◌, ℕ, zero, suc, ◌<◌, ◌⊎◌, inl, inr, Bool, true, false, not, List, [], ◌∷◌, ◌++◌, None, Contains, refl, sym, ap, ◌∙◌, subst, map, length, set, replicate, if◌then◌else◌}
+use Rattle.std.proofs.lemmas.Bool.{cases_Bool, cases_eq, true≢false, and_parts, not-true}
+use Rattle.std.proofs.lemmas.List.{map-append, get_or-set_same, get_or-set_other, length-set, length-replicate}
+use Rattle.log_laws.proofs.lemmas.Members.{Member, member_of, contains_of, member_append, member_left, member_right, member_map, any_found, only}
+use Rattle.cell_races.specs.declared.access.Visit.{Visit}
+use Rattle.cell_races.specs.declared.touches.Touch.{Touch}
+use Rattle.cell_races.specs.Accesses.{conflicts}
+use Rattle.cell_races.specs.Groups.{Groups, no_groups, with_visit, fails_at}
+use Rattle.cell_races.specs.Races.{is_loose, race_in, IsTransitive}
+use Rattle.cell_races.specs.Turns.{is_noted, IsLooseAt, NotesMore, AreNoted}
+use Rattle.cell_races.specs.Visits.{visit_of}
+use Rattle.cell_races.proofs.Ordered.{Ordered}
+use Rattle.cell_races.proofs.Cells.{IsApart, NotAfter, place_after}
+use Rattle.cell_races.proofs.Firsts.{race_push}
+use Rattle.cell_races.proofs.Stands.{Stands, stands_none, stands_more, tells}
+use Rattle.cell_races.proofs.Turning.{run_in_turn}
+
+-- ---- notes
+
+noted_at : (noted : List Bool) (place k : ℕ) → place < length noted → (k ≡ place) ⊎ (is_noted noted k ≡ true)
+    → is_noted (set noted place true) k ≡ true
+noted_at noted place k lt (inl is) = rw is (get_or-set_same noted place true false lt)
+noted_at noted place k lt (inr old) = elim (cases_eq k place) [
+  | inl is ↦ rw is (get_or-set_same noted place true false lt)
+  | inr other ↦ get_or-set_other noted place k true false other ∙ old
+]
+
+noted_of : (noted : List Bool) (place k : ℕ) → is_noted (set noted place true) k ≡ true → (k ≡ place) ⊎ (is_noted noted k ≡ true)
+noted_of noted place k e = elim (cases_eq k place) [
+  | inl is ↦ inl is
+  | inr other ↦ inr (sym (get_or-set_other noted place k true false other) ∙ e)
+]
+
+ordered_push : {X : Type 0} (R : X → X → Type 0) (xs : List X) (x : X) → Ordered R xs → ((y : X) → Member xs y → R y x)
+    → Ordered R (xs ++ x ∷ [])
+ordered_push R [] x o h = (λ y m. absurd m, tt)
+ordered_push R (z ∷ xs) x o h = (
+  λ y m. elim (member_append xs (x ∷ []) y m) [
+    | inl old ↦ o.0 y old
+    | inr new ↦ subst (R z) (sym (only new)) (h z (inl refl))
+  ],
+  ordered_push R xs x o.1 (λ y m. h y (inr m)),
+)
+
+ordered_front : {X : Type 0} (R : X → X → Type 0) (xs : List X) (x : X) → Ordered R (xs ++ x ∷ [])
+    → Ordered R xs × ((y : X) → Member xs y → R y x)
+ordered_front R [] x o = (tt, λ y m. absurd m)
+ordered_front R (z ∷ xs) x o =
+    let r = ordered_front R xs x o.1 in (
+      (λ y m. o.0 y (member_left xs (x ∷ []) y m), r.0),
+      λ y m. elim m [ inl is ↦ subst (λ w. R w x) (sym is) (o.0 x (member_right xs (x ∷ []) x (inl refl))) | inr l ↦ r.1 y l ],
+    )
+
+-- ---- the touches of one cell
+
+-- What is known where some touches of a cell are sifted.
+pub record IsSifted (before : ℕ → ℕ → Bool) (order : List ℕ) (seen : List Touch) (g : Groups) (old new : List Bool) : Type 0 where
+  pub taken : List Touch
+  pub of_seen : (x : Touch) → Member taken x → Member seen x
+  pub in_order : Ordered NotAfter seen → Ordered NotAfter taken
+  pub calm : race_in before (map (visit_of order) taken) ≡ None
+  pub stands : Stands before (map (visit_of order) taken) g
+  pub whole : (x : Touch) → Member seen x → Member taken x ⊎ (is_noted new x.place ≡ true)
+  pub each : length new ≡ length old
+  pub kept : (k : ℕ) → is_noted old k ≡ true → is_noted new k ≡ true
+  pub sound : (k : ℕ) → is_noted new k ≡ true → (is_noted old k ≡ true)
+      ⊎ (Ordered NotAfter seen → ((x y : Touch) → Member seen x → Member seen y → x.cell ≡ y.cell) → IsLooseAt before order seen k)
+
+pub sifted_none : (before : ℕ → ℕ → Bool) (order : List ℕ) (noted : List Bool) → IsSifted before order [] no_groups noted noted
+sifted_none before order noted = record {
+  taken = [];
+  of_seen = λ x m. m;
+  in_order = λ o. o;
+  calm = refl;
+  stands = stands_none before;
+  whole = λ x m. absurd m;
+  each = refl;
+  kept = λ k e. e;
+  sound = λ k e. inl e;
+}
+
+module _ (before : ℕ → ℕ → Bool) (goes : IsTransitive before) (order : List ℕ) (seen : List Touch) (x : Touch) (g : Groups)
+    (old mid : List Bool) (h : IsSifted before order seen g old mid) where
+  abbrev v : Visit
+  v = visit_of order x
+
+  abbrev more : List Touch
+  more = seen ++ x ∷ []
+
+  old_in : (y : Touch) → Member seen y → Member more y
+  old_in y m = member_left seen (x ∷ []) y m
+
+  x_in : Member more x
+  x_in = member_right seen (x ∷ []) x (inl refl)
+
+  wider : (k : ℕ) → (Ordered NotAfter seen → ((x y : Touch) → Member seen x → Member seen y → x.cell ≡ y.cell)
+      → IsLooseAt before order seen k)
+      → Ordered NotAfter more → ((x y : Touch) → Member more x → Member more y → x.cell ≡ y.cell) → IsLooseAt before order more k
+  wider k f o one =
+      let l = f (ordered_front NotAfter seen x o).0 (λ a b m n. one a b (old_in a m) (old_in b n)) in
+      record {
+        x = l.x;
+        y = l.y;
+        x_in = contains_of more l.x (old_in l.x (member_of seen l.x l.x_in));
+        y_in = contains_of more l.y (old_in l.y (member_of seen l.y l.y_in));
+        same = l.same;
+        at_place = l.at_place;
+        conflict = l.conflict;
+        not_later = l.not_later;
+        not_before = l.not_before;
+      }
+
+  -- The touch is noted.
+  sifted_noted : x.place < length mid → fails_at before g v ≡ true → IsSifted before order more g old (set mid x.place true)
+  sifted_noted lt fails = record {
+    taken = h.taken;
+    of_seen = λ y m. old_in y (h.of_seen y m);
+    in_order = λ o. h.in_order (ordered_front NotAfter seen x o).0;
+    calm = h.calm;
+    stands = h.stands;
+    whole = λ y m. elim (member_append seen (x ∷ []) y m) [
+      | inl before_it ↦ elim (h.whole y before_it) [ inl t ↦ inl t | inr n ↦ inr (noted_at mid x.place y.place lt (inr n)) ]
+      | inr it ↦ inr (noted_at mid x.place y.place lt (inl (ap (λ (z : Touch). z.place) (only it))))
+    ];
+    each = length-set mid x.place true ∙ h.each;
+    kept = λ k e. noted_at mid x.place k lt (inr (h.kept k e));
+    sound = λ k e. elim (noted_of mid x.place k e) [
+      | inl is ↦ inr (λ o one.
+          let w = any_found (is_loose before v) (map (visit_of order) h.taken) (sym (tells goes h.stands v) ∙ fails) in
+          let y = member_map (visit_of order) h.taken w.0 w.1 in
+          let y_in = h.of_seen y.0 y.1 in
+          let l = and_parts (conflicts w.0.access v.access) (not (before w.0.node v.node)) w.2 in
+          let same = one y.0 x (old_in y.0 y_in) x_in in
+          record {
+            x = y.0;
+            y = x;
+            x_in = contains_of more y.0 (old_in y.0 y_in);
+            y_in = contains_of more x x_in;
+            same = same;
+            at_place = sym is;
+            conflict = ap (λ (u : Visit). conflicts u.access v.access) (sym y.2) ∙ l.0;
+            not_later = place_after y.0 x same ((ordered_front NotAfter seen x o).1 y.0 y_in);
+            not_before = ap (λ (u : Visit). before u.node v.node) (sym y.2) ∙ not-true (before w.0.node v.node) l.1;
+          })
+      | inr old_note ↦ elim (h.sound k old_note) [ inl first ↦ inl first | inr f ↦ inr (wider k f) ]
+    ];
+  }
+
+  -- The touch is taken.
+  sifted_taken : fails_at before g v ≡ false → IsSifted before order more (with_visit g v) old mid
+  sifted_taken calm =
+      let visits = map (visit_of order) h.taken in
+      let none = sym (tells goes h.stands v) ∙ calm in
+      let seam = map-append (visit_of order) h.taken (x ∷ []) in
+      record {
+        taken = h.taken ++ x ∷ [];
+        of_seen = λ y m. elim (member_append h.taken (x ∷ []) y m) [
+          | inl before_it ↦ old_in y (h.of_seen y before_it)
+          | inr it ↦ subst (Member more) (sym (only it)) x_in
+        ];
+        in_order = λ o. let f = ordered_front NotAfter seen x o in
+            ordered_push NotAfter h.taken x (h.in_order f.0) (λ y m. f.1 y (h.of_seen y m));
+        calm = ap (race_in before) seam ∙ race_push before visits v h.calm none;
+        stands = subst (λ vs. Stands before vs (with_visit g v)) (sym seam) (stands_more goes h.stands v calm);
+        whole = λ y m. elim (member_append seen (x ∷ []) y m) [
+          | inl before_it ↦ elim (h.whole y before_it) [ inl t ↦ inl (member_left h.taken (x ∷ []) y t) | inr n ↦ inr n ]
+          | inr it ↦ inl (member_right h.taken (x ∷ []) y it)
+        ];
+        each = h.each;
+        kept = h.kept;
+        sound = λ k e. elim (h.sound k e) [ inl first ↦ inl first | inr f ↦ inr (wider k f) ];
+      }
+
+  pub sifted_more : (next : Groups) (new : List Bool) → x.place < length mid
+      → next ≡ (if fails_at before g v then g else with_visit g v)
+      → new ≡ (if fails_at before g v then set mid x.place true else mid) → IsSifted before order more next old new
+  sifted_more next new lt groups notes = elim (cases_Bool (fails_at before g v)) [
+    | inl fails ↦ subst (λ next. IsSifted before order more next old new) (sym (groups ∙ by_true g (with_visit g v) fails))
+        (subst (λ new. IsSifted before order more g old new) (sym (notes ∙ by_true (set mid x.place true) mid fails))
+        (sifted_noted lt fails))
+    | inr calm ↦ subst (λ next. IsSifted before order more next old new) (sym (groups ∙ by_false g (with_visit g v) calm))
+        (subst (λ new. IsSifted before order more (with_visit g v) old new) (sym (notes ∙ by_false (set mid x.place true) mid calm))
+        (sifted_taken calm))
+  ]
+    where
+      by_true : {A : Type 0} (a b : A) {c : Bool} → c ≡ true → (if c then a else b) ≡ a
+      by_true a b e = rw e refl
+
+      by_false : {A : Type 0} (a b : A) {c : Bool} → c ≡ false → (if c then a else b) ≡ b
+      by_false a b e = rw e refl
+
+pub sifted_all : (before : ℕ → ℕ → Bool) (order : List ℕ) (touches : List Touch) (g : Groups) (old new : List Bool)
+    → IsSifted before order touches g old new → Ordered NotAfter touches
+    → ((x y : Touch) → Member touches x → Member touches y → x.cell ≡ y.cell) → NotesMore before order touches old new
+sifted_all before order touches g old new h o one = record {
+  each = h.each;
+  kept = h.kept;
+  sound = λ k e. elim (h.sound k e) [ inl first ↦ inl first | inr f ↦ inr (f o one) ];
+  turn = λ x y xm ym same lt c x_free y_free. elim (h.whole x (member_of touches x xm)) [
+    | inl x_taken ↦ elim (h.whole y (member_of touches y ym)) [
+      | inl y_taken ↦ run_in_turn before order h.taken (h.in_order o) h.calm x y x_taken y_taken same lt c
+      | inr y_noted ↦ absurd (true≢false (sym y_noted ∙ y_free))
+    ]
+    | inr x_noted ↦ absurd (true≢false (sym x_noted ∙ x_free))
+  ];
+}
+
+-- ---- cell by cell
+
+notes_kept : {before : ℕ → ℕ → Bool} {order : List ℕ} {touches : List Touch} {old new : List Bool}
+    → NotesMore before order touches old new
+    → (k : ℕ) → is_noted new k ≡ false → is_noted old k ≡ false
+notes_kept {before} {order} {touches} {old} {new} h k free = elim (cases_Bool (is_noted old k)) [
+  | inl noted ↦ absurd (true≢false (sym (h.kept k noted) ∙ free))
+  | inr none ↦ none
+]
+
+loose_in : (before : ℕ → ℕ → Bool) (order : List ℕ) (some all : List Touch) (k : ℕ) → ((x : Touch) → Contains some x → Contains all x)
+    → IsLooseAt before order some k → IsLooseAt before order all k
+loose_in before order some all k inside l = record {
+  x = l.x;
+  y = l.y;
+  x_in = inside l.x l.x_in;
+  y_in = inside l.y l.y_in;
+  same = l.same;
+  at_place = l.at_place;
+  conflict = l.conflict;
+  not_later = l.not_later;
+  not_before = l.not_before;
+}
+
+pub notes_both : (before : ℕ → ℕ → Bool) (order : List ℕ) (front run : List Touch) (old mid new : List Bool) → IsApart front run
+    → NotesMore before order front old mid → NotesMore before order run mid new → NotesMore before order (front ++ run) old new
+notes_both before order front run old mid new far h g =
+    let left : (x : Touch) → Contains front x → Contains (front ++ run) x =
+    λ x m. contains_of (front ++ run) x (member_left front run x (member_of front x m)) in
+    let right : (x : Touch) → Contains run x → Contains (front ++ run) x =
+    λ x m. contains_of (front ++ run) x (member_right front run x (member_of run x m)) in
+    record {
+      each = g.each ∙ h.each;
+      kept = λ k e. g.kept k (h.kept k e);
+      sound = λ k e. elim (g.sound k e) [
+        | inl earlier ↦ elim (h.sound k earlier) [
+          | inl first ↦ inl first
+          | inr l ↦
+              inr (loose_in before order front (front ++ run) k left l)
+        ]
+        | inr l ↦ inr (loose_in before order run (front ++ run) k right l)
+      ];
+      turn = λ x y xm ym same lt c x_free y_free. elim (member_append front run x (member_of (front ++ run) x xm)) [
+        | inl x_front ↦ elim (member_append front run y (member_of (front ++ run) y ym)) [
+          | inl y_front ↦ h.turn x y (contains_of front x x_front) (contains_of front y y_front) same lt c
+              (notes_kept g x.place x_free) (notes_kept g y.place y_free)
+          | inr y_run ↦ absurd (far x y x_front y_run same)
+        ]
+        | inr x_run ↦ elim (member_append front run y (member_of (front ++ run) y ym)) [
+          | inl y_front ↦ absurd (far y x y_front x_run (sym same))
+          | inr y_run ↦ g.turn x y (contains_of run x x_run) (contains_of run y y_run) same lt c x_free y_free
+        ]
+      ];
+    }
+
+pub notes_none : (before : ℕ → ℕ → Bool) (order : List ℕ) (noted : List Bool) → NotesMore before order [] noted noted
+notes_none before order noted = record {
+  each = refl;
+  kept = λ k e. e;
+  sound = λ k e. inl e;
+  turn = λ x y xm. absurd (member_of [] x xm);
+}
+
+none_noted : (n k : ℕ) → is_noted (replicate n false) k ≡ false
+none_noted zero k = refl
+none_noted (suc n) zero = refl
+none_noted (suc n) (suc k) = none_noted n k
+
+pub notes_all : (before : ℕ → ℕ → Bool) (order : List ℕ) (touches : List Touch) (start noted : List Bool)
+    → start ≡ replicate (length order) false
+    → NotesMore before order touches start noted → AreNoted before order touches noted
+notes_all before order touches start noted is h = record {
+  each = h.each ∙ (ap (λ (bs : List Bool). length bs) is ∙ length-replicate (length order) false);
+  sound = λ k e. elim (h.sound k e) [
+    | inl at_start ↦ absurd (true≢false (sym at_start ∙ (ap (λ bs. is_noted bs k) is ∙ none_noted (length order) k)))
+    | inr l ↦ l
+  ];
+  turn = h.turn;
+}
