@@ -35,7 +35,7 @@ tied a b e = subst (λ n. nat_cmp n a ≡ Equal) e (tied_itself nat_cmp_total a)
 then_tied : (o p : Ordering) → o ≡ Equal → p ≡ Equal → ordering_then o p ≡ Equal
 then_tied o p e f = ap (λ q. ordering_then q p) e ∙ f
 
-not_less : (c d : Claim) → is_lt (key_cmp (key_of d) (key_of c)) ≡ false → IsBefore c d
+pub not_less : (c d : Claim) → is_lt (key_cmp (key_of d) (key_of c)) ≡ false → IsBefore c d
 not_less c d h =
     let t = nat_cmp d.tree c.tree in
     let f = nat_cmp d.field c.field in

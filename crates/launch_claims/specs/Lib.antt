@@ -1,3 +1,4 @@
+pub mod Blocks
 pub mod Claiming
 pub mod Claims
 pub mod Interference

@@ -2,8 +2,11 @@
 
 ghost use Rattle.std.specs.Prelude.{◌≡◌, ◌↔◌, ◌++◌, All, map, max, IfOk, IsTrue, OnOk};
 ghost use Rattle.arena_sets.specs.Pieces.{AreRectsOf};
+ghost use Rattle.launch_claims.specs.Blocks.{AreBlocks, block_of};
+ghost use Rattle.std.specs.List.{flat_map};
 ghost use Rattle.launch_claims.specs.Claiming.{AreClaims, AreInFirstColumn, claim_on, claims_by, rows_of, time_of};
 
+use crate::block::Block;
 use crate::claim::Claim;
 use crate::requirement::{LaunchTasks, Requirement};
 use arena_sets::SetOfRects;
@@ -110,4 +113,57 @@ pub(crate) fn claims_of<P: SetOfRects + Copy>(
         push_claims(&mut claims, launch, req, rects.as_slice())?;
     }
     Ok(claims)
+}
+
+/// A rectangle of points as a block with the claim of its rows.
+fn block_of(claim: &Claim, rect: Rect) -> Block
+    ensures { result ≡ block_of claim.now rect }
+{
+    Block {
+        claim: rows_of(claim, rect),
+        x0: rect.x0,
+        x1: rect.x1,
+    }
+}
+
+/// Adds the blocks of some rectangles, with the same claim.
+fn push_rects(blocks: &mut Vec<Block>, claim: &Claim, rects: &[Rect]) -> Result<(), Memory>
+    ensures { OnOk result (blocks.new.items ≡ blocks.old.items ++ map (block_of claim.now) rects.now) }
+{
+    for rect in rects {
+        blocks.push(block_of(claim, *rect))?;
+    }
+    Ok(())
+}
+
+/// Adds the blocks of a requirement in a launch, whose points are those of rectangles.
+fn push_blocks<P: PointSet + Copy>(
+    blocks: &mut Vec<Block>,
+    launch: &LaunchTasks,
+    req: &Requirement<'_, P>,
+    rects: &[Rect],
+) -> Result<(), Memory>
+    ensures { OnOk result (blocks.new.items ≡ blocks.old.items
+        ++ flat_map (λ field. map (block_of (claim_on launch.now req.now field)) rects.now) req.now.fields.now) }
+{
+    for field in req.fields {
+        push_rects(blocks, &claim_on(launch, req, *field), rects)?;
+    }
+    Ok(())
+}
+
+/// What requirements claim in a launch, as blocks.
+pub(crate) fn blocks_of<P: SetOfRects + Copy>(
+    alloc: Global,
+    launch: &LaunchTasks,
+    reqs: &[Requirement<'_, P>],
+) -> Result<Vec<Block>, Memory>
+    ensures { IfOk result (λ blocks. AreBlocks P.points launch.now reqs.now blocks.items) }
+{
+    let mut blocks = Vec::new(alloc);
+    for req in reqs {
+        let rects = rects_of(alloc, &req.set)?;
+        push_blocks(&mut blocks, launch, req, rects.as_slice())?;
+    }
+    Ok(blocks)
 }

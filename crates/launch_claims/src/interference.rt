@@ -7,8 +7,9 @@ ghost use Rattle.launch_claims.specs.declared.requirement.Requirement.{Requireme
 ghost use Rattle.privilege.specs.Interference.{agree};
 ghost use Rattle.launch_claims.specs.Interference.{AllAgree, InterferesAt, InterferesIn, IsLeast, IsOfLaunch};
 
-use crate::claiming::{are_in_first_column, claims_of};
+use crate::claiming::{are_in_first_column, blocks_of, claims_of};
 use crate::first::first_clash;
+use crate::meeting::have_clash;
 use crate::pairs::{first_by_pairs, lesser};
 use crate::requirement::{LaunchTasks, Requirement};
 use arena_sets::SetOfRects;
@@ -86,11 +87,25 @@ fn all_agree<P: PointSet + Copy>(reqs: &[Requirement<'_, P>]) -> bool
     }
 }
 
+/// The first number at which requirements of tasks of a launch interfere, whatever columns their sets have. Where no two blocks clash, none interfere. Else all pairs are compared, which takes quadratic time in the requirements of the launch.
+fn first_on_planes<P: SetOfRects + Copy>(
+    alloc: Global,
+    launch: &LaunchTasks,
+    reqs: &[Requirement<'_, P>],
+) -> Result<Option<u32>, Memory>
+    ensures { IfOk result (IsLeast (InterferesIn P.points launch.now reqs.now)) }
+{
+    let blocks = blocks_of(alloc, launch, reqs)?;
+    if have_clash(alloc, blocks)? {
+        Ok(first_by_pairs(launch, reqs))
+    } else {
+        Ok(None)
+    }
+}
+
 /// The first number at which requirements of tasks of a launch interfere.
 ///
 /// Where each set lies in the first column, the requirements claim runs of points. Where these first clash, one of the two is new. Where it is new since a record asks for it, they interfere. Else the launch or its points are new, which is no interference, and all pairs are compared.
-///
-/// Where some set has a point in another column, all pairs are compared too, which takes quadratic time in the requirements of the launch.
 fn first_in_launch<P: SetOfRects + Copy>(
     alloc: Global,
     launch: &LaunchTasks,
@@ -102,7 +117,7 @@ fn first_in_launch<P: SetOfRects + Copy>(
         return Ok(None);
     }
     if !are_in_first_column(reqs) {
-        return Ok(first_by_pairs(launch, reqs));
+        return first_on_planes(alloc, launch, reqs);
     }
     let claims = claims_of(alloc, launch, reqs)?;
     let Some(number) = first_clash(alloc, claims.as_slice())? else {

@@ -8,10 +8,14 @@
 //! cannot tell.
 #![tactic(auto)]
 
+mod block;
 mod claim;
 mod claiming;
 mod first;
 mod interference;
+mod kept;
+mod meeting;
+mod node;
 mod pairs;
 mod pass;
 mod reach;
