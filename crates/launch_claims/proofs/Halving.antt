@@ -1,8 +1,8 @@
 -- The blocks of some columns, from those of both halves.
-use Rattle.std.proofs.Common.{◌≡◌, ◌↔◌, ℕ, ◌+◌, ◌-◌, ◌/◌, ◌^◌, ◌<◌, ◌≤◌, max, min, nat_le, nat_lt, not, Bool, true, false, List, [], ◌∷◌, ◌++◌, ◌⊎◌, Contains, IsTrue, filter, length, get_or, take, Less, Equal, Greater, refl, sym, ap, subst, ◌∙◌, inl, inr, arith}
+use Rattle.std.proofs.Common.{◌≡◌, ◌↔◌, ℕ, ◌+◌, ◌<◌, ◌≤◌, max, min, nat_le, nat_lt, not, true, false, List, [], ◌∷◌, Contains, IsTrue, filter, length, get_or, take, sym, ap, subst, ◌∙◌, inl, inr, arith}
 use Rattle.std.specs.List.Sorted.{IsPermutation, IsSortedByKey}
-use Rattle.std.specs.Ordering.{is_lt, nat_cmp}
-use Rattle.std.proofs.lemmas.Bool.{and_from, and_parts, both_ways, cases_Bool, cases_lt, le-leb, leb-true, lt-ltb, ltb-true, not_from_false}
+use Rattle.std.specs.Ordering.{is_lt}
+use Rattle.std.proofs.lemmas.Bool.{and_from, and_parts, cases_Bool, cases_lt, le-leb, leb-true, lt-ltb, ltb-true, not_from_false}
 use Rattle.std.proofs.lemmas.Cmp.{nat_cmp_total, on_total, then_total}
 use Rattle.std.proofs.lemmas.List.{take_more}
 use Rattle.std.proofs.lemmas.List.Elements.{Contains-push_cases}
@@ -12,7 +12,7 @@ use Rattle.list_lemmas.proofs.lemmas.Filtered.{in_filter, of_filter}
 use Rattle.launch_claims.specs.declared.block.Block.{Block}
 use Rattle.launch_claims.specs.Claims.{clashes}
 use Rattle.launch_claims.specs.Reaches.{IsBefore}
-use Rattle.launch_claims.specs.Blocks.{AreBlocksInOrder, AreIn, ClashIn, HasBlockClash, HasClashIn, HasWideClash, IsIn, ShareColumn, goes_left, goes_right, spans}
+use Rattle.launch_claims.specs.Blocks.{AreBlocksInOrder, AreIn, ClashIn, HasBlockClash, HasClashIn, HasClashUpTo, HasWideClash, IsIn, asked_up_to, goes_left, goes_right, spans}
 use Rattle.launch_claims.proofs.Nodes.{no_own_clash}
 use Rattle.launch_claims.proofs.Ordered.{Key, key_cmp, key_of, not_less}
 
@@ -57,7 +57,8 @@ few lo hi (x ∷ []) lt h = elim (Contains-push_cases [] x h.0 h.2) [
 few lo hi (x ∷ y ∷ blocks) lt h = absurd (omega (arith, lt))
 
 -- two blocks, of which one has all columns, share one of them
-share_first : (lo hi : ℕ) (b d : Block) → lo ≤ hi → IsIn lo hi d → spans lo hi b ≡ true → IsTrue (clashes b.claim d.claim) → ClashIn lo hi b d
+share_first : (lo hi : ℕ) (b d : Block) → lo ≤ hi → IsIn lo hi d → spans lo hi b ≡ true → IsTrue (clashes b.claim d.claim)
+    → ClashIn lo hi b d
 share_first lo hi b d le d_in so rows =
     let w = and_parts (nat_le b.x0 lo) (nat_le hi b.x1) so in
     let low = leb-true b.x0 lo w.0 in
@@ -74,7 +75,8 @@ share_first lo hi b d le d_in so rows =
       rows = rows;
     }
 
-share_second : (lo hi : ℕ) (b d : Block) → lo ≤ hi → IsIn lo hi b → spans lo hi d ≡ true → IsTrue (clashes b.claim d.claim) → ClashIn lo hi b d
+share_second : (lo hi : ℕ) (b d : Block) → lo ≤ hi → IsIn lo hi b → spans lo hi d ≡ true → IsTrue (clashes b.claim d.claim)
+    → ClashIn lo hi b d
 share_second lo hi b d le b_in so rows =
     let w = and_parts (nat_le d.x0 lo) (nat_le hi d.x1) so in
     let low = leb-true d.x0 lo w.0 in
@@ -107,7 +109,8 @@ wide_within lo hi blocks le inside h =
 pub left_within : (lo hi middle : ℕ) (blocks left : List Block) → left ≡ filter (goes_left lo hi middle) blocks → middle ≤ hi
     → HasClashIn lo middle left → HasClashIn lo hi blocks
 left_within lo hi middle blocks left is le h =
-    let p = λ (b : Block) (m : Contains left b). (of_filter (goes_left lo hi middle) blocks b (subst (λ (bs : List Block). Contains bs b) is m)).0 in
+    let p = λ (b : Block) (m : Contains left b). (of_filter (goes_left lo hi middle) blocks b (subst (λ
+    (bs : List Block). Contains bs b) is m)).0 in
     let c = h.4 in
     let to = c.to in (
       h.0,
@@ -127,7 +130,8 @@ left_within lo hi middle blocks left is le h =
 pub right_within : (lo hi middle : ℕ) (blocks right : List Block) → right ≡ filter (goes_right lo hi middle) blocks → lo ≤ middle
     → HasClashIn (middle + 1) hi right → HasClashIn lo hi blocks
 right_within lo hi middle blocks right is le h =
-    let p = λ (b : Block) (m : Contains right b). (of_filter (goes_right lo hi middle) blocks b (subst (λ (bs : List Block). Contains bs b) is m)).0 in
+    let p = λ (b : Block) (m : Contains right b). (of_filter (goes_right lo hi middle) blocks b (subst (λ
+    (bs : List Block). Contains bs b) is m)).0 in
     let c = h.4 in
     let from = c.from in (
       h.0,
@@ -221,7 +225,8 @@ pub first_more : (blocks : List Block) (k first : ℕ) (z : Block) → k < lengt
     → ((b : Block) → Contains (take k blocks) b → first ≤ b.x0) → (b : Block) → Contains (take (k + 1) blocks) b
     → min (get_or blocks k z).x0 first ≤ b.x0
 first_more blocks k first z within so_far b h =
-    elim (Contains-push_cases (take k blocks) (get_or blocks k z) b (subst (λ (bs : List Block). Contains bs b) (take_more blocks k z within) h)) [
+    elim (Contains-push_cases (take k blocks) (get_or blocks k z) b (subst (λ (bs : List Block). Contains bs b)
+    (take_more blocks k z within) h)) [
       | inl earlier ↦ let le = so_far b earlier in omega arith
       | inr is ↦ let same = ap (λ (x : Block). x.x0) is in omega arith
     ]
@@ -230,7 +235,8 @@ pub last_more : (blocks : List Block) (k last : ℕ) (z : Block) → k < length 
     → ((b : Block) → Contains (take k blocks) b → b.x1 ≤ last) → (b : Block) → Contains (take (k + 1) blocks) b
     → b.x1 ≤ max (get_or blocks k z).x1 last
 last_more blocks k last z within so_far b h =
-    elim (Contains-push_cases (take k blocks) (get_or blocks k z) b (subst (λ (bs : List Block). Contains bs b) (take_more blocks k z within) h)) [
+    elim (Contains-push_cases (take k blocks) (get_or blocks k z) b (subst (λ (bs : List Block). Contains bs b)
+    (take_more blocks k z within) h)) [
       | inl earlier ↦ let le = so_far b earlier in omega arith
       | inr is ↦ let same = ap (λ (x : Block). x.x1) is in omega arith
     ]
@@ -281,3 +287,35 @@ all_columns lo hi blocks sorted perm low high = (
         },
       ),
 )
+
+pub highest_more : (blocks : List Block) (k highest : ℕ) (z : Block) → k < length blocks
+    → ((b : Block) → Contains (take k blocks) b → b.claim.record ≤ highest) → (b : Block) → Contains (take (k + 1) blocks) b
+    → b.claim.record ≤ max (get_or blocks k z).claim.record highest
+highest_more blocks k highest z within so_far b h =
+    elim (Contains-push_cases (take k blocks) (get_or blocks k z) b (subst (λ (bs : List Block). Contains bs b)
+    (take_more blocks k z within) h)) [
+      | inl earlier ↦ let le = so_far b earlier in omega arith
+      | inr is ↦ let same = ap (λ (x : Block). x.claim.record) is in omega arith
+    ]
+
+-- ---- up to a number
+
+-- more records ask for more blocks
+pub clash_later : (blocks : List Block) (n m : ℕ)
+    → ((b : Block) → Contains blocks b → b.claim.record ≤ n → b.claim.record ≤ m) → HasClashUpTo blocks n → HasClashUpTo blocks m
+clash_later blocks n m wider h =
+    let into = λ (b : Block) (k : Contains (asked_up_to n blocks) b).
+    let from = of_filter (λ (x : Block). nat_le x.claim.record n) blocks b k in
+    in_filter (λ (x : Block). nat_le x.claim.record m) blocks b from.0
+    (le-leb b.claim.record m (wider b from.0 (leb-true b.claim.record n from.1))) in
+    (h.0, h.1, into h.0 h.2, into h.1 h.3, h.4, h.5)
+
+pub not_before : (blocks : List Block) (middle m : ℕ) → ¬ HasClashUpTo blocks middle → HasClashUpTo blocks m → middle + 1 ≤ m
+not_before blocks middle m none h = elim (cases_lt middle m) [
+  | inl lt ↦ omega (arith, lt)
+  | inr le ↦ absurd (none (clash_later blocks m middle (λ b k low. omega (arith, low, le)) h))
+]
+
+pub none_at_all : (blocks : List Block) (highest m : ℕ) → ((b : Block) → Contains blocks b → b.claim.record ≤ highest)
+    → ¬ HasClashUpTo blocks highest → ¬ HasClashUpTo blocks m
+none_at_all blocks highest m above none h = none (clash_later blocks m highest (λ b k low. above b k) h)

@@ -1,12 +1,11 @@
 -- The few blocks of which it is enough to know.
-use Rattle.std.proofs.Common.{◌≡◌, ◌≢◌, ℕ, ◌+◌, ◌<◌, ◌≤◌, ◌||◌, not, max, min, nat_le, true, false, List, [], ◌∷◌, ◌++◌, ◌⊎◌, Contains, IsTrue, length, get_or, drop, refl, sym, ap, subst, ◌∙◌, inl, inr, arith, append_assoc, append-nil}
+use Rattle.std.proofs.Common.{◌≡◌, ◌≢◌, ℕ, ◌+◌, ◌<◌, ◌≤◌, ◌||◌, not, nat_le, true, false, List, [], ◌∷◌, ◌++◌, ◌⊎◌, Contains, IsTrue, length, get_or, drop, refl, sym, ap, subst, ◌∙◌, inl, inr, arith, append_assoc, append-nil}
 use Rattle.std.proofs.lemmas.Bool.{and_parts, cases_Bool, cases_eq, leb-true, not-true, true≢false}
 use Rattle.std.proofs.lemmas.List.{drop_more, drop_all}
 use Rattle.std.proofs.lemmas.List.Elements.{Contains-append_cases, Contains-append_left, Contains-append_right, Contains-get_or, Contains-push, Contains-push_cases}
 use Rattle.privilege.specs.declared.kinds.Priv.{Priv}
 use Rattle.privilege.specs.Interference.{agree}
 use Rattle.launch_claims.specs.declared.block.Block.{Block}
-use Rattle.launch_claims.specs.declared.claim.Claim.{Claim}
 use Rattle.launch_claims.specs.Claims.{clashes, share_field}
 use Rattle.launch_claims.specs.Reaches.{IsBefore}
 use Rattle.launch_claims.specs.Blocks.{ComeBefore, IsNeedless, RowsClash, StandFor, covers}
@@ -83,7 +82,8 @@ stand_needless kept seen d s needless = record {
       let before : ComeBefore seen e = λ b h. behind b (Contains-append_left seen (d ∷ []) b h) in
       elim (Contains-push_cases seen d some.0 some.1) [
         | inl earlier ↦ s.told e before (some.0, earlier, some.2)
-        | inr is ↦ needless_told kept seen d e s.among before needless (subst (λ (b : Block). IsTrue (clashes b.claim e.claim)) (sym is) some.2)
+        | inr is ↦ needless_told kept seen d e s.among before needless (subst (λ (b : Block). IsTrue (clashes b.claim e.claim))
+            (sym is) some.2)
       ];
 }
 

@@ -1,8 +1,8 @@
 -- One pass over the blocks of some columns.
-use Rattle.std.proofs.Common.{◌≡◌, ◌↔◌, ℕ, ◌+◌, ◌<◌, ◌≤◌, Bool, true, false, List, [], ◌∷◌, ◌++◌, ◌⊎◌, Contains, IsTrue, filter, length, get_or, take, refl, sym, ap, subst, ◌∙◌, inl, inr, arith, append-nil}
-use Rattle.std.proofs.lemmas.Bool.{both_ways, cases_Bool}
+use Rattle.std.proofs.Common.{◌≡◌, ◌↔◌, ℕ, ◌+◌, ◌<◌, ◌≤◌, Bool, true, false, List, [], ◌∷◌, ◌++◌, ◌⊎◌, Contains, IsTrue, filter, length, get_or, take, refl, sym, subst, ◌∙◌, inl, inr, arith, append-nil}
+use Rattle.std.proofs.lemmas.Bool.{both_ways}
 use Rattle.std.proofs.lemmas.List.{get_or_default, get_or-take, length-take, take_all, take_more}
-use Rattle.std.proofs.lemmas.List.Elements.{Contains-append_left, Contains-get_or, Contains-push, Contains-push_cases, filter-append}
+use Rattle.std.proofs.lemmas.List.Elements.{Contains-get_or, Contains-push_cases, filter-append}
 use Rattle.list_lemmas.proofs.lemmas.Filtered.{in_filter, of_filter}
 use Rattle.launch_claims.specs.declared.block.Block.{Block}
 use Rattle.launch_claims.specs.declared.node.Seen.{Seen}
@@ -23,7 +23,8 @@ no_own_clash b h = (clash_told b.claim b.claim h).tasks refl
 
 -- ---- what clashes with the next block
 
-pub wide_told : (lo hi : ℕ) (s : Seen) (blocks : List Block) (d : Block) (b : Bool) → spans lo hi d ≡ true → (IsTrue b ↔ RowsClash s.any.items d)
+pub wide_told : (lo hi : ℕ) (s : Seen) (blocks : List Block) (d : Block) (b : Bool) → spans lo hi d ≡ true →
+    (IsTrue b ↔ RowsClash s.any.items d)
     → IsSeen lo hi s blocks → ComeBefore blocks d → IsTrue b ↔ WideClash lo hi blocks d
 wide_told lo hi s blocks d b so told seen behind = (
   λ h. let r = told.0 h in (r.0, seen.any.among r.0 r.1, inr so, r.2),
@@ -128,7 +129,12 @@ pub pass_found : (lo hi : ℕ) (blocks : List Block) (k : ℕ) (z : Block) → k
     → WideClash lo hi (take k blocks) (get_or blocks k z) → HasWideClash lo hi blocks
 pass_found lo hi blocks k z within w =
     let lt : w.1.0 < k = omega (arith, w.1.1, length-take k blocks) in
-    let b : Contains blocks w.0 = (w.1.0, omega (arith, w.1.1, length-take k blocks, lt, within), sym (get_or-take k blocks w.1.0 w.0 lt) ∙ w.1.2) in
+    let b : Contains blocks w.0 = (
+      w.1.0,
+      omega (arith, w.1.1, length-take k blocks, lt, within),
+      sym
+          (get_or-take k blocks w.1.0 w.0 lt) ∙ w.1.2,
+    ) in
     (get_or blocks k z, Contains-get_or blocks k z within, (w.0, b, w.2, w.3))
 
 pub pass_done : (lo hi : ℕ) (s : Seen) (blocks : List Block) (k : ℕ) → length blocks ≤ k → IsSeen lo hi s (take k blocks)

@@ -1,5 +1,5 @@
 -- Blocks of columns and rows that tasks claim. The first and the last point of the claim of a block are its rows.
-use Rattle.std.specs.Prelude.{◌≡◌, ◌≢◌, ℕ, ◌+◌, ◌*◌, ◌^◌, ◌<◌, ◌≤◌, ◌⊎◌, ◌&&◌, ◌||◌, max, min, nat_le, nat_lt, not, true, Bool, List, ◌∷◌, [], ◌++◌, filter, AllPairs, Contains, IsTrue}
+use Rattle.std.specs.Prelude.{◌≡◌, ◌≢◌, ℕ, ◌+◌, ◌*◌, ◌^◌, ◌<◌, ◌≤◌, ◌⊎◌, ◌&&◌, ◌||◌, max, min, nat_le, nat_lt, not, true, Bool, List, filter, AllPairs, Contains, IsTrue}
 use Rattle.std.specs.List.{Any}
 use Rattle.privilege.specs.Interference.{agree}
 use Rattle.point_set.specs.declared.rect.Rect.{Rect}
@@ -22,6 +22,14 @@ abbrev pub HasBlockClash : List Block → Type 0
 HasBlockClash blocks = (b d : Block) × Contains blocks b × Contains blocks d × ShareColumn b d
     × IsTrue (clashes b.claim d.claim)
 
+-- The blocks that records up to a number ask for.
+abbrev pub asked_up_to : ℕ → List Block → List Block
+asked_up_to number blocks = filter (λ (b : Block). nat_le b.claim.record number) blocks
+
+-- Some two of these clash.
+abbrev pub HasClashUpTo : List Block → ℕ → Type 0
+HasClashUpTo blocks number = HasBlockClash (asked_up_to number blocks)
+
 -- The blocks stand in the order of the fields and of the first rows of their claims.
 abbrev pub AreBlocksInOrder : List Block → Type 0
 AreBlocksInOrder blocks = AllPairs (λ (b d : Block). IsBefore b.claim d.claim) blocks
@@ -38,7 +46,8 @@ RowsClash seen d = (b : Block) × Contains seen b × IsTrue (clashes b.claim d.c
 
 -- Whether a claim stands in for another, but for its task: it reaches as far, and no privilege agrees with its own but that of the other.
 abbrev pub covers : Claim → Claim → Bool
-covers c d = share_field c d && (nat_le d.last c.last && (agree c.access d.access || not (agree c.access c.access)))
+covers c d = share_field c d && (nat_le d.last c.last && (agree c.access d.access || not (agree c.access
+    c.access)))
 
 -- Of two different tasks, or of the task of this block, are some whose claims stand in for its claim.
 abbrev pub IsNeedless : List Block → Block → Type 0
@@ -117,9 +126,20 @@ pub record IsInBlock {P : Type 0} (l : LaunchTasks) (r : Requirement P) (field p
   pub fits : y < 2 ^ 32
   pub is : p ≡ x * 2 ^ 32 + y
 
--- The blocks have each point of each set on each field, and each has a column.
+-- A block of a requirement: on one of its fields, and with points of its set alone.
+pub record IsBlockOf {P : Type 0} (points_of : P → List ℕ) (l : LaunchTasks) (r : Requirement P) (b : Block)
+    : Type 0 where
+  pub field : ℕ
+  pub rect : Rect
+  pub has : Contains r.fields.now field
+  pub is : block_of (claim_on l r field) rect ≡ b
+  pub points : (x y : ℕ) → Holds rect x y → Contains (points_of r.set) (x * 2 ^ 32 + y)
+
+-- These are blocks of the requirements, and have each point of each set on each field. Each has a column.
 pub record AreBlocks {P : Type 0} (points_of : P → List ℕ) (l : LaunchTasks) (rs : List (Requirement P))
     (blocks : List Block) : Type 0 where
+  pub sound : (b : Block) → Contains blocks b
+      → (r : Requirement P) × Contains rs r × IsBlockOf points_of l r b
   pub whole : (r : Requirement P) (field p : ℕ) → Contains rs r → Contains r.fields.now field
       → Contains (points_of r.set) p → IsInBlock l r field p blocks
   pub wide : (b : Block) → Contains blocks b → b.x0 ≤ b.x1

@@ -9,7 +9,7 @@ ghost use Rattle.launch_claims.specs.Interference.{AllAgree, InterferesAt, Inter
 
 use crate::claiming::{are_in_first_column, blocks_of, claims_of};
 use crate::first::first_clash;
-use crate::meeting::have_clash;
+use crate::first_block::first_block_clash;
 use crate::pairs::{first_by_pairs, lesser};
 use crate::requirement::{LaunchTasks, Requirement};
 use arena_sets::SetOfRects;
@@ -87,7 +87,7 @@ fn all_agree<P: PointSet + Copy>(reqs: &[Requirement<'_, P>]) -> bool
     }
 }
 
-/// The first number at which requirements of tasks of a launch interfere, whatever columns their sets have. Where no two blocks clash, none interfere. Else all pairs are compared, which takes quadratic time in the requirements of the launch.
+/// The first number at which requirements of tasks of a launch interfere, whatever columns their sets have. It is found as below, but that they claim blocks.
 fn first_on_planes<P: SetOfRects + Copy>(
     alloc: Global,
     launch: &LaunchTasks,
@@ -96,10 +96,13 @@ fn first_on_planes<P: SetOfRects + Copy>(
     ensures { IfOk result (IsLeast (InterferesIn P.points launch.now reqs.now)) }
 {
     let blocks = blocks_of(alloc, launch, reqs)?;
-    if have_clash(alloc, blocks)? {
+    let Some(number) = first_block_clash(alloc, blocks.as_slice())? else {
+        return Ok(None);
+    };
+    if is_late(launch, reqs, number) {
         Ok(first_by_pairs(launch, reqs))
     } else {
-        Ok(None)
+        Ok(Some(number))
     }
 }
 

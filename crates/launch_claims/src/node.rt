@@ -69,7 +69,7 @@ pub(crate) fn has_wide_clash(
 }
 
 /// Adds a block where that is asked.
-fn push_if(blocks: &mut Vec<Block>, block: Block, asked: bool) -> Result<(), Memory>
+pub(crate) fn push_if(blocks: &mut Vec<Block>, block: Block, asked: bool) -> Result<(), Memory>
     ensures { OnOk result (blocks.new.items ≡ blocks.old.items ++ cond asked (block ∷ []) []) }
 {
     if asked {

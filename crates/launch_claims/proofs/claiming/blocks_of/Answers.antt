@@ -24,4 +24,5 @@ loop-req-preserved g c =
     ++ flat_map (λ (field : ℕ). map (block_of (claim_on launch u field)) rs) u.fields.now) c.as_slice.ensures.value) c.loop-req.invariant
 
 pub returns : goal.returns
-returns g c = blocks_all g.P.PointSet.points c.args.launch.now c.args.reqs.now c.loop-req.req-index c.loop-req.blocks.items c.loop-req-test.false c.loop-req.invariant
+returns g c = blocks_all g.P.PointSet.points c.args.launch.now c.args.reqs.now c.loop-req.req-index c.loop-req.blocks.items
+    c.loop-req-test.false c.loop-req.invariant

@@ -25,4 +25,5 @@ loop-req-preserved g c =
     (c.in_ok-push_claims.ensures ∙ ap (λ (rs : List Rect). old ++ claims_by launch u rs) c.as_slice.ensures.value) c.loop-req.invariant
 
 pub returns : goal.returns
-returns g c = claims_all g.P.PointSet.points c.args.launch.now c.args.reqs.now c.loop-req.req-index c.loop-req.claims.items c.loop-req-test.false c.loop-req.invariant
+returns g c = claims_all g.P.PointSet.points c.args.launch.now c.args.reqs.now c.loop-req.req-index c.loop-req.claims.items
+    c.loop-req-test.false c.loop-req.invariant

@@ -13,7 +13,9 @@ loop-launch-preserved g c =
     let reqs = c.args.reqs.now in
     let k = c.loop-launch.launch-index in
     subst (IsLeast (InterferesAt points (take (k + 1) launches) reqs)) (sym c.lesser-first.ensures)
-    (launch_judged points launches reqs c.of_launch.result.now k _ c.loop-launch.first c.in_ok-next.next c.loop-launch-test.true c.of_launch.ensures c.loop-launch.invariant c.in_ok-next.ensures)
+    (launch_judged points launches reqs c.of_launch.result.now k _ c.loop-launch.first c.in_ok-next.next c.loop-launch-test.true
+    c.of_launch.ensures c.loop-launch.invariant c.in_ok-next.ensures)
 
 pub returns : goal.returns
-returns g c = launches_all g.P.PointSet.points c.args.launches.now c.args.reqs.now c.loop-launch.launch-index c.loop-launch.first c.loop-launch-test.false c.loop-launch.invariant
+returns g c = launches_all g.P.PointSet.points c.args.launches.now c.args.reqs.now c.loop-launch.launch-index c.loop-launch.first
+    c.loop-launch-test.false c.loop-launch.invariant

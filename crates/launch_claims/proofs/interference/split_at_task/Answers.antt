@@ -12,12 +12,15 @@ returns g c =
     let t = c.args.task in
     let i = c.partition_point.result in
     let parts : IsParted (λ (r : Requirement g.row.P.Denot). r.task) t reqs i =
-    c.partition_point.ensures.partitioned (λ (r : Requirement g.row.P.Denot). nat_lt r.task t) (always_returns_same _ _ _ (λ a r f called. search rules))
+    c.partition_point.ensures.partitioned (λ (r : Requirement g.row.P.Denot). nat_lt r.task t) (always_returns_same _ _ _
+    (λ a r f called. search rules))
     (IsPartitionedBy-ltb (λ (r : Requirement g.row.P.Denot). r.task) reqs t c.requires) in
     record {
-      below = λ u. subst (λ (xs : List (Requirement g.row.P.Denot)). Contains xs u ↔ (Contains reqs u × (u.task < t))) (sym c.split_at.ensures.front)
+      below = λ u. subst (λ (xs : List (Requirement g.row.P.Denot)). Contains xs u ↔ (Contains reqs u × (u.task < t))) (sym
+          c.split_at.ensures.front)
           (in_front (λ (r : Requirement g.row.P.Denot). r.task) t reqs i parts u);
-      others = λ u. subst (λ (xs : List (Requirement g.row.P.Denot)). Contains xs u ↔ (Contains reqs u × (t ≤ u.task))) (sym c.split_at.ensures.back)
+      others = λ u. subst (λ (xs : List (Requirement g.row.P.Denot)). Contains xs u ↔ (Contains reqs u × (t ≤ u.task))) (sym
+          c.split_at.ensures.back)
           (in_back (λ (r : Requirement g.row.P.Denot). r.task) t reqs i parts u);
       order = subst (IsNonDecreasingBy (λ (r : Requirement g.row.P.Denot). r.task)) (sym c.split_at.ensures.front)
           (IsNonDecreasingBy-take (λ (r : Requirement g.row.P.Denot). r.task) i reqs c.requires);

@@ -18,7 +18,8 @@ returns c = λ seen stand behind.
     let all = seen ++ d ∷ [] in
     let first = c.in_ok-push.ensures.items ∙ ap (λ (bs : List Block). bs ++ d ∷ []) c.new-more.ensures.items in
     let same = c.as_slice-2.ensures.value in
-    let before : ComeBefore c.as_slice-2.result.now d = λ b h. behind b (stand.among b (subst (λ (bs : List Block). Contains bs b) same h)) in
+    let before : ComeBefore c.as_slice-2.result.now d = λ b h. behind b (stand.among b (subst (λ
+    (bs : List Block). Contains bs b) same h)) in
     let more = stand_more kept seen d stand in
     let now : StandFor (c.push.new.self.items ++ c.as_slice-2.result.now) all =
     subst (λ (bs : List Block). StandFor (bs ++ c.as_slice-2.result.now) all) (sym first)

@@ -29,4 +29,5 @@ loop-other-preserved c =
     ]
 
 pub returns : goal.returns
-returns c = yet_all c.args.more.now.items c.args.kept.now c.loop-other.more.items c.args.block.now c.loop-other.other-index c.loop-other-test.false c.loop-other.invariant
+returns c = yet_all c.args.more.now.items c.args.kept.now c.loop-other.more.items c.args.block.now c.loop-other.other-index
+    c.loop-other-test.false c.loop-other.invariant

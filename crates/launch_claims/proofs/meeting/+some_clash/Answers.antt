@@ -1,7 +1,6 @@
-use Rattle.std.proofs.Common.{◌↔◌, ◌+◌, ◌-◌, ◌/◌, IsTrue, List, refl, sym, subst, ◌∙◌, arith}
+use Rattle.std.proofs.Common.{◌↔◌, ◌+◌, ◌-◌, ◌/◌, IsTrue, refl, ◌∙◌, arith}
 use Rattle.std.proofs.lemmas.Bool.{both_ways}
 use Rattle.std.proofs.lemmas.Result.{IfOk-weaker}
-use Rattle.launch_claims.specs.declared.block.Block.{Block}
 use Rattle.launch_claims.specs.Blocks.{HasClashIn, HasWideClash}
 use Rattle.launch_claims.proofs.Halving.{in_half, left_inside, left_order, left_within, right_inside, right_order, right_within, wide_within}
 use Rattle.launch_claims.proofs.meeting.+some_clash.Goals as goal
@@ -68,7 +67,8 @@ returns t c =
     let right = c.as_slice-2.result.now in
     let l = c.as_slice.ensures.value ∙ c.in_ok-left.ensures in
     let r = c.as_slice-2.ensures.value ∙ c.in_ok-right.ensures in
-    let none = λ (h : HasWideClash lo hi blocks). both_ways c.in_ok-has_wide_clash.field-0 c.if-branch.false (c.in_ok-has_wide_clash.ensures.1 h) in
+    let none = λ (h : HasWideClash lo hi blocks). both_ways c.in_ok-has_wide_clash.field-0 c.if-branch.false
+    (c.in_ok-has_wide_clash.ensures.1 h) in
     let not_left = λ (h : HasClashIn lo (lo + (hi - lo) / 2) left). both_ways _ c.if-clash.false (c.in_ok-clash.ensures.1 h) in
     IfOk-weaker c.some_clash-2.result (λ told. IsTrue told ↔ HasClashIn (lo + (hi - lo) / 2 + 1) hi right)
     (λ told. IsTrue told ↔ HasClashIn lo hi blocks)

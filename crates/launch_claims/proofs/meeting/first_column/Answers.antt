@@ -7,7 +7,8 @@ use Rattle.launch_claims.proofs.meeting.first_column.Goals as goal
 
 pub loop-block-preserved : goal.loop-block-preserved
 loop-block-preserved c = λ b h.
-    let le = first_more c.args.blocks.now c.loop-block.block-index c.loop-block.first no_block c.loop-block-test.true c.loop-block.invariant b h in
+    let le = first_more c.args.blocks.now c.loop-block.block-index c.loop-block.first no_block c.loop-block-test.true
+    c.loop-block.invariant b h in
     let is = c.min-first.ensures in
     omega arith
 

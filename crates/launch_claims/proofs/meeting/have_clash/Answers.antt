@@ -13,7 +13,8 @@ returns-then-hi-lo c =
     let high = λ (b : Block) (h : Contains c.sort.new.blocks.items b).
     c.last_column-hi.ensures b (subst (λ (bs : List Block). Contains bs b) (sym c.as_slice-2.ensures.value) h) in (
       λ e. absurd (false≢true e),
-      λ h. absurd (none_there c.first_column-lo.result c.last_column-hi.result c.args.blocks.items c.sort.new.blocks.items c.sort.ensures.blocks
+      λ h. absurd (none_there c.first_column-lo.result c.last_column-hi.result c.args.blocks.items c.sort.new.blocks.items
+          c.sort.ensures.blocks
           c.requires low high c.if-hi-lo.true h),
     )
 
@@ -39,7 +40,8 @@ returns c =
     let high = λ (d : Block) (m : Contains c.sort.new.blocks.items d).
     c.last_column-hi.ensures d (subst (λ (bs : List Block). Contains bs d) (sym c.as_slice-2.ensures.value) m) in
     let all = all_columns lo hi blocks c.sort.new.blocks.items c.sort.ensures.blocks low high in
-    IfOk-weaker c.some_clash.result (λ told. IsTrue told ↔ HasClashIn lo hi c.as_slice-3.result.now) (λ told. IsTrue told ↔ HasBlockClash blocks)
+    IfOk-weaker c.some_clash.result (λ told. IsTrue told ↔ HasClashIn lo hi c.as_slice-3.result.now)
+    (λ told. IsTrue told ↔ HasBlockClash blocks)
     (λ told h.
     let k = subst (λ (bs : List Block). IsTrue told ↔ HasClashIn lo hi bs) c.as_slice-3.ensures.value h in
     (λ found. all.0 (k.0 found), λ clash. k.1 (all.1 clash))) c.some_clash.ensures

@@ -1,6 +1,6 @@
 use Rattle.std.proofs.Common.{refl}
 use Rattle.std.proofs.lemmas.Bool.{both_ways}
-use Rattle.launch_claims.proofs.Nodes.{comes_behind, no_block, none_seen, pass_done, pass_found, pass_more}
+use Rattle.launch_claims.proofs.Nodes.{comes_behind, no_block, pass_done, pass_found, pass_more}
 use Rattle.launch_claims.proofs.node.has_wide_clash.Goals as goal
 
 pub returns-then-clashes_next : goal.returns-then-clashes_next
@@ -23,4 +23,5 @@ loop-block-preserved c =
     (c.in_ok-seen.ensures _ c.loop-block.invariant behind (λ w. both_ways c.clashes_next.result c.if-clashes_next.false (told.1 w)))
 
 pub returns : goal.returns
-returns c = pass_done c.args.lo c.args.hi c.loop-block.seen c.args.blocks.now c.loop-block.block-index c.loop-block-test.false c.loop-block.invariant
+returns c = pass_done c.args.lo c.args.hi c.loop-block.seen c.args.blocks.now c.loop-block.block-index c.loop-block-test.false
+    c.loop-block.invariant

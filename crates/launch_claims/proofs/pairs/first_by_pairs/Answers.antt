@@ -18,10 +18,13 @@ loop-req-preserved g c =
     elim c.if-interferes_with_some.branch [
       | then-interferes_with_some w ↦ subst (IsLeast (AmongPairs points l (take (k + 1) reqs) reqs))
           (sym (w.first-is ∙ ap (λ (m : ℕ). Some m) w.least_with.ensures))
-          (pairs_found points l reqs k c.req-item.result c.loop-req.first c.interferes_with_some.result within c.req-item.is c.interferes_with_some.ensures w.if-interferes_with_some.true so_far)
+          (pairs_found points l reqs k c.req-item.result c.loop-req.first c.interferes_with_some.result within c.req-item.is
+          c.interferes_with_some.ensures w.if-interferes_with_some.true so_far)
       | else-interferes_with_some w ↦ subst (IsLeast (AmongPairs points l (take (k + 1) reqs) reqs)) (sym w.first-is)
-          (pairs_passed points l reqs k c.req-item.result c.loop-req.first c.interferes_with_some.result within c.req-item.is c.interferes_with_some.ensures w.if-interferes_with_some.false so_far)
+          (pairs_passed points l reqs k c.req-item.result c.loop-req.first c.interferes_with_some.result within c.req-item.is
+          c.interferes_with_some.ensures w.if-interferes_with_some.false so_far)
     ]
 
 pub returns : goal.returns
-returns g c = pairs_all g.P.PointSet.points c.args.launch.now c.args.reqs.now c.loop-req.req-index c.loop-req.first c.loop-req-test.false c.loop-req.invariant
+returns g c = pairs_all g.P.PointSet.points c.args.launch.now c.args.reqs.now c.loop-req.req-index c.loop-req.first
+    c.loop-req-test.false c.loop-req.invariant
