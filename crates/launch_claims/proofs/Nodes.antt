@@ -1,5 +1,6 @@
 -- One pass over the blocks of some columns.
 use Rattle.std.proofs.Common.{◌≡◌, ◌↔◌, ℕ, ◌+◌, ◌<◌, ◌≤◌, Bool, true, false, List, [], ◌∷◌, ◌++◌, ◌⊎◌, Contains, IsTrue, filter, length, get_or, take, refl, sym, subst, ◌∙◌, inl, inr, arith, append-nil}
+use Rattle.std.specs.List.{Any}
 use Rattle.std.proofs.lemmas.Bool.{both_ways}
 use Rattle.std.proofs.lemmas.List.{get_or_default, get_or-take, length-take, take_all, take_more}
 use Rattle.std.proofs.lemmas.List.Elements.{Contains-get_or, Contains-push_cases, filter-append}
@@ -102,6 +103,18 @@ narrow_seen lo hi s t blocks d nay any same seen behind apart =
     }
 
 -- ---- the whole pass
+
+pub none_spans : (lo hi : ℕ) (blocks : List Block) (some : Bool) → (IsTrue some ↔ Any (λ b. IsTrue (spans lo hi b)) blocks) → some ≡ false
+    → IsTrue false ↔ HasWideClash lo hi blocks
+none_spans lo hi blocks some told none = (
+  λ e. absurd (both_ways false refl e),
+  λ h.
+      let w = h.2 in
+      elim w.2 [
+        | inl so ↦ absurd (both_ways some none (told.1 (w.1.0, w.0, w.1.1, w.1.2, so)))
+        | inr so ↦ absurd (both_ways some none (told.1 (h.1.0, h.0, h.1.1, h.1.2, so)))
+      ],
+)
 
 none_stand : StandFor [] []
 none_stand = record { among = λ b h. h; told = λ d behind some. some }

@@ -46,8 +46,8 @@ RowsClash seen d = (b : Block) × Contains seen b × IsTrue (clashes b.claim d.c
 
 -- Whether a claim stands in for another, but for its task: it reaches as far, and no privilege agrees with its own but that of the other.
 abbrev pub covers : Claim → Claim → Bool
-covers c d = share_field c d && (nat_le d.last c.last && (agree c.access d.access || not (agree c.access
-    c.access)))
+covers c d = share_field c d && (nat_le d.last c.last
+    && (agree c.access d.access || not (agree c.access c.access)))
 
 -- Of two different tasks, or of the task of this block, are some whose claims stand in for its claim.
 abbrev pub IsNeedless : List Block → Block → Type 0

@@ -1,8 +1,9 @@
 //! The blocks that have one of some columns, in order.
 
 ghost use Rattle.std.specs.Prelude.{◌≡◌, ◌↔◌, ◌++◌, ◌∷◌, [], List, cond, filter, IfOk, IsTrue, OnOk};
+ghost use Rattle.std.specs.List.{Any};
 ghost use Rattle.launch_claims.specs.declared.block.Block.{Block};
-ghost use Rattle.launch_claims.specs.Blocks.{AreBlocksInOrder, ComeBefore, HasWideClash, IsSeen, WideClash, goes_left, goes_right};
+ghost use Rattle.launch_claims.specs.Blocks.{AreBlocksInOrder, ComeBefore, HasWideClash, IsSeen, WideClash, goes_left, goes_right, spans};
 
 use crate::block::{Block, goes_left, goes_right, spans};
 use crate::kept::{keep, rows_clash};
@@ -45,7 +46,14 @@ fn with_next(alloc: Global, seen: Seen, block: &Block, lo: u32, hi: u32) -> Resu
     }
 }
 
-/// Whether some two blocks clash, of which one has all of these columns. One pass.
+/// Whether some block has all of some columns.
+fn some_spans(blocks: &[Block], lo: u32, hi: u32) -> bool
+    ensures { IsTrue result ↔ Any (λ b. IsTrue (spans lo hi b)) blocks.now }
+{
+    blocks.iter().any(|block| spans(block, lo, hi))
+}
+
+/// Whether some two blocks clash, of which one has all of these columns. One pass, if there is such a block.
 pub(crate) fn has_wide_clash(
     alloc: Global,
     blocks: &[Block],
@@ -55,6 +63,9 @@ pub(crate) fn has_wide_clash(
     requires { AreBlocksInOrder blocks.now }
     ensures { IfOk result (λ told. IsTrue told ↔ HasWideClash lo hi blocks.now) }
 {
+    if !some_spans(blocks, lo, hi) {
+        return Ok(false);
+    }
     let mut seen = Seen {
         any: Vec::new(alloc),
         wide: Vec::new(alloc),

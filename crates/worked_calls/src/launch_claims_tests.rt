@@ -197,10 +197,22 @@ fn launch() -> LaunchTasks {
 fn first_interferences_are_told(rt: HostRuntime) -> Result<(), Fail> {
     let set = RunSet::over(&[(0, 3), (8, 9)]).ok_or("runs in order")?;
     for (one, other, first) in [
-        (requirement(set, 4, 5, 1), requirement(set, 5, 7, 1), Some(7)),
-        (requirement(set, 4, 2, 1), requirement(set, 5, 7, 1), Some(7)),
+        (
+            requirement(set, 4, 5, 1),
+            requirement(set, 5, 7, 1),
+            Some(7),
+        ),
+        (
+            requirement(set, 4, 2, 1),
+            requirement(set, 5, 7, 1),
+            Some(7),
+        ),
         (requirement(set, 4, 2, 1), requirement(set, 5, 1, 0), None),
-        (requirement(set, 4, 5, 6), requirement(set, 5, 7, 1), Some(7)),
+        (
+            requirement(set, 4, 5, 6),
+            requirement(set, 5, 7, 1),
+            Some(7),
+        ),
         (requirement(set, 4, 5, 8), requirement(set, 5, 7, 1), None),
         (requirement(set, 4, 5, 1), requirement(set, 4, 7, 1), None),
         (requirement(set, 4, 5, 1), requirement(set, 6, 7, 1), None),
@@ -213,25 +225,38 @@ fn first_interferences_are_told(rt: HostRuntime) -> Result<(), Fail> {
     Ok(())
 }
 
-/// The rows from 3 to 5 of these columns.
-const BLOCKS: [[Rect; 1]; 3] = [
-    [Rect { x0: 0, x1: 9, y0: 3, y1: 5 }],
-    [Rect { x0: 9, x1: 12, y0: 3, y1: 5 }],
-    [Rect { x0: 10, x1: 12, y0: 3, y1: 5 }],
-];
+/// The rows from 3 to 5 of some columns.
+fn rows(x0: u32, x1: u32) -> Rect {
+    Rect {
+        x0,
+        x1,
+        y0: 3,
+        y1: 5,
+    }
+}
+
+/// The first record at which requirements of two tasks interfere, the second of which is for these points.
+fn met<'a>(alloc: Global, ours: &'a [Rect], theirs: &'a [Rect]) -> Result<Option<u32>, Fail> {
+    let one = RectSet::over(ours).ok_or("in bands")?;
+    let other = RectSet::over(theirs).ok_or("in bands")?;
+    let reqs = [requirement(one, 4, 5, 1), requirement(other, 5, 7, 1)];
+    match first_interference(alloc, [launch()].as_slice(), reqs.as_slice()) {
+        Ok(found) => Ok(found),
+        Err(_) => Err("no memory".into()),
+    }
+}
 
 #[test]
 fn planes_are_told_apart(rt: HostRuntime) -> Result<(), Fail> {
-    let [one, other, beside] = &BLOCKS;
-    let one = RectSet::over(one).ok_or("in bands")?;
-    let other = RectSet::over(other).ok_or("in bands")?;
-    let beside = RectSet::over(beside).ok_or("in bands")?;
-    for (theirs, first) in [(other, Some(7)), (beside, None)] {
-        let reqs = [requirement(one, 4, 5, 1), requirement(theirs, 5, 7, 1)];
-        match first_interference(rt.alloc(), [launch()].as_slice(), reqs.as_slice()) {
-            Ok(found) => assert_eq!(rt; found, first),
-            Err(_) => return Err("no memory".into()),
-        }
+    let ours = [rows(0, 9)];
+    for (x0, x1, first) in [
+        (9, 12, Some(7)),
+        (10, 12, None),
+        (4, 4, Some(7)),
+        (0, 99, Some(7)),
+    ] {
+        let theirs = [rows(x0, x1)];
+        assert_eq!(rt; met(rt.alloc(), ours.as_slice(), theirs.as_slice())?, first);
     }
     Ok(())
 }

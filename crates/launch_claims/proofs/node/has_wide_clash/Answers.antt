@@ -1,6 +1,6 @@
 use Rattle.std.proofs.Common.{refl}
 use Rattle.std.proofs.lemmas.Bool.{both_ways}
-use Rattle.launch_claims.proofs.Nodes.{comes_behind, no_block, pass_done, pass_found, pass_more}
+use Rattle.launch_claims.proofs.Nodes.{comes_behind, no_block, none_spans, pass_done, pass_found, pass_more}
 use Rattle.launch_claims.proofs.node.has_wide_clash.Goals as goal
 
 pub returns-then-clashes_next : goal.returns-then-clashes_next
@@ -25,3 +25,6 @@ loop-block-preserved c =
 pub returns : goal.returns
 returns c = pass_done c.args.lo c.args.hi c.loop-block.seen c.args.blocks.now c.loop-block.block-index c.loop-block-test.false
     c.loop-block.invariant
+
+pub returns-then-not-some_spans : goal.returns-then-not-some_spans
+returns-then-not-some_spans c = none_spans c.args.lo c.args.hi c.args.blocks.now c.some_spans.result c.some_spans.ensures c.if-not-some_spans.true
