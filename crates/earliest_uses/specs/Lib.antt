@@ -1,0 +1,4 @@
+pub mod Earlier
+pub mod Visits
+pub use Rattle.privilege.specs.Interference
+pub use Rattle.semantics.specs.Points

@@ -1,0 +1,16 @@
+//! Of the uses of each place, those that are earliest in serial order.
+//!
+//! `EarliestUses` keeps for each place a few serial positions, however many uses it has: that of the earliest
+//! use, and that of the earliest one which does not agree with it, of all uses and of the exclusive ones
+//! alone. They tell of any further use exactly whether some use that may not change places with it is
+//! earlier. Begin with `uses.rt`.
+#![tactic(auto)]
+
+mod earliest;
+mod first_two;
+mod place_uses;
+mod serial_use;
+mod uses;
+
+pub use serial_use::SerialUse;
+pub use uses::EarliestUses;
