@@ -14,7 +14,7 @@ use Rattle.item_uses.proofs.lemmas.Growing.{usages_length, usages_is}
 use Rattle.interference.specs.Pairing.{pair_of, all_pairs, no_place, row, rows, left}
 use Rattle.interference.proofs.Rows.{meeting, rows_step}
 
-kind_at_two : (t : Tables) (a b : ℕ) → a < length t.items → b < length t.items
+pub kind_at_two : (t : Tables) (a b : ℕ) → a < length t.items → b < length t.items
     → kind_between (usages_at (usages t) a) (usages_at (usages t) b) ≡ item_kind t a b
 kind_at_two t a b la lb = ap (λ u. kind_between u (usages_at (usages t) b)) (usages_is t a la)
     ∙ ap (kind_between (usages_of t a)) (usages_is t b lb) ∙ sym (kind_is t a b)

@@ -2,3 +2,4 @@ pub mod lemmas
 mod AllPairs
 mod Answering
 mod Rows
+mod Skipping

@@ -13,5 +13,5 @@ pub fn pairs<'l, 'a, P: ArenaSet<'a>>(log: &'l Log<'a, P>) -> Pairs<'l, 'a, P>
     ensures { result ≡ all_pairs log.now }
 {
     let search = Search::of(log, None);
-    Pairs::of(&search)
+    Pairs::of(&search, 0)
 }

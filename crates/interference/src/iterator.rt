@@ -1,6 +1,6 @@
 //! The pairs of items that interfere, one after the other.
 
-ghost use Rattle.std.specs.Prelude.{◌≡◌, ◌≤◌, [], IfNone, IfSome};
+ghost use Rattle.std.specs.Prelude.{◌≡◌, ◌≤◌, ◌<◌, ◌+◌, ◌-◌, ◌^◌, [], IfNone, IfSome};
 ghost use Rattle.std.specs.Iterator.{YieldsFirst, item_count};
 ghost use Rattle.interference.specs.Pairing.{asked_of, left, StartsLeft};
 ghost use Rattle.interference.specs.Remembering.{AreRight};
@@ -131,10 +131,11 @@ impl<'l, 'a, P: PointSet + Copy> Pairs<'l, 'a, P> {
         })
     }
 
-    /// The pairs of a search.
-    pub(crate) fn of(search: &Search<'l, 'a, P>) -> Pairs<'l, 'a, P>
-        requires { IsSearch search.now }
-        ensures { result ≡ left (asked_of search.now.asked) search.now.items.now 0 1 }
+    /// The pairs of a search whose first item is one or a later one.
+    pub(crate) fn of(search: &Search<'l, 'a, P>, a: usize) -> Pairs<'l, 'a, P>
+        requires search { IsSearch search.now }
+        requires few { a < 2 ^ 64 - 1 }
+        ensures { result ≡ left (asked_of search.now.asked) search.now.items.now a (a + 1) }
     {
         Pairs {
             search: Search {
@@ -144,8 +145,8 @@ impl<'l, 'a, P: PointSet + Copy> Pairs<'l, 'a, P> {
                 representatives: search.representatives,
             },
             memory: Recent::new(search.items.len()),
-            a: 0,
-            from: 1,
+            a,
+            from: a + 1,
         }
     }
 }

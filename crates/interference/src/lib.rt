@@ -2,8 +2,9 @@
 //!
 //! `pairs` goes over exactly the pairs of items that interfere, in order, each with its kind and its least
 //! place. `serial_ok` says whether the serial order that a log lists keeps program order where it has to, or
-//! shows the first pair that does not, and `task_pair_count` counts the pairs of tasks. Whole blocks of
-//! items are passed over by bounds, and items that ask for the same are judged once. Begin with `all.rt` and
+//! shows the first pair that does not, which it looks for only from the item on that `serial_scan` gives, and
+//! `task_pair_count` counts the pairs of tasks. Whole blocks of items are passed over by bounds, and items
+//! that ask for the same are judged once. Begin with `all.rt` and
 //! `iterator.rt`.
 #![tactic(auto)]
 

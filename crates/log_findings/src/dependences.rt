@@ -66,7 +66,7 @@ pub fn deps_finding<'a, P: ArenaSet<'a>>(alloc: Global, log: &Log<'a, P>) -> Res
     ensures found { IfOk result (IsFoundOf Deps log.now) }
     ensures text { IfOk result texts.Good }
 {
-    match serial_fault(log) {
+    match serial_fault(alloc, log) {
         Some(fault) => Ok(fault_found(fault.line, fault.code)),
         None => dependences_found(alloc, log),
     }

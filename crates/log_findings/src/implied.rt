@@ -101,7 +101,7 @@ pub fn spare_finding<'a, P: ArenaSet<'a>>(
     ensures found { IfOk result (IsFoundOf Spare log.now) }
     ensures text { IfOk result texts.Good }
 {
-    match serial_fault(log) {
+    match serial_fault(alloc, log) {
         Some(fault) => Ok(fault_found(fault.line, fault.code)),
         None => implied_found(alloc, log),
     }

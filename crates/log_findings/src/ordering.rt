@@ -72,7 +72,7 @@ pub fn ordered_finding<'a, P: ArenaSet<'a>>(
     ensures found { IfOk result (IsFoundOf Ordered log.now) }
     ensures text { IfOk result texts.Good }
 {
-    match serial_fault(log) {
+    match serial_fault(alloc, log) {
         Some(fault) => Ok(fault_found(fault.line, fault.code)),
         None => order_found(alloc, log),
     }

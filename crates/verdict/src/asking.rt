@@ -47,7 +47,7 @@ pub(crate) fn why_in<'a, P: ArenaSet<'a>>(
     ensures found { IfOk result (IsFoundOf (Why ask.now) log.entry) }
     ensures text { IfOk result texts.Good }
 {
-    match Declared::of(log) {
+    match Declared::of(alloc, log) {
         Ok(declared) => read_found(alloc, declared, ask),
         Err(Stop::Found(finding)) => Ok(finding),
         Err(Stop::Memory) => Err(Memory),

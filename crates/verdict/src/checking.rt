@@ -75,7 +75,7 @@ pub(crate) fn check_in<'a, P: ArenaSet<'a>>(
     ensures found { IfOk result (IsFoundOf Check log.entry) }
     ensures text { IfOk result texts.Good }
 {
-    match Declared::of(log) {
+    match Declared::of(alloc, log) {
         Ok(declared) => run_found(alloc, declared),
         Err(Stop::Found(finding)) => Ok(finding),
         Err(Stop::Memory) => Err(Memory),

@@ -39,10 +39,10 @@ impl<'a, P: PointSet + Copy> Model for Declared<'a, P> {
 }
 
 /// The fault that `check` shows of a log's tables.
-fn table_fault<'a, P: ArenaSet<'a>>(log: &Log<'a, P>) -> Option<Fault>
+fn table_fault<'a, P: ArenaSet<'a>>(alloc: Global, log: &Log<'a, P>) -> Option<Fault>
     ensures { result ≡ faults.table_fault Check log.now }
 {
-    if let Some(fault) = serial_fault(log) {
+    if let Some(fault) = serial_fault(alloc, log) {
         return Some(fault);
     }
     match log.mapped() {
@@ -55,14 +55,14 @@ fn table_fault<'a, P: ArenaSet<'a>>(log: &Log<'a, P>) -> Option<Fault>
 }
 
 impl<'a, P: ArenaSet<'a>> Declared<'a, P> {
-    /// The log, if its serial order and its maps have no fault. No memory is taken.
-    pub fn of(log: Log<'a, P>) -> Result<Declared<'a, P>, Stop>
+    /// The log, if its serial order and its maps have no fault. It does not fail where memory runs out.
+    pub fn of(alloc: Global, log: Log<'a, P>) -> Result<Declared<'a, P>, Stop>
         ensures declared { IfOk result (λ d. d ≡ log.entry) }
         ensures keeps { OnOk result (faults.table_fault Check log.entry ≡ None) }
         ensures fault { IfErr result (IsStop (FindsFault log.entry)) }
         ensures no_memory { IfErr result (λ stop. stop ≢ Stop.Memory) }
     {
-        match table_fault(&log) {
+        match table_fault(alloc, &log) {
             None => Ok(Declared { log }),
             Some(fault) => {
                 log.let_go();

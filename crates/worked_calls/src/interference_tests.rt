@@ -24,7 +24,11 @@ const PAIRS: [(usize, usize, Kind, (u32, u64, u32)); 4] = [
 ];
 
 /// Asks for all of the log.
-fn ask<'a, 's, P: ArenaSet<'a>>(rt: &impl Abort, log: &Log<'a, P>) -> Result<(), &'s str> {
+fn ask<'a, 's, P: ArenaSet<'a>>(
+    rt: &impl Abort,
+    alloc: Global,
+    log: &Log<'a, P>,
+) -> Result<(), &'s str> {
     let mut found = pairs(log);
     for want in &PAIRS {
         let pair = found.next().ok_or("too few pairs")?;
@@ -34,7 +38,7 @@ fn ask<'a, 's, P: ArenaSet<'a>>(rt: &impl Abort, log: &Log<'a, P>) -> Result<(),
     assert!(rt; found.next().is_none());
     let stretch = pairs(log).next_stretch().ok_or("no stretch")?;
     assert_eq!(rt; (stretch.a, stretch.from, stretch.to), (0, 2, 3));
-    let broken = serial_ok(log)
+    let broken = serial_ok(alloc, log)
         .err()
         .ok_or("no pair against the serial order")?;
     assert_eq!(rt; (broken.a, broken.b), (0, 2));
@@ -52,7 +56,7 @@ fn ask_over<'a, P: ArenaSet<'a> + 'a>(
     bump: &'a Bump,
 ) -> Result<(), Fail> {
     let log = log_of::<P>(alloc, bump, RECORDS, 5)?;
-    let asked = ask(rt, &log);
+    let asked = ask(rt, alloc, &log);
     log.let_go();
     Ok(asked?)
 }

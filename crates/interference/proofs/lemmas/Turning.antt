@@ -82,7 +82,7 @@ find_same p q (x ∷ xs) h =
           rw (h x (inl refl) ∙ f, f) (find_same p q xs (λ y m. h y (inr m)))
     ]
 
-find_none : {X : Type 0} (p : X → Bool) (xs : List X) → ((x : X) → Member xs x → p x ≡ false) → find p xs ≡ None
+pub find_none : {X : Type 0} (p : X → Bool) (xs : List X) → ((x : X) → Member xs x → p x ≡ false) → find p xs ≡ None
 find_none p [] h = refl
 find_none p (x ∷ xs) h = rw (h x (inl refl)) (find_none p xs (λ y m. h y (inr m)))
 
