@@ -3,7 +3,6 @@
 use crate::framed_logs::log_of;
 use atoms::Atoms;
 use bumpalo::Bump;
-use point_set::RunSet;
 use std::test::Fail;
 
 /// The first points of the atoms, and the last: of spaces that overlap, of runs with a hole, and of one space within another.
@@ -22,7 +21,7 @@ const SPANS: [(u64, u64); 8] = [
 fn atoms_of_a_log(rt: HostRuntime) -> Result<(), Fail> {
     let alloc = rt.alloc();
     let bump = Bump::new(alloc);
-    let log = log_of::<RunSet>(alloc, &bump, b"ispace 6 20-25,30\nispace 7 22\n", 0)?;
+    let log = log_of(alloc, &bump, b"ispace 6 20-25,30\nispace 7 22\n", 0)?;
     let built = Atoms::build(alloc, log.space_sets());
     log.let_go();
     let atoms = built.ok().ok_or("no memory")?;

@@ -5,7 +5,6 @@ use bumpalo::Bump;
 use cut_logs::{CutLog, Listed};
 use inst_steps::{Store, actions_of, steps_of};
 use point_set::{PointList, PointSet, RunSet, points_in};
-use region_tree::ArenaSet;
 use semantics::Cell;
 use std::alloc::Global;
 use std::process::Abort;
@@ -91,8 +90,8 @@ fn has_points<P: PointSet + Copy>(
 }
 
 /// Whether a log has all of its points, and one that is cut has those that are listed.
-fn is_as_wanted<'a, P: ArenaSet<'a> + 'a>(alloc: Global, bump: &'a Bump) -> Result<bool, Fail> {
-    let log = log_of::<P>(alloc, bump, RECORDS, 1)?;
+fn is_as_wanted<'a>(alloc: Global, bump: &'a Bump) -> Result<bool, Fail> {
+    let log = log_of(alloc, bump, RECORDS, 1)?;
     let all = has_points(alloc, &CutLog::whole(&log), 5, 10, true);
     let some = has_points(alloc, &CutLog::at(&log, &[0, 4, 7]), 2, 4, false);
     log.let_go();
@@ -102,7 +101,6 @@ fn is_as_wanted<'a, P: ArenaSet<'a> + 'a>(alloc: Global, bump: &'a Bump) -> Resu
 #[test]
 fn logs_at_listed_points(rt: HostRuntime) -> Result<(), Fail> {
     let bump = Bump::new(rt.alloc());
-    assert!(rt; is_as_wanted::<PointList>(rt.alloc(), &bump)?, "lists");
-    assert!(rt; is_as_wanted::<RunSet>(rt.alloc(), &bump)?, "runs");
+    assert!(rt; is_as_wanted(rt.alloc(), &bump)?);
     Ok(())
 }

@@ -3,7 +3,7 @@
 use bumpalo::Bump;
 use log_decl::{Log, declare};
 use log_reading::input_in;
-use region_tree::ArenaSet;
+use point_set::RunSet;
 use std::alloc::Global;
 use std::test::Fail;
 
@@ -30,17 +30,17 @@ pub fn framed(alloc: Global, records: &[u8], tasks: u32) -> Result<Vec<u8>, Fail
 }
 
 /// The log of such records.
-pub fn log_of<'a, P: ArenaSet<'a> + 'a>(
+pub fn log_of<'a>(
     alloc: Global,
     bump: &'a Bump,
     records: &[u8],
     tasks: u32,
-) -> Result<Log<'a, P>, Fail> {
+) -> Result<Log<'a, RunSet<'a>>, Fail> {
     let text = framed(alloc, records, tasks)?;
     let Ok(input) = input_in(alloc, text) else {
         return Err("a text that spells no records".into());
     };
-    match declare::<P>(alloc, bump, &input.records, input.lines) {
+    match declare::<RunSet<'a>>(alloc, bump, &input.records, input.lines) {
         Ok(log) => Ok(log),
         Err(_) => Err("a log with a fault".into()),
     }

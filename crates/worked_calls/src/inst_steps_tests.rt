@@ -8,9 +8,8 @@ use crate::framed_logs::log_of;
 use bumpalo::Bump;
 use inst_steps::{Store, steps};
 use log_decl::Log;
-use point_set::{PointList, PointSet, RunSet};
+use point_set::PointSet;
 use privilege::Priv;
-use region_tree::ArenaSet;
 use semantics::Cell;
 use std::alloc::Global;
 use std::test::Fail;
@@ -116,8 +115,8 @@ fn starts<P: PointSet + Copy>(alloc: Global, log: &Log<'_, P>) -> bool {
 }
 
 /// Whether the log has moves, and its instances hold what they should.
-fn is_as_wanted<'a, P: ArenaSet<'a> + 'a>(alloc: Global, bump: &'a Bump) -> Result<bool, Fail> {
-    let log = log_of::<P>(alloc, bump, RECORDS, 1)?;
+fn is_as_wanted<'a>(alloc: Global, bump: &'a Bump) -> Result<bool, Fail> {
+    let log = log_of(alloc, bump, RECORDS, 1)?;
     let moves = log.nodes().len() > 0 && steps(&log, 0).next().is_some();
     let stores = starts_on(alloc, &log) && starts(alloc, &log);
     log.let_go();
@@ -127,7 +126,6 @@ fn is_as_wanted<'a, P: ArenaSet<'a> + 'a>(alloc: Global, bump: &'a Bump) -> Resu
 #[test]
 fn stores_of_a_log(rt: HostRuntime) -> Result<(), Fail> {
     let bump = Bump::new(rt.alloc());
-    assert!(rt; is_as_wanted::<PointList>(rt.alloc(), &bump)?, "lists");
-    assert!(rt; is_as_wanted::<RunSet>(rt.alloc(), &bump)?, "runs");
+    assert!(rt; is_as_wanted(rt.alloc(), &bump)?);
     Ok(())
 }

@@ -4,7 +4,6 @@ use crate::framed_logs::log_of;
 use bumpalo::Bump;
 use interference::{pairs, serial_ok, task_pair_count};
 use log_decl::Log;
-use point_set::{PointList, RunSet};
 use privilege::Kind;
 use region_tree::ArenaSet;
 use std::alloc::Global;
@@ -49,22 +48,11 @@ fn ask<'a, 's, P: ArenaSet<'a>>(
     Ok(())
 }
 
-/// Asks for all of the log over one kind of sets.
-fn ask_over<'a, P: ArenaSet<'a> + 'a>(
-    rt: &impl Abort,
-    alloc: Global,
-    bump: &'a Bump,
-) -> Result<(), Fail> {
-    let log = log_of::<P>(alloc, bump, RECORDS, 5)?;
-    let asked = ask(rt, alloc, &log);
-    log.let_go();
-    Ok(asked?)
-}
-
 #[test]
 fn pairs_of_a_log(rt: HostRuntime) -> Result<(), Fail> {
     let bump = Bump::new(rt.alloc());
-    ask_over::<PointList>(&rt, rt.alloc(), &bump)?;
-    ask_over::<RunSet>(&rt, rt.alloc(), &bump)?;
-    Ok(())
+    let log = log_of(rt.alloc(), &bump, RECORDS, 5)?;
+    let asked = ask(&rt, rt.alloc(), &log);
+    log.let_go();
+    Ok(asked?)
 }

@@ -11,7 +11,6 @@ use atoms::Atoms;
 use bumpalo::Bump;
 use event_graph::{Order, nodes_in};
 use log_decl::Log;
-use point_set::RunSet;
 use provenance::{TraceEnd, trace};
 use race_scan::scan;
 use reach_marks::Reach;
@@ -184,7 +183,7 @@ fn links_of_reads(rt: HostRuntime) -> Result<(), Fail> {
     let alloc = rt.alloc();
     for (k, (records, read, found)) in CASES.iter().enumerate() {
         let bump = Bump::new(alloc);
-        let log = log_of::<RunSet>(alloc, &bump, records, 0)?;
+        let log = log_of(alloc, &bump, records, 0)?;
         let asked = ask(alloc, &log, *read, *found);
         log.let_go();
         assert!(&rt; asked?, "case {k}");

@@ -2,7 +2,7 @@
 
 use crate::framed_logs::log_of;
 use bumpalo::Bump;
-use point_set::{PointList, PointSet, RectSet, RunSet};
+use point_set::{PointSet, RunSet};
 use region_tree::{Decls, Forest, ForestFault, Part, Space, Step, Sub, is_forest};
 use std::alloc::Global;
 use std::process::Abort;
@@ -40,31 +40,13 @@ fn ask_forest<P: PointSet>(
     Ok(())
 }
 
-/// Asks the forest over runs.
-fn ask_runs<'a>(rt: &impl Abort, alloc: Global, arena: &'a Bump) -> Result<(), Fail> {
-    let log = log_of::<RunSet>(alloc, arena, ROW, 0)?;
-    let runs = ask_forest(rt, alloc, &log.forest());
-    log.let_go();
-    Ok(runs?)
-}
-
-/// Asks the forest over rectangles.
-fn ask_rects<'a>(rt: &impl Abort, alloc: Global, arena: &'a Bump) -> Result<(), Fail> {
-    let log = log_of::<RectSet>(alloc, arena, ROW, 0)?;
-    let rects = ask_forest(rt, alloc, &log.forest());
-    log.let_go();
-    Ok(rects?)
-}
-
 #[test]
 fn forests_answer(rt: HostRuntime) -> Result<(), Fail> {
     let arena = Bump::new(rt.alloc());
-    let log = log_of::<PointList>(rt.alloc(), &arena, ROW, 0)?;
-    let lists = ask_forest(&rt, rt.alloc(), &log.forest());
+    let log = log_of(rt.alloc(), &arena, ROW, 0)?;
+    let asked = ask_forest(&rt, rt.alloc(), &log.forest());
     log.let_go();
-    lists?;
-    ask_runs(&rt, rt.alloc(), &arena)?;
-    ask_rects(&rt, rt.alloc(), &arena)
+    Ok(asked?)
 }
 
 /// A space of one run.

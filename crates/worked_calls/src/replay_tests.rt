@@ -15,7 +15,6 @@ use atoms::Atoms;
 use bumpalo::Bump;
 use event_graph::{Order, nodes_in};
 use log_decl::Log;
-use point_set::RunSet;
 use race_scan::{ScanEnd, scan};
 use reach_marks::Reach;
 use region_tree::ArenaSet;
@@ -185,7 +184,7 @@ fn races_and_replays_of_logs(rt: HostRuntime) -> Result<(), Fail> {
     let alloc = rt.alloc();
     for (k, (records, found)) in CASES.iter().enumerate() {
         let bump = Bump::new(alloc);
-        let log = log_of::<RunSet>(alloc, &bump, records, 0)?;
+        let log = log_of(alloc, &bump, records, 0)?;
         let asked = ask(alloc, &log, found);
         log.let_go();
         assert!(&rt; asked?, "case {k}");

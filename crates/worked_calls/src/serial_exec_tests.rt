@@ -3,7 +3,6 @@
 use crate::framed_logs::log_of;
 use crate::values::{Written, value_of};
 use bumpalo::Bump;
-use point_set::RunSet;
 use semantics::Place;
 use serial_exec::Versions;
 use std::alloc::Global;
@@ -54,7 +53,7 @@ fn ask_row(rt: &impl Abort, alloc: Global, versions: &Versions, row: &Row<'_>) -
 fn wanted_values(rt: HostRuntime) -> Result<(), Fail> {
     let alloc = rt.alloc();
     let bump = Bump::new(alloc);
-    let log = log_of::<RunSet>(alloc, &bump, RECORDS, 4)?;
+    let log = log_of(alloc, &bump, RECORDS, 4)?;
     let (all, listed) = (
         Versions::build(alloc, &log),
         Versions::build_on(alloc, &log, &[0, 5]),
