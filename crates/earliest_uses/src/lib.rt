@@ -2,8 +2,8 @@
 //!
 //! `EarliestUses` keeps for each place a few serial positions, however many uses it has: that of the earliest
 //! use, and that of the earliest one which does not agree with it, of all uses and of the exclusive ones
-//! alone. They tell of any further use exactly whether some use that may not change places with it is
-//! earlier. Begin with `uses.rt`.
+//! alone. They bound any further use: none that may not change places with it is earlier than they say. How
+//! close a bound is only costs time, and is not proved. Begin with `uses.rt`.
 #![tactic(auto)]
 
 mod earliest;

@@ -39,7 +39,7 @@ impl EarliestUses {
         }
     }
 
-    /// One use more of a place. It gives the serial position of the earliest use that was there, and may not change places with this one: the greatest number where there is none.
+    /// One use more of a place. It gives a serial position: no use that was there, and may not change places with this one, is earlier.
     fn visit(&mut self, at: Place, one: SerialUse) -> Result<usize, AllocError>
         ensures { IfOk result (IsVisit self.old self.new (λ p. p ≡ at) one) }
     {
@@ -71,7 +71,7 @@ impl EarliestUses {
         Ok(earliest)
     }
 
-    /// One use more of some fields of the points of a set. It gives the serial position of the earliest use that was at some place of these, and may not change places with this one: the greatest number where there is none.
+    /// One use more of some fields of the points of a set. It gives a serial position: no use that was at some place of these, and may not change places with this one, is earlier.
     #[tactic(auto, using(crate::proofs::Visiting::visited_all))]
     pub fn visit_all<P: PointSet>(
         &mut self,

@@ -31,7 +31,7 @@ fn visit_listed<P: PointSet>(
     uses.visit_all(claim.tree, &listed, claim.fields, claim.one)
 }
 
-/// One claim more. It gives the serial position of the earliest use that was at some of its first points, and may not change places with it: the greatest number where there is none.
+/// One claim more. It gives a serial position: no use that was at some of its first points, and may not change places with it, is earlier.
 #[tactic(auto, using(crate::proofs::Scanning::visited_first, crate::proofs::Scanning::unvisited_first))]
 fn visit_claim<'a, P: PointSet + Copy>(
     uses: &mut EarliestUses,
@@ -68,7 +68,7 @@ fn first_with(first: usize, claim: &Claim<'_>, earliest: usize) -> usize
     }
 }
 
-/// The first item that has a claim which is not clear of later ones, and the number of items where there is none. One pass over the claims, from the last item back.
+/// An item, or the number of items, so that the claims of all items before it are clear of later ones. One pass over the claims, from the last item back.
 fn first_unclear<'a, P: PointSet + Copy>(
     alloc: Global,
     log: &Log<'a, P>,
