@@ -1,9 +1,11 @@
 -- What one pass over the rectangles of some columns tells.
-use Rattle.std.proofs.Common.{◌≡◌, ℕ, ◌+◌, ◌<◌, ◌≤◌, ◌⊎◌, max, nat_le, nat_lt, true, false, Bool, List, [], ◌∷◌, inl, inr, refl, subst, arith}
-use Rattle.std.proofs.lemmas.Bool.{cases_Bool, cases_lt, and_parts, or_parts, or_from, leb-true, ltb-false, le-ltb, both_ways}
+use Rattle.std.proofs.Common.{◌≡◌, ℕ, ◌+◌, ◌<◌, ◌≤◌, ◌⊎◌, max, nat_le, nat_lt, true, false, Bool, List, [], ◌∷◌, Some, None, inl, inr, refl, sym, ap, subst, arith}
+use Rattle.std.proofs.lemmas.Bool.{cases_Bool, cases_lt, and_parts, leb-true, ltb-true, ltb-false, lt-ltb, le-ltb, both_ways}
+use Rattle.std.proofs.lemmas.Option.{same_Some}
 use Rattle.point_set.specs.declared.rect.Rect.{Rect}
 use Rattle.overlaps.specs.declared.node.Ends.{Ends}
-use Rattle.overlaps.specs.Meeting.{Each, Pairwise, AreApart, IsNoHigher, IsIn, spans, ends_with, clashes, clashes_from, no_ends}
+use Rattle.overlaps.specs.declared.point.Point.{Point}
+use Rattle.overlaps.specs.Meeting.{Each, Pairwise, AreApartAt, IsNoHigher, IsIn, spans, ends_with, column_with, clashes, clash_from, clash_point, no_ends}
 
 -- where one of two rectangles has all columns, the first ends below the second
 abbrev pub IsBelow : ℕ → ℕ → Rect → Rect → Type 0
@@ -51,34 +53,41 @@ each_next : (lo hi : ℕ) (e : Ends) (r : Rect) (ss : List Rect) → Each (IsAbo
 each_next lo hi e r [] h = tt
 each_next lo hi e r (s ∷ ss) h = (below_next lo hi e r s h.0, each_next lo hi e r ss h.1)
 
-pub none_clash : (lo hi : ℕ) (e : Ends) (rects : List Rect) → e.spanning ≤ e.any → clashes_from lo hi e rects ≡ false
+pub none_clash : (lo hi : ℕ) (e : Ends) (rects : List Rect) → e.spanning ≤ e.any → clash_from lo hi e rects ≡ None
     → Each (IsAbove lo hi e) rects × Pairwise (IsBelow lo hi) rects
 none_clash lo hi e [] le none = (tt, tt)
-none_clash lo hi e (r ∷ rs) le none =
-    let parts = or_parts (clashes lo hi e r) (clashes_from lo hi (ends_with lo hi e r) rs) none in
-    let rest = none_clash lo hi (ends_with lo hi e r) rs (ends_in_order lo hi e r le) parts.1 in
-    ((above_here lo hi e r le parts.0, each_before lo hi e r rs rest.0), (each_next lo hi e r rs rest.0, rest.1))
+none_clash lo hi e (r ∷ rs) le none = elim (cases_Bool (clashes lo hi e r)) [
+  | inl so ↦ absurd (no_some (clash_point lo hi e r) (rw so at none))
+  | inr nay ↦
+      let later : clash_from lo hi (ends_with lo hi e r) rs ≡ None = rw nay at none in
+      let rest = none_clash lo hi (ends_with lo hi e r) rs (ends_in_order lo hi e r le) later in
+      ((above_here lo hi e r le nay, each_before lo hi e r rs rest.0), (each_next lo hi e r rs rest.0, rest.1))
+]
+  where
+    no_some : (p : Point) → Some p ≡ None → ⊥
+    no_some p h = cc
 
 -- ---- A clash.
 
--- some rectangle that ends there begins no higher than these, and is apart from them
-pub record Ended (lo hi : ℕ) (end : ℕ) (wide : Bool) (rects : List Rect) : Type 0 where
+-- some rectangle that ends there begins no higher than these, and is apart from them at the point
+pub record Ended (lo hi : ℕ) (end column : ℕ) (wide : Bool) (p : Point) (rects : List Rect) : Type 0 where
   pub by : Rect
   pub here : by.y1 + 1 ≡ end
+  pub first : wide ≡ false → by.x0 ≡ column
   pub inside : IsIn lo hi by
   pub all : wide ≡ true → spans lo hi by ≡ true
   pub order : Each (IsNoHigher by) rects
-  pub apart : Each (AreApart by) rects
+  pub apart : Each (AreApartAt p by) rects
 
 -- each of both ends is that of some rectangle, or there was none
-pub record AreEnds (lo hi : ℕ) (e : Ends) (rects : List Rect) : Type 0 where
-  pub any : (e.any ≡ 0) ⊎ Ended lo hi e.any false rects
-  pub spanning : (e.spanning ≡ 0) ⊎ Ended lo hi e.spanning true rects
+pub record AreEnds (lo hi : ℕ) (e : Ends) (p : Point) (rects : List Rect) : Type 0 where
+  pub any : (e.any ≡ 0) ⊎ Ended lo hi e.any e.column false p rects
+  pub spanning : (e.spanning ≡ 0) ⊎ Ended lo hi e.spanning 0 true p rects
 
--- two rectangles of some columns, one of which has all of these, share a row
-meet_first : (lo hi : ℕ) (r s : Rect) → lo ≤ hi → IsIn lo hi r → IsIn lo hi s → spans lo hi r ≡ true → r.y0 ≤ s.y0 → s.y0 ≤ r.y1
-    → AreApart r s → ⊥
-meet_first lo hi r s le a b wide low high apart =
+-- two rectangles of some columns, the first of which has all of these, share a point of a row
+meet_first : (lo hi : ℕ) (p : Point) (r s : Rect) → lo ≤ hi → IsIn lo hi r → IsIn lo hi s → spans lo hi r ≡ true
+    → r.y0 ≤ s.y0 → s.y0 ≤ r.y1 → p.x ≡ max s.x0 lo → p.y ≡ s.y0 → AreApartAt p r s → ⊥
+meet_first lo hi p r s le a b wide low high x y apart =
     let w = and_parts (nat_le r.x0 lo) (nat_le hi r.x1) wide in
     let w0 = leb-true _ _ w.0 in
     let w1 = leb-true _ _ w.1 in
@@ -86,12 +95,13 @@ meet_first lo hi r s le a b wide low high apart =
     let s1 = b.ends in
     let s2 = b.wide in
     let s3 = b.tall in
-    apart (max lo s.x0) s.y0 (record { left = omega arith; right = omega arith; low = low; high = high })
-    (record { left = omega arith; right = omega arith; low = omega arith; high = s3 })
+    apart (record { left = omega arith; right = omega arith; low = omega arith; high = omega arith })
+    (record { left = omega arith; right = omega arith; low = omega arith; high = omega arith })
 
-meet_second : (lo hi : ℕ) (r s : Rect) → lo ≤ hi → IsIn lo hi r → IsIn lo hi s → spans lo hi s ≡ true → r.y0 ≤ s.y0 → s.y0 ≤ r.y1
-    → AreApart r s → ⊥
-meet_second lo hi r s le a b wide low high apart =
+-- or the second has
+meet_second : (lo hi : ℕ) (p : Point) (r s : Rect) → lo ≤ hi → IsIn lo hi r → IsIn lo hi s → spans lo hi s ≡ true
+    → r.y0 ≤ s.y0 → s.y0 ≤ r.y1 → p.x ≡ max r.x0 lo → p.y ≡ s.y0 → AreApartAt p r s → ⊥
+meet_second lo hi p r s le a b wide low high x y apart =
     let w = and_parts (nat_le s.x0 lo) (nat_le hi s.x1) wide in
     let w0 = leb-true _ _ w.0 in
     let w1 = leb-true _ _ w.1 in
@@ -99,32 +109,43 @@ meet_second lo hi r s le a b wide low high apart =
     let r1 = a.ends in
     let r2 = a.wide in
     let s3 = b.tall in
-    apart (max lo r.x0) s.y0 (record { left = omega arith; right = omega arith; low = low; high = high })
-    (record { left = omega arith; right = omega arith; low = omega arith; high = s3 })
+    apart (record { left = omega arith; right = omega arith; low = omega arith; high = omega arith })
+    (record { left = omega arith; right = omega arith; low = omega arith; high = omega arith })
 
-no_clash_here : (lo hi : ℕ) (e : Ends) (r : Rect) (rs : List Rect) → lo ≤ hi → AreEnds lo hi e (r ∷ rs) → IsIn lo hi r
-    → clashes lo hi e r ≡ false
-no_clash_here lo hi e r rs le ends inside = elim (cases_Bool (spans lo hi r)) [
-  | inl so ↦ rw so (le-ltb r.y0 e.any (elim (cases_lt r.y0 e.any) [
-    | inl lt ↦ elim ends.any [
-      | inl none ↦ absurd (omega (arith, none))
-      | inr s ↦ let end = s.here in absurd (meet_second lo hi s.by r le s.inside inside so s.order.0 (omega arith) s.apart.0)
+clash_here : (lo hi : ℕ) (e : Ends) (p : Point) (r : Rect) (rs : List Rect) → lo ≤ hi → AreEnds lo hi e p (r ∷ rs)
+    → IsIn lo hi r → clashes lo hi e r ≡ true → clash_point lo hi e r ≡ p → ⊥
+clash_here lo hi e p r rs le ends inside clash is =
+    let y : p.y ≡ r.y0 = sym (ap (λ (q : Point). q.y) is) in
+    elim (cases_Bool (spans lo hi r)) [
+      | inl so ↦
+          let h : nat_lt r.y0 e.any ≡ true = rw so at clash in
+          let lt = ltb-true r.y0 e.any h in
+          let x : max e.column lo ≡ p.x = rw so at (ap (λ (q : Point). q.x) is) in
+          elim ends.any [
+            | inl none ↦ omega (arith, none, lt)
+            | inr s ↦
+                let end = s.here in
+                let first = s.first refl in
+                meet_second lo hi p s.by r le s.inside inside so s.order.0 (omega arith) (omega arith) y s.apart.0
+          ]
+      | inr nay ↦
+          let h : nat_lt r.y0 e.spanning ≡ true = rw nay at clash in
+          let lt = ltb-true r.y0 e.spanning h in
+          let x : max r.x0 lo ≡ p.x = rw nay at (ap (λ (q : Point). q.x) is) in
+          elim ends.spanning [
+            | inl none ↦ omega (arith, none, lt)
+            | inr s ↦
+                let end = s.here in
+                meet_first lo hi p s.by r le s.inside inside (s.all refl) s.order.0 (omega arith) (omega arith) y s.apart.0
+          ]
     ]
-    | inr ge ↦ ge
-  ]))
-  | inr nay ↦ rw nay (le-ltb r.y0 e.spanning (elim (cases_lt r.y0 e.spanning) [
-    | inl lt ↦ elim ends.spanning [
-      | inl none ↦ absurd (omega (arith, none))
-      | inr s ↦ let end = s.here in absurd (meet_first lo hi s.by r le s.inside inside (s.all refl) s.order.0 (omega arith) s.apart.0)
-    ]
-    | inr ge ↦ ge
-  ]))
-]
 
-ended_behind : (lo hi end : ℕ) (wide : Bool) (r : Rect) (rs : List Rect) → Ended lo hi end wide (r ∷ rs) → Ended lo hi end wide rs
-ended_behind lo hi end wide r rs h = record {
+ended_behind : (lo hi end column : ℕ) (wide : Bool) (p : Point) (r : Rect) (rs : List Rect)
+    → Ended lo hi end column wide p (r ∷ rs) → Ended lo hi end column wide p rs
+ended_behind lo hi end column wide p r rs h = record {
   by = h.by;
   here = h.here;
+  first = h.first;
   inside = h.inside;
   all = h.all;
   order = h.order.1;
@@ -132,39 +153,67 @@ ended_behind lo hi end wide r rs h = record {
       h.apart.1;
 }
 
-ended_max : (lo hi end : ℕ) (wide : Bool) (r : Rect) (rs : List Rect) → IsIn lo hi r → (wide ≡ true → spans lo hi r ≡ true)
-    → Each (IsNoHigher r) rs → Each (AreApart r) rs → (end ≡ 0) ⊎ Ended lo hi end wide (r ∷ rs)
-    → (max end (r.y1 + 1) ≡ 0) ⊎ Ended lo hi (max end (r.y1 + 1)) wide rs
-ended_max lo hi end wide r rs inside all order apart before = elim (cases_lt end (r.y1 + 1)) [
-  | inl lt ↦ inr (record { by = r; here = omega arith; inside = inside; all = all; order = order; apart = apart })
+-- the higher one of an end and that of the next rectangle
+ended_max : (lo hi end column new : ℕ) (wide : Bool) (p : Point) (r : Rect) (rs : List Rect) → IsIn lo hi r
+    → (wide ≡ true → spans lo hi r ≡ true) → (end < r.y1 + 1 → wide ≡ false → r.x0 ≡ new)
+    → (r.y1 + 1 ≤ end → column ≡ new) → Each (IsNoHigher r) rs → Each (AreApartAt p r) rs
+    → (end ≡ 0) ⊎ Ended lo hi end column wide p (r ∷ rs)
+    → (max end (r.y1 + 1) ≡ 0) ⊎ Ended lo hi (max end (r.y1 + 1)) new wide p rs
+ended_max lo hi end column new wide p r rs inside all higher still order apart before = elim (cases_lt end (r.y1 + 1)) [
+  | inl lt ↦ inr (record {
+    by = r;
+    here = omega arith;
+    first = higher lt;
+    inside = inside;
+    all = all;
+    order = order;
+    apart = apart;
+  })
   | inr ge ↦ elim before [
     | inl none ↦ absurd (omega (arith, none))
-    | inr s ↦ let same : end ≡ max end (r.y1 + 1) = omega arith in
-        inr (subst (λ n. Ended lo hi n wide rs) same (ended_behind lo hi end wide r rs s))
+    | inr s ↦
+        let same : end ≡ max end (r.y1 + 1) = omega arith in
+        inr (subst (λ c. Ended lo hi (max end (r.y1 + 1)) c wide p rs) (still ge)
+        (subst (λ n. Ended lo hi n column wide p rs) same (ended_behind lo hi end column wide p r rs s)))
   ]
 ]
 
-ended_still : (lo hi end : ℕ) (wide : Bool) (r : Rect) (rs : List Rect) → (end ≡ 0) ⊎ Ended lo hi end wide (r ∷ rs)
-    → (end ≡ 0) ⊎ Ended lo hi end wide rs
-ended_still lo hi end wide r rs (inl none) = inl none
-ended_still lo hi end wide r rs (inr s) = inr (ended_behind lo hi end wide r rs s)
+ended_still : (lo hi end column : ℕ) (wide : Bool) (p : Point) (r : Rect) (rs : List Rect)
+    → (end ≡ 0) ⊎ Ended lo hi end column wide p (r ∷ rs) → (end ≡ 0) ⊎ Ended lo hi end column wide p rs
+ended_still lo hi end column wide p r rs (inl none) = inl none
+ended_still lo hi end column wide p r rs (inr s) = inr (ended_behind lo hi end column wide p r rs s)
 
-ends_more : (lo hi : ℕ) (e : Ends) (r : Rect) (rs : List Rect) → AreEnds lo hi e (r ∷ rs) → IsIn lo hi r → Each (IsNoHigher r) rs
-    → Each (AreApart r) rs → AreEnds lo hi (ends_with lo hi e r) rs
-ends_more lo hi e r rs ends inside order apart = record {
-  any = ended_max lo hi e.any false r rs inside (λ f. absurd (both_ways false refl f)) order apart ends.any;
+column_higher : (e : Ends) (r : Rect) → e.any < r.y1 + 1 → r.x0 ≡ column_with e r
+column_higher e r lt = rw (lt-ltb e.any (r.y1 + 1) lt) refl
+
+column_still : (e : Ends) (r : Rect) → r.y1 + 1 ≤ e.any → e.column ≡ column_with e r
+column_still e r le = rw (le-ltb e.any (r.y1 + 1) le) refl
+
+ends_more : (lo hi : ℕ) (e : Ends) (p : Point) (r : Rect) (rs : List Rect) → AreEnds lo hi e p (r ∷ rs) → IsIn lo hi r
+    → Each (IsNoHigher r) rs → Each (AreApartAt p r) rs → AreEnds lo hi (ends_with lo hi e r) p rs
+ends_more lo hi e p r rs ends inside order apart = record {
+  any = ended_max lo hi e.any e.column (column_with e r) false p r rs inside (λ f. absurd (both_ways false refl f))
+      (λ lt _. column_higher e r lt) (column_still e r) order apart ends.any;
   spanning = elim (cases_Bool (spans lo hi r)) [
-    | inl so ↦ rw so (ended_max lo hi e.spanning true r rs inside (λ _. so) order apart ends.spanning)
-    | inr nay ↦ rw nay (ended_still lo hi e.spanning true r rs ends.spanning)
+    | inl so ↦
+        rw so (ended_max lo hi e.spanning 0 0 true p r rs inside (λ _. so) (λ _ f. absurd (both_ways true f refl)) (λ _. refl) order apart ends.spanning)
+    | inr nay ↦ rw nay (ended_still lo hi e.spanning 0 true p r rs ends.spanning)
   ];
 }
 
-pub no_clash : (lo hi : ℕ) (e : Ends) (rects : List Rect) → lo ≤ hi → AreEnds lo hi e rects → Each (IsIn lo hi) rects
-    → Pairwise IsNoHigher rects → Pairwise AreApart rects → clashes_from lo hi e rects ≡ false
-no_clash lo hi e [] le ends inside order apart = refl
-no_clash lo hi e (r ∷ rs) le ends inside order apart =
-    or_from (clashes lo hi e r) (clashes_from lo hi (ends_with lo hi e r) rs) (no_clash_here lo hi e r rs le ends inside.0)
-    (no_clash lo hi (ends_with lo hi e r) rs le (ends_more lo hi e r rs ends inside.0 order.0 apart.0) inside.1 order.1 apart.1)
+pub some_clash : (lo hi : ℕ) (e : Ends) (p : Point) (rects : List Rect) → lo ≤ hi → AreEnds lo hi e p rects
+    → Each (IsIn lo hi) rects → Pairwise IsNoHigher rects → clash_from lo hi e rects ≡ Some p
+    → Pairwise (AreApartAt p) rects → ⊥
+some_clash lo hi e p [] le ends inside order clash apart = cc
+some_clash lo hi e p (r ∷ rs) le ends inside order clash apart = elim (cases_Bool (clashes lo hi e r)) [
+  | inl so ↦
+      let here : Some (clash_point lo hi e r) ≡ Some p = rw so at clash in
+      clash_here lo hi e p r rs le ends inside.0 so (same_Some (clash_point lo hi e r) p here)
+  | inr nay ↦
+      let later : clash_from lo hi (ends_with lo hi e r) rs ≡ Some p = rw nay at clash in
+      some_clash lo hi (ends_with lo hi e r) p rs le (ends_more lo hi e p r rs ends inside.0 order.0 apart.0) inside.1
+      order.1 later apart.1
+]
 
-pub none_yet : (lo hi : ℕ) (rects : List Rect) → AreEnds lo hi no_ends rects
-none_yet lo hi rects = record { any = inl refl; spanning = inl refl }
+pub none_yet : (lo hi : ℕ) (p : Point) (rects : List Rect) → AreEnds lo hi no_ends p rects
+none_yet lo hi p rects = record { any = inl refl; spanning = inl refl }

@@ -1,12 +1,13 @@
 -- The rectangles of some columns, from those of both halves.
-use Rattle.std.proofs.Common.{◌≡◌, ◌↔◌, ℕ, zero, suc, ◌+◌, ◌<◌, ◌≤◌, ◌^◌, nat_le, nat_lt, max, min, not, true, false, Bool, List, [], ◌∷◌, filter, length, get_or, All, AllPairs, IsTrue, inl, inr, refl, sym, subst, arith}
+use Rattle.std.proofs.Common.{◌≡◌, ℕ, zero, suc, ◌+◌, ◌<◌, ◌≤◌, ◌^◌, nat_le, nat_lt, max, min, not, true, Bool, List, [], ◌∷◌, Option, Some, None, MatchOption, filter, length, get_or, All, AllPairs, inl, inr, refl, sym, subst, arith}
 use Rattle.std.proofs.lemmas.Bool.{cases_Bool, cases_lt, and_parts, and_from, leb-true, le-leb, ltb-true, lt-ltb, both_ways, not_from_false}
 use Rattle.std.proofs.lemmas.List.Elements.{All-head, All-tail}
 use Rattle.point_set.specs.declared.rect.Rect.{Rect}
 use Rattle.point_set.specs.Rects.{AreSmall, rect_at}
 use Rattle.overlaps.specs.declared.node.Columns.{Columns}
-use Rattle.overlaps.specs.Meeting.{Each, Pairwise, AreApart, AreApartIn, IsNoHigher, IsIn, HasAllIn, spans, goes_left, goes_right, Tells, no_ends, clashes_from}
-use Rattle.overlaps.proofs.Clashing.{IsBelow, none_clash, no_clash, none_yet}
+use Rattle.overlaps.specs.declared.point.Point.{Point}
+use Rattle.overlaps.specs.Meeting.{Each, Pairwise, AreApart, AreApartAt, AreApartIn, IsNoHigher, IsIn, IsShared, HasAllIn, spans, goes_left, goes_right, Tells, no_ends, clash_from}
+use Rattle.overlaps.proofs.Clashing.{IsBelow, none_clash, some_clash, none_yet}
 
 -- ---- Filters.
 
@@ -160,25 +161,28 @@ each_weaker P Q (r ∷ rs) f h = (f r h.0, each_weaker P Q rs f h.1)
 
 -- ---- What the halves tell.
 
-pub some_clash : (lo hi : ℕ) (rects : List Rect) → lo ≤ hi → Each (IsIn lo hi) rects → Pairwise IsNoHigher rects
-    → clashes_from lo hi no_ends rects ≡ true → Pairwise AreApart rects → ⊥
-some_clash lo hi rects le inside order clash apart =
-    both_ways (clashes_from lo hi no_ends rects) (no_clash lo hi no_ends rects le (none_yet lo hi rects) inside order apart) clash
+pub is_none : (found : Option Point) → ((p : Point) → found ≡ Some p → ⊥) → found ≡ None
+is_none None none = refl
+is_none (Some p) none = absurd (none p refl)
 
-pub below_all : (lo hi : ℕ) (rects : List Rect) → clashes_from lo hi no_ends rects ≡ false → Pairwise (IsBelow lo hi) rects
+pub clash_tells : (lo hi : ℕ) (p : Point) (rects : List Rect) → lo ≤ hi → Each (IsIn lo hi) rects → Pairwise IsNoHigher rects
+    → clash_from lo hi no_ends rects ≡ Some p → Pairwise (AreApartAt p) rects → ⊥
+clash_tells lo hi p rects le inside order clash = some_clash lo hi no_ends p rects le (none_yet lo hi p rects) inside order clash
+
+pub below_all : (lo hi : ℕ) (rects : List Rect) → clash_from lo hi no_ends rects ≡ None → Pairwise (IsBelow lo hi) rects
 below_all lo hi rects none = (none_clash lo hi no_ends rects (omega arith) none).1
 
-pub left_tells : (lo hi middle : ℕ) (rects left : List Rect) → left ≡ filter (goes_left lo hi middle) rects
-    → (Pairwise AreApart left → ⊥) → Pairwise AreApart rects → ⊥
-left_tells lo hi middle rects left is meet apart =
-    meet (subst (Pairwise AreApart) (sym is) (pairwise_kept AreApart (goes_left lo hi middle) rects apart))
+pub left_tells : (lo hi middle : ℕ) (p : Point) (rects left : List Rect) → left ≡ filter (goes_left lo hi middle) rects
+    → (Pairwise (AreApartAt p) left → ⊥) → Pairwise (AreApartAt p) rects → ⊥
+left_tells lo hi middle p rects left is meet apart =
+    meet (subst (Pairwise (AreApartAt p)) (sym is) (pairwise_kept (AreApartAt p) (goes_left lo hi middle) rects apart))
 
-pub both_tell : (lo hi middle : ℕ) (rects left right : List Rect) (b : Bool) → clashes_from lo hi no_ends rects ≡ false
+pub both_tell : (lo hi middle : ℕ) (rects left right : List Rect) (found : Option Point) → clash_from lo hi no_ends rects ≡ None
     → left ≡ filter (goes_left lo hi middle) rects → right ≡ filter (goes_right lo hi middle) rects
-    → Pairwise (AreApartIn lo middle) left → Tells (middle + 1) hi right b → Tells lo hi rects b
-both_tell lo hi middle rects left right true none l r apart tells =
-    λ all. tells (subst (Pairwise AreApart) (sym r) (pairwise_kept AreApart (goes_right lo hi middle) rects all))
-both_tell lo hi middle rects left right false none l r apart tells =
+    → Pairwise (AreApartIn lo middle) left → Tells (middle + 1) hi right found → Tells lo hi rects found
+both_tell lo hi middle rects left right (Some p) none l r apart tells =
+    λ all. tells (subst (Pairwise (AreApartAt p)) (sym r) (pairwise_kept (AreApartAt p) (goes_right lo hi middle) rects all))
+both_tell lo hi middle rects left right None none l r apart tells =
     join_halves lo hi middle rects (below_all lo hi rects none) (subst (Pairwise (AreApartIn lo middle)) l apart)
     (subst (Pairwise (AreApartIn (middle + 1) hi)) r tells)
 
@@ -227,10 +231,11 @@ all_apart (r ∷ rs) small h = (
   all_apart rs (All-tail (λ (r : Rect). (r.x1 < 2 ^ 32) × (r.y1 < 2 ^ 32)) r rs small) h.1,
 )
 
--- whether all are apart, from what is told of all columns
-pub answer : (rs : List Rect) (meet : Bool) → AreSmall rs → Tells 0 4294967295 rs meet → IsTrue (not meet) ↔ AllPairs AreApart rs
-answer rs true small tells = (λ none. cc, λ all. absurd (tells (pairwise_from AreApart rs all)))
-answer rs false small tells = (λ _. pairwise_at AreApart rs (all_apart rs small tells), λ _. refl)
+-- what is told of all rectangles, from what is told of all columns
+pub answer : (rs : List Rect) (found : Option Point) → AreSmall rs → Tells 0 4294967295 rs found
+    → MatchOption found (AllPairs AreApart rs) (IsShared rs)
+answer rs (Some p) small tells = λ all. tells (pairwise_from (AreApartAt p) rs all)
+answer rs None small tells = pairwise_at AreApart rs (all_apart rs small tells)
 
 -- ---- Narrower columns.
 
@@ -275,7 +280,7 @@ pub widen : (lo hi : ℕ) (c : Columns) (rects : List Rect) → Each (HasAllIn l
 widen lo hi c [] all h = tt
 widen lo hi c (r ∷ rs) all h = (widen_each lo hi c r rs all.0 h.0, widen lo hi c rs all.1 h.1)
 
-pub tells_widely : (lo hi : ℕ) (c : Columns) (rects : List Rect) (b : Bool) → Each (HasAllIn lo hi c) rects
-    → Tells c.lo c.hi rects b → Tells lo hi rects b
-tells_widely lo hi c rects true all h = h
-tells_widely lo hi c rects false all h = widen lo hi c rects all h
+pub tells_widely : (lo hi : ℕ) (c : Columns) (rects : List Rect) (found : Option Point) → Each (HasAllIn lo hi c) rects
+    → Tells c.lo c.hi rects found → Tells lo hi rects found
+tells_widely lo hi c rects (Some p) all h = h
+tells_widely lo hi c rects None all h = widen lo hi c rects all h

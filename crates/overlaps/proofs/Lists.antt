@@ -1,24 +1,25 @@
 -- Two lists of rectangles: the rows that they share, and the points.
-use Rattle.std.proofs.Common.{◌≡◌, ◌↔◌, ℕ, zero, suc, ◌+◌, ◌<◌, ◌≤◌, ◌^◌, ◌⊎◌, nat_le, max, not, true, false, Bool, List, [], ◌∷◌, filter, length, get_or, AllPairs, Contains, IsTrue, inl, inr, refl, sym, subst, ap, ◌∙◌, arith}
-use Rattle.std.proofs.lemmas.Bool.{cases_Bool, cases_lt, and_parts, and_from, leb-true, le-leb, lt-ltb, not_from_false}
+use Rattle.std.proofs.Common.{◌≡◌, ℕ, zero, suc, ◌+◌, ◌<◌, ◌≤◌, ◌^◌, ◌⊎◌, nat_le, max, not, true, Bool, List, [], ◌∷◌, Option, Some, None, MatchOption, filter, length, get_or, AllPairs, Contains, inl, inr, refl, sym, subst, ap, ◌∙◌, arith}
+use Rattle.std.proofs.lemmas.Bool.{cases_Bool, cases_lt, and_parts, and_from, leb-true, le-leb, le-ltb, lt-ltb, not_from_false}
 use Rattle.std.proofs.lemmas.List.{get_or_default}
 use Rattle.std.proofs.lemmas.List.Elements.{Contains-get_or}
 use Rattle.std.proofs.lemmas.List.Kept.{AllPairs-filter}
 use Rattle.list_lemmas.proofs.lemmas.Filtered.{in_filter, of_filter}
 use Rattle.point_set.specs.declared.rect.Rect.{Rect}
-use Rattle.point_set.specs.Rects.{AreSmall, rect_at}
+use Rattle.point_set.specs.Rects.{AreSmall, Holds, rect_at}
 use Rattle.overlaps.specs.declared.node.Columns.{Columns}
 use Rattle.overlaps.specs.declared.rows.Reached.{Reached}
-use Rattle.overlaps.specs.Meeting.{AreApart, AreApartIn, Each, HasAllIn, IsIn, IsNoHigher, goes_left, goes_right, spans}
-use Rattle.overlaps.specs.Rows.{AreTall, IsPast, IsReached, NoneBeginsIn, RowsApart}
-use Rattle.overlaps.specs.Between.{AreApartFrom, AreApartFromIn, SpansApart, TellsBetween}
+use Rattle.overlaps.specs.Meeting.{AreApartIn, Each, HasAllIn, IsIn, IsNoHigher, goes_left, goes_right, spans}
+use Rattle.overlaps.specs.declared.point.Point.{Point}
+use Rattle.overlaps.specs.Rows.{AreTall, BeginsIn, IsPast, IsReached, NoneBeginsIn, RowsApart, ShareRow, place_with}
+use Rattle.overlaps.specs.Between.{AreApartFrom, AreApartFromIn, HasAt, IsCommon, SpansApart, TellsBetween, corner}
 
 -- ---- Rows, by one pass.
 
 abbrev zero_rect : Rect
 zero_rect = record { x0 = 0; x1 = 0; y0 = 0; y1 = 0 }
 
-pub none_reached : (rects : List Rect) → IsReached rects (record { count = 0; end = 0 }) 0
+pub none_reached : (rects : List Rect) → IsReached rects (record { count = 0; end = 0; place = 0 }) 0
 none_reached rects = record {
   within = omega arith;
   begin = λ k lt. absurd (omega (arith, lt));
@@ -32,8 +33,8 @@ reached_up rects e a b h le = record { within = h.within; begin = λ k lt. omega
 
 pub reached_more : (rects : List Rect) (e f : Reached) (row : ℕ) → IsReached rects e row → e.count < length rects
     → (rect_at rects e.count).y0 ≤ row → f.count ≡ e.count + 1 → f.end ≡ max e.end ((rect_at rects e.count).y1 + 1)
-    → IsReached rects f row
-reached_more rects e f row h lt low count end = record {
+    → f.place ≡ place_with e ((rect_at rects e.count).y1 + 1) → IsReached rects f row
+reached_more rects e f row h lt low count end place = record {
   within = omega (arith, lt, count);
   begin = λ k less. elim (cases_lt k e.count) [
     | inl before ↦ h.begin k before
@@ -44,11 +45,15 @@ reached_more rects e f row h lt low count end = record {
     | inr le ↦ let same : k ≡ e.count = omega (arith, less, le, count) in rw same (omega (arith, end))
   ];
   some = elim (cases_lt e.end ((rect_at rects e.count).y1 + 1)) [
-    | inl above ↦ inr (e.count, omega (arith, count), omega (arith, end, above))
-    | inr le ↦ elim h.some [
-      | inl none ↦ absurd (omega (arith, none, le))
-      | inr s ↦ inr (s.0, omega (arith, s.1, count), omega (arith, s.2, end, le))
-    ]
+    | inl above ↦
+        let at : f.place ≡ e.count = rw (lt-ltb e.end ((rect_at rects e.count).y1 + 1) above) at place in
+        inr (omega (arith, at, count), rw at (omega (arith, end, above)))
+    | inr le ↦
+        let at : f.place ≡ e.place = rw (le-ltb e.end ((rect_at rects e.count).y1 + 1) le) at place in
+        elim h.some [
+          | inl none ↦ absurd (omega (arith, none, le))
+          | inr s ↦ inr (omega (arith, s.0, at, count), rw at (omega (arith, s.1, end, le)))
+        ]
   ];
 }
 
@@ -70,7 +75,7 @@ pub record NoneBegun (rects others : List Rect) (reached : Reached) (n : ℕ) : 
   pub none : (j : ℕ) → j < n → j < length others → (r : Rect) → Contains rects r → r.y0 ≤ (rect_at others j).y0
       → r.y1 < (rect_at others j).y0
 
-pub none_begun : (rects others : List Rect) → NoneBegun rects others (record { count = 0; end = 0 }) 0
+pub none_begun : (rects others : List Rect) → NoneBegun rects others (record { count = 0; end = 0; place = 0 }) 0
 none_begun rects others = record { row = 0; is = none_reached rects; low = λ j _ _. omega arith; none = λ j lt. absurd (omega (arith, lt)) }
 
 at_place : (rects : List Rect) (r : Rect) (h : Contains rects r) → rect_at rects h.0 ≡ r
@@ -98,17 +103,25 @@ begun_more rects others before after n order h lt is past le = record {
   ];
 }
 
-pub begun_fails : (rects others : List Rect) (after : Reached) (n : ℕ) → n < length others
-    → IsReached rects after (rect_at others n).y0 → (rect_at others n).y0 < after.end → NoneBeginsIn rects others → ⊥
-begun_fails rects others after n lt is above none = elim is.some [
-  | inl none_yet ↦ omega (arith, none_yet, above)
-  | inr s ↦
-      let r = rect_at rects s.0 in
-      let within : s.0 < length rects = omega (arith, s.1, is.within) in
-      let over = none r (rect_at others n) (Contains-get_or rects s.0 zero_rect within) (Contains-get_or others n zero_rect lt)
-      (is.begin s.0 s.1) in
-      omega (arith, over, s.2, above)
+-- the place of one that ends above the row is that of a rectangle
+pub reached_place : (rects : List Rect) (after : Reached) (row : ℕ) → IsReached rects after row → row < after.end
+    → (after.place < length rects) × ((rect_at rects after.place).y0 ≤ row) × (row ≤ (rect_at rects after.place).y1)
+reached_place rects after row is above = elim is.some [
+  | inl none_yet ↦ absurd (omega (arith, none_yet, above))
+  | inr s ↦ (omega (arith, s.0, is.within), is.begin after.place s.0, omega (arith, s.1, above))
 ]
+
+pub begun_here : (rects others : List Rect) (after : Reached) (n : ℕ) → n < length others
+    → IsReached rects after (rect_at others n).y0 → (rect_at others n).y0 < after.end
+    → BeginsIn rects others (rect_at rects after.place) (rect_at others n)
+begun_here rects others after n lt is above =
+    let at = reached_place rects after (rect_at others n).y0 is above in
+    record {
+      first = Contains-get_or rects after.place zero_rect at.0;
+      second = Contains-get_or others n zero_rect lt;
+      low = at.1;
+      high = at.2;
+    }
 
 pub begun_all : (rects others : List Rect) (reached : Reached) (n : ℕ) → NoneBegun rects others reached n → length others ≤ n
     → NoneBeginsIn rects others
@@ -126,14 +139,18 @@ rows_from ours theirs a b r s in_r in_s = elim (cases_lt s.y0 r.y0) [
   | inr below ↦ inl (a r s in_r in_s below)
 ]
 
-pub rows_first : (ours theirs : List Rect) → AreTall theirs → RowsApart ours theirs → NoneBeginsIn ours theirs
-rows_first ours theirs tall apart r s in_r in_s from = elim (apart r s in_r in_s) [
-  | inl below ↦ below
-  | inr above ↦ absurd (omega (arith, above, from, tall_in theirs s tall in_s))
-]
+pub rows_met : (ours theirs : List Rect) (r s : Rect) → AreTall theirs → BeginsIn ours theirs r s → ShareRow ours theirs r s
+rows_met ours theirs r s tall h =
+    let low = h.low in
+    let high = h.high in
+    let up = tall_in theirs s tall h.second in
+    record { first = h.first; second = h.second; our = omega arith; their = omega arith }
 
-pub rows_back : (ours theirs : List Rect) → RowsApart ours theirs → RowsApart theirs ours
-rows_back ours theirs apart r s in_r in_s = elim (apart s r in_s in_r) [ inl below ↦ inr below | inr above ↦ inl above ]
+pub rows_back : (ours theirs : List Rect) (r s : Rect) → ShareRow theirs ours s r → ShareRow ours theirs r s
+rows_back ours theirs r s h =
+    let mine = h.our in
+    let other = h.their in
+    record { first = h.second; second = h.first; our = omega arith; their = omega arith }
 
 -- ---- In one node.
 
@@ -164,46 +181,51 @@ spans_from lo hi ours theirs wide other w o a b r s in_r in_s (inl so) =
 spans_from lo hi ours theirs wide other w o a b r s in_r in_s (inr so) =
     b r s in_r (subst (λ rs. Contains rs s) (sym o) (in_filter (spans lo hi) theirs s in_s so))
 
-pub wide_from : (lo hi : ℕ) (ours theirs wide : List Rect) → wide ≡ filter (spans lo hi) ours → SpansApart lo hi ours theirs
-    → RowsApart wide theirs
-wide_from lo hi ours theirs wide w apart r s in_r in_s =
-    let h = of_filter (spans lo hi) ours r (subst (λ rs. Contains rs r) w in_r) in apart r s h.0 in_s (inl h.1)
-
-pub other_from : (lo hi : ℕ) (ours theirs other : List Rect) → other ≡ filter (spans lo hi) theirs → SpansApart lo hi ours theirs
-    → RowsApart ours other
-other_from lo hi ours theirs other o apart r s in_r in_s =
-    let h = of_filter (spans lo hi) theirs s (subst (λ rs. Contains rs s) o in_s) in apart r s in_r h.0 (inr h.1)
-
--- two rectangles of some columns that share a row, where the first has all columns
-share_first : (lo hi : ℕ) (r s : Rect) → lo ≤ hi → IsIn lo hi r → IsIn lo hi s → spans lo hi r ≡ true → s.y0 ≤ r.y1 → r.y0 ≤ s.y1
-    → AreApart r s → ⊥
-share_first lo hi r s le a b wide low high apart =
+-- two rectangles of some columns that share a row have a corner in common, where one of them has all columns
+at_corner : (lo hi : ℕ) (r s : Rect) → lo ≤ hi → IsIn lo hi r → IsIn lo hi s
+    → (spans lo hi r ≡ true) ⊎ (spans lo hi s ≡ true) → max r.y0 s.y0 ≤ r.y1 → max r.y0 s.y0 ≤ s.y1
+    → Holds r (max r.x0 s.x0) (max r.y0 s.y0) × Holds s (max r.x0 s.x0) (max r.y0 s.y0)
+at_corner lo hi r s le a b (inl wide) mine other =
     let w = and_parts (nat_le r.x0 lo) (nat_le hi r.x1) wide in
     let w0 = leb-true _ _ w.0 in
     let w1 = leb-true _ _ w.1 in
     let s0 = b.begins in
     let s1 = b.ends in
     let s2 = b.wide in
-    let s3 = b.tall in
-    let r3 = a.tall in
-    apart (max lo s.x0) (max r.y0 s.y0) (record { left = omega arith; right = omega arith; low = omega arith; high = omega arith })
-    (record { left = omega arith; right = omega arith; low = omega arith; high = omega arith })
+    let r2 = a.wide in (
+      record { left = omega arith; right = omega arith; low = omega arith; high = omega arith },
+      record { left = omega arith; right = omega arith; low = omega arith; high = omega arith },
+    )
+at_corner lo hi r s le a b (inr wide) mine other =
+    let w = and_parts (nat_le s.x0 lo) (nat_le hi s.x1) wide in
+    let w0 = leb-true _ _ w.0 in
+    let w1 = leb-true _ _ w.1 in
+    let r0 = a.begins in
+    let r1 = a.ends in
+    let r2 = a.wide in
+    let s2 = b.wide in (
+      record { left = omega arith; right = omega arith; low = omega arith; high = omega arith },
+      record { left = omega arith; right = omega arith; low = omega arith; high = omega arith },
+    )
 
-pub spans_apart : (lo hi : ℕ) (ours theirs : List Rect) → lo ≤ hi → Each (IsIn lo hi) ours → Each (IsIn lo hi) theirs
-    → AreApartFrom ours theirs → SpansApart lo hi ours theirs
-spans_apart lo hi ours theirs le a b apart r s in_r in_s so = elim (cases_lt r.y1 s.y0) [
-  | inl below ↦ inl below
-  | inr ge ↦ elim (cases_lt s.y1 r.y0) [
-    | inl above ↦ inr above
-    | inr le_row ↦
-        let in_a = each_in (IsIn lo hi) ours r a in_r in
-        let in_b = each_in (IsIn lo hi) theirs s b in_s in
-        elim so [
-          | inl first ↦ absurd (share_first lo hi r s le in_a in_b first ge le_row (apart r s in_r in_s))
-          | inr second ↦ absurd (share_first lo hi s r le in_b in_a second le_row ge (λ x y h k. apart r s in_r in_s x y k h))
-        ]
-  ]
-]
+met_at : (lo hi : ℕ) (ours theirs : List Rect) (r s : Rect) → lo ≤ hi → Each (IsIn lo hi) ours → Each (IsIn lo hi) theirs
+    → Contains ours r → Contains theirs s → (spans lo hi r ≡ true) ⊎ (spans lo hi s ≡ true) → max r.y0 s.y0 ≤ r.y1
+    → max r.y0 s.y0 ≤ s.y1 → IsCommon ours theirs (corner r s)
+met_at lo hi ours theirs r s le a b in_r in_s wide mine other =
+    let at = at_corner lo hi r s le (each_in (IsIn lo hi) ours r a in_r) (each_in (IsIn lo hi) theirs s b in_s) wide mine other in
+    ((r, in_r, at.0), (s, in_s, at.1))
+
+pub wide_met : (lo hi : ℕ) (ours theirs wide : List Rect) (r s : Rect) → lo ≤ hi → Each (IsIn lo hi) ours
+    → Each (IsIn lo hi) theirs → wide ≡ filter (spans lo hi) ours → ShareRow wide theirs r s → IsCommon ours theirs (corner r s)
+wide_met lo hi ours theirs wide r s le a b w h =
+    let of = of_filter (spans lo hi) ours r (subst (λ rs. Contains rs r) w h.first) in
+    met_at lo hi ours theirs r s le a b of.0 h.second (inl of.1) h.our h.their
+
+pub other_met : (lo hi : ℕ) (ours theirs other : List Rect) (r s : Rect) → lo ≤ hi → Each (IsIn lo hi) ours
+    → Each (IsIn lo hi) theirs → other ≡ filter (spans lo hi) theirs → ShareRow ours other r s → IsCommon ours theirs (corner r s)
+other_met lo hi ours theirs other r s le a b o h =
+    let of = of_filter (spans lo hi) theirs s (subst (λ rs. Contains rs s) o h.second) in
+    met_at lo hi ours theirs r s le a b h.first of.0 (inr of.1) h.our h.their
 
 rows_tell : (r s : Rect) (lo hi : ℕ) → (r.y1 < s.y0) ⊎ (s.y1 < r.y0) → AreApartIn lo hi r s
 rows_tell r s lo hi (inl below) x y from to h k = let top = h.high in let low = k.low in omega (arith, below)
@@ -243,10 +265,12 @@ join_two lo hi middle r s rows left right x y from to h k = elim (cases_Bool (sp
 ]
 
 -- what halves have is in the lists
-pub kept_apart : (p : Rect → Bool) (ours theirs left others : List Rect) → left ≡ filter p ours → others ≡ filter p theirs
-    → AreApartFrom ours theirs → AreApartFrom left others
-kept_apart p ours theirs left others l o apart r s in_r in_s =
-    apart r s (of_filter p ours r (subst (λ rs. Contains rs r) l in_r)).0 (of_filter p theirs s (subst (λ rs. Contains rs s) o in_s)).0
+kept_has : (q : Rect → Bool) (rects kept : List Rect) (p : Point) → kept ≡ filter q rects → HasAt kept p → HasAt rects p
+kept_has q rects kept p is h = (h.0, (of_filter q rects h.0 (subst (λ rs. Contains rs h.0) is h.1)).0, h.2)
+
+pub kept_common : (q : Rect → Bool) (ours theirs left others : List Rect) (p : Point) → left ≡ filter q ours
+    → others ≡ filter q theirs → IsCommon left others p → IsCommon ours theirs p
+kept_common q ours theirs left others p l o h = (kept_has q ours left p l h.0, kept_has q theirs others p o h.1)
 
 pub join_halves : (lo hi middle : ℕ) (ours theirs left others right rest : List Rect) → SpansApart lo hi ours theirs
     → left ≡ filter (goes_left lo hi middle) ours → others ≡ filter (goes_left lo hi middle) theirs
@@ -259,13 +283,14 @@ join_halves lo hi middle ours theirs left others right rest rows l o r t a b u v
     (λ so also. b u v (subst (λ rs. Contains rs u) (sym r) (in_filter (goes_right lo hi middle) ours u in_u so))
     (subst (λ rs. Contains rs v) (sym t) (in_filter (goes_right lo hi middle) theirs v in_v also)))
 
-pub both_tell : (lo hi middle : ℕ) (ours theirs left others right rest : List Rect) (b : Bool) → SpansApart lo hi ours theirs
-    → left ≡ filter (goes_left lo hi middle) ours → others ≡ filter (goes_left lo hi middle) theirs
-    → right ≡ filter (goes_right lo hi middle) ours → rest ≡ filter (goes_right lo hi middle) theirs
-    → AreApartFromIn lo middle left others → TellsBetween (middle + 1) hi right rest b → TellsBetween lo hi ours theirs b
-both_tell lo hi middle ours theirs left others right rest true rows l o r t a tells =
-    λ all. tells (kept_apart (goes_right lo hi middle) ours theirs right rest r t all)
-both_tell lo hi middle ours theirs left others right rest false rows l o r t a tells =
+pub both_tell : (lo hi middle : ℕ) (ours theirs left others right rest : List Rect) (found : Option Point)
+    → SpansApart lo hi ours theirs → left ≡ filter (goes_left lo hi middle) ours
+    → others ≡ filter (goes_left lo hi middle) theirs → right ≡ filter (goes_right lo hi middle) ours
+    → rest ≡ filter (goes_right lo hi middle) theirs → AreApartFromIn lo middle left others
+    → TellsBetween (middle + 1) hi right rest found → TellsBetween lo hi ours theirs found
+both_tell lo hi middle ours theirs left others right rest (Some p) rows l o r t a tells =
+    kept_common (goes_right lo hi middle) ours theirs right rest p r t tells
+both_tell lo hi middle ours theirs left others right rest None rows l o r t a tells =
     join_halves lo hi middle ours theirs left others right rest rows l o r t a tells
 
 pub widen : (lo hi : ℕ) (c : Columns) (ours theirs : List Rect) → Each (HasAllIn lo hi c) ours
@@ -274,10 +299,10 @@ widen lo hi c ours theirs all apart r s in_r in_s x y from to h k =
     let in_it = each_in (HasAllIn lo hi c) ours r all in_r x from to h.left h.right in
     apart r s in_r in_s x y in_it.0 in_it.1 h k
 
-pub tells_widely : (lo hi : ℕ) (c : Columns) (ours theirs : List Rect) (b : Bool) → Each (HasAllIn lo hi c) ours
-    → TellsBetween c.lo c.hi ours theirs b → TellsBetween lo hi ours theirs b
-tells_widely lo hi c ours theirs true all h = h
-tells_widely lo hi c ours theirs false all h = widen lo hi c ours theirs all h
+pub tells_widely : (lo hi : ℕ) (c : Columns) (ours theirs : List Rect) (found : Option Point) → Each (HasAllIn lo hi c) ours
+    → TellsBetween c.lo c.hi ours theirs found → TellsBetween lo hi ours theirs found
+tells_widely lo hi c ours theirs (Some p) all h = h
+tells_widely lo hi c ours theirs None all h = widen lo hi c ours theirs all h
 
 -- the columns of both lists
 pub hull_inside : (lo hi a b : ℕ) (rects : List Rect) → Each (IsIn lo hi) rects → a ≤ lo → hi ≤ b → Each (IsIn a b) rects
@@ -290,14 +315,11 @@ pub hull_all : (lo hi : ℕ) (c e : Columns) (rects : List Rect) → Each (HasAl
 hull_all lo hi c e rects all low high = each_of (HasAllIn lo hi e) rects (λ r h x from to left right.
     let i = each_in (HasAllIn lo hi c) rects r all h x from to left right in (omega (arith, i.0, low), omega (arith, i.1, high)))
 
--- whether no two share a point, from what is told of all columns
-pub answer : (ours theirs : List Rect) (meet : Bool) → AreSmall ours → TellsBetween 0 4294967295 ours theirs meet
-    → IsTrue (not meet) ↔ AreApartFrom ours theirs
-answer ours theirs true small tells = (λ none. cc, λ all. absurd (tells all))
-answer ours theirs false small tells = (
-  λ _ r s in_r in_s x y h k.
-      let fits : r.x1 < 2 ^ 32 = subst (λ (t : Rect). t.x1 < 2 ^ 32) in_r.2 (small in_r.0 r in_r.1).0 in
-      let right = h.right in
-      tells r s in_r in_s x y (omega arith) (omega arith) h k,
-  λ _. refl,
-)
+-- what is told of all points, from what is told of all columns
+pub answer : (ours theirs : List Rect) (found : Option Point) → AreSmall ours → TellsBetween 0 4294967295 ours theirs found
+    → MatchOption found (AreApartFrom ours theirs) (IsCommon ours theirs)
+answer ours theirs (Some p) small tells = tells
+answer ours theirs None small tells = λ r s in_r in_s x y h k.
+    let fits : r.x1 < 2 ^ 32 = subst (λ (t : Rect). t.x1 < 2 ^ 32) in_r.2 (small in_r.0 r in_r.1).0 in
+    let right = h.right in
+    tells r s in_r in_s x y (omega arith) (omega arith) h k

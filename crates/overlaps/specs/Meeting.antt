@@ -1,9 +1,10 @@
 -- Rectangles that share points.
-use Rattle.std.specs.Prelude.{ℕ, ◌+◌, ◌≤◌, ◌&&◌, ◌||◌, max, nat_le, nat_lt, false, not, Bool, List, [], ◌∷◌, MatchBool, if◌then◌else◌}
+use Rattle.std.specs.Prelude.{ℕ, ◌+◌, ◌≤◌, ◌&&◌, max, nat_le, nat_lt, not, Bool, List, [], ◌∷◌, AllPairs, Option, Some, None, MatchOption, if◌then◌else◌}
 use Rattle.point_set.specs.declared.rect.Rect.{Rect}
 use Rattle.point_set.specs.Rects.{Holds}
 use Rattle.overlaps.specs.declared.node.Columns.{Columns}
 use Rattle.overlaps.specs.declared.node.Ends.{Ends}
+use Rattle.overlaps.specs.declared.point.Point.{Point}
 
 -- Each rectangle has a property.
 abbrev pub Each : (Rect → Type 0) → List Rect → Type 0
@@ -18,6 +19,14 @@ Pairwise R (r ∷ rs) = Each (R r) rs × Pairwise R rs
 -- They share no point.
 abbrev pub AreApart : Rect → Rect → Type 0
 AreApart r s = (x y : ℕ) → Holds r x y → Holds s x y → ⊥
+
+-- They do not both have this point.
+abbrev pub AreApartAt : Point → Rect → Rect → Type 0
+AreApartAt p r s = Holds r p.x p.y → Holds s p.x p.y → ⊥
+
+-- Two of the rectangles have this point.
+abbrev pub IsShared : List Rect → Point → Type 0
+IsShared rects p = ¬ AllPairs (AreApartAt p) rects
 
 -- They share no point of these columns.
 abbrev pub AreApartIn : ℕ → ℕ → Rect → Rect → Type 0
@@ -49,10 +58,15 @@ goes_left lo hi middle r = not (spans lo hi r) && nat_le r.x0 middle
 abbrev pub goes_right : ℕ → ℕ → ℕ → Rect → Bool
 goes_right lo hi middle r = not (spans lo hi r) && nat_lt middle r.x1
 
--- The row above all rectangles so far, and that above all that have all columns.
+-- The first column of a rectangle that ends highest, with one rectangle more.
+abbrev pub column_with : Ends → Rect → ℕ
+column_with e r = if nat_lt e.any (r.y1 + 1) then r.x0 else e.column
+
+-- The row above all rectangles so far, the first column of one that ends there, and the row above all that have all columns.
 abbrev pub ends_with : ℕ → ℕ → Ends → Rect → Ends
 ends_with lo hi e r = record {
   any = max e.any (r.y1 + 1);
+  column = column_with e r;
   spanning =
       if spans lo hi r then max e.spanning (r.y1 + 1) else e.spanning;
 }
@@ -61,13 +75,20 @@ ends_with lo hi e r = record {
 abbrev pub clashes : ℕ → ℕ → Ends → Rect → Bool
 clashes lo hi e r = if spans lo hi r then nat_lt r.y0 e.any else nat_lt r.y0 e.spanning
 
-abbrev pub clashes_from : ℕ → ℕ → Ends → List Rect → Bool
-clashes_from lo hi e [] = false
-clashes_from lo hi e (r ∷ rs) = clashes lo hi e r || clashes_from lo hi (ends_with lo hi e r) rs
+-- A point that it then shares with that one.
+abbrev pub clash_point : ℕ → ℕ → Ends → Rect → Point
+clash_point lo hi e r = record { x = max (if spans lo hi r then e.column else r.x0) lo; y = r.y0 }
+
+-- The first such point.
+abbrev pub clash_from : ℕ → ℕ → Ends → List Rect → Option Point
+clash_from lo hi e [] = None
+clash_from lo hi e (r ∷ rs) =
+    if clashes lo hi e r then Some (clash_point lo hi e r) else clash_from lo hi (ends_with lo hi e r) rs
 
 abbrev pub no_ends : Ends
-no_ends = record { any = 0; spanning = 0 }
+no_ends = record { any = 0; column = 0; spanning = 0 }
 
--- Where some rectangles meet, not all are apart; where they do not, no two share a point of these columns.
-abbrev pub Tells : ℕ → ℕ → List Rect → Bool → Type 0
-Tells lo hi rects meet = MatchBool meet (¬ Pairwise AreApart rects) (Pairwise (AreApartIn lo hi) rects)
+-- Where a point is told, two of the rectangles have it; where none is, no two share a point of these columns.
+abbrev pub Tells : ℕ → ℕ → List Rect → Option Point → Type 0
+Tells lo hi rects found =
+    MatchOption found (Pairwise (AreApartIn lo hi) rects) (λ p. ¬ Pairwise (AreApartAt p) rects)

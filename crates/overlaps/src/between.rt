@@ -1,10 +1,11 @@
-ghost use Rattle.std.specs.Prelude.{ℕ, ◌≤◌, ◌↔◌, All, AllPairs, IfOk, IsTrue};
+ghost use Rattle.std.specs.Prelude.{◌≡◌, ℕ, ◌≤◌, All, AllPairs, IfOk, MatchOption};
 ghost use Rattle.point_set.specs.Rects.{AreSmall};
 ghost use Rattle.overlaps.specs.Meeting.{Each, HasAllIn, IsIn, IsNoHigher};
-ghost use Rattle.overlaps.specs.Between.{AreApartFrom, SpansApart, TellsBetween};
+ghost use Rattle.overlaps.specs.Between.{AreApartFrom, IsCommon, SpansApart, TellsBetween, corner};
 
 use crate::node::{Columns, left_half, narrowed, right_half, spanning};
-use crate::rows::rows_apart;
+use crate::point::Point;
+use crate::rows::shared_row;
 use point_set::Rect;
 use std::alloc::{AllocError, Global};
 
@@ -27,60 +28,75 @@ fn hull(ours: &[Rect], theirs: &[Rect], lo: u32, hi: u32) -> Columns
     }
 }
 
-/// Whether no rectangle that has all of some columns shares a row with one of the other list.
-fn spans_apart(
+/// The first point of two rectangles that share one.
+fn corner(one: Rect, other: Rect) -> Point
+    ensures { result ≡ corner one other }
+{
+    Point {
+        x: one.x0.max(other.x0),
+        y: one.y0.max(other.y0),
+    }
+}
+
+/// A point that a rectangle which has all of some columns shares with one of the other list.
+fn spanning_point(
     alloc: Global,
     ours: &[Rect],
     theirs: &[Rect],
     columns: Columns,
-) -> Result<bool, AllocError>
+) -> Result<Option<Point>, AllocError>
+    requires range { columns.lo ≤ columns.hi }
     requires ours { AllPairs IsNoHigher ours.now × Each (IsIn columns.lo columns.hi) ours.now }
     requires theirs { AllPairs IsNoHigher theirs.now × Each (IsIn columns.lo columns.hi) theirs.now }
-    ensures { IfOk result (λ apart. IsTrue apart ↔ SpansApart columns.lo columns.hi ours.now theirs.now) }
+    ensures { IfOk result (λ o. MatchOption o (SpansApart columns.lo columns.hi ours.now theirs.now)
+        (IsCommon ours.now theirs.now)) }
 {
     let wide = spanning(alloc, ours, columns.lo, columns.hi)?;
-    if !rows_apart(wide.as_slice(), theirs) {
-        return Ok(false);
+    if let Some((our, their)) = shared_row(wide.as_slice(), theirs) {
+        return Ok(Some(corner(our, their)));
     }
     let wide = spanning(alloc, theirs, columns.lo, columns.hi)?;
-    Ok(rows_apart(ours, wide.as_slice()))
+    match shared_row(ours, wide.as_slice()) {
+        Some((our, their)) => Ok(Some(corner(our, their))),
+        None => Ok(None),
+    }
 }
 
-/// Whether a rectangle of the one list shares a point of these columns with one of the other. It halves the columns: in each half are only those that do not have all columns.
-fn lists_meet(
+/// A point of these columns that rectangles of both lists have. It halves the columns: in each half are only those that do not have all columns.
+fn common_in(
     alloc: Global,
     ours: &[Rect],
     theirs: &[Rect],
     lo: u32,
     hi: u32,
-) -> Result<bool, AllocError>
+) -> Result<Option<Point>, AllocError>
     requires range { lo ≤ hi }
     requires ours { AllPairs IsNoHigher ours.now × Each (IsIn lo hi) ours.now }
     requires theirs { AllPairs IsNoHigher theirs.now × Each (IsIn lo hi) theirs.now }
     ensures { IfOk result (TellsBetween lo hi ours.now theirs.now) }
 {
     if ours.is_empty() || theirs.is_empty() {
-        return Ok(false);
+        return Ok(None);
     }
     let node = hull(ours, theirs, lo, hi);
-    if !spans_apart(alloc, ours, theirs, node)? {
-        return Ok(true);
+    if let Some(point) = spanning_point(alloc, ours, theirs, node)? {
+        return Ok(Some(point));
     }
     if node.hi <= node.lo {
-        return Ok(false);
+        return Ok(None);
     }
     let middle = node.lo + (node.hi - node.lo) / 2;
-    let meet = {
+    let found = {
         let left = left_half(alloc, ours, node.lo, node.hi, middle)?;
         let others = left_half(alloc, theirs, node.lo, node.hi, middle)?;
-        lists_meet(alloc, left.as_slice(), others.as_slice(), node.lo, middle)?
+        common_in(alloc, left.as_slice(), others.as_slice(), node.lo, middle)?
     };
-    if meet {
-        return Ok(true);
+    if let Some(point) = found {
+        return Ok(Some(point));
     }
     let right = right_half(alloc, ours, node.lo, node.hi, middle)?;
     let others = right_half(alloc, theirs, node.lo, node.hi, middle)?;
-    lists_meet(
+    common_in(
         alloc,
         right.as_slice(),
         others.as_slice(),
@@ -89,16 +105,19 @@ fn lists_meet(
     )
 }
 
-/// Whether no rectangle of the one list shares a point with one of the other. Both lists stand by ascending first rows, and each rectangle has a point. Those of one list may share points.
+/// A point that a rectangle of the one list shares with one of the other, or `None` if there is none. Both lists stand by ascending first rows, and each rectangle has a point. Those of one list may share points.
 ///
 /// Each rectangle is looked at in at most two nodes of each of 33 levels.
-pub fn are_apart_from(alloc: Global, ours: &[Rect], theirs: &[Rect]) -> Result<bool, AllocError>
+pub fn common_point(
+    alloc: Global,
+    ours: &[Rect],
+    theirs: &[Rect],
+) -> Result<Option<Point>, AllocError>
     requires ours { AllPairs IsNoHigher ours.now × AreSmall ours.now }
     requires theirs { AllPairs IsNoHigher theirs.now × AreSmall theirs.now }
     requires some_ours { All (λ r. (r.x0 ≤ r.x1) × (r.y0 ≤ r.y1)) ours.now }
     requires some_theirs { All (λ r. (r.x0 ≤ r.x1) × (r.y0 ≤ r.y1)) theirs.now }
-    ensures { IfOk result (λ apart. IsTrue apart ↔ AreApartFrom ours.now theirs.now) }
+    ensures { IfOk result (λ o. MatchOption o (AreApartFrom ours.now theirs.now) (IsCommon ours.now theirs.now)) }
 {
-    let meet = lists_meet(alloc, ours, theirs, 0, u32::MAX)?;
-    Ok(!meet)
+    common_in(alloc, ours, theirs, 0, u32::MAX)
 }

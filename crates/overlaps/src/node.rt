@@ -1,15 +1,17 @@
 //! The rectangles in some columns, by ascending first rows.
 
 ghost use Rattle.std.specs.Prelude.{◌≤◌, ◌≡◌, ◌++◌, ◌∷◌, [], cond, filter, IfOk, OnOk};
-ghost use Rattle.overlaps.specs.Meeting.{Each, HasAllIn, IsIn, clashes, clashes_from, ends_with, goes_left, goes_right, no_ends, spans};
+ghost use Rattle.overlaps.specs.Meeting.{Each, HasAllIn, IsIn, clash_from, clash_point, clashes, column_with, ends_with, goes_left, goes_right, no_ends, spans};
 
+use crate::point::Point;
 use point_set::Rect;
 use std::alloc::{AllocError, Global};
 
-/// The row above all rectangles so far, and the row above all of them that have all columns.
+/// The row above all rectangles so far, the first column of one that ends there, and the row above all of them that have all columns.
 #[derive(Clone, Copy)]
 pub(crate) struct Ends {
     pub any: u64,
+    pub column: u32,
     pub spanning: u64,
 }
 
@@ -60,39 +62,69 @@ fn clashes(ends: Ends, rect: Rect, lo: u32, hi: u32) -> bool
     }
 }
 
+/// A point that a rectangle which clashes shares with an earlier one.
+fn clash_point(ends: Ends, rect: Rect, lo: u32, hi: u32) -> Point
+    ensures { result ≡ clash_point lo hi ends rect }
+{
+    let column = if spans(rect, lo, hi) {
+        ends.column
+    } else {
+        rect.x0
+    };
+    Point {
+        x: column.max(lo),
+        y: rect.y0,
+    }
+}
+
+/// The first column of a rectangle that ends highest, with one rectangle more.
+fn column_with(ends: Ends, rect: Rect) -> u32
+    ensures { result ≡ column_with ends rect }
+{
+    if ends.any < u64::from(rect.y1) + 1 {
+        rect.x0
+    } else {
+        ends.column
+    }
+}
+
 /// The ends with one rectangle more.
 fn ends_with(ends: Ends, rect: Rect, lo: u32, hi: u32) -> Ends
     ensures { result ≡ ends_with lo hi ends rect }
 {
+    let column = column_with(ends, rect);
     let end = u64::from(rect.y1) + 1;
     if spans(rect, lo, hi) {
         Ends {
             any: ends.any.max(end),
+            column,
             spanning: ends.spanning.max(end),
         }
     } else {
         Ends {
             any: ends.any.max(end),
+            column,
             spanning: ends.spanning,
         }
     }
 }
 
-/// Whether a rectangle that has all columns shares a row with another, by one pass.
-pub(crate) fn some_clash(rects: &[Rect], lo: u32, hi: u32) -> bool
-    ensures { result ≡ clashes_from lo hi no_ends rects.now }
+/// A point that a rectangle which has all columns shares with another, by one pass.
+pub(crate) fn first_clash(rects: &[Rect], lo: u32, hi: u32) -> Option<Point>
+    ensures { result ≡ clash_from lo hi no_ends rects.now }
 {
     let mut ends = Ends {
         any: 0,
+        column: 0,
         spanning: 0,
     };
     for rect in rects {
         if clashes(ends, *rect, lo, hi) {
-            return true;
+            return Some(clash_point(ends, *rect, lo, hi));
         }
         ends = ends_with(ends, *rect, lo, hi);
     }
-    false
+    None
 }
 
 /// Whether a rectangle goes to the left half.

@@ -1,7 +1,8 @@
 -- Claims that share points, and the subspaces that meet.
-use Rattle.std.proofs.Common.{◌≡◌, ◌≢◌, ◌↔◌, ℕ, ◌+◌, ◌*◌, ◌/◌, ◌%◌, ◌<◌, ◌≤◌, ◌^◌, Bool, true, false, List, [], nat_eq, nat_le, nat_lt, All, AllPairs, length, get_or, filter, take, drop, Option, Some, None, Contains, IsTrue, slice_get, subst, refl, sym, ap, ◌∙◌, inl, inr, ◌⊎◌, arith}
+use Rattle.std.proofs.Common.{◌≡◌, ◌≢◌, ℕ, ◌+◌, ◌*◌, ◌/◌, ◌%◌, ◌<◌, ◌≤◌, ◌^◌, ◌&&◌, not, max, min, Bool, true, false, List, [], nat_eq, nat_le, nat_lt, All, AllPairs, length, get_or, filter, take, drop, Option, Some, None, MatchOption, Contains, IsTrue, slice_get, subst, refl, sym, ap, ◌∙◌, inl, inr, ◌⊎◌, arith}
 use Rattle.std.specs.List.Sorted.{IsPartitionPoint, IsNonDecreasingBy}
-use Rattle.std.proofs.lemmas.Bool.{cases_Bool, cases_lt, cases_eq, ltb-true, lt-ltb, leb-true, leb-false, eqb-true, eq-eqb}
+use Rattle.std.specs.Option.{option_map_or}
+use Rattle.std.proofs.lemmas.Bool.{cases_Bool, cases_lt, cases_eq, and_parts, and_from, both_ways, ltb-true, lt-ltb, le-ltb, leb-true, leb-false, le-leb, eqb-true, eq-eqb}
 use Rattle.std.proofs.lemmas.List.{get_or_default, get_or-map, get_or-drop, get_or-take, length-map, length-take, length-drop, take-append-drop}
 use Rattle.std.proofs.lemmas.List.Elements.{Contains-append_left, Contains-append_right, Contains-append_cases, Contains-get_or}
 use Rattle.std.proofs.lemmas.List.Kept.{AllPairs-filter}
@@ -11,6 +12,8 @@ use Rattle.list_lemmas.proofs.lemmas.Filtered.{in_filter, of_filter}
 use Rattle.list_lemmas.proofs.lemmas.Pairs.{AllPairs-left, AllPairs-right, any_two}
 use Rattle.point_set.specs.declared.rect.Rect.{Rect}
 use Rattle.point_set.specs.Rects.{AreSmall, Holds}
+use Rattle.overlaps.specs.declared.point.Point.{Point}
+use Rattle.overlaps.specs.Between.{HasAt}
 use Rattle.overlaps.specs.Meeting.{AreApart, IsNoHigher}
 use Rattle.region_tree.specs.declared.claims.Claim.{Claim}
 use Rattle.vocabulary.specs.Prelude.{Sub}
@@ -19,7 +22,8 @@ use Rattle.region_tree.specs.declared.claims.Asked.{Asked}
 use Rattle.region_tree.specs.declared.claims.Asked.TheVariants.{Apart, Within}
 use Rattle.region_tree.specs.Faults.{IsOutside, is_disjoint, MeetsEarlier, points_cut}
 use Rattle.region_tree.specs.Wholes.{AreHeld, IsFirstOutside, IsHeld, NoneOutside, whole_at}
-use Rattle.region_tree.specs.Claims.{AreClaims, AreInOrder, AreOfOneGroup, AreOwn, AreReady, HaveOneWhole, IsBefore, IsFirstFailing, IsFirstMeeting, IsFirstMetBy, IsGroupCut, IsMet, NoneFails, NoneLeave, NoneMeets, NoneOverlap, is_kept, met_by, rects_kept, whole_number}
+use Rattle.region_tree.specs.Owners.{IsOwner, claims_at, has, is_kept, is_other}
+use Rattle.region_tree.specs.Claims.{AreClaims, AreInOrder, AreOfOneGroup, AreOwn, AreReady, HaveOneWhole, IsBefore, IsFailing, IsFirstFailing, IsFirstMeeting, IsFirstMetBy, IsGroupCut, IsMet, NoneFails, NoneLeave, NoneMeets, NoneOverlap, NoneShare, last_found, later_before, limit_by, met_by, rects_kept, whole_number}
 use Rattle.plane_gaps.specs.Gaps.{IsRect}
 use Rattle.point_set.proofs.lemmas.Ahead.{in_or_not}
 use Rattle.region_tree.proofs.Claiming.{by_part, of_part, whole_is}
@@ -76,15 +80,16 @@ group_cut claims group k d order some first parts =
     }
 
 -- what is known after the groups that were looked at
-pub record IsPassed (d : Regions) (asked : Asked) (limit : ℕ) (claims rest : List Claim) : Type 0 where
+pub record IsPassed (d : Regions) (asked : Asked) (limit : ℕ) (claims rest : List Claim) (found : Option ℕ) : Type 0 where
   pub ready : AreReady rest
   pub wholes : HaveOneWhole d rest
   pub inside : (c : Claim) → Contains rest c → Contains claims c
-  pub enough : NoneFails d asked limit rest → NoneFails d asked limit claims
+  pub told : MatchOption found (NoneFails d asked limit rest → NoneFails d asked limit claims)
+      (λ i. (i < limit) × ¬ NoneFails d asked (i + 1) claims)
 
 pub none_passed : (d : Regions) (asked : Asked) (limit : ℕ) (claims : List Claim) → AreReady claims → HaveOneWhole d claims
-    → IsPassed d asked limit claims claims
-none_passed d asked limit claims ready wholes = record { ready = ready; wholes = wholes; inside = λ c h. h; enough = λ none. none }
+    → IsPassed d asked limit claims claims None
+none_passed d asked limit claims ready wholes = record { ready = ready; wholes = wholes; inside = λ c h. h; told = λ none. none }
 
 in_group : (rest group behind : List Claim) (c : Claim) → IsGroupCut rest group behind → Contains group c → Contains rest c
 in_group rest group behind c cut h = rw cut.joined (Contains-append_left group behind c h)
@@ -140,30 +145,40 @@ both_none d Within limit rest group behind cut left right = λ c h kept.
       | inr in_behind ↦ right c in_behind kept
     ]
 
-pub group_passed : (d : Regions) (asked : Asked) (limit : ℕ) (claims rest group behind : List Claim)
-    → IsPassed d asked limit claims rest → IsGroupCut rest group behind → NoneFails d asked limit group
-    → IsPassed d asked limit claims behind
-group_passed d asked limit claims rest group behind before cut none = record {
-  ready = behind_ready rest group behind cut before.ready;
-  wholes = λ a b in_a in_b. before.wholes a b (in_behind rest group behind a cut in_a) (in_behind rest group behind b cut in_b);
-  inside = λ c h. before.inside c (in_behind rest group behind c cut h);
-  enough = λ more. before.enough (both_none d asked limit rest group behind cut none more);
+-- what is told of the claims, with one group more
+told_more : (d : Regions) (asked : Asked) (limit : ℕ) (claims rest group behind : List Claim) (before new : Option ℕ)
+    → IsPassed d asked limit claims rest before → IsGroupCut rest group behind
+    → IsFailing d asked (limit_by before limit) group new
+    → MatchOption (last_found before new) (NoneFails d asked limit behind → NoneFails d asked limit claims)
+    (λ i. (i < limit) × ¬ NoneFails d asked (i + 1) claims)
+told_more d asked limit claims rest group behind None None passed cut failing = λ more.
+    passed.told (both_none d asked limit rest group behind cut failing more)
+told_more d asked limit claims rest group behind (Some i) None passed cut failing = passed.told
+told_more d asked limit claims rest group behind None (Some j) passed cut failing = (
+  failing.0,
+  λ none. failing.1 (fewer d asked (j + 1) claims group (λ c h. passed.inside c (in_group rest group behind c cut h)) none),
+)
+told_more d asked limit claims rest group behind (Some i) (Some j) passed cut failing = (
+  omega (arith, failing.0, passed.told.0),
+  λ none. failing.1 (fewer d asked (j + 1) claims group (λ c h. passed.inside c (in_group rest group behind c cut h)) none),
+)
+
+pub group_passed : (d : Regions) (asked : Asked) (limit : ℕ) (claims rest group behind : List Claim) (before new : Option ℕ)
+    → IsPassed d asked limit claims rest before → IsGroupCut rest group behind
+    → IsFailing d asked (limit_by before limit) group new
+    → IsPassed d asked limit claims behind (last_found before new)
+group_passed d asked limit claims rest group behind before new passed cut failing = record {
+  ready = behind_ready rest group behind cut passed.ready;
+  wholes = λ a b in_a in_b. passed.wholes a b (in_behind rest group behind a cut in_a) (in_behind rest group behind b cut in_b);
+  inside = λ c h. passed.inside c (in_behind rest group behind c cut h);
+  told = told_more d asked limit claims rest group behind before new passed cut failing;
 }
 
-pub group_fails : (d : Regions) (asked : Asked) (limit : ℕ) (claims rest group behind : List Claim)
-    → IsPassed d asked limit claims rest → IsGroupCut rest group behind → (NoneFails d asked limit group → ⊥)
-    → IsTrue false ↔ NoneFails d asked limit claims
-group_fails d asked limit claims rest group behind before cut some = (
-  λ no. absurd (let f : ⊥ = cc in f),
-  λ none. absurd (some (fewer d asked limit claims group (λ c h. before.inside c (in_group rest group behind c cut h)) none)),
-)
-
-pub all_passed : (d : Regions) (asked : Asked) (limit : ℕ) (claims rest : List Claim) → IsPassed d asked limit claims rest
-    → rest ≡ [] → IsTrue true ↔ NoneFails d asked limit claims
-all_passed d asked limit claims rest before none = (
-  λ _. before.enough (subst (λ (cs : List Claim). NoneFails d asked limit cs) (sym none) (none_at_all d asked limit)),
-  λ _. refl,
-)
+pub all_passed : (d : Regions) (asked : Asked) (limit : ℕ) (claims rest : List Claim) (found : Option ℕ)
+    → IsPassed d asked limit claims rest found → rest ≡ [] → IsFailing d asked limit claims found
+all_passed d asked limit claims rest None passed none =
+    passed.told (subst (λ (cs : List Claim). NoneFails d asked limit cs) (sym none) (none_at_all d asked limit))
+all_passed d asked limit claims rest (Some i) passed none = passed.told
 
 -- ---- The rectangles for one group.
 
@@ -208,7 +223,7 @@ kept_order asked limit claims ready one i j d lt within =
 apart_back : (r s : Rect) → AreApart r s → AreApart s r
 apart_back r s apart x y h k = apart x y k h
 
-apart_none : (also limit : ℕ) (claims : List Claim) → AllPairs AreApart (rects_kept (Apart also) limit claims)
+pub apart_none : (also limit : ℕ) (claims : List Claim) → AllPairs AreApart (rects_kept (Apart also) limit claims)
     → NoneOverlap also limit claims
 apart_none also limit claims apart a b in_a in_b kept_a kept_b same_group ne =
     let p : Claim → Bool = λ (c : Claim). is_kept (Apart also) limit c.sub in
@@ -227,57 +242,25 @@ apart_none also limit claims apart a b in_a in_b kept_a kept_b same_group ne =
     get_or-map (λ (c : Claim). c.rect) kept at_b.0 b a.rect at_b.1 ∙ ap (λ (c : Claim). c.rect) at_b.2 in
     subst (AreApart a.rect) see_b (subst (λ (r : Rect). AreApart r (get_or (rects_kept (Apart also) limit claims) at_b.0 a.rect)) see_a h)
 
-none_apart : (also limit : ℕ) (claims : List Claim) → AreReady claims → AreOfOneGroup claims → NoneOverlap also limit claims
-    → AllPairs AreApart (rects_kept (Apart also) limit claims)
-none_apart also limit claims ready one none i j d lt within =
-    let p : Claim → Bool = λ (c : Claim). is_kept (Apart also) limit c.sub in
-    let kept : List Claim = filter p claims in
+-- no two have a point, where all kept claims that have it are of one subspace
+none_share : (also limit : ℕ) (claims : List Claim) (p : Point) → AreReady claims
+    → ((a b : Claim) → Contains claims a → Contains claims b → is_kept (Apart also) limit a.sub ≡ true
+    → is_kept (Apart also) limit b.sub ≡ true → Holds a.rect p.x p.y → Holds b.rect p.x p.y → a.sub ≡ b.sub)
+    → NoneShare also limit claims p
+none_share also limit claims p ready one i j d lt within =
+    let q : Claim → Bool = λ (c : Claim). is_kept (Apart also) limit c.sub in
+    let kept : List Claim = filter q claims in
     let in_j : j < length kept = omega (arith, within, length-map kept (λ (c : Claim). c.rect)) in
     let in_i : i < length kept = omega (arith, lt, in_j) in
     let a = get_or kept i zero_claim in
     let b = get_or kept j zero_claim in
-    let of_a = of_filter p claims a (Contains-get_or kept i zero_claim in_i) in
-    let of_b = of_filter p claims b (Contains-get_or kept j zero_claim in_j) in
+    let of_a = of_filter q claims a (Contains-get_or kept i zero_claim in_i) in
+    let of_b = of_filter q claims b (Contains-get_or kept j zero_claim in_j) in
     rw (get_or-map (λ (e : Claim). e.rect) kept i zero_claim d in_i, get_or-map (λ (e : Claim). e.rect) kept j zero_claim d in_j)
-    (elim (cases_eq a.sub b.sub) [
-      | inl same ↦ AllPairs-filter AreOwn p claims ready.own i j zero_claim lt in_j same
-      | inr ne ↦ none a b of_a.0 of_b.0 of_a.1 of_b.1 (one a b of_a.0 of_b.0) ne
-    ])
+    (λ here there. AllPairs-filter AreOwn q claims ready.own i j zero_claim lt in_j
+    (one a b of_a.0 of_b.0 of_a.1 of_b.1 here there) p.x p.y here there)
 
-pub group_tells : (also limit : ℕ) (claims : List Claim) (rects : List Rect) (apart : Bool) → AreReady claims → AreOfOneGroup claims
-    → rects ≡ rects_kept (Apart also) limit claims → IsTrue apart ↔ AllPairs AreApart rects → IsTrue apart ↔ NoneOverlap also limit claims
-group_tells also limit claims rects apart ready one is tells = (
-  λ so. apart_none also limit claims (subst (AllPairs AreApart) is (tells.0 so)),
-  λ none. tells.1 (subst (AllPairs AreApart) (sym is) (none_apart also limit claims ready one none)),
-)
-
--- whether the kept rectangles of a group are held by its whole
-pub held_tells : (d : Regions) (limit : ℕ) (claims : List Claim) (first : Claim) (rects : List Rect) (within : Bool)
-    → HaveOneWhole d claims → AreOfOneGroup claims → Contains claims first → rects ≡ rects_kept Within limit claims
-    → IsTrue within ↔ AreHeld (whole_at d first.sub) rects → IsTrue within ↔ NoneLeave d limit claims
-held_tells d limit claims first rects within wholes one in_first is tells =
-    let p : Claim → Bool = λ (c : Claim). is_kept Within limit c.sub in
-    let kept : List Claim = filter p claims in (
-      λ so c h is_kept.
-          let at : Contains kept c = in_filter p claims c h is_kept in
-          let seen : Contains (rects_kept Within limit claims) c.rect = (
-            at.0,
-            omega (arith, at.1, length-map kept (λ (e : Claim). e.rect)),
-            get_or-map (λ (e : Claim). e.rect) kept at.0 c c.rect at.1 ∙ ap (λ (e : Claim). e.rect) at.2,
-          ) in
-          subst (λ ps. IsHeld ps c.rect) (wholes first c in_first h (one first c in_first h))
-          (tells.0 so c.rect (subst (λ (rs : List Rect). Contains rs c.rect) (sym is) seen)),
-      λ none. tells.1 (λ r h.
-          let in_r : Contains (rects_kept Within limit claims) r = subst (λ (rs : List Rect). Contains rs r) is h in
-          let in_kept : in_r.0 < length kept = omega (arith, in_r.1, length-map kept (λ (c : Claim). c.rect)) in
-          let c = get_or kept in_r.0 zero_claim in
-          let of_c = of_filter p claims c (Contains-get_or kept in_r.0 zero_claim in_kept) in
-          let same : c.rect ≡ r = sym (get_or-map (λ (e : Claim). e.rect) kept in_r.0 zero_claim r in_kept) ∙ in_r.2 in
-          subst (λ ps. IsHeld ps r) (wholes c first of_c.0 in_first (one c first of_c.0 in_first))
-          (subst (IsHeld (whole_at d c.sub)) same (none c of_c.0 of_c.1))),
-    )
-
--- ---- Which subspaces meet.
+-- ---- Which subspaces are kept.
 
 is_before : (also limit sub : ℕ) → sub < limit → is_kept (Apart also) limit sub ≡ true
 is_before also limit sub lt = rw (lt-ltb sub limit lt) refl
@@ -290,6 +273,209 @@ which_kept also limit sub kept = elim (cases_Bool (nat_lt sub limit)) [
   | inl so ↦ inl (ltb-true sub limit so)
   | inr nay ↦ let h : nat_eq sub also ≡ true = rw nay at kept in inr (eqb-true sub also h)
 ]
+
+-- ---- Which subspaces claim a point.
+
+holds_of : (p : Point) (r : Rect) → has p r ≡ true → Holds r p.x p.y
+holds_of p r h =
+    let a = and_parts (nat_le r.x0 p.x) (nat_le p.x r.x1 && (nat_le r.y0 p.y && nat_le p.y r.y1)) h in
+    let b = and_parts (nat_le p.x r.x1) (nat_le r.y0 p.y && nat_le p.y r.y1) a.1 in
+    let c = and_parts (nat_le r.y0 p.y) (nat_le p.y r.y1) b.1 in
+    record { left = leb-true _ _ a.0; right = leb-true _ _ b.0; low = leb-true _ _ c.0; high = leb-true _ _ c.1 }
+
+has_of : (p : Point) (r : Rect) → Holds r p.x p.y → has p r ≡ true
+has_of p r h =
+    and_from (nat_le r.x0 p.x) (nat_le p.x r.x1 && (nat_le r.y0 p.y && nat_le p.y r.y1)) (le-leb r.x0 p.x h.left)
+    (and_from (nat_le p.x r.x1) (nat_le r.y0 p.y && nat_le p.y r.y1) (le-leb p.x r.x1 h.right)
+    (and_from (nat_le r.y0 p.y) (nat_le p.y r.y1) (le-leb r.y0 p.y h.low) (le-leb p.y r.y1 h.high)))
+
+-- what a claim on the point tells
+claim_told : (asked : Asked) (limit : ℕ) (p : Point) (but : Option ℕ) (c : Claim) → claims_at asked limit p but c ≡ true
+    → Holds c.rect p.x p.y × (is_kept asked limit c.sub ≡ true) × (is_other but c.sub ≡ true)
+claim_told asked limit p but c h =
+    let a = and_parts (has p c.rect) (is_kept asked limit c.sub && is_other but c.sub) h in
+    let b = and_parts (is_kept asked limit c.sub) (is_other but c.sub) a.1 in
+    (holds_of p c.rect a.0, b.0, b.1)
+
+claim_from : (asked : Asked) (limit : ℕ) (p : Point) (but : Option ℕ) (c : Claim) → Holds c.rect p.x p.y
+    → is_kept asked limit c.sub ≡ true → is_other but c.sub ≡ true → claims_at asked limit p but c ≡ true
+claim_from asked limit p but c holds kept other =
+    and_from (has p c.rect) (is_kept asked limit c.sub && is_other but c.sub) (has_of p c.rect holds)
+    (and_from (is_kept asked limit c.sub) (is_other but c.sub) kept other)
+
+pub none_owned : (asked : Asked) (limit : ℕ) (p : Point) (but : Option ℕ) (claims : List Claim) → length claims ≡ 0
+    → IsOwner asked limit p but claims None
+none_owned asked limit p but claims none c h = absurd (omega (arith, none, h.1))
+
+still_taken : (claims : List Claim) (k : ℕ) (c : Claim) → Contains (take k claims) c → Contains (take (k + 1) claims) c
+still_taken claims k c h =
+    let t = taken claims k c h in
+    let lt : t.0 < k + 1 = omega (arith, t.1) in
+    (t.0, omega (arith, t.1, t.2, length-take (k + 1) claims), get_or-take (k + 1) claims t.0 c lt ∙ t.3)
+
+last_taken : (claims : List Claim) (k : ℕ) (d : Claim) → k < length claims → Contains (take (k + 1) claims) (get_or claims k d)
+last_taken claims k d lt =
+    let c = get_or claims k d in
+    let less : k < k + 1 = omega arith in
+    (k, omega (arith, lt, length-take (k + 1) claims), get_or-take (k + 1) claims k c less ∙ get_or_default claims k c d lt)
+
+pub owner_more : (asked : Asked) (limit : ℕ) (p : Point) (but : Option ℕ) (claims : List Claim) (k : ℕ) (d : Claim)
+    (found : Option ℕ) → k < length claims → IsOwner asked limit p but (take k claims) found
+    → claims_at asked limit p but (get_or claims k d) ≡ true
+    → IsOwner asked limit p but (take (k + 1) claims)
+    (Some (option_map_or (λ least. min least (get_or claims k d).sub) found (get_or claims k d).sub))
+owner_more asked limit p but claims k d None lt owner hit = (get_or claims k d, last_taken claims k d lt, refl, hit)
+owner_more asked limit p but claims k d (Some i) lt owner hit = elim (cases_lt i (get_or claims k d).sub) [
+  | inl less ↦
+      let least : i ≡ min i (get_or claims k d).sub = omega (arith, less) in
+      (owner.0, still_taken claims k owner.0 owner.1, owner.2 ∙ least, owner.3)
+  | inr le ↦
+      let least : (get_or claims k d).sub ≡ min i (get_or claims k d).sub = omega (arith, le) in
+      (get_or claims k d, last_taken claims k d lt, least, hit)
+]
+
+pub owner_still : (asked : Asked) (limit : ℕ) (p : Point) (but : Option ℕ) (claims : List Claim) (k : ℕ) (d : Claim)
+    (found : Option ℕ) → k < length claims → IsOwner asked limit p but (take k claims) found
+    → claims_at asked limit p but (get_or claims k d) ≡ false → IsOwner asked limit p but (take (k + 1) claims) found
+owner_still asked limit p but claims k d None lt owner miss = λ c h.
+    let t = taken claims (k + 1) c h in
+    elim (cases_lt t.0 k) [
+      | inl less ↦ owner c (t.0, omega (arith, less, t.2, length-take k claims), get_or-take k claims t.0 c less ∙ t.3)
+      | inr le ↦
+          let e : t.0 ≡ k = omega (arith, le, t.1) in
+          let same : get_or claims k d ≡ c = get_or_default claims k d c lt ∙ subst (λ j. get_or claims j c ≡ c) e t.3 in
+          subst (λ a. claims_at asked limit p but a ≡ false) same miss
+    ]
+owner_still asked limit p but claims k d (Some i) lt owner miss =
+    (owner.0, still_taken claims k owner.0 owner.1, owner.2, owner.3)
+
+not_true : (b : Bool) → not b ≡ true → b ≡ false
+not_true true h = cc
+not_true false h = refl
+
+other_told : (i j : ℕ) → is_other (Some i) j ≡ true → i ≢ j
+other_told i j h = λ same. both_ways (nat_eq i j) (not_true (nat_eq i j) h) (eq-eqb i j same)
+
+other_from : (i j : ℕ) → (i ≡ j → ⊥) → is_other (Some i) j ≡ true
+other_from i j ne = elim (cases_Bool (nat_eq i j)) [ inl so ↦ absurd (ne (eqb-true i j so)) | inr nay ↦ rw nay refl ]
+
+-- no kept claim has the point
+pub none_first : (also limit : ℕ) (claims : List Claim) (p : Point) → AreReady claims
+    → IsOwner (Apart also) limit p None claims None → NoneShare also limit claims p
+none_first also limit claims p ready none = none_share also limit claims p ready (λ a b in_a in_b kept_a kept_b here there.
+    absurd (both_ways (claims_at (Apart also) limit p None a) (none a in_a) (claim_from (Apart also) limit p None a here kept_a refl)))
+
+the_same : (also limit i : ℕ) (claims : List Claim) (p : Point) (a : Claim) → IsOwner (Apart also) limit p (Some i) claims None
+    → Contains claims a → is_kept (Apart also) limit a.sub ≡ true → Holds a.rect p.x p.y → i ≡ a.sub
+the_same also limit i claims p a none in_a kept here = elim (cases_eq i a.sub) [
+  | inl e ↦ e
+  | inr ne ↦ absurd (both_ways (claims_at (Apart also) limit p (Some i) a) (none a in_a)
+      (claim_from (Apart also) limit p (Some i) a here kept (other_from i a.sub ne)))
+]
+
+-- all that have it are of one subspace
+pub none_second : (also limit i : ℕ) (claims : List Claim) (p : Point) → AreReady claims
+    → IsOwner (Apart also) limit p (Some i) claims None → NoneShare also limit claims p
+none_second also limit i claims p ready none = none_share also limit claims p ready (λ a b in_a in_b kept_a kept_b here there.
+    sym (the_same also limit i claims p a none in_a kept_a here) ∙ the_same also limit i claims p b none in_b kept_b there)
+
+-- a kept subspace is kept before its own end, or where it is looked at with the others
+kept_below : (also limit m sub : ℕ) → is_kept (Apart also) limit sub ≡ true → (sub < limit → sub ≤ m)
+    → is_kept (Apart also) (m + 1) sub ≡ true
+kept_below also limit m sub kept below = elim (which_kept also limit sub kept) [
+  | inl lt ↦ is_before also (m + 1) sub (omega (arith, below lt))
+  | inr same ↦ rw same (is_also also (m + 1))
+]
+
+-- of two kept subspaces, the later one that is before the limit
+later_told : (also limit i j : ℕ) → i ≢ j → is_kept (Apart also) limit i ≡ true → is_kept (Apart also) limit j ≡ true
+    → (later_before limit i j < limit) × (i < limit → i ≤ later_before limit i j) × (j < limit → j ≤ later_before limit i j)
+later_told also limit i j ne kept_i kept_j = elim (cases_lt (max i j) limit) [
+  | inl lt ↦ rw (lt-ltb (max i j) limit lt) (lt, λ _. omega arith, λ _. omega arith)
+  | inr le ↦
+      let no : (i ≡ j → ⊥) = ne in
+      rw (le-ltb (max i j) limit le) (elim (which_kept also limit i kept_i) [
+        | inl less ↦ (omega (arith, less), λ _. omega (arith, less, le), λ l. omega (arith, less, le, l))
+        | inr at_i ↦ elim (which_kept also limit j kept_j) [
+          | inl less ↦ (omega (arith, less), λ l. omega (arith, less, le, l), λ _. omega (arith, less, le))
+          | inr at_j ↦ absurd (no (at_i ∙ sym at_j))
+        ]
+      ])
+]
+
+pub meeting_told : (also limit i j : ℕ) (claims : List Claim) (p : Point) → AreOfOneGroup claims
+    → IsOwner (Apart also) limit p None claims (Some i) → IsOwner (Apart also) limit p (Some i) claims (Some j)
+    → (later_before limit i j < limit) × ¬ NoneOverlap also (later_before limit i j + 1) claims
+meeting_told also limit i j claims p one first second =
+    let m = later_before limit i j in
+    let a = claim_told (Apart also) limit p None first.0 first.3 in
+    let b = claim_told (Apart also) limit p (Some i) second.0 second.3 in
+    let kept_i : is_kept (Apart also) limit i ≡ true = subst (λ k. is_kept (Apart also) limit k ≡ true) first.2 a.1 in
+    let kept_j : is_kept (Apart also) limit j ≡ true = subst (λ k. is_kept (Apart also) limit k ≡ true) second.2 b.1 in
+    let other : i ≢ j = λ e. other_told i second.0.sub b.2 (e ∙ sym second.2) in
+    let later = later_told also limit i j other kept_i kept_j in (
+      later.0,
+      λ none. none first.0 second.0 first.1 second.1
+          (subst (λ k. is_kept (Apart also) (m + 1) k ≡ true) (sym first.2) (kept_below also limit m i kept_i later.1))
+          (subst (λ k. is_kept (Apart also) (m + 1) k ≡ true) (sym second.2) (kept_below also limit m j kept_j later.2))
+          (one first.0 second.0 first.1 second.1) (λ e. other (sym first.2 ∙ e ∙ second.2)) p.x p.y a.0 b.0,
+    )
+
+-- what a group tells, where two of its rectangles have a point
+pub group_tells : (also limit : ℕ) (claims : List Claim) (p : Point) (found : Option ℕ) → ¬ NoneShare also limit claims p
+    → MatchOption found (NoneShare also limit claims p) (λ i. (i < limit) × ¬ NoneOverlap also (i + 1) claims)
+    → MatchOption found (NoneOverlap also limit claims) (λ i. (i < limit) × ¬ NoneOverlap also (i + 1) claims)
+group_tells also limit claims p None some told = absurd (some told)
+group_tells also limit claims p (Some i) some told = told
+
+-- ---- Whether the kept rectangles of a group are held by its whole.
+
+kept_seen : (limit : ℕ) (claims : List Claim) (c : Claim) → Contains claims c → is_kept Within limit c.sub ≡ true
+    → Contains (rects_kept Within limit claims) c.rect
+kept_seen limit claims c h kept =
+    let q : Claim → Bool = λ (c : Claim). is_kept Within limit c.sub in
+    let at : Contains (filter q claims) c = in_filter q claims c h kept in (
+      at.0,
+      omega (arith, at.1, length-map (filter q claims) (λ (e : Claim). e.rect)),
+      get_or-map (λ (e : Claim). e.rect) (filter q claims) at.0 c c.rect at.1 ∙ ap (λ (e : Claim). e.rect) at.2,
+    )
+
+seen_kept : (limit : ℕ) (claims : List Claim) (r : Rect) → Contains (rects_kept Within limit claims) r
+    → (c : Claim) × Contains claims c × (is_kept Within limit c.sub ≡ true) × (c.rect ≡ r)
+seen_kept limit claims r h =
+    let q : Claim → Bool = λ (c : Claim). is_kept Within limit c.sub in
+    let lt : h.0 < length (filter q claims) = omega (arith, h.1, length-map (filter q claims) (λ (c : Claim). c.rect)) in
+    let c = get_or (filter q claims) h.0 zero_claim in
+    let of = of_filter q claims c (Contains-get_or (filter q claims) h.0 zero_claim lt) in
+    (c, of.0, of.1, sym (get_or-map (λ (e : Claim). e.rect) (filter q claims) h.0 zero_claim r lt) ∙ h.2)
+
+pub held_tells : (d : Regions) (limit : ℕ) (claims : List Claim) (first : Claim) (rects : List Rect)
+    → HaveOneWhole d claims → AreOfOneGroup claims → Contains claims first → rects ≡ rects_kept Within limit claims
+    → AreHeld (whole_at d first.sub) rects → NoneLeave d limit claims
+held_tells d limit claims first rects wholes one in_first is held c h kept =
+    subst (λ ps. IsHeld ps c.rect) (wholes first c in_first h (one first c in_first h))
+    (held c.rect (subst (λ (rs : List Rect). Contains rs c.rect) (sym is) (kept_seen limit claims c h kept)))
+
+pub leaving_told : (d : Regions) (limit : ℕ) (claims : List Claim) (first : Claim) (rects : List Rect) (p : Point)
+    (found : Option ℕ) → HaveOneWhole d claims → AreOfOneGroup claims → Contains claims first
+    → rects ≡ rects_kept Within limit claims → HasAt rects p → ¬ Contains (whole_at d first.sub) (p.x * 2 ^ 32 + p.y)
+    → IsOwner Within limit p None claims found
+    → MatchOption found (NoneLeave d limit claims) (λ i. (i < limit) × ¬ NoneLeave d (i + 1) claims)
+leaving_told d limit claims first rects p None wholes one in_first is at missed owner =
+    let seen = seen_kept limit claims at.0 (subst (λ (rs : List Rect). Contains rs at.0) is at.1) in
+    let holds : Holds seen.0.rect p.x p.y = subst (λ (r : Rect). Holds r p.x p.y) (sym seen.3) at.2 in
+    absurd (both_ways (claims_at Within limit p None seen.0) (owner seen.0 seen.1)
+    (claim_from Within limit p None seen.0 holds seen.2 refl))
+leaving_told d limit claims first rects p (Some i) wholes one in_first is at missed owner =
+    let told = claim_told Within limit p None owner.0 owner.3 in
+    let lt : owner.0.sub < limit = ltb-true owner.0.sub limit told.1 in (
+      omega (arith, lt, owner.2),
+      λ none. missed (subst (λ ps. Contains ps (p.x * 2 ^ 32 + p.y))
+          (wholes owner.0 first owner.1 in_first (one owner.0 first owner.1 in_first))
+          (none owner.0 owner.1 (lt-ltb owner.0.sub (i + 1) (omega (arith, owner.2))) p.x p.y told.0)),
+    )
+
+-- ---- Which subspaces meet.
 
 met_not : (d : Regions) (n also limit : ℕ) (claims : List Claim) (i j : ℕ) → AreClaims d (Apart 0) n claims → length d.subs ≤ n
     → NoneOverlap also limit claims → is_kept (Apart also) limit i ≡ true → is_kept (Apart also) limit j ≡ true → ¬ MeetsEarlier d i j
@@ -366,9 +552,9 @@ earlier d i j h = h.1.2
 
 -- ---- The first of them.
 
-pub none_first : (d : Regions) (claims : List Claim) → AreClaims d (Apart 0) (length d.subs) claims → NoneOverlap 0 (length d.subs) claims
+pub none_meets : (d : Regions) (claims : List Claim) → AreClaims d (Apart 0) (length d.subs) claims → NoneOverlap 0 (length d.subs) claims
     → (i j : ℕ) → ¬ MeetsEarlier d i j
-none_first d claims are none i j h =
+none_meets d claims are none i j h =
     let within = slice_get_within d.subs i h.1.0 h.1.3 in
     met_not d (length d.subs) 0 (length d.subs) claims i j are (omega arith) none (is_before 0 (length d.subs) i within)
     (is_before 0 (length d.subs) j (omega (arith, within, earlier d i j h))) h
@@ -435,11 +621,34 @@ none_at_first d (Apart also) claims = λ a b in_a in_b kept_a kept_b same ne.
     absurd (ne (is a.sub kept_a ∙ sym (is b.sub kept_b)))
 none_at_first d Within claims = λ c h kept. absurd (omega (arith, ltb-true c.sub 0 kept))
 
-pub some_count : (d : Regions) (asked : Asked) (count : ℕ) (claims : List Claim) → (NoneFails d asked count claims → ⊥) → 0 < count
-some_count d asked count claims some = elim (cases_lt 0 count) [
+-- where none fails before a limit, none fails before a lower one
+none_below : (d : Regions) (asked : Asked) (m n : ℕ) (claims : List Claim) → m ≤ n → NoneFails d asked n claims
+    → NoneFails d asked m claims
+none_below d (Apart also) m n claims le none = λ a b in_a in_b kept_a kept_b.
+    let more : (s : ℕ) → is_kept (Apart also) m s ≡ true → is_kept (Apart also) n s ≡ true =
+    λ s kept. elim (which_kept also m s kept) [
+      | inl lt ↦ is_before also n s (omega (arith, lt, le))
+      | inr e ↦ rw e (is_also also n)
+    ] in
+    none a b in_a in_b (more a.sub kept_a) (more b.sub kept_b)
+none_below d Within m n claims le none = λ c h kept. none c h (lt-ltb c.sub n (omega (arith, ltb-true c.sub m kept, le)))
+
+-- so one that is told stands behind it
+pub told_behind : (d : Regions) (asked : Asked) (low i : ℕ) (claims : List Claim) → NoneFails d asked low claims
+    → ¬ NoneFails d asked (i + 1) claims → low < i + 1
+told_behind d asked low i claims none some = elim (cases_lt low (i + 1)) [
   | inl lt ↦ lt
-  | inr le ↦ let e : count ≡ 0 = omega (arith, le) in absurd (some (rw e (none_at_first d asked claims)))
+  | inr le ↦ absurd (some (none_below d asked (i + 1) low claims le none))
 ]
+
+pub failing_none : (d : Regions) (asked : Asked) (limit : ℕ) (claims : List Claim) (o : Option ℕ)
+    → ((i : ℕ) → o ≡ Some i → ⊥) → IsFailing d asked limit claims o → NoneFails d asked limit claims
+failing_none d asked limit claims None not_some failing = failing
+failing_none d asked limit claims (Some i) not_some failing = absurd (not_some i refl)
+
+pub failing_some : (d : Regions) (asked : Asked) (limit i : ℕ) (claims : List Claim) (o : Option ℕ) → o ≡ Some i
+    → IsFailing d asked limit claims o → (i < limit) × ¬ NoneFails d asked (i + 1) claims
+failing_some d asked limit i claims o is failing = subst (IsFailing d asked limit claims) is failing
 
 -- what the first meeting says of one subspace, where those before it are not faulty
 pub met_here : (d : Regions) (i : ℕ) (o : Option (ℕ × ℕ)) → IsFirstMeeting d o → ((k j : ℕ) → k < i → ¬ MeetsEarlier d k j)
@@ -519,7 +728,7 @@ none_in d claims also count (Some i) first not_some = absurd (not_some i refl)
 pub search_none : (d : Regions) (claims : List Claim) (n : ℕ) (o : Option ℕ) → AreClaims d (Apart 0) (length d.subs) claims
     → n ≡ length d.subs → IsFirstFailing d claims (Apart 0) n o → ((i : ℕ) → o ≡ Some i → ⊥) → (i j : ℕ) → ¬ MeetsEarlier d i j
 search_none d claims n o are is first not_some =
-    none_first d claims are (subst (λ k. NoneOverlap 0 k claims) is (none_in d claims 0 n o first not_some))
+    none_meets d claims are (subst (λ k. NoneOverlap 0 k claims) is (none_in d claims 0 n o first not_some))
 
 pub search_fails : (d : Regions) (claims : List Claim) (n i : ℕ) (o p : Option ℕ) → AreClaims d (Apart 0) (length d.subs) claims
     → o ≡ Some i → IsFirstFailing d claims (Apart 0) n o → p ≡ None → IsFirstFailing d claims (Apart i) i p → ⊥

@@ -1,5 +1,5 @@
 -- What a space leaves free, and rectangles that are held against it.
-use Rattle.std.proofs.Common.{◌≡◌, ◌↔◌, ℕ, ◌+◌, ◌*◌, ◌<◌, ◌≤◌, ◌^◌, max, nat_le, true, Bool, List, [], length, get_or, All, AllPairs, Contains, IsTrue, refl, sym, subst, ap, ◌∙◌, inl, inr, arith}
+use Rattle.std.proofs.Common.{◌≡◌, ℕ, ◌+◌, ◌*◌, ◌<◌, ◌≤◌, ◌^◌, nat_le, true, Bool, List, [], Option, Some, None, MatchOption, length, get_or, All, AllPairs, Contains, sym, subst, inl, inr, arith}
 use Rattle.std.specs.List.Sorted.{IsPermutation}
 use Rattle.std.proofs.lemmas.Bool.{cases_lt, le-leb}
 use Rattle.std.proofs.lemmas.List.{get_or_default}
@@ -10,11 +10,12 @@ use Rattle.point_set.specs.declared.rect.Rect.{Rect}
 use Rattle.point_set.specs.Rects.{AreSmall, rect_at}
 use Rattle.point_set.proofs.lemmas.Ahead.{in_or_not}
 use Rattle.point_set.proofs.lemmas.Columns.{has_at}
-use Rattle.overlaps.specs.Between.{AreApartFrom}
+use Rattle.overlaps.specs.declared.point.Point.{Point}
+use Rattle.overlaps.specs.Between.{AreApartFrom, IsCommon}
 use Rattle.overlaps.specs.Meeting.{IsNoHigher}
 use Rattle.plane_gaps.specs.Gaps.{HasPoint, LeaveFree}
 use Rattle.arena_sets.specs.Pieces.{AreRectsOf}
-use Rattle.region_tree.specs.Wholes.{AreGaps, AreHeld, near}
+use Rattle.region_tree.specs.Wholes.{AreGaps, AreHeld, IsPointOutside, near}
 use Rattle.region_tree.proofs.Claiming.{held}
 
 -- ---- What is left free.
@@ -63,25 +64,21 @@ pub gaps_some : (points : List ℕ) (last : ℕ) (gaps : List Rect) → AreGaps 
     → All (λ (r : Rect). (r.x0 ≤ r.x1) × (r.y0 ≤ r.y1)) gaps
 gaps_some points last gaps are k d lt = let r = are.are (get_or gaps k d) (Contains-get_or gaps k d lt) in (r.wide, r.tall)
 
-pub none_held : (points : List ℕ) (rects : List Rect) → rects ≡ [] → IsTrue true ↔ AreHeld points rects
-none_held points rects is = (
-  λ _ r h. let lt : h.0 < 0 = subst (λ (rs : List Rect). h.0 < length rs) is h.1 in absurd (omega (arith, lt)),
-  λ _. refl,
-)
+pub none_held : (points : List ℕ) (rects : List Rect) → rects ≡ [] → AreHeld points rects
+none_held points rects is r h = let lt : h.0 < 0 = subst (λ (rs : List Rect). h.0 < length rs) is h.1 in absurd (omega (arith, lt))
 
-pub within_told : (points : List ℕ) (last : ℕ) (rects gaps : List Rect) (within : Bool) → AreGaps points last gaps
-    → All (λ (r : Rect). r.x1 ≤ last) rects → AreSmall rects → IsTrue within ↔ AreApartFrom rects gaps
-    → IsTrue within ↔ AreHeld points rects
-within_told points last rects gaps within are ends small tells = (
-  λ so r h x y holds. elim (in_or_not points (x * 2 ^ 32 + y)) [
-    | inl has ↦ has
-    | inr missed ↦
-        let right = holds.right in
-        let high = holds.high in
-        let end = All-contains (λ (s : Rect). s.x1 ≤ last) rects r ends h in
-        let fits = (All-contains (λ (s : Rect). (s.x1 < 2 ^ 32) × (s.y1 < 2 ^ 32)) rects r small h).1 in
-        let gap = are.all x y (omega (arith, right, end)) (omega (arith, high, fits)) missed in
-        absurd (tells.0 so r gap.0 h gap.1 x y holds gap.2)
-  ],
-  λ all. tells.1 (λ r s in_r in_s x y here there. are.apart x y (s, in_s, there) (all r in_r x y here)),
-)
+-- what a point in common with what is left free tells
+pub point_told : (points : List ℕ) (last : ℕ) (rects gaps : List Rect) (found : Option Point) → AreGaps points last gaps
+    → All (λ (r : Rect). r.x1 ≤ last) rects → AreSmall rects
+    → MatchOption found (AreApartFrom rects gaps) (IsCommon rects gaps) → IsPointOutside points rects found
+point_told points last rects gaps None are ends small apart = λ r h x y holds. elim (in_or_not points (x * 2 ^ 32 + y)) [
+  | inl has ↦ has
+  | inr missed ↦
+      let right = holds.right in
+      let high = holds.high in
+      let end = All-contains (λ (s : Rect). s.x1 ≤ last) rects r ends h in
+      let fits = (All-contains (λ (s : Rect). (s.x1 < 2 ^ 32) × (s.y1 < 2 ^ 32)) rects r small h).1 in
+      let gap = are.all x y (omega (arith, right, end)) (omega (arith, high, fits)) missed in
+      absurd (apart r gap.0 h gap.1 x y holds gap.2)
+]
+point_told points last rects gaps (Some p) are ends small common = (common.0, are.apart p.x p.y common.1)

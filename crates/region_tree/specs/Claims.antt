@@ -1,10 +1,11 @@
 -- Rectangles of points that subspaces claim.
-use Rattle.std.specs.Prelude.{◌≡◌, ◌≢◌, ℕ, ◌+◌, ◌*◌, ◌^◌, ◌<◌, ◌≤◌, ◌||◌, ◌++◌, nat_lt, nat_eq, Bool, cond, List, slice_get, AllPairs, Contains, filter, length, map, Option, Some, None, MatchOption, true}
+use Rattle.std.specs.Prelude.{◌≡◌, ◌≢◌, ℕ, ◌+◌, ◌*◌, ◌^◌, ◌<◌, ◌≤◌, ◌++◌, max, min, nat_lt, nat_eq, if◌then◌else◌, cond, List, slice_get, AllPairs, Contains, filter, length, map, Option, Some, None, MatchOption, true}
 use Rattle.std.specs.Borrow.{Bor}
 use Rattle.std.specs.Option.{option_map_or}
 use Rattle.point_set.specs.declared.rect.Rect.{Rect}
 use Rattle.point_set.specs.Rects.{Holds}
-use Rattle.overlaps.specs.Meeting.{AreApart}
+use Rattle.overlaps.specs.declared.point.Point.{Point}
+use Rattle.overlaps.specs.Meeting.{AreApart, AreApartAt}
 use Rattle.plane_gaps.specs.Gaps.{IsRect}
 use Rattle.arena_sets.specs.Pieces.{AreRectsOf}
 use Rattle.region_tree.specs.declared.claims.Asked.{Asked}
@@ -13,6 +14,7 @@ use Rattle.region_tree.specs.declared.claims.Claim.{Claim}
 use Rattle.vocabulary.specs.Prelude.{Sub}
 use Rattle.log_tables.specs.Regions.{Regions, space_points, whole_of}
 use Rattle.region_tree.specs.Faults.{is_disjoint, MeetsEarlier}
+use Rattle.region_tree.specs.Owners.{is_kept}
 use Rattle.region_tree.specs.Wholes.{IsHeld, whole_at}
 
 -- One more than the id of the space that a partition cuts, and 0 where none is declared.
@@ -101,11 +103,6 @@ pub record IsGroupCut (claims group behind : List Claim) : Type 0 where
   pub others : (a b : Claim) → Contains group a → Contains behind b → a.group ≢ b.group
   pub shorter : length behind < length claims
 
--- Whether a subspace is looked at: it is before a limit, or the one that is looked at with those.
-abbrev pub is_kept : Asked → ℕ → ℕ → Bool
-is_kept (Apart also) limit sub = nat_lt sub limit || nat_eq sub also
-is_kept Within limit sub = nat_lt sub limit
-
 -- The rectangles that the kept subspaces claim.
 abbrev pub rects_kept : Asked → ℕ → List Claim → List Rect
 rects_kept asked limit claims = map (λ (c : Claim). c.rect)
@@ -117,6 +114,10 @@ NoneOverlap also limit claims = (a b : Claim) → Contains claims a → Contains
     → is_kept (Apart also) limit a.sub ≡ true → is_kept (Apart also) limit b.sub ≡ true
     → a.group ≡ b.group → a.sub ≢ b.sub → AreApart a.rect b.rect
 
+-- No two rectangles of the kept claims have this point.
+abbrev pub NoneShare : ℕ → ℕ → List Claim → Point → Type 0
+NoneShare also limit claims p = AllPairs (AreApartAt p) (rects_kept (Apart also) limit claims)
+
 -- No claim of a subspace before a limit has a point that the space which its partition cuts has not.
 abbrev pub NoneLeave : Regions → ℕ → List Claim → Type 0
 NoneLeave d limit claims = (c : Claim) → Contains claims c → is_kept Within limit c.sub ≡ true
@@ -127,18 +128,29 @@ abbrev pub NoneFails : Regions → Asked → ℕ → List Claim → Type 0
 NoneFails d (Apart also) limit claims = NoneOverlap also limit claims
 NoneFails d Within limit claims = NoneLeave d limit claims
 
+-- A subspace before a limit such that up to it there is a fault, or `None` where there is none before the limit.
+abbrev pub IsFailing : Regions → Asked → ℕ → List Claim → Option ℕ → Type 0
+IsFailing d asked limit claims o = MatchOption o (NoneFails d asked limit claims)
+    (λ i. (i < limit) × ¬ NoneFails d asked (i + 1) claims)
+
+-- Of two subspaces, the later one, or the other where that is not before a limit.
+abbrev pub later_before : ℕ → ℕ → ℕ → ℕ
+later_before limit i j = if nat_lt (max i j) limit then max i j else min i j
+
+-- The last subspace that was found.
+abbrev pub last_found : Option ℕ → Option ℕ → Option ℕ
+last_found before (Some i) = Some i
+last_found before None = before
+
+-- The limit of what is looked at, once a subspace before it was found.
+abbrev pub limit_by : Option ℕ → ℕ → ℕ
+limit_by (Some i) limit = i
+limit_by None limit = limit
+
 -- The first subspace before `count` that, looked at with those before it, has the fault.
 abbrev pub IsFirstFailing : Regions → List Claim → Asked → ℕ → Option ℕ → Type 0
 IsFirstFailing d claims asked count o = MatchOption o (NoneFails d asked count claims)
     (λ i. (i < count) × NoneFails d asked i claims × ¬ NoneFails d asked (i + 1) claims)
-
--- Up to the first limit there is no fault, and up to the second there is one.
-pub record IsBracket (d : Regions) (claims : List Claim) (asked : Asked) (count : ℕ) (limits : ℕ × ℕ)
-    : Type 0 where
-  pub order : limits.0 < limits.1
-  pub within : limits.1 ≤ count
-  pub none : NoneFails d asked limits.0 claims
-  pub some : ¬ NoneFails d asked limits.1 claims
 
 -- No subspace before `limit` meets an earlier one.
 abbrev pub NoneMeets : Regions → ℕ → Type 0

@@ -3,6 +3,8 @@ use Rattle.std.specs.Prelude.{ℕ, ◌+◌, ◌*◌, ◌^◌, ◌<◌, ◌≤◌
 use Rattle.std.specs.Option.{option_map_or}
 use Rattle.point_set.specs.declared.rect.Rect.{Rect}
 use Rattle.point_set.specs.Rects.{Holds}
+use Rattle.overlaps.specs.declared.point.Point.{Point}
+use Rattle.overlaps.specs.Between.{HasAt}
 use Rattle.overlaps.specs.Meeting.{IsNoHigher}
 use Rattle.plane_gaps.specs.Gaps.{HasPoint, IsRect}
 use Rattle.vocabulary.specs.Prelude.{Sub}
@@ -20,6 +22,11 @@ IsHeld points r = (x y : ℕ) → Holds r x y → Contains points (x * 2 ^ 32 + 
 -- So it is of each of these rectangles.
 abbrev pub AreHeld : List ℕ → List Rect → Type 0
 AreHeld points rects = (r : Rect) → Contains rects r → IsHeld points r
+
+-- A point of some rectangle that is not in the list, or `None` where there is none.
+abbrev pub IsPointOutside : List ℕ → List Rect → Option Point → Type 0
+IsPointOutside points rects o =
+    MatchOption o (AreHeld points rects) (λ p. HasAt rects p × ¬ Contains points (p.x * 2 ^ 32 + p.y))
 
 -- The rectangles that begin up to this column.
 abbrev pub near : ℕ → List Rect → List Rect

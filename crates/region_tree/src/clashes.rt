@@ -1,17 +1,23 @@
 //! The first subspaces with a fault: those that leave the space which is cut, and those that meet an earlier one of
-//! their disjoint partition. Each step of the search for them is one pass over claims.
+//! their disjoint partition. Each step of the search for them is one pass over claims, which tells of a fault before
+//! a limit whose it is.
 
-ghost use Rattle.std.specs.Prelude.{◌≡◌, ◌++◌, ◌∷◌, [], ◌↔◌, IfNone, IfOk, IfSome, IsTrue, OnOk};
-ghost use Rattle.region_tree.specs.Claims.{AreOfOneGroup, AreReady, HaveOneWhole, IsBracket, IsFirstFailing, IsFirstMeeting, IsGroupCut, NoneFails, NoneLeave, NoneOverlap, is_kept, rects_kept};
+ghost use Rattle.std.specs.Prelude.{◌≡◌, ◌+◌, ◌++◌, ◌<◌, ◌∷◌, [], IfNone, IfOk, IfSome, MatchOption, OnOk};
+ghost use Rattle.region_tree.specs.Claims.{AreOfOneGroup, AreReady, HaveOneWhole, IsFailing, IsFirstFailing, IsFirstMeeting, IsGroupCut, NoneLeave, NoneOverlap, NoneShare, last_found, later_before, limit_by, rects_kept};
 ghost use Rattle.region_tree.specs.Wholes.{IsFirstOutside};
 
 use crate::claims::{Asked, Claim, all_claims, sort};
 use crate::lookups::subs;
-use crate::wholes::are_within;
+use crate::owners::{is_kept, owner_at};
+use crate::wholes::outside_point;
 use arena_sets::SetOfRects;
 use log_tables::Decls;
+use overlaps::{Point, shared_point};
 use point_set::Rect;
 use std::alloc::{AllocError, Global};
+
+/// How often a search asks about all that is before a fault that was found, before it goes by halves.
+const GUESSES: u32 = 4;
 
 /// The claims for the first group, and those for the others.
 fn cut_group(claims: &[Claim]) -> Option<(&[Claim], &[Claim])>
@@ -22,16 +28,6 @@ fn cut_group(claims: &[Claim]) -> Option<(&[Claim], &[Claim])>
     let group = claims.first()?.group;
     let end = claims.partition_point(|claim| claim.group <= group);
     Some(claims.split_at(end))
-}
-
-/// Whether a subspace is looked at.
-fn is_kept(asked: Asked, limit: usize, sub: usize) -> bool
-    ensures { result ≡ is_kept asked limit sub }
-{
-    match asked {
-        Asked::Apart { also } => sub < limit || sub == also,
-        Asked::Within => sub < limit,
-    }
 }
 
 /// Adds the rectangle of a claim, if its subspace is kept.
@@ -65,126 +61,151 @@ fn rects_kept(
     Ok(rects)
 }
 
-/// Whether no two of the kept claims for one partition share a point.
-fn is_group_apart(
+/// Of two subspaces, the later one, or the other where that is not before a limit.
+fn later_before(limit: usize, one: usize, other: usize) -> usize
+    ensures { result ≡ later_before limit one other }
+{
+    let later = one.max(other);
+    if later < limit { later } else { one.min(other) }
+}
+
+/// Of two kept subspaces with a claim on a point, the later one before the limit.
+fn meeting_at(claims: &[Claim], also: usize, limit: usize, point: Point) -> Option<usize>
+    requires ready { AreReady claims.now }
+    requires group { AreOfOneGroup claims.now }
+    ensures { MatchOption result (NoneShare also limit claims.now point)
+        (λ i. (i < limit) × ¬ NoneOverlap also (i + 1) claims.now) }
+{
+    let asked = Asked::Apart { also };
+    let Some(one) = owner_at(claims, asked, limit, point, None) else {
+        return None;
+    };
+    let Some(other) = owner_at(claims, asked, limit, point, Some(one)) else {
+        return None;
+    };
+    Some(later_before(limit, one, other))
+}
+
+/// A kept subspace of one partition that meets another, if any does.
+fn meeting_in(
     alloc: Global,
     claims: &[Claim],
     also: usize,
     limit: usize,
-) -> Result<bool, AllocError>
+) -> Result<Option<usize>, AllocError>
     requires ready { AreReady claims.now }
     requires group { AreOfOneGroup claims.now }
-    ensures { IfOk result (λ apart. IsTrue apart ↔ NoneOverlap also limit claims.now) }
+    ensures { IfOk result (λ o. MatchOption o (NoneOverlap also limit claims.now)
+        (λ i. (i < limit) × ¬ NoneOverlap also (i + 1) claims.now)) }
 {
     let rects = rects_kept(alloc, claims, Asked::Apart { also }, limit)?;
-    let apart = overlaps::are_apart(alloc, rects.as_slice())?;
-    Ok(apart)
+    match shared_point(alloc, rects.as_slice())? {
+        Some(point) => Ok(meeting_at(claims, also, limit, point)),
+        None => Ok(None),
+    }
 }
 
-/// Whether the kept claims of partitions that cut one space have only points of that space.
-fn is_group_within<P: SetOfRects>(
+/// A kept subspace of partitions that cut one space with a point which that space has not, if there is one.
+fn leaving_in<P: SetOfRects>(
     alloc: Global,
     decls: &Decls<P>,
     claims: &[Claim],
     limit: usize,
-) -> Result<bool, AllocError>
+) -> Result<Option<usize>, AllocError>
     requires ready { AreReady claims.now }
     requires wholes { HaveOneWhole decls.now claims.now }
     requires group { AreOfOneGroup claims.now }
-    ensures { IfOk result (λ within. IsTrue within ↔ NoneLeave decls.now limit claims.now) }
+    ensures { IfOk result (λ o. MatchOption o (NoneLeave decls.now limit claims.now)
+        (λ i. (i < limit) × ¬ NoneLeave decls.now (i + 1) claims.now)) }
 {
     let Some(first) = claims.first() else {
-        return Ok(true);
+        return Ok(None);
     };
     let rects = rects_kept(alloc, claims, Asked::Within, limit)?;
-    let within = are_within(alloc, decls, rects.as_slice(), first.sub)?;
-    Ok(within)
+    match outside_point(alloc, decls, rects.as_slice(), first.sub)? {
+        Some(point) => Ok(owner_at(claims, Asked::Within, limit, point, None)),
+        None => Ok(None),
+    }
 }
 
-/// Whether none of the kept subspaces of one group fails.
-fn is_group_clear<P: SetOfRects>(
+/// A kept subspace of one group that fails, if any does.
+fn failing_in<P: SetOfRects>(
     alloc: Global,
     decls: &Decls<P>,
     claims: &[Claim],
     asked: Asked,
     limit: usize,
-) -> Result<bool, AllocError>
+) -> Result<Option<usize>, AllocError>
     requires ready { AreReady claims.now }
     requires wholes { HaveOneWhole decls.now claims.now }
     requires group { AreOfOneGroup claims.now }
-    ensures { IfOk result (λ clear. IsTrue clear ↔ NoneFails decls.now asked limit claims.now) }
+    ensures { IfOk result (IsFailing decls.now asked limit claims.now) }
 {
     match asked {
-        Asked::Apart { also } => is_group_apart(alloc, claims, also, limit),
-        Asked::Within => is_group_within(alloc, decls, claims, limit),
+        Asked::Apart { also } => meeting_in(alloc, claims, also, limit),
+        Asked::Within => leaving_in(alloc, decls, claims, limit),
     }
 }
 
-/// Whether none of the kept subspaces fails.
-fn are_clear<P: SetOfRects>(
+/// The last subspace that was found.
+fn last_found(before: Option<usize>, found: Option<usize>) -> Option<usize>
+    ensures { result ≡ last_found before found }
+{
+    match found {
+        Some(sub) => Some(sub),
+        None => before,
+    }
+}
+
+/// The limit of what is looked at, once a subspace before it was found.
+fn limit_by(found: Option<usize>, limit: usize) -> usize
+    ensures { result ≡ limit_by found limit }
+{
+    match found {
+        Some(sub) => sub,
+        None => limit,
+    }
+}
+
+/// A kept subspace that fails, if any does. Behind the first group that has one, only those before it are looked at.
+fn one_failing<P: SetOfRects>(
     alloc: Global,
     decls: &Decls<P>,
     claims: &[Claim],
     asked: Asked,
     limit: usize,
-) -> Result<bool, AllocError>
+) -> Result<Option<usize>, AllocError>
     requires ready { AreReady claims.now }
     requires wholes { HaveOneWhole decls.now claims.now }
-    ensures { IfOk result (λ clear. IsTrue clear ↔ NoneFails decls.now asked limit claims.now) }
+    ensures { IfOk result (IsFailing decls.now asked limit claims.now) }
 {
+    let mut found = None;
     let mut rest = claims;
     while let Some((group, behind)) = cut_group(rest) {
-        if !is_group_clear(alloc, decls, group, asked, limit)? {
-            return Ok(false);
-        }
+        let failing = failing_in(alloc, decls, group, asked, limit_by(found, limit))?;
+        found = last_found(found, failing);
         rest = behind;
     }
-    Ok(true)
+    Ok(found)
 }
 
-/// Subspaces before which claims double in number, where claims stand by their subspaces.
-fn doublings(alloc: Global, claims: &[Claim]) -> Result<Vec<usize>, AllocError> {
-    let mut bounds = Vec::new(alloc);
-    let mut place = 1024;
-    while place < claims.len() {
-        bounds.push(claims[place].sub)?;
-        place += place;
-    }
-    Ok(bounds)
-}
-
-/// Two limits, the lower of which has no fault and the higher of which has one. It tries the bounds in turn, so that no pass goes over many more claims than those before the first fault.
-fn bracket<P: SetOfRects>(
-    alloc: Global,
-    decls: &Decls<P>,
-    claims: &[Claim],
-    bounds: &[usize],
-    asked: Asked,
-    count: usize,
-) -> Result<(usize, usize), AllocError>
-    requires ready { AreReady claims.now }
-    requires wholes { HaveOneWhole decls.now claims.now }
-    requires some { ¬ NoneFails decls.now asked count claims.now }
-    ensures { IfOk result (IsBracket decls.now claims.now asked count) }
+/// A limit between two others, at which a search asks next: just before the higher one, or in the middle.
+fn next_limit(low: usize, high: usize, guesses: u32) -> usize
+    requires { low + 1 < high }
+    ensures { (low < result) × (result < high) }
 {
-    let mut low = 0;
-    for bound in bounds {
-        if low < *bound && *bound < count {
-            if !are_clear(alloc, decls, claims, asked, *bound)? {
-                return Ok((low, *bound));
-            }
-            low = *bound;
-        }
+    if guesses > 0 {
+        high - 1
+    } else {
+        low + (high - low) / 2
     }
-    Ok((low, count))
 }
 
-/// The first subspace that fails, of those before `count`. A binary search, each step of which is one pass.
+/// The first subspace that fails, of those before `count`. Each step of the search is one pass. Mostly few are needed, and a binary search bounds their number.
 fn first_failing<P: SetOfRects>(
     alloc: Global,
     decls: &Decls<P>,
     claims: &[Claim],
-    bounds: &[usize],
     asked: Asked,
     count: usize,
 ) -> Result<Option<usize>, AllocError>
@@ -192,16 +213,17 @@ fn first_failing<P: SetOfRects>(
     requires wholes { HaveOneWhole decls.now claims.now }
     ensures { IfOk result (IsFirstFailing decls.now claims.now asked count) }
 {
-    if are_clear(alloc, decls, claims, asked, count)? {
+    let Some(found) = one_failing(alloc, decls, claims, asked, count)? else {
         return Ok(None);
-    }
-    let (mut low, mut high) = bracket(alloc, decls, claims, bounds, asked, count)?;
+    };
+    let (mut low, mut high) = (0, found + 1);
+    let mut guesses = GUESSES;
     while high - low > 1 {
-        let middle = low + (high - low) / 2;
-        if are_clear(alloc, decls, claims, asked, middle)? {
-            low = middle;
-        } else {
-            high = middle;
+        let limit = next_limit(low, high, guesses);
+        guesses = guesses.saturating_sub(1);
+        match one_failing(alloc, decls, claims, asked, limit)? {
+            Some(sub) => high = sub + 1,
+            None => low = limit,
         }
     }
     Ok(Some(low))
@@ -218,14 +240,12 @@ pub(crate) fn first_meeting<P: SetOfRects>(
 {
     let asked = Asked::Apart { also: 0 };
     let mut claims = all_claims(alloc, decls, asked)?;
-    let bounds = doublings(alloc, claims.as_slice())?;
     sort(&mut claims);
-    let (claims, bounds) = (claims.as_slice(), bounds.as_slice());
-    let Some(sub) = first_failing(alloc, decls, claims, bounds, asked, subs(decls).len())? else {
+    let claims = claims.as_slice();
+    let Some(sub) = first_failing(alloc, decls, claims, asked, subs(decls).len())? else {
         return Ok(None);
     };
-    let with_sub = Asked::Apart { also: sub };
-    match first_failing(alloc, decls, claims, bounds, with_sub, sub)? {
+    match first_failing(alloc, decls, claims, Asked::Apart { also: sub }, sub)? {
         Some(other) => Ok(Some((sub, other))),
         None => unreachable!(),
     }
@@ -241,16 +261,12 @@ pub(crate) fn first_outside<P: SetOfRects>(
     ensures { IfOk result (IsFirstOutside decls.now) }
 {
     let mut claims = all_claims(alloc, decls, Asked::Within)?;
-    let bounds = doublings(alloc, claims.as_slice())?;
     sort(&mut claims);
-    let (claims, bounds) = (claims.as_slice(), bounds.as_slice());
-    let first = first_failing(
+    first_failing(
         alloc,
         decls,
-        claims,
-        bounds,
+        claims.as_slice(),
         Asked::Within,
         subs(decls).len(),
-    )?;
-    Ok(first)
+    )
 }

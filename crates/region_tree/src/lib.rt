@@ -14,6 +14,7 @@ mod forest;
 mod forest_fault;
 mod growing;
 mod lookups;
+mod owners;
 mod path;
 mod shape;
 mod sharing;

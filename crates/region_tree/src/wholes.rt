@@ -1,17 +1,17 @@
 //! Whether rectangles lie within the space that a partition cuts: they are held against what it leaves free.
 
-ghost use Rattle.std.specs.Prelude.{◌≡◌, ◌≤◌, ◌↔◌, ◌++◌, ◌∷◌, [], All, AllPairs, IfOk, IsTrue, OnOk};
+ghost use Rattle.std.specs.Prelude.{◌≡◌, ◌≤◌, ◌++◌, ◌∷◌, [], All, AllPairs, IfOk, OnOk};
 ghost use Rattle.arena_sets.specs.Pieces.{AreRectsOf};
 ghost use Rattle.log_tables.specs.Regions.{IsSetOf};
 ghost use Rattle.overlaps.specs.Meeting.{IsNoHigher};
 ghost use Rattle.point_set.specs.Rects.{AreSmall};
-ghost use Rattle.region_tree.specs.Wholes.{AreGaps, AreHeld, near, whole_at};
+ghost use Rattle.region_tree.specs.Wholes.{AreGaps, IsPointOutside, near, whole_at};
 
 use crate::claims::rects_of;
 use crate::lookups::{sub_at, whole_set};
 use arena_sets::SetOfRects;
 use log_tables::Decls;
-use overlaps::{are_apart_from, sort_by_row};
+use overlaps::{Point, common_point, sort_by_row};
 use plane_gaps::gaps_of;
 use point_set::{PointSet, Rect};
 use std::alloc::{AllocError, Global};
@@ -86,23 +86,22 @@ fn gaps_up_to<P: SetOfRects>(
     Ok(gaps)
 }
 
-/// Whether rectangles have only points of the space that the partition of subspace `i` cuts.
-pub(crate) fn are_within<P: SetOfRects>(
+/// A point of some rectangles that the space has not which the partition of subspace `i` cuts, or `None` if there is none.
+pub(crate) fn outside_point<P: SetOfRects>(
     alloc: Global,
     decls: &Decls<P>,
     rects: &[Rect],
     i: usize,
-) -> Result<bool, AllocError>
+) -> Result<Option<Point>, AllocError>
     requires order { AllPairs IsNoHigher rects.now }
     requires some { All (λ r. (r.x0 ≤ r.x1) × (r.y0 ≤ r.y1)) rects.now }
     requires small { AreSmall rects.now }
-    ensures { IfOk result (λ within. IsTrue within ↔ AreHeld (whole_at decls.now i) rects.now) }
+    ensures { IfOk result (IsPointOutside (whole_at decls.now i) rects.now) }
 {
     if rects.is_empty() {
-        return Ok(true);
+        return Ok(None);
     }
     let last = last_column(rects);
     let gaps = gaps_up_to(alloc, decls, i, last)?;
-    let within = are_apart_from(alloc, rects, gaps.as_slice())?;
-    Ok(within)
+    common_point(alloc, rects, gaps.as_slice())
 }

@@ -1,5 +1,0 @@
-use Rattle.overlaps.proofs.Lists.{NoneBegun}
-use Rattle.overlaps.proofs.rows.none_begins_in.Given as goal
-
-abbrev pub invariant-loop-other : goal.invariant-loop-other
-invariant-loop-other l = NoneBegun l.rects l.others l.reached l.other-index
