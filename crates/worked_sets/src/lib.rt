@@ -7,6 +7,8 @@
 #[cfg(test)]
 mod counts_tests;
 #[cfg(test)]
+mod forests_tests;
+#[cfg(test)]
 mod planes;
 #[cfg(test)]
 mod point_set_tests;

@@ -1,6 +1,8 @@
 //! Sets of points of four columns and four rows, drawn from the bits of a number.
 
-use point_set::Rect;
+use bumpalo::Bump;
+use point_set::{Rect, RectSet, RunSet};
+use region_tree::{ArenaRects, ArenaSet};
 use std::alloc::{AllocError, Global};
 
 /// A rectangle by its columns and its rows.
@@ -70,4 +72,39 @@ pub fn plane(alloc: Global, bits: u64) -> Result<(Vec<u64>, Vec<Rect>), AllocErr
         }
     }
     Ok((points, rects))
+}
+
+/// Points in order, as runs.
+pub fn runs_of(alloc: Global, points: &[u64]) -> Result<Vec<(u64, u64)>, AllocError> {
+    let mut runs: Vec<(u64, u64)> = Vec::new(alloc);
+    for p in points {
+        match runs.pop() {
+            Some((first, last)) if last.checked_add(1) == Some(*p) => runs.push((first, *p))?,
+            Some(run) => {
+                runs.push(run)?;
+                runs.push((*p, *p))?;
+            }
+            None => runs.push((*p, *p))?,
+        }
+    }
+    Ok(runs)
+}
+
+/// The points of a plane as a set of any kind, made from runs.
+pub fn drawn_set<'a, P: ArenaSet<'a>>(alloc: Global, arena: &'a Bump, bits: u64) -> Option<P> {
+    let (points, _) = plane(alloc, bits).ok()?;
+    let runs = runs_of(alloc, &points).ok()?;
+    if RunSet::over(&runs).is_none() {
+        return None;
+    }
+    P::place(arena, &runs).ok()
+}
+
+/// The points of a plane as rectangles, of even numbers as large as bands allow.
+pub fn drawn_rects<'a>(alloc: Global, arena: &'a Bump, bits: u64) -> Option<RectSet<'a>> {
+    let (_, rects) = plane(alloc, bits).ok()?;
+    if RectSet::over(&rects).is_none() {
+        return None;
+    }
+    RectSet::place_rects(arena, &rects).ok()
 }

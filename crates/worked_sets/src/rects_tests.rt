@@ -1,12 +1,11 @@
-//! Grids, the cells of them that rectangles have points of, and sets and forests made of rectangles, against lists of points.
+//! Grids, the cells of them that rectangles have points of, and sets made of rectangles, against lists of points.
 
-use crate::planes::{plane, rect};
+use crate::planes::{plane, rect, runs_of};
 use bumpalo::Bump;
 use covered_cells::{GridCell, covered_cells};
 use grid::Grid;
-use point_set::{PointList, PointSet, Rect, RectSet, RunSet, points_in};
-use region_tree::{ArenaRects, ArenaSet, Decls, Forest, ForestFault, Part, Space, Sub, is_forest};
-use std::alloc::{AllocError, Global};
+use point_set::{PointSet, RectSet, RunSet, points_in};
+use region_tree::{ArenaRects, ArenaSet};
 use std::process::Abort;
 use std::test::Fail;
 
@@ -77,22 +76,6 @@ fn covered_cells_are_listed(rt: HostRuntime) -> Result<(), Fail> {
     Ok(())
 }
 
-/// The points of a plane as runs.
-fn runs_of(alloc: Global, points: &[u64]) -> Result<Vec<(u64, u64)>, AllocError> {
-    let mut runs: Vec<(u64, u64)> = Vec::new(alloc);
-    for p in points {
-        match runs.pop() {
-            Some((first, last)) if last.checked_add(1) == Some(*p) => runs.push((first, *p))?,
-            Some(run) => {
-                runs.push(run)?;
-                runs.push((*p, *p))?;
-            }
-            None => runs.push((*p, *p))?,
-        }
-    }
-    Ok(runs)
-}
-
 /// Whether a set has just these points.
 fn has_just<P: PointSet>(set: &P, points: &[u64]) -> bool {
     let mut next = 0usize;
@@ -129,104 +112,5 @@ fn rectangles_are_placed(rt: HostRuntime) -> Result<(), Fail> {
     }
     let set: RectSet<'_> = RectSet::place(&arena, &wide).ok().ok_or("no memory")?;
     assert!(rt; set.count() == (1u128 << 33) + 3 && set.last() == Some((1u64 << 33) + 5));
-    Ok(())
-}
-
-/// The points of a plane, drawn from the bits of a number, as runs.
-fn drawn_runs(alloc: Global, bits: u64) -> Result<Vec<(u64, u64)>, AllocError> {
-    let (points, _) = plane(alloc, bits)?;
-    runs_of(alloc, &points)
-}
-
-/// A space of the points of runs.
-fn space<'a, P: ArenaSet<'a>>(arena: &'a Bump, id: u32, runs: &[(u64, u64)]) -> Option<Space<P>> {
-    if RunSet::over(runs).is_none() {
-        return None;
-    }
-    let set = P::place(arena, runs).ok()?;
-    Some(Space { id, set })
-}
-
-/// A space, and a partition of it with some subspaces, all of them sets of a plane.
-fn cut<'a, P: ArenaSet<'a>>(
-    alloc: Global,
-    arena: &'a Bump,
-    disjoint: bool,
-    whole: u64,
-    pieces: &[u64],
-) -> Option<Decls<P>> {
-    let mut spaces = Vec::new(alloc);
-    spaces
-        .push(space(arena, 1, &drawn_runs(alloc, whole).ok()?)?)
-        .ok()?;
-    let mut parts = Vec::new(alloc);
-    parts
-        .push(Part {
-            id: 1,
-            space: 1,
-            disjoint,
-        })
-        .ok()?;
-    let mut subs = Vec::new(alloc);
-    let mut id = 1u32;
-    for piece in pieces {
-        id = id.saturating_add(1);
-        spaces
-            .push(space(arena, id, &drawn_runs(alloc, *piece).ok()?)?)
-            .ok()?;
-        subs.push(Sub {
-            part: 1,
-            colour: id,
-            space: id,
-        })
-        .ok()?;
-    }
-    Some(Decls::from_vecs(spaces, parts, subs))
-}
-
-/// Which way a forest is refused, if it is: 1 for a point outside, 2 for a shared one; the subspace, the other one and the point.
-fn refusal<'a, P: ArenaSet<'a>>(
-    alloc: Global,
-    arena: &'a Bump,
-    disjoint: bool,
-    whole: u64,
-    pieces: &[u64],
-) -> Option<(u32, usize, usize, u64)> {
-    let decls: Decls<P> = cut(alloc, arena, disjoint, whole, pieces)?;
-    if !is_forest(&decls) {
-        return None;
-    }
-    match Forest::judge(alloc, &decls) {
-        Ok(_) => Some((0, 0, 0, 0)),
-        Err(ForestFault::NotWithin { sub, point }) => Some((1, sub, 0, point)),
-        Err(ForestFault::NotDisjoint { sub, other, point }) => Some((2, sub, other, point)),
-        Err(ForestFault::Memory) => None,
-    }
-}
-
-#[test]
-fn forests_of_rectangles_are_judged_as_those_of_lists(rt: HostRuntime) -> Result<(), Fail> {
-    let arena = Bump::new(rt.alloc());
-    let mut bits = 1u64;
-    let mut refused = [0u32; 3];
-    for k in 0..200u32 {
-        let mut drawn = [0u64; 8];
-        for n in 0..8 {
-            bits = bits.wrapping_mul(48271) % 65537;
-            drawn[n] = bits & 65535;
-        }
-        let [a, b, c, d, e, f, g, h] = drawn;
-        let pieces = [a & b & c, b & c & d, e & f & g, g & h & a];
-        let whole = a | e | f | g | h;
-        let disjoint = k % 3 > 0;
-        let lists = refusal::<PointList>(rt.alloc(), &arena, disjoint, whole, &pieces);
-        let rects = refusal::<RectSet>(rt.alloc(), &arena, disjoint, whole, &pieces);
-        assert!(rt; lists.is_some() && lists == rects);
-        if let Some((way, _, _, _)) = rects {
-            let way = way.min(2) as usize;
-            refused[way] = refused[way].saturating_add(1);
-        }
-    }
-    assert!(rt; refused[0] > 0 && refused[1] > 0 && refused[2] > 0);
     Ok(())
 }
