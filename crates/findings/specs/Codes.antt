@@ -1,7 +1,7 @@
 -- The codes of the rules that a log may break, and their texts.
 use Rattle.std.specs.Prelude.{ℕ, List, codes}
 use Rattle.spy_grammar.specs.declared.code.Code.{Code}
-use Rattle.spy_grammar.specs.declared.code.Code.TheVariants.{TooLong, Newline, Word, Form, Number, Order, Header, Ended, Count, TooManyRecords, RepeatedId, UnknownId, TooManyPoints, SpaceInTwo, LateSub, TooDeep, NotWithin, NotDisjoint, NotRoot, NotInTree, Fields, SelfInterference, WrongTree, WrongKind, NotCovered, MappedTwice, NoRun, TwoRuns, RepeatedEvent, UndefinedEvent, Serial, TooManyCells, TooManyAccesses, TooMuchLoad, SerialOrder, Unmapped, LaunchRange, LaunchInterference, TooManyGroups}
+use Rattle.spy_grammar.specs.declared.code.Code.TheVariants.{TooLong, Newline, Word, Form, Number, Order, Header, Ended, Count, TooManyRecords, RepeatedId, UnknownId, TooManyPoints, SpaceInTwo, LateSub, TooDeep, NotWithin, NotDisjoint, NotRoot, NotInTree, Fields, SelfInterference, WrongTree, WrongKind, NotCovered, MappedTwice, NoRun, TwoRuns, RepeatedEvent, UndefinedEvent, Serial, TooManyCells, TooManyAccesses, TooMuchLoad, SerialOrder, Unmapped, LaunchRange, LaunchInterference, TooManyGroups, Version, TooManyAtoms, TooManyReads}
 
 -- The table: the text of each code.
 abbrev pub code_text : Code → List ℕ
@@ -44,3 +44,6 @@ code_text Unmapped = codes "unmapped"
 code_text LaunchRange = codes "launch-range"
 code_text LaunchInterference = codes "launch-interference"
 code_text TooManyGroups = codes "too-many-groups"
+code_text Version = codes "version"
+code_text TooManyAtoms = codes "too-many-atoms"
+code_text TooManyReads = codes "too-many-reads"

@@ -50,5 +50,8 @@ pub fn code_text(code: Code) -> &'static [u8]
         LaunchRange => b"launch-range",
         LaunchInterference => b"launch-interference",
         TooManyGroups => b"too-many-groups",
+        Version => b"version",
+        TooManyAtoms => b"too-many-atoms",
+        TooManyReads => b"too-many-reads",
     }
 }

@@ -1,11 +1,11 @@
 -- What is declared stays declared as a log goes on, and where a record of the log stands.
-use Rattle.std.proofs.Common.{◌≡◌, ℕ, zero, suc, ◌+◌, ◌==◌, Bool, true, inl, inr, List, [], ◌∷◌, ◌++◌, refl, sym, ap, ◌∙◌, subst, arith, Some, None, slice_get, fold, length, append_assoc, append-nil}
+use Rattle.std.proofs.Common.{◌≡◌, ℕ, zero, suc, ◌+◌, ◌==◌, Bool, true, inl, inr, List, [], ◌∷◌, ◌++◌, map, refl, sym, ap, ◌∙◌, subst, arith, Some, None, slice_get, fold, length, append_assoc, append-nil}
 use Rattle.std.specs.List.{list_any, position_or_len}
 use Rattle.std.specs.Option.{option_map_or}
 use Rattle.std.proofs.lemmas.Bool.{cases_Bool}
 use Rattle.std.proofs.lemmas.List.Sums.{fold-append}
 use Rattle.std.proofs.lemmas.List.Folds.{list_any-append}
-use Rattle.vocabulary.specs.Prelude.{Record, Lined, Item, lined, lined_from, Tables, Space, with_record, no_tables, tables_of, place_of, points_in}
+use Rattle.vocabulary.specs.Prelude.{Rect, Record, Lined, Item, lined, lined_from, Tables, Space, with_space, with_record, no_tables, tables_of, place_of, points_in, points_of, plane_points, rect_of, strip}
 use Rattle.spy_grammar.specs.declared.record.Record.TheVariants as records
 use Rattle.semantics.specs.Rules.{is_declared, space_id, item_id}
 use Rattle.semantics.specs.Faults.{records_fault}
@@ -69,14 +69,19 @@ id_stays id t line _ e = e
 abbrev pub HasPoints : ℕ → List ℕ → Tables → Type 0
 HasPoints space points t = (is_declared t (space_id space) ≡ true) × (points_in t space ≡ points)
 
-pub points_stay : (space : ℕ) (points : List ℕ) (t : Tables) (line : ℕ) (r : Record) → HasPoints space points t
-    → HasPoints space points (with_record t line r)
-points_stay space points t line (records.Ispace id set) h =
+with_one : (space : ℕ) (points : List ℕ) (t : Tables) (id : ℕ) (more : List ℕ) (rects : List Rect) → HasPoints space points t
+    → HasPoints space points (with_space t id more rects)
+with_one space points t id more rects h =
     let found = find_any (λ (s : Space). s.id == space) t.spaces h.0 in (
       list_any-append (λ (s : Space). s.id == space) t.spaces _ ∙ rw h.0 refl,
       ap (λ o. option_map_or (λ (s : Space). s.points) o []) (find_still (λ (s : Space). s.id == space) t.spaces _ found.0 found.1
           ∙ sym found.1) ∙ h.1,
     )
+
+pub points_stay : (space : ℕ) (points : List ℕ) (t : Tables) (line : ℕ) (r : Record) → HasPoints space points t
+    → HasPoints space points (with_record t line r)
+points_stay space points t line (records.Ispace id set) h = with_one space points t id (points_of set) (map strip set) h
+points_stay space points t line (records.Plane id quads) h = with_one space points t id (plane_points quads) (map rect_of quads) h
 points_stay space points t line _ h = h
 
 -- ---- where a record stands

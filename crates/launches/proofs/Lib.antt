@@ -1,7 +1,7 @@
+mod Ascending
 mod Breaking
 mod Framing
 mod Listing
-mod Placed
 mod Stepping
 mod TaskLists
 mod Using

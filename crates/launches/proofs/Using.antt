@@ -12,7 +12,7 @@ use Rattle.launch_claims.specs.declared.requirement.Requirement.{Requirement}
 use Rattle.launch_claims.specs.Interference.{Conflict, InterferesAt, IsKnownAt, IsLeast, IsTaskOf, ShareNumber}
 use Rattle.launch_claims.proofs.lemmas.Members.{in_map, of_map, one_of}
 use Rattle.launch_claims.proofs.lemmas.Least.{least_same}
-use Rattle.vocabulary.specs.Prelude.{Priv, Coherence, agree, both_atomic, kind_of, is_free, PrivWord, Record, Lined, Tables, Space, meets, is_in, lined, lined_from, no_tables, points_in, points_of, tables_of, with_record, privilege_of, coherence_of}
+use Rattle.vocabulary.specs.Prelude.{Priv, Coherence, agree, both_atomic, kind_of, is_free, PrivWord, Record, Lined, Tables, Space, meets, is_in, lined, lined_from, no_tables, points_in, points_of, plane_points, tables_of, with_record, privilege_of, coherence_of}
 use Rattle.spy_grammar.specs.declared.record.Record.TheVariants as records
 use Rattle.semantics.specs.Launches.{TaskLaunch, clash, is_launched}
 use Rattle.launches.specs.Interfering.{BreaksAt, written_before}
@@ -56,10 +56,12 @@ of_filtered h (z ∷ xs) y has = elim (either (h z) (filter_map h xs) y has) [
 
 abbrev space_row : Record → Option Space
 space_row (records.Ispace id set) = Some (record { id = id; points = points_of set })
+space_row (records.Plane id quads) = Some (record { id = id; points = plane_points quads })
 space_row _ = None
 
 row_more : (t : Tables) (n : ℕ) (r : Record) → (with_record t n r).spaces ≡ t.spaces ++ cons_option (space_row r) []
 row_more t n (records.Ispace id set) = refl
+row_more t n (records.Plane id quads) = refl
 row_more t n _ = sym (append-nil t.spaces)
 
 rows_joined : (xs : List Space) (o : Option Space) (ys : List Space) → (xs ++ cons_option o []) ++ ys ≡ xs ++ cons_option o ys
@@ -86,22 +88,36 @@ none_written n [] h = refl
 none_written n (w ∷ ws) h = rw (le-ltb w.0 n (h w (0, omega arith, refl)))
     (none_written n ws (λ v k. h v (Contains-append_right (w ∷ []) ws v k)))
 
+-- A record that declares a space, before others in which it is known where the space is found.
+found_space : (n id k other : ℕ) (points : List ℕ) (r : Record) (ws : List (ℕ × Record))
+    → space_row r ≡ Some (record { id = other; points = points })
+    → space_by_record (k, r) ≡ Some (record { id = other; points = points; line = k })
+    → ((w : ℕ × Record) → Contains ws w → k ≤ w.0)
+    → points_found (filter_map space_row (written_before n ws)) id
+    ≡ points_known n (find (λ (d : DeclaredSpace). d.id == id) (filter_map space_by_record ws))
+    → points_found (filter_map space_row (written_before n ((k, r) ∷ ws))) id
+    ≡ points_known n (find (λ (d : DeclaredSpace). d.id == id) (filter_map space_by_record ((k, r) ∷ ws)))
+found_space n id k other points r ws row declared order rest = elim (cases_Bool (nat_lt k n)) [
+  | inl early ↦ elim (cases_Bool (other == id)) [
+    | inl here ↦ rw (early, row, declared, here, early) refl
+    | inr there ↦ rw (early, row, declared, there) rest
+  ]
+  | inr late ↦ elim (cases_Bool (other == id)) [
+    | inl here ↦
+        let none = none_written n ws (λ w h. let le = order w h in omega (arith, ltb-false k n late, le)) in
+        rw (late, declared, here, late, none) refl
+    | inr there ↦ rw (late, declared, there) rest
+  ]
+]
+
 found_at : (n id : ℕ) (ws : List (ℕ × Record)) → AreInOrder ws
     → points_found (filter_map space_row (written_before n ws)) id
     ≡ points_known n (find (λ (d : DeclaredSpace). d.id == id) (filter_map space_by_record ws))
 found_at n id [] order = refl
-found_at n id ((k, records.Ispace other set) ∷ ws) order = elim (cases_Bool (nat_lt k n)) [
-  | inl early ↦ elim (cases_Bool (other == id)) [
-    | inl here ↦ rw (early, here, early) refl
-    | inr there ↦ rw (early, there) (found_at n id ws order.1)
-  ]
-  | inr late ↦ elim (cases_Bool (other == id)) [
-    | inl here ↦
-        let none = none_written n ws (λ w h. let le = order.0 w h in omega (arith, ltb-false k n late, le)) in
-        rw (late, here, late, none) refl
-    | inr there ↦ rw (late, there) (found_at n id ws order.1)
-  ]
-]
+found_at n id ((k, records.Ispace other set) ∷ ws) order =
+    found_space n id k other (points_of set) (records.Ispace other set) ws refl refl order.0 (found_at n id ws order.1)
+found_at n id ((k, records.Plane other quads) ∷ ws) order =
+    found_space n id k other (plane_points quads) (records.Plane other quads) ws refl refl order.0 (found_at n id ws order.1)
 found_at n id ((k, _) ∷ ws) order = elim (cases_Bool (nat_lt k n)) [
   | inl early ↦ rw early (found_at n id ws order.1)
   | inr late ↦ rw late (found_at n id ws order.1)

@@ -1,6 +1,6 @@
 -- The requirements that written records state, with the points of their spaces. Beside a record stands the line of the record that writes it.
 use Rattle.std.specs.Prelude.{ℕ, ◌+◌, ◌==◌, List, length, Option, Some, None, option_map, find}
-use Rattle.vocabulary.specs.Prelude.{Priv, Record, points_of, privilege_of}
+use Rattle.vocabulary.specs.Prelude.{Priv, Record, points_of, plane_points, privilege_of}
 use Rattle.spy_grammar.specs.declared.record.Record.TheVariants as records
 use Rattle.semantics.specs.Launches.{TaskLaunch}
 use Rattle.launch_claims.specs.declared.requirement.LaunchTasks.{LaunchTasks}
@@ -43,6 +43,7 @@ use_seen points r = record {
 -- The space that a record declares.
 abbrev pub space_by_record : ℕ × Record → Option DeclaredSpace
 space_by_record (line, records.Ispace id set) = Some (record { id = id; points = points_of set; line = line })
+space_by_record (line, records.Plane id quads) = Some (record { id = id; points = plane_points quads; line = line })
 space_by_record (line, _) = None
 
 -- The requirement that a record states, if its space is declared.

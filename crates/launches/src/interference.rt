@@ -11,7 +11,7 @@ ghost use Rattle.launches.specs.Walks.{AreInOrder};
 use crate::launched::Launched;
 use crate::uses::{Space, launch_tasks, requirements_in, spaces_in};
 use crate::walk::Lines;
-use arena_sets::ArenaSet;
+use arena_sets::ArenaRects;
 use bumpalo::Bump;
 use log_tables::Rows;
 use memory::Memory;
@@ -21,7 +21,7 @@ use spy_grammar::{Code, Record};
 use std::alloc::Global;
 
 /// The first line at which the rule on interference is broken. The sets of spaces are placed in the arena.
-fn first_by_sets<'b, P: ArenaSet<'b>>(
+fn first_by_sets<'b, P: ArenaRects<'b>>(
     alloc: Global,
     bump: &'b Bump,
     launches: &[Launched],

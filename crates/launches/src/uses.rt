@@ -3,17 +3,18 @@
 ghost use Rattle.std.specs.Prelude.{◌≡◌, ◌+◌, ◌++◌, ◌^◌, ◌≤◌, ◌==◌, [], All, find, length, map, IfOk, OnOk};
 ghost use Rattle.std.specs.List.{cons_option, filter_map, zip};
 ghost use Rattle.std.specs.Option.{option_map};
+ghost use Rattle.point_set.specs.Rects.{AreRects, rect_points};
 ghost use Rattle.vocabulary.specs.Prelude.{Good};
 ghost use Rattle.launches.specs.Steps.{HasTaskIds, launch_seen};
 ghost use Rattle.launches.specs.Uses.{asked_by, space_by_record, space_seen, tasks_by, use_seen};
 
 use crate::launched::Launched;
-use arena_sets::ArenaSet;
+use arena_sets::ArenaRects;
 use bumpalo::Bump;
 use launch_claims::{LaunchTasks, Requirement};
-use log_tables::{Keyed, Rows, priv_of};
+use log_tables::{Keyed, Rows, priv_of, rects_of, strips_of};
 use memory::Memory;
-use point_set::PointSet;
+use point_set::{PointSet, Rect};
 use spy_grammar::Record;
 use std::alloc::Global;
 
@@ -33,8 +34,25 @@ impl<P: PointSet + Copy> Keyed<u32> for Space<P> {
     }
 }
 
-/// The space that a record declares, if it declares one. Its set is placed in the arena.
-fn space_in<'b, P: ArenaSet<'b>>(
+/// The space of these rectangles. Its set is placed in the arena.
+fn space_of_rects<'b, P: ArenaRects<'b>>(
+    bump: &'b Bump,
+    id: u32,
+    rects: &[Rect],
+    line: u32,
+) -> Result<Space<P>, Memory>
+    requires { AreRects rects.now }
+    ensures { IfOk result (λ space. space_seen P.points space
+        ≡ record { id = id; points = rect_points rects.now; line = line }) }
+{
+    let set = P::place_rects(bump, rects)?;
+    Ok(Space { id, set, line })
+}
+
+/// The space that a record declares, if it declares one.
+#[tactic(auto, using(semantics::proofs::lemmas::InOrder::points_of_strips))]
+fn space_in<'b, P: ArenaRects<'b>>(
+    alloc: Global,
     bump: &'b Bump,
     rec: &Record,
     line: u32,
@@ -42,15 +60,22 @@ fn space_in<'b, P: ArenaSet<'b>>(
     requires { Good rec.now }
     ensures { IfOk result (λ space. option_map (space_seen P.points) space ≡ space_by_record (line, rec.now)) }
 {
-    let (id, set) = match rec {
-        Record::Ispace { id, set } => (*id, P::place(bump, set.as_slice())?),
-        _ => return Ok(None),
-    };
-    Ok(Some(Space { id, set, line }))
+    match rec {
+        Record::Ispace { id, set } => {
+            let rects = strips_of(alloc, set.as_slice())?;
+            Ok(Some(space_of_rects(bump, *id, rects.as_slice(), line)?))
+        }
+        Record::Plane { id, rects } => {
+            let rects = rects_of(alloc, rects.as_slice())?;
+            Ok(Some(space_of_rects(bump, *id, rects.as_slice(), line)?))
+        }
+        _ => Ok(None),
+    }
 }
 
 /// Adds the space that a record declares, if it declares one.
-fn push_space<'b, P: ArenaSet<'b>>(
+fn push_space<'b, P: ArenaRects<'b>>(
+    alloc: Global,
     bump: &'b Bump,
     spaces: &mut Rows<u32, Space<P>>,
     rec: &Record,
@@ -60,14 +85,14 @@ fn push_space<'b, P: ArenaSet<'b>>(
     ensures { OnOk result (map (space_seen P.points) spaces.new
         ≡ map (space_seen P.points) spaces.old ++ cons_option (space_by_record (line, rec.now)) []) }
 {
-    if let Some(space) = space_in(bump, rec, line)? {
+    if let Some(space) = space_in(alloc, bump, rec, line)? {
         spaces.push(space)?;
     }
     Ok(())
 }
 
 /// The spaces that the first written records declare, as many as there are lines: line `i` is that of record `i`.
-pub(crate) fn spaces_in<'b, P: ArenaSet<'b>>(
+pub(crate) fn spaces_in<'b, P: ArenaRects<'b>>(
     alloc: Global,
     bump: &'b Bump,
     written: &[Record],
@@ -80,7 +105,7 @@ pub(crate) fn spaces_in<'b, P: ArenaSet<'b>>(
 {
     let mut spaces = Rows::new(alloc);
     for i in 0..lines.len() {
-        push_space(bump, &mut spaces, &written[i], lines[i])?;
+        push_space(alloc, bump, &mut spaces, &written[i], lines[i])?;
     }
     Ok(spaces)
 }

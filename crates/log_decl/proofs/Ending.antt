@@ -1,16 +1,14 @@
 -- The first fault, where the walk ends.
-use Rattle.std.proofs.Common.{◌≡◌, ℕ, zero, suc, ◌≤◌, List, [], ◌∷◌, ◌++◌, take, drop, slice_get, Option, Some, None, Result, Err, option_map, subst, sym, ap, ◌∙◌}
+use Rattle.std.proofs.Common.{◌≡◌, ℕ, zero, suc, ◌≤◌, List, [], ◌∷◌, ◌++◌, take, drop, slice_get, Option, Some, None, Result, Err, option_map, refl, subst, sym, ap, ◌∙◌}
 use Rattle.std.specs.Option.{option_or}
 use Rattle.std.specs.Result.{IsErrAnd}
 use Rattle.std.proofs.lemmas.Option.{none-some, same_Some}
 use Rattle.std.proofs.lemmas.List.{take-append-drop, drop_all}
 use Rattle.vocabulary.specs.Prelude.{Code, Lined, records_of, Tables, tables_of, Fault}
-use Rattle.log_rules.specs.Counts.{access_total}
-use Rattle.semantics.specs.declared.limits.TheConstants.{MOST_ACCESSES}
-use Rattle.semantics.specs.Faults.{at_line, records_fault}
+use Rattle.semantics.specs.Faults.{at_line, header_fault, records_fault}
 use Rattle.log_decl.specs.declared.decl_end.DeclEnd.{DeclEnd}
 use Rattle.log_decl.specs.declared.decl_end.DeclEnd.TheVariants as ends
-use Rattle.log_decl.specs.Walk.{space_broken, spaces_fault, StandsAt}
+use Rattle.log_decl.specs.Walk.{space_broken, spaces_fault, IsWithin, StandsAt}
 use Rattle.log_decl.proofs.FirstFault.{AreWithin, walk_told, tried_told}
 
 -- The records after some of them.
@@ -41,7 +39,7 @@ stopped log k t code l stands at e =
     let kept = take k log in
     let here = stands.here in
     let rest = behind log k here.0 here.1 in
-    let within : AreWithin kept = subst (λ (u : Tables). access_total u (records_of kept) ≤ MOST_ACCESSES) stands.tables stands.within in
+    let within : AreWithin kept = subst (λ (u : Tables). IsWithin u (records_of kept)) stands.tables stands.within in
     let same : here.0 ≡ l = same_Some here.0 l (sym here.1 ∙ at) in
     parted log k t (Some code) stands
     ∙ ap (λ o. option_or o (records_fault all kept (drop k log))) e
@@ -73,3 +71,13 @@ pub after_frame : (header ended count records o : Option Fault) → option_or he
 after_frame (Some f) ended count records o frame rest = absurd (none-some f (sym frame))
 after_frame None (Some f) count records o frame rest = absurd (none-some f (sym frame))
 after_frame None None count records o frame rest = ap (λ p. option_or p records) frame ∙ rest
+
+-- Where the frame has no fault, its header has none, however many lines there are.
+pub header_kept : (lines : ℕ) (log : List Lined) (rest : Option Fault) → option_or (header_fault lines log) rest ≡ None
+    → header_fault 0 log ≡ None
+header_kept lines [] rest e = absurd (none-some _ (sym e))
+header_kept lines (l ∷ log) rest e = first_none (header_fault lines (l ∷ log)) rest e
+  where
+    first_none : (o p : Option Fault) → option_or o p ≡ None → o ≡ None
+    first_none None p e = refl
+    first_none (Some f) p e = absurd (none-some f (sym e))

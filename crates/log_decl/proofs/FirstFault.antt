@@ -13,7 +13,7 @@ use Rattle.semantics.specs.Faults.{at_line, record_rules, breaks, first_broken, 
 use Rattle.semantics.specs.Rules as rules
 use Rattle.semantics.proofs.lemmas.RecordRules.{none_passes}
 use Rattle.log_rules.specs.Counts.{access_total}
-use Rattle.log_decl.specs.Walk.{is_of_forest, breaks_other, other_broken, space_broken, spaces_fault, Keep}
+use Rattle.log_decl.specs.Walk.{is_of_forest, breaks_other, other_broken, space_broken, spaces_fault, Keep, IsWithin}
 
 or_or : {X : Type 0} (o p q : Option X) → option_or (option_or o p) q ≡ option_or o (option_or p q)
 or_or None p q = refl
@@ -59,12 +59,17 @@ module _ (kind broken : Code → Bool) where
       by false true none rests = refl
       by false false none rests = rests
 
--- The earlier records keep the limit on accesses.
+-- The earlier records keep the limit on accesses, where it is judged before the end.
 abbrev pub AreWithin : List Lined → Type 0
-AreWithin earlier = access_total (tables_of earlier) (records_of earlier) ≤ MOST_ACCESSES
+AreWithin earlier = IsWithin (tables_of earlier) (records_of earlier)
 
 not_more : (n most : ℕ) → n ≤ most → nat_lt most (n + 0) ≡ false
 not_more n most le = grind (arith, nat_tests)
+
+not_judged : (planar : Bool) (n : ℕ) → (planar ≡ false → n ≤ MOST_ACCESSES)
+    → ((not planar || false) && nat_lt MOST_ACCESSES (n + 0)) ≡ false
+not_judged true n le = refl
+not_judged false n le = not_more n MOST_ACCESSES (le refl)
 
 not_less : (n m most : ℕ) → nat_lt most (n + m) ≡ false → n ≤ most
 not_less n m most e = grind (arith, nat_tests)
@@ -75,7 +80,7 @@ come_after : (log : List Record) (earlier : List Lined) (r : Record) → AreWith
 come_after log earlier (Sub part colour space) within =
     let t = tables_of earlier in
     let r = Sub part colour space in
-    let few = not_more (access_total t (records_of earlier)) MOST_ACCESSES within in
+    let few = not_judged (rules.is_planar t) (access_total t (records_of earlier)) within in
     rw (list_any_none (λ x. false) t.nodes (λ _ _ _. refl), few) (both_or (not (rules.is_outside t r)) (not (rules.is_not_disjoint t r)))
 come_after log earlier r within = refl
 
@@ -87,9 +92,11 @@ tried_told log earlier r within = others_first is_of_forest (breaks (record_in l
 
 -- Where a record keeps the other rules, so do those before it keep the limit on accesses.
 few_kept : (log : List Record) (earlier : List Lined) (r : Record) → other_broken log earlier r ≡ None → AreWithin earlier
-few_kept log earlier r e =
-    not_less (access_total (tables_of earlier) (records_of earlier)) (rules.accesses (tables_of earlier) r) MOST_ACCESSES
-    (none_passes (breaks_other (record_in log earlier r)) e codes.TooManyAccesses refl)
+few_kept log earlier r e = λ flat.
+    let n = access_total (tables_of earlier) (records_of earlier) in
+    let m = rules.accesses (tables_of earlier) r in
+    not_less n m MOST_ACCESSES (ap (λ b. (not b || rules.is_end r) && nat_lt MOST_ACCESSES (n + m)) (sym flat)
+    ∙ none_passes (breaks_other (record_in log earlier r)) e codes.TooManyAccesses refl)
 
 -- Where the first records keep the other rules, the first fault is theirs against the forest, or else that of the records after them.
 pub walk_told : (log : List Record) (earlier kept rest : List Lined) → Keep log earlier kept

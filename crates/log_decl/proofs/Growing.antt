@@ -6,8 +6,8 @@ use Rattle.std.specs.Option.{option_map_or}
 use Rattle.std.proofs.lemmas.Bool.{cases_Bool, false≢true}
 use Rattle.std.proofs.lemmas.List.{append-nil}
 use Rattle.std.proofs.lemmas.List.Sums.{fold-append}
-use Rattle.vocabulary.specs.Prelude.{Record, Lined, Tables, Space, with_record, no_tables, tables_of, points_in, part_at}
-use Rattle.spy_grammar.specs.declared.record.Record.TheVariants.{Ispace, Part, Sub}
+use Rattle.vocabulary.specs.Prelude.{Rect, Record, Lined, Tables, Space, with_space, with_record, no_tables, tables_of, points_in, part_at}
+use Rattle.spy_grammar.specs.declared.record.Record.TheVariants.{Ispace, Plane, Part, Sub}
 use Rattle.semantics.specs.declared.tables.Part as parts
 use Rattle.semantics.specs.declared.tables.Sub as subs
 
@@ -30,8 +30,8 @@ extends_itself t u s p b = record {
   subs = b ∙ sym (append-nil t.subs);
 }
 
-extends_with : (t : Tables) (line : ℕ) (r : Record) → Extends t (with_record t line r)
-extends_with t line (Ispace id set) = record {
+extends_space : (t : Tables) (id : ℕ) (points : List ℕ) (rects : List Rect) → Extends t (with_space t id points rects)
+extends_space t id points rects = record {
   more_spaces = _;
   more_parts = [];
   more_subs = [];
@@ -40,6 +40,10 @@ extends_with t line (Ispace id set) = record {
       sym (append-nil t.parts);
   subs = sym (append-nil t.subs);
 }
+
+extends_with : (t : Tables) (line : ℕ) (r : Record) → Extends t (with_record t line r)
+extends_with t line (Ispace id set) = extends_space t id _ _
+extends_with t line (Plane id quads) = extends_space t id _ _
 extends_with t line (Part id space disjoint) =
     record {
       more_spaces = [];

@@ -1,11 +1,11 @@
 -- A forest, record by record, as long as the rules but for the two of the forest are kept.
-use Rattle.std.proofs.Common.{◌≡◌, ℕ, ◌==◌, Bool, true, false, ◌&&◌, List, [], ◌∷◌, All, IsSome, None, subst, refl, sym, ap, ◌∙◌, eq-eqb}
+use Rattle.std.proofs.Common.{◌≡◌, ℕ, ◌==◌, Bool, true, false, ◌&&◌, List, [], ◌∷◌, map, All, IsSome, None, subst, refl, sym, ap, ◌∙◌, eq-eqb}
 use Rattle.std.specs.List.{list_any}
 use Rattle.std.proofs.lemmas.Bool.{and_from, and_parts, false≢true, not-false, or_parts}
 use Rattle.std.proofs.lemmas.List.Elements.{All-nil, All-cons}
 use Rattle.spy_grammar.specs.declared.code.Code.TheVariants as codes
-use Rattle.vocabulary.specs.Prelude.{Record, Lined, Tables, Space, points_of, with_record, tables_of}
-use Rattle.spy_grammar.specs.declared.record.Record.TheVariants.{Ispace, Part, Sub}
+use Rattle.vocabulary.specs.Prelude.{Rect, Record, Lined, Tables, Space, plane_points, points_of, rect_of, strip, with_space, with_record, tables_of}
+use Rattle.spy_grammar.specs.declared.record.Record.TheVariants.{Ispace, Plane, Part, Sub}
 use Rattle.log_tables.specs.declared.entries.Step.{Step}
 use Rattle.log_tables.specs.Regions.{regions_of, space_of, part_of, step_of}
 use Rattle.semantics.specs.declared.tables.Part as parts
@@ -57,12 +57,11 @@ keeps_of log earlier r e =
     }
 
 -- One record more.
-space_step : (t : Tables) (line id : ℕ) (set : List (ℕ × ℕ)) → IsGrown (regions_of t) → Keeps t (Ispace id set)
-    → IsGrown (regions_of (with_record t line (Ispace id set)))
-space_step t line id set grown keeps =
-    grown_space (regions_of t) (record { id = id; points = points_of set }) grown
-    (none_like (λ (x : Space). x.id ≡ id) (λ (x : Space). x.id == id) t.spaces (λ x same. eq-eqb x.id id same)
-    (or_parts _ _ keeps.new).0)
+space_step : (t : Tables) (id : ℕ) (points : List ℕ) (rects : List Rect) → IsGrown (regions_of t)
+    → list_any (λ (x : Space). x.id == id) t.spaces ≡ false → IsGrown (regions_of (with_space t id points rects))
+space_step t id points rects grown new =
+    grown_space (regions_of t) (record { id = id; points = points }) grown
+    (none_like (λ (x : Space). x.id ≡ id) (λ (x : Space). x.id == id) t.spaces (λ x same. eq-eqb x.id id same) new)
 
 part_step : (t : Tables) (line id space : ℕ) (disjoint : Bool) → IsGrown (regions_of t) → Keeps t (Part id space disjoint)
     → IsGrown (regions_of (with_record t line (Part id space disjoint)))
@@ -92,7 +91,8 @@ sub_step t line part colour space grown keeps =
     })
 
 pub grown_with : (t : Tables) (line : ℕ) (r : Record) → IsGrown (regions_of t) → Keeps t r → IsGrown (regions_of (with_record t line r))
-grown_with t line (Ispace id set) grown keeps = space_step t line id set grown keeps
+grown_with t line (Ispace id set) grown keeps = space_step t id (points_of set) (map strip set) grown (or_parts _ _ keeps.new).0
+grown_with t line (Plane id quads) grown keeps = space_step t id (plane_points quads) (map rect_of quads) grown (or_parts _ _ keeps.new).0
 grown_with t line (Part id space disjoint) grown keeps = part_step t line id space disjoint grown keeps
 grown_with t line (Sub part colour space) grown keeps = sub_step t line part colour space grown keeps
 grown_with t line _ grown keeps = grown

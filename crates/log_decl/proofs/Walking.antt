@@ -1,23 +1,40 @@
 -- The walk, record by record.
-use Rattle.std.proofs.Common.{◌≡◌, ℕ, ◌+◌, ◌<◌, ◌≤◌, List, [], ◌∷◌, ◌++◌, length, get_or, take, true, false, is_some, Option, Some, None, subst, refl, sym, ap, ◌∙◌, append_assoc, arith}
+use Rattle.std.proofs.Common.{◌≡◌, ℕ, ◌+◌, ◌<◌, ◌≤◌, ◌==◌, List, [], ◌∷◌, ◌++◌, length, get_or, take, true, false, is_some, Option, Some, None, subst, refl, sym, ap, ◌∙◌, append_assoc, arith}
 use Rattle.std.proofs.lemmas.Bool.{false≢true}
 use Rattle.std.proofs.lemmas.Option.{slice_get-get_or}
 use Rattle.std.proofs.lemmas.List.{append-nil, take_more, map-append, length-map, length-take-le}
 use Rattle.std.proofs.lemmas.List.Sums.{fold-append}
 use Rattle.vocabulary.specs.Prelude.{Code, Record, Lined, records_of, Tables, tables_of, with_record, no_tables}
 use Rattle.spy_grammar.specs.declared.code.Code.TheVariants as codes
-use Rattle.semantics.specs.declared.limits.TheConstants.{MOST_ACCESSES}
+use Rattle.semantics.specs.Faults.{header_fault}
+use Rattle.semantics.specs.Rules.{is_planar}
 use Rattle.semantics.proofs.lemmas.RecordRules.{none_passes}
-use Rattle.log_rules.specs.Counts.{access_total}
+use Rattle.semantics.proofs.lemmas.Versions.{flat_at, same_version}
 use Rattle.log_rules.specs.declared.tally.Tally.{Tally}
 use Rattle.log_rules.specs.Tallied.{IsTally, MayCount}
-use Rattle.log_decl.specs.Walk.{breaks_other, broken_of, other_broken, Keep, StandsAt}
+use Rattle.log_decl.specs.Walk.{breaks_other, broken_of, other_broken, Keep, IsWithin, StandsAt}
+
+pub tables_more : (log : List Lined) (i : ℕ) (t : Tables) (l : Lined) → t ≡ tables_of (take i log) → i < length log → l ≡ get_or log i l
+    → with_record t l.line l.rec ≡ tables_of (take (i + 1) log)
+tables_more log i t l tables lt is =
+    ap (λ (u : Tables). with_record u l.line l.rec) tables
+    ∙ ap (λ (x : Lined). with_record (tables_of (take i log)) x.line x.rec) is
+    ∙ sym (ap tables_of (take_more log i l lt) ∙ fold-append (λ (u : Tables) (x : Lined). with_record u x.line x.rec) no_tables (take i log)
+    (get_or log i l ∷ []))
+
+-- After a header of the first version no further record makes the log one of the second.
+pub flat_next : (log : List Lined) (i : ℕ) (t : Tables) (l : Lined) → header_fault 0 log ≡ None → t ≡ tables_of (take i log)
+    → i < length log → l ≡ get_or log i l → (line : ℕ) → is_planar (with_record t line l.rec) ≡ false
+flat_next log i t l e tables lt is line =
+    ap (λ v. v == 2) (same_version t line l.line l.rec) ∙ ap is_planar (tables_more log i t l tables lt is) ∙ flat_at log e (i + 1)
 
 -- A record that breaks none of them may be counted.
-pub may_count : (log es : List Record) (t : Tables) (r : Record) → broken_of log es t r ≡ None → MayCount es t r
-may_count log es t r e =
+pub may_count : (log es : List Record) (t : Tables) (r : Record) → ((line : ℕ) → is_planar (with_record t line r) ≡ false)
+    → broken_of log es t r ≡ None → MayCount es t r
+may_count log es t r flat e =
     let kept = none_passes (breaks_other (record { log = log; earlier = es; tables = t; rec = r })) e in
     record {
+      version = flat;
       known = kept codes.UnknownId refl;
       points = kept codes.TooManyPoints refl;
       cells = kept codes.TooManyCells refl;
@@ -34,14 +51,6 @@ keep_more log earlier (x ∷ xs) l keep none = (
       (subst (λ (ls : List Lined). other_broken log ls l.rec ≡ None) (sym (append_assoc earlier (x ∷ []) xs)) none),
 )
 
-pub tables_more : (log : List Lined) (i : ℕ) (t : Tables) (l : Lined) → t ≡ tables_of (take i log) → i < length log → l ≡ get_or log i l
-    → with_record t l.line l.rec ≡ tables_of (take (i + 1) log)
-tables_more log i t l tables lt is =
-    ap (λ (u : Tables). with_record u l.line l.rec) tables
-    ∙ ap (λ (x : Lined). with_record (tables_of (take i log)) x.line x.rec) is
-    ∙ sym (ap tables_of (take_more log i l lt) ∙ fold-append (λ (u : Tables) (x : Lined). with_record u x.line x.rec) no_tables (take i log)
-    (get_or log i l ∷ []))
-
 pub records_more : (log : List Lined) (i : ℕ) (l : Lined) → i < length log → l ≡ get_or log i l
     → records_of (take i log) ++ l.rec ∷ [] ≡ records_of (take (i + 1) log)
 records_more log i l lt is =
@@ -57,7 +66,7 @@ keeps_more log i t l tables keep lt is none =
     (subst (λ (u : Tables). broken_of (records_of log) (records_of (take i log)) u l.rec ≡ None) tables none))
 
 pub stands : (log : List Lined) (k i : ℕ) (t : Tables) (code : Code) (l : Lined) → k ≡ i → t ≡ tables_of (take i log)
-    → Keep (records_of log) [] (take i log) → access_total t (records_of (take i log)) ≤ MOST_ACCESSES
+    → Keep (records_of log) [] (take i log) → IsWithin t (records_of (take i log))
     → i < length log → l ≡ get_or log i l → broken_of (records_of log) (records_of (take i log)) t l.rec ≡ Some code
     → StandsAt log k t (Some code)
 stands log k i t code l at tables keep within lt is e =
@@ -77,7 +86,7 @@ pub counted : (log : List Lined) (k i : ℕ) → k ≡ i → i ≤ length log �
 counted log k i at le = at ∙ sym (length-map (take i log) (λ (x : Lined). x.rec) ∙ length-take-le i log le)
 
 pub stands_where : (log : List Lined) (k i : ℕ) (t : Tables) (o : Option Code) (l : Lined) → k ≡ i → t ≡ tables_of (take i log)
-    → Keep (records_of log) [] (take i log) → access_total t (records_of (take i log)) ≤ MOST_ACCESSES
+    → Keep (records_of log) [] (take i log) → IsWithin t (records_of (take i log))
     → i < length log → l ≡ get_or log i l → is_some o ≡ true → o ≡ broken_of (records_of log) (records_of (take i log)) t l.rec
     → StandsAt log k t o
 stands_where log k i t None l at tables keep within lt is some e = absurd (false≢true some)

@@ -53,11 +53,15 @@ spaces_fault earlier (l ∷ rest) = option_or
     (option_map (λ code. at_line code l.line) (space_broken (tables_of earlier) l.rec))
     (spaces_fault (earlier ++ l ∷ []) rest)
 
+-- In a log of the first version, these records, whose tables these are, keep the limit on accesses.
+abbrev pub IsWithin : Tables → List Record → Type 0
+IsWithin t earlier = rules.is_planar t ≡ false → access_total t earlier ≤ MOST_ACCESSES
+
 -- The walk has kept `k` records of the log, whose tables these are; with a code it stands at a record that breaks that rule, and else at the end.
 pub record StandsAt (log : List Lined) (k : ℕ) (t : Tables) (code : Option Code) : Type 0 where
   pub in_log : k ≤ length log
   pub tables : t ≡ tables_of (take k log)
   pub kept : Keep (records_of log) [] (take k log)
-  pub within : access_total t (records_of (take k log)) ≤ MOST_ACCESSES
+  pub within : IsWithin t (records_of (take k log))
   pub here : MatchOption code (length log ≤ k) (λ c. (l : Lined) × (slice_get log k ≡ Some l)
       × (other_broken (records_of log) (take k log) l.rec ≡ Some c))

@@ -6,10 +6,11 @@ ghost use Rattle.log_tables.specs.Views.{Ascends};
 ghost use Rattle.log_decl.specs.Walk.{IfAt, breaks_other};
 
 use log_rules::{
-    Tally, WholeLog, has_many_accesses, has_many_cells, has_many_points, has_much_load, has_no_run,
-    has_wrong_fields, interferes_with_own, is_bad_serial, is_late, is_late_sub, is_mapped_again,
-    is_no_root, is_not_covered, is_not_in_tree, is_of_wrong_kind, is_of_wrong_tree, is_run_again,
-    is_sub_again, is_too_deep, names_unknown, repeats_event, repeats_id, waits_for_none,
+    Tally, WholeLog, has_many_accesses, has_many_cells, has_many_points, has_many_reads,
+    has_much_load, has_no_run, has_wrong_fields, interferes_with_own, is_bad_serial, is_late,
+    is_late_sub, is_mapped_again, is_no_root, is_not_covered, is_not_in_tree, is_of_other_version,
+    is_of_wrong_kind, is_of_wrong_tree, is_run_again, is_sub_again, is_too_deep, names_unknown,
+    repeats_event, repeats_id, waits_for_none,
 };
 use log_tables::Draft;
 use point_set::PointSet;
@@ -19,11 +20,11 @@ use std::alloc::{AllocError, Global};
 
 /// The rules on single records, in the order in which they are tried.
 #[rattlefmt::skip]
-const RULES: [Code; 25] = [
-    TooManyRecords, RepeatedId, UnknownId, TooManyPoints, SpaceInTwo, LateSub, TooDeep, NotWithin,
-    NotDisjoint, NotRoot, NotInTree, Fields, SelfInterference, WrongTree, WrongKind, NotCovered,
-    MappedTwice, NoRun, TwoRuns, RepeatedEvent, UndefinedEvent, Serial, TooManyCells,
-    TooManyAccesses, TooMuchLoad,
+const RULES: [Code; 28] = [
+    TooManyRecords, RepeatedId, UnknownId, TooManyPoints, TooManyAtoms, SpaceInTwo, LateSub,
+    TooDeep, NotWithin, NotDisjoint, NotRoot, NotInTree, Fields, SelfInterference, WrongTree,
+    WrongKind, NotCovered, MappedTwice, NoRun, TwoRuns, RepeatedEvent, UndefinedEvent, Serial,
+    TooManyCells, TooManyAccesses, TooMuchLoad, Version, TooManyReads,
 ];
 
 /// A record of a log, with what the rules ask of: the log as a whole, what the earlier records declare and add up to, and how many they are.
@@ -36,7 +37,7 @@ pub(crate) struct AtRecord<'w, 'l, P: PointSet> {
     pub(crate) rec: &'w Record,
 }
 
-/// Whether a record breaks the rule of a code. The rules of the forest are passed over.
+/// Whether a record breaks the rule of a code. The rules of the forest are passed over, and the limit on atoms is one of logs of the second version.
 fn breaks<P: PointSet>(
     alloc: Global,
     at: &AtRecord<'_, '_, P>,
@@ -69,6 +70,8 @@ fn breaks<P: PointSet>(
         TooManyCells => Ok(has_many_cells(at.draft, at.tally, at.rec)),
         TooManyAccesses => Ok(has_many_accesses(at.draft, at.tally, at.rec)),
         TooMuchLoad => has_much_load(alloc, at.draft, at.rec),
+        Version => Ok(is_of_other_version(at.draft, at.rec)),
+        TooManyReads => Ok(has_many_reads(at.draft, at.rec)),
         _ => Ok(false),
     }
 }

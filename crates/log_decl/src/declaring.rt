@@ -2,7 +2,7 @@
 
 ghost use Rattle.std.specs.Prelude.{◌≡◌, ◌<◌, ◌-◌, ◌^◌, ℕ, All, [], None, Some, Err, length, IfOk, OnOk};
 ghost use Rattle.vocabulary.specs.Prelude.{Code, Good, records_of, AreLines, no_tables, tables_of};
-ghost use Rattle.semantics.specs.Faults.{at_line, declaration_fault, records_fault};
+ghost use Rattle.semantics.specs.Faults.{at_line, declaration_fault, header_fault, records_fault};
 ghost use Rattle.log_tables.specs.Views.{Ascends};
 ghost use Rattle.log_tables.specs.Regions.{regions_of};
 ghost use Rattle.region_tree.specs.Sound.{IsSound};
@@ -16,12 +16,12 @@ use crate::walk::{Walked, walk};
 use bumpalo::Bump;
 use log_rules::{Tally, WholeLog};
 use log_tables::Draft;
-use region_tree::{ArenaSet, Memory as ForestMemory};
+use region_tree::{ArenaRects, Memory as ForestMemory};
 use spy_grammar::Lined;
 use std::alloc::Global;
 
 /// Adds the records of a log up to the first that breaks a rule to a draft in which nothing is declared. The two rules of the forest are left out.
-fn walked<'a, P: ArenaSet<'a>>(
+fn walked<'a, P: ArenaRects<'a>>(
     draft: &mut Draft<P>,
     alloc: Global,
     bump: &'a Bump,
@@ -30,6 +30,7 @@ fn walked<'a, P: ArenaSet<'a>>(
     requires none { draft.old ≡ no_tables }
     requires ascends { All (λ l. Ascends l.rec) records.now }
     requires few { length records.now < 2 ^ 32 - 1 }
+    requires header { header_fault 0 records.now ≡ None }
     ensures { IfOk result (λ w. StandsAt records.now w.kept draft.new w.code) }
 {
     let whole = WholeLog::new(alloc, records)?;
@@ -39,7 +40,7 @@ fn walked<'a, P: ArenaSet<'a>>(
 /// Adds the records of a log to a draft in which nothing is declared, and judges their forest; or the fault of the first that breaks a rule.
 ///
 /// Where the walk ends at a record that breaks a rule, a subspace before it may still be refused by the forest.
-fn grow<'a, P: ArenaSet<'a>>(
+fn grow<'a, P: ArenaRects<'a>>(
     draft: &mut Draft<P>,
     alloc: Global,
     bump: &'a Bump,
@@ -48,6 +49,7 @@ fn grow<'a, P: ArenaSet<'a>>(
     requires none { draft.old ≡ no_tables }
     requires ascends { All (λ l. Ascends l.rec) records.now }
     requires few { length records.now < 2 ^ 32 - 1 }
+    requires header { header_fault 0 records.now ≡ None }
     ensures tables { OnOk result (draft.new ≡ tables_of records.now) }
     ensures sound { OnOk result (IsSound (regions_of draft.new)) }
     ensures faultless { OnOk result (records_fault (records_of records.now) [] records.now ≡ None) }
@@ -67,7 +69,7 @@ fn grow<'a, P: ArenaSet<'a>>(
 /// The tables of a log, or the fault of its frame and records that is shown. `lines` is the number of lines.
 ///
 /// Each record has a spelling, and the lines on which the records stand ascend. That memory ran out is the only other answer.
-pub(crate) fn declarations<'a, P: ArenaSet<'a>>(
+pub(crate) fn declarations<'a, P: ArenaRects<'a>>(
     alloc: Global,
     bump: &'a Bump,
     records: &[Lined],

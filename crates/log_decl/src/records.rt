@@ -9,7 +9,7 @@ use crate::decl_end::DeclEnd;
 use crate::declaring::declarations;
 use bumpalo::Bump;
 use logs::Log;
-use region_tree::ArenaSet;
+use region_tree::ArenaRects;
 use semantics::MOST_BYTES;
 use spy_grammar::{Code, Lined, good};
 use std::alloc::{AllocError, Global};
@@ -17,7 +17,7 @@ use std::alloc::{AllocError, Global};
 /// The log that some records declare, or the fault that is shown of its frame and its records. The lines are as many as the input has.
 ///
 /// The sets of its spaces lie in the arena.
-pub fn declare<'a, P: ArenaSet<'a>>(
+pub fn declare<'a, P: ArenaRects<'a>>(
     alloc: Global,
     bump: &'a Bump,
     records: &Vec<Lined>,

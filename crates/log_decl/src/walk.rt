@@ -1,6 +1,7 @@
 //! The walk over the records of a log, up to the first that breaks a rule. The two rules of the forest are left out: the forest judges all subspaces at once.
 
-ghost use Rattle.std.specs.Prelude.{◌≡◌, ◌<◌, ◌-◌, ◌^◌, All, [], length, IfOk};
+ghost use Rattle.std.specs.Prelude.{◌≡◌, ◌<◌, ◌-◌, ◌^◌, All, [], None, length, IfOk};
+ghost use Rattle.semantics.specs.Faults.{header_fault};
 ghost use Rattle.log_tables.specs.Views.{Ascends};
 ghost use Rattle.log_rules.specs.Tallied.{IsTally};
 ghost use Rattle.vocabulary.specs.Prelude.{records_of, no_tables};
@@ -10,7 +11,7 @@ use crate::broken::{AtRecord, first_broken};
 use bumpalo::Bump;
 use log_rules::{Tally, WholeLog};
 use log_tables::Draft;
-use region_tree::{ArenaSet, Memory};
+use region_tree::{ArenaRects, Memory};
 use spy_grammar::{Code, Lined};
 use std::alloc::Global;
 
@@ -21,8 +22,8 @@ pub(crate) struct Walked {
     pub(crate) code: Option<Code>,
 }
 
-/// Adds the records up to the first that breaks a rule to a draft in which nothing is declared.
-pub(crate) fn walk<'a, P: ArenaSet<'a>>(
+/// Adds the records up to the first that breaks a rule to a draft in which nothing is declared. The first of them is the header, and no other is one. (How many lines there are says where a fault is, and not whether there is one.)
+pub(crate) fn walk<'a, P: ArenaRects<'a>>(
     draft: &mut Draft<P>,
     mut tally: Tally,
     alloc: Global,
@@ -35,6 +36,7 @@ pub(crate) fn walk<'a, P: ArenaSet<'a>>(
     requires whole { whole.now ≡ records_of records.now }
     requires ascends { All (λ l. Ascends l.rec) records.now }
     requires few { length records.now < 2 ^ 32 - 1 }
+    requires header { header_fault 0 records.now ≡ None }
     ensures { IfOk result (λ w. StandsAt records.now w.kept draft.new w.code) }
 {
     let mut kept = 0;

@@ -4,12 +4,12 @@ use Rattle.std.specs.Prelude.{IfSome}
 use Rattle.std.specs.List.{AllByRecursion, list_any}
 use Rattle.std.proofs.lemmas.List.{map-append}
 use Rattle.spy_grammar.specs.declared.code.Code.TheVariants as codes
-use Rattle.vocabulary.specs.Prelude.{Record, Lined, Good, Req, LogNode, Op, records_of, Tables, Space, with_record, tables_of, Node, graph_of, points_in, Command}
+use Rattle.vocabulary.specs.Prelude.{Rect, Record, Lined, Good, Req, LogNode, Op, records_of, Tables, Space, with_space, with_record, tables_of, Node, graph_of, points_in, Command}
 use Rattle.spy_grammar.specs.declared.record.Record.TheVariants as records
 use Rattle.semantics.specs.DataOps.{DataOp, data_of}
 use Rattle.semantics.specs.Rules.{repeats_event}
 use Rattle.log_laws.proofs.lemmas.Members.{Each, each_more, member_map, none_at, found_at, none_or_some}
-use Rattle.log_laws.proofs.lemmas.Apart.{Apart, PairsBy, pairs_more, points_apart, fields_apart}
+use Rattle.log_laws.proofs.lemmas.Apart.{Apart, PairsBy, pairs_more, points_apart, plane_apart, fields_apart}
 use Rattle.log_laws.proofs.lemmas.Admitted.{IsFaultless, by_records, rule_kept}
 
 -- An operation has no field twice.
@@ -35,15 +35,13 @@ with_node t n e fields h = record {
       ∙ none_at (λ (m : LogNode). n.done == m.done) t.nodes r.0 e r.1)));
 }
 
+with_one : (t : Tables) (id : ℕ) (points : List ℕ) (rects : List Rect) → Apart points → AreStrict t → AreStrict (with_space t id points rects)
+with_one t id points rects apart h =
+    record { spaces = each_more _ t.spaces _ h.spaces apart; fields = h.fields; operations = h.operations; events = h.events }
+
 with_good : (t : Tables) (line : ℕ) (r : Record) → Good r → repeats_event t r ≡ false → AreStrict t → AreStrict (with_record t line r)
-with_good t line (records.Ispace id set) good e h =
-    record {
-      spaces = each_more _ t.spaces _ h.spaces (points_apart set good.1.0);
-      fields = h.fields;
-      operations = h.operations;
-      events =
-          h.events;
-    }
+with_good t line (records.Ispace id set) good e h = with_one t id _ _ (points_apart set good.1.0) h
+with_good t line (records.Plane id quads) good e h = with_one t id _ _ (plane_apart quads good.1.0) h
 with_good t line (records.Req _ _ _ _ _ _) good e h =
     record {
       spaces = h.spaces;

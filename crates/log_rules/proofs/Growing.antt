@@ -9,15 +9,15 @@ use Rattle.std.proofs.lemmas.Grind.{flat_map-append}
 use Rattle.std.proofs.lemmas.List.{append-nil}
 use Rattle.std.proofs.lemmas.List.Sums.{sum_by-cons, sum_by_push, length-filter}
 use Rattle.std.proofs.Math.Bool.{or_comm, or-false, or_assoc}
-use Rattle.vocabulary.specs.Prelude.{Priv, agree, Record, Tables, Space, points_of, place_of, privilege_of, coherence_of, reqs_before, with_record, is_in, points_in}
-use Rattle.spy_grammar.specs.declared.record.Record.TheVariants.{Ispace, Req, Fill, Serial, Inst, Copy, Put, Reset, Fold}
+use Rattle.vocabulary.specs.Prelude.{InstKind, Priv, agree, Record, Tables, Space, points_of, plane_points, place_of, privilege_of, coherence_of, reqs_before, with_record, is_in, points_in}
+use Rattle.spy_grammar.specs.declared.record.Record.TheVariants.{Ispace, Plane, Req, Fill, Serial, Inst, Copy, Put, Reset, Fold, End}
 use Rattle.semantics.specs.declared.tables.Req as reqs
 use Rattle.semantics.specs.declared.tables.Inst as insts
 use Rattle.semantics.specs.declared.tables.Serial as serials
 use Rattle.semantics.specs.SerialOrder.{listed}
-use Rattle.semantics.specs.Rules.{size_of, asked, accesses, is_declared, space_id, names, names_unknown, lacks_req, has_many_points, has_many_cells, has_many_accesses}
+use Rattle.semantics.specs.Rules.{size_of, cost_of, cells_of, asked, accesses, points_declared, is_planar, is_end, is_declared, space_id, names, names_unknown, lacks_req, has_many_points, has_many_cells, has_many_accesses}
 use Rattle.log_rules.specs.declared.claims.OwnPlace.{OwnPlace}
-use Rattle.log_rules.specs.Counts.{point_total, cell_total, access_total, points_asked, cells_asked, cut}
+use Rattle.log_rules.specs.Counts.{point_total, cell_total, access_total, points_asked, cells_asked, size_asked, cut}
 use Rattle.log_rules.specs.Listing.{ids_listed}
 use Rattle.log_rules.specs.declared.claims.Claims.{Claims}
 use Rattle.log_rules.specs.Own.{Adds, AreClaims, claims_at, claimed, clashes_in, clashes_at, first_clashes_at, req_clashes_at}
@@ -40,14 +40,17 @@ found_first id (x ∷ xs) ys h =
           ap (λ b. b || list_any (λ (s : Space). s.id == id) xs) (sym miss) ∙ h in rw miss (found_first id xs ys rest)
     ]
 
-grows : (t : Tables) (line : ℕ) (r : Record) → Grows t (with_record t line r)
-grows t line (Ispace id set) = record {
-  points = λ other known. ap (λ o. option_map_or (λ (s : Space). s.points) o [])
-      (found_first other t.spaces (record { id = id; points = points_of set } ∷ []) known);
-  declared = λ other known.
-      list_any-append (λ (s : Space). s.id == other) t.spaces (record { id = id; points = points_of set } ∷ [])
-      ∙ ap (λ b. b || list_any (λ (s : Space). s.id == other) (record { id = id; points = points_of set } ∷ [])) known;
+grows_by : (t u : Tables) (s : Space) → u.spaces ≡ t.spaces ++ s ∷ [] → Grows t u
+grows_by t u s is = record {
+  points = λ id known. ap (λ (xs : List Space). option_map_or (λ (s : Space). s.points) (find (λ (s : Space). s.id == id) xs) []) is
+      ∙ ap (λ o. option_map_or (λ (s : Space). s.points) o []) (found_first id t.spaces (s ∷ []) known);
+  declared = λ id known. ap (list_any (λ (s : Space). s.id == id)) is ∙ list_any-append (λ (s : Space). s.id == id) t.spaces (s ∷ [])
+      ∙ ap (λ b. b || list_any (λ (s : Space). s.id == id) (s ∷ [])) known;
 }
+
+grows : (t : Tables) (line : ℕ) (r : Record) → Grows t (with_record t line r)
+grows t line (Ispace id set) = grows_by t (with_record t line (Ispace id set)) (record { id = id; points = points_of set }) refl
+grows t line (Plane id quads) = grows_by t (with_record t line (Plane id quads)) (record { id = id; points = plane_points quads }) refl
 grows t line _ = record { points = λ other known. refl; declared = λ other known. known }
 
 -- ---- Sums over lists.
@@ -108,7 +111,19 @@ knows_asked t _ h = refl
 pub point_total-add : (t : Tables) (line : ℕ) (r : Record) → point_total (with_record t line r) ≡ point_total t + points_asked r
 point_total-add t line (Ispace id set) = let h =
     sum_by_push (λ (s : Space). length s.points) t.spaces (record { id = id; points = points_of set }) in omega (arith, h)
+point_total-add t line (Plane id quads) = let h =
+    sum_by_push (λ (s : Space). length s.points) t.spaces (record { id = id; points = plane_points quads }) in omega (arith, h)
 point_total-add t line _ = omega arith
+
+-- In a log of the first version all points are counted.
+flat_cost : (t : Tables) (space : ℕ) (fields : List ℕ) → is_planar t ≡ false → cost_of t space fields ≡ size_of t space fields
+flat_cost t space fields flat = rw flat refl
+
+flat_cells : (t : Tables) → is_planar t ≡ false → cells_of t ≡ cell_total t
+flat_cells t flat = rw flat refl
+
+pub flat_asked : (t : Tables) (r : Record) → is_planar t ≡ false → accesses t r ≡ size_asked t r
+flat_asked t r flat = rw flat refl
 
 size-grows : (t u : Tables) (space : ℕ) (fields : List ℕ) → Grows t u → is_declared t (space_id space) ≡ true
     → size_of u space fields ≡ size_of t space fields
@@ -127,24 +142,28 @@ cell_total-add t line (Inst id tree space fields kind) known named =
     omega (arith, h)
 cell_total-add t line (Ispace id set) known named = let h =
     cells_grow t (with_record t line (Ispace id set)) (grows t line (Ispace id set)) known in omega (arith, h)
+cell_total-add t line (Plane id quads) known named = let h =
+    cells_grow t (with_record t line (Plane id quads)) (grows t line (Plane id quads)) known in omega (arith, h)
 cell_total-add t line _ known named = omega arith
 
-accesses-grow : (t u : Tables) (r : Record) → Grows t u → knows_space t r ≡ true → accesses u r ≡ accesses t r
-accesses-grow t u r g known = by (asked r) known
+accesses-grow : (t u : Tables) (r : Record) → Grows t u → is_planar t ≡ false → is_planar u ≡ false → knows_space t r ≡ true
+    → accesses u r ≡ accesses t r
+accesses-grow t u r g flat flat_u known = flat_asked u r flat_u ∙ by (asked r) known ∙ sym (flat_asked t r flat)
   where
     by : (o : Option (ℕ × List ℕ)) → option_map_or (λ p. is_declared t (space_id p.0)) o true ≡ true
         → option_map_or (λ p. size_of u p.0 p.1) o 0 ≡ option_map_or (λ p. size_of t p.0 p.1) o 0
     by None h = refl
     by (Some p) h = size-grows t u p.0 p.1 g h
 
-pub access_total-add : (earlier : List Record) (t : Tables) (line : ℕ) (r : Record) → list_all (knows_space t) earlier ≡ true
+pub access_total-add : (earlier : List Record) (t : Tables) (line : ℕ) (r : Record) → is_planar t ≡ false
+    → is_planar (with_record t line r) ≡ false → list_all (knows_space t) earlier ≡ true
     → names_unknown t r ≡ false → access_total (with_record t line r) (earlier ++ r ∷ []) ≡ access_total t earlier + accesses t r
-access_total-add earlier t line r known named =
+access_total-add earlier t line r flat flat_u known named =
     let u = with_record t line r in
     let g = grows t line r in
     let h = sum_by_push (accesses u) earlier r in
-    let e = sum-known (knows_space t) (accesses u) (accesses t) earlier (λ x here. accesses-grow t u x g here) known in
-    let l = accesses-grow t u r g (knows_asked t r (knows_all t r named)) in
+    let e = sum-known (knows_space t) (accesses u) (accesses t) earlier (λ x here. accesses-grow t u x g flat flat_u here) known in
+    let l = accesses-grow t u r g flat flat_u (knows_asked t r (knows_all t r named)) in
     omega (arith, h, e, l)
 
 -- ---- Listed items.
@@ -184,6 +203,18 @@ started first first2 old new at more none one is adds =
 req_clashes_at-grow : (t u : Tables) (k : OwnPlace) (a : Priv) → Grows t u → (q : reqs.Req) → is_declared t (space_id q.space) ≡ true
     → req_clashes_at u k a q ≡ req_clashes_at t k a q
 req_clashes_at-grow t u k a g q here = ap (λ (xs : List ℕ). claims_at q.item q.tree xs q.fields q.access k a) (g.points q.space here)
+
+claims_stay : (t u : Tables) (old new : Claims) → Grows t u → u.reqs ≡ t.reqs → AreClaims t old
+    → list_all (λ (q : reqs.Req). is_declared t (space_id q.space)) t.reqs ≡ true → Adds old new (λ k a. false) → AreClaims u new
+claims_stay t u old new g same are known adds = λ k a.
+    let here = λ (q : reqs.Req). is_declared t (space_id q.space) in
+    let first : reqs.Req → Bool = λ q. (q.item == k.item) && (q.number == 1) in
+    ap (λ b. b || clashes_in new k a) (ap (λ (rs : List reqs.Req). option_map_or (req_clashes_at u k a) (find first rs) false) same
+    ∙ found-known here first (req_clashes_at u k a) (req_clashes_at t k a) t.reqs (req_clashes_at-grow t u k a g) known)
+    ∙ ap (λ b. first_clashes_at t k a || b) (adds k a ∙ or-false (clashes_in old k a))
+    ∙ are k a
+    ∙ sym (ap (list_any (req_clashes_at u k a)) same
+    ∙ any-known here (req_clashes_at u k a) (req_clashes_at t k a) t.reqs (req_clashes_at-grow t u k a g) known)
 
 pub AreClaims-add : (t : Tables) (line : ℕ) (r : Record) (old new : Claims) → AreClaims t old
     → list_all (λ (q : reqs.Req). is_declared t (space_id q.space)) t.reqs ≡ true → Adds old new (claimed t r)
@@ -242,15 +273,10 @@ AreClaims-add t line (Req task tree space fields access atomic) old new are know
     later : (b : Bool) (n : ℕ) → (n == 0) ≡ false → (b && (n + 1 == 1)) ≡ false
     later true n some = grind (arith, nat_tests)
     later false n some = refl
-AreClaims-add t line (Ispace id set) old new are known adds = λ k a.
-    let u = with_record t line (Ispace id set) in
-    let g = grows t line (Ispace id set) in
-    let here = λ (q : reqs.Req). is_declared t (space_id q.space) in
-    ap (λ b. b || clashes_in new k a) (found-known here (λ (q : reqs.Req). (q.item == k.item) && (q.number == 1)) (req_clashes_at u k a)
-    (req_clashes_at t k a) t.reqs (req_clashes_at-grow t u k a g) known)
-    ∙ ap (λ b. first_clashes_at t k a || b) (adds k a ∙ or-false (clashes_in old k a))
-    ∙ are k a
-    ∙ sym (any-known here (req_clashes_at u k a) (req_clashes_at t k a) t.reqs (req_clashes_at-grow t u k a g) known)
+AreClaims-add t line (Ispace id set) old new are known adds =
+    claims_stay t (with_record t line (Ispace id set)) old new (grows t line (Ispace id set)) refl are known adds
+AreClaims-add t line (Plane id quads) old new are known adds =
+    claims_stay t (with_record t line (Plane id quads)) old new (grows t line (Plane id quads)) refl are known adds
 AreClaims-add t line _ old new are known adds = λ k a.
     ap (λ b. first_clashes_at t k a || b) (adds k a ∙ or-false (clashes_in old k a)) ∙ are k a
 
@@ -264,6 +290,9 @@ reqs_known t line (Req task tree space fields access atomic) known named =
 reqs_known t line (Ispace id set) known named =
     all-known (λ (q : reqs.Req). is_declared t (space_id q.space)) _ t.reqs
     (λ (q : reqs.Req) here. (grows t line (Ispace id set)).declared q.space here) known
+reqs_known t line (Plane id quads) known named =
+    all-known (λ (q : reqs.Req). is_declared t (space_id q.space)) _ t.reqs
+    (λ (q : reqs.Req) here. (grows t line (Plane id quads)).declared q.space here) known
 reqs_known t line _ known named = known
 
 insts_known : (t : Tables) (line : ℕ) (r : Record) → list_all (λ (i : insts.Inst). is_declared t (space_id i.space)) t.insts ≡ true
@@ -274,6 +303,9 @@ insts_known t line (Inst id tree space fields kind) known named =
 insts_known t line (Ispace id set) known named =
     all-known (λ (i : insts.Inst). is_declared t (space_id i.space)) _ t.insts
     (λ (i : insts.Inst) here. (grows t line (Ispace id set)).declared i.space here) known
+insts_known t line (Plane id quads) known named =
+    all-known (λ (i : insts.Inst). is_declared t (space_id i.space)) _ t.insts
+    (λ (i : insts.Inst) here. (grows t line (Plane id quads)).declared i.space here) known
 insts_known t line _ known named = known
 
 still_asked : (t u : Tables) (o : Option (ℕ × List ℕ)) → Grows t u → option_map_or (λ p. is_declared t (space_id p.0)) o true ≡ true
@@ -298,17 +330,55 @@ AreKnown-add earlier t line r known named =
 
 -- ---- Sums within their limits are exact.
 
-pub points-exact : (t : Tables) (r : Record) (old : ℕ) → old ≡ point_total t → old < 2 ^ 128 → has_many_points t r ≡ false
+pub points-exact : (t : Tables) (r : Record) (old : ℕ) → old ≡ point_total t → old < 2 ^ 128 → is_planar t ≡ false → has_many_points t r ≡ false
     → cut (old + points_asked r) ≡ point_total t + points_asked r
-points-exact t (Ispace id set) old is small fits = within (point_total t) (length (points_of set)) 1048576 old is fits (lit< tt)
-points-exact t _ old is small fits = omega arith
+points-exact t r old is small flat fits = by (points_declared r) (rw flat at fits)
+  where
+    by : (o : Option (List ℕ)) → option_map_or (λ points. nat_lt 1048576 (point_total t + length points)) o false ≡ false
+        → cut (old + option_map_or (λ points. length points) o 0) ≡ point_total t + option_map_or (λ points. length points) o 0
+    by None few = omega arith
+    by (Some points) few = within (point_total t) (length points) 1048576 old is few (lit< tt)
 
-pub cells-exact : (t : Tables) (r : Record) (old : ℕ) → old ≡ cell_total t → old < 2 ^ 128 → has_many_cells t r ≡ false
+pub cells-exact : (t : Tables) (r : Record) (old : ℕ) → old ≡ cell_total t → old < 2 ^ 128 → is_planar t ≡ false → has_many_cells t r ≡ false
     → cut (old + cells_asked t r) ≡ cell_total t + cells_asked t r
-cells-exact t (Inst id tree space fields kind) old is small fits =
-    within (cell_total t) (size_of t space fields) 1048576 old is fits (lit< tt)
-cells-exact t _ old is small fits = omega arith
+cells-exact t (Inst id tree space fields kind) old is small flat fits =
+    within (cell_total t) (size_of t space fields) 1048576 old is (rw flat at fits) (lit< tt)
+cells-exact t _ old is small flat fits = omega arith
 
-pub accesses-exact : (earlier : List Record) (t : Tables) (r : Record) (old : ℕ) → old ≡ access_total t earlier
-    → has_many_accesses earlier t r ≡ false → cut (old + accesses t r) ≡ access_total t earlier + accesses t r
-accesses-exact earlier t r old is fits = within (access_total t earlier) (accesses t r) 4194304 old is fits (lit< tt)
+pub few_accesses : (earlier : List Record) (t : Tables) (r : Record) → is_planar t ≡ false → has_many_accesses earlier t r ≡ false
+    → nat_lt 4194304 (access_total t earlier + accesses t r) ≡ false
+few_accesses earlier t r flat fits = ap (λ b. (not b || is_end r) && nat_lt 4194304 (access_total t earlier + accesses t r)) (sym flat) ∙ fits
+
+pub accesses-exact : (earlier : List Record) (t : Tables) (r : Record) (old : ℕ) → old ≡ access_total t earlier → is_planar t ≡ false
+    → has_many_accesses earlier t r ≡ false → cut (old + size_asked t r) ≡ access_total t earlier + accesses t r
+accesses-exact earlier t r old is flat fits =
+    ap (λ m. cut (old + m)) (sym (flat_asked t r flat))
+    ∙ within (access_total t earlier) (accesses t r) 4194304 old is (few_accesses earlier t r flat fits) (lit< tt)
+
+-- ---- What is judged of such sums.
+
+pub judged_accesses : (earlier : List Record) (t : Tables) (r : Record) → is_planar t ≡ false
+    → nat_lt 4194304 (access_total t earlier + size_asked t r) ≡ has_many_accesses earlier t r
+judged_accesses earlier t r flat =
+    ap (λ m. nat_lt 4194304 (access_total t earlier + m)) (sym (flat_asked t r flat))
+    ∙ ap (λ b. (not b || is_end r) && nat_lt 4194304 (access_total t earlier + accesses t r)) (sym flat)
+
+pub judged_cells : (t : Tables) (id tree space : ℕ) (fields : List ℕ) (kind : InstKind) → is_planar t ≡ false
+    → nat_lt 1048576 (cell_total t + size_of t space fields) ≡ has_many_cells t (Inst id tree space fields kind)
+judged_cells t id tree space fields kind flat = rw flat refl
+
+pub no_cells : (t : Tables) (n : ℕ) → is_planar t ≡ false → false ≡ has_many_cells t (End n)
+no_cells t n flat = rw flat refl
+
+pub judged_points : (t : Tables) (r : Record) (points : List ℕ) → points_declared r ≡ Some points → is_planar t ≡ false
+    → nat_lt 1048576 (point_total t + points_asked r) ≡ has_many_points t r
+judged_points t r points is flat = rw (is, flat) refl
+
+pub no_points : (t : Tables) (r : Record) → points_declared r ≡ None → false ≡ has_many_points t r
+no_points t r is = by (is_planar t) (points_declared r) is
+  where
+    by : (planar : Bool) (o : Option (List ℕ)) → o ≡ None
+        → false ≡ (not planar && option_map_or (λ points. nat_lt 1048576 (point_total t + length points)) o false)
+    by true o e = refl
+    by false None e = refl
+    by false (Some points) e = absurd cc

@@ -10,7 +10,7 @@ use Rattle.std.proofs.lemmas.List.Folds.{list_any_more}
 use Rattle.std.proofs.lemmas.List.Kept.{AllPairs-from_increasing}
 use Rattle.std.proofs.lemmas.Grind.{get_or_default_zero}
 use Rattle.vocabulary.specs.Prelude.{Place, Req, Inst, Tables, is_in, points_in, same_place, covers, grid}
-use Rattle.semantics.specs.Rules.{load_of, reduces}
+use Rattle.semantics.specs.Rules.{load_of, is_planar, reduces}
 use Rattle.log_rules.specs.Counts.{cut}
 use Rattle.log_rules.specs.Loads.{one, is_held, load_at, row_load, inst_load}
 use Rattle.semantics.proofs.lemmas.SamePlaces.{same_place-true}
@@ -123,12 +123,17 @@ sum-grid g (x ∷ xs) fields =
     let all = sum_by-cons (λ x. sum_by (λ f. g (x, f)) fields) x xs in
     omega (arith, split, head, tail, all)
 
-pub loads-told : (t : Tables) (count : Place → ℕ) (insts : List Inst) → ((k : Place) → cut (count k) ≡ cut (load_at t k t.reqs))
+-- The load of an instance where all points are counted.
+abbrev flat_load : Tables → Inst → ℕ
+flat_load t i = sum_by (λ (p : ℕ × ℕ). load_at t (record { tree = i.tree; point = p.0; field = p.1 }) t.reqs)
+    (grid (points_in t i.space) i.fields)
+
+pub loads-told : (t : Tables) (count : Place → ℕ) (insts : List Inst) → is_planar t ≡ false → ((k : Place) → cut (count k) ≡ cut (load_at t k t.reqs))
     → cut (sum_by (inst_load count t) insts) ≡ cut (sum_by (load_of t) insts)
-loads-told t count insts are =
-    cut-sum (inst_load count t) (load_of t) insts (λ (i : Inst).
+loads-told t count insts flat are = rw flat (
+    cut-sum (inst_load count t) (flat_load t) insts (λ (i : Inst).
     let exact = λ (k : Place). load_at t k t.reqs in
     cut-sum (row_load count i.tree i.fields) (row_load exact i.tree i.fields) (points_in t i.space) (λ x.
     cut-sum (λ f. count (record { tree = i.tree; point = x; field = f }))
     (λ f. exact (record { tree = i.tree; point = x; field = f })) i.fields (λ f. are (record { tree = i.tree; point = x; field = f })))
-    ∙ ap cut (sym (sum-grid (λ p. exact (record { tree = i.tree; point = p.0; field = p.1 })) (points_in t i.space) i.fields)))
+    ∙ ap cut (sym (sum-grid (λ p. exact (record { tree = i.tree; point = p.0; field = p.1 })) (points_in t i.space) i.fields))))

@@ -1,14 +1,17 @@
 //! How much a record asks for, in points, cells and accesses.
 
-ghost use Rattle.std.specs.Prelude.{◌≡◌, ◌+◌, ◌-◌, ◌<◌, ◌^◌, ℕ, length, nat_lt};
-ghost use Rattle.vocabulary.specs.Prelude.{points_of};
-ghost use Rattle.semantics.specs.Rules.{is_late, size_of, asked, accesses};
-ghost use Rattle.log_rules.specs.Counts.{cut, points_asked, cells_asked, Asks};
+ghost use Rattle.std.specs.Prelude.{◌≡◌, ◌+◌, ◌-◌, ◌*◌, ◌<◌, ◌^◌, ℕ, length, map, nat_lt};
+ghost use Rattle.point_set.specs.Rects.{AreRects};
+ghost use Rattle.log_tables.specs.Views.{Ascends};
+ghost use Rattle.vocabulary.specs.Prelude.{plane_points, points_of, rect_of};
+ghost use Rattle.semantics.specs.Rules.{is_late, size_of, asked, has_many_reads, read_count};
+ghost use Rattle.log_rules.specs.Counts.{cut, points_asked, cells_asked, reads_of, size_asked, Asks};
 
 use log_tables::Draft;
 use point_set::PointSet;
-use semantics::MOST_RECORDS;
-use spy_grammar::{Nums, Record};
+use privilege::Priv;
+use semantics::{MOST_READS, MOST_RECORDS, Req};
+use spy_grammar::{Nums, Quad, Record};
 
 /// Whether so many records after the header stand before a record that it is late, and is not the end.
 pub fn is_late(before: usize, rec: &Record) -> bool
@@ -53,12 +56,35 @@ fn point_count(runs: &[(u64, u64)]) -> u128
     count
 }
 
+/// How many points a rectangle has.
+fn area(quad: &Quad) -> u128
+    ensures { result ≡ (quad.now.x1 + 1 - quad.now.x0) * (quad.now.y1 + 1 - quad.now.y0) }
+{
+    let columns = (quad.x1 as u128 + 1).saturating_sub(quad.x0 as u128);
+    let rows = (quad.y1 as u128 + 1).saturating_sub(quad.y0 as u128);
+    columns * rows
+}
+
+/// How many points some rectangles have, no two of which share one.
+fn area_of(quads: &[Quad]) -> u128
+    requires { AreRects (map rect_of quads.now) }
+    ensures { result ≡ cut (length (plane_points quads.now)) }
+{
+    let mut count = 0u128;
+    for quad in quads {
+        count = raised(count, area(quad));
+    }
+    count
+}
+
 /// How many points a record declares.
 pub(crate) fn points_asked(rec: &Record) -> u128
+    requires { Ascends rec.now }
     ensures { result ≡ cut (points_asked rec.now) }
 {
     match rec {
         Record::Ispace { set, .. } => point_count(set.as_slice()),
+        Record::Plane { rects, .. } => area_of(rects.as_slice()),
         _ => 0,
     }
 }
@@ -73,7 +99,7 @@ fn size_of<P: PointSet>(draft: &Draft<P>, space: u32, fields: &Nums) -> u128
     }
 }
 
-/// How many cells a record declares.
+/// How many points and fields together the instance has that a record declares.
 pub(crate) fn cells_asked<P: PointSet>(draft: &Draft<P>, rec: &Record) -> u128
     ensures { result ≡ cut (cells_asked draft.now rec.now) }
 {
@@ -98,12 +124,43 @@ fn asked(rec: &Record) -> Option<(u32, &Nums)>
     }
 }
 
-/// How many accesses a record asks for.
-pub(crate) fn accesses<P: PointSet>(draft: &Draft<P>, rec: &Record) -> u128
-    ensures { result ≡ cut (accesses draft.now rec.now) }
+/// How many points and fields together the accesses have for which a record asks.
+pub(crate) fn size_asked<P: PointSet>(draft: &Draft<P>, rec: &Record) -> u128
+    ensures { result ≡ cut (size_asked draft.now rec.now) }
 {
     match asked(rec) {
         Some((space, fields)) => size_of(draft, space, fields),
         None => 0,
+    }
+}
+
+/// How many reads a requirement asks for.
+fn reads_of<P: PointSet>(draft: &Draft<P>, req: &Req) -> u128
+    ensures { result ≡ cut (reads_of draft.now req.now) }
+{
+    match req.access {
+        Priv::Ro | Priv::Rw => size_of(draft, req.space, &req.fields),
+        Priv::Wd | Priv::Red(_) => 0,
+    }
+}
+
+/// How many reads the tasks of a log have.
+fn read_count<P: PointSet>(draft: &Draft<P>) -> u128
+    ensures { result ≡ cut (read_count draft.now) }
+{
+    let mut count = 0u128;
+    for req in draft.reqs() {
+        count = raised(count, reads_of(draft, req));
+    }
+    count
+}
+
+/// Whether a record ends a log whose tasks have too many reads together.
+pub fn has_many_reads<P: PointSet>(draft: &Draft<P>, rec: &Record) -> bool
+    ensures { result ≡ has_many_reads draft.now rec.now }
+{
+    match rec {
+        Record::End { .. } => exceeds(0, read_count(draft), MOST_READS),
+        _ => false,
     }
 }

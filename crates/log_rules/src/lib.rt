@@ -20,7 +20,7 @@ mod spaces;
 mod tally;
 mod whole_log;
 
-pub use counts::is_late;
+pub use counts::{has_many_reads, is_late};
 pub use events::{is_run_again, repeats_event};
 pub use instances::{is_mapped_again, is_not_covered, is_of_wrong_kind, is_of_wrong_tree};
 pub use load::has_much_load;
@@ -28,6 +28,8 @@ pub use names::{names_unknown, repeats_id};
 pub use own::interferes_with_own;
 pub use requirements::{exceeds_tree, has_wrong_fields, is_not_in_tree};
 pub use serial::is_bad_serial;
-pub use spaces::{is_in_tree, is_late_sub, is_no_root, is_sub_again, is_too_deep};
+pub use spaces::{
+    is_in_tree, is_late_sub, is_no_root, is_of_other_version, is_sub_again, is_too_deep,
+};
 pub use tally::{Tally, has_many_accesses, has_many_cells, has_many_points};
 pub use whole_log::{WholeLog, has_no_run, waits_for_none};

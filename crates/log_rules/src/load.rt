@@ -1,9 +1,9 @@
 //! The load of a log: for each cell of each instance, the requirements that reduce at the place of the cell.
 
-ghost use Rattle.std.specs.Prelude.{◌≡◌, ◌&&◌, [], ◌∷◌, map, IfOk, OnOk, sum_by};
+ghost use Rattle.std.specs.Prelude.{◌≡◌, ◌&&◌, [], ◌∷◌, false, map, IfOk, OnOk, sum_by};
 ghost use Rattle.std.specs.List.Sorted.{IsStrictlyIncreasing};
 ghost use Rattle.vocabulary.specs.Prelude.{Place, points_in, same_place, covers};
-ghost use Rattle.semantics.specs.Rules.{has_much_load, reduces};
+ghost use Rattle.semantics.specs.Rules.{has_much_load, is_planar, reduces};
 ghost use Rattle.log_rules.specs.Counts.{cut};
 ghost use Rattle.log_rules.specs.Loads.{AreLoads, CountsAt, load_in, is_held, row_load, grid_load, inst_load};
 
@@ -179,13 +179,13 @@ impl Loads {
     }
 }
 
-/// Whether a record ends a log whose instances have too much load together.
+/// Whether a record ends a log of the first version whose instances have too much load together.
 pub fn has_much_load<P: PointSet>(
     alloc: Global,
     draft: &Draft<P>,
     rec: &Record,
 ) -> Result<bool, AllocError>
-    ensures { IfOk result (λ much. much ≡ has_much_load draft.now rec.now) }
+    ensures { IfOk result (λ much. is_planar draft.now ≡ false → much ≡ has_much_load draft.now rec.now) }
 {
     match rec {
         Record::End { .. } => {

@@ -16,7 +16,7 @@ pub fn repeats_id<P: PointSet>(draft: &Draft<P>, rec: &Record) -> bool
     ensures { result ≡ repeats_id draft.now rec.now }
 {
     match rec {
-        Record::Ispace { id, .. } => draft.has_space(*id),
+        Record::Ispace { id, .. } | Record::Plane { id, .. } => draft.has_space(*id),
         Record::Part { id, .. } => draft.has_part(*id),
         Record::Sub { part, colour, .. } => draft.has_colour(*part, *colour),
         Record::Fields { id, .. } => draft.has_field_space(*id),

@@ -2,12 +2,22 @@
 
 ghost use Rattle.std.specs.Prelude.{◌≡◌, ◌==◌, ◌||◌, length, min};
 ghost use Rattle.vocabulary.specs.Prelude.{upward, space_above, is_in, is_in_tree};
-ghost use Rattle.semantics.specs.Rules.{is_sub_again, is_late_sub, is_too_deep, is_no_root};
+ghost use Rattle.semantics.specs.Rules.{is_of_other_version, is_sub_again, is_late_sub, is_too_deep, is_no_root};
 
 use log_tables::Draft;
 use point_set::PointSet;
 use semantics::DEEPEST;
 use spy_grammar::Record;
+
+/// Whether a record declares a space by rectangles in a log that is not of the second version.
+pub fn is_of_other_version<P: PointSet>(draft: &Draft<P>, rec: &Record) -> bool
+    ensures { result ≡ is_of_other_version draft.now rec.now }
+{
+    match rec {
+        Record::Plane { .. } => !draft.is_planar(),
+        _ => false,
+    }
+}
 
 /// Whether a record makes a subspace of a space that is one already.
 pub fn is_sub_again<P: PointSet>(draft: &Draft<P>, rec: &Record) -> bool

@@ -4,12 +4,13 @@ ghost use Rattle.std.specs.Prelude.{◌≡◌, nat_eq, ℕ, List, [], ◌++◌, 
 ghost use Rattle.std.specs.HashSet.{contains};
 ghost use Rattle.vocabulary.specs.Prelude.{Record, points_in, no_tables, with_record};
 ghost use Rattle.semantics.specs.Rules.{has_many_points, has_many_cells, has_many_accesses};
+ghost use Rattle.log_tables.specs.Views.{Ascends};
 ghost use Rattle.log_rules.specs.Own.{Adds, claims_at, claimed};
 ghost use Rattle.log_rules.specs.Listing.{AddsAll, ids_listed};
 ghost use Rattle.log_rules.specs.Tallied.{IfTally, IsTally, MayCount};
 
 use crate::claims::Claims;
-use crate::counts::{accesses, cells_asked, exceeds, points_asked, raised};
+use crate::counts::{cells_asked, exceeds, points_asked, raised, size_asked};
 use crate::serial::note_all;
 use log_tables::{Draft, priv_of};
 use point_set::PointSet;
@@ -103,6 +104,7 @@ impl Tally {
 
     /// The tally of one record more, given what the records before it declare. The old one is spent, also where memory runs out.
     pub fn add<P: PointSet>(self, draft: &Draft<P>, rec: &Record) -> Result<Tally, AllocError>
+        requires { Ascends rec.now }
         ensures { IfOk result (λ tally. (earlier : List Record) (line : ℕ) → IsTally earlier draft.now self
             → MayCount earlier draft.now rec.now
             → IsTally (earlier ++ rec.now ∷ []) (with_record draft.now line rec.now) tally) }
@@ -110,7 +112,7 @@ impl Tally {
         let mut tally = self;
         tally.points = raised(tally.points, points_asked(rec));
         tally.cells = raised(tally.cells, cells_asked(draft, rec));
-        tally.accesses = raised(tally.accesses, accesses(draft, rec));
+        tally.accesses = raised(tally.accesses, size_asked(draft, rec));
         note_listed(&mut tally.listed, rec)?;
         note_claims(&mut tally.claims, draft, rec)?;
         Ok(tally)
@@ -119,10 +121,11 @@ impl Tally {
 
 /// Whether the spaces up to a record have too many points together.
 pub fn has_many_points<P: PointSet>(draft: &Draft<P>, tally: &Tally, rec: &Record) -> bool
+    requires { Ascends rec.now }
     ensures { IfTally draft.now tally.now (λ earlier. result ≡ has_many_points draft.now rec.now) }
 {
     match rec {
-        Record::Ispace { .. } => exceeds(tally.points, points_asked(rec), MOST_POINTS),
+        Record::Ispace { .. } | Record::Plane { .. } => exceeds(tally.points, points_asked(rec), MOST_POINTS),
         _ => false,
     }
 }
@@ -141,5 +144,5 @@ pub fn has_many_cells<P: PointSet>(draft: &Draft<P>, tally: &Tally, rec: &Record
 pub fn has_many_accesses<P: PointSet>(draft: &Draft<P>, tally: &Tally, rec: &Record) -> bool
     ensures { IfTally draft.now tally.now (λ earlier. result ≡ has_many_accesses earlier draft.now rec.now) }
 {
-    exceeds(tally.accesses, accesses(draft, rec), MOST_ACCESSES)
+    exceeds(tally.accesses, size_asked(draft, rec), MOST_ACCESSES)
 }

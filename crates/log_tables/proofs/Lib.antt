@@ -2,3 +2,4 @@ pub mod lemmas
 mod Ascending
 mod Mapping
 mod Noting
+mod Strips

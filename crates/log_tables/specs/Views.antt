@@ -1,9 +1,9 @@
 -- How entries are seen, and what records have to have.
-use Rattle.std.specs.Prelude.{◌≡◌, ℕ, List}
-use Rattle.vocabulary.specs.Prelude.{Record}
-use Rattle.spy_grammar.specs.declared.record.Record.TheVariants.{Ispace, Part, Sub, Fields, Tree, Redop, Task, Req, Fill, Serial, Inst, Map, Run, Copy, Put, Reset, Fold, Merge}
+use Rattle.std.specs.Prelude.{◌≡◌, ℕ, List, map}
+use Rattle.vocabulary.specs.Prelude.{Record, rect_of, strip}
+use Rattle.spy_grammar.specs.declared.record.Record.TheVariants.{Ispace, Plane, Part, Sub, Fields, Tree, Redop, Task, Req, Fill, Serial, Inst, Map, Run, Copy, Put, Reset, Fold, Merge}
 use Rattle.std.specs.List.Sorted.{IsStrictlyIncreasing}
-use Rattle.point_set.specs.Runs.{AreRuns}
+use Rattle.point_set.specs.Rects.{AreRects}
 use Rattle.semantics.specs.Tables as tables
 use Rattle.log_tables.specs.declared.entries.Space as spaces
 
@@ -15,18 +15,26 @@ space_seen points s = record { id = s.id; points = points s.set }
 abbrev pub Declares : tables.Tables → tables.Tables → Record → Type 0
 Declares old new rec = new ≡ tables.with_record old 0 rec
 
--- The runs of a record's set ascend, and so do the fields of a field space, a requirement, a fill or an instance.
+-- The runs or rectangles of a record's space ascend, and so do the fields of a field space, a requirement, a fill or an instance.
 abbrev pub Ascends : Record → Type 0
-Ascends (Ispace id set) = AreRuns set
+Ascends (Ispace id set) = AreRects (map strip set)
+Ascends (Plane id quads) = AreRects (map rect_of quads)
 Ascends (Fields id fields) = IsStrictlyIncreasing fields
 Ascends (Req task tree space fields access atomic) = IsStrictlyIncreasing fields
 Ascends (Fill id tree space fields n) = IsStrictlyIncreasing fields
 Ascends (Inst id tree space fields kind) = IsStrictlyIncreasing fields
 Ascends _ = Unit {0}
 
+-- The record is about a space.
+abbrev pub IsOfSpaces : Record → Type 0
+IsOfSpaces (Ispace id set) = Unit {0}
+IsOfSpaces (Plane id quads) = Unit {0}
+IsOfSpaces _ = ⊥
+
 -- The record is about spaces, partitions, fields, trees or operators.
 abbrev pub IsOfRegions : Record → Type 0
 IsOfRegions (Ispace id set) = Unit {0}
+IsOfRegions (Plane id quads) = Unit {0}
 IsOfRegions (Part id space disjoint) = Unit {0}
 IsOfRegions (Sub part colour space) = Unit {0}
 IsOfRegions (Fields id fields) = Unit {0}

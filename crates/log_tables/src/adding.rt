@@ -1,20 +1,21 @@
 //! One record more.
 
-ghost use Rattle.std.specs.Prelude.{◌≡◌, ◌<◌, ◌≤◌, ◌+◌, ◌-◌, ◌^◌, ◌++◌, ◌∷◌, [], length, OnOk, IfOk, OnErr};
-ghost use Rattle.vocabulary.specs.Prelude.{with_node, with_record, privilege_of, coherence_of, points_of};
-ghost use Rattle.log_tables.specs.Views.{Ascends, IsOfRegions, IsOfItems, IsOfNodes};
+ghost use Rattle.std.specs.Prelude.{◌≡◌, ◌<◌, ◌≤◌, ◌+◌, ◌-◌, ◌^◌, ◌++◌, ◌∷◌, [], length, map, OnOk, IfOk, OnErr};
+ghost use Rattle.vocabulary.specs.Prelude.{with_node, with_record, with_space, privilege_of, coherence_of, rect_of, strip};
+ghost use Rattle.log_tables.specs.Views.{Ascends, IsOfSpaces, IsOfRegions, IsOfItems, IsOfNodes};
 ghost use Rattle.spy_grammar.specs.declared.record.Record.TheVariants as records;
 ghost use Rattle.std.specs.List.Sorted.{IsStrictlyIncreasing};
-ghost use Rattle.point_set.specs.Runs.{AreRuns};
+ghost use Rattle.point_set.specs.Rects.{AreRects, rect_points};
 
 use crate::draft::Draft;
 use crate::entries::Space;
-use arena_sets::{ArenaSet, Memory};
+use arena_sets::{ArenaRects, Memory};
 use bumpalo::Bump;
+use point_set::Rect;
 use privilege::{Coherence, Priv};
 use semantics::{Inst, ItemBody, Op, Part, Req, Sub};
 use spy_grammar::Record;
-use spy_words::{InstKind, Nums, PrivWord, Set};
+use spy_words::{InstKind, Nums, PrivWord, Quad};
 use std::alloc::{AllocError, Global};
 
 /// A list of the same numbers.
@@ -47,24 +48,91 @@ fn coherence_word(atomic: bool) -> Coherence
     }
 }
 
-/// The set of these runs, in the arena.
-fn placed<'a, P: ArenaSet<'a>>(bump: &'a Bump, runs: &[(u64, u64)]) -> Result<P, Memory>
-    requires { AreRuns runs.now }
-    ensures { IfOk result (λ set. P.points set ≡ points_of runs.now) }
+/// Runs of points, as rectangles of the first column.
+pub fn strips_of(alloc: Global, runs: &[(u64, u64)]) -> Result<Vec<Rect>, AllocError>
+    requires { AreRects (map strip runs.now) }
+    ensures { IfOk result (λ rects. rects.items ≡ map strip runs.now) }
 {
-    let set = P::place(bump, runs)?;
+    let mut rects = Vec::with_capacity(alloc, runs.len())?;
+    for run in runs {
+        rects.push(Rect {
+            x0: 0,
+            x1: 0,
+            y0: run.0 as u32,
+            y1: run.1 as u32,
+        })?;
+    }
+    Ok(rects)
+}
+
+/// The rectangles that a line spells.
+pub fn rects_of(alloc: Global, quads: &[Quad]) -> Result<Vec<Rect>, AllocError>
+    ensures { IfOk result (λ rects. rects.items ≡ map rect_of quads.now) }
+{
+    let mut rects = Vec::with_capacity(alloc, quads.len())?;
+    for quad in quads {
+        rects.push(Rect {
+            x0: quad.x0,
+            x1: quad.x1,
+            y0: quad.y0,
+            y1: quad.y1,
+        })?;
+    }
+    Ok(rects)
+}
+
+/// The set of these rectangles, in the arena.
+fn placed<'a, P: ArenaRects<'a>>(bump: &'a Bump, rects: &[Rect]) -> Result<P, Memory>
+    requires { AreRects rects.now }
+    ensures { IfOk result (λ set. P.points set ≡ rect_points rects.now) }
+{
+    let set = P::place_rects(bump, rects)?;
     Ok(set)
 }
 
-impl<'a, P: ArenaSet<'a>> Draft<P> {
+impl<'a, P: ArenaRects<'a>> Draft<P> {
     /// One space more, whose set is placed in the arena.
-    fn add_space_of(&mut self, bump: &'a Bump, line: u32, id: u32, set: &Set) -> Result<(), Memory>
-        requires { AreRuns set.now }
-        ensures ok { OnOk result (self.new ≡ with_record self.old line (records.Ispace id set.now)) }
+    fn add_rects(&mut self, bump: &'a Bump, id: u32, rects: &[Rect]) -> Result<(), Memory>
+        requires { AreRects rects.now }
+        ensures ok { OnOk result (self.new ≡ with_space self.old id (rect_points rects.now) rects.now) }
         ensures err { OnErr result (self.new ≡ self.old) }
     {
-        let set = placed(bump, set.as_slice())?;
-        Ok(self.regions.add_space(Space { id, set })?)
+        let set = placed(bump, rects)?;
+        let before = self.rects.len();
+        self.rects.extend_from_slice(rects)?;
+        if let Err(end) = self.regions.add_space(Space { id, set }) {
+            // No space has these rectangles.
+            self.rects.truncate(before);
+            return Err(end.into());
+        }
+        Ok(())
+    }
+
+    /// What a record on a space declares.
+    #[tactic(auto, using(semantics::proofs::lemmas::InOrder::points_of_strips))]
+    fn add_space_of(
+        &mut self,
+        alloc: Global,
+        bump: &'a Bump,
+        line: u32,
+        rec: &Record,
+    ) -> Result<(), Memory>
+        requires ascends { Ascends rec.now }
+        requires kind { IsOfSpaces rec.now }
+        ensures ok { OnOk result (self.new ≡ with_record self.old line rec.now) }
+        ensures err { OnErr result (self.new ≡ self.old) }
+    {
+        match rec {
+            Record::Ispace { id, set } => {
+                let rects = strips_of(alloc, set.as_slice())?;
+                self.add_rects(bump, *id, rects.as_slice())
+            }
+            Record::Plane { id, rects } => {
+                let rects = rects_of(alloc, rects.as_slice())?;
+                self.add_rects(bump, *id, rects.as_slice())
+            }
+            _ => Ok(()),
+        }
     }
 
     /// One field space more.
@@ -97,7 +165,7 @@ impl<'a, P: ArenaSet<'a>> Draft<P> {
         ensures err { OnErr result (self.new ≡ self.old) }
     {
         match rec {
-            Record::Ispace { id, set } => self.add_space_of(bump, line, *id, set)?,
+            Record::Ispace { .. } | Record::Plane { .. } => self.add_space_of(alloc, bump, line, rec)?,
             Record::Part {
                 id,
                 space,
@@ -400,8 +468,13 @@ impl<'a, P: ArenaSet<'a>> Draft<P> {
         ensures few { OnOk result (length self.new.reqs ≤ length self.old.reqs + 1) }
     {
         match rec {
-            Record::Header { .. } | Record::End { .. } => Ok(()),
+            Record::Header { version } => {
+                self.version = *version;
+                Ok(())
+            }
+            Record::End { .. } => Ok(()),
             Record::Ispace { .. }
+            | Record::Plane { .. }
             | Record::Part { .. }
             | Record::Sub { .. }
             | Record::Fields { .. }

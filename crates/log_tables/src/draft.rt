@@ -12,7 +12,7 @@ use crate::regions::Decls;
 use crate::reqs::Reqs;
 use crate::rows::Rows;
 use crate::two_rows::TwoRows;
-use point_set::PointSet;
+use point_set::{PointSet, Rect};
 use semantics::{FieldSpace, Inst, Item, ItemBody, LogNode, Map, Op, Req, Serial, Tree};
 use spy_words::Nums;
 use std::alloc::{AllocError, Global};
@@ -31,6 +31,8 @@ pub struct Draft<P: PointSet> {
     pub(crate) insts: Rows<u32, Inst>,
     pub(crate) maps: Maps,
     pub(crate) nodes: TwoRows<u32, Option<usize>, LogNode>,
+    pub(crate) version: u32,
+    pub(crate) rects: Vec<Rect>,
 }
 
 impl<P: PointSet> Model for Draft<P> {
@@ -40,6 +42,8 @@ impl<P: PointSet> Model for Draft<P> {
     ghost Value = { Tables };
 
     ghost view = { λ d. record {
+      version = d.version;
+      rects = d.rects.items;
       spaces = d.regions.spaces;
       parts = d.regions.parts;
       subs = d.regions.subs;
@@ -74,6 +78,8 @@ impl<P: PointSet> Draft<P> {
             insts: Rows::new(alloc),
             maps: Maps::new(alloc),
             nodes: TwoRows::new(alloc),
+            version: 0,
+            rects: Vec::new(alloc),
         }
     }
 

@@ -18,7 +18,7 @@ mod reqs;
 mod rows;
 mod two_rows;
 
-pub use adding::priv_of;
+pub use adding::{priv_of, rects_of, strips_of};
 pub use draft::Draft;
 pub use entries::{ReqKey, Space, Step};
 pub use fields::is_in;

@@ -3,7 +3,7 @@
 ghost use Rattle.std.specs.Prelude.{All, ◌≡◌, ◌==◌, ◌&&◌, ◌≤◌, length, map, position, slice_get};
 ghost use Rattle.std.specs.Option.{option_and_then, option_copied, option_map};
 ghost use Rattle.vocabulary.specs.Prelude.{place_of, reqs_before, tree_at, part_at, inst_at, req_at};
-ghost use Rattle.semantics.specs.Rules.{is_sub};
+ghost use Rattle.semantics.specs.Rules.{is_planar, is_sub};
 ghost use Rattle.std.specs.Prelude.{IfSome, find};
 ghost use Rattle.std.specs.List.Sorted.{IsStrictlyIncreasing};
 ghost use Rattle.log_tables.specs.Ascending.{body_fields};
@@ -34,6 +34,13 @@ impl<P: PointSet> Draft<P> {
         ensures { result.now ≡ regions_of self.now }
     {
         &self.regions
+    }
+
+    /// Whether the log is of the second version.
+    pub fn is_planar(&self) -> bool
+        ensures { result ≡ is_planar self.now }
+    {
+        self.version == 2
     }
 
     /// The position of the item with this id, and the number of items where there is none.

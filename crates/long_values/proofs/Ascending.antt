@@ -7,7 +7,7 @@ use Rattle.std.proofs.lemmas.List.Kept.{AllPairs-filter}
 use Rattle.vocabulary.specs.Prelude.{Record, Lined, Good, may_read, Place, Req, records_of, Tables, Space, with_record, tables_of, points_in, req_grid, reqs_of, comes_first, Command}
 use Rattle.spy_grammar.specs.declared.record.Record.TheVariants as records
 use Rattle.log_laws.proofs.lemmas.Members.{Member, Each, each_more, member_map, member_filter, found_at, none_or_some}
-use Rattle.log_laws.proofs.lemmas.Apart.{PairsBy, Rise, all_pairs, pairs_from, pairs_map, pairs_so, pairs_flat, fields_rise, points_rise}
+use Rattle.log_laws.proofs.lemmas.Apart.{PairsBy, Rise, all_pairs, pairs_from, pairs_map, pairs_so, pairs_flat, fields_rise, points_rise, plane_rises}
 use Rattle.log_laws.proofs.lemmas.Sane.{AreSane}
 use Rattle.log_laws.proofs.lemmas.Admitted.{IsFaultless, by_records, sane}
 use Rattle.long_values.specs.LongSequential.{places_of, places_read}
@@ -19,6 +19,8 @@ record DoRise (t : Tables) : Type 0 where
 with_good : (t : Tables) (line : ℕ) (r : Record) → Good r → DoRise t → DoRise (with_record t line r)
 with_good t line (records.Ispace id set) good h =
     record { spaces = each_more _ t.spaces _ h.spaces (points_rise set good.1.0); fields = h.fields }
+with_good t line (records.Plane id quads) good h =
+    record { spaces = each_more _ t.spaces _ h.spaces (plane_rises quads good.1.0); fields = h.fields }
 with_good t line (records.Req _ _ _ _ _ _) good h =
     record { spaces = h.spaces; fields = each_more _ t.reqs _ h.fields (fields_rise _ good.1.1.1.0) }
 with_good t line _ good h = record { spaces = h.spaces; fields = h.fields }

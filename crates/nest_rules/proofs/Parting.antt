@@ -5,7 +5,7 @@ use Rattle.std.proofs.lemmas.Bool.{cases_Bool}
 use Rattle.std.proofs.lemmas.List.Elements.{filter_map-append}
 use Rattle.list_lemmas.proofs.lemmas.Places.{list_any_map}
 use Rattle.vocabulary.specs.Prelude.{Record, Lined, Item, Tables, Space, with_record, is_in}
-use Rattle.spy_grammar.specs.declared.record.Record.TheVariants.{Ispace, Tree, Task, Fill}
+use Rattle.spy_grammar.specs.declared.record.Record.TheVariants.{Ispace, Plane, Tree, Task, Fill}
 use Rattle.spy_grammar.specs.declared.nested.NRecord.{NRecord}
 use Rattle.spy_grammar.specs.declared.nested.NRecord.TheVariants as records
 use Rattle.spy_grammar.specs.declared.nested.NLined.{NLined}
@@ -25,6 +25,12 @@ map_push f (y ∷ xs) x = ap (λ ys. f y ∷ ys) (map_push f xs x)
 
 ids_with : (t : Tables) (ids : Ids) (line : ℕ) (r : Record) → AreIds t ids → AreIds (with_record t line r) (with_ids ids r)
 ids_with t ids line (Ispace id set) h = record {
+  spaces =
+      ap (λ (xs : List ℕ). xs ++ id ∷ []) h.spaces ∙ sym (map_push (λ (s : Space). s.id) t.spaces _);
+  trees = h.trees;
+  tasks = h.tasks;
+}
+ids_with t ids line (Plane id quads) h = record {
   spaces =
       ap (λ (xs : List ℕ). xs ++ id ∷ []) h.spaces ∙ sym (map_push (λ (s : Space). s.id) t.spaces _);
   trees = h.trees;

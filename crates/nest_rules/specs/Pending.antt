@@ -4,7 +4,7 @@ use Rattle.std.specs.List.{list_all, filter_map}
 use Rattle.std.specs.Option.{option_or}
 use Rattle.vocabulary.specs.Prelude.{Code, Record, Fault, Tables, Space, with_record, is_in}
 use Rattle.spy_grammar.specs.declared.code.Code.TheVariants as codes
-use Rattle.spy_grammar.specs.declared.record.Record.TheVariants.{Ispace, Tree, Task}
+use Rattle.spy_grammar.specs.declared.record.Record.TheVariants.{Ispace, Plane, Tree, Task}
 use Rattle.spy_grammar.specs.declared.nested.NRecord.{NRecord}
 use Rattle.spy_grammar.specs.declared.nested.NRecord.TheVariants as records
 use Rattle.spy_grammar.specs.declared.nested.NLined.{NLined}
@@ -28,6 +28,7 @@ pub record AreIds (t : Tables) (ids : Ids) : Type 0 where
 -- The ids with what one record more declares.
 abbrev pub with_ids : Ids → Record → Ids
 with_ids ids (Ispace id set) = record ids { spaces = ids.spaces ++ id ∷ [] }
+with_ids ids (Plane id quads) = record ids { spaces = ids.spaces ++ id ∷ [] }
 with_ids ids (Tree id space fspace) = record ids { trees = ids.trees ++ id ∷ [] }
 with_ids ids (Task id) = record ids { tasks = ids.tasks ++ id ∷ [] }
 with_ids ids _ = ids

@@ -33,7 +33,7 @@ pub(crate) fn note(ids: &mut Ids, rec: &Record) -> Result<(), AllocError>
     ensures { OnOk result (ids.new ≡ with_ids ids.old rec.now) }
 {
     match rec {
-        Record::Ispace { id, .. } => ids.spaces.push(*id),
+        Record::Ispace { id, .. } | Record::Plane { id, .. } => ids.spaces.push(*id),
         Record::Tree { id, .. } => ids.trees.push(*id),
         Record::Task { id } => ids.tasks.push(*id),
         _ => Ok(()),

@@ -14,7 +14,7 @@ ghost use Rattle.nested.specs.Rows.{AreNamed, rows_in};
 use crate::finding::{Found, judged, licensed};
 use crate::nest::Nest;
 use crate::nest_end::NestEnd;
-use arena_sets::ArenaSet;
+use arena_sets::ArenaRects;
 use bumpalo::Bump;
 use log_decl::{DeclEnd, Log, declare};
 use log_tables::Draft;
@@ -84,7 +84,7 @@ fn found_in<'a, P: PointSet + Copy>(
 }
 
 /// A log with its groups, or why the nested log is refused.
-fn nest_of<'a, P: ArenaSet<'a>>(
+fn nest_of<'a, P: ArenaRects<'a>>(
     alloc: Global,
     bump: &'a Bump,
     log: Log<'a, P>,
@@ -108,7 +108,7 @@ fn nest_of<'a, P: ArenaSet<'a>>(
 }
 
 /// The log that plain records are, or why they are none.
-fn plain_log_of<'a, P: ArenaSet<'a>>(
+fn plain_log_of<'a, P: ArenaRects<'a>>(
     alloc: Global,
     bump: &'a Bump,
     plain: Vec<Lined>,
@@ -128,7 +128,7 @@ fn plain_log_of<'a, P: ArenaSet<'a>>(
 }
 
 /// What the records of a nested log are seen as, or why it is refused.
-fn built<'a, P: ArenaSet<'a>>(
+fn built<'a, P: ArenaRects<'a>>(
     alloc: Global,
     bump: &'a Bump,
     records: Vec<NLined>,
@@ -157,7 +157,7 @@ fn built<'a, P: ArenaSet<'a>>(
 /// What the records of a nested log are seen as, or why it is refused. The lines are as many as the input has.
 ///
 /// The sets of its spaces and the fields of its privileges lie in the arena.
-pub fn build<'a, P: ArenaSet<'a>>(
+pub fn build<'a, P: ArenaRects<'a>>(
     alloc: Global,
     bump: &'a Bump,
     records: Vec<NLined>,

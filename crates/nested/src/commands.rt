@@ -13,7 +13,7 @@ use crate::nest_end::NestEnd;
 use bumpalo::Bump;
 use findings::Finding;
 use memory::Memory;
-use point_set::{PointSet, RunSet};
+use point_set::{PointSet, RectSet};
 use semantics::Unlicensed;
 use spy_grammar::NLined;
 use std::alloc::Global;
@@ -57,7 +57,7 @@ pub fn find(alloc: Global, records: Vec<NLined>, lines: u32) -> Result<Finding, 
     ensures text { IfOk result texts.Good }
 {
     let bump = Bump::new(alloc);
-    match build::<RunSet<'_>>(alloc, &bump, records, lines) {
+    match build::<RectSet<'_>>(alloc, &bump, records, lines) {
         Ok(nest) => {
             let found = licensed_finding(alloc, &nest);
             nest.let_go();

@@ -2,4 +2,3 @@ pub mod lemmas
 mod Compared
 mod Defaults
 mod Numbers
-mod Strips

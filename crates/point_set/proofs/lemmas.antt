@@ -9,3 +9,4 @@ pub mod Maximal
 pub mod Rows
 pub mod RunPoints
 pub mod Same
+pub mod Strips

@@ -2,7 +2,7 @@
 use Rattle.std.specs.Prelude.{ℕ, List, [], ◌∷◌, if◌then◌else◌}
 use Rattle.std.specs.Str.{bytes_eq}
 use Rattle.spy_grammar.specs.declared.code.Code.{Code}
-use Rattle.spy_grammar.specs.declared.code.Code.TheVariants.{TooLong, Newline, Word, Form, Number, Order, Header, Ended, Count, TooManyRecords, RepeatedId, UnknownId, TooManyPoints, SpaceInTwo, LateSub, TooDeep, NotWithin, NotDisjoint, NotRoot, NotInTree, Fields, SelfInterference, WrongTree, WrongKind, NotCovered, MappedTwice, NoRun, TwoRuns, RepeatedEvent, UndefinedEvent, Serial, TooManyCells, TooManyAccesses, TooMuchLoad, SerialOrder, Unmapped, LaunchRange, LaunchInterference, TooManyGroups}
+use Rattle.spy_grammar.specs.declared.code.Code.TheVariants.{TooLong, Newline, Word, Form, Number, Order, Header, Ended, Count, TooManyRecords, RepeatedId, UnknownId, TooManyPoints, SpaceInTwo, LateSub, TooDeep, NotWithin, NotDisjoint, NotRoot, NotInTree, Fields, SelfInterference, WrongTree, WrongKind, NotCovered, MappedTwice, NoRun, TwoRuns, RepeatedEvent, UndefinedEvent, Serial, TooManyCells, TooManyAccesses, TooMuchLoad, SerialOrder, Unmapped, LaunchRange, LaunchInterference, TooManyGroups, Version, TooManyAtoms, TooManyReads}
 use Rattle.findings.specs.Codes.{code_text}
 
 -- Every code, in the order of the table.
@@ -11,7 +11,8 @@ all_codes = TooLong ∷ Newline ∷ Word ∷ Form ∷ Number ∷ Order ∷ Heade
     ∷ RepeatedId ∷ UnknownId ∷ TooManyPoints ∷ SpaceInTwo ∷ LateSub ∷ TooDeep ∷ NotWithin ∷ NotDisjoint
     ∷ NotRoot ∷ NotInTree ∷ Fields ∷ SelfInterference ∷ WrongTree ∷ WrongKind ∷ NotCovered ∷ MappedTwice
     ∷ NoRun ∷ TwoRuns ∷ RepeatedEvent ∷ UndefinedEvent ∷ Serial ∷ TooManyCells ∷ TooManyAccesses ∷ TooMuchLoad
-    ∷ SerialOrder ∷ Unmapped ∷ LaunchRange ∷ LaunchInterference ∷ TooManyGroups ∷ []
+    ∷ SerialOrder ∷ Unmapped ∷ LaunchRange ∷ LaunchInterference ∷ TooManyGroups ∷ Version
+    ∷ TooManyAtoms ∷ TooManyReads ∷ []
 
 -- The first of these codes that has this text, or `Word`.
 abbrev pub code_among : List Code → List ℕ → Code

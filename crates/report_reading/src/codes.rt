@@ -9,12 +9,13 @@ use spy_grammar::Code::*;
 
 /// Every code, in the order of the table.
 #[rattlefmt::skip]
-const CODES: [Code; 39] = [
+const CODES: [Code; 42] = [
     TooLong, Newline, Word, Form, Number, Order, Header, Ended, Count, TooManyRecords,
     RepeatedId, UnknownId, TooManyPoints, SpaceInTwo, LateSub, TooDeep, NotWithin, NotDisjoint,
     NotRoot, NotInTree, Fields, SelfInterference, WrongTree, WrongKind, NotCovered, MappedTwice,
     NoRun, TwoRuns, RepeatedEvent, UndefinedEvent, Serial, TooManyCells, TooManyAccesses,
     TooMuchLoad, SerialOrder, Unmapped, LaunchRange, LaunchInterference, TooManyGroups,
+    Version, TooManyAtoms, TooManyReads,
 ];
 
 /// The code with this text, or `Word` where no code has it.

@@ -16,6 +16,7 @@ use Rattle.semantics.specs.Steps.{mapped, id_of}
 use Rattle.semantics.specs.declared.command.Command.{Command}
 use Rattle.semantics.specs.declared.command.Command.TheVariants.{Check, Why}
 use Rattle.semantics.specs.declared.faults.Fault.{Fault}
+pub use Rattle.semantics.specs.Rules.{is_end}
 use Rattle.semantics.specs.Rules as rules
 
 -- This code at a line.
@@ -41,10 +42,6 @@ abbrev pub header_fault : ℕ → List Lined → Option Fault
 header_fault lines [] = Some (at_line codes.Header (lines + 1))
 header_fault lines (l ∷ log) = if opens l.rec then first_with codes.Header is_header log
     else Some (at_line codes.Header l.line)
-
-abbrev pub is_end : Record → Bool
-is_end (End n) = true
-is_end _ = false
 
 -- ended: there is no `end`; or a record stands after the first.
 abbrev pub ended_fault : ℕ → List Lined → Option Fault
@@ -74,6 +71,7 @@ record_rules =
     ∷ codes.RepeatedId
     ∷ codes.UnknownId
     ∷ codes.TooManyPoints
+    ∷ codes.TooManyAtoms
     ∷ codes.SpaceInTwo
     ∷ codes.LateSub
     ∷ codes.TooDeep
@@ -95,6 +93,8 @@ record_rules =
     ∷ codes.TooManyCells
     ∷ codes.TooManyAccesses
     ∷ codes.TooMuchLoad
+    ∷ codes.Version
+    ∷ codes.TooManyReads
     ∷ []
 
 -- Whether a record breaks the rule of a code. (No other code is that of a rule on single records.)
@@ -103,6 +103,7 @@ breaks r codes.TooManyRecords = rules.is_late (length r.earlier) r.rec
 breaks r codes.RepeatedId = rules.repeats_id r.tables r.rec
 breaks r codes.UnknownId = rules.names_unknown r.tables r.rec
 breaks r codes.TooManyPoints = rules.has_many_points r.tables r.rec
+breaks r codes.TooManyAtoms = rules.has_many_atoms r.tables r.rec
 breaks r codes.SpaceInTwo = rules.is_sub_again r.tables r.rec
 breaks r codes.LateSub = rules.is_late_sub r.tables r.rec
 breaks r codes.TooDeep = rules.is_too_deep r.tables r.rec
@@ -124,6 +125,8 @@ breaks r codes.Serial = rules.is_bad_serial r.log r.tables r.rec
 breaks r codes.TooManyCells = rules.has_many_cells r.tables r.rec
 breaks r codes.TooManyAccesses = rules.has_many_accesses r.earlier r.tables r.rec
 breaks r codes.TooMuchLoad = rules.has_much_load r.tables r.rec
+breaks r codes.Version = rules.is_of_other_version r.tables r.rec
+breaks r codes.TooManyReads = rules.has_many_reads r.tables r.rec
 breaks r _ = false
 
 -- The first rule that a record breaks.

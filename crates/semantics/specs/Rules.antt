@@ -1,15 +1,19 @@
 -- The rules that each record has to keep, given what the earlier records declare. Each is a test that passes where the rule is broken. It looks at some kinds of record, and no other record breaks it.
-use Rattle.std.specs.Prelude.{ℕ, ◌+◌, ◌*◌, ◌==◌, nat_lt, Bool, true, false, not, ◌&&◌, ◌||◌, List, [], ◌∷◌, ◌++◌, map, filter, length, Option, Some, None, option_map, is_some, sum_by}
+use Rattle.std.specs.Prelude.{ℕ, ◌+◌, ◌*◌, ◌==◌, nat_lt, Bool, true, false, not, ◌&&◌, ◌||◌, List, [], ◌∷◌, ◌++◌, map, filter, length, Option, Some, None, option_map, is_some, sum_by, if◌then◌else◌}
 use Rattle.std.specs.List.{list_any, list_all}
 use Rattle.std.specs.Option.{option_map_or}
+use Rattle.point_set.specs.declared.rect.Rect.{Rect}
+use Rattle.point_set.specs.Rects.{strip}
+use Rattle.grid.specs.Corners.{cell_count, corners_in}
 use Rattle.spy_words.specs.declared.access.PrivWord.{PrivWord}
 use Rattle.spy_words.specs.declared.access.PrivWord.TheVariants as words
 use Rattle.spy_words.specs.declared.access.InstKind.{InstKind}
 use Rattle.spy_words.specs.declared.access.InstKind.TheVariants as layouts
 use Rattle.spy_grammar.specs.declared.record.Record.{Record}
-use Rattle.spy_grammar.specs.declared.record.Record.TheVariants.{Ispace, Part, Sub, Fields, Tree, Redop, Task, Req, Fill, Serial, Inst, Map, Run, Copy, Put, Reset, Fold, Merge, End}
+use Rattle.spy_grammar.specs.declared.record.Record.TheVariants.{Ispace, Plane, Part, Sub, Fields, Tree, Redop, Task, Req, Fill, Serial, Inst, Map, Run, Copy, Put, Reset, Fold, Merge, End}
 use Rattle.privilege.specs.declared.kinds.Priv.{Priv}
 use Rattle.privilege.specs.declared.kinds.Priv.TheVariants as privileges
+use Rattle.privilege.specs.Allowed.{may_read}
 use Rattle.privilege.specs.Interference.{agree}
 use Rattle.semantics.specs.declared.tables.Item as items
 use Rattle.semantics.specs.declared.tables.ItemBody.{ItemBody}
@@ -19,9 +23,9 @@ use Rattle.semantics.specs.declared.tables.Inst as insts
 use Rattle.semantics.specs.declared.tables.LogNode.{LogNode}
 use Rattle.semantics.specs.declared.tables.Op.{Op}
 use Rattle.semantics.specs.declared.tables.Op.TheVariants as operations
-use Rattle.semantics.specs.declared.limits.TheConstants.{MOST_RECORDS, MOST_POINTS, DEEPEST, MOST_CELLS, MOST_ACCESSES, MOST_LOAD}
+use Rattle.semantics.specs.declared.limits.TheConstants.{MOST_RECORDS, MOST_POINTS, MOST_ATOMS, DEEPEST, MOST_CELLS, MOST_ACCESSES, MOST_LOAD, MOST_READS}
 use Rattle.semantics.specs.Tables as tables
-use Rattle.semantics.specs.Tables.{Tables, points_of, privilege_of, place_of}
+use Rattle.semantics.specs.Tables.{Tables, points_of, plane_points, rect_of, privilege_of, place_of}
 use Rattle.semantics.specs.DataOps.{DataAct, Copies, Puts, Resets, Folds, DataOp, insts_of, data_in}
 use Rattle.semantics.specs.Points.{is_in, is_within, meets, points_in, fields_in, tree_at, part_at, spaces_above, is_in_tree}
 use Rattle.semantics.specs.Kinds.{covers, grid}
@@ -66,6 +70,7 @@ is_declared t (inst_id id) = list_any (λ (i : insts.Inst). i.id == id) t.insts
 -- What a record declares.
 abbrev pub declares : Record → List Thing
 declares (Ispace id set) = space_id id ∷ []
+declares (Plane id rects) = space_id id ∷ []
 declares (Part id space disjoint) = part_id id ∷ []
 declares (Fields id fields) = field_space_id id ∷ []
 declares (Tree id space fspace) = tree_id id ∷ []
@@ -118,11 +123,36 @@ names_unknown t r = not (list_all (is_declared t) (names r)) || lacks_req t r
 
 -- ---- Spaces, partitions and trees.
 
--- too-many-points: the spaces up to this one have more than 1,048,576 points together.
+-- Whether the log is of the second version, in which a point has a column and a row.
+abbrev pub is_planar : Tables → Bool
+is_planar t = t.version == 2
+
+-- The points of the space that a record declares.
+abbrev pub points_declared : Record → Option (List ℕ)
+points_declared (Ispace id set) = Some (points_of set)
+points_declared (Plane id quads) = Some (plane_points quads)
+points_declared _ = None
+
+-- too-many-points, in a log of the first version: the spaces up to this one have more than 1,048,576 points together.
 abbrev pub has_many_points : Tables → Record → Bool
-has_many_points t (Ispace id set) = nat_lt MOST_POINTS
-    (sum_by (λ (s : tables.Space). length s.points) t.spaces + length (points_of set))
-has_many_points t _ = false
+has_many_points t r = not (is_planar t) && option_map_or (λ points. nat_lt MOST_POINTS
+    (sum_by (λ (s : tables.Space). length s.points) t.spaces + length points)) (points_declared r) false
+
+-- The rectangles of the space that a record declares.
+abbrev pub rects_declared : Record → Option (List Rect)
+rects_declared (Ispace id set) = Some (map strip set)
+rects_declared (Plane id quads) = Some (map rect_of quads)
+rects_declared _ = None
+
+-- too-many-atoms, in a log of the second version: the rectangles of the spaces up to this one make a grid of more than 1,048,576 cells.
+abbrev pub has_many_atoms : Tables → Record → Bool
+has_many_atoms t r = is_planar t && option_map_or (λ rects. nat_lt MOST_ATOMS
+    (cell_count (t.rects ++ rects))) (rects_declared r) false
+
+-- version: a space has rectangles, and the log is not of the second version.
+abbrev pub is_of_other_version : Tables → Record → Bool
+is_of_other_version t (Plane id quads) = not (is_planar t)
+is_of_other_version t _ = false
 
 abbrev pub is_sub : Tables → ℕ → Bool
 is_sub t id = list_any (λ (s : tables.Sub). s.space == id) t.subs
@@ -339,11 +369,23 @@ is_bad_serial log t _ = false
 abbrev pub size_of : Tables → ℕ → List ℕ → ℕ
 size_of t space fields = length (points_in t space) * length fields
 
--- too-many-cells: the instances up to this one have more than 1,048,576 cells.
+-- The points of a space that the limits count: all in a log of the first version. In one of the second those at which a cell of the grid of all spaces begins, since all points of a cell are alike.
+abbrev pub points_counted : Tables → ℕ → List ℕ
+points_counted t space = if is_planar t then corners_in t.rects (points_in t space) else points_in t space
+
+-- How many of them and of some fields there are together.
+abbrev pub cost_of : Tables → ℕ → List ℕ → ℕ
+cost_of t space fields = length (points_counted t space) * length fields
+
+-- The cells of all instances.
+abbrev pub cells_of : Tables → ℕ
+cells_of t = sum_by (λ (i : insts.Inst). cost_of t i.space i.fields) t.insts
+
+-- too-many-cells: the instances have more than 1,048,576 cells. In a log of the first version they are counted up to each instance, and in one of the second at the end.
 abbrev pub has_many_cells : Tables → Record → Bool
 has_many_cells t (Inst id tree space fields kind) =
-    nat_lt MOST_CELLS (sum_by
-    (λ (i : insts.Inst). size_of t i.space i.fields) t.insts + size_of t space fields)
+    not (is_planar t) && nat_lt MOST_CELLS (cells_of t + cost_of t space fields)
+has_many_cells t (End n) = is_planar t && nat_lt MOST_CELLS (cells_of t)
 has_many_cells t _ = false
 
 -- The space and the fields whose accesses a record asks for.
@@ -354,11 +396,20 @@ asked r = option_map (λ (d : DataOp). (d.space, d.fields)) (data_in r)
 
 -- The accesses that it asks for: its points and fields.
 abbrev pub accesses : Tables → Record → ℕ
-accesses t r = option_map_or (λ (p : ℕ × List ℕ). size_of t p.0 p.1) (asked r) 0
+accesses t r = option_map_or (λ (p : ℕ × List ℕ). cost_of t p.0 p.1) (asked r) 0
+
+abbrev pub is_end : Record → Bool
+is_end (End n) = true
+is_end _ = false
+
+-- Whether accesses are counted up to a record: in a log of the first version up to each, in one of the second up to the end.
+abbrev pub counts_accesses : Tables → Record → Bool
+counts_accesses t r = not (is_planar t) || is_end r
 
 -- too-many-accesses: those of the records up to this one are more than 4,194,304.
 abbrev pub has_many_accesses : List Record → Tables → Record → Bool
-has_many_accesses earlier t r = nat_lt MOST_ACCESSES (sum_by (accesses t) earlier + accesses t r)
+has_many_accesses earlier t r =
+    counts_accesses t r && nat_lt MOST_ACCESSES (sum_by (accesses t) earlier + accesses t r)
 
 abbrev pub reduces : Priv → Bool
 reduces (privileges.Red op) = true
@@ -369,9 +420,19 @@ abbrev pub load_of : Tables → insts.Inst → ℕ
 load_of t i = sum_by (λ (p : ℕ × ℕ). length
     (filter (λ (r : reqs.Req). reduces r.access
     && covers t (record { tree = i.tree; point = p.0; field = p.1 }) r) t.reqs))
-    (grid (points_in t i.space) i.fields)
+    (grid (points_counted t i.space) i.fields)
 
 -- too-much-load: the load of all instances is more than 67,108,864.
 abbrev pub has_much_load : Tables → Record → Bool
 has_much_load t (End n) = nat_lt MOST_LOAD (sum_by (load_of t) t.insts)
 has_much_load t _ = false
+
+-- The reads of all tasks: a point and a field of a requirement each.
+abbrev pub read_count : Tables → ℕ
+read_count t = sum_by (λ (r : reqs.Req). size_of t r.space r.fields)
+    (filter (λ (r : reqs.Req). may_read r.access) t.reqs)
+
+-- too-many-reads: there are more than 18,446,744,073,709,551,615 reads.
+abbrev pub has_many_reads : Tables → Record → Bool
+has_many_reads t (End n) = nat_lt MOST_READS (read_count t)
+has_many_reads t _ = false

@@ -1,12 +1,15 @@
 -- What a log declares, as plain lists in the order of the lines.
-use Rattle.std.specs.Prelude.{ℕ, Bool, true, false, ◌+◌, ◌-◌, ◌==◌, List, [], ◌∷◌, ◌++◌, fold, count_by, position, length, unwrap_or}
+use Rattle.std.specs.Prelude.{ℕ, Bool, true, false, ◌+◌, ◌-◌, ◌==◌, List, [], ◌∷◌, ◌++◌, map, fold, count_by, position, length, unwrap_or}
 use Rattle.std.specs.List.{range_with_len}
 use Rattle.privilege.specs.declared.kinds.Priv.{Priv}
 use Rattle.privilege.specs.declared.kinds.Priv.TheVariants as privileges
 use Rattle.privilege.specs.declared.kinds.Coherence.{Coherence}
 use Rattle.privilege.specs.declared.kinds.Coherence.TheVariants.{Exclusive, Atomic}
+use Rattle.point_set.specs.declared.rect.Rect.{Rect}
+use Rattle.point_set.specs.Rects.{rect_points, strip}
 use Rattle.spy_words.specs.declared.access.PrivWord.{PrivWord}
 use Rattle.spy_words.specs.declared.access.PrivWord.TheVariants as words
+use Rattle.spy_words.specs.declared.lists.Quad.{Quad}
 use Rattle.spy_grammar.specs.declared.record.Record.{Record}
 use Rattle.spy_grammar.specs.declared.record.Record.TheVariants as records
 use Rattle.spy_grammar.specs.declared.record.Lined.{Lined}
@@ -30,8 +33,10 @@ pub record Space : Type 0 where
   pub id : ℕ
   pub points : List ℕ
 
--- All that a log declares.
+-- All that a log declares. Its version is 0 before its header, and `rects` are the rectangles of its spaces, in order.
 pub record Tables : Type 0 where
+  pub version : ℕ
+  pub rects : List Rect
   pub spaces : List Space
   pub parts : List Part
   pub subs : List Sub
@@ -49,6 +54,14 @@ pub record Tables : Type 0 where
 abbrev pub points_of : List (ℕ × ℕ) → List ℕ
 points_of [] = []
 points_of (p ∷ ps) = range_with_len p.0 (p.1 + 1 - p.0) ++ points_of ps
+
+-- The rectangle that a line spells.
+abbrev pub rect_of : Quad → Rect
+rect_of q = record { x0 = q.x0; x1 = q.x1; y0 = q.y0; y1 = q.y1 }
+
+-- The points of rectangles. The point of column `x` and row `y` is the number `x * 2 ^ 32 + y`.
+abbrev pub plane_points : List Quad → List ℕ
+plane_points quads = rect_points (map rect_of quads)
 
 -- The privilege that a word spells.
 abbrev pub privilege_of : PrivWord → Priv
@@ -70,6 +83,13 @@ place_of items id = unwrap_or (position (λ (i : Item). i.id == id) items) (leng
 abbrev pub reqs_before : List Req → ℕ → ℕ
 reqs_before reqs item = count_by (λ (r : Req). r.item == item) reqs
 
+-- The tables with one space more, of these points and rectangles.
+abbrev pub with_space : Tables → ℕ → List ℕ → List Rect → Tables
+with_space t id points rects = record t {
+  spaces = t.spaces ++ record { id = id; points = points } ∷ [];
+  rects = t.rects ++ rects;
+}
+
 -- The tables with one item, or one node, more.
 abbrev pub with_item : Tables → ℕ → ℕ → ItemBody → Tables
 with_item t line id body = record t { items = t.items ++ record { id = id; line = line; body = body } ∷ [] }
@@ -82,9 +102,9 @@ with_node t line done waits op = record t {
 
 -- The tables with what one record more declares.
 abbrev pub with_record : Tables → ℕ → Record → Tables
-with_record t line (records.Header version) = t
-with_record t line (records.Ispace id set) =
-    record t { spaces = t.spaces ++ record { id = id; points = points_of set } ∷ [] }
+with_record t line (records.Header version) = record t { version = version }
+with_record t line (records.Ispace id set) = with_space t id (points_of set) (map strip set)
+with_record t line (records.Plane id quads) = with_space t id (plane_points quads) (map rect_of quads)
 with_record t line (records.Part id space disjoint) =
     record t { parts = t.parts ++ record { id = id; space = space; disjoint = disjoint } ∷ [] }
 with_record t line (records.Sub part colour space) =
@@ -145,6 +165,8 @@ with_record t line (records.End n) = t
 -- Nothing is declared.
 abbrev pub no_tables : Tables
 no_tables = record {
+  version = 0;
+  rects = [];
   spaces = [];
   parts = [];
   subs = [];

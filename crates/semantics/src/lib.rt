@@ -23,8 +23,8 @@ pub use faults::Fault;
 pub use groups::{Child, Group, GroupMember, GroupReq, Unlicensed};
 pub use laws::nodes_are_of_records;
 pub use limits::{
-    DEEPEST, MOST_ACCESSES, MOST_BYTES, MOST_CELLS, MOST_COLOURS, MOST_GROUPS, MOST_LOAD,
-    MOST_POINTS, MOST_RECORDS,
+    DEEPEST, MOST_ACCESSES, MOST_ATOMS, MOST_BYTES, MOST_CELLS, MOST_COLOURS, MOST_GROUPS,
+    MOST_LOAD, MOST_POINTS, MOST_READS, MOST_RECORDS,
 };
 pub use links::{Ask, Link, LinkKind};
 pub use moves::Move;

@@ -9,6 +9,9 @@ pub const MOST_RECORDS: usize = 131_072;
 /// How many points the spaces of a log have together, at most.
 pub const MOST_POINTS: u128 = 1_048_576;
 
+/// How many cells the grid of a log's rectangles has at most.
+pub const MOST_ATOMS: u128 = 1_048_576;
+
 /// How many steps a space lies at most below the topmost space above it.
 pub const DEEPEST: usize = 64;
 
@@ -20,6 +23,9 @@ pub const MOST_ACCESSES: u128 = 4_194_304;
 
 /// How much load the instances of a log have together, at most.
 pub const MOST_LOAD: u128 = 67_108_864;
+
+/// How many reads the tasks of a log have together, at most.
+pub const MOST_READS: u128 = 18_446_744_073_709_551_615;
 
 /// How many colours a launch has at most.
 pub const MOST_COLOURS: usize = 4_096;

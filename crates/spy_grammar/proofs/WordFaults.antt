@@ -6,15 +6,18 @@ use Rattle.std.specs.Str.Parse.{digits_value}
 use Rattle.std.proofs.lemmas.Bool.{cases_Bool, true≢false}
 use Rattle.std.proofs.lemmas.Option.{none-some, same_Some}
 use Rattle.std.proofs.lemmas.Slice.Eq.{bytes_eq-Decides}
+use Rattle.spy_words.specs.declared.lists.Quad.{Quad}
+use Rattle.spy_words.specs.declared.lists.Extent.TheVariants.{Runs, Plane}
 use Rattle.spy_words.specs.declared.fault.LineFault.{LineFault}
 use Rattle.spy_words.specs.declared.fault.LineFault.TheVariants.{Word, Form, Number, Order}
 use Rattle.spy_words.specs.declared.access.PrivWord.TheVariants as privileges
 use Rattle.spy_words.specs.declared.access.InstKind.TheVariants as instances
-use Rattle.spy_words.specs.Classes.{Class, number, points, fields, waits, split, access, coherence, layout, about, split_word, access_word, coherence_word, layout_word, ascends, span_before}
+use Rattle.spy_words.specs.Classes.{Class, number, extent, fields, waits, split, access, coherence, layout, about, split_word, access_word, coherence_word, layout_word, ascends, span_before, quad_before}
 use Rattle.spy_words.specs.Faults.{met_with, unless_met, kept, with_part, each_after, both, map_ok, tested}
-use Rattle.spy_words.specs.Reading.{parts, is_digits, number_from, goes_up, span_among, span_from, list_at, has_some, text_at, operator_at, meaning_at, ids_at}
+use Rattle.spy_words.specs.Reading as reading
+use Rattle.spy_words.specs.Reading.{parts, is_digits, number_from, goes_up, span_among, span_from, quad_of, quad_from, has_colon, extent_at, list_at, has_some, text_at, operator_at, meaning_at, ids_at}
 use Rattle.spy_words.proofs.lemmas.Joins.{parts_some}
-use Rattle.spy_grammar.specs.LineFaults.{NamesIn, NamesNone, LacksShape, LacksNumbers, LacksOrder, words_after, is_dash, is_span_shaped, is_operator, is_plain_access, is_plain_layout, has_shape, is_number_from, has_numbers, span_of, is_upward, is_in_order, have_shape, have_numbers, are_in_order}
+use Rattle.spy_grammar.specs.LineFaults.{NamesIn, NamesNone, LacksShape, LacksNumbers, LacksOrder, words_after, is_dash, is_span_shaped, is_quad_shaped, is_part_shaped, is_operator, is_plain_access, is_plain_layout, has_shape, is_number_from, has_span_numbers, has_part_numbers, has_numbers, span_of, is_upward, quad_among, is_part_upward, do_parts_ascend, is_in_order, have_shape, have_numbers, are_in_order}
 use Rattle.spy_grammar.specs.Rows.{Row, no_more, some_ids, ◌&◌, Grammar, kind_in}
 use Rattle.spy_grammar.specs.Reading.{next_word, read_word, read_ids, read_row, read_record, met_at_end, named_record, record_in, is_passed_over, line_in}
 use Rattle.spy_grammar.proofs.lemmas.GrammarLaws.{IsTable, named_so}
@@ -186,6 +189,45 @@ span_from_said : (w : List ℕ) → span_from 0 w ≡ unless_met
 unfolding span_from
 span_from_said w = span_said (parts 45 w)
 
+-- ---- rectangles
+
+both_said : {A B : Type 0} (m t : Option LineFault) (x : A) (y : B) → both (unless_met m x) (unless_met t y) ≡ unless_met (with_met m t) (x, y)
+both_said None None x y = refl
+both_said None (Some g) x y = refl
+both_said (Some f) None x y = refl
+both_said (Some f) (Some g) x y = refl
+
+mapped_said : {A B : Type 0} (f : A → B) (met : Option LineFault) (x : A) → map_ok f (unless_met met x) ≡ unless_met met (f x)
+mapped_said f None x = refl
+mapped_said f (Some g) x = refl
+
+-- The runs in a part.
+abbrev runs_upward : List ℕ → Bool
+runs_upward u = is_upward (parts 45 u)
+
+quad_said : (vs : List (List ℕ)) → reading.quad_among 0 vs
+    ≡ unless_met (by_tests (is_quad_shaped vs) (list_all has_span_numbers vs) (list_all runs_upward vs)) (quad_among vs)
+quad_said [] = refl
+quad_said (v ∷ []) = refl
+quad_said (v ∷ w ∷ []) =
+    let s : List ℕ → Bool = λ v. is_span_shaped (parts 45 v) in
+    let x = span_of (parts 45 v) in
+    let y = span_of (parts 45 w) in
+    rw (
+      span_from_said v,
+      span_from_said w,
+      both_said (by_tests (s v) (has_span_numbers v) (runs_upward v)) (by_tests (s w) (has_span_numbers w) (runs_upward w)) x y,
+      joined (s v) (has_span_numbers v) (runs_upward v) (s w) (has_span_numbers w) (runs_upward w),
+      and_true (has_span_numbers w),
+      and_true (runs_upward w),
+    ) (mapped_said quad_of (by_tests (s v && s w) (has_span_numbers v && has_span_numbers w) (runs_upward v && runs_upward w)) (x, y))
+quad_said (u ∷ v ∷ w ∷ vs) = refl
+
+quad_from_said : (w : List ℕ) → quad_from 0 w
+    ≡ unless_met (by_tests (is_part_shaped true w) (has_part_numbers true w) (is_part_upward true w)) (quad_among (parts 58 w))
+unfolding quad_from
+quad_from_said w = quad_said (parts 58 w)
+
 -- ---- texts
 
 text_fault : {A : Type 0} (spell : A → List ℕ) (xs : List A) (w : List ℕ) (otherwise : Result A LineFault)
@@ -266,25 +308,41 @@ fields_fault w = elim (cases_Bool (is_dash w)) [
     all_true [] = refl
     all_true (w ∷ ws) = all_true ws
 
-points_fault : (w : List ℕ) → fault_in (tested Order (ascends span_before) (list_at (span_from 0) w))
-    ≡ by_tests (has_shape points w) (has_numbers points w) (is_in_order points w)
-points_fault w =
-    let ws = parts 44 w in
-    let s : List ℕ → Bool = λ v. is_span_shaped (parts 45 v) in
-    let n : List ℕ → Bool = λ v. list_all (is_number_from 0) (parts 45 v) in
-    let o : List ℕ → Bool = λ v. is_upward (parts 45 v) in
-    let value : List ℕ → ℕ × ℕ = λ v. span_of (parts 45 v) in
-    ap (λ r. fault_in (tested Order (ascends span_before) r)) (list_said (span_from 0) s n o value span_from_said w
-    ∙ dash_or (is_dash w) (list_all s ws) (list_all n ws) (list_all o ws) (map value ws) [])
-    ∙ ap fault_in (order_tested (ascends span_before) (is_dash w || list_all s ws) (is_dash w || list_all n ws) (is_dash w || list_all o ws)
-    (cond (is_dash w) [] (map value ws)))
-    ∙ fault_unless _ (cond (is_dash w) [] (map value ws))
-    ∙ ap (by_tests (is_dash w || list_all s ws) (is_dash w || list_all n ws)) (dash_ordered (is_dash w) (list_all o ws) (map value ws))
+-- parts that ascend, where it is known of each by which tests it is read
+module _ {A : Type 0} (read : List ℕ → Result A LineFault) (s n o : List ℕ → Bool) (value : List ℕ → A) (said : (w : List ℕ)
+    → read w ≡ unless_met (by_tests (s w) (n w) (o w)) (value w)) (before : A → A → Bool) where
+  ascending_fault : (w : List ℕ) → let ws = parts 44 w in
+      fault_in (tested Order (ascends before) (list_at read w))
+      ≡ by_tests (is_dash w || list_all s ws) (is_dash w || list_all n ws) (is_dash w || (list_all o ws && ascends before (map value ws)))
+  ascending_fault w =
+      let ws = parts 44 w in
+      ap (λ r. fault_in (tested Order (ascends before) r)) (list_said read s n o value said w
+      ∙ dash_or (is_dash w) (list_all s ws) (list_all n ws) (list_all o ws) (map value ws) [])
+      ∙ ap fault_in (order_tested (ascends before) (is_dash w || list_all s ws) (is_dash w || list_all n ws) (is_dash w || list_all o ws)
+      (cond (is_dash w) [] (map value ws)))
+      ∙ fault_unless _ (cond (is_dash w) [] (map value ws))
+      ∙ ap (by_tests (is_dash w || list_all s ws) (is_dash w || list_all n ws)) (dash_ordered (is_dash w) (list_all o ws) (map value ws))
+    where
+      dash_ordered : (dash o : Bool) (xs : List A)
+          → (dash || o) && ascends before (cond dash [] xs) ≡ dash || (o && ascends before xs)
+      dash_ordered true o xs = refl
+      dash_ordered false o xs = refl
+
+extent_fault : (w : List ℕ) → fault_in (extent_at w) ≡ by_tests (has_shape extent w) (has_numbers extent w) (is_in_order extent w)
+unfolding extent_at
+extent_fault w = by_colon (has_colon w)
   where
-    dash_ordered : (dash o : Bool) (ps : List (ℕ × ℕ))
-        → (dash || o) && ascends span_before (cond dash [] ps) ≡ dash || (o && ascends span_before ps)
-    dash_ordered true o ps = refl
-    dash_ordered false o ps = refl
+    by_colon : (t : Bool) → let ws = parts 44 w in
+        fault_in (cond t (map_ok (λ qs. Plane qs) (tested Order (ascends quad_before) (list_at (quad_from 0) w)))
+        (map_ok (λ ps. Runs ps) (tested Order (ascends span_before) (list_at (span_from 0) w))))
+        ≡ by_tests (is_dash w || list_all (is_part_shaped t) ws) (is_dash w || list_all (has_part_numbers t) ws)
+        (is_dash w || (list_all (is_part_upward t) ws && do_parts_ascend t ws))
+    by_colon true = mapped_fault (λ qs. Plane qs) _
+        ∙ ascending_fault (quad_from 0) (is_part_shaped true) (has_part_numbers true) (is_part_upward true) (λ v. quad_among (parts 58 v))
+        quad_from_said quad_before w
+    by_colon false = mapped_fault (λ ps. Runs ps) _
+        ∙ ascending_fault (span_from 0) (is_part_shaped false) (has_part_numbers false) (is_part_upward false) (λ v. span_of (parts 45 v))
+        span_from_said span_before w
 
 waits_fault : (w : List ℕ) → fault_in (list_at (number_from 1) w) ≡ by_tests (has_shape waits w) (has_numbers waits w) (is_in_order waits w)
 waits_fault w =
@@ -303,7 +361,7 @@ waits_fault w =
 class_fault : (c : Class) (w : List ℕ) → fault_in (meaning_at c w) ≡ by_tests (has_shape c w) (has_numbers c w) (is_in_order c w)
 unfolding meaning_at
 class_fault (number least) w = ap fault_in (number_said least w) ∙ fault_unless _ (digits_value 10 w)
-class_fault points w = points_fault w
+class_fault extent w = extent_fault w
 class_fault fields w = fields_fault w
 class_fault waits w = waits_fault w
 class_fault split w = text_fault split_word (true ∷ false ∷ []) w (Err Form) ∙ one_of (has_shape split w)
@@ -339,8 +397,8 @@ ids_fault (w ∷ ws) =
     all_true (w ∷ ws) = all_true ws
 
 no_word : (c : Class) → fault_in (meaning_at c []) ≡ Some Form
-unfolding meaning_at list_at span_from number_from operator_at
-no_word points = refl
+unfolding meaning_at extent_at list_at span_from number_from operator_at
+no_word extent = refl
 no_word c = refl
 
 -- The fault at the end of a row, where that so far goes by three tests.

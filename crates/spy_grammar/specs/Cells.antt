@@ -1,6 +1,7 @@
 -- A record as its kind and six cells, the words after the first from the left: so that one table serves all that goes through records.
 use Rattle.std.specs.Prelude.{List, [], ◌∷◌}
-use Rattle.spy_words.specs.Classes.{any_number, id, points, fields, waits, split, access, coherence, layout}
+use Rattle.spy_words.specs.Classes.{any_number, id, extent, fields, waits, split, access, coherence, layout}
+use Rattle.spy_words.specs.declared.lists.Extent.TheVariants.{Runs, Plane}
 use Rattle.spy_grammar.specs.declared.cells.WordCell.{WordCell}
 use Rattle.spy_grammar.specs.declared.cells.WordCell.TheVariants as cells
 use Rattle.spy_grammar.specs.Rows.{Parts, entry, plain_log}
@@ -11,7 +12,8 @@ abbrev pub with_cell : WordCell → List Item → List Item
 with_cell cells.No is = is
 with_cell (cells.Number n) is = word any_number n ∷ is
 with_cell (cells.Id n) is = word id n ∷ is
-with_cell (cells.Points set) is = word points set.now ∷ is
+with_cell (cells.Points set) is = word extent (Runs set.now) ∷ is
+with_cell (cells.Plane rects) is = word extent (Plane rects.now) ∷ is
 with_cell (cells.Fields ns) is = word fields ns.now ∷ is
 with_cell (cells.Waits ns) is = word waits ns.now ∷ is
 with_cell (cells.Split b) is = word split b ∷ is

@@ -1,8 +1,10 @@
 -- The table of the format: for each kind of record its first word, the classes of the words after it, and the record that they mean. A log of another kind has a table of its own, of the same shape.
 use Rattle.std.specs.Prelude.{ℕ, List, codes, Result, Err}
+use Rattle.spy_words.specs.declared.lists.Extent.{Extent}
+use Rattle.spy_words.specs.declared.lists.Extent.TheVariants.{Runs, Plane}
 use Rattle.spy_words.specs.declared.fault.LineFault.{LineFault}
 use Rattle.spy_words.specs.declared.fault.LineFault.TheVariants.{Word}
-use Rattle.spy_words.specs.Classes.{Class, any_number, id, event, points, fields, waits, split, access, coherence, layout, Meaning}
+use Rattle.spy_words.specs.Classes.{Class, any_number, id, event, extent, fields, waits, split, access, coherence, layout, Meaning}
 use Rattle.spy_words.specs.Reading.{text_at}
 use Rattle.spy_grammar.specs.declared.kinds.TheConstants.{KINDS}
 use Rattle.spy_grammar.specs.declared.kinds.RecordKind.{RecordKind}
@@ -41,6 +43,11 @@ pub record Grammar (K R : Type 0) : Type 0 where
   pub entry : K → Entry R
   pub parts_of : R → (k : K) × RowMeaning (entry k).row
 
+-- The record of a space: its points are runs or rectangles.
+abbrev pub space_of : ℕ → Extent → Record
+space_of i (Runs set) = records.Ispace i set
+space_of i (Plane rects) = records.Plane i rects
+
 -- The table: the first word of each kind, the classes of the words after it, and the record that they mean.
 abbrev pub entry : RecordKind → Entry Record
 entry kinds.Header = record {
@@ -49,7 +56,7 @@ entry kinds.Header = record {
   record_of =
       records.Header;
 }
-entry kinds.Ispace = record { name = codes "ispace"; row = id & points & no_more; record_of = records.Ispace }
+entry kinds.Ispace = record { name = codes "ispace"; row = id & extent & no_more; record_of = space_of }
 entry kinds.Part = record { name = codes "part"; row = id & id & split & no_more; record_of = records.Part }
 entry kinds.Sub = record { name = codes "sub"; row = id & any_number & id & no_more; record_of = records.Sub }
 entry kinds.Fields = record { name = codes "fields"; row = id & fields & no_more; record_of = records.Fields }
@@ -112,7 +119,8 @@ entry kinds.End = record { name = codes "end"; row = any_number & no_more; recor
 -- The parts of a record, in the order of its words.
 abbrev pub parts_of : Record → (k : RecordKind) × RowMeaning (entry k).row
 parts_of (records.Header version) = (kinds.Header, (version, tt))
-parts_of (records.Ispace i set) = (kinds.Ispace, (i, (set, tt)))
+parts_of (records.Ispace i set) = (kinds.Ispace, (i, (Runs set, tt)))
+parts_of (records.Plane i rects) = (kinds.Ispace, (i, (Plane rects, tt)))
 parts_of (records.Part i space disjoint) = (kinds.Part, (i, (space, (disjoint, tt))))
 parts_of (records.Sub part colour space) = (kinds.Sub, (part, (colour, (space, tt))))
 parts_of (records.Fields i fs) = (kinds.Fields, (i, (fs, tt)))

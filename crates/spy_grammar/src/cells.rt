@@ -7,7 +7,7 @@ ghost use Rattle.spy_grammar.specs.Rows.{parts_of};
 use crate::cells::WordCell::*;
 use crate::kinds::RecordKind;
 use crate::record::Record;
-use spy_words::{InstKind, Nums, PrivWord, Set};
+use spy_words::{InstKind, Nums, PrivWord, Rects, Set};
 
 /// A word of a record by its class, no word, or all the ids of a record.
 #[derive(Clone, Copy)]
@@ -17,6 +17,7 @@ pub enum WordCell<'a> {
     /// An id or an event.
     Id(u32),
     Points(&'a Set),
+    Plane(&'a Rects),
     Fields(&'a Nums),
     Waits(&'a Nums),
     Split(bool),
@@ -90,6 +91,7 @@ pub fn cells_of(rec: &Record) -> (RecordKind, [WordCell<'_>; 6])
     match rec {
         Record::Header { version } => of_1(RecordKind::Header, Number(*version)),
         Record::Ispace { id, set } => of_2(RecordKind::Ispace, Id(*id), Points(set)),
+        Record::Plane { id, rects } => of_2(RecordKind::Ispace, Id(*id), Plane(rects)),
         Record::Part { id, space, disjoint } => of_3(RecordKind::Part, Id(*id), Id(*space), Split(*disjoint)),
         Record::Sub { part, colour, space } => of_3(RecordKind::Sub, Id(*part), Number(*colour), Id(*space)),
         Record::Fields { id, fields } => of_2(RecordKind::Fields, Id(*id), Fields(fields)),

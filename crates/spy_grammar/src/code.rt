@@ -42,4 +42,7 @@ pub enum Code {
     LaunchRange,
     LaunchInterference,
     TooManyGroups,
+    Version,
+    TooManyAtoms,
+    TooManyReads,
 }

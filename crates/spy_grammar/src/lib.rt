@@ -28,5 +28,5 @@ pub use memory::Memory;
 pub use nested::{NLined, NRecord, read_nested_line};
 pub use reading::read_line;
 pub use record::{Lined, Record};
-pub use spy_words::{InstKind, LineFault, Nums, PrivWord, Set};
+pub use spy_words::{InstKind, LineFault, Nums, PrivWord, Quad, Rects, Set};
 pub use writing::{good, with_line, write_record};

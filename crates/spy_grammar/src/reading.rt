@@ -13,7 +13,7 @@ use crate::kinds::{RecordKind, kind_of};
 use crate::line::{LineKind, any_line};
 use crate::record::Record;
 use crate::row::RowReader;
-use spy_words::LineFault;
+use spy_words::{Extent, LineFault};
 use std::alloc::{AllocError, Global};
 
 #[tactic(auto, using(crate::proofs::CellLaws::record_told))]
@@ -21,7 +21,11 @@ use std::alloc::{AllocError, Global};
 fn read_ispace(row: &mut RowReader<'_>) -> Result<Record, AllocError>
     ensures { IfOk result (λ rec. read_record (entry kinds.Ispace) row.old ≡ (rec, row.new)) }
 {
-    Ok(Record::Ispace { id: row.id(), set: row.points()? })
+    let id = row.id();
+    Ok(match row.extent()? {
+        Extent::Runs(set) => Record::Ispace { id, set },
+        Extent::Plane(rects) => Record::Plane { id, rects },
+    })
 }
 
 #[tactic(auto, using(crate::proofs::CellLaws::record_told))]

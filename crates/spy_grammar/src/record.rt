@@ -1,6 +1,6 @@
 //! What one line of a log says.
 
-use spy_words::{InstKind, Nums, PrivWord, Set};
+use spy_words::{InstKind, Nums, PrivWord, Rects, Set};
 
 /// One record. The words of a line stand in the order of the fields.
 #[derive(Drop)]
@@ -8,6 +8,8 @@ use spy_words::{InstKind, Nums, PrivWord, Set};
 pub enum Record {
     Header { version: u32 },
     Ispace { id: u32, set: Set },
+    /// A space of two dimensions. Its line begins as that of another space does.
+    Plane { id: u32, rects: Rects },
     Part { id: u32, space: u32, disjoint: bool },
     Sub { part: u32, colour: u32, space: u32 },
     Fields { id: u32, fields: Nums },

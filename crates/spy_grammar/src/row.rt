@@ -2,13 +2,13 @@
 #![tactic(auto, unfolding(crate::specs::Reading::read_word, crate::specs::Reading::read_ids, spy_words::specs::Reading::meaning_at))]
 
 ghost use Rattle.std.specs.Prelude.{◌≡◌, IfOk, None, drop};
-ghost use Rattle.spy_words.specs.Classes.{any_number, id, points, fields, waits, split, access, coherence, layout};
+ghost use Rattle.spy_words.specs.Classes.{any_number, id, extent, fields, waits, split, access, coherence, layout};
 ghost use Rattle.spy_grammar.specs.Reading.{Left, read_word, read_ids, ended, next_word};
 
 use spy_words::{
-    InstKind, LineFault, Nums, Pieces, PrivWord, Set, access_of, ascending, at_least_one,
-    coherence_text, each_of, either, keep, layout_of, list_of, meet, number_of, outcome_of,
-    split_text,
+    Extent, InstKind, LineFault, Nums, Pieces, PrivWord, Set, access_of, ascending, at_least_one,
+    coherence_text, each_of, either, extent_of, keep, layout_of, list_of, meet, number_of,
+    outcome_of, split_text,
 };
 use std::alloc::{AllocError, Global};
 use std::marker::Model;
@@ -67,12 +67,13 @@ impl<'a> RowReader<'a> {
         keep(&mut self.met, read, 0)
     }
 
-    /// A set of points.
-    pub fn points(&mut self) -> Result<Set, AllocError>
-        ensures { IfOk result (λ x. read_word points self.old ≡ (x, self.new)) }
+    /// The points of a space.
+    pub fn extent(&mut self) -> Result<Extent, AllocError>
+        ensures { IfOk result (λ x. read_word extent self.old ≡ (x, self.new)) }
     {
-        let read = ascending(list_of(self.alloc, 0, self.next())?);
-        Ok(Set::from_pairs(keep(&mut self.met, read, Vec::new(self.alloc))))
+        let read = extent_of(self.alloc, self.next())?;
+        let none = Extent::Runs(Set::from_vec(Vec::new(self.alloc)));
+        Ok(keep(&mut self.met, read, none))
     }
 
     /// Fields.

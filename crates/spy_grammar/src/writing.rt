@@ -2,7 +2,7 @@
 
 ghost use Rattle.std.specs.Prelude.{◌≡◌, ◌↔◌, ◌++◌, ◌∷◌, [], IsTrue, IfOk, OnOk};
 ghost use Rattle.std.specs.List.{AllByRecursion};
-ghost use Rattle.spy_words.specs.Classes.{IsSpan, follow};
+ghost use Rattle.spy_words.specs.Classes.{IsQuad, IsSpan, follow};
 ghost use Rattle.spy_grammar.specs.Cells.{items_in, with_cell};
 ghost use Rattle.spy_grammar.specs.Spelling.{Good, IsGoodItem, spelling, words_in};
 
@@ -12,7 +12,7 @@ use crate::kinds::name_text;
 use crate::record::Record;
 use memory::Memory;
 use spy_words::{
-    InstKind, ListPart, PrivWord, are_fit, ascend, coherence_text, push_access, push_after,
+    InstKind, ListPart, PrivWord, Quad, are_fit, ascend, coherence_text, push_access, push_after,
     push_layout, push_list, push_u64, split_text,
 };
 use std::alloc::{AllocError, Global};
@@ -25,6 +25,14 @@ fn are_spans(set: &[(u64, u64)]) -> bool
     are_fit(0, set)
 }
 
+/// Whether the columns and the rows of each rectangle go upward.
+#[tactic(auto, using(spy_words::proofs::lemmas::ClassLaws::quads_from_zero))]
+fn are_quads(rects: &[Quad]) -> bool
+    ensures { IsTrue result ↔ AllByRecursion IsQuad rects.now }
+{
+    are_fit(0, rects)
+}
+
 fn is_good(cell: &WordCell<'_>) -> bool
     ensures { IsTrue result ↔ AllByRecursion IsGoodItem (with_cell cell.now []) }
 {
@@ -33,6 +41,10 @@ fn is_good(cell: &WordCell<'_>) -> bool
         Number(n) => n.is_fit(0),
         Id(n) => n.is_fit(1),
         Points(set) => are_spans(set.as_slice()) && ascend(set.as_slice()),
+        Plane(rects) => {
+            let rects = rects.as_slice();
+            !rects.is_empty() && are_quads(rects) && ascend(rects)
+        }
         Fields(numbers) => {
             let numbers = numbers.as_slice();
             !numbers.is_empty() && are_fit(0, numbers) && ascend(numbers)
@@ -76,6 +88,7 @@ fn push_word(out: &mut Vec<u8>, cell: &WordCell<'_>) -> Result<(), AllocError>
     match *cell {
         Number(n) | Id(n) => push_u64(out, u64::from(n)),
         Points(set) => push_list(out, set.as_slice()),
+        Plane(rects) => push_list(out, rects.as_slice()),
         Fields(numbers) | Waits(numbers) => push_list(out, numbers.as_slice()),
         Split(disjoint) => out.extend_from_slice(split_text(disjoint)),
         Access(access) => push_access(out, access),

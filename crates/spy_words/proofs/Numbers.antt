@@ -5,7 +5,7 @@ use Rattle.std.specs.Char.{is_ascii_digit}
 use Rattle.std.specs.Int.{IsInRange}
 use Rattle.std.specs.List.{list_all}
 use Rattle.std.specs.Str.Parse.{digits_value}
-use Rattle.std.proofs.lemmas.Bool.{false≢true, lt-ltb, le-ltb}
+use Rattle.std.proofs.lemmas.Bool.{false≢true, lt-ltb, le-ltb, ne_eqb}
 use Rattle.std.proofs.lemmas.Bool.Decides.{nat_tests}
 use Rattle.std.proofs.lemmas.Fmt.{decimal-digits_value, digits_decimal, digits_value-decimal, first_decimal, decimal_nonempty, decimal_digit}
 use Rattle.std.proofs.lemmas.Int.Digits.{digits_value_more}
@@ -14,7 +14,7 @@ use Rattle.std.proofs.lemmas.Str.{digit_value_digit}
 use Rattle.std.proofs.lemmas.Str.Parse.{IsNumeralModel, numerals_by_value}
 use Rattle.spy_words.specs.Classes.{IsNumberFrom}
 use Rattle.spy_words.specs.Reading.{is_digits, has_leading_zero, number_from}
-use Rattle.spy_words.proofs.lemmas.Joins.{Above}
+use Rattle.spy_words.proofs.lemmas.Joins.{Above, Lacks}
 
 -- ---- digits
 
@@ -44,7 +44,17 @@ digits_above (b ∷ w) all =
     let rest : list_all is_ascii_digit w ≡ true = grind (arith, nat_tests) in
     (omega (arith, r.0), digits_above w rest)
 
+digits_lack : (w : List ℕ) → list_all is_ascii_digit w ≡ true → Lacks 58 w
+digits_lack [] all = tt
+digits_lack (b ∷ w) all =
+    let r = digit_at (b ∷ w) 0 all (omega arith) in
+    let rest : list_all is_ascii_digit w ≡ true = grind (arith, nat_tests) in
+    (ne_eqb b 58 (λ e. absurd (omega (arith, r.1, e))), digits_lack w rest)
+
 -- ---- numbers
+
+pub number_lacks : (n : ℕ) → n < 2 ^ 32 → Lacks 58 (decimal n)
+number_lacks n lt = digits_lack (decimal n) (digits_decimal own n (omega (arith, lt)))
 
 pub number_takes : (least : ℕ) (w : List ℕ) (n : ℕ) → number_from least w ≡ Ok n → (w ≡ decimal n) × IsNumberFrom least n
 unfolding number_from

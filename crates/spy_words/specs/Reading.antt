@@ -1,14 +1,17 @@
 -- What a word of each class says, or its fault.
 use Rattle.std.specs.Prelude.{ℕ, ◌^◌, Bool, true, false, not, ◌||◌, ◌&&◌, ◌==◌, nat_eq, nat_lt, List, [], ◌∷◌, length, drop, slice_index, None, Result, Ok, Err, if◌then◌else◌, codes}
-use Rattle.std.specs.List.{slice_split, list_all, starts_with}
+use Rattle.std.specs.List.{slice_split, list_all, list_any, starts_with}
 use Rattle.std.specs.Str.{bytes_eq}
 use Rattle.std.specs.Char.{is_ascii_digit}
 use Rattle.std.specs.Str.Parse.{digits_value}
 use Rattle.spy_words.specs.declared.access.PrivWord.TheVariants as privileges
 use Rattle.spy_words.specs.declared.access.InstKind.TheVariants as instances
+use Rattle.spy_words.specs.declared.lists.Quad.{Quad}
+use Rattle.spy_words.specs.declared.lists.Extent.{Extent}
+use Rattle.spy_words.specs.declared.lists.Extent.TheVariants.{Runs, Plane}
 use Rattle.spy_words.specs.declared.fault.LineFault.{LineFault}
 use Rattle.spy_words.specs.declared.fault.LineFault.TheVariants.{Form, Number, Order}
-use Rattle.spy_words.specs.Classes.{Class, number, points, fields, waits, split, access, coherence, layout, Meaning, split_word, access_word, coherence_word, layout_word, ascends, span_before}
+use Rattle.spy_words.specs.Classes.{Class, number, extent, fields, waits, split, access, coherence, layout, Meaning, split_word, access_word, coherence_word, layout_word, ascends, span_before, quad_before}
 use Rattle.spy_words.specs.Faults.{both, map_ok, tested, each_after}
 
 -- The parts of a text, cut at each such byte.
@@ -45,6 +48,19 @@ span_among least vs = Err Form
 unfoldable pub span_from : ℕ → List ℕ → Result (ℕ × ℕ) LineFault
 span_from least w = span_among least (parts 45 w)
 
+-- The rectangle of these columns and rows.
+abbrev pub quad_of : (ℕ × ℕ) × (ℕ × ℕ) → Quad
+quad_of p = record { x0 = p.0.0; x1 = p.0.1; y0 = p.1.0; y1 = p.1.1 }
+
+-- Two runs: columns and rows.
+abbrev pub quad_among : ℕ → List (List ℕ) → Result Quad LineFault
+quad_among least (v ∷ w ∷ []) = map_ok quad_of (both (span_from least v) (span_from least w))
+quad_among least vs = Err Form
+
+-- A rectangle: two runs with a colon between.
+unfoldable pub quad_from : ℕ → List ℕ → Result Quad LineFault
+quad_from least w = quad_among least (parts 58 w)
+
 -- What each word says, or the fault that is reported of theirs.
 abbrev pub each : {A : Type 0} → (List ℕ → Result A LineFault) → List (List ℕ) → Result (List A) LineFault
 each read ws = each_after ([], None) read ws
@@ -52,6 +68,16 @@ each read ws = each_after ([], None) read ws
 -- A list: what stands between commas, or none for a dash.
 unfoldable pub list_at : {A : Type 0} → (List ℕ → Result A LineFault) → List ℕ → Result (List A) LineFault
 list_at read w = if bytes_eq w (codes "-") then Ok [] else each read (parts 44 w)
+
+-- A word with a colon holds rectangles.
+abbrev pub has_colon : List ℕ → Bool
+has_colon w = list_any (λ b. b == 58) w
+
+-- The points of a space: rectangles or runs, which ascend.
+unfoldable pub extent_at : List ℕ → Result Extent LineFault
+extent_at w =
+    if has_colon w then map_ok (λ qs. Plane qs) (tested Order (ascends quad_before) (list_at (quad_from 0) w))
+    else map_ok (λ ps. Runs ps) (tested Order (ascends span_before) (list_at (span_from 0) w))
 
 -- At least one.
 abbrev pub has_some : {A : Type 0} → List A → Bool
@@ -70,7 +96,7 @@ operator_at w = if starts_with nat_eq w (codes "red:") then number_from 1 (drop 
 -- What a word of a class means.
 unfoldable pub meaning_at : (c : Class) → List ℕ → Result (Meaning c) LineFault
 meaning_at (number least) w = number_from least w
-meaning_at points w = tested Order (ascends span_before) (list_at (span_from 0) w)
+meaning_at extent w = extent_at w
 meaning_at fields w = tested Order (ascends nat_lt) (tested Form has_some (list_at (number_from 0) w))
 meaning_at waits w = list_at (number_from 1) w
 meaning_at split w = text_at split_word (true ∷ false ∷ []) w (Err Form)

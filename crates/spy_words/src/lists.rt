@@ -16,6 +16,27 @@ pub type Nums = ListOf<u32>;
 /// A set of points as a line spells it: its parts in order, each a first and a last point.
 pub type Set = ListOf<(u64, u64)>;
 
+/// A rectangle of points, as a line spells it: its first and last column, and its first and last row.
+#[derive(Clone, Copy, PartialEq, Eq)]
+pub struct Quad {
+    pub x0: u32,
+    pub x1: u32,
+    pub y0: u32,
+    pub y1: u32,
+}
+
+/// Rectangles of points, in order.
+pub type Rects = ListOf<Quad>;
+
+/// The points of a space, as a line spells them.
+#[derive(Drop)]
+pub enum Extent {
+    /// Runs of points.
+    Runs(Set),
+    /// Rectangles of points.
+    Plane(Rects),
+}
+
 impl<T> Model for ListOf<T> {
     ghost use Rattle.std.specs.Prelude.{List};
 

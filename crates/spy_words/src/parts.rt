@@ -1,22 +1,23 @@
-//! Words that hold a list: numbers, or runs of points.
+//! Words that hold a list: numbers, runs of points, or rectangles of points.
 
 ghost use Rattle.std.specs.Prelude.{◌≡◌, [], ◌↔◌, ◌++◌, IsTrue, IfOk, OnOk, map, decimal, nat_lt, List, ℕ, Bool, Result};
 ghost use Rattle.std.specs.List.{AllByRecursion};
 ghost use Rattle.spy_words.specs.declared.fault.LineFault.{LineFault};
 ghost use Rattle.spy_words.specs.declared.fault.LineFault.TheVariants.{Form, Order};
-ghost use Rattle.spy_words.specs.Classes.{ascends, follow, span_before, span_word, list_word, IsNumberFrom, IsSpanFrom};
-ghost use Rattle.spy_words.specs.Faults.{map_ok, tested};
-ghost use Rattle.spy_words.specs.Reading.{each, has_some, list_at, number_from, span_among, span_from};
+ghost use Rattle.spy_words.specs.Classes.{ascends, follow, span_before, span_word, quad_before, quad_word, list_word, IsNumberFrom, IsSpanFrom, IsQuadFrom};
+ghost use Rattle.spy_words.specs.Faults.{both, map_ok, tested};
+ghost use Rattle.spy_words.specs.Reading.{each, extent_at, has_colon, has_some, list_at, number_from, quad_among, quad_from, span_among, span_from};
 
 use crate::cut::Pieces;
 use crate::fault::{LineFault, meet, outcome_of, worse_of};
+use crate::lists::{Extent, ListOf, Quad};
 use crate::words::{number_of, push_u64};
 use std::alloc::{AllocError, Global};
 
 /// What is read of some text, where memory suffices.
 pub type Read<T> = Result<Result<T, LineFault>, AllocError>;
 
-/// A part of a list: a number, or a run of points.
+/// A part of a list: a number, a run of points, or a rectangle of points.
 pub trait ListPart: Copy + Drop {
     /// The part that a word says, its numbers from a least one on.
     ghost reading: { ℕ → List ℕ → Result Self LineFault };
@@ -82,18 +83,13 @@ impl ListPart for (u64, u64) {
 
     ghost before = { span_before };
 
-    #[tactic(auto, unfolding(crate::specs::Reading::span_from))]
     fn read(least: u32, word: &[u8]) -> Result<(u64, u64), LineFault> {
-        span_of(least, Pieces::of(word, b'-'))
+        let (first, last) = span_of(least, word)?;
+        Ok((u64::from(first), u64::from(last)))
     }
 
     fn push(self, out: &mut Vec<u8>) -> Result<(), AllocError> {
-        push_u64(out, self.0)?;
-        if self.0 == self.1 {
-            return Ok(());
-        }
-        out.push(b'-')?;
-        push_u64(out, self.1)
+        push_span(out, self.0, self.1)
     }
 
     fn is_fit(self, least: u32) -> bool {
@@ -105,22 +101,96 @@ impl ListPart for (u64, u64) {
     }
 }
 
-/// A run of points, from its words.
-fn span_of(least: u32, mut words: Pieces<'_>) -> Result<(u64, u64), LineFault>
+impl ListPart for Quad {
+    ghost reading = { quad_from };
+
+    ghost text = { quad_word };
+
+    ghost IsFit = { IsQuadFrom };
+
+    ghost before = { quad_before };
+
+    #[tactic(auto, unfolding(crate::specs::Reading::quad_from))]
+    fn read(least: u32, word: &[u8]) -> Result<Quad, LineFault> {
+        quad_among(least, Pieces::of(word, b':'))
+    }
+
+    fn push(self, out: &mut Vec<u8>) -> Result<(), AllocError> {
+        push_span(out, u64::from(self.x0), u64::from(self.x1))?;
+        out.push(b':')?;
+        push_span(out, u64::from(self.y0), u64::from(self.y1))
+    }
+
+    fn is_fit(self, least: u32) -> bool {
+        least <= self.x0 && self.x0 <= self.x1 && least <= self.y0 && self.y0 <= self.y1
+    }
+
+    fn is_before(self, next: Quad) -> bool {
+        self.x1 < next.x0 || (self.x0 == next.x0 && self.x1 == next.x1 && self.y1 < next.y0)
+    }
+}
+
+/// Both values, or the fault that is reported.
+fn both<A: Copy, B: Copy>(
+    a: Result<A, LineFault>,
+    b: Result<B, LineFault>,
+) -> Result<(A, B), LineFault>
+    ensures { result ≡ both a b }
+{
+    match (a, b) {
+        (Ok(a), Ok(b)) => Ok((a, b)),
+        (Err(fault), Ok(_)) | (Ok(_), Err(fault)) => Err(fault),
+        (Err(first), Err(second)) => Err(worse_of(first, second)),
+    }
+}
+
+/// A run, from its words.
+fn span_among(least: u32, mut words: Pieces<'_>) -> Result<(u32, u32), LineFault>
     ensures { result ≡ span_among least words.entry }
 {
     match (words.next(), words.next(), words.next()) {
         (Some(only), None, _) => {
-            let point = u64::from(number_of(least, only)?);
+            let point = number_of(least, only)?;
             Ok((point, point))
         }
         (Some(first), Some(last), None) => {
-            match (number_of(least, first), number_of(least, last)) {
-                (Ok(first), Ok(last)) if first < last => Ok((u64::from(first), u64::from(last))),
-                (Ok(_), Ok(_)) => Err(LineFault::Order),
-                (Err(fault), Ok(_)) | (Ok(_), Err(fault)) => Err(fault),
-                (Err(first), Err(last)) => Err(worse_of(first, last)),
+            match both(number_of(least, first), number_of(least, last)) {
+                Ok((first, last)) if last <= first => Err(LineFault::Order),
+                read => read,
             }
+        }
+        _ => Err(LineFault::Form),
+    }
+}
+
+/// A run: one number, or the first and the last with a dash between.
+#[tactic(auto, unfolding(crate::specs::Reading::span_from))]
+fn span_of(least: u32, word: &[u8]) -> Result<(u32, u32), LineFault>
+    ensures { result ≡ span_from least word.now }
+{
+    span_among(least, Pieces::of(word, b'-'))
+}
+
+/// Writes a run.
+fn push_span(out: &mut Vec<u8>, first: u64, last: u64) -> Result<(), AllocError>
+    ensures { OnOk result (out.new.items ≡ out.old.items ++ span_word (first, last)) }
+{
+    push_u64(out, first)?;
+    if first == last {
+        return Ok(());
+    }
+    out.push(b'-')?;
+    push_u64(out, last)
+}
+
+/// A rectangle, from the words of its columns and rows.
+fn quad_among(least: u32, mut words: Pieces<'_>) -> Result<Quad, LineFault>
+    ensures { result ≡ quad_among least words.entry }
+{
+    match (words.next(), words.next(), words.next()) {
+        (Some(columns), Some(rows), None) => {
+            let ((x0, x1), (y0, y1)) = both(span_of(least, columns), span_of(least, rows))?;
+            Ok(Quad { x0, x1, y0, y1 })
         }
         _ => Err(LineFault::Form),
     }
@@ -171,6 +241,41 @@ pub fn ascending<T: ListPart>(read: Result<Vec<T>, LineFault>) -> Result<Vec<T>,
     match read {
         Ok(parts) if !ascend(&parts) => Err(LineFault::Order),
         read => read,
+    }
+}
+
+/// Whether a word has a colon.
+fn has_colon(word: &[u8]) -> bool
+    ensures { result ≡ has_colon word.now }
+{
+    word.iter().any(|b| *b == b':')
+}
+
+/// The parts between commas, or none for a dash, if they ascend.
+fn parts_in_order<T: ListPart>(alloc: Global, word: &[u8]) -> Read<ListOf<T>>
+    ensures { IfOk result (λ read. read ≡ tested Order (ascends T.before) (list_at (T.reading 0) word.now)) }
+{
+    match ascending(list_of(alloc, 0, word)?) {
+        Ok(parts) => Ok(Ok(ListOf::from_vec(parts))),
+        Err(fault) => Ok(Err(fault)),
+    }
+}
+
+/// The points of a space: rectangles where there is a colon, else runs.
+#[tactic(auto, unfolding(crate::specs::Reading::extent_at))]
+pub fn extent_of(alloc: Global, word: &[u8]) -> Read<Extent>
+    ensures { IfOk result (λ read. read ≡ extent_at word.now) }
+{
+    if has_colon(word) {
+        Ok(match parts_in_order(alloc, word)? {
+            Ok(rects) => Ok(Extent::Plane(rects)),
+            Err(fault) => Err(fault),
+        })
+    } else {
+        Ok(match parts_in_order(alloc, word)? {
+            Ok(set) => Ok(Extent::Runs(set)),
+            Err(fault) => Err(fault),
+        })
     }
 }
 

@@ -16,7 +16,7 @@ use log_decl::{DeclEnd, declare};
 use log_findings::{deps_finding, fault_found, ordered_finding, spare_finding};
 use logs::Log;
 use memory::Memory;
-use point_set::RunSet;
+use point_set::RectSet;
 use region_tree::ArenaSet;
 use semantics::{Ask, Command};
 use spy_grammar::Lined;
@@ -65,7 +65,7 @@ pub fn find(
     ensures text { IfOk result texts.Good }
 {
     let bump = Bump::new(alloc);
-    match declare::<RunSet<'_>>(alloc, &bump, records, lines) {
+    match declare::<RectSet<'_>>(alloc, &bump, records, lines) {
         Ok(log) => found_in(alloc, command, log),
         Err(DeclEnd::Fault { line, code }) => Ok(fault_found(line, code)),
         Err(DeclEnd::Memory) => Err(Memory),

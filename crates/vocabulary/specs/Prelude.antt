@@ -4,10 +4,13 @@ pub use Rattle.privilege.specs.declared.kinds.Kind.{Kind}
 pub use Rattle.privilege.specs.declared.kinds.Priv.{Priv}
 pub use Rattle.privilege.specs.Allowed.{may_read, may_write}
 pub use Rattle.privilege.specs.Interference.{agree, stronger, kind_of, both_atomic}
+pub use Rattle.point_set.specs.declared.rect.Rect.{Rect}
+pub use Rattle.point_set.specs.Rects.{strip}
 pub use Rattle.spy_words.specs.declared.access.InstKind.{InstKind}
 pub use Rattle.spy_words.specs.declared.access.PrivWord.{PrivWord}
 pub use Rattle.spy_words.specs.declared.fault.LineFault.{LineFault}
-pub use Rattle.spy_words.specs.Classes.{ascends, span_before, IsSpan, IsNumberFrom, IsGood}
+pub use Rattle.spy_words.specs.declared.lists.Quad.{Quad}
+pub use Rattle.spy_words.specs.Classes.{ascends, span_before, quad_before, IsSpan, IsQuad, IsNumberFrom, IsGood}
 pub use Rattle.spy_words.specs.Reading.{is_digits, has_leading_zero}
 pub use Rattle.value_terms.specs.declared.bag.Group.{Group}
 pub use Rattle.value_terms.specs.declared.terms.Base.{Base}
@@ -57,7 +60,7 @@ pub use Rattle.semantics.specs.declared.tables.Sub.{Sub}
 pub use Rattle.semantics.specs.declared.tables.Tree.{Tree}
 pub use Rattle.semantics.specs.declared.waits.ListedWait.{ListedWait}
 pub use Rattle.semantics.specs.Records.{records_of, lined, lined_from, text_of, AreLines, AreLinesBy, Hold, HoldBy, on_line, parts_of, line_count, Reads, ReadsBy}
-pub use Rattle.semantics.specs.Tables.{Tables, Space, with_record, no_tables, tables_of, place_of, privilege_of, coherence_of, points_of, with_item, reqs_before, with_node}
+pub use Rattle.semantics.specs.Tables.{Tables, Space, with_record, no_tables, tables_of, place_of, privilege_of, coherence_of, points_of, rect_of, plane_points, with_space, with_item, reqs_before, with_node}
 pub use Rattle.semantics.specs.Points.{is_in, points_in, is_within, meets, part_at, space_above, upward, spaces_above, same_place, tree_at, is_in_tree, fields_in}
 pub use Rattle.semantics.specs.Kinds.{comes_first, reqs_of, grid, req_grid, is_free, item_kind, least_place, is_before, least_of, lesser, strongest, uses_of, uses_of_item, covers, kind_at, item_places, pairs}
 pub use Rattle.semantics.specs.Sequential.{changed, after_uses, after_items, acted, wanted}

@@ -3,7 +3,7 @@
 use bumpalo::Bump;
 use log_decl::{Log, declare};
 use log_reading::input_in;
-use point_set::RunSet;
+use point_set::RectSet;
 use std::alloc::Global;
 use std::test::Fail;
 
@@ -35,12 +35,12 @@ pub fn log_of<'a>(
     bump: &'a Bump,
     records: &[u8],
     tasks: u32,
-) -> Result<Log<'a, RunSet<'a>>, Fail> {
+) -> Result<Log<'a, RectSet<'a>>, Fail> {
     let text = framed(alloc, records, tasks)?;
     let Ok(input) = input_in(alloc, text) else {
         return Err("a text that spells no records".into());
     };
-    match declare::<RunSet<'a>>(alloc, bump, &input.records, input.lines) {
+    match declare::<RectSet<'a>>(alloc, bump, &input.records, input.lines) {
         Ok(log) => Ok(log),
         Err(_) => Err("a log with a fault".into()),
     }

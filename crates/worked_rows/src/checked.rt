@@ -12,7 +12,7 @@ use std::test::Fail;
 #[test]
 fn checked_logs(rt: HostRuntime) -> Result<(), Fail> {
     let alloc = rt.alloc();
-    let rows: [(&[u8], &[u8], Status, &[u8]); 31] = [
+    let rows: [(&[u8], &[u8], Status, &[u8]); 35] = [
         // A write and a read that waits on it.
         (WRITE_THEN_READ, b"", Status::Yes, b"accepted tasks 2 operations 2 reads 4\n"),
         (WRITE_THEN_READ, b"13 run 2 2 -", Status::Refused, b"race 1 2 inst 1 point 0 field 1\n"),
@@ -29,6 +29,10 @@ fn checked_logs(rt: HostRuntime) -> Result<(), Fail> {
         (WRITE_THEN_READ, b"9 inst 1 1 1 1 plan", Status::Fault, b"fault 9 form\n"),
         (WRITE_THEN_READ, b"9 inst 01 1 1 1 plain", Status::Fault, b"fault 9 number\n"),
         (WRITE_THEN_READ, b"2 ispace 1 3,1", Status::Fault, b"fault 2 order\n"),
+        (WRITE_THEN_READ, b"2 ispace 1 0-3:0,2-5:0", Status::Fault, b"fault 2 order\n"),
+        (WRITE_THEN_READ, b"2 ispace 1 0:0,1", Status::Fault, b"fault 2 form\n"),
+        (WRITE_THEN_READ, b"2 ispace 1 0:0-3", Status::Fault, b"fault 2 version\n"),
+        (WRITE_THEN_READ, b"2 ispace 1 0-1023:0-1023,1024:0", Status::Fault, b"fault 2 too-many-points\n"),
         (WRITE_THEN_READ, b"2 jspace 1 0-3", Status::Fault, b"fault 2 word\n"),
         // A field that is not mapped, which no other command minds.
         (TWO_TASKS, b"", Status::Fault, b"fault 6 unmapped\n"),

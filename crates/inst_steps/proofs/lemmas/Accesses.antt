@@ -1,15 +1,18 @@
 -- The accesses that a log asks for are few, and so are its requirements' points and fields, and those of its operations.
-use Rattle.std.proofs.Common.{◌≡◌, ℕ, ◌+◌, ◌≤◌, inl, inr, true, List, [], ◌∷◌, ◌++◌, fold, refl, sym, ap, ◌∙◌, subst, arith, Option, None, append_assoc, sum_by}
+use Rattle.std.proofs.Common.{◌≡◌, ℕ, ◌+◌, ◌≤◌, inl, inr, Bool, true, false, not, ◌&&◌, ◌||◌, length, take, List, [], ◌∷◌, ◌++◌, fold, refl, sym, ap, ◌∙◌, subst, arith, Option, None, append_assoc, sum_by}
 use Rattle.std.specs.Option.{option_map_or}
 use Rattle.std.proofs.lemmas.Bool.{cases_Bool, true≢false, ltb-false}
+use Rattle.std.proofs.lemmas.List.{take_all}
 use Rattle.std.proofs.lemmas.List.Sums.{fold-append, sum_by-cons, sum_by_push}
 use Rattle.spy_grammar.specs.declared.code.Code.TheVariants as codes
 use Rattle.vocabulary.specs.Prelude.{Record, Lined, Req, LogNode, Op, records_of, Tables, with_record, no_tables, tables_of}
 use Rattle.spy_grammar.specs.declared.record.Record.TheVariants as records
 use Rattle.semantics.specs.DataOps.{DataOp, data_of}
-use Rattle.semantics.specs.Rules.{size_of, accesses}
+use Rattle.semantics.specs.Rules as rules
+use Rattle.semantics.specs.Rules.{size_of, accesses, is_planar}
 use Rattle.semantics.specs.Faults.{is_end, header_fault, ended_fault, records_fault}
 use Rattle.logs.specs.Faultless.{AreDeclared}
+use Rattle.semantics.proofs.lemmas.Versions.{flat_at}
 use Rattle.log_laws.proofs.lemmas.Members.{both_none}
 use Rattle.log_laws.proofs.lemmas.Admitted.{Unbroken, rule_kept, unbroken, no_broken_rule}
 
@@ -38,7 +41,11 @@ one_node : (all : Tables) (ns : List LogNode) (x : LogNode) (n : ℕ)
     → n + op_sizes all (ns ++ x ∷ []) ≤ n + op_sizes all ns + op_size all x.op
 one_node all ns x n = let e = sum_by_push (λ (n : LogNode). op_size all n.op) ns x in omega (arith, e)
 
-one_record : (all t : Tables) (line : ℕ) (r : Record) → cost all (with_record t line r) ≤ cost all t + accesses all r
+-- The points and fields whose accesses a record asks for.
+abbrev size_asked : Tables → Record → ℕ
+size_asked t r = option_map_or (λ (p : ℕ × List ℕ). size_of t p.0 p.1) (rules.asked r) 0
+
+one_record : (all t : Tables) (line : ℕ) (r : Record) → cost all (with_record t line r) ≤ cost all t + size_asked all r
 one_record all t line (records.Req task tree space fields access atomic) = one_req all t.reqs _ (op_sizes all t.nodes)
 one_record all t line (records.Run task done waits) = one_node all t.nodes _ (sizes all t.reqs)
 one_record all t line (records.Copy src dst space fields done waits) = one_node all t.nodes _ (sizes all t.reqs)
@@ -49,12 +56,12 @@ one_record all t line (records.Merge done waits) = one_node all t.nodes _ (sizes
 one_record all t line _ = omega arith
 
 all_records : (all t : Tables) (log : List Lined)
-    → cost all (fold (λ t (l : Lined). with_record t l.line l.rec) t log) ≤ cost all t + sum_by (accesses all) (records_of log)
+    → cost all (fold (λ t (l : Lined). with_record t l.line l.rec) t log) ≤ cost all t + sum_by (size_asked all) (records_of log)
 all_records all t [] = omega arith
 all_records all t (l ∷ log) =
     let rest = all_records all (with_record t l.line l.rec) log in
     let one = one_record all t l.line l.rec in
-    let more = sum_by-cons (accesses all) l.rec (records_of log) in
+    let more = sum_by-cons (size_asked all) l.rec (records_of log) in
     omega (arith, rest, one, more)
 
 -- ---- the limit, at the end of the log
@@ -74,9 +81,15 @@ at_end log earlier l u is =
     let same : tables_of (earlier ++ l ∷ []) ≡ t =
     fold-append (λ t (l : Lined). with_record t l.line l.rec) no_tables earlier (l ∷ []) ∙ last.0 in
     let within : sum_by (accesses t) (records_of earlier) + accesses t l.rec ≤ 4194304 =
-    ltb-false 4194304 (sum_by (accesses t) (records_of earlier) + accesses t l.rec) (rule_kept codes.TooManyAccesses refl u) in
+    ltb-false 4194304 (sum_by (accesses t) (records_of earlier) + accesses t l.rec)
+    (judged (is_planar t) (is_end l.rec) _ is (rule_kept codes.TooManyAccesses refl u)) in
     subst (λ (u : Tables). sum_by (accesses u) (records_of (earlier ++ l ∷ [])) ≤ 4194304) (sym same) (rest t earlier l within)
   where
+    judged : (planar last many : Bool) → last ≡ true → ((not planar || last) && many) ≡ false → many ≡ false
+    judged false last many is e = e
+    judged true true many is e = e
+    judged true false many is e = absurd (true≢false (sym is))
+
     rest : (t : Tables) (earlier : List Lined) (l : Lined) → sum_by (accesses t) (records_of earlier) + accesses t l.rec ≤ 4194304
         → sum_by (accesses t) (records_of (earlier ++ l ∷ [])) ≤ 4194304
     rest t earlier l within = let e = sum_by_push (λ (l : Lined). accesses t l.rec) earlier l in
@@ -107,4 +120,11 @@ few_accesses t d = subst (λ (u : Tables). cost u u ≤ 4194304) (sym d.tables)
     let ended = both_none (ended_fault d.lines d.log) _ parts.1 in
     let asks = to_end (records_of d.log) d.lines [] d.log (no_broken_rule d.lines d.log d.faultless) ended.0 in
     let all = all_records (tables_of d.log) no_tables d.log in
-    omega (arith, asks, all))
+    let few : sum_by (size_asked (tables_of d.log)) (records_of d.log) ≤ 4194304 = rw (flat d.log parts.0) at asks in
+    omega (arith, few, all))
+  where
+    -- Its header is of the first version.
+    flat : (log : List Lined) → header_fault d.lines log ≡ None → is_planar (tables_of log) ≡ false
+    flat [] e = absurd cc
+    flat (l ∷ log) e = ap is_planar (sym (ap tables_of (take_all (length (l ∷ log)) (l ∷ log) (omega arith))))
+        ∙ flat_at (l ∷ log) e (length (l ∷ log))

@@ -6,7 +6,7 @@ use Rattle.std.specs.Option.{option_map_or}
 use Rattle.std.proofs.lemmas.Bool.{not-false, false≢true, true≢false, or_parts, eqb-true, and_parts}
 use Rattle.std.proofs.lemmas.List.Elements.{recursion_from_All}
 use Rattle.std.proofs.lemmas.Option.{same_Some}
-use Rattle.vocabulary.specs.Prelude.{Priv, Record, Lined, Move, Req, Inst, Map, LogNode, Op, records_of, Tables, Space, place_of, with_record, no_tables, tables_of, is_in, is_within, points_in, reqs_of, grid, req_at, inst_at, cell_in, id_of, operator_of, moves_of, start, Value}
+use Rattle.vocabulary.specs.Prelude.{Rect, Priv, Record, Lined, Move, Req, Inst, Map, LogNode, Op, records_of, Tables, Space, place_of, with_space, with_record, no_tables, tables_of, is_in, is_within, points_in, reqs_of, grid, req_at, inst_at, cell_in, id_of, operator_of, moves_of, start, Value}
 use Rattle.privilege.specs.declared.kinds.Priv.TheVariants as privileges
 use Rattle.spy_grammar.specs.declared.code.Code.TheVariants as codes
 use Rattle.spy_grammar.specs.declared.record.Record.TheVariants as records
@@ -164,13 +164,17 @@ op_within t h act space fields known none d e =
     subst (λ (d : DataOp). Each (Within t.spaces t.insts d.space d.fields) (insts_of d.act)) (same_Some _ d e)
     (λ id m. within t h space fields id declared (none_at (lacks t (points_in t space) fields) (insts_of act) id none m))
 
-more_covers : (t : Tables) (line : ℕ) (r : Record) → Ruled t r → Covers t → Covers (with_record t line r)
-more_covers t line (records.Ispace id set) k h = record {
+space_covers : (t : Tables) (id : ℕ) (points : List ℕ) (rects : List Rect) → Covers t → Covers (with_space t id points rects)
+space_covers t id points rects h = record {
   insts = λ i m. let f = h.insts i m in (f.0, find_still (λ (s : Space). s.id == i.space) t.spaces _ f.0 f.1);
   reqs = λ r m. let f = h.reqs r m in (f.0, find_still (λ (s : Space). s.id == r.space) t.spaces _ f.0 f.1);
   maps = λ n m. let f = h.maps n m in (f.0, f.1, more_spaces t.spaces t.insts _ f.0.space n.fields n.inst f.2);
   nodes = λ n m. more_op t.spaces _ t.insts t.insts (more_spaces t.spaces t.insts _) n.op (h.nodes n m);
 }
+
+more_covers : (t : Tables) (line : ℕ) (r : Record) → Ruled t r → Covers t → Covers (with_record t line r)
+more_covers t line (records.Ispace id set) k h = space_covers t id _ _ h
+more_covers t line (records.Plane id quads) k h = space_covers t id _ _ h
 more_covers t line (records.Req task tree space fields access atomic) k h = record {
   insts = h.insts;
   reqs = each_more (λ (r : Req). Spaced t r.space) t.reqs _ h.reqs

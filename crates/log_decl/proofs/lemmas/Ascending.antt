@@ -5,9 +5,10 @@ use Rattle.std.specs.List.Sorted.{IsStrictlyIncreasing}
 use Rattle.std.proofs.lemmas.List.{length-map, get_or-map}
 use Rattle.std.proofs.lemmas.List.Elements.{All-from_recursion}
 use Rattle.std.proofs.lemmas.Bool.{and_parts, ltb-true}
-use Rattle.vocabulary.specs.Prelude.{ascends, span_before, IsSpan, Good, Record, Lined, AreLines}
-use Rattle.spy_grammar.specs.declared.record.Record.TheVariants.{Ispace, Fields, Req, Fill, Inst}
+use Rattle.vocabulary.specs.Prelude.{ascends, Good, Record, Lined, AreLines}
+use Rattle.spy_grammar.specs.declared.record.Record.TheVariants.{Ispace, Plane, Fields, Req, Fill, Inst}
 use Rattle.log_tables.specs.Views.{Ascends}
+use Rattle.semantics.proofs.lemmas.InOrder.{strips_in_order, rects_in_order}
 
 -- Where each element stands before the next.
 rise : {X : Type 0} (before : X → X → Bool) (R : X → X → Type 0) → ((x y : X) → before x y ≡ true → R x y) → (xs : List X)
@@ -20,14 +21,9 @@ rise before R tells (x ∷ y ∷ xs) up (suc k) d lt =
     subst (λ m. R (get_or (y ∷ xs) k d) (get_or (x ∷ y ∷ xs) m d)) next
     (rise before R tells (y ∷ xs) (and_parts (before x y) (ascends before (y ∷ xs)) up).1 k d (omega (arith, lt)))
 
-spans : (ps : List (ℕ × ℕ)) → All IsSpan ps → All (λ (p : ℕ × ℕ). p.0 ≤ p.1) ps
-spans ps all k d lt = (all k d lt).0
-
 pub good_ascends : (r : Record) → Good r → Ascends r
-good_ascends (Ispace id set) good = (
-  spans set (All-from_recursion IsSpan set good.1.0.0),
-  rise span_before (λ p q. p.1 < q.0) (λ p q e. ltb-true p.1 q.0 e) set good.1.0.1,
-)
+good_ascends (Ispace id set) good = strips_in_order set good.1.0
+good_ascends (Plane id quads) good = rects_in_order quads good.1.0
 good_ascends (Fields id fields) good = λ k. rise nat_lt (λ m n. m < n) (λ m n e. ltb-true m n e) fields good.1.0.1 k 0
 good_ascends (Req task tree space fields access atomic) good =
     λ k. rise nat_lt (λ m n. m < n) (λ m n e. ltb-true m n e) fields good.1.1.1.0.1 k 0

@@ -2,11 +2,14 @@
 use Rattle.std.proofs.Common.{◌≡◌, ◌≢◌, true, ℕ, zero, suc, ◌<◌, ◌≤◌, ◌+◌, ◌-◌, inl, inr, Bool, ◌⊎◌, List, [], ◌∷◌, ◌++◌, refl, sym, ap, ◌∙◌, subst, arith, get_or, AllPairs, map, flat_map, filter, nat_lt}
 use Rattle.std.proofs.lemmas.Bool.{and_parts, ltb-true, cases_eq}
 use Rattle.std.proofs.lemmas.List.Elements.{Contains-get_or}
-use Rattle.std.proofs.lemmas.List.Kept.{AllPairs-cons, AllPairs-filter}
+use Rattle.std.proofs.lemmas.List.Kept.{AllPairs-cons, AllPairs-filter, AllPairs-from_increasing}
 use Rattle.std.proofs.lemmas.List.Recursion.{same_from_clauses}
 use Rattle.spy_words.specs.Classes as classes
-use Rattle.vocabulary.specs.Prelude.{IsGood, IsNumberFrom, ascends, span_before, IsSpan, points_of, grid}
+use Rattle.spy_words.specs.declared.lists.Extent.TheVariants.{Runs, Plane}
+use Rattle.vocabulary.specs.Prelude.{Quad, IsGood, IsNumberFrom, ascends, span_before, IsSpan, points_of, rect_of, plane_points, grid}
 use Rattle.std.specs.List.{AllByRecursion, range_with_len}
+use Rattle.point_set.proofs.lemmas.Columns.{points_ascend}
+use Rattle.semantics.proofs.lemmas.InOrder.{rects_in_order}
 use Rattle.log_laws.proofs.lemmas.Members.{Member, member_of, contains_of, only, member_append, member_map, member_flat, flat_member, map_member}
 
 -- A relation of each element to each later one.
@@ -148,7 +151,7 @@ fields_apart ns good = rise_apart ns (fields_rise ns good)
 abbrev pub span : ℕ × ℕ → List ℕ
 span p = range_with_len p.0 (p.1 + 1 - p.0)
 
-pub points_rise : (ps : List (ℕ × ℕ)) → IsGood classes.points ps → Rise (points_of ps)
+pub points_rise : (ps : List (ℕ × ℕ)) → IsGood classes.extent (Runs ps) → Rise (points_of ps)
 points_rise ps good =
     let all : points_of ps ≡ flat_map span ps = same_from_clauses points_of (flat_map span) (λ p xs. span p ++ xs) refl (λ p ps. refl)
     (λ p ps. refl) ps in
@@ -158,8 +161,16 @@ points_rise ps good =
     (pairs_so _ _ ps (λ p q _ _ up a b m n.
     omega (arith, number_between p.0 (p.1 + 1 - p.0) a m, number_between q.0 (q.1 + 1 - q.0) b n, up)) rise))
 
-pub points_apart : (ps : List (ℕ × ℕ)) → IsGood classes.points ps → Apart (points_of ps)
+pub points_apart : (ps : List (ℕ × ℕ)) → IsGood classes.extent (Runs ps) → Apart (points_of ps)
 points_apart ps good = rise_apart (points_of ps) (points_rise ps good)
+
+pub plane_rises : (qs : List Quad) → IsGood classes.extent (Plane qs) → Rise (plane_points qs)
+plane_rises qs good =
+    let rects = rects_in_order qs good in
+    pairs_from (λ x y. x < y) (plane_points qs) (AllPairs-from_increasing _ (points_ascend (map rect_of qs) rects.0 rects.1))
+
+pub plane_apart : (qs : List Quad) → IsGood classes.extent (Plane qs) → Apart (plane_points qs)
+plane_apart qs good = rise_apart (plane_points qs) (plane_rises qs good)
 
 pub member_grid : (points fields : List ℕ) (p : ℕ × ℕ) → Member (grid points fields) p → Member points p.0 × Member fields p.1
 member_grid points fields p m =

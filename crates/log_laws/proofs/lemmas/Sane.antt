@@ -5,7 +5,7 @@ use Rattle.std.specs.Option.{option_map_or}
 use Rattle.std.proofs.lemmas.Bool.{not-false, eq-eqb, eqb-true}
 use Rattle.std.proofs.lemmas.List.Sums.{sum_by-append}
 use Rattle.std.proofs.lemmas.List.Folds.{list_any-append}
-use Rattle.vocabulary.specs.Prelude.{Record, Priv, agree, Req, Inst, Map, Tables, Space, with_record, no_tables, place_of, reqs_before, meets, points_in, grid, req_grid, req_at, inst_at}
+use Rattle.vocabulary.specs.Prelude.{Rect, Record, Priv, agree, Req, Inst, Map, Tables, Space, with_space, with_record, no_tables, place_of, reqs_before, meets, points_in, grid, req_grid, req_at, inst_at}
 use Rattle.spy_grammar.specs.declared.record.Record.TheVariants as records
 use Rattle.privilege.specs.declared.kinds.Priv.TheVariants as privileges
 use Rattle.semantics.specs.Rules.{is_declared, names, space_id, lacks_req, interferes_with_own, is_of_wrong_tree}
@@ -70,9 +70,8 @@ named_by : (o : Option Req) (p : Option Inst) → not (is_some o) ≡ false
 named_by (Some r) (Some i) known of = (r, i, refl, refl, eqb-true i.tree r.tree (not-false _ of))
 named_by _ _ known of = absurd cc
 
--- The tables stay sane with each record that keeps the rules.
-pub with_kept : (t : Tables) (line : ℕ) (r : Record) → Keeps t r → AreSane t → AreSane (with_record t line r)
-with_kept t line (records.Ispace id set) k h = record {
+with_one : (t : Tables) (id : ℕ) (points : List ℕ) (rects : List Rect) → AreSane t → AreSane (with_space t id points rects)
+with_one t id points rects h = record {
   known = λ r m. ((h.known r m).0, list_any-append (λ (s : Space). s.id == r.space) t.spaces _ ∙ rw (h.known r m).1 refl);
   reqs = pairs_so (FitTogether t) _ t.reqs (λ q r a b fit item. (
     (fit item).0,
@@ -80,6 +79,11 @@ with_kept t line (records.Ispace id set) k h = record {
   )) h.reqs;
   named = h.named;
 }
+
+-- The tables stay sane with each record that keeps the rules.
+pub with_kept : (t : Tables) (line : ℕ) (r : Record) → Keeps t r → AreSane t → AreSane (with_record t line r)
+with_kept t line (records.Ispace id set) k h = with_one t id _ _ h
+with_kept t line (records.Plane id quads) k h = with_one t id _ _ h
 with_kept t line (records.Req task tree space fields access atomic) k h =
     let declared = all_at (is_declared t) (names (records.Req task tree space fields access atomic)) (space_id space) k.declared
     (inr (inr (inl refl))) in

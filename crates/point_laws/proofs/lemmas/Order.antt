@@ -4,7 +4,7 @@ use Rattle.std.specs.List.{AllByRecursion}
 use Rattle.vocabulary.specs.Prelude.{Record, Lined, Good, records_of, Tables, Space, with_record, no_tables, tables_of, points_in}
 use Rattle.spy_grammar.specs.declared.record.Record.TheVariants as records
 use Rattle.log_laws.proofs.lemmas.Members.{Each, member_of, contains_of, each_more, found_at, none_or_some}
-use Rattle.log_laws.proofs.lemmas.Apart.{Apart, Rise, rise_apart, all_pairs, pairs_from, points_rise}
+use Rattle.log_laws.proofs.lemmas.Apart.{Apart, Rise, rise_apart, all_pairs, pairs_from, points_rise, plane_rises}
 use Rattle.point_laws.specs.Alike.{HasPointsInOrder}
 
 -- ---- the tables of a log whose records are good
@@ -14,6 +14,7 @@ SpacesRise t = Each (λ (s : Space). Rise s.points) t.spaces
 
 with_good : (t : Tables) (line : ℕ) (r : Record) → Good r → SpacesRise t → SpacesRise (with_record t line r)
 with_good t line (records.Ispace id set) good h = each_more _ t.spaces _ h (points_rise set good.1.0)
+with_good t line (records.Plane id quads) good h = each_more _ t.spaces _ h (plane_rises quads good.1.0)
 with_good t line _ good h = h
 
 all_good : (t : Tables) (log : List Lined) → AllByRecursion Good (records_of log) → SpacesRise t

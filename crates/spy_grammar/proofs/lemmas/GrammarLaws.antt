@@ -4,11 +4,14 @@ use Rattle.std.specs.Prelude.{decimal}
 use Rattle.std.specs.Str.{bytes_eq}
 use Rattle.std.specs.List.{All, AllByRecursion, join_with_byte, list_all}
 use Rattle.std.proofs.lemmas.List.Elements.{All-from_recursion}
+use Rattle.spy_words.specs.declared.lists.Quad.{Quad}
+use Rattle.spy_words.specs.declared.lists.Extent.{Extent}
+use Rattle.spy_words.specs.declared.lists.Extent.TheVariants.{Runs, Plane}
 use Rattle.spy_words.specs.declared.fault.LineFault.{LineFault}
 use Rattle.spy_words.specs.declared.fault.LineFault.TheVariants.{Word, Form}
-use Rattle.spy_words.specs.Classes.{Class, points, Meaning, about, IsNumberFrom}
+use Rattle.spy_words.specs.Classes.{Class, extent, Meaning, about, IsNumberFrom}
 use Rattle.spy_words.specs.Faults.{map_ok, tested, kept}
-use Rattle.spy_words.specs.Reading.{number_from, parts, each, has_some, list_at, text_at, span_from, operator_at, meaning_at, ids_at}
+use Rattle.spy_words.specs.Reading.{number_from, parts, each, has_some, list_at, text_at, span_from, extent_at, operator_at, meaning_at, ids_at}
 use Rattle.spy_words.proofs.lemmas.Joins.{Above, all_lower, above_all, above_join, parts_join, join_parts}
 use Rattle.spy_words.proofs.lemmas.ClassLaws.{tested_ok, kept_ok, unmet, some_tested, number_agrees, each_takes, each_again, text_takes, class_takes, class_again}
 use Rattle.spy_grammar.specs.Rows.{Row, no_more, some_ids, ◌&◌, RowMeaning, Makes, Entry, Grammar, applied, made, Parts, kind_in, makes_then, included}
@@ -18,8 +21,8 @@ use Rattle.spy_grammar.specs.Reading.{Left, next, read_word, read_ids, read_row,
 -- ---- rows
 
 no_word : (c : Class) → meaning_at c [] ≡ Err Form
-unfolding meaning_at list_at span_from number_from operator_at
-no_word points = refl
+unfolding meaning_at extent_at list_at span_from number_from operator_at
+no_word extent = refl
 no_word c = refl
 
 -- where no fault was met and no word is left, the words are those of what was read
@@ -93,6 +96,11 @@ is_kind (k ∷ ks) = (tt, is_kind ks)
 pub named_so : {K R : Type 0} (g : Grammar K R) (w : List ℕ) (k : K) → kind_in g w ≡ Ok k → w ≡ (g.entry k).name
 unfolding kind_in
 named_so {K} g w k e = (text_takes K (λ k. (g.entry k).name) (λ k. Unit {0}) g.kinds w (Err Word) k (is_kind g.kinds) (λ e. absurd cc) e).0
+
+-- what is so of runs and of rectangles is so of each extent
+pub each_extent : (IsSo : Extent → Type 0) → ((ps : List (ℕ × ℕ)) → IsSo (Runs ps)) → ((qs : List Quad) → IsSo (Plane qs)) → (x : Extent) → IsSo x
+each_extent IsSo runs rects (Runs ps) = runs ps
+each_extent IsSo runs rects (Plane qs) = rects qs
 
 -- ---- tables that include another
 

@@ -10,14 +10,20 @@ use Rattle.spy_grammar.specs.declared.nested.NestedKind.{NestedKind}
 use Rattle.spy_grammar.specs.declared.nested.NestedKind.TheVariants as kinds
 use Rattle.spy_grammar.specs.declared.nested.NRecord.{NRecord}
 use Rattle.spy_grammar.specs.declared.nested.NRecord.TheVariants as records
-use Rattle.spy_grammar.specs.Rows.{plain_log, made, kind_in}
+use Rattle.spy_grammar.specs.Rows.{plain_log, space_of, made, kind_in}
 use Rattle.spy_grammar.specs.Reading.{is_passed_over}
 use Rattle.spy_grammar.specs.Nested.{nested_log, nested_entry, nested_parts, nested_line_at, nested_spelling, GoodNested}
 use Rattle.spy_grammar.proofs.lemmas.GrammarLaws
-use Rattle.spy_grammar.proofs.lemmas.GrammarLaws.{InTable, IsTable}
+use Rattle.spy_grammar.proofs.lemmas.GrammarLaws.{InTable, IsTable, each_extent}
 
 in_table : (k : NestedKind) → InTable NestedKind NRecord nested_log k
 unfolding kind_in
+in_table (kinds.Plain plain.Ispace) = record {
+  named = refl;
+  kept = refl;
+  letters = refl;
+  apart = λ m. each_extent (λ x. nested_parts (records.Plain (space_of m.0 x)) ≡ (kinds.Plain plain.Ispace, (m.0, (x, tt)))) (λ ps. refl) (λ qs. refl) m.1.0;
+}
 in_table (kinds.Plain plain.Header) = record { named = refl; kept = refl; letters = refl; apart = λ m. refl }
 in_table k = record { named = refl; kept = refl; letters = refl; apart = λ m. refl }
 

@@ -5,14 +5,20 @@ use Rattle.spy_grammar.specs.declared.kinds.RecordKind.{RecordKind}
 use Rattle.spy_grammar.specs.declared.kinds.RecordKind.TheVariants as kinds
 use Rattle.spy_grammar.specs.declared.record.Record.{Record}
 use Rattle.spy_grammar.specs.declared.record.Record.TheVariants as records
-use Rattle.spy_grammar.specs.Rows.{plain_log, made, parts_of, kind_in}
+use Rattle.spy_grammar.specs.Rows.{plain_log, space_of, made, parts_of, kind_in}
 use Rattle.spy_grammar.specs.Spelling.{spelling, Good}
 use Rattle.spy_grammar.specs.Reading.{is_passed_over, line_at}
 use Rattle.spy_grammar.proofs.lemmas.GrammarLaws
-use Rattle.spy_grammar.proofs.lemmas.GrammarLaws.{InTable, IsTable}
+use Rattle.spy_grammar.proofs.lemmas.GrammarLaws.{InTable, IsTable, each_extent}
 
 in_table : (k : RecordKind) → InTable RecordKind Record plain_log k
 unfolding kind_in
+in_table kinds.Ispace = record {
+  named = refl;
+  kept = refl;
+  letters = refl;
+  apart = λ m. each_extent (λ x. parts_of (space_of m.0 x) ≡ (kinds.Ispace, (m.0, (x, tt)))) (λ ps. refl) (λ qs. refl) m.1.0;
+}
 in_table kinds.Header = record { named = refl; kept = refl; letters = refl; apart = λ m. refl }
 in_table k = record { named = refl; kept = refl; letters = refl; apart = λ m. refl }
 

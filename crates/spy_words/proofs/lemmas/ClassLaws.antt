@@ -1,22 +1,25 @@
 -- For each class of words: what is read has that word, and what has a word is read from it.
-use Rattle.std.proofs.Common.{◌≡◌, ◌≢◌, ℕ, ◌<◌, ◌≤◌, eqb, Bool, true, false, cond, List, [], ◌∷◌, ◌++◌, map, codes, drop, nat_lt, nat_eq, Option, None, Result, Ok, Err, refl, sym, ap, subst, ◌∙◌, append_assoc, append-nil, arith, rules, inl, inr, ◌↔◌}
+use Rattle.std.proofs.Common.{◌≡◌, ◌≢◌, ℕ, ◌<◌, ◌≤◌, eqb, Bool, true, false, cond, ◌||◌, List, [], ◌∷◌, ◌++◌, map, codes, drop, nat_lt, nat_eq, Option, None, Result, Ok, Err, refl, sym, ap, subst, ◌∙◌, append_assoc, append-nil, arith, rules, inl, inr, ◌↔◌}
 use Rattle.std.specs.Prelude.{decimal}
-use Rattle.std.specs.List.{AllByRecursion, starts_with, join_with_byte}
+use Rattle.std.specs.List.{AllByRecursion, list_any, starts_with, join_with_byte}
 use Rattle.std.specs.Str.{bytes_eq}
-use Rattle.std.proofs.lemmas.Bool.{lt-ltb, ltb-true, eq-eqb, eqb-true, eqb-false, ne_eqb, cases_Bool}
+use Rattle.std.proofs.lemmas.Bool.{false≢true, lt-ltb, ltb-true, eq-eqb, eqb-true, eqb-false, ne_eqb, cases_Bool}
 use Rattle.std.proofs.lemmas.Bool.Decides.{Decides-eqb}
 use Rattle.std.proofs.lemmas.Slice.Eq.{bytes_eq-Decides, starts_is}
 use Rattle.spy_words.specs.declared.fault.LineFault.{LineFault}
 use Rattle.spy_words.specs.declared.fault.LineFault.TheVariants.{Form, Order}
+use Rattle.spy_words.specs.declared.lists.Quad.{Quad}
+use Rattle.spy_words.specs.declared.lists.Extent.{Extent}
+use Rattle.spy_words.specs.declared.lists.Extent.TheVariants.{Runs, Plane}
 use Rattle.spy_words.specs.declared.access.PrivWord.{PrivWord}
 use Rattle.spy_words.specs.declared.access.PrivWord.TheVariants as privileges
 use Rattle.spy_words.specs.declared.access.InstKind.{InstKind}
 use Rattle.spy_words.specs.declared.access.InstKind.TheVariants as instances
-use Rattle.spy_words.specs.Classes.{Class, number, points, fields, waits, split, access, coherence, layout, Meaning, span_word, list_word, split_word, access_word, coherence_word, layout_word, word_of, IsNumberFrom, IsSpan, IsSpanFrom, ascends, span_before, HasOperator, HoldsOperator, IsGood}
+use Rattle.spy_words.specs.Classes.{Class, number, extent, fields, waits, split, access, coherence, layout, Meaning, span_word, quad_word, list_word, extent_word, split_word, access_word, coherence_word, layout_word, word_of, IsNumberFrom, IsSpan, IsSpanFrom, IsQuad, IsQuadFrom, ascends, span_before, quad_before, IsExtent, HasOperator, HoldsOperator, IsGood}
 use Rattle.spy_words.specs.Faults.{unless_met, kept, with_part, each_after, both, map_ok, tested}
-use Rattle.spy_words.specs.Reading.{number_from, parts, goes_up, span_among, span_from, each, has_some, list_at, text_at, operator_at, meaning_at}
-use Rattle.spy_words.proofs.Numbers.{number_takes, number_again}
-use Rattle.spy_words.proofs.lemmas.Joins.{Above, above_lower, all_lower, above_append, above_join, above_all, parts_join, join_parts, parts_some}
+use Rattle.spy_words.specs.Reading.{number_from, parts, goes_up, span_among, span_from, quad_of, quad_among, quad_from, each, has_colon, extent_at, has_some, list_at, text_at, operator_at, meaning_at}
+use Rattle.spy_words.proofs.Numbers.{number_takes, number_again, number_lacks}
+use Rattle.spy_words.proofs.lemmas.Joins.{Above, Lacks, lacks_append, lacks_join, above_lower, all_lower, above_append, above_join, above_all, parts_join, parts_between, join_parts, parts_some}
 
 -- a reader and a speller of words say the same
 pub record Agree (A : Type 0) (read : List ℕ → Result A LineFault) (spell : A → List ℕ) (IsFit : A → Type 0) (floor : ℕ) : Type 0 where
@@ -107,6 +110,59 @@ span_agrees = record {
   again = span_again;
 }
 
+-- ---- rectangles
+
+span_lacks : (p : ℕ × ℕ) → IsSpan p → Lacks 58 (span_word p)
+span_lacks p good = by_test (eqb p.0 p.1)
+  where
+    first : Lacks 58 (decimal p.0)
+    first = number_lacks p.0 (omega (arith, good.0, good.1))
+
+    by_test : (t : Bool) → Lacks 58 (cond t (decimal p.0) (decimal p.0 ++ 45 ∷ decimal p.1))
+    by_test true = first
+    by_test false = lacks_append 58 (decimal p.0) (45 ∷ decimal p.1) first (refl, number_lacks p.1 good.1)
+
+-- Each rectangle goes upward from 0 on.
+pub quads_from_zero : (qs : List Quad) → AllByRecursion (IsQuadFrom 0) qs ↔ AllByRecursion IsQuad qs
+quads_from_zero [] = (λ h. h, λ h. h)
+quads_from_zero (q ∷ qs) =
+    let rest = quads_from_zero qs in
+    (λ h. ((h.0.0.1, h.0.1.1), rest.0 h.1), λ h. (((omega arith, h.0.0), (omega arith, h.0.1)), rest.1 h.1))
+
+quad_takes : (ws : List (List ℕ)) (q : Quad) → quad_among 0 ws ≡ Ok q → (join_with_byte 58 ws ≡ quad_word q) × IsQuad q
+quad_takes (v ∷ w ∷ []) q e =
+    let m = map_is_ok quad_of (both (span_from 0 v) (span_from 0 w)) q e in
+    let b = both_ok (span_from 0 v) (span_from 0 w) m.0 m.1 in
+    let s = span_agrees.takes v m.0.0 b.0 in
+    let t = span_agrees.takes w m.0.1 b.1 in
+    subst (λ q. (v ++ 58 ∷ w ≡ quad_word q) × IsQuad q) m.2 (
+      ap (λ (x : List ℕ). x ++ 58 ∷ w) s.0 ∙ ap (λ (x : List ℕ). span_word m.0.0 ++ 58 ∷ x) t.0,
+      (s.1, t.1),
+    )
+quad_takes [] q e = absurd cc
+quad_takes (v ∷ []) q e = absurd cc
+quad_takes (u ∷ v ∷ w ∷ ws) q e = absurd cc
+
+quad_again : (q : Quad) → IsQuad q → (quad_from 0 (quad_word q) ≡ Ok q) × Above 44 (quad_word q)
+unfolding quad_from
+quad_again q good =
+    let columns = span_agrees.again (q.x0, q.x1) good.0 in
+    let rows = span_agrees.again (q.y0, q.y1) good.1 in
+    let cut = parts_between 58 (span_word (q.x0, q.x1)) (span_word (q.y0, q.y1) ∷ []) (
+      span_lacks (q.x0, q.x1) good.0,
+      (span_lacks (q.y0, q.y1) good.1, tt),
+    ) in (
+      rw (cut, columns.0, rows.0) refl,
+      above_append 44 (span_word (q.x0, q.x1)) (58 ∷ span_word (q.y0, q.y1)) columns.1 (omega arith, rows.1),
+    )
+
+quad_agrees : Agree Quad (quad_from 0) quad_word IsQuad 44
+unfolding quad_from
+quad_agrees = record {
+  takes = λ w q e. let t = quad_takes (parts 58 w) q e in (join_parts 58 w (parts 58 w) refl ∙ t.0, t.1);
+  again = quad_again;
+}
+
 -- ---- lists
 
 -- words were read after others: each has its value, and no fault was met
@@ -193,6 +249,10 @@ points_agree : Agree (List (ℕ × ℕ)) (list_at (span_from 0)) (list_word span
 unfolding span_from number_from
 points_agree = list_agrees (ℕ × ℕ) (span_from 0) span_word IsSpan 44 (omega arith) span_agrees (λ xs e. absurd cc)
 
+quads_agree : Agree (List Quad) (list_at (quad_from 0)) (list_word quad_word) (AllByRecursion IsQuad) 32
+unfolding quad_from
+quads_agree = list_agrees Quad (quad_from 0) quad_word IsQuad 44 (omega arith) quad_agrees (λ xs e. absurd cc)
+
 numbers_agree : (least : ℕ) → Agree (List ℕ) (list_at (number_from least)) (list_word decimal) (AllByRecursion (IsNumberFrom least)) 32
 unfolding number_from
 numbers_agree least = list_agrees ℕ (number_from least) decimal (IsNumberFrom least) 45 (omega arith) (number_agrees least)
@@ -201,6 +261,65 @@ numbers_agree least = list_agrees ℕ (number_from least) decimal (IsNumberFrom 
 pub some_tested : {A : Type 0} (xs : List A) → (has_some xs ≡ true) ↔ (xs ≢ [])
 some_tested [] = (λ e. absurd cc, λ full. absurd (full refl))
 some_tested (x ∷ xs) = (λ e empty. absurd cc, λ full. refl)
+
+-- ---- runs or rectangles
+
+no_colon : (w : List ℕ) → Lacks 58 w → has_colon w ≡ false
+no_colon [] h = refl
+no_colon (b ∷ w) h = rw (h.0, no_colon w h.1) refl
+
+colon_within : (v w : List ℕ) → has_colon (v ++ 58 ∷ w) ≡ true
+colon_within [] w = refl
+colon_within (b ∷ v) w = by_test (eqb b 58) (colon_within v w)
+  where
+    by_test : (t : Bool) → has_colon (v ++ 58 ∷ w) ≡ true → t || has_colon (v ++ 58 ∷ w) ≡ true
+    by_test true rest = refl
+    by_test false rest = rest
+
+spans_lack : (ps : List (ℕ × ℕ)) → AllByRecursion IsSpan ps → AllByRecursion (Lacks 58) (map span_word ps)
+spans_lack [] h = tt
+spans_lack (p ∷ ps) h = (span_lacks p h.0, spans_lack ps h.1)
+
+runs_lack_colon : (ps : List (ℕ × ℕ)) → AllByRecursion IsSpan ps → has_colon (list_word span_word ps) ≡ false
+runs_lack_colon [] h = refl
+runs_lack_colon (p ∷ ps) h = no_colon _ (lacks_join 58 44 (map span_word (p ∷ ps)) refl (spans_lack (p ∷ ps) h))
+
+rects_have_colon : (q : Quad) (qs : List Quad) → has_colon (list_word quad_word (q ∷ qs)) ≡ true
+rects_have_colon q [] = colon_within (span_word (q.x0, q.x1)) (span_word (q.y0, q.y1))
+rects_have_colon q (r ∷ rs) =
+    let rest = join_with_byte 44 (map quad_word (r ∷ rs)) in
+    ap has_colon (append_assoc (span_word (q.x0, q.x1)) (58 ∷ span_word (q.y0, q.y1)) (44 ∷ rest))
+    ∙ colon_within (span_word (q.x0, q.x1)) (span_word (q.y0, q.y1) ++ 44 ∷ rest)
+
+extent_takes : (w : List ℕ) (x : Extent) → extent_at w ≡ Ok x → (w ≡ extent_word x) × IsExtent x
+unfolding extent_at
+extent_takes w x e = by_colon (has_colon w) refl e
+  where
+    by_colon : (t : Bool) → has_colon w ≡ t → cond t
+        (map_ok (λ qs. Plane qs) (tested Order (ascends quad_before) (list_at (quad_from 0) w)))
+        (map_ok (λ ps. Runs ps) (tested Order (ascends span_before) (list_at (span_from 0) w))) ≡ Ok x
+        → (w ≡ extent_word x) × IsExtent x
+    by_colon true is e =
+        let m = map_is_ok (λ qs. Plane qs) _ x e in
+        let o = tested_ok Order (ascends quad_before) _ m.0 m.1 in
+        let t = quads_agree.takes w m.0 o.0 in
+        let some : m.0 ≢ [] = λ none. false≢true (ap has_colon (sym (t.0 ∙ ap (list_word quad_word) none)) ∙ is) in
+        subst (λ x. (w ≡ extent_word x) × IsExtent x) m.2 (t.0, (t.1, o.1, some))
+    by_colon false is e =
+        let m = map_is_ok (λ ps. Runs ps) _ x e in
+        let o = tested_ok Order (ascends span_before) _ m.0 m.1 in
+        let t = points_agree.takes w m.0 o.0 in
+        subst (λ x. (w ≡ extent_word x) × IsExtent x) m.2 (t.0, (t.1, o.1))
+
+extent_again : (x : Extent) → IsExtent x → (extent_at (extent_word x) ≡ Ok x) × Above 32 (extent_word x)
+unfolding extent_at
+extent_again (Runs ps) good =
+    let l = points_agree.again ps good.0 in
+    (rw (runs_lack_colon ps good.0, l.0, good.1) refl, l.1)
+extent_again (Plane []) good = absurd (good.2 refl)
+extent_again (Plane (q ∷ qs)) good =
+    let l = quads_agree.again (q ∷ qs) good.0 in
+    (rw (rects_have_colon q qs, l.0, good.1) refl, l.1)
 
 -- a value is found by its text, or read otherwise
 pub text_takes : (A : Type 0) (spell : A → List ℕ) (IsFit : A → Type 0) (xs : List A) (w : List ℕ) (otherwise : Result A LineFault) (y : A)
@@ -238,7 +357,7 @@ reduction_above op good = above_append 32 (codes "red:") (decimal op) (above_all
 pub class_takes : (c : Class) (w : List ℕ) (x : Meaning c) → meaning_at c w ≡ Ok x → (w ≡ word_of c x) × IsGood c x
 unfolding meaning_at
 class_takes (number least) w x e = number_takes least w x e
-class_takes points w x e = let o = tested_ok Order (ascends span_before) _ x e in let t = points_agree.takes w x o.0 in (t.0, (t.1, o.1))
+class_takes extent w x e = extent_takes w x e
 class_takes fields w x e =
     let o = tested_ok Order (ascends nat_lt) _ x e in
     let some = tested_ok Form has_some (list_at (number_from 0) w) x o.0 in
@@ -258,7 +377,7 @@ class_takes layout w x e = text_takes InstKind layout_word HoldsOperator (instan
 pub class_again : (c : Class) (x : Meaning c) → IsGood c x → (meaning_at c (word_of c x) ≡ Ok x) × Above 32 (word_of c x)
 unfolding meaning_at operator_at
 class_again (number least) n good = let w = number_again least n good in (w.0, above_lower 32 45 (decimal n) (omega arith) w.1)
-class_again points ps good = let l = points_agree.again ps good.0 in (rw (l.0, good.1) refl, l.1)
+class_again extent x good = extent_again x good
 class_again fields ns good = let l = (numbers_agree 0).again ns good.0 in (rw (l.0, (some_tested ns).1 good.2, good.1) refl, l.1)
 class_again waits ns good = (numbers_agree 1).again ns good
 class_again access (privileges.Red op) good = (ap (map_ok (λ op. privileges.Red op)) (number_again 1 op good).0, reduction_above op good)

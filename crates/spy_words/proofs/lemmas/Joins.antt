@@ -38,16 +38,37 @@ above_all m (b ∷ w) e =
     let rest : list_all (λ b. ltb m b) w ≡ true = grind (arith, nat_tests) in
     (grind (arith, nat_tests), above_all m w rest)
 
-lacks : (c : ℕ) (w : List ℕ) → Above c w → AllByRecursion (λ b. eqb b c ≡ false) w
+-- no byte is this one
+abbrev pub Lacks : ℕ → List ℕ → Type 0
+Lacks c w = AllByRecursion (λ b. eqb b c ≡ false) w
+
+pub lacks : (c : ℕ) (w : List ℕ) → Above c w → Lacks c w
 lacks c [] h = tt
 lacks c (b ∷ w) h = (ne_eqb b c (λ e. absurd (omega (arith, h.0, e))), lacks c w h.1)
 
+all_lack : (c : ℕ) (ws : List (List ℕ)) → AllByRecursion (Above c) ws → AllByRecursion (Lacks c) ws
+all_lack c [] h = tt
+all_lack c (w ∷ ws) h = (lacks c w h.0, all_lack c ws h.1)
+
+pub lacks_append : (c : ℕ) (v w : List ℕ) → Lacks c v → Lacks c w → Lacks c (v ++ w)
+lacks_append c [] w p q = q
+lacks_append c (b ∷ v) w p q = (p.0, lacks_append c v w p.1 q)
+
+pub lacks_join : (c d : ℕ) (ws : List (List ℕ)) → eqb d c ≡ false → AllByRecursion (Lacks c) ws → Lacks c (join_with_byte d ws)
+lacks_join c d [] ne h = tt
+lacks_join c d (w ∷ []) ne h = h.0
+lacks_join c d (w ∷ v ∷ vs) ne h = lacks_append c w (d ∷ join_with_byte d (v ∷ vs)) h.0 (ne, lacks_join c d (v ∷ vs) ne h.1)
+
+pub parts_between : (c : ℕ) (w : List ℕ) (ws : List (List ℕ)) → AllByRecursion (Lacks c) (w ∷ ws)
+    → parts c (join_with_byte c (w ∷ ws)) ≡ w ∷ ws
+parts_between c w [] h = slice_split_none (λ b. eqb b c) w (All-from_recursion _ w h.0)
+parts_between c w (v ∷ vs) h =
+    slice_split_at (λ b. eqb b c) w c (join_with_byte c (v ∷ vs)) (All-from_recursion _ w h.0) (eq-eqb c c refl)
+    ∙ ap (λ (xs : List (List ℕ)). w ∷ xs) (parts_between c v vs h.1)
+
 pub parts_join : (c : ℕ) (w : List ℕ) (ws : List (List ℕ)) → AllByRecursion (Above c) (w ∷ ws)
     → parts c (join_with_byte c (w ∷ ws)) ≡ w ∷ ws
-parts_join c w [] h = slice_split_none (λ b. eqb b c) w (All-from_recursion _ w (lacks c w h.0))
-parts_join c w (v ∷ vs) h =
-    slice_split_at (λ b. eqb b c) w c (join_with_byte c (v ∷ vs)) (All-from_recursion _ w (lacks c w h.0)) (eq-eqb c c refl)
-    ∙ ap (λ (xs : List (List ℕ)). w ∷ xs) (parts_join c v vs h.1)
+parts_join c w ws h = parts_between c w ws (all_lack c (w ∷ ws) h)
 
 pub join_parts : (c : ℕ) (w : List ℕ) (ws : List (List ℕ)) → parts c w ≡ ws → w ≡ join_with_byte c ws
 join_parts c w ws e = sym (join_with_byte-slice_split c w) ∙ ap (join_with_byte c) e

@@ -1,8 +1,8 @@
-use Rattle.std.proofs.Common.{◌≡◌, [], None, refl, subst}
+use Rattle.std.proofs.Common.{◌≡◌, [], None, refl, sym, ◌∙◌, subst}
 use Rattle.vocabulary.specs.Prelude.{records_of}
 use Rattle.semantics.specs.Faults.{header_fault, ended_fault, count_fault, records_fault}
 use Rattle.log_decl.proofs.lemmas.Ascending.{good_ascends, few_records}
-use Rattle.log_decl.proofs.Ending.{after_frame}
+use Rattle.log_decl.proofs.Ending.{after_frame, header_kept}
 use Rattle.log_decl.proofs.declaring.declarations.Goals as goal
 
 pub grow-requires : goal.grow-requires
@@ -12,7 +12,10 @@ grow-requires g c κs = (
     c.new-draft.ensures,
     (
       (λ k d lt. good_ascends _ (c.requires.good k d lt)),
-      few_records c.args.lines c.args.records.now c.requires.lines,
+      (
+        few_records c.args.lines c.args.records.now c.requires.lines,
+        header_kept c.args.lines c.args.records.now _ (sym c.frame_fault.ensures ∙ c.in_default.is),
+      ),
     ),
   ),
 )

@@ -1,7 +1,7 @@
 use Rattle.std.proofs.Common.{◌≡◌, ◌+◌, List, take, None, sym, ap, ◌∙◌, arith}
 use Rattle.vocabulary.specs.Prelude.{Record, records_of}
 use Rattle.log_decl.specs.Walk.{broken_of}
-use Rattle.log_decl.proofs.Walking.{counted, stands_where, none_where, may_count, tables_more, records_more, keeps_more, tally_more}
+use Rattle.log_decl.proofs.Walking.{counted, stands_where, none_where, may_count, flat_next, tables_more, records_more, keeps_more, tally_more}
 use Rattle.log_decl.proofs.walk.walk.Goals as goal
 
 pub returns-then-is_some : goal.returns-then-is_some
@@ -13,7 +13,7 @@ returns-then-is_some g c =
     let t = c.loop-l.draft in
     let r = c.l-item.result.rec in
     let told = c.in_ok-code.ensures es inv.tally (counted log c.loop-l.kept i inv.at (omega (arith, c.loop-l-test.true))) in
-    stands_where log c.loop-l.kept i t c.in_ok-code.code c.l-item.result inv.at inv.tables inv.keep inv.tally.within c.loop-l-test.true c.l-item.is
+    stands_where log c.loop-l.kept i t c.in_ok-code.code c.l-item.result inv.at inv.tables inv.keep (λ flat. inv.tally.within) c.loop-l-test.true c.l-item.is
     (sym c.is_some.ensures ∙ c.if-is_some.true)
     (told ∙ ap (λ (w : List Record). broken_of w es t r) c.requires.whole)
 
@@ -31,7 +31,7 @@ loop-l-preserved g c =
     ap (λ (w : List Record). broken_of w es t r) (sym c.requires.whole) ∙ sym told
     ∙ none_where c.in_ok-code.code (sym c.is_some.ensures ∙ c.if-is_some.false) in
     let next = c.in_ok-add.ensures.ok in
-    let tally = c.in_ok-tally.ensures es l.line inv.tally (may_count (records_of log) es t r none) in
+    let tally = c.in_ok-tally.ensures es l.line inv.tally (may_count (records_of log) es t r (flat_next log i t l c.requires.header inv.tables c.loop-l-test.true c.l-item.is) none) in
     record {
       at = ap (λ n. n + 1) inv.at;
       tables = next ∙ tables_more log i t l inv.tables c.loop-l-test.true c.l-item.is;

@@ -1,0 +1,6 @@
+use Rattle.std.proofs.Common.{◌≡◌, take, sum_by}
+use Rattle.log_rules.specs.Counts.{cut, reads_of}
+use Rattle.log_rules.proofs.counts.read_count.Given as goal
+
+abbrev pub invariant-loop-req : goal.invariant-loop-req
+invariant-loop-req g l = l.count ≡ cut (sum_by (reads_of l.draft) (take l.req-index l.draft.reqs))
