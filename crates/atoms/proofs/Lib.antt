@@ -1,5 +1,4 @@
-mod Maximal
+mod Points
+mod Alike
+mod Parted
 mod Places
-mod Gathered
-mod Cutting
-mod Divided

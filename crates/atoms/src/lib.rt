@@ -1,14 +1,12 @@
-//! Atoms: the runs of points that none of some spaces divides.
+//! Atoms: the parts of the plane that no space of a log divides.
 //!
-//! `Atoms::build` takes the sets of a log's spaces and gives the longest runs of points of which each space
-//! has all or none, exactly and in ascending order. `firsts` gives the first point of each, and `atom_of`
-//! the atom of a point. What holds at these first points holds at all points (`point_laws`), so what goes
-//! over points goes over them. Begin with `classes.rt`; `edges.rt` finds where spaces begin and end, and
-//! `spans.rt` cuts what lies between.
+//! The ends of all rectangles that a log lists cut the plane into the cells of a grid, and no space divides a
+//! cell. The atoms are the cells of which some space has a point (`covered_cells`), each the rectangle of a
+//! column and a row. `Atoms::build` finds them in near linear time, however many points they have. `firsts`
+//! gives the first point of each, and `atom_of` the atom of a point. What holds at these first points holds
+//! at all points (`point_laws`), so what goes over points goes over them. Begin with `cells.rt`.
 #![tactic(auto)]
 
-mod classes;
-mod edges;
-mod spans;
+mod cells;
 
-pub use classes::Atoms;
+pub use cells::Atoms;

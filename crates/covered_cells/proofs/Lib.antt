@@ -1,6 +1,6 @@
 mod Bounded
 mod Corners
-mod Listed
+pub mod lemmas
 mod Marked
 mod Rising
 mod Swept

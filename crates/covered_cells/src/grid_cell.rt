@@ -34,8 +34,8 @@ fn first_row(grid: &Grid, l: usize) -> u32
     }
 }
 
-/// The cell of a column and a row.
-fn cell_at(grid: &Grid, k: usize, l: usize) -> GridCell
+/// The cell of a column and a row, which are given by their places.
+pub fn cell_at(grid: &Grid, k: usize, l: usize) -> GridCell
     requires column { k + 1 < length grid.now.xs }
     requires row { l + 1 < length grid.now.ys }
     ensures { result ≡ cell_at grid.now k l }

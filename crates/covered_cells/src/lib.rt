@@ -18,5 +18,5 @@ mod marks;
 mod sweep;
 
 pub use covered::covered_cells;
-pub use grid_cell::GridCell;
+pub use grid_cell::{GridCell, cell_at};
 pub use law::{cells_with_points_are_listed, corners_tell};

@@ -1,6 +1,7 @@
 -- Lemmas for the proofs of other crates.
 pub mod Members
 pub mod Apart
+pub mod Drawn
 pub mod Lists
 pub mod Rounds
 pub mod Cycles

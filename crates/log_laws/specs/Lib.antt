@@ -1,3 +1,4 @@
+pub mod Drawn
 pub use Rattle.semantics.specs.Events
 pub use Rattle.semantics.specs.Execution
 pub use Rattle.semantics.specs.Faults

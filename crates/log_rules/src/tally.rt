@@ -125,7 +125,11 @@ pub fn has_many_points<P: PointSet>(draft: &Draft<P>, tally: &Tally, rec: &Recor
     ensures { IfTally draft.now tally.now (λ earlier. result ≡ has_many_points draft.now rec.now) }
 {
     match rec {
-        Record::Ispace { .. } | Record::Plane { .. } => exceeds(tally.points, points_asked(rec), MOST_POINTS),
+        Record::Ispace { .. } | Record::Plane { .. } => exceeds(
+            tally.points,
+            points_asked(rec),
+            MOST_POINTS,
+        ),
         _ => false,
     }
 }

@@ -165,7 +165,9 @@ impl<'a, P: ArenaRects<'a>> Draft<P> {
         ensures err { OnErr result (self.new ≡ self.old) }
     {
         match rec {
-            Record::Ispace { .. } | Record::Plane { .. } => self.add_space_of(alloc, bump, line, rec)?,
+            Record::Ispace { .. } | Record::Plane { .. } => self.add_space_of(
+                alloc, bump, line, rec,
+            )?,
             Record::Part {
                 id,
                 space,

@@ -16,7 +16,7 @@ use crate::entries::Space;
 use crate::maps::FieldKey;
 use crate::regions::Decls;
 use crate::rows::Rows;
-use point_set::PointSet;
+use point_set::{PointSet, Rect};
 use semantics::{FieldSpace, Inst, Item, LogNode, Map, Part, Req, Serial, Tree};
 
 fn place_in(items: &Rows<u32, Item>, id: u32) -> usize
@@ -34,6 +34,13 @@ impl<P: PointSet> Draft<P> {
         ensures { result.now ≡ regions_of self.now }
     {
         &self.regions
+    }
+
+    /// The rectangles of the spaces, in the order of their lines. A run of points is one of the first column.
+    pub fn rects(&self) -> &[Rect]
+        ensures { result.now ≡ self.now.rects }
+    {
+        &self.rects
     }
 
     /// Whether the log is of the second version.

@@ -1,6 +1,6 @@
 //! The log of a recorded run.
 
-ghost use Rattle.std.specs.Prelude.{◌≡◌, ◌<◌, ◌==◌, ◌&&◌, ◌↔◌, map, length, position, slice_get, Some, None, [], IfOk, OnOk, IfErr, IsSome, IfSome, IsTrue, All, MatchOption};
+ghost use Rattle.std.specs.Prelude.{◌≡◌, ◌<◌, ◌≤◌, ◌==◌, ◌&&◌, ◌↔◌, map, length, position, slice_get, Some, None, [], IfOk, OnOk, IfErr, IsSome, IfSome, IsTrue, All, MatchOption};
 ghost use Rattle.std.specs.List.Sorted.{IsStrictlyIncreasing};
 ghost use Rattle.std.specs.Option.{option_and_then, option_copied};
 ghost use Rattle.log_tables.specs.Regions.{regions_of, space_of};
@@ -10,11 +10,11 @@ ghost use Rattle.semantics.specs.SerialOrder.{serial, serial_place};
 ghost use Rattle.vocabulary.specs.Prelude.{inst_at, mapped, reqs_before, points_in, req_at};
 ghost use Rattle.semantics.specs.Faults.{at_line, unmapped_fault};
 ghost use Rattle.spy_grammar.specs.declared.code.Code.TheVariants as codes;
+ghost use Rattle.log_laws.specs.Drawn.{AreDrawn};
 ghost use Rattle.logs.specs.Faultless.{AreDeclared};
 ghost use Rattle.logs.specs.Listing.{item_line, ArePlacesIn};
 ghost use Rattle.log_tables.specs.Ascending.{body_fields};
 ghost use Rattle.log_tables.specs.Mapped.{inst_mapped};
-ghost use Rattle.log_tables.specs.Views.{space_seen};
 ghost use Rattle.item_uses.specs.Blocks.{AreBlocks};
 ghost use Rattle.item_uses.specs.Representatives.{AreRepresentatives};
 ghost use Rattle.item_uses.specs.Usages.{usages};
@@ -23,8 +23,8 @@ use crate::found::{Found, found_in};
 use crate::mapping::{Unmapped, first_unmapped, inst_mapped};
 use bumpalo::Bump;
 use item_uses::{ItemUses, Span};
-use log_tables::{Draft, Space};
-use point_set::PointSet;
+use log_tables::Draft;
+use point_set::{PointSet, Rect};
 use region_tree::{ArenaSet, Forest, Memory, Path};
 use semantics::{Inst, Item, LogNode, Req};
 use std::alloc::Global;
@@ -95,6 +95,15 @@ impl<'a, P: PointSet + Copy> Log<'a, P> {
         ensures { result.now ≡ self.now }
     {
         &self.draft
+    }
+
+    /// The rectangles of the spaces, in the order of their lines. A run of points is one of the first column.
+    pub fn rects(&self) -> &[Rect]
+        ensures rects { result.now ≡ self.now.rects }
+        ensures drawn { AreDrawn self.now }
+        ensures points { All (λ r. (r.x0 ≤ r.x1) × (r.y0 ≤ r.y1)) result.now }
+    {
+        self.draft.rects()
     }
 
     /// The items, in program order, the order of their lines.
@@ -198,13 +207,6 @@ impl<'a, P: PointSet + Copy> Log<'a, P> {
         ensures { AreRepresentatives result.now (usages self.now) }
     {
         self.found.representatives.as_slice()
-    }
-
-    /// The declared spaces with their sets, in the order of their lines.
-    pub fn space_sets(&self) -> &[Space<P>]
-        ensures { map (space_seen P.points) result.now ≡ self.now.spaces }
-    {
-        self.draft.spaces()
     }
 
     /// The ids of the declared spaces, in the order of their lines.

@@ -93,7 +93,7 @@ fn first_unclear<'a, P: PointSet + Copy>(
 fn search_start<'a, P: PointSet + Copy>(alloc: Global, log: &Log<'a, P>) -> Result<usize, Memory>
     ensures { IfOk result (NoneTurnedBefore log.now) }
 {
-    let atoms = Atoms::build(alloc, log.space_sets())?;
+    let atoms = Atoms::build(alloc, log.rects())?;
     let claims = claims_of(alloc, log)?;
     let first = first_unclear(alloc, log, atoms.firsts(), &claims)?;
     Ok(first)

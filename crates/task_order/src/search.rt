@@ -126,7 +126,7 @@ pub fn task_order<'a, P: ArenaSet<'a>>(
     requires marks { AreMarksOf (graph_of log.now.nodes) reach.now }
     ensures { IfOk result (IsTaskOrder log.now) }
 {
-    let atoms = Atoms::build(alloc, log.space_sets())?;
+    let atoms = Atoms::build(alloc, log.rects())?;
     let runs = runs_of(alloc, log)?;
     let touches = touches_of_tasks(alloc, log, atoms.firsts())?;
     let loose = loose_tasks(alloc, log, reach, &runs, &touches)?;

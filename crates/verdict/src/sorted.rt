@@ -75,7 +75,7 @@ fn atoms_of<'a, P: ArenaSet<'a>>(alloc: Global, log: &Log<'a, P>) -> Result<Atom
     ensures firsts { IfOk result (λ atoms. AreFirsts log.now (first_points atoms)) }
     ensures stop { IfErr result (λ stop. stop ≡ Stop.Memory) }
 {
-    match Atoms::build(alloc, log.space_sets()) {
+    match Atoms::build(alloc, log.rects()) {
         Ok(atoms) => Ok(atoms),
         Err(_) => Err(Stop::Memory),
     }

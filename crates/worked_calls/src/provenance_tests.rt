@@ -168,7 +168,7 @@ fn ask<'a, P: ArenaSet<'a>>(
     };
     let (Ok(reach), Ok(atoms)) = (
         Reach::build(alloc, &graph, &order),
-        Atoms::build(alloc, log.space_sets()),
+        Atoms::build(alloc, log.rects()),
     ) else {
         return Err("no memory".into());
     };

@@ -4,16 +4,16 @@ use Rattle.std.specs.List.{list_any}
 use Rattle.std.proofs.Math.Bool.{and-false}
 use Rattle.std.proofs.Math.Nat.{suc-mul}
 use Rattle.std.proofs.lemmas.Bool.{le-ltb, ne_eqb}
-use Rattle.std.proofs.lemmas.List.Elements.{All-push, All-weaker}
+use Rattle.std.proofs.lemmas.List.Elements.{All-head, All-push, All-tail, All-weaker}
 use Rattle.std.proofs.lemmas.List.Folds.{list_any_none}
 use Rattle.spy_words.specs.declared.access.PrivWord.TheVariants as words
 use Rattle.spy_words.specs.declared.access.InstKind.TheVariants as layouts
-use Rattle.vocabulary.specs.Prelude.{Code, Record, Lined, agree, Req, Inst, records_of, Tables, with_record, no_tables, tables_of, meets, points_in, covers, grid}
+use Rattle.vocabulary.specs.Prelude.{Code, Record, Lined, agree, may_read, Req, Inst, records_of, Tables, with_record, no_tables, tables_of, meets, points_in, covers, grid}
 use Rattle.spy_grammar.specs.declared.code.Code.TheVariants as codes
 use Rattle.spy_grammar.specs.declared.record.Record.TheVariants as records
 use Rattle.privilege.specs.declared.kinds.Priv.TheVariants as privileges
 use Rattle.semantics.specs.declared.tables.ItemBody.TheVariants as bodies
-use Rattle.semantics.specs.Rules.{accesses, size_of, reduces, load_of}
+use Rattle.semantics.specs.Rules.{accesses, is_planar, size_of, reduces, load_of}
 use Rattle.worked_logs.proofs.Lists.{within_itself, sum_of_same, length-all_kept, length-grid, IsOfBoth, all_of_both}
 use Rattle.worked_logs.proofs.Frames.{broken_by, one_more, declares_more, asks_more, in_time}
 
@@ -35,6 +35,8 @@ module _ (points fs : List ℕ) where
 
   abbrev pub declared : List Req → List Inst → Tables
   declared reqs insts = record no_tables {
+    version = 1;
+    rects = record { x0 = 0; x1 = 0; y0 = 1; y1 = length points } ∷ [];
     spaces = record { id = 1; points = points } ∷ [];
     field_spaces = record { id = 1; fields = fs } ∷ [];
     trees = record { id = 1; space = 1; fspace = 1 } ∷ [];
@@ -53,7 +55,7 @@ module _ (points fs : List ℕ) where
 
   -- ---- The load.
 
-  module _ (t : Tables) (at : points_in t 1 ≡ points) (reduce : All IsReduction t.reqs) where
+  module _ (t : Tables) (flat : is_planar t ≡ false) (at : points_in t 1 ≡ points) (reduce : All IsReduction t.reqs) where
     -- Whether a requirement reduces at a place of the region.
     abbrev reduces_at : ℕ × ℕ → Req → Bool
     reduces_at p r = reduces r.access && covers t (record { tree = 1; point = p.0; field = p.1 }) r
@@ -73,7 +75,7 @@ module _ (points fs : List ℕ) where
         let places = grid points fs in
         let reducing : ℕ × ℕ → ℕ = λ p. length (filter (reduces_at p) t.reqs) in
         let same = All-weaker (IsOfBoth points fs) (λ p. reducing p ≡ n) all_reduce places (all_of_both points fs) in
-        rw (is.0, is.1, is.2, at) (sum_of_same reducing n places same ∙ ap (λ m. m * n) (length-grid points fs))
+        rw (is.0, is.1, is.2, flat, at) (sum_of_same reducing n places same ∙ ap (λ m. m * n) (length-grid points fs))
 
     pub load_of_all : (last : ℕ) (is : List Inst) → All (IsWhole last) is
         → sum_by (load_of t) is ≡ length is * (size * length t.reqs)
@@ -81,6 +83,13 @@ module _ (points fs : List ℕ) where
         let load = size * length t.reqs in
         let same = All-weaker (IsWhole last) (λ i. load_of t i ≡ load) (load_of_one last) is whole in
         sum_of_same (load_of t) load is same
+
+  -- ---- The reads.
+
+  -- Requirements that reduce read nothing.
+  none_reads : (rs : List Req) → All IsReduction rs → filter (λ (r : Req). may_read r.access) rs ≡ []
+  none_reads [] reduce = refl
+  none_reads (r ∷ rs) reduce = rw ((All-head IsReduction r rs reduce).3) (none_reads rs (All-tail IsReduction r rs reduce))
 
   -- ---- The cells.
 
@@ -128,7 +137,7 @@ module _ (points fs : List ℕ) where
     pub whole : All (IsWhole insts_count) insts
     pub reqs_are : length reqs ≡ reqs_count
     pub insts_are : length insts ≡ insts_count
-    pub asked : (t : Tables) → points_in t 1 ≡ points → sum_by (accesses t) (records_of earlier) ≡ reqs_count * size
+    pub asked : (t : Tables) → is_planar t ≡ false → points_in t 1 ≡ points → sum_by (accesses t) (records_of earlier) ≡ reqs_count * size
 
   module _ (line n k : ℕ) (earlier : List Lined) (before : Declare line n k earlier) where
     abbrev at_next : Record → Lined
@@ -144,11 +153,11 @@ module _ (points fs : List ℕ) where
         let longer = one_more earlier (at_next r) in
         omega (arith, count, longer)
 
-    asks : (r : Record) (n' : ℕ) → ((t : Tables) → points_in t 1 ≡ points → n * size + accesses t r ≡ n' * size)
-        → (t : Tables) → points_in t 1 ≡ points
+    asks : (r : Record) (n' : ℕ) → ((t : Tables) → is_planar t ≡ false → points_in t 1 ≡ points → n * size + accesses t r ≡ n' * size)
+        → (t : Tables) → is_planar t ≡ false → points_in t 1 ≡ points
         → sum_by (accesses t) (records_of (earlier ++ at_next r ∷ [])) ≡ n' * size
-    asks r n' adds t at =
-        asks_more earlier (at_next r) t ∙ ap (λ m. m + accesses t r) (before.asked t at) ∙ adds t at
+    asks r n' adds t flat at =
+        asks_more earlier (at_next r) t ∙ ap (λ m. m + accesses t r) (before.asked t flat at) ∙ adds t flat at
 
     -- After one requirement more, and after one instance more.
     pub after_req : Declare (line + 1) (n + 1) k (earlier ++ at_next reduction ∷ [])
@@ -164,7 +173,7 @@ module _ (points fs : List ℕ) where
           whole = before.whole;
           reqs_are = length-append before.reqs _ ∙ omega (arith, reqs_are);
           insts_are = before.insts_are;
-          asked = asks reduction (n + 1) (λ t at. rw at product);
+          asked = asks reduction (n + 1) (λ t flat at. rw (flat, at) product);
         }
 
     still_whole : All (IsWhole (k + 1)) before.insts
@@ -185,7 +194,7 @@ module _ (points fs : List ℕ) where
           whole = All-push (IsWhole (k + 1)) before.insts _ still_whole (refl, refl, refl, omega arith);
           reqs_are = before.reqs_are;
           insts_are = length-append before.insts _ ∙ omega (arith, insts_are);
-          asked = asks (instance (k + 1)) n (λ t at. omega arith);
+          asked = asks (instance (k + 1)) n (λ t flat at. omega arith);
         }
 
     -- ---- The rules at the next record.
@@ -198,7 +207,7 @@ module _ (points fs : List ℕ) where
       pub req_kept : (total : ℕ) → n < total → total * size ≤ 4194304
           → broken_by log earlier reduction ≡ None
       req_kept total more fits =
-          let asked = before.asked t refl in
+          let asked = before.asked t refl refl in
           let product = suc-mul n size in
           let within = up_to n total more in
           rw (
@@ -212,7 +221,7 @@ module _ (points fs : List ℕ) where
       pub inst_kept : (total : ℕ) → k < total → total * size ≤ 1048576 → n * size ≤ 4194304
           → broken_by log earlier (instance (k + 1)) ≡ None
       inst_kept total more fits asks_few =
-          let asked = before.asked t refl in
+          let asked = before.asked t refl refl in
           let cells = cells_of_all t refl k before.insts before.whole in
           let counted = ap (λ m. m * size) before.insts_are in
           let product = suc-mul k size in
@@ -230,7 +239,7 @@ module _ (points fs : List ℕ) where
       pub run_kept : n * size ≤ 4194304
           → broken_by log earlier (records.Run 1 1 []) ≡ None
       run_kept asks_few =
-          let asked = before.asked t refl in
+          let asked = before.asked t refl refl in
           rw (
             before.tables,
             in_time earlier line before.count few,
@@ -247,17 +256,18 @@ module _ (points fs : List ℕ) where
 
     load : sum_by (load_of at_last) before.insts ≡ k * (size * n)
     load =
-        load_of_all at_last refl before.reduce k before.insts before.whole
+        load_of_all at_last refl refl before.reduce k before.insts before.whole
         ∙ ap₂ (λ a b. a * (size * b)) before.insts_are before.reqs_are
 
-    -- (The rule on the load is tried last of all.)
+    -- (After the rule on the load only that on reads is tried, and nothing is read.)
     pub at_end : (log : List Record) (count : ℕ) (big : Bool) → n * size ≤ 4194304
         → nat_lt 67108864 (k * (size * n)) ≡ big
         → broken_by log (earlier ++ run ∷ []) (records.End count) ≡ broken_if big
     at_end log count big asks_few is =
-        let asked = asks (records.Run 1 1 []) n (λ t at. omega arith) at_last refl in
+        let asked = asks (records.Run 1 1 []) n (λ t flat at. omega arith) at_last refl refl in
         rw (
           declares_more earlier run t before.tables,
           le-ltb 4194304 (sum_by (accesses at_last) (records_of (earlier ++ run ∷ [])) + 0) (omega (arith, asked, asks_few)),
           ap (λ load. nat_lt 67108864 load) load ∙ is,
+          none_reads before.reqs before.reduce,
         ) refl

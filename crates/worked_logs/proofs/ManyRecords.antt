@@ -20,7 +20,7 @@ abbrev redops : List ℕ → List Record
 redops ids = map (λ id. Redop id) ids
 
 abbrev operators : List ℕ → Tables
-operators ids = record no_tables { operators = ids }
+operators ids = record no_tables { version = 1; operators = ids }
 
 -- The records before a line declare these operators, whose ids are below the next one. They ask for no access.
 record DeclareOperators (line next : ℕ) (ids : List ℕ) (earlier : List Lined) : Type 0 where

@@ -16,7 +16,7 @@ use Rattle.semantics.specs.Computed.{logs_computed}
 use Rattle.worked_logs.specs.WorkedLimits.{framed, of_load}
 use Rattle.worked_logs.proofs.FewPlaces.{points_up_to, point_count, few_points}
 use Rattle.worked_logs.proofs.Frames.{IsInner, passes, by_records}
-use Rattle.worked_logs.proofs.LoadRules.{size, reduction, instance, Declare, after_req, after_inst, req_kept, inst_kept, run_kept, at_end, broken_if}
+use Rattle.worked_logs.proofs.LoadRules.{size, reduction, instance, declared, Declare, after_req, after_inst, req_kept, inst_kept, run_kept, at_end, broken_if}
 
 -- ---- One record after the other.
 
@@ -142,12 +142,12 @@ module _ (points : ℕ) (fs : List ℕ) (reqs insts : ℕ) where
     reqs = [];
     insts = [];
     count = refl;
-    tables = refl;
+    tables = ap (λ n. record (declared all_points fs [] []) { rects = record { x0 = 0; x1 = 0; y0 = 1; y1 = n } ∷ [] }) (sym (point_count points));
     reduce = All-nil _;
     whole = All-nil _;
     reqs_are = refl;
     insts_are = refl;
-    asked = λ t at. omega arith;
+    asked = λ t flat at. omega arith;
   }
 
   -- All later records break no rule, but for the end if there is too much load.
