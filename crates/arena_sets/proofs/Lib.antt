@@ -1,3 +1,4 @@
 mod Cutting
 mod Joining
+mod JoiningRects
 mod RunPoints

@@ -1,3 +1,4 @@
+pub mod Joined
 pub mod Pieces
 pub mod RunsFrom
 pub use Rattle.point_set.specs.Rects

@@ -2,6 +2,7 @@ ghost use Rattle.std.specs.Prelude.{◌≡◌, IfOk};
 ghost use Rattle.point_set.specs.Rects.{AreBanded, rect_points};
 
 use crate::arena_set::ArenaSet;
+use crate::joined_rects::{first_joined, joined_count};
 use bumpalo::Bump;
 use bumpalo::collections::into_bump_slice;
 use memory::Memory;
@@ -17,11 +18,16 @@ pub trait ArenaRects<'a>: ArenaSet<'a> {
         ensures { IfOk result (λ set. Self.points set ≡ rect_points rects.now) };
 }
 
+/// Joins rectangles that go on from one another, so that each search among them counts once what a column has in a row.
 impl<'a> ArenaRects<'a> for RectSet<'a> {
     fn place_rects(bump: &'a Bump, rects: &[Rect]) -> Result<RectSet<'a>, Memory> {
-        let mut placed = Vec::new(bump);
-        placed.extend_from_slice(rects)?;
-        match RectSet::over(into_bump_slice(placed)) {
+        let mut joined = Vec::with_capacity(bump, joined_count(rects))?;
+        let mut rest = rects;
+        while let Some((rect, behind)) = first_joined(rest) {
+            joined.push(rect)?;
+            rest = behind;
+        }
+        match RectSet::over(into_bump_slice(joined)) {
             Some(set) => Ok(set),
             None => unreachable!(),
         }

@@ -7,6 +7,7 @@
 
 mod arena_rects;
 mod arena_set;
+mod joined_rects;
 mod pieces;
 mod set_of_rects;
 

@@ -114,3 +114,23 @@ fn rectangles_are_placed(rt: HostRuntime) -> Result<(), Fail> {
     assert!(rt; set.count() == (1u128 << 33) + 3 && set.last() == Some((1u64 << 33) + 5));
     Ok(())
 }
+
+/// Rectangles of the same columns that touch are kept as one, so that a set of many is searched like one of few.
+#[test]
+fn rectangles_that_touch_are_joined(rt: HostRuntime) -> Result<(), Fail> {
+    let arena = Bump::new(rt.alloc());
+    let mut rects = Vec::new(rt.alloc());
+    for y in 0..1000u32 {
+        rects.push(rect(0, 3, y, y))?;
+    }
+    rects.push(rect(0, 3, 1001, 1001))?;
+    rects.push(rect(4, 4, 1002, u32::MAX))?;
+    if RectSet::over(&rects).is_none() {
+        return Err("rectangles in bands".into());
+    }
+    let set = RectSet::place_rects(&arena, &rects)
+        .ok()
+        .ok_or("no memory")?;
+    assert!(rt; set.rects().len() == 3 && set.has(999) && !set.has(1000) && set.has(1001));
+    Ok(())
+}
