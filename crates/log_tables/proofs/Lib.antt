@@ -2,4 +2,5 @@ pub mod lemmas
 mod Ascending
 mod Mapping
 mod Noting
+mod NumberedRows
 mod Strips

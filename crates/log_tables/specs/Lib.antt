@@ -1,3 +1,4 @@
+pub mod Alike
 pub mod Ascending
 pub mod Mapped
 pub mod Noted

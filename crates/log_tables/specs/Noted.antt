@@ -1,5 +1,5 @@
 -- What is noted of keys, as a function from a key to what is looked up.
-use Rattle.std.specs.Prelude.{◌≡◌, ℕ, Bool, List, Option, Some, None, if◌then◌else◌, ⊤}
+use Rattle.std.specs.Prelude.{◌≡◌, ℕ, ◌+◌, Bool, List, Option, Some, None, if◌then◌else◌, slice_get, ⊤}
 use Rattle.std.specs.List.{position_from}
 use Rattle.std.specs.Option.{option_or}
 
@@ -11,6 +11,11 @@ module _ {K : Type 0} where
   -- The place of each key is that of the first row that has it.
   abbrev pub HoldsPlaces : {T : Type 0} → (K → K → Bool) → (T → K) → (K → Option ℕ) → List T → Type 0
   HoldsPlaces eq key_of places rows = (q : K) → places q ≡ position_from (λ x. eq (key_of x) q) 0 rows
+
+  -- The numbers of the keys of rows come one after the other, from the first on.
+  abbrev pub AreNumbered : {T : Type 0} → (K → ℕ) → (T → K) → ℕ → List T → Type 0
+  AreNumbered {T} number_of key_of first rows = (i : ℕ) (row : T) → slice_get rows i ≡ Some row
+      → number_of (key_of row) ≡ first + i
 
 -- Both are there, and this holds of them, or neither is.
 abbrev pub AreBoth : {A : Type 0} → Option A → Option A → (A → A → Type 0) → Type 0

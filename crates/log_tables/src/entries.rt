@@ -1,11 +1,13 @@
 //! The entries of the tables, and their keys.
 
-ghost use Rattle.std.specs.Prelude.{◌≡◌};
+ghost use Rattle.std.specs.Prelude.{◌≡◌, nat_eq, unwrap_or};
+ghost use Rattle.std.proofs.lemmas.Bool.{and_parts, eqb-true};
+ghost use Rattle.log_tables.specs.Alike.{alike_options};
 ghost use Rattle.std.specs.List.Sorted.{IsStrictlyIncreasing};
 ghost use Rattle.log_tables.specs.Regions.{step_of};
 ghost use Rattle.log_tables.specs.Runs.{item_run, task_named};
 
-use crate::rows::Keyed;
+use crate::rows::{Key, Keyed};
 use crate::two_rows::AlsoKeyed;
 use semantics::{FieldSpace, Inst, Item, ItemBody, LogNode, Op, Part, Req, Sub, Tree};
 use spy_words::Nums;
@@ -29,6 +31,58 @@ pub struct Step {
 pub struct ReqKey {
     pub item: usize,
     pub number: u32,
+}
+
+impl Key for u32 {
+    ghost number_of = { λ n. n };
+
+    ghost alike = { λ a b. eqb-true a b };
+
+    fn number(&self) -> usize {
+        *self as usize
+    }
+}
+
+/// The colour is the number.
+impl Key for Step {
+    ghost number_of = { λ s. s.colour };
+
+    ghost alike = { λ a b same. eqb-true a.colour b.colour (and_parts (nat_eq a.part b.part) (nat_eq a.colour b.colour) same).1 };
+
+    fn number(&self) -> usize {
+        self.colour as usize
+    }
+}
+
+/// The number of the requirement is the number.
+impl Key for ReqKey {
+    ghost number_of = { λ r. r.number };
+
+    ghost alike = { λ a b same. eqb-true a.number b.number (and_parts (nat_eq a.item b.item) (nat_eq a.number b.number) same).1 };
+
+    fn number(&self) -> usize {
+        self.number as usize
+    }
+}
+
+impl Key for Option<usize> {
+    ghost number_of = { λ o. unwrap_or o 0 };
+
+    ghost alike = { alike_options };
+
+    fn number(&self) -> usize {
+        self.unwrap_or(0)
+    }
+}
+
+impl Key for Option<u32> {
+    ghost number_of = { λ o. unwrap_or o 0 };
+
+    ghost alike = { alike_options };
+
+    fn number(&self) -> usize {
+        self.unwrap_or(0) as usize
+    }
 }
 
 impl Keyed<u32> for u32 {

@@ -1,11 +1,12 @@
 //! Rows that are looked up by a key.
 
-ghost use Rattle.std.specs.Prelude.{◌≡◌, ◌++◌, ◌∷◌, [], OnOk, OnErr, IfOk, IfSome, IsOk, ◌<◌, ◌≤◌, ◌+◌, find, length, slice_get, option_and_then};
+ghost use Rattle.std.specs.Prelude.{ℕ, ◌≡◌, ◌++◌, ◌∷◌, [], true, OnOk, OnErr, IfOk, IfSome, IsOk, ◌<◌, ◌≤◌, ◌+◌, find, length, slice_get, option_and_then};
 ghost use Rattle.std.specs.List.{list_any, position_from};
 ghost use Rattle.std.specs.Option.{option_copied};
 ghost use Rattle.indexmap.specs.IndexMap.{get, spare};
 ghost use Rattle.log_tables.specs.Noted.{NotesFirst, HoldsPlaces, AreBoth};
 
+use crate::numbered::{first_number, numbered_place};
 use indexmap::IndexMap;
 use std::alloc::{AllocError, Global};
 use std::hash::Hash;
@@ -19,25 +20,39 @@ pub trait Keyed<K> {
         ensures { result ≡ key_of self.now };
 }
 
-/// Rows in the order in which they were added, which contracts see as a list. A row is looked up by its key in constant time: of rows with one key, the first.
-///
-/// Rows that were made of a list when there was no memory for their places are looked through one by one.
-#[derive(Drop)]
-pub struct Rows<K: Copy + Eq + Hash, T: Keyed<K>> {
-    rows: Vec<T>,
-    places: Option<IndexMap<K, usize>>,
+/// What rows are looked up by.
+pub trait Key: Copy + Eq + Hash {
+    ghost number_of: { Self → ℕ };
+
+    /// The number of the key, one for keys that are alike. Where the keys of a list of rows have numbers one after the other, they are found by these.
+    fn number(&self) -> usize
+        ensures { result ≡ number_of self.now };
+
+    ghost alike: { (a b : Self) → Self.eq a b ≡ true → number_of a ≡ number_of b };
 }
 
-impl<K: Copy + Eq + Hash, T: Keyed<K>> Model for Rows<K, T> {
+/// Rows in the order in which they were added, which contracts see as a list. A row is looked up by its key in constant time: of rows with one key, the first.
+///
+/// Rows that were made of a list take no memory for their places where the numbers of their keys come one after the other, until a row is added. Without memory for their places, others that were made of a list are looked through one by one.
+#[derive(Drop)]
+pub struct Rows<K: Key, T: Keyed<K>> {
+    rows: Vec<T>,
+    places: Option<IndexMap<K, usize>>,
+    /// The number of the first key, if the numbers of the others are known to follow it one by one.
+    first: Option<usize>,
+}
+
+impl<K: Key, T: Keyed<K>> Model for Rows<K, T> {
     ghost use Rattle.std.specs.Prelude.{List, IfSome};
     ghost use Rattle.indexmap.specs.IndexMap.{get};
-    ghost use Rattle.log_tables.specs.Noted.{HoldsPlaces};
+    ghost use Rattle.log_tables.specs.Noted.{AreNumbered, HoldsPlaces};
 
     ghost Value = { List T };
 
     ghost view = { λ r. r.rows.items };
 
-    ghost invariant = { λ r. IfSome r.places (λ m. HoldsPlaces K.eq T.key_of (get K.eq m) r.rows.items) };
+    ghost invariant = { λ r. IfSome r.places (λ m. HoldsPlaces K.eq T.key_of (get K.eq m) r.rows.items)
+        × IfSome r.first (λ first. AreNumbered K.number_of T.key_of first r.rows.items) };
 }
 
 /// Notes a value of a key, if the key has none yet.
@@ -75,7 +90,7 @@ pub(crate) fn note_place<K: Copy + Eq + Hash>(
 }
 
 /// The place of each row's key.
-fn places_of<K: Copy + Eq + Hash, T: Keyed<K>>(
+fn places_of<K: Key, T: Keyed<K>>(
     alloc: Global,
     rows: &[T],
 ) -> Result<IndexMap<K, usize>, AllocError>
@@ -88,6 +103,35 @@ fn places_of<K: Copy + Eq + Hash, T: Keyed<K>>(
     Ok(places)
 }
 
+/// The place of each row's key, unless they are found by their numbers or there is no memory.
+fn places_unless<K: Key, T: Keyed<K>>(
+    alloc: Global,
+    rows: &[T],
+    first: Option<usize>,
+) -> Option<IndexMap<K, usize>>
+    ensures { IfSome result (λ m. HoldsPlaces K.eq T.key_of (get K.eq m) rows.now) }
+{
+    match first {
+        Some(_) => None,
+        None => places_of(alloc, rows).ok(),
+    }
+}
+
+/// Notes the places of rows that were found by their numbers, since the next key may have any.
+fn leave_numbers<K: Key, T: Keyed<K>>(
+    alloc: Global,
+    rows: &[T],
+    first: Option<usize>,
+    places: &mut Option<IndexMap<K, usize>>,
+)
+    requires { IfSome places.old (λ m. HoldsPlaces K.eq T.key_of (get K.eq m) rows.now) }
+    ensures { IfSome places.new (λ m. HoldsPlaces K.eq T.key_of (get K.eq m) rows.now) }
+{
+    if first.is_some() {
+        *places = places_of(alloc, rows).ok();
+    }
+}
+
 /// The row at a place.
 pub(crate) fn row_at<T>(rows: &[T], place: Option<usize>) -> Option<&T>
     ensures { option_copied result ≡ option_and_then (slice_get rows.now) place }
@@ -95,7 +139,7 @@ pub(crate) fn row_at<T>(rows: &[T], place: Option<usize>) -> Option<&T>
     rows.get(place?)
 }
 
-impl<K: Copy + Eq + Hash, T: Keyed<K>> Rows<K, T> {
+impl<K: Key, T: Keyed<K>> Rows<K, T> {
     /// No rows.
     pub fn new(alloc: Global) -> Rows<K, T>
         ensures { result ≡ [] }
@@ -103,15 +147,21 @@ impl<K: Copy + Eq + Hash, T: Keyed<K>> Rows<K, T> {
         Rows {
             rows: Vec::new(alloc),
             places: Some(IndexMap::new(alloc)),
+            first: None,
         }
     }
 
-    /// These rows. It cannot fail: without memory for their places, they are looked through.
+    /// These rows. It cannot fail: without memory for the places that are noted, they are looked through.
     pub fn from_vec(rows: Vec<T>) -> Rows<K, T>
         ensures { result ≡ rows.items }
     {
-        let places = places_of(*rows.allocator(), &rows).ok();
-        Rows { rows, places }
+        let first = first_number(&rows);
+        let places = places_unless(*rows.allocator(), &rows, first);
+        Rows {
+            rows,
+            places,
+            first,
+        }
     }
 
     /// The rows.
@@ -119,6 +169,11 @@ impl<K: Copy + Eq + Hash, T: Keyed<K>> Rows<K, T> {
         ensures { result.now ≡ self.now }
     {
         &self.rows
+    }
+
+    /// What the rows take their memory from.
+    pub(crate) fn allocator(&self) -> Global {
+        *self.rows.allocator()
     }
 
     /// How many rows there are.
@@ -132,6 +187,9 @@ impl<K: Copy + Eq + Hash, T: Keyed<K>> Rows<K, T> {
     pub fn place(&self, key: K) -> Option<usize>
         ensures { result ≡ position_from (λ x. K.eq (T.key_of x) key) 0 self.now }
     {
+        if let Some(first) = self.first {
+            return numbered_place(&self.rows, first, key);
+        }
         match &self.places {
             Some(places) => places.get(&key).copied(),
             None => self.rows.iter().position(|row| row.key() == key),
@@ -159,6 +217,13 @@ impl<K: Copy + Eq + Hash, T: Keyed<K>> Rows<K, T> {
         ensures ok { OnOk result (self.new ≡ self.old ++ row ∷ []) }
         ensures err { OnErr result (self.new ≡ self.old) }
     {
+        leave_numbers(
+            *self.rows.allocator(),
+            &self.rows,
+            self.first,
+            &mut self.places,
+        );
+        self.first = None;
         self.rows.reserve(1)?;
         note_place(&mut self.places, row.key(), self.rows.len())?;
         self.rows.push(row)?;

@@ -6,7 +6,8 @@ ghost use Rattle.std.specs.Option.{option_copied};
 ghost use Rattle.indexmap.specs.IndexMap.{get, spare};
 ghost use Rattle.log_tables.specs.Noted.{HoldsPlaces, AreBoth};
 
-use crate::rows::{Keyed, Rows, note_first, note_place, row_at};
+use crate::numbered::{also_first_number, also_numbered_place};
+use crate::rows::{Key, Keyed, Rows, note_first, note_place, row_at};
 use indexmap::IndexMap;
 use std::alloc::{AllocError, Global};
 use std::hash::Hash;
@@ -22,26 +23,28 @@ pub trait AlsoKeyed<L> {
 
 /// Rows as in `Rows`, with a second key.
 #[derive(Drop)]
-pub struct TwoRows<K: Copy + Eq + Hash, L: Copy + Eq + Hash, T: Keyed<K> + AlsoKeyed<L>> {
+pub struct TwoRows<K: Key, L: Key, T: Keyed<K> + AlsoKeyed<L>> {
     rows: Rows<K, T>,
     places: Option<IndexMap<L, usize>>,
+    /// The number of the first of the second keys, as in `Rows`.
+    first: Option<usize>,
 }
 
-impl<K: Copy + Eq + Hash, L: Copy + Eq + Hash, T: Keyed<K> + AlsoKeyed<L>> Model
-    for TwoRows<K, L, T> {
+impl<K: Key, L: Key, T: Keyed<K> + AlsoKeyed<L>> Model for TwoRows<K, L, T> {
     ghost use Rattle.std.specs.Prelude.{List, IfSome};
     ghost use Rattle.indexmap.specs.IndexMap.{get};
-    ghost use Rattle.log_tables.specs.Noted.{HoldsPlaces};
+    ghost use Rattle.log_tables.specs.Noted.{AreNumbered, HoldsPlaces};
 
     ghost Value = { List T };
 
     ghost view = { λ r. r.rows };
 
-    ghost invariant = { λ r. IfSome r.places (λ m. HoldsPlaces L.eq T.also_of (get L.eq m) r.rows) };
+    ghost invariant = { λ r. IfSome r.places (λ m. HoldsPlaces L.eq T.also_of (get L.eq m) r.rows)
+        × IfSome r.first (λ first. AreNumbered L.number_of T.also_of first r.rows) };
 }
 
 /// The place of each row's second key.
-fn also_places_of<L: Copy + Eq + Hash, T: AlsoKeyed<L>>(
+fn also_places_of<L: Key, T: AlsoKeyed<L>>(
     alloc: Global,
     rows: &[T],
 ) -> Result<IndexMap<L, usize>, AllocError>
@@ -52,6 +55,35 @@ fn also_places_of<L: Copy + Eq + Hash, T: AlsoKeyed<L>>(
         note_first(&mut places, rows[i].also(), i)?;
     }
     Ok(places)
+}
+
+/// The place of each row's second key, unless they are found by their numbers or there is no memory.
+fn also_places_unless<L: Key, T: AlsoKeyed<L>>(
+    alloc: Global,
+    rows: &[T],
+    first: Option<usize>,
+) -> Option<IndexMap<L, usize>>
+    ensures { IfSome result (λ m. HoldsPlaces L.eq T.also_of (get L.eq m) rows.now) }
+{
+    match first {
+        Some(_) => None,
+        None => also_places_of(alloc, rows).ok(),
+    }
+}
+
+/// Notes the places of rows that were found by the numbers of their second keys, since the next one may have any.
+fn leave_numbers<L: Key, T: AlsoKeyed<L>>(
+    alloc: Global,
+    rows: &[T],
+    first: Option<usize>,
+    places: &mut Option<IndexMap<L, usize>>,
+)
+    requires { IfSome places.old (λ m. HoldsPlaces L.eq T.also_of (get L.eq m) rows.now) }
+    ensures { IfSome places.new (λ m. HoldsPlaces L.eq T.also_of (get L.eq m) rows.now) }
+{
+    if first.is_some() {
+        *places = also_places_of(alloc, rows).ok();
+    }
 }
 
 /// Makes room for one key more, if places are noted at all.
@@ -65,7 +97,7 @@ fn make_room<L: Copy + Eq + Hash>(places: &mut Option<IndexMap<L, usize>>) -> Re
     }
 }
 
-impl<K: Copy + Eq + Hash, L: Copy + Eq + Hash, T: Keyed<K> + AlsoKeyed<L>> TwoRows<K, L, T> {
+impl<K: Key, L: Key, T: Keyed<K> + AlsoKeyed<L>> TwoRows<K, L, T> {
     /// No rows.
     pub fn new(alloc: Global) -> TwoRows<K, L, T>
         ensures { result ≡ [] }
@@ -73,6 +105,7 @@ impl<K: Copy + Eq + Hash, L: Copy + Eq + Hash, T: Keyed<K> + AlsoKeyed<L>> TwoRo
         TwoRows {
             rows: Rows::new(alloc),
             places: Some(IndexMap::new(alloc)),
+            first: None,
         }
     }
 
@@ -80,10 +113,12 @@ impl<K: Copy + Eq + Hash, L: Copy + Eq + Hash, T: Keyed<K> + AlsoKeyed<L>> TwoRo
     pub fn from_vec(rows: Vec<T>) -> TwoRows<K, L, T>
         ensures { result ≡ rows.items }
     {
-        let places = also_places_of(*rows.allocator(), &rows).ok();
+        let first = also_first_number(&rows);
+        let places = also_places_unless(*rows.allocator(), &rows, first);
         TwoRows {
             rows: Rows::from_vec(rows),
             places,
+            first,
         }
     }
 
@@ -98,6 +133,9 @@ impl<K: Copy + Eq + Hash, L: Copy + Eq + Hash, T: Keyed<K> + AlsoKeyed<L>> TwoRo
     pub fn also_place(&self, key: L) -> Option<usize>
         ensures { result ≡ position_from (λ x. L.eq (T.also_of x) key) 0 self.now }
     {
+        if let Some(first) = self.first {
+            return also_numbered_place(self.rows.as_slice(), first, key);
+        }
         match &self.places {
             Some(places) => places.get(&key).copied(),
             None => self
@@ -129,6 +167,13 @@ impl<K: Copy + Eq + Hash, L: Copy + Eq + Hash, T: Keyed<K> + AlsoKeyed<L>> TwoRo
         ensures ok { OnOk result (self.new ≡ self.old ++ row ∷ []) }
         ensures err { OnErr result (self.new ≡ self.old) }
     {
+        leave_numbers(
+            self.rows.allocator(),
+            self.rows.as_slice(),
+            self.first,
+            &mut self.places,
+        );
+        self.first = None;
         make_room(&mut self.places)?;
         let place = self.rows.len();
         let key = row.also();
