@@ -1,6 +1,6 @@
 -- How many points of rectangles begin cells.
 use Rattle.std.proofs.Common.{◌≡◌, ◌↔◌, ℕ, zero, suc, ◌+◌, ◌-◌, ◌*◌, ◌/◌, ◌%◌, ◌^◌, ◌<◌, ◌≤◌, ◌==◌, ◌&&◌, nat_le, Bool, true, false, List, [], ◌∷◌, ◌++◌, Contains, length, get_or, filter, refl, sym, ap, ◌∙◌, subst, inl, inr, arith}
-use Rattle.std.specs.List.{flat_map, list_any, range_with_len, sum_by}
+use Rattle.std.specs.List.{flat_map, range_with_len, sum_by}
 use Rattle.std.specs.List.Sorted.{IsStrictlyIncreasing}
 use Rattle.std.proofs.lemmas.Bool.{cases_Bool, and_parts, eq-eqb, eqb-true, le-leb, leb-true}
 use Rattle.std.proofs.lemmas.List.{length-append}
@@ -14,6 +14,7 @@ use Rattle.point_set.specs.declared.rect.Rect.{Rect}
 use Rattle.point_set.specs.Rects.{AreSmall, column_points, columns_end, has_column, rect_points}
 use Rattle.grid.specs.Corners.{corners_in, is_corner}
 use Rattle.grid.specs.Cuts.{Cuts, cuts, cuts_within, grid_of, x_ends, y_ends}
+use Rattle.cell_counts.specs.Steps.{is_one}
 use Rattle.grid.proofs.lemmas.Cutting.{are_cuts, cuts_ascend, cuts_have}
 
 -- how many cells begin in a rectangle
@@ -22,13 +23,10 @@ begin_in grid r = length (cuts_within r.x0 r.x1 grid.xs) * length (cuts_within r
 
 -- ---- The numbers of a range that are ends are the cuts in it.
 
-abbrev is_one : List ℕ → ℕ → Bool
-is_one ns n = list_any (λ m. m == n) ns
-
-ends_pass : (ns : List ℕ) (n : ℕ) → Contains ns n → is_one ns n ≡ true
+pub ends_pass : (ns : List ℕ) (n : ℕ) → Contains ns n → is_one ns n ≡ true
 ends_pass ns n h = list_any_at (λ m. m == n) ns h.0 n h.1 (eq-eqb (get_or ns h.0 n) n h.2)
 
-pass_ends : (ns : List ℕ) (n : ℕ) → is_one ns n ≡ true → Contains ns n
+pub pass_ends : (ns : List ℕ) (n : ℕ) → is_one ns n ≡ true → Contains ns n
 pass_ends ns n so = let h = Any-from_list_any (λ m. m == n) ns so in subst (Contains ns) (eqb-true h.1 n h.4) (h.0, h.2, h.3)
 
 in_range : (a n p : ℕ) → Contains (range_with_len a n) p → (a ≤ p) × (p < a + n)
@@ -48,7 +46,7 @@ range_rises a n k lt =
     let within : k + 1 < n = omega (arith, lt, length-range_with_len a n) in
     omega (arith, get_or-range_with_len a n k 0 (omega (arith, within)), get_or-range_with_len a n (k + 1) 0 within)
 
-same_numbers : (ps qs : List ℕ) → IsStrictlyIncreasing ps → IsStrictlyIncreasing qs → ((n : ℕ) → Contains ps n ↔ Contains qs n) → ps ≡ qs
+pub same_numbers : (ps qs : List ℕ) → IsStrictlyIncreasing ps → IsStrictlyIncreasing qs → ((n : ℕ) → Contains ps n ↔ Contains qs n) → ps ≡ qs
 same_numbers ps qs up also same = are_cuts qs ps up same ∙ sym (are_cuts qs qs also (λ n. (λ h. h, λ h. h)))
 
 ends_within : (p : ℕ → Bool) (ns : List ℕ) (a n low high : ℕ)
@@ -90,7 +88,7 @@ rows_are ns r = ends_within (is_one ns) ns r.y0 (r.y1 + 1 - r.y0) r.y0 r.y1
 -- ---- The points of a column that pass.
 
 -- a point passes where its column and its row do
-abbrev Splits : (ℕ → Bool) → (ℕ → Bool) → (ℕ → Bool) → Type 0
+abbrev pub Splits : (ℕ → Bool) → (ℕ → Bool) → (ℕ → Bool) → Type 0
 Splits q u v = (x y : ℕ) → y < 2 ^ 32 → q (x * 2 ^ 32 + y) ≡ (u x && v y)
 
 rows_pass : (q u v : ℕ → Bool) (x a n : ℕ) → Splits q u v → u x ≡ true → ((y : ℕ) → a ≤ y → y < a + n → y < 2 ^ 32)
@@ -171,7 +169,7 @@ nothing q (x ∷ xs) = nothing q xs
 
 -- ---- Corners.
 
-corner_splits : (all : List Rect) → Splits (is_corner all) (is_one (x_ends all)) (is_one (y_ends all))
+pub corner_splits : (all : List Rect) → Splits (is_corner all) (is_one (x_ends all)) (is_one (y_ends all))
 corner_splits all x y fits =
     let column : (x * 2 ^ 32 + y) / 2 ^ 32 ≡ x = omega (arith, fits) in
     let row : (x * 2 ^ 32 + y) % 2 ^ 32 ≡ y = omega (arith, fits) in

@@ -1,2 +1,4 @@
+mod CornersSoFar
 mod Counted
 mod Grown
+mod Steps

@@ -7,9 +7,11 @@
 //! has. `grid/specs/Corners.antt` says what both count.
 #![tactic(auto)]
 
+mod corner_steps;
 mod corners;
 mod ends;
 mod grid_size;
 
+pub use corner_steps::corner_points;
 pub use corners::corner_count;
 pub use grid_size::GridSize;

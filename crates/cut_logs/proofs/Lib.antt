@@ -1,3 +1,0 @@
-pub mod lemmas
-mod Along
-mod Keeping

@@ -1,5 +1,4 @@
 pub mod Cutting
-pub mod Listed
-pub mod Meant
+pub use Rattle.listed_sets.specs.Listed
+pub use Rattle.listed_sets.specs.Meant
 pub use Rattle.point_laws.specs.Cut
-pub use Rattle.point_set.specs.Least

@@ -10,9 +10,9 @@ ghost use Rattle.log_tables.specs.Mapped.{inst_mapped};
 ghost use Rattle.logs.specs.Listing.{ArePlacesIn};
 ghost use Rattle.point_laws.specs.Cut.{cut};
 ghost use Rattle.cut_logs.specs.Cutting.{IsCutOf};
-ghost use Rattle.cut_logs.specs.Meant.{listed_points};
+ghost use Rattle.listed_sets.specs.Meant.{listed_points};
 
-use crate::listed::Listed;
+use listed_sets::Listed;
 use logs::Log;
 use point_set::PointSet;
 use semantics::{Inst, Item, LogNode, Req};
@@ -28,7 +28,7 @@ pub struct CutLog<'l, 'a, 'p, P: PointSet + Copy> {
 impl<'l, 'a, 'p, P: PointSet + Copy> Model for CutLog<'l, 'a, 'p, P> {
     ghost use Rattle.vocabulary.specs.Prelude.{Tables};
     ghost use Rattle.point_laws.specs.Cut.{cut_to};
-    ghost use Rattle.cut_logs.specs.Listed.{IsAscending, listed_of};
+    ghost use Rattle.listed_sets.specs.Listed.{IsAscending, listed_of};
 
     ghost Value = { Tables };
 

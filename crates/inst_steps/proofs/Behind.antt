@@ -7,7 +7,7 @@ use Rattle.point_set.specs.Least.{IsLeastFrom, IsLeastOf, points_from}
 use Rattle.vocabulary.specs.Prelude.{grid}
 use Rattle.log_laws.proofs.lemmas.Members.{Member, contains_of, member_of}
 use Rattle.log_laws.proofs.lemmas.Apart.{Rise}
-use Rattle.cut_logs.proofs.lemmas.Rising.{rise}
+use Rattle.listed_sets.proofs.lemmas.Rising.{rise}
 use Rattle.inst_steps.specs.Grids.{behind, grid_from}
 
 filter_same : (f g : ℕ → Bool) (xs : List ℕ) → ((q : ℕ) → Member xs q → f q ≡ g q) → filter f xs ≡ filter g xs

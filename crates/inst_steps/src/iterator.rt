@@ -3,7 +3,7 @@
 ghost use Rattle.std.specs.Prelude.{◌≡◌, ◌<◌, ◌∷◌, Some, None, length, IfSome, IfNone};
 ghost use Rattle.std.specs.Iterator.{YieldsFirst, item_count};
 ghost use Rattle.std.specs.List.{AllByRecursion};
-ghost use Rattle.cut_logs.specs.Meant.{listed_points};
+ghost use Rattle.listed_sets.specs.Meant.{listed_points};
 ghost use Rattle.inst_steps.specs.Acting.{IsBy, IsOwn, steps_in};
 ghost use Rattle.inst_steps.specs.Stepping.{AreNumbered, IsSpot, IsAt, at_left, rest_actions, moves_at, spot_here, spot_actions};
 ghost use Rattle.inst_steps.specs.Sweeps.{action_at, passes_of, pass_at, actions_of_pass};
@@ -11,7 +11,8 @@ ghost use Rattle.inst_steps.specs.Sweeps.{action_at, passes_of, pass_at, actions
 use crate::act::Action;
 use crate::spot::{Spot, action_here, first_spot, next_spot};
 use crate::sweep::{sweep_at, sweep_count};
-use cut_logs::{CutLog, Listed};
+use cut_logs::CutLog;
+use listed_sets::Listed;
 use point_set::PointSet;
 use semantics::{Move, Op};
 use std::marker::Model;
@@ -33,7 +34,7 @@ pub struct Actions<'l, 'a, 'p, P: PointSet + Copy> {
 
 impl<'l, 'a, 'p, P: PointSet + Copy> Model for Actions<'l, 'a, 'p, P> {
     ghost use Rattle.std.specs.Prelude.{List};
-    ghost use Rattle.cut_logs.specs.Meant.{listed_points};
+    ghost use Rattle.listed_sets.specs.Meant.{listed_points};
     ghost use Rattle.inst_steps.specs.declared.act.Action.{Action};
     ghost use Rattle.inst_steps.specs.Stepping.{AreNumbered, IsAt, at_left};
 

@@ -1,4 +1,5 @@
 pub mod Ends
+pub mod Sizes
 pub mod SubLines
 pub mod Walk
 pub use Rattle.semantics.specs.Faults

@@ -1,7 +1,10 @@
 -- The rules that are tried record by record, and the two that are left to the forest.
 use Rattle.std.specs.Prelude.{◌≡◌, ℕ, ◌≤◌, Bool, true, false, not, ◌&&◌, List, [], ◌∷◌, ◌++◌, find, length, take, slice_get, Option, Some, None, MatchOption, option_map, if◌then◌else◌}
 use Rattle.log_rules.specs.Counts.{access_total}
-use Rattle.log_rules.specs.Tallied.{IfTally}
+use Rattle.std.specs.Borrow.{Bor}
+use Rattle.grid.specs.Corners.{cell_count}
+use Rattle.log_limits.specs.declared.corners.Corners.{Corners}
+use Rattle.log_rules.specs.Tallied.{AreAtEnd, IfTally, rects_in}
 use Rattle.std.specs.Option.{option_or}
 use Rattle.vocabulary.specs.Prelude.{Code, Record, Lined, records_of, Tables, tables_of, Fault}
 use Rattle.spy_grammar.specs.declared.code.Code.TheVariants as codes
@@ -24,9 +27,18 @@ breaks_other r code = not (is_of_forest code) && breaks r code
 abbrev pub seen : {P : Type 0} → AtRecord P → List Record → InLog
 seen at earlier = record { log = at.whole.now; earlier = earlier; tables = at.draft.now; rec = at.rec.now }
 
--- A fact of that record, after all records whose tally, tables and number these are.
+-- In a log of the second version the cells are those of the grid of the rectangles up to the record.
+abbrev pub AreCellsAt : {P : Type 0} → AtRecord P → Type 0
+AreCellsAt at = rules.is_planar at.draft.now ≡ true → at.cells ≡ cell_count (at.draft.now.rects ++ rects_in at.rec.now)
+
+-- A fact of that record, after the earlier ones, where what is known of these is so.
 abbrev pub IfAt : {P : Type 0} → AtRecord P → (InLog → Type 0) → Type 0
-IfAt at P = IfTally at.draft.now at.tally.now (λ earlier. at.before ≡ length earlier → P (seen at earlier))
+IfAt at P = IfTally at.draft.now at.tally.now
+    (λ earlier. earlier ≡ records_of at.earlier.now → AreCellsAt at → P (seen at earlier))
+
+-- The same where besides it is counted at the end of a log of the second version how many cells begin in each space.
+abbrev pub IfAtEnd : {P : Type 0} → AtRecord P → Option (Bor Corners) → (InLog → Type 0) → Type 0
+IfAtEnd at corners P = AreAtEnd at.draft.now at.rec.now corners → IfAt at P
 
 -- The first of these rules that a record breaks, of its log, the earlier records, and their tables.
 abbrev pub broken_of : List Record → List Record → Tables → Record → Option Code

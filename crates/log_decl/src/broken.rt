@@ -3,20 +3,22 @@
 ghost use Rattle.std.specs.Prelude.{◌≡◌, find, IfOk};
 ghost use Rattle.semantics.specs.Faults.{record_rules};
 ghost use Rattle.log_tables.specs.Views.{Ascends};
-ghost use Rattle.log_decl.specs.Walk.{IfAt, breaks_other};
+ghost use Rattle.log_decl.specs.Walk.{IfAt, IfAtEnd, breaks_other};
 
+use log_limits::Corners;
 use log_rules::{
-    Tally, WholeLog, has_many_accesses, has_many_cells, has_many_points, has_many_reads,
-    has_much_load, has_no_run, has_wrong_fields, interferes_with_own, is_bad_serial, is_late,
-    is_late_sub, is_mapped_again, is_no_root, is_not_covered, is_not_in_tree, is_of_other_version,
-    is_of_wrong_kind, is_of_wrong_tree, is_run_again, is_sub_again, is_too_deep, names_unknown,
-    repeats_event, repeats_id, waits_for_none,
+    Tally, WholeLog, has_many_accesses, has_many_atoms, has_many_cells, has_many_points,
+    has_many_reads, has_much_load, has_no_run, has_wrong_fields, interferes_with_own,
+    is_bad_serial, is_late, is_late_sub, is_mapped_again, is_no_root, is_not_covered,
+    is_not_in_tree, is_of_other_version, is_of_wrong_kind, is_of_wrong_tree, is_run_again,
+    is_sub_again, is_too_deep, names_unknown, repeats_event, repeats_id, waits_for_none,
 };
 use log_tables::Draft;
 use point_set::PointSet;
+use region_tree::{Memory, SetOfRects};
 use spy_grammar::Code::*;
-use spy_grammar::{Code, Record};
-use std::alloc::{AllocError, Global};
+use spy_grammar::{Code, Lined, Record};
+use std::alloc::Global;
 
 /// The rules on single records, in the order in which they are tried.
 #[rattlefmt::skip]
@@ -27,30 +29,34 @@ const RULES: [Code; 28] = [
     TooManyCells, TooManyAccesses, TooMuchLoad, Version, TooManyReads,
 ];
 
-/// A record of a log, with what the rules ask of: the log as a whole, what the earlier records declare and add up to, and how many they are.
+/// A record of a log, with what the rules ask of: the log as a whole, the earlier records, and what these declare and add up to.
 #[derive(Clone, Copy)]
 pub(crate) struct AtRecord<'w, 'l, P: PointSet> {
     pub(crate) whole: &'w WholeLog<'l>,
     pub(crate) draft: &'w Draft<P>,
     pub(crate) tally: &'w Tally,
-    pub(crate) before: usize,
+    /// How many cells the grid of the rectangles up to the record has, where the log is of the second version.
+    pub(crate) cells: u128,
+    pub(crate) earlier: &'w [Lined],
     pub(crate) rec: &'w Record,
 }
 
-/// Whether a record breaks the rule of a code. The rules of the forest are passed over, and the limit on atoms is one of logs of the second version.
+/// Whether a record breaks the rule of a code. The rules of the forest are passed over. At the end of a log of the second version it is counted how many cells begin in each space.
 fn breaks<P: PointSet>(
     alloc: Global,
     at: &AtRecord<'_, '_, P>,
+    corners: Option<&Corners>,
     code: Code,
-) -> Result<bool, AllocError>
+) -> Result<bool, Memory>
     requires { Ascends at.now.rec.now }
-    ensures { IfAt at.now (λ r. IfOk result (λ broken. broken ≡ breaks_other r code)) }
+    ensures { IfAtEnd at.now corners.entry (λ r. IfOk result (λ broken. broken ≡ breaks_other r code)) }
 {
     match code {
-        TooManyRecords => Ok(is_late(at.before, at.rec)),
+        TooManyRecords => Ok(is_late(at.earlier.len(), at.rec)),
         RepeatedId => Ok(repeats_id(at.draft, at.rec)),
         UnknownId => Ok(names_unknown(at.draft, at.rec)),
         TooManyPoints => Ok(has_many_points(at.draft, at.tally, at.rec)),
+        TooManyAtoms => Ok(has_many_atoms(at.draft, at.cells, at.rec)),
         SpaceInTwo => Ok(is_sub_again(at.draft, at.rec)),
         LateSub => Ok(is_late_sub(at.draft, at.rec)),
         TooDeep => Ok(is_too_deep(at.draft, at.rec)),
@@ -66,10 +72,10 @@ fn breaks<P: PointSet>(
         TwoRuns => Ok(is_run_again(at.draft, at.rec)),
         RepeatedEvent => Ok(repeats_event(at.draft, at.rec)),
         UndefinedEvent => Ok(waits_for_none(at.whole, at.rec)),
-        Serial => is_bad_serial(alloc, at.whole, at.draft, at.tally, at.rec),
-        TooManyCells => Ok(has_many_cells(at.draft, at.tally, at.rec)),
-        TooManyAccesses => Ok(has_many_accesses(at.draft, at.tally, at.rec)),
-        TooMuchLoad => has_much_load(alloc, at.draft, at.rec),
+        Serial => Ok(is_bad_serial(alloc, at.whole, at.draft, at.tally, at.rec)?),
+        TooManyCells => Ok(has_many_cells(at.draft, at.tally, corners, at.rec)),
+        TooManyAccesses => Ok(has_many_accesses(at.draft, at.tally, corners, at.earlier, at.rec)),
+        TooMuchLoad => has_much_load(alloc, at.draft, corners, at.rec),
         Version => Ok(is_of_other_version(at.draft, at.rec)),
         TooManyReads => Ok(has_many_reads(at.draft, at.rec)),
         _ => Ok(false),
@@ -77,19 +83,37 @@ fn breaks<P: PointSet>(
 }
 
 /// The first rule that a record breaks, but for those of the forest.
-pub(crate) fn first_broken<P: PointSet>(
+fn first_of<P: PointSet>(
     alloc: Global,
     at: &AtRecord<'_, '_, P>,
-) -> Result<Option<Code>, AllocError>
+    corners: Option<&Corners>,
+) -> Result<Option<Code>, Memory>
     requires { Ascends at.now.rec.now }
-    ensures { IfAt at.now (λ r. IfOk result (λ code. code ≡ find (breaks_other r) record_rules)) }
+    ensures { IfAtEnd at.now corners.entry (λ r. IfOk result (λ code. code ≡ find (breaks_other r) record_rules)) }
 {
     let mut rest = RULES.as_slice();
     while let [code, more @ ..] = rest {
-        if breaks(alloc, at, *code)? {
+        if breaks(alloc, at, corners, *code)? {
             return Ok(Some(*code));
         }
         rest = more;
     }
     Ok(None)
+}
+
+/// The first rule that a record breaks, but for those of the forest. Where it ends a log of the second version, it is counted how many cells begin in each space.
+pub(crate) fn first_broken<P: SetOfRects>(
+    alloc: Global,
+    at: &AtRecord<'_, '_, P>,
+) -> Result<Option<Code>, Memory>
+    requires { Ascends at.now.rec.now }
+    ensures { IfAt at.now (λ r. IfOk result (λ code. code ≡ find (breaks_other r) record_rules)) }
+{
+    match at.rec {
+        Record::End { .. } if at.draft.is_planar() => {
+            let corners = Corners::of(alloc, at.draft)?;
+            first_of(alloc, at, Some(&corners))
+        }
+        _ => first_of(alloc, at, None),
+    }
 }

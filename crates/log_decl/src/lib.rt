@@ -12,6 +12,7 @@ mod declaring;
 mod frame;
 mod records;
 mod regions;
+mod sizes;
 mod walk;
 
 pub use decl_end::DeclEnd;

@@ -8,7 +8,9 @@ ghost use Rattle.vocabulary.specs.Prelude.{records_of, no_tables};
 ghost use Rattle.log_decl.specs.Walk.{StandsAt};
 
 use crate::broken::{AtRecord, first_broken};
+use crate::sizes::{cells_with, is_plane_log};
 use bumpalo::Bump;
+use cell_counts::GridSize;
 use log_rules::{Tally, WholeLog};
 use log_tables::Draft;
 use region_tree::{ArenaRects, Memory};
@@ -39,13 +41,17 @@ pub(crate) fn walk<'a, P: ArenaRects<'a>>(
     requires header { header_fault 0 records.now ≡ None }
     ensures { IfOk result (λ w. StandsAt records.now w.kept draft.new w.code) }
 {
+    let is_plane = is_plane_log(records);
+    let mut size = GridSize::new(alloc);
     let mut kept = 0;
     for l in records {
+        let cells = cells_with(alloc, is_plane, &mut size, &l.rec)?;
         let at = AtRecord {
             whole: &*whole,
             draft: &*draft,
             tally: &tally,
-            before: kept,
+            cells,
+            earlier: &records[..kept],
             rec: &l.rec,
         };
         let code = first_broken(alloc, &at)?;

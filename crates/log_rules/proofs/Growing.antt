@@ -17,7 +17,8 @@ use Rattle.semantics.specs.declared.tables.Serial as serials
 use Rattle.semantics.specs.SerialOrder.{listed}
 use Rattle.semantics.specs.Rules.{size_of, cost_of, cells_of, asked, accesses, points_declared, is_planar, is_end, is_declared, space_id, names, names_unknown, lacks_req, has_many_points, has_many_cells, has_many_accesses}
 use Rattle.log_rules.specs.declared.claims.OwnPlace.{OwnPlace}
-use Rattle.log_rules.specs.Counts.{point_total, cell_total, access_total, points_asked, cells_asked, size_asked, cut}
+use Rattle.log_rules.specs.Counts.{point_total, cell_total, access_total, points_asked, cells_asked, size_asked}
+use Rattle.log_limits.specs.Sums.{cut}
 use Rattle.log_rules.specs.Listing.{ids_listed}
 use Rattle.log_rules.specs.declared.claims.Claims.{Claims}
 use Rattle.log_rules.specs.Own.{Adds, AreClaims, claims_at, claimed, clashes_in, clashes_at, first_clashes_at, req_clashes_at}
@@ -382,3 +383,15 @@ no_points t r is = by (is_planar t) (points_declared r) is
     by true o e = refl
     by false None e = refl
     by false (Some points) e = absurd cc
+
+-- ---- What is judged at the end of a log of the second version.
+
+pub planar_cells : (t : Tables) (n : ℕ) → is_planar t ≡ true → nat_lt 1048576 (0 + cells_of t) ≡ has_many_cells t (End n)
+planar_cells t n planar = let none : 0 + cells_of t ≡ cells_of t = omega arith in ap (nat_lt 1048576) none ∙ rw planar refl
+
+pub planar_accesses : (earlier : List Record) (t : Tables) (r : Record) → is_planar t ≡ true → is_end r ≡ true
+    → nat_lt 4194304 (0 + access_total t earlier) ≡ has_many_accesses earlier t r
+planar_accesses earlier t (End n) planar end =
+    let none : 0 + access_total t earlier ≡ access_total t earlier + 0 = omega arith in
+    ap (nat_lt 4194304) none ∙ rw planar refl
+planar_accesses earlier t _ planar end = absurd (false≢true end)

@@ -8,7 +8,7 @@ use Rattle.std.proofs.lemmas.List.Sums.{sum_by-cons}
 use Rattle.vocabulary.specs.Prelude.{Quad, Req, Tables, may_read, rect_of, plane_points, points_of}
 use Rattle.semantics.specs.Rules.{size_of}
 use Rattle.log_rules.specs.Counts.{reads_of}
-use Rattle.point_set.specs.Rects.{AreRects, rect_at}
+use Rattle.point_set.specs.Rects.{AreRects}
 use Rattle.point_set.proofs.lemmas.Counted.{area, areas, areas_more, counted}
 
 pub cut-both : (a b m : ℕ) → min (a + min b m) m ≡ min (a + b) m

@@ -1,18 +1,23 @@
 -- How counts of places tell the load of a log.
-use Rattle.std.proofs.Common.{◌≡◌, ℕ, suc, ◌+◌, ◌<◌, ◌==◌, Bool, true, false, ◌&&◌, ◌||◌, cond, List, [], ◌∷◌, map, take, length, get_or, Option, Some, unwrap_or, refl, sym, ap, ◌∙◌, zero-add, inl, inr, arith, sum_by}
+use Rattle.std.proofs.Common.{◌≡◌, ℕ, suc, ◌+◌, ◌<◌, ◌==◌, Bool, true, false, ◌&&◌, ◌||◌, cond, List, [], ◌∷◌, map, take, length, get_or, Option, Some, None, unwrap_or, filter, refl, sym, ap, ◌∙◌, subst, zero-add, inl, inr, arith, sum_by}
 use Rattle.std.specs.List.{AllPairs}
 use Rattle.std.specs.List.Sorted.{IsStrictlyIncreasing}
-use Rattle.std.proofs.lemmas.Bool.{cases_Bool, eqb-true, false_from_ne_true, true≢false}
+use Rattle.std.proofs.lemmas.Bool.{and_parts, cases_Bool, eqb-true, false_from_ne_true, true≢false}
 use Rattle.std.proofs.lemmas.List.{get_or-take, length-take}
 use Rattle.std.proofs.lemmas.List.Sums.{sum_by-append, sum_by-cons}
 use Rattle.std.proofs.lemmas.List.Filters.{length-filter_more}
 use Rattle.std.proofs.lemmas.List.Folds.{list_any_more}
-use Rattle.std.proofs.lemmas.List.Kept.{AllPairs-from_increasing}
+use Rattle.std.proofs.lemmas.List.Kept.{AllPairs-from_increasing, IsStrictlyIncreasing-filter}
 use Rattle.std.proofs.lemmas.Grind.{get_or_default_zero}
-use Rattle.vocabulary.specs.Prelude.{Place, Req, Inst, Tables, is_in, points_in, same_place, covers, grid}
-use Rattle.semantics.specs.Rules.{load_of, is_planar, reduces}
-use Rattle.log_rules.specs.Counts.{cut}
-use Rattle.log_rules.specs.Loads.{one, is_held, load_at, row_load, inst_load}
+use Rattle.vocabulary.specs.Prelude.{Place, Record, Req, Inst, Tables, is_in, points_in, same_place, covers, grid}
+use Rattle.std.specs.Borrow.{Bor}
+use Rattle.grid.specs.Corners.{corners_in, is_corner}
+use Rattle.semantics.specs.Rules.{is_end, load_of, is_planar, points_counted, reduces}
+use Rattle.log_limits.specs.declared.corners.Corners.{Corners}
+use Rattle.log_limits.specs.Corners.{corners_of}
+use Rattle.log_limits.specs.Sums.{cut}
+use Rattle.log_rules.specs.Loads.{CountsBy, one, counts_at, is_held, load_at, row_load, inst_load}
+use Rattle.log_rules.specs.Tallied.{AreAtEnd}
 use Rattle.semantics.proofs.lemmas.SamePlaces.{same_place-true}
 use Rattle.log_tables.proofs.lemmas.Members.{Decides-is_in}
 
@@ -95,9 +100,9 @@ load-point mid new goal tree p rest fields k up before after =
 
 pub load-req : (t : Tables) (k : Place) (reqs : List Req) (i : ℕ) (d : Req) (mid new : ℕ) → i < length reqs
     → cut mid ≡ cut (load_at t k (take i reqs)) → cut new
-    ≡ cut (mid + one (reduces (get_or reqs i d).access && covers t k (get_or reqs i d))) → cut new ≡ cut (load_at t k (take (i + 1) reqs))
+    ≡ cut (mid + one (reduces (get_or reqs i d).access && counts_at t k (get_or reqs i d))) → cut new ≡ cut (load_at t k (take (i + 1) reqs))
 load-req t k reqs i d mid new lt before after =
-    let more = length-filter_more (λ (r : Req). reduces r.access && covers t k r) reqs i d lt in
+    let more = length-filter_more (λ (r : Req). reduces r.access && counts_at t k r) reqs i d lt in
     omega (arith, before, after, more)
 
 -- ---- Sums.
@@ -123,17 +128,96 @@ sum-grid g (x ∷ xs) fields =
     let all = sum_by-cons (λ x. sum_by (λ f. g (x, f)) fields) x xs in
     omega (arith, split, head, tail, all)
 
--- The load of an instance where all points are counted.
-abbrev flat_load : Tables → Inst → ℕ
-flat_load t i = sum_by (λ (p : ℕ × ℕ). load_at t (record { tree = i.tree; point = p.0; field = p.1 }) t.reqs)
-    (grid (points_in t i.space) i.fields)
+-- ---- Points that are counted.
 
-pub loads-told : (t : Tables) (count : Place → ℕ) (insts : List Inst) → is_planar t ≡ false → ((k : Place) → cut (count k) ≡ cut (load_at t k t.reqs))
+-- A point is counted, in a log of the second version where a cell begins at it.
+abbrev Counts : Tables → ℕ → Type 0
+Counts t p = is_planar t ≡ true → is_corner t.rects p ≡ true
+
+in_filter : (q : ℕ → Bool) (ps : List ℕ) (p : ℕ) → q p ≡ true → is_in (filter q ps) p ≡ is_in ps p
+in_filter q [] p passes = refl
+in_filter q (x ∷ ps) p passes =
+    let rest = in_filter q ps p passes in
+    elim (cases_Bool (q x)) [
+      | inl stays ↦ rw (stays, rest) refl
+      | inr goes ↦
+          let other : (x == p) ≡ false = false_from_ne_true (x == p) (λ e. true≢false (sym (subst (λ y. q y ≡ true) (sym (eqb-true x p e)) passes) ∙ goes)) in
+          rw (goes, other, rest) refl
+    ]
+
+in_counted : (t : Tables) (space p : ℕ) → Counts t p → is_in (points_counted t space) p ≡ is_in (points_in t space) p
+in_counted t space p counts = elim (cases_Bool (is_planar t)) [
+  | inl planar ↦ rw planar (in_filter (is_corner t.rects) (points_in t space) p (counts planar))
+  | inr flat ↦ rw flat refl
+]
+
+count_same : {A : Type 0} (f g : A → Bool) (xs : List A) → ((x : A) → f x ≡ g x) → length (filter f xs) ≡ length (filter g xs)
+count_same f g [] same = refl
+count_same f g (x ∷ xs) same = elim (cases_Bool (g x)) [
+  | inl passes ↦ rw (same x, passes) (ap suc (count_same f g xs same))
+  | inr fails ↦ rw (same x, fails) (count_same f g xs same)
+]
+
+-- How many requirements reduce at a place.
+abbrev exact : Tables → Place → ℕ
+exact t k = length (filter (λ (r : Req). reduces r.access && covers t k r) t.reqs)
+
+at_counted : (t : Tables) (k : Place) → Counts t k.point → load_at t k t.reqs ≡ exact t k
+at_counted t k counts = count_same (λ (r : Req). reduces r.access && counts_at t k r) (λ (r : Req). reduces r.access && covers t k r) t.reqs
+    (λ r. ap (λ b. reduces r.access && ((r.tree == k.tree) && (b && is_in r.fields k.field))) (in_counted t r.space k.point counts))
+
+cut_filtered : (q : ℕ → Bool) (f g : ℕ → ℕ) (ps : List ℕ) → ((p : ℕ) → q p ≡ true → cut (f p) ≡ cut (g p))
+    → cut (sum_by f (filter q ps)) ≡ cut (sum_by g (filter q ps))
+cut_filtered q f g [] same = refl
+cut_filtered q f g (p ∷ ps) same = elim (cases_Bool (q p)) [
+  | inl stays ↦
+      let head = same p stays in
+      let tail = cut_filtered q f g ps same in
+      rw stays (omega (arith, head, tail, sum_by-cons f p (filter q ps), sum_by-cons g p (filter q ps)))
+  | inr goes ↦ rw goes (cut_filtered q f g ps same)
+]
+
+cut_counted : (t : Tables) (space : ℕ) (f g : ℕ → ℕ) → ((p : ℕ) → Counts t p → cut (f p) ≡ cut (g p))
+    → cut (sum_by f (points_counted t space)) ≡ cut (sum_by g (points_counted t space))
+cut_counted t space f g same = elim (cases_Bool (is_planar t)) [
+  | inl planar ↦ rw planar (cut_filtered (is_corner t.rects) f g (points_in t space) (λ p begins. same p (λ _. begins)))
+  | inr flat ↦ rw flat (cut-sum f g (points_in t space) (λ p. same p (λ planar. absurd (true≢false (sym planar ∙ flat)))))
+]
+
+pub loads-told : (t : Tables) (count : Place → ℕ) (insts : List Inst) → ((k : Place) → cut (count k) ≡ cut (load_at t k t.reqs))
     → cut (sum_by (inst_load count t) insts) ≡ cut (sum_by (load_of t) insts)
-loads-told t count insts flat are = rw flat (
-    cut-sum (inst_load count t) (flat_load t) insts (λ (i : Inst).
-    let exact = λ (k : Place). load_at t k t.reqs in
-    cut-sum (row_load count i.tree i.fields) (row_load exact i.tree i.fields) (points_in t i.space) (λ x.
+loads-told t count insts are =
+    cut-sum (inst_load count t) (load_of t) insts (λ (i : Inst).
+    cut_counted t i.space (row_load count i.tree i.fields) (row_load (exact t) i.tree i.fields) (λ x counts.
     cut-sum (λ f. count (record { tree = i.tree; point = x; field = f }))
-    (λ f. exact (record { tree = i.tree; point = x; field = f })) i.fields (λ f. are (record { tree = i.tree; point = x; field = f })))
-    ∙ ap cut (sym (sum-grid (λ p. exact (record { tree = i.tree; point = p.0; field = p.1 })) (points_in t i.space) i.fields))))
+    (λ f. exact t (record { tree = i.tree; point = x; field = f })) i.fields
+    (λ f. are (record { tree = i.tree; point = x; field = f }) ∙ ap cut (at_counted t (record { tree = i.tree; point = x; field = f }) counts)))
+    ∙ ap cut (sym (sum-grid (λ p. exact t (record { tree = i.tree; point = p.0; field = p.1 })) (points_counted t i.space) i.fields)))
+
+-- What the points that are counted are, by where cells begin.
+pub corners_told : (t : Tables) (cs : Option (Bor Corners)) (c : Bor Corners) (space : ℕ) (points have : List ℕ) → cs ≡ Some c → CountsBy t cs
+    → have ≡ points_in t space → ((u : Tables) → c.now ≡ corners_of u → points ≡ corners_in u.rects have) → points ≡ points_counted t space
+corners_told t cs c space points have is by same told =
+    let here = subst (CountsBy t) is by in
+    told t here.1 ∙ ap (corners_in t.rects) same ∙ rw here.0 refl
+
+pub corners_ascend : (t : Tables) (cs : Option (Bor Corners)) (c : Bor Corners) (points have : List ℕ) → cs ≡ Some c → CountsBy t cs
+    → IsStrictlyIncreasing have → ((u : Tables) → c.now ≡ corners_of u → points ≡ corners_in u.rects have) → IsStrictlyIncreasing points
+corners_ascend t cs c points have is by up told =
+    let here = subst (CountsBy t) is by in
+    subst IsStrictlyIncreasing (sym (told t here.1)) (IsStrictlyIncreasing-filter (is_corner t.rects) have up)
+
+pub all_told : (t : Tables) (cs : Option (Bor Corners)) (space : ℕ) (have : List ℕ) → cs ≡ None → CountsBy t cs → have ≡ points_in t space
+    → have ≡ points_counted t space
+all_told t cs space have is by same =
+    let here : is_planar t ≡ false = subst (CountsBy t) is by in
+    same ∙ rw here refl
+
+-- At the end of a log the points are counted as its version says.
+pub counts_at_end : (t : Tables) (r : Record) (cs : Option (Bor Corners)) → is_end r ≡ true → AreAtEnd t r cs → CountsBy t cs
+counts_at_end t r None last at = not_planar (is_planar t) (subst (λ b. (is_planar t && b) ≡ false) last at)
+  where
+    not_planar : (b : Bool) → (b && true) ≡ false → b ≡ false
+    not_planar true e = e
+    not_planar false e = refl
+counts_at_end t r (Some c) last at = ((and_parts (is_planar t) (is_end r) at.0).0, at.1)

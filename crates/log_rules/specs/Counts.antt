@@ -1,7 +1,6 @@
 -- What the limits on a log count.
-use Rattle.std.specs.Prelude.{◌≡◌, ℕ, ◌-◌, ◌^◌, min, List, length, Option, sum_by, if◌then◌else◌}
-use Rattle.std.specs.Borrow.{Bor}
-use Rattle.std.specs.Option.{option_map, option_map_or}
+use Rattle.std.specs.Prelude.{ℕ, List, length, sum_by, if◌then◌else◌}
+use Rattle.std.specs.Option.{option_map_or}
 use Rattle.vocabulary.specs.Prelude.{Record, Tables, Space}
 use Rattle.spy_grammar.specs.declared.record.Record.TheVariants.{Inst}
 use Rattle.privilege.specs.Allowed.{may_read}
@@ -37,11 +36,3 @@ size_asked t r = option_map_or (λ (p : ℕ × List ℕ). size_of t p.0 p.1) (as
 -- The reads that a requirement asks for.
 abbrev pub reads_of : Tables → reqs.Req → ℕ
 reads_of t r = if may_read r.access then size_of t r.space r.fields else 0
-
--- The code's answer is this one.
-abbrev pub Asks : Option (ℕ × Bor (List ℕ)) → Option (ℕ × List ℕ) → Type 0
-Asks found is = option_map (λ (p : ℕ × Bor (List ℕ)). (p.0, p.1.now)) found ≡ is
-
--- A number, cut to what 128 bits hold.
-abbrev pub cut : ℕ → ℕ
-cut n = min n (2 ^ 128 - 1)

@@ -1,15 +1,18 @@
 -- What is kept count of along a log.
-use Rattle.std.specs.Prelude.{◌≡◌, ◌≤◌, ℕ, nat_eq, Bool, true, false, List}
+use Rattle.std.specs.Prelude.{◌≡◌, ◌≤◌, ◌&&◌, ℕ, nat_eq, Bool, true, false, List, [], Option, MatchOption, unwrap_or}
+use Rattle.std.specs.Borrow.{Bor}
 use Rattle.std.specs.HashSet.{contains}
 use Rattle.std.specs.List.{list_all}
 use Rattle.std.specs.Option.{option_map_or}
-use Rattle.vocabulary.specs.Prelude.{Record, Tables, with_record}
+use Rattle.vocabulary.specs.Prelude.{Record, Rect, Tables, with_record}
 use Rattle.semantics.specs.declared.tables.Req as reqs
 use Rattle.semantics.specs.declared.tables.Inst as insts
 use Rattle.semantics.specs.declared.limits.TheConstants.{MOST_ACCESSES}
 use Rattle.semantics.specs.SerialOrder.{listed}
-use Rattle.semantics.specs.Rules.{asked, is_declared, space_id, names_unknown, is_planar, has_many_points, has_many_cells, has_many_accesses}
+use Rattle.semantics.specs.Rules.{asked, is_declared, space_id, names_unknown, is_end, is_planar, rects_declared, has_many_points, has_many_cells, has_many_accesses}
 use Rattle.log_rules.specs.Counts.{point_total, cell_total, access_total}
+use Rattle.log_limits.specs.declared.corners.Corners.{Corners}
+use Rattle.log_limits.specs.Corners.{corners_of}
 use Rattle.log_rules.specs.Listing.{IsSetOf}
 use Rattle.log_rules.specs.Own.{AreClaims}
 use Rattle.log_rules.specs.declared.tally.Tally.{Tally}
@@ -24,25 +27,37 @@ pub record AreKnown (earlier : List Record) (t : Tables) : Type 0 where
   pub insts : list_all (λ (i : insts.Inst). is_declared t (space_id i.space)) t.insts ≡ true
   pub accesses : list_all (knows_space t) earlier ≡ true
 
--- The tally is that of these records of a log of the first version, whose tables these are, and they keep the limit on accesses.
-pub record IsTally (earlier : List Record) (t : Tables) (tally : Tally) : Type 0 where
-  pub version : is_planar t ≡ false
+-- What is counted along a log of the first version: the points, cells and accesses of these records, which keep the limit on the last, and the places that requirements claim.
+pub record AreCounts (earlier : List Record) (t : Tables) (tally : Tally) : Type 0 where
   pub points : tally.points ≡ point_total t
   pub cells : tally.cells ≡ cell_total t
   pub accesses : tally.accesses ≡ access_total t earlier
-  pub lists : IsSetOf (listed t) (contains nat_eq tally.listed)
   pub claims : AreClaims t tally.claims
-  pub known : AreKnown earlier t
   pub within : access_total t earlier ≤ MOST_ACCESSES
+
+-- The tally is that of these records, whose tables these are.
+pub record IsTally (earlier : List Record) (t : Tables) (tally : Tally) : Type 0 where
+  pub counts : is_planar t ≡ false → AreCounts earlier t tally
+  pub lists : IsSetOf (listed t) (contains nat_eq tally.listed)
+  pub known : AreKnown earlier t
 
 -- A fact of all earlier records whose tally and tables these are.
 abbrev pub IfTally : Tables → Tally → (List Record → Type 0) → Type 0
 IfTally t tally P = (earlier : List Record) → IsTally earlier t tally → P earlier
 
--- The record keeps the rules on names and the limits, and makes the log none of the second version, so that it may be counted.
+-- The record keeps the rules on names and the limits, and leaves the version of the log as it is, so that it may be counted.
 pub record MayCount (earlier : List Record) (t : Tables) (r : Record) : Type 0 where
-  pub version : (line : ℕ) → is_planar (with_record t line r) ≡ false
+  pub version : (line : ℕ) → is_planar (with_record t line r) ≡ false → is_planar t ≡ false
   pub known : names_unknown t r ≡ false
   pub points : has_many_points t r ≡ false
   pub cells : has_many_cells t r ≡ false
   pub accesses : has_many_accesses earlier t r ≡ false
+
+-- How many cells begin in each space is counted at the end of a log of the second version, and not before.
+abbrev pub AreAtEnd : Tables → Record → Option (Bor Corners) → Type 0
+AreAtEnd t r corners = MatchOption corners ((is_planar t && is_end r) ≡ false)
+    (λ (c : Bor Corners). ((is_planar t && is_end r) ≡ true) × (c.now ≡ corners_of t))
+
+-- The rectangles of the space that a record declares, if it declares one.
+abbrev pub rects_in : Record → List Rect
+rects_in r = unwrap_or (rects_declared r) []

@@ -4,9 +4,11 @@ ghost use Rattle.std.specs.Prelude.{◌≡◌, ◌+◌, ◌-◌, ◌*◌, ◌<�
 ghost use Rattle.point_set.specs.Rects.{AreRects};
 ghost use Rattle.log_tables.specs.Views.{Ascends};
 ghost use Rattle.vocabulary.specs.Prelude.{plane_points, points_of, rect_of};
-ghost use Rattle.semantics.specs.Rules.{is_late, size_of, asked, has_many_reads, read_count};
-ghost use Rattle.log_rules.specs.Counts.{cut, points_asked, cells_asked, reads_of, size_asked, Asks};
+ghost use Rattle.semantics.specs.Rules.{is_late, size_of, has_many_reads, read_count};
+ghost use Rattle.log_limits.specs.Sums.{cut};
+ghost use Rattle.log_rules.specs.Counts.{points_asked, cells_asked, reads_of, size_asked};
 
+use log_limits::{asked, exceeds, raised};
 use log_tables::Draft;
 use point_set::PointSet;
 use privilege::Priv;
@@ -21,21 +23,6 @@ pub fn is_late(before: usize, rec: &Record) -> bool
         Record::End { .. } => false,
         _ => before > MOST_RECORDS,
     }
-}
-
-/// Whether a sum is above a limit.
-pub(crate) fn exceeds(before: u128, more: u128, limit: u128) -> bool
-    ensures { (n : ℕ) → more ≡ cut n → limit < 2 ^ 128 - 1 → result ≡ nat_lt limit (before + n) }
-{
-    raised(before, more) > limit
-}
-
-/// A sum with something more, as far as it fits.
-pub(crate) fn raised(sum: u128, more: u128) -> u128
-    ensures sum { result ≡ cut (sum + more) }
-    ensures fits { sum < 2 ^ 128 }
-{
-    sum.saturating_add(more)
 }
 
 /// How many points lie from one to another.
@@ -106,21 +93,6 @@ pub(crate) fn cells_asked<P: PointSet>(draft: &Draft<P>, rec: &Record) -> u128
     match rec {
         Record::Inst { space, fields, .. } => size_of(draft, *space, fields),
         _ => 0,
-    }
-}
-
-/// The space and the fields whose accesses a record asks for.
-fn asked(rec: &Record) -> Option<(u32, &Nums)>
-    ensures { Asks result (asked rec.now) }
-{
-    match rec {
-        Record::Req { space, fields, .. }
-        | Record::Fill { space, fields, .. }
-        | Record::Copy { space, fields, .. }
-        | Record::Put { space, fields, .. }
-        | Record::Reset { space, fields, .. }
-        | Record::Fold { space, fields, .. } => Some((*space, fields)),
-        _ => None,
     }
 }
 

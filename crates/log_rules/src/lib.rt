@@ -31,5 +31,5 @@ pub use serial::is_bad_serial;
 pub use spaces::{
     is_in_tree, is_late_sub, is_no_root, is_of_other_version, is_sub_again, is_too_deep,
 };
-pub use tally::{Tally, has_many_accesses, has_many_cells, has_many_points};
+pub use tally::{Tally, has_many_accesses, has_many_atoms, has_many_cells, has_many_points};
 pub use whole_log::{WholeLog, has_no_run, waits_for_none};

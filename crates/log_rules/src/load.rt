@@ -1,20 +1,29 @@
 //! The load of a log: for each cell of each instance, the requirements that reduce at the place of the cell.
 
-ghost use Rattle.std.specs.Prelude.{◌≡◌, ◌&&◌, [], ◌∷◌, false, map, IfOk, OnOk, sum_by};
+ghost use Rattle.std.specs.Prelude.{◌≡◌, ◌&&◌, [], ◌∷◌, map, IfOk, OnOk, sum_by};
 ghost use Rattle.std.specs.List.Sorted.{IsStrictlyIncreasing};
-ghost use Rattle.vocabulary.specs.Prelude.{Place, points_in, same_place, covers};
-ghost use Rattle.semantics.specs.Rules.{has_much_load, is_planar, reduces};
-ghost use Rattle.log_rules.specs.Counts.{cut};
-ghost use Rattle.log_rules.specs.Loads.{AreLoads, CountsAt, load_in, is_held, row_load, grid_load, inst_load};
+ghost use Rattle.vocabulary.specs.Prelude.{Place, same_place};
+ghost use Rattle.semantics.specs.Rules.{has_much_load, points_counted, reduces};
+ghost use Rattle.log_limits.specs.Sums.{cut};
+ghost use Rattle.log_rules.specs.Loads.{AreLoads, CountsAt, CountsBy, counts_at, load_in, is_held, row_load, grid_load, inst_load};
+ghost use Rattle.log_rules.specs.Tallied.{AreAtEnd};
 
-use crate::counts::{exceeds, raised};
+use log_limits::{Corners, exceeds, raised};
 use log_tables::Draft;
-use point_set::{PointSet, points_in};
+use memory::Memory;
+use point_set::{PointList, PointSet, points_in};
 use privilege::Priv;
 use semantics::{Inst, MOST_LOAD, Place, Req};
 use spy_grammar::Record;
 use std::alloc::{AllocError, Global};
 use std::collections::HashMap;
+
+/// What a log declares, and, where it is of the second version, at which points cells of its grid begin: these alone are counted then.
+#[derive(Clone, Copy)]
+struct Counted<'w, P: PointSet> {
+    draft: &'w Draft<P>,
+    corners: Option<&'w Corners>,
+}
 
 /// How many requirements reduce at each place.
 #[derive(Drop)]
@@ -88,44 +97,70 @@ impl Loads {
         Ok(())
     }
 
-    /// One requirement more at the fields of a space.
-    fn add_space<P: PointSet>(
-        &mut self,
-        draft: &Draft<P>,
-        tree: u32,
-        space: u32,
-        fields: &[u32],
-    ) -> Result<(), AllocError>
+    /// One requirement more at these points, which ascend, and fields.
+    fn add_listed(&mut self, tree: u32, points: &[u64], fields: &[u32]) -> Result<(), AllocError>
         requires { IsStrictlyIncreasing fields.now }
-        ensures { OnOk result (CountsAt self.old self.new
-            (is_held tree (points_in draft.now space) fields.now)) }
+        ensures { OnOk result (IsStrictlyIncreasing points.now
+            → CountsAt self.old self.new (is_held tree points.now fields.now)) }
     {
-        match draft.set(space) {
-            Some(set) => self.add_all(tree, set, fields),
+        match PointList::over(points) {
+            Some(list) => self.add_all(tree, &list, fields),
             None => Ok(()),
         }
     }
 
+    /// One requirement more at the points of a space that are counted, and these fields.
+    fn add_space<P: PointSet>(
+        &mut self,
+        alloc: Global,
+        log: &Counted<'_, P>,
+        tree: u32,
+        space: u32,
+        fields: &[u32],
+    ) -> Result<(), Memory>
+        requires { IsStrictlyIncreasing fields.now }
+        ensures { OnOk result (CountsBy log.now.draft.now log.now.corners
+            → CountsAt self.old self.new (is_held tree (points_counted log.now.draft.now space) fields.now)) }
+    {
+        let Some(set) = log.draft.set(space) else {
+            return Ok(());
+        };
+        match log.corners {
+            Some(corners) => {
+                let points = corners.points_in(alloc, set)?;
+                self.add_listed(tree, points.as_slice(), fields)?;
+            }
+            None => self.add_all(tree, set, fields)?,
+        }
+        Ok(())
+    }
+
     /// One requirement more, if it reduces.
-    fn add_req<P: PointSet>(&mut self, draft: &Draft<P>, req: &Req) -> Result<(), AllocError>
+    fn add_req<P: PointSet>(
+        &mut self,
+        alloc: Global,
+        log: &Counted<'_, P>,
+        req: &Req,
+    ) -> Result<(), Memory>
         requires { IsStrictlyIncreasing req.now.fields }
-        ensures { OnOk result (CountsAt self.old self.new (λ k.
-            reduces req.now.access && covers draft.now k req.now)) }
+        ensures { OnOk result (CountsBy log.now.draft.now log.now.corners
+            → CountsAt self.old self.new (λ k. reduces req.now.access && counts_at log.now.draft.now k req.now)) }
     {
         if reduces(req.access) {
-            self.add_space(draft, req.tree, req.space, req.fields.as_slice())
+            self.add_space(alloc, log, req.tree, req.space, req.fields.as_slice())
         } else {
             Ok(())
         }
     }
 
-    /// How many requirements of a log reduce at each place.
-    fn of<P: PointSet>(alloc: Global, draft: &Draft<P>) -> Result<Loads, AllocError>
-        ensures { IfOk result (λ loads. AreLoads draft.now loads draft.now.reqs) }
+    /// How many requirements of a log reduce at each place whose point is counted.
+    fn of<P: PointSet>(alloc: Global, log: &Counted<'_, P>) -> Result<Loads, Memory>
+        ensures { IfOk result (λ loads. CountsBy log.now.draft.now log.now.corners
+            → AreLoads log.now.draft.now loads log.now.draft.now.reqs) }
     {
         let mut loads = Loads::new(alloc);
-        for req in draft.reqs() {
-            loads.add_req(draft, req)?;
+        for req in log.draft.reqs() {
+            loads.add_req(alloc, log, req)?;
         }
         Ok(loads)
     }
@@ -157,40 +192,66 @@ impl Loads {
         load
     }
 
-    /// The load of an instance.
-    fn of_inst<P: PointSet>(&self, draft: &Draft<P>, inst: &Inst) -> u128
-        ensures { result ≡ cut (inst_load (load_in self.now) draft.now inst.now) }
+    /// The load at these points, which ascend, and fields.
+    fn at_listed(&self, tree: u32, points: &[u64], fields: &[u32]) -> u128
+        ensures { IsStrictlyIncreasing points.now → result ≡ cut (grid_load (load_in self.now) tree fields.now points.now) }
     {
-        match draft.set(inst.space) {
-            Some(set) => self.at_all(inst.tree, set, inst.fields.as_slice()),
+        match PointList::over(points) {
+            Some(list) => self.at_all(tree, &list, fields),
             None => 0,
         }
     }
 
-    /// The load of some instances.
-    fn of_insts<P: PointSet>(&self, draft: &Draft<P>, insts: &[Inst]) -> u128
-        ensures { result ≡ cut (sum_by (inst_load (load_in self.now) draft.now) insts.now) }
+    /// The load of an instance, at the points that are counted.
+    fn of_inst<P: PointSet>(
+        &self,
+        alloc: Global,
+        log: &Counted<'_, P>,
+        inst: &Inst,
+    ) -> Result<u128, Memory>
+        ensures { IfOk result (λ load. CountsBy log.now.draft.now log.now.corners
+            → load ≡ cut (inst_load (load_in self.now) log.now.draft.now inst.now)) }
+    {
+        let Some(set) = log.draft.set(inst.space) else {
+            return Ok(0);
+        };
+        match log.corners {
+            Some(corners) => {
+                let points = corners.points_in(alloc, set)?;
+                Ok(self.at_listed(inst.tree, points.as_slice(), inst.fields.as_slice()))
+            }
+            None => Ok(self.at_all(inst.tree, set, inst.fields.as_slice())),
+        }
+    }
+
+    /// The load of all instances.
+    fn of_insts<P: PointSet>(&self, alloc: Global, log: &Counted<'_, P>) -> Result<u128, Memory>
+        ensures { IfOk result (λ load. CountsBy log.now.draft.now log.now.corners
+            → load ≡ cut (sum_by (inst_load (load_in self.now) log.now.draft.now) log.now.draft.now.insts)) }
     {
         let mut load = 0u128;
-        for inst in insts {
-            load = raised(load, self.of_inst(draft, inst));
+        for inst in log.draft.insts() {
+            load = raised(load, self.of_inst(alloc, log, inst)?);
         }
-        load
+        Ok(load)
     }
 }
 
-/// Whether a record ends a log of the first version whose instances have too much load together.
+/// Whether a record ends a log whose instances have too much load together.
 pub fn has_much_load<P: PointSet>(
     alloc: Global,
     draft: &Draft<P>,
+    corners: Option<&Corners>,
     rec: &Record,
-) -> Result<bool, AllocError>
-    ensures { IfOk result (λ much. is_planar draft.now ≡ false → much ≡ has_much_load draft.now rec.now) }
+) -> Result<bool, Memory>
+    ensures { IfOk result (λ much. AreAtEnd draft.now rec.now corners.entry
+        → much ≡ has_much_load draft.now rec.now) }
 {
     match rec {
         Record::End { .. } => {
-            let loads = Loads::of(alloc, draft)?;
-            let load = loads.of_insts(draft, draft.insts());
+            let log = Counted { draft, corners };
+            let loads = Loads::of(alloc, &log)?;
+            let load = loads.of_insts(alloc, &log)?;
             Ok(exceeds(0, load, MOST_LOAD))
         }
         _ => Ok(false),

@@ -1,6 +1,6 @@
 //! Requirements of one task that share a place.
 
-ghost use Rattle.std.specs.Prelude.{◌≡◌};
+ghost use Rattle.std.specs.Prelude.{◌≡◌, false};
 ghost use Rattle.std.specs.List.{list_any};
 ghost use Rattle.std.specs.List.Sorted.{IsStrictlyIncreasing};
 ghost use Rattle.vocabulary.specs.Prelude.{agree, Record, points_in, meets};
@@ -11,7 +11,7 @@ ghost use Rattle.log_rules.specs.Tallied.{IfTally};
 
 use crate::claims::Claims;
 use crate::fields::meets;
-use crate::tally::{Tally, has_many_accesses};
+use crate::tally::{Tally, claims_many};
 use log_tables::{Draft, priv_of};
 use point_set::PointSet;
 use privilege::{Priv, agree};
@@ -117,7 +117,7 @@ fn clashes_own<P: PointSet>(
     asked: &Asked<'_>,
 ) -> bool
     requires { IsStrictlyIncreasing asked.now.fields.now }
-    ensures { AreClaims draft.now claims.now
+    ensures { (has_many ≡ false → AreClaims draft.now claims.now)
         → result ≡ clashes_asked draft.now asked.now }
 {
     if draft.req_count(asked.item) == 0 {
@@ -131,7 +131,7 @@ fn clashes_own<P: PointSet>(
 
 /// Whether a record is a requirement that shares a place with an earlier one of its task, where the two privileges do not agree.
 ///
-/// It is held against the first of its task, and against the places that the others claim, of which the accesses bound how many there are. A requirement that asks for too many accesses is held against each earlier one instead.
+/// It is held against the first of its task, and against the places that the others claim, of which the accesses bound how many there are. A requirement that asks for too many accesses, and each of a log of the second version, is held against each earlier one instead.
 pub fn interferes_with_own<P: PointSet>(draft: &Draft<P>, tally: &Tally, rec: &Record) -> bool
     requires { Ascends rec.now }
     ensures { IfTally draft.now tally.now (λ earlier. result ≡ interferes_with_own draft.now rec.now) }
@@ -147,7 +147,7 @@ pub fn interferes_with_own<P: PointSet>(draft: &Draft<P>, tally: &Tally, rec: &R
         } => clashes_own(
             draft,
             &tally.claims,
-            has_many_accesses(draft, tally, rec),
+            claims_many(draft, tally, rec),
             &Asked {
                 item: draft.place(*task),
                 tree: *tree,

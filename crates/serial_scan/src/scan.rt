@@ -9,8 +9,8 @@ ghost use Rattle.serial_scan.specs.Scanned.{AreClearBefore, IsAtFirst, NoneTurne
 
 use crate::claims::{Claim, claims_of};
 use atoms::Atoms;
-use cut_logs::Listed;
 use earliest_uses::EarliestUses;
+use listed_sets::Listed;
 use logs::Log;
 use memory::Memory;
 use point_set::PointSet;

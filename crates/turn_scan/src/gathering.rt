@@ -9,8 +9,8 @@ ghost use Rattle.order_laws.specs.Visited.{access_of};
 ghost use Rattle.turn_scan.specs.Gathered.{Adds, AreDoneBy, AreFirstTouches, IsDoneBy, touch_at, touches_over};
 
 use cell_races::{Access, Touch, sort_touches};
-use cut_logs::Listed;
 use item_uses::is_task_at;
+use listed_sets::Listed;
 use logs::Log;
 use point_set::{PointSet, points_in};
 use privilege::Priv;

@@ -2,8 +2,9 @@
 
 use crate::framed_logs::log_of;
 use bumpalo::Bump;
-use cut_logs::{CutLog, Listed};
+use cut_logs::CutLog;
 use inst_steps::{Store, actions_of, steps_of};
+use listed_sets::Listed;
 use point_set::{PointList, PointSet, RunSet, points_in};
 use semantics::Cell;
 use std::alloc::Global;

@@ -1,7 +1,7 @@
-//! How many cells grids have, and how many of them begin in a set, against counts of one cell and one point after the other.
+//! How many cells grids have, and which of them begin in a set, against counts and lists of one cell and one point after the other.
 
-use crate::planes::plane;
-use cell_counts::{GridSize, corner_count};
+use crate::planes::{plane, rect};
+use cell_counts::{GridSize, corner_count, corner_points};
 use grid::Grid;
 use point_set::{PointSet, Rect, RectSet, column_and_row, points_in};
 use std::alloc::{AllocError, Global};
@@ -41,15 +41,15 @@ fn is_corner(grid: &Grid, p: u64) -> bool {
     }
 }
 
-/// How many points of a set begin cells, point by point.
-fn corners_of(grid: &Grid, set: &RectSet<'_>) -> u128 {
-    let mut count = 0u128;
+/// The points of a set at which cells begin, point by point.
+fn corners_of(alloc: Global, grid: &Grid, set: &RectSet<'_>) -> Result<Vec<u64>, AllocError> {
+    let mut corners = Vec::new(alloc);
     for p in points_in(set) {
         if is_corner(grid, p) {
-            count = count.saturating_add(1);
+            corners.push(p)?;
         }
     }
-    count
+    Ok(corners)
 }
 
 #[test]
@@ -68,7 +68,31 @@ fn cells_and_corners_are_counted(rt: HostRuntime) -> Result<(), Fail> {
         let grid = Grid::build(rt.alloc(), &all).ok().ok_or("no memory")?;
         assert!(rt; size.cells() == (grid.columns() as u128).saturating_mul(grid.rows() as u128));
         let set = RectSet::over(&more).ok_or("rectangles in bands")?;
-        assert!(rt; corner_count(&grid, &more) == corners_of(&grid, &set));
+        let corners = corners_of(rt.alloc(), &grid, &set)?;
+        assert!(rt; corner_count(&grid, &more) == corners.len() as u128);
+        let listed = corner_points(rt.alloc(), &grid, &set)
+            .ok()
+            .ok_or("no memory")?;
+        assert!(rt; listed == corners);
     }
+    Ok(())
+}
+
+/// The whole plane has 2^64 points, and four cells where one rectangle cuts a corner off it.
+#[test]
+fn few_corners_of_many_points_are_found(rt: HostRuntime) -> Result<(), Fail> {
+    let whole = [rect(0, u32::MAX, 0, u32::MAX)];
+    let set = RectSet::over(&whole).ok_or("rectangles in bands")?;
+    let grid = Grid::build(
+        rt.alloc(),
+        &[rect(0, u32::MAX, 0, u32::MAX), rect(0, 9, 0, 5)],
+    )
+    .ok()
+    .ok_or("no memory")?;
+    let listed = corner_points(rt.alloc(), &grid, &set)
+        .ok()
+        .ok_or("no memory")?;
+    let right = 10u64 << 32;
+    assert!(rt; listed.as_slice() == [0, 6, right, right + 6].as_slice());
     Ok(())
 }

@@ -1,9 +1,8 @@
 -- What ascends in a log with spelled records: the runs and the fields of each, and the lines on which they stand.
-use Rattle.std.proofs.Common.{◌≡◌, ℕ, zero, suc, ◌+◌, ◌-◌, ◌^◌, ◌<◌, ◌≤◌, Bool, true, nat_lt, List, [], ◌∷◌, map, length, get_or, All, subst, arith}
+use Rattle.std.proofs.Common.{◌≡◌, ℕ, zero, suc, ◌+◌, ◌-◌, ◌^◌, ◌<◌, ◌≤◌, Bool, true, nat_lt, List, [], ◌∷◌, map, length, get_or, subst, arith}
 use Rattle.std.specs.List.{slice_index}
 use Rattle.std.specs.List.Sorted.{IsStrictlyIncreasing}
 use Rattle.std.proofs.lemmas.List.{length-map, get_or-map}
-use Rattle.std.proofs.lemmas.List.Elements.{All-from_recursion}
 use Rattle.std.proofs.lemmas.Bool.{and_parts, ltb-true}
 use Rattle.vocabulary.specs.Prelude.{ascends, Good, Record, Lined, AreLines}
 use Rattle.spy_grammar.specs.declared.record.Record.TheVariants.{Ispace, Plane, Fields, Req, Fill, Inst}

@@ -1,5 +1,5 @@
 use Rattle.std.proofs.Common.{◌++◌, ◌∷◌, sym, ap, ◌∙◌}
-use Rattle.cut_logs.specs.Meant.{listed_points}
+use Rattle.listed_sets.specs.Meant.{listed_points}
 use Rattle.inst_steps.specs.Sweeps.{action_at}
 use Rattle.inst_steps.specs.Stepping.{rest_actions, spot_here, spot_actions}
 use Rattle.inst_steps.proofs.Sweeping.{spot_step}

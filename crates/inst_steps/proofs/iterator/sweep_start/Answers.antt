@@ -1,7 +1,7 @@
 use Rattle.std.proofs.Common.{map, sym, ap, ◌∙◌}
 use Rattle.std.specs.Option.{option_map}
 use Rattle.vocabulary.specs.Prelude.{grid}
-use Rattle.cut_logs.specs.Meant.{listed_points}
+use Rattle.listed_sets.specs.Meant.{listed_points}
 use Rattle.inst_steps.specs.Sweeps.{action_at, actions_of_pass}
 use Rattle.inst_steps.specs.Stepping.{pass_seen}
 use Rattle.inst_steps.proofs.Sweeping.{no_points, spot_actions_are}

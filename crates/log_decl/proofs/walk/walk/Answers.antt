@@ -1,7 +1,9 @@
-use Rattle.std.proofs.Common.{◌≡◌, ◌+◌, List, take, None, sym, ap, ◌∙◌, arith}
-use Rattle.vocabulary.specs.Prelude.{Record, records_of}
+use Rattle.std.proofs.Common.{◌≡◌, ◌+◌, true, List, take, None, sym, ap, ◌∙◌, arith}
+use Rattle.grid.specs.Cuts.{grid_of}
+use Rattle.vocabulary.specs.Prelude.{Record, Tables, records_of}
+use Rattle.semantics.specs.Rules.{is_planar}
 use Rattle.log_decl.specs.Walk.{broken_of}
-use Rattle.log_decl.proofs.Walking.{counted, stands_where, none_where, may_count, flat_next, tables_more, records_more, keeps_more, tally_more}
+use Rattle.log_decl.proofs.Walking.{stands_where, none_where, may_count, flat_here, plane_at, rects_more, tables_more, records_more, keeps_more, tally_more}
 use Rattle.log_decl.proofs.walk.walk.Goals as goal
 
 pub returns-then-is_some : goal.returns-then-is_some
@@ -12,8 +14,10 @@ returns-then-is_some g c =
     let es = records_of (take i log) in
     let t = c.loop-l.draft in
     let r = c.l-item.result.rec in
-    let told = c.in_ok-code.ensures es inv.tally (counted log c.loop-l.kept i inv.at (omega (arith, c.loop-l-test.true))) in
-    stands_where log c.loop-l.kept i t c.in_ok-code.code c.l-item.result inv.at inv.tables inv.keep (λ flat. inv.tally.within) c.loop-l-test.true c.l-item.is
+    let measured = λ (planar : is_planar t ≡ true). let plane = c.is_plane_log-is_plane.ensures ∙ plane_at log i t c.requires.header inv.tables planar in
+    (c.in_ok-cells.ensures t.rects plane (inv.size plane)).1 in
+    let told = c.in_ok-code.ensures es inv.tally (ap (λ n. records_of (take n log)) (sym inv.at)) measured in
+    stands_where log c.loop-l.kept i t c.in_ok-code.code c.l-item.result inv.at inv.tables inv.keep (λ flat. (inv.tally.counts flat).within) c.loop-l-test.true c.l-item.is
     (sym c.is_some.ensures ∙ c.if-is_some.true)
     (told ∙ ap (λ (w : List Record). broken_of w es t r) c.requires.whole)
 
@@ -26,16 +30,20 @@ loop-l-preserved g c =
     let t = c.loop-l.draft in
     let l = c.l-item.result in
     let r = c.l-item.result.rec in
-    let told = c.in_ok-code.ensures es inv.tally (counted log c.loop-l.kept i inv.at (omega (arith, c.loop-l-test.true))) in
+    let measured = λ (planar : is_planar t ≡ true). let plane = c.is_plane_log-is_plane.ensures ∙ plane_at log i t c.requires.header inv.tables planar in
+    (c.in_ok-cells.ensures t.rects plane (inv.size plane)).1 in
+    let told = c.in_ok-code.ensures es inv.tally (ap (λ n. records_of (take n log)) (sym inv.at)) measured in
     let none : broken_of (records_of log) es t r ≡ None =
     ap (λ (w : List Record). broken_of w es t r) (sym c.requires.whole) ∙ sym told
     ∙ none_where c.in_ok-code.code (sym c.is_some.ensures ∙ c.if-is_some.false) in
     let next = c.in_ok-add.ensures.ok in
-    let tally = c.in_ok-tally.ensures es l.line inv.tally (may_count (records_of log) es t r (flat_next log i t l c.requires.header inv.tables c.loop-l-test.true c.l-item.is) none) in
+    let tally = c.in_ok-tally.ensures es l.line inv.tally (may_count (records_of log) es t r (flat_here log i t c.requires.header inv.tables) none) in
     record {
       at = ap (λ n. n + 1) inv.at;
       tables = next ∙ tables_more log i t l inv.tables c.loop-l-test.true c.l-item.is;
       tally = tally_more _ _ _ _ _ tally (records_more log i l c.loop-l-test.true c.l-item.is) next;
       few = omega (arith, c.in_ok-add.ensures.few, inv.few);
+      size = λ plane. (c.in_ok-cells.ensures t.rects plane (inv.size plane)).0 ∙ ap grid_of (sym (rects_more t l.line r))
+          ∙ ap (λ (u : Tables). grid_of u.rects) (sym next);
       keep = keeps_more log i t l inv.tables inv.keep c.loop-l-test.true c.l-item.is none;
     }

@@ -1,4 +1,5 @@
-use Rattle.std.proofs.Common.{◌≡◌, ◌≤◌, take, length, []}
+use Rattle.std.proofs.Common.{◌≡◌, ◌≤◌, take, length, [], true}
+use Rattle.grid.specs.Cuts.{grid_of}
 use Rattle.vocabulary.specs.Prelude.{records_of, tables_of}
 use Rattle.log_rules.specs.Tallied.{IsTally}
 use Rattle.log_decl.specs.Walk.{Keep}
@@ -10,5 +11,6 @@ invariant-loop-l g l = record {
   tables : l.draft ≡ tables_of (take l.l-index l.records);
   tally : IsTally (records_of (take l.l-index l.records)) l.draft l.tally;
   few : length (l.draft).reqs ≤ l.l-index;
+  size : l.is_plane ≡ true → l.size ≡ grid_of (l.draft).rects;
   keep : Keep (records_of l.records) [] (take l.l-index l.records);
 }

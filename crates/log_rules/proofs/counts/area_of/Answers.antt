@@ -1,7 +1,7 @@
 use Rattle.std.proofs.Common.{◌≡◌, ◌+◌, map, take, ap, ◌∙◌, arith}
 use Rattle.vocabulary.specs.Prelude.{Quad, rect_of}
 use Rattle.point_set.proofs.lemmas.Counted.{areas}
-use Rattle.log_rules.specs.Counts.{cut}
+use Rattle.log_limits.specs.Sums.{cut}
 use Rattle.log_rules.proofs.Limits.{area_more, area_told}
 use Rattle.log_rules.proofs.counts.area_of.Goals as goal
 

@@ -1,6 +1,6 @@
 use Rattle.std.proofs.Common.{◌≡◌, ◌+◌, length, take, arith}
 use Rattle.vocabulary.specs.Prelude.{points_of}
-use Rattle.log_rules.specs.Counts.{cut}
+use Rattle.log_limits.specs.Sums.{cut}
 use Rattle.log_rules.proofs.Limits.{points_of_more}
 use Rattle.log_rules.proofs.counts.point_count.Goals as goal
 

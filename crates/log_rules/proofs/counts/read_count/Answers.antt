@@ -2,7 +2,8 @@ use Rattle.std.proofs.Common.{◌≡◌, ◌+◌, ◌<◌, ◌≤◌, List, leng
 use Rattle.vocabulary.specs.Prelude.{Req}
 use Rattle.std.proofs.lemmas.List.{take_all}
 use Rattle.std.proofs.lemmas.List.Sums.{sum_by_more}
-use Rattle.log_rules.specs.Counts.{cut, reads_of}
+use Rattle.log_rules.specs.Counts.{reads_of}
+use Rattle.log_limits.specs.Sums.{cut}
 use Rattle.log_rules.proofs.Limits.{reads_told}
 use Rattle.log_rules.proofs.counts.read_count.Goals as goal
 

@@ -1,5 +1,6 @@
 use Rattle.std.proofs.Common.{◌≡◌, take, sum_by}
-use Rattle.log_rules.specs.Counts.{cut, reads_of}
+use Rattle.log_rules.specs.Counts.{reads_of}
+use Rattle.log_limits.specs.Sums.{cut}
 use Rattle.log_rules.proofs.counts.read_count.Given as goal
 
 abbrev pub invariant-loop-req : goal.invariant-loop-req

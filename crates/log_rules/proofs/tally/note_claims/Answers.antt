@@ -6,7 +6,7 @@ use Rattle.log_rules.proofs.Claiming.{first_claims_nothing, later_claims_all}
 use Rattle.log_rules.proofs.tally.note_claims.Goals as goal
 
 pub returns-then-req_count-eq0 : goal.returns-then-req_count-eq0
-returns-then-req_count-eq0 g c = λ k a.
+returns-then-req_count-eq0 g c = λ flat k a.
     let t = c.args.draft.now in
     let req = c.in-Req in
     let none = sym (c.req_count.ensures.count ∙ ap (reqs_before t.reqs) c.place-item.ensures) ∙ c.if-req_count-eq0.true in
@@ -16,7 +16,7 @@ returns-then-req_count-eq0 g c = λ k a.
     ∙ ap (λ r. claimed t r k a) (sym req.is))
 
 pub returns-in_ok-claim_req-in-Req : goal.returns-in_ok-claim_req-in-Req
-returns-in_ok-claim_req-in-Req g c = λ k a.
+returns-in_ok-claim_req-in-Req g c = λ flat k a.
     let t = c.args.draft.now in
     let req = c.in-Req in
     let some : reqs_before t.reqs (place_of t.items req.task) ≡ 0 → ⊥ =

@@ -2,7 +2,7 @@ use Rattle.std.proofs.Common.{sym, ap, ◌∙◌}
 use Rattle.vocabulary.specs.Prelude.{points_in}
 use Rattle.point_laws.specs.Cut.{kept}
 use Rattle.point_laws.proofs.lemmas.Cuts.{points_cut_to, kept_nothing}
-use Rattle.cut_logs.specs.Listed.{listed_of}
+use Rattle.listed_sets.specs.Listed.{listed_of}
 use Rattle.cut_logs.proofs.cut_log.CutLog.set.Goals as goal
 
 pub returns-in-Some : goal.returns-in-Some

@@ -1,6 +1,6 @@
 use Rattle.std.proofs.Common.{◌≡◌, ◌+◌, unwrap_or, ap, ◌∙◌}
 use Rattle.std.specs.HashMap.{get}
-use Rattle.log_rules.specs.Counts.{cut}
+use Rattle.log_limits.specs.Sums.{cut}
 use Rattle.vocabulary.specs.Prelude.{same_place}
 use Rattle.log_rules.proofs.Loading.{load-put}
 use Rattle.log_rules.proofs.load.Loads.add.Goals as goal

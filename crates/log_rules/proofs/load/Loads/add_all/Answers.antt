@@ -1,7 +1,7 @@
 use Rattle.std.proofs.Common.{◌≡◌, ℕ, suc, ◌+◌, ◌<◌, List, ◌∷◌, ap, sym, subst, ◌∙◌, arith}
 use Rattle.std.specs.List.{AllPairs}
 use Rattle.std.proofs.lemmas.List.Kept.{AllPairs-from_increasing}
-use Rattle.log_rules.specs.Counts.{cut}
+use Rattle.log_limits.specs.Sums.{cut}
 use Rattle.log_rules.specs.Loads.{load_in, one, is_held}
 use Rattle.log_rules.proofs.Loading.{load-point}
 use Rattle.log_rules.proofs.load.Loads.add_all.Goals as goal

@@ -1,7 +1,7 @@
 use Rattle.std.proofs.Common.{◌≡◌, ◌+◌, ◌<◌}
 use Rattle.std.specs.List.{AllPairs}
 use Rattle.vocabulary.specs.Prelude.{Place}
-use Rattle.log_rules.specs.Counts.{cut}
+use Rattle.log_limits.specs.Sums.{cut}
 use Rattle.log_rules.specs.Loads.{load_in, one, is_held}
 use Rattle.log_rules.proofs.load.Loads.add_all.Given as goal
 

@@ -1,5 +1,5 @@
 use Rattle.std.proofs.Common.{◌≡◌, ◌+◌, ◌<◌, ◌^◌}
-use Rattle.log_rules.specs.Counts.{cut}
+use Rattle.log_limits.specs.Sums.{cut}
 use Rattle.log_rules.specs.Loads.{load_in, grid_load}
 use Rattle.log_rules.proofs.load.Loads.at_all.Given as goal
 

@@ -1,5 +1,5 @@
 use Rattle.std.proofs.Common.{◌≡◌, ◌+◌, ℕ, take, arith, sum_by}
-use Rattle.log_rules.specs.Counts.{cut}
+use Rattle.log_limits.specs.Sums.{cut}
 use Rattle.log_rules.specs.Loads.{load_in}
 use Rattle.std.proofs.lemmas.List.Sums.{sum_by_more}
 use Rattle.log_rules.proofs.load.Loads.at_point.Goals as goal

@@ -1,5 +1,5 @@
 use Rattle.std.proofs.Common.{◌≡◌, take}
-use Rattle.log_rules.specs.Counts.{cut}
+use Rattle.log_limits.specs.Sums.{cut}
 use Rattle.log_rules.specs.Loads.{load_in, row_load}
 use Rattle.log_rules.proofs.load.Loads.at_point.Given as goal
 

@@ -1,6 +1,6 @@
 use Rattle.std.proofs.Common.{take}
-use Rattle.log_rules.specs.Loads.{AreLoads}
+use Rattle.log_rules.specs.Loads.{AreLoads, CountsBy}
 use Rattle.log_rules.proofs.load.Loads.of.Given as goal
 
 abbrev pub invariant-loop-req : goal.invariant-loop-req
-invariant-loop-req g l = AreLoads l.draft l.loads (take l.req-index l.draft.reqs)
+invariant-loop-req g l = CountsBy l.log.draft.now l.log.corners → AreLoads l.log.draft.now l.loads (take l.req-index l.log.draft.now.reqs)

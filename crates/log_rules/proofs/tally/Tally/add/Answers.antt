@@ -3,7 +3,8 @@ use Rattle.std.proofs.lemmas.Bool.Decides.{nat_tests}
 use Rattle.std.proofs.Common.{◌≡◌, ℕ, ◌≤◌, nat_lt, false, inl, inr, arith, ◌+◌, ◌-◌, ◌^◌, ◌||◌, ap, sym, ◌∙◌}
 use Rattle.vocabulary.specs.Prelude.{is_in}
 use Rattle.semantics.specs.Rules.{accesses}
-use Rattle.log_rules.specs.Counts.{cut, points_asked, cells_asked, size_asked}
+use Rattle.log_rules.specs.Counts.{points_asked, cells_asked, size_asked}
+use Rattle.log_limits.specs.Sums.{cut}
 use Rattle.log_rules.specs.Listing.{ids_listed}
 use Rattle.log_rules.proofs.Limits.{cut-both}
 use Rattle.log_rules.proofs.Growing.{AreKnown-add, point_total-add, cell_total-add, access_total-add, points-exact, cells-exact, accesses-exact, few_accesses, listed-add, AreClaims-add}
@@ -18,24 +19,27 @@ returns g c = λ earlier line is may.
     let r = c.args.rec.now in
     let old = c.args.self in
     let most = 2 ^ 128 - 1 in
-    let flat = is.version in
     record {
-      version = may.version line;
-      points =
-          c.raised.ensures.sum ∙ ap (λ m. cut (old.points + m)) c.points_asked.ensures
-          ∙ cut-both old.points (points_asked r) most ∙ points-exact t r old.points is.points c.raised.ensures.fits flat may.points
-          ∙ sym (point_total-add t line r);
-      cells =
-          c.raised-2.ensures.sum ∙ ap (λ m. cut (old.cells + m)) c.cells_asked.ensures
-          ∙ cut-both old.cells (cells_asked t r) most ∙ cells-exact t r old.cells is.cells c.raised-2.ensures.fits flat may.cells
-          ∙ sym (cell_total-add t line r is.known.insts may.known);
-      accesses =
-          c.raised-3.ensures.sum ∙ ap (λ m. cut (old.accesses + m)) c.size_asked.ensures
-          ∙ cut-both old.accesses (size_asked t r) most ∙ accesses-exact earlier t r old.accesses is.accesses flat may.accesses
-          ∙ sym (access_total-add earlier t line r flat (may.version line) is.known.accesses may.known);
+      counts = λ still.
+          let flat = may.version line still in
+          let of = is.counts flat in
+          record {
+            points =
+                c.raised.ensures.sum ∙ ap (λ m. cut (old.points + m)) c.points_asked.ensures
+                ∙ cut-both old.points (points_asked r) most ∙ points-exact t r old.points of.points c.raised.ensures.fits flat may.points
+                ∙ sym (point_total-add t line r);
+            cells =
+                c.raised-2.ensures.sum ∙ ap (λ m. cut (old.cells + m)) c.cells_asked.ensures
+                ∙ cut-both old.cells (cells_asked t r) most ∙ cells-exact t r old.cells of.cells c.raised-2.ensures.fits flat may.cells
+                ∙ sym (cell_total-add t line r is.known.insts may.known);
+            accesses =
+                c.raised-3.ensures.sum ∙ ap (λ m. cut (old.accesses + m)) c.size_asked.ensures
+                ∙ cut-both old.accesses (size_asked t r) most ∙ accesses-exact earlier t r old.accesses of.accesses flat may.accesses
+                ∙ sym (access_total-add earlier t line r flat still is.known.accesses may.known);
+            claims = AreClaims-add t line r old.claims c.note_claims.new.claims of.claims is.known.reqs (c.in_ok-note_claims.ensures flat);
+            within = within_limit _ (accesses t r) _ (few_accesses earlier t r flat may.accesses)
+                (access_total-add earlier t line r flat still is.known.accesses may.known);
+          };
       lists = λ n. c.in_ok-note_listed.ensures n ∙ ap (λ b. b || is_in (ids_listed r) n) (is.lists n) ∙ sym (listed-add t line r n);
-      claims = AreClaims-add t line r old.claims c.note_claims.new.claims is.claims is.known.reqs c.in_ok-note_claims.ensures;
       known = AreKnown-add earlier t line r is.known may.known;
-      within = within_limit _ (accesses t r) _ (few_accesses earlier t r flat may.accesses)
-          (access_total-add earlier t line r flat (may.version line) is.known.accesses may.known);
     }

@@ -1,0 +1,3 @@
+pub mod Steps
+pub use Rattle.grid.specs.Corners
+pub use Rattle.grid.specs.Cuts
