@@ -19,7 +19,7 @@ use region_tree::ArenaSet;
 use std::alloc::Global;
 
 /// The dependence of a pair.
-fn dep_of<'a, P: ArenaSet<'a>>(log: &Log<'a, P>, pair: Pair) -> Dep
+pub(crate) fn dep_of<'a, P: ArenaSet<'a>>(log: &Log<'a, P>, pair: Pair) -> Dep
     requires a { pair.a < length log.now.items }
     requires b { pair.b < length log.now.items }
     ensures { result ≡ dependence_of log.now pair }

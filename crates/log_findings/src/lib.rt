@@ -1,10 +1,12 @@
 //! What is found in a log by its items and events alone: the fault of its serial order, the order of its nodes, whether its tasks are run in serial order, which of its items interfere, and which of its waits others imply.
 //!
 //! `ordered_finding`, `deps_finding` and `spare_finding` are what the commands `ordered`, `deps` and `spare`
-//! find; begin there. Each is exactly what `Outcome` of `outcomes` says of its command. `sort_log` is the
-//! first stage of `check` too, and `reports` makes the findings of all commands.
+//! find; begin there. Each is exactly what `Outcome` of `outcomes` says of its command. `write_deps` writes what
+//! `deps` finds as it is found. `sort_log` is the first stage of `check` too, and `reports` makes the findings
+//! of all commands.
 #![tactic(auto)]
 
+mod dep_writer;
 mod dependences;
 mod implied;
 mod items;
@@ -12,6 +14,7 @@ mod ordering;
 mod reports;
 mod serial;
 mod sorting;
+mod written_deps;
 
 pub use dependences::deps_finding;
 pub use implied::spare_finding;
@@ -23,3 +26,4 @@ pub use reports::{
 };
 pub use serial::serial_fault;
 pub use sorting::{Sorting, Unsorted};
+pub use written_deps::{DepsEnd, write_deps};

@@ -1,6 +1,7 @@
 mod Alike
 mod Completing
 mod Cut
+mod Ending
 mod Expanding
 mod Printed
 mod Reports

@@ -88,7 +88,7 @@ found_again bytes text p log reads command f =
 
 -- ---- an input that is too long
 
-told_long : (bytes : List ℕ) → 2 ^ 26 < length bytes → HasTextFault bytes (Faulty 0 TooLong)
+pub told_long : (bytes : List ℕ) → 2 ^ 26 < length bytes → HasTextFault bytes (Faulty 0 TooLong)
 told_long bytes h = record { fault = record { line = 0; code = TooLong }; shown = long bytes h; finding_is = refl }
 
 -- Its fault is reported, whatever is asked. (`demo` has no input.)

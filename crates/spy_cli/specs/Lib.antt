@@ -1,5 +1,6 @@
 pub mod Statuses
 pub mod Answers
+pub mod Endings
 pub mod Cut
 pub use Rattle.spy_args.specs.Asked
 pub use Rattle.spy_io.specs.Causes

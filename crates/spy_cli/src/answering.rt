@@ -20,7 +20,11 @@ use spy_io::{ReadEnd, Source, read_all};
 use std::alloc::Global;
 
 /// The input of a request: all that the source has left, of which at most one byte more than an input may have is taken. `demo` has none, and does not call the source.
-fn input_of<S: Source>(alloc: Global, request: Request, source: &mut S) -> Result<Vec<u8>, ReadEnd>
+pub(crate) fn input_of<S: Source>(
+    alloc: Global,
+    request: Request,
+    source: &mut S,
+) -> Result<Vec<u8>, ReadEnd>
     ensures input { IfOk result (λ read. OfInput request (S.left source.old) (λ bytes. bytes ≡ read.items)) }
     ensures too_long { IsErrOf result ReadEnd.TooLong
         → OfInput request (S.left source.old) (λ bytes. MOST_BYTES < length bytes) }

@@ -13,27 +13,14 @@ ghost use Rattle.findings.specs.Texts as reports;
 ghost use Rattle.spy_cli.specs.Answers.{Answers, AnswersLong, AnswersPart, Ends, IsAnswer, IsAnswerLong, IsCalm, IsDecided, IsInput, IsInputCalm, IsRead, Keeps, takes_input};
 
 use crate::answering::{ReportEnd, report_on};
+use crate::listing::{deps_answered, is_deps};
 use crate::status::Status;
+use crate::writing::written;
 use findings::{cannot_read_text, usage_text};
 use memory::Memory;
 use spy_args::{Request, request_in};
-use spy_io::{Sink, Source, WriteFault, write_all};
+use spy_io::{Sink, Source};
 use std::alloc::Global;
-
-/// Writes the text, and ends with this status if that succeeds.
-fn written<K: Sink>(sink: &mut K, text: &[u8], status: Status) -> Status
-    requires { status ≢ Status.WriteFault }
-    ensures done { result ≢ Status.WriteFault → (result ≡ status)
-        × Appends (K.held sink.old) (K.held sink.new) text.now × (K.faults sink.new ≡ K.faults sink.old) }
-    ensures fault { result ≡ Status.WriteFault → Rose (K.faults sink.old) (K.faults sink.new)
-        × Grows (K.held sink.old) (K.held sink.new) text.now }
-    ensures once { K.ended sink.old ≡ 0 → K.ended sink.new ≤ 1 }
-{
-    match write_all(sink, text) {
-        Ok(()) => status,
-        Err(WriteFault) => Status::WriteFault,
-    }
-}
 
 /// Runs the command that the words ask for over the bytes of the source, and writes its report to the sink.
 /// The words do not hold the program's name. The commands are `check`, `ordered`, `deps`, `spare`, `print`, `expand`, `launched`, `nested` and `why --task T --req Q --point P --field F`, and `demo --size N`, which reads nothing: it checks the stencil log of N pieces.
@@ -127,6 +114,9 @@ pub fn run<S: Source, K: Sink>(
         Ok(None) => return written(sink, usage_text(), Status::Usage),
         Err(Memory) => return Status::Memory,
     };
+    if is_deps(request) {
+        return deps_answered(alloc, source, sink);
+    }
     match report_on(alloc, request, source) {
         Ok(report) => written(sink, &report.text, report.status),
         Err(ReportEnd::ReadFault) => written(sink, cannot_read_text(), Status::ReadFault),

@@ -1,5 +1,6 @@
-//! Sources and sinks: in memory, with faults, and over a file.
+//! Sources and sinks: in memory, with faults, through a buffer, and over a file.
 
+use buffered_writes::Buffered;
 use spy_io::{MemSink, MemSource, ReadEnd, RealSink, RealSource, WriteFault, read_all, write_all};
 use std::test::Fail;
 use std::{env, fs, process};
@@ -29,6 +30,37 @@ fn sinks_are_written(rt: HostRuntime) -> Result<(), Fail> {
             return Err("no memory".into());
         };
         assert!(rt; write_all(&mut sink, b"abcdefg") == answer);
+        assert_eq!(rt; sink.held(), held);
+    }
+    Ok(())
+}
+
+#[test]
+fn a_buffer_keeps_back_what_it_has_room_for(rt: HostRuntime) -> Result<(), Fail> {
+    let alloc = rt.alloc();
+    // How many bytes the sink takes, what the last of three pieces and the rest answer, and what the sink then holds.
+    let cases: [(usize, Result<(), WriteFault>, &[u8]); 2] = [
+        (12, Ok(()), b"abcdefghijkl"),
+        (8, Err(WriteFault), b"abcdefgh"),
+    ];
+    for (room, answer, held) in cases {
+        let Ok(mut sink) = MemSink::with_room(alloc, room, 2, Vec::new(alloc)) else {
+            return Err("no memory".into());
+        };
+        let Ok(mut buffer) = Buffered::with_room(alloc, 4) else {
+            return Err("no memory".into());
+        };
+        assert!(rt; buffer.put(&mut sink, b"abc") == Ok(()));
+        assert_eq!(rt; sink.held(), b"".as_slice());
+        assert!(rt; buffer.put(&mut sink, b"def") == Ok(()));
+        assert_eq!(rt; sink.held(), b"abc".as_slice());
+        // Longer than the buffer.
+        assert!(rt; buffer.put(&mut sink, b"ghijk") == answer);
+        if answer == Ok(()) {
+            assert!(rt; buffer.put(&mut sink, b"l") == Ok(()));
+            assert_eq!(rt; sink.held(), b"abcdefghijk".as_slice());
+        }
+        assert!(rt; buffer.flush(&mut sink) == Ok(()));
         assert_eq!(rt; sink.held(), held);
     }
     Ok(())

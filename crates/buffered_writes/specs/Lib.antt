@@ -1,0 +1,2 @@
+pub mod Sending
+pub use Rattle.spy_io.specs.Causes

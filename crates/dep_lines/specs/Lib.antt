@@ -1,0 +1,2 @@
+pub mod Parts
+pub use Rattle.findings.specs.Texts

@@ -1,0 +1,3 @@
+pub use Rattle.log_findings.specs.Findings
+pub use Rattle.outcomes.specs.Outcome
+pub use Rattle.findings.specs.Texts
