@@ -1,4 +1,4 @@
-//! Tests of calls of the library crates, over the code that they try.
+//! Tests of calls of the library crates that stand on logs, over the code that they try.
 //!
 //! Each module tries one crate, on small inputs with ample memory: that the calls succeed there is what no
 //! contract can say. `framed_logs.rt` makes the logs for them.
@@ -19,18 +19,6 @@ mod inst_steps_tests;
 #[cfg(test)]
 mod interference_tests;
 #[cfg(test)]
-mod launch_claims_tests;
-#[cfg(test)]
-mod launches_tests;
-#[cfg(test)]
-mod log_gen_tests;
-#[cfg(test)]
-mod log_reading_tests;
-#[cfg(test)]
-mod number_lists_tests;
-#[cfg(test)]
-mod privilege_tests;
-#[cfg(test)]
 mod provenance_tests;
 #[cfg(test)]
 mod region_tree_tests;
@@ -38,11 +26,5 @@ mod region_tree_tests;
 mod replay_tests;
 #[cfg(test)]
 mod serial_exec_tests;
-#[cfg(test)]
-mod spy_args_tests;
-#[cfg(test)]
-mod spy_io_tests;
-#[cfg(test)]
-mod spy_lines_tests;
 #[cfg(test)]
 mod values;

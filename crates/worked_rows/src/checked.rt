@@ -1,12 +1,12 @@
 //! The worked examples of `check`, each through `run`.
 
-use crate::answers::{answer, edited, framed};
-use crate::example_logs::{
-    GATHERED_REDUCTIONS, STALE_COPY, TURNED_WRITES, TWO_OPERATORS, TWO_TASKS, WRITE_THEN_READ,
-};
 use spy_cli::Status;
 use std::alloc::Global;
 use std::test::Fail;
+use worked_answers::{
+    GATHERED_REDUCTIONS, STALE_COPY, TURNED_WRITES, TWO_OPERATORS, TWO_TASKS, WRITE_THEN_READ,
+    answer, edited, framed,
+};
 
 #[rattlefmt::skip]
 #[test]

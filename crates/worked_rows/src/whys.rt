@@ -1,12 +1,11 @@
 //! Where values came from that tasks read, each question through `run`.
 
-use crate::answers::{answer_why, edited};
-use crate::example_logs::{
-    FRESH_COPY, GATHERED_REDUCTIONS, MISSING_WAIT, STALE_COPY, TURNED_WRITES, TWO_TASKS,
-    WAITS_IN_A_CYCLE, WRITE_THEN_READ,
-};
 use spy_cli::Status;
 use std::test::Fail;
+use worked_answers::{
+    FRESH_COPY, GATHERED_REDUCTIONS, MISSING_WAIT, STALE_COPY, TURNED_WRITES, TWO_TASKS,
+    WAITS_IN_A_CYCLE, WRITE_THEN_READ, answer_why, edited,
+};
 
 /// Two tasks that reduce into the instance which a third one reads.
 const TWO_REDUCTIONS: &[u8] = b"legion-spy 1

@@ -1,12 +1,12 @@
 //! `print`, and the faults of lines.
 
-use crate::answers::{answer, with_line};
-use crate::example_logs::{
-    GATHERED_REDUCTIONS, STALE_COPY, TURNED_WRITES, TWO_OPERATORS, TWO_TASKS, WRITE_THEN_READ,
-};
 use spy_cli::Status;
 use std::alloc::Global;
 use std::test::Fail;
+use worked_answers::{
+    GATHERED_REDUCTIONS, STALE_COPY, TURNED_WRITES, TWO_OPERATORS, TWO_TASKS, WRITE_THEN_READ,
+    answer, with_line,
+};
 
 #[test]
 fn a_log_prints_as_itself(rt: HostRuntime) -> Result<(), Fail> {

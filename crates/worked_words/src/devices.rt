@@ -1,11 +1,10 @@
 //! Sources and sinks that fail, give short pieces or have little room, under `check` over one log.
 
-use crate::answers::words_of;
-use crate::example_logs::WRITE_THEN_READ;
 use spy_cli::{Status, run};
 use spy_io::{MemSink, MemSource};
 use std::alloc::Global;
 use std::test::Fail;
+use worked_answers::{WRITE_THEN_READ, words_of};
 
 /// The report on the log, where no device fails.
 const REPORT: &[u8] = b"accepted tasks 2 operations 2 reads 4\n";
