@@ -16,7 +16,7 @@ pub trait Framed {
     fn line(&self) -> u32
         ensures { result ≡ (in_frame self.now).line };
 
-    /// Whether it is the header of version 1.
+    /// Whether it is the header of the first version or of the second.
     fn opens(&self) -> bool
         ensures { result ≡ opens (in_frame self.now).rec };
 
@@ -40,7 +40,7 @@ impl Framed for Lined {
 
     fn opens(&self) -> bool {
         match &self.rec {
-            Record::Header { version } => *version == 1,
+            Record::Header { version } => *version == 1 || *version == 2,
             _ => false,
         }
     }
@@ -77,7 +77,7 @@ impl Framed for LLined {
 
     fn opens(&self) -> bool {
         match &self.rec {
-            LRecord::Plain(Record::Header { version }) => *version == 1,
+            LRecord::Plain(Record::Header { version }) => *version == 1 || *version == 2,
             _ => false,
         }
     }

@@ -1,5 +1,5 @@
 -- The fault that is shown of a log: its frame first, then its records line by line, then what concerns the log as a whole.
-use Rattle.std.specs.Prelude.{ℕ, ◌+◌, ◌-◌, ◌==◌, Bool, true, false, not, List, [], ◌∷◌, ◌++◌, find, length, Option, Some, None, option_map, is_some, if◌then◌else◌}
+use Rattle.std.specs.Prelude.{ℕ, ◌+◌, ◌-◌, ◌==◌, Bool, true, false, not, ◌||◌, List, [], ◌∷◌, ◌++◌, find, length, Option, Some, None, option_map, is_some, if◌then◌else◌}
 use Rattle.std.specs.List.{list_all}
 use Rattle.std.specs.Option.{option_or, option_map_or}
 use Rattle.spy_grammar.specs.declared.code.Code.{Code}
@@ -32,12 +32,12 @@ abbrev pub is_header : Record → Bool
 is_header (Header version) = true
 is_header _ = false
 
--- Whether this is the header of version 1, which is the one described here.
+-- Whether this is the header of the first version or of the second.
 abbrev pub opens : Record → Bool
-opens (Header version) = version == 1
+opens (Header version) = (version == 1) || (version == 2)
 opens _ = false
 
--- header: there is no record; or the first is no header of version 1; or a later one is a header. (`lines` is the number of lines.)
+-- header: there is no record; or the first is no header of these versions; or a later one is a header. (`lines` is the number of lines.)
 abbrev pub header_fault : ℕ → List Lined → Option Fault
 header_fault lines [] = Some (at_line codes.Header (lines + 1))
 header_fault lines (l ∷ log) = if opens l.rec then first_with codes.Header is_header log

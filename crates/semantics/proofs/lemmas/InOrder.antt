@@ -1,6 +1,6 @@
 -- The parts of a space, as rectangles in order.
-use Rattle.std.proofs.Common.{◌≡◌, ℕ, zero, suc, ◌+◌, ◌-◌, ◌^◌, ◌<◌, ◌≤◌, Bool, true, false, ◌&&◌, ◌||◌, eqb, ltb, inl, inr, List, [], ◌∷◌, ◌++◌, map, length, get_or, All, ap, ◌∙◌, refl, arith, add-one}
-use Rattle.std.specs.List.{AllAdjacentBelow, AllByRecursion, range_with_len, flat_map}
+use Rattle.std.proofs.Common.{◌≡◌, ℕ, zero, suc, ◌+◌, ◌-◌, ◌^◌, ◌<◌, ◌≤◌, Bool, true, ◌&&◌, eqb, ltb, inl, inr, List, [], ◌∷◌, ◌++◌, map, length, get_or, ap, ◌∙◌, refl, arith, add-one}
+use Rattle.std.specs.List.{AllByRecursion, range_with_len, flat_map}
 use Rattle.std.proofs.lemmas.Bool.{and_parts, ltb-true, eqb-true, cases_Bool}
 use Rattle.std.proofs.lemmas.List.Elements.{All-from_recursion}
 use Rattle.point_set.specs.declared.rect.Rect.{Rect}
