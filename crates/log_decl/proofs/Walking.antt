@@ -1,7 +1,7 @@
 -- The walk, record by record.
-use Rattle.std.proofs.Common.{◌≡◌, ℕ, ◌+◌, ◌<◌, List, [], ◌∷◌, ◌++◌, length, get_or, take, true, false, is_some, Option, Some, None, subst, refl, sym, ap, ◌∙◌, append_assoc, arith}
-use Rattle.std.proofs.lemmas.Bool.{false≢true, true≢false}
-use Rattle.std.proofs.lemmas.Option.{slice_get-get_or}
+use Rattle.std.proofs.Common.{◌≡◌, ℕ, zero, suc, ◌+◌, ◌<◌, ◌==◌, List, [], ◌∷◌, ◌++◌, length, get_or, take, true, false, is_some, Option, Some, None, subst, refl, sym, ap, ◌∙◌, append_assoc, arith}
+use Rattle.std.proofs.lemmas.Bool.{false≢true}
+use Rattle.std.proofs.lemmas.Option.{none-some, slice_get-get_or}
 use Rattle.std.proofs.lemmas.List.{append-nil, take_more, map-append}
 use Rattle.std.proofs.lemmas.List.Sums.{fold-append}
 use Rattle.vocabulary.specs.Prelude.{Code, Record, Lined, records_of, Tables, tables_of, with_record, no_tables}
@@ -10,10 +10,10 @@ use Rattle.spy_grammar.specs.declared.record.Record.TheVariants as records
 use Rattle.semantics.specs.Faults.{header_fault}
 use Rattle.semantics.specs.Rules.{is_planar}
 use Rattle.semantics.proofs.lemmas.RecordRules.{none_passes}
-use Rattle.semantics.proofs.lemmas.Versions.{flat_at}
+use Rattle.semantics.proofs.lemmas.Versions.{flat_before, version_at}
 use Rattle.log_rules.specs.declared.tally.Tally.{Tally}
 use Rattle.log_rules.specs.Tallied.{IsTally, MayCount, rects_in}
-use Rattle.log_decl.specs.Sizes.{is_plane_log}
+use Rattle.log_decl.specs.Sizes.{is_plane_log, opens_plane}
 use Rattle.log_decl.specs.Walk.{breaks_other, broken_of, other_broken, Keep, IsWithin, StandsAt}
 
 pub tables_more : (log : List Lined) (i : ℕ) (t : Tables) (l : Lined) → t ≡ tables_of (take i log) → i < length log → l ≡ get_or log i l
@@ -24,17 +24,20 @@ tables_more log i t l tables lt is =
     ∙ sym (ap tables_of (take_more log i l lt) ∙ fold-append (λ (u : Tables) (x : Lined). with_record u x.line x.rec) no_tables (take i log)
     (get_or log i l ∷ []))
 
--- After a header of the first version the log is none of the second.
-pub flat_here : (log : List Lined) (i : ℕ) (t : Tables) → header_fault 0 log ≡ None → t ≡ tables_of (take i log) → is_planar t ≡ false
-flat_here log i t e tables = ap is_planar tables ∙ flat_at log e i
+-- A log that is not of the second version after a record is not before it.
+pub flat_here : (log : List Lined) (i : ℕ) (t : Tables) (l : Lined) → header_fault 0 log ≡ None → t ≡ tables_of (take i log)
+    → i < length log → l ≡ get_or log i l → (line : ℕ) → is_planar (with_record t line l.rec) ≡ false → is_planar t ≡ false
+flat_here log i t l e tables lt is line flat = ap is_planar tables
+    ∙ flat_before log e i l lt is line (ap (λ (u : Tables). is_planar (with_record u line l.rec)) (sym tables) ∙ flat)
 
--- A record that breaks none of them may be counted.
-pub may_count : (log es : List Record) (t : Tables) (r : Record) → is_planar t ≡ false
+-- A record that breaks none of the rules may be counted.
+pub may_count : (log es : List Record) (t : Tables) (r : Record)
+    → ((line : ℕ) → is_planar (with_record t line r) ≡ false → is_planar t ≡ false)
     → broken_of log es t r ≡ None → MayCount es t r
 may_count log es t r flat e =
     let kept = none_passes (breaks_other (record { log = log; earlier = es; tables = t; rec = r })) e in
     record {
-      version = λ line after. flat;
+      version = flat;
       known = kept codes.UnknownId refl;
       points = kept codes.TooManyPoints refl;
       cells = kept codes.TooManyCells refl;
@@ -91,9 +94,16 @@ rects_more t line (records.Plane id quads) = refl
 rects_more t line r = sym (append-nil t.rects)
 
 -- Only a log whose first record says so is of the second version.
+said : (line : ℕ) (r : Record) → is_planar (with_record no_tables line r) ≡ opens_plane r
+said line (records.Header version) = refl
+said line r = refl
+
 pub plane_at : (log : List Lined) (i : ℕ) (t : Tables) → header_fault 0 log ≡ None → t ≡ tables_of (take i log) → is_planar t ≡ true
     → is_plane_log log ≡ true
-plane_at log i t e tables planar = absurd (true≢false (sym planar ∙ flat_here log i t e tables))
+plane_at log zero t e tables planar = absurd (false≢true (sym (ap is_planar tables) ∙ planar))
+plane_at [] (suc i) t e tables planar = absurd (none-some _ (sym e))
+plane_at (l ∷ log) (suc i) t e tables planar = sym (said l.line l.rec) ∙ ap (λ v. v == 2) (sym (version_at l log e i))
+    ∙ sym (ap is_planar tables) ∙ planar
 
 pub stands_where : (log : List Lined) (k i : ℕ) (t : Tables) (o : Option Code) (l : Lined) → k ≡ i → t ≡ tables_of (take i log)
     → Keep (records_of log) [] (take i log) → IsWithin t (records_of (take i log))
