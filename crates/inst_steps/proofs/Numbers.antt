@@ -1,6 +1,6 @@
--- The requirements of an item are numbered from 1 on.
-use Rattle.std.proofs.Common.{◌≡◌, ℕ, zero, suc, ◌+◌, ◌≤◌, ◌==◌, ◌&&◌, nat_lt, inl, inr, false, List, [], ◌∷◌, ◌++◌, map, filter, find, fold, length, None, slice_get, get_or, drop, refl, sym, ap, ◌∙◌, subst, arith}
-use Rattle.std.specs.List.{AllByRecursion, count_by, range_with_len}
+-- The requirements of an item are numbered from 1 on, and a log has few requirements and nodes.
+use Rattle.std.proofs.Common.{◌≡◌, ℕ, zero, suc, ◌+◌, ◌≤◌, ◌==◌, ◌&&◌, nat_lt, inl, inr, true, false, List, [], ◌∷◌, ◌++◌, map, filter, find, fold, length, slice_get, get_or, drop, refl, sym, ap, ◌∙◌, subst, arith}
+use Rattle.std.specs.List.{count_by, range_with_len}
 use Rattle.std.proofs.lemmas.Bool.{cases_Bool, eq-eqb, ne_eqb, eqb-true, ltb-false}
 use Rattle.std.proofs.lemmas.List.{map-append, length-map, length-append, append-nil}
 use Rattle.std.proofs.lemmas.List.Sums.{length-filter, count_by-le-length}
@@ -8,7 +8,7 @@ use Rattle.std.proofs.lemmas.List.Elements.{filter-append, recursion_from_All}
 use Rattle.spy_grammar.specs.declared.code.Code.TheVariants as codes
 use Rattle.vocabulary.specs.Prelude.{Record, Lined, Req, records_of, Tables, with_record, no_tables, tables_of}
 use Rattle.spy_grammar.specs.declared.record.Record.TheVariants as records
-use Rattle.semantics.specs.Faults.{declaration_fault}
+use Rattle.semantics.specs.Faults.{is_end}
 use Rattle.semantics.specs.Rules as rules
 use Rattle.log_laws.proofs.lemmas.Admitted.{Unbroken, rule_kept, by_records, no_broken_rule}
 use Rattle.log_laws.proofs.lemmas.Apart.{range-more}
@@ -62,42 +62,59 @@ all_numbered t (l ∷ log) h = all_numbered (with_record t l.line l.rec) log (mo
 
 -- ---- there are few
 
-longer : (rs : List Req) (r : Req) → length (rs ++ r ∷ []) ≤ length rs + 1
-longer rs r = omega (arith, length-append rs (r ∷ []))
+-- The requirements and the nodes.
+abbrev pub entries : Tables → ℕ
+entries t = length t.reqs + length t.nodes
 
-within_one : (t : Tables) (line : ℕ) (r : Record) → length (with_record t line r).reqs ≤ length t.reqs + 1
-within_one t line (records.Req task tree space fields access atomic) = longer t.reqs _
+longer : {X : Type 0} (xs : List X) (x : X) (n : ℕ) → length (xs ++ x ∷ []) + n ≤ length xs + n + 1
+longer xs x n = omega (arith, length-append xs (x ∷ []))
+
+longer_last : {X : Type 0} (xs : List X) (x : X) (n : ℕ) → n + length (xs ++ x ∷ []) ≤ n + length xs + 1
+longer_last xs x n = omega (arith, length-append xs (x ∷ []))
+
+within_one : (t : Tables) (line : ℕ) (r : Record) → entries (with_record t line r) ≤ entries t + 1
+within_one t line (records.Req task tree space fields access atomic) = longer t.reqs _ (length t.nodes)
+within_one t line (records.Run task done waits) = longer_last t.nodes _ (length t.reqs)
+within_one t line (records.Copy src dst space fields done waits) = longer_last t.nodes _ (length t.reqs)
+within_one t line (records.Put inst space fields n done waits) = longer_last t.nodes _ (length t.reqs)
+within_one t line (records.Reset inst space fields done waits) = longer_last t.nodes _ (length t.reqs)
+within_one t line (records.Fold src dst space fields done waits) = longer_last t.nodes _ (length t.reqs)
+within_one t line (records.Merge done waits) = longer_last t.nodes _ (length t.reqs)
 within_one t line _ = omega arith
 
-within_all : (t : Tables) (log : List Lined) → length
-    (fold (λ t (l : Lined). with_record t l.line l.rec) t log).reqs ≤ length t.reqs + length log
+within_all : (t : Tables) (log : List Lined) → entries (fold (λ t (l : Lined). with_record t l.line l.rec) t log) ≤ entries t + length log
 within_all t [] = omega arith
 within_all t (l ∷ log) = omega (arith, within_all (with_record t l.line l.rec) log, within_one t l.line l.rec)
 
 abbrev Few : Tables → Type 0
-Few t = length t.reqs ≤ 131073
+Few t = entries t ≤ 131073
 
 few_more : (log : List Record) (earlier : List Lined) (l : Lined) → Unbroken log earlier l.rec → Few (tables_of earlier)
     → Few (with_record (tables_of earlier) l.line l.rec)
-few_more log earlier l u few = by l.rec refl
+few_more log earlier l u few = elim (cases_Bool (is_end l.rec)) [
+  | inl last ↦ subst Few (sym (ended (tables_of earlier) l.line l.rec last)) few
+  | inr more ↦ omega (
+    arith,
+    ltb-false 131072 (length (records_of earlier)) (early (length (records_of earlier)) l.rec more (rule_kept codes.TooManyRecords refl u)),
+    length-map earlier (λ (l : Lined). l.rec),
+    within_all no_tables earlier,
+    within_one (tables_of earlier) l.line l.rec,
+  )
+]
   where
-    by : (r : Record) → l.rec ≡ r → Few (with_record (tables_of earlier) l.line r)
-    by (records.Req task tree space fields access atomic) e =
-        let early : nat_lt 131072 (length (records_of earlier)) ≡ false =
-        subst (λ r. rules.is_late (length (records_of earlier)) r ≡ false) e (rule_kept codes.TooManyRecords refl u) in
-        omega (
-          arith,
-          ltb-false 131072 (length (records_of earlier)) early,
-          length-map earlier (λ (l : Lined). l.rec),
-          within_all no_tables earlier,
-          within_one (tables_of earlier) l.line (records.Req task tree space fields access atomic),
-        )
-    by _ e = few
+    ended : (t : Tables) (line : ℕ) (r : Record) → is_end r ≡ true → with_record t line r ≡ t
+    ended t line (records.End n) e = refl
+    ended t line _ e = absurd cc
 
-few_reqs : (lines : ℕ) (log : List Lined) → AllByRecursion (λ r. Unit {0}) (records_of log) → declaration_fault lines log ≡ None
-    → Few (tables_of log)
-few_reqs lines log all e = by_records (λ r. Unit {0}) Few (records_of log)
-    (λ earlier l u _ few. few_more (records_of log) earlier l u few) [] log all (no_broken_rule lines log e) (omega arith)
+    early : (before : ℕ) (r : Record) → is_end r ≡ false → rules.is_late before r ≡ false → nat_lt 131072 before ≡ false
+    early before (records.End n) more e = absurd cc
+    early before _ more e = e
+
+-- A log has so few requirements and nodes.
+pub few_entries : (t : Tables) → AreDeclared t → entries t ≤ 131073
+few_entries t d = subst Few (sym d.tables) (by_records (λ r. Unit {0}) Few (records_of d.log)
+    (λ earlier l u _ few. few_more (records_of d.log) earlier l u few) [] d.log (recursion_from_All _ (records_of d.log) (λ k d lt. tt))
+    (no_broken_rule d.lines d.log d.faultless) (omega arith))
 
 -- ---- looked up by number
 
@@ -124,7 +141,7 @@ found_at (r ∷ rs) first (suc k) e =
 pub numbered : (t : Tables) → AreDeclared t → AreNumbered t
 numbered t d =
     let all = all_numbered no_tables d.log (λ item. refl) in
-    let few = few_reqs d.lines d.log (recursion_from_All _ (records_of d.log) (λ k d lt. tt)) d.faultless in
+    let few = subst Few d.tables (few_entries t d) in
     subst AreNumbered (sym d.tables) (record {
       found = λ item k lt.
           let one : k + 1 ≡ 1 + k = omega arith in

@@ -13,7 +13,7 @@ use Rattle.inst_steps.specs.declared.act.Act.{Act}
 use Rattle.inst_steps.specs.declared.act.Act.TheVariants as acts
 use Rattle.inst_steps.specs.declared.act.Action.{Action}
 use Rattle.inst_steps.specs.Acting.{steps_in}
-use Rattle.inst_steps.specs.Sweeps.{Pass, pass, pass_at, action_at, move_at, req_in, own_place, pass_actions, pass_moves, actions_of_pass, moves_of_pass, reading, changing, pass_for, passes_of}
+use Rattle.inst_steps.specs.Sweeps.{Pass, pass, pass_at, action_at, move_at, own_place, pass_actions, pass_moves, actions_of_pass, moves_of_pass, reading, changing, pass_for, passes_of}
 use Rattle.std.proofs.lemmas.Option.{slice_get-get_or}
 use Rattle.std.specs.Prelude.{IfSome}
 use Rattle.inst_steps.specs.declared.spot.Spot.{Spot}

@@ -2,5 +2,4 @@
 pub mod StoreMaps
 pub mod StoreLaws
 pub mod Covered
-pub mod Accesses
 pub mod StepCounts

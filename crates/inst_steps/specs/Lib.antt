@@ -4,6 +4,7 @@ pub mod Viewing
 pub mod Weighing
 pub mod Celled
 pub mod Grids
+pub mod Places
 pub mod Stepping
 pub mod Stores
 pub use Rattle.point_laws.specs.Cut

@@ -1,14 +1,14 @@
 -- The steps that are listed are those of the nodes in order, at a field.
 use Rattle.std.proofs.Common.{◌^◌, ◌≡◌, ℕ, zero, suc, ◌≤◌, ◌<◌, ◌==◌, inl, inr, List, [], ◌∷◌, ◌++◌, map, filter, flat_map, reverse, length, take, slice_index, refl, sym, ap, ap₂, ◌∙◌, arith, append-nil, add-one}
-use Rattle.std.proofs.lemmas.Bool.{cases_Bool}
+use Rattle.std.proofs.lemmas.Bool.{cases_Bool, eq-eqb, ne_eqb, eqb-true, true≢false}
 use Rattle.std.proofs.lemmas.List.{reverse-append, map-append, take_more, take_all, length-map, length-reverse}
 use Rattle.std.proofs.lemmas.List.Concat.{flat_map-append}
 use Rattle.std.proofs.lemmas.List.Elements.{filter-append}
-use Rattle.std.proofs.lemmas.List.Sums.{length-filter, count_by-le-length}
 use Rattle.vocabulary.specs.Prelude.{Move, Tables, Step, steps_by, graph_of, replay_steps}
 use Rattle.semantics.specs.ReplayOrder.{replay_order}
 use Rattle.point_laws.specs.Alike.{is_at, target}
 use Rattle.inst_steps.specs.Stepping.{moves_at}
+use Rattle.inst_steps.specs.Places.{is_at_place}
 use Rattle.provenance.specs.declared.taking.Taken.{Taken}
 use Rattle.provenance.specs.Listing.{step_of, at_field, kept_of, taken_by, taken_before}
 
@@ -55,12 +55,31 @@ listed_back t u ps field order items turned cut replayed is back =
     ap (map step_of) back ∙ map-reverse step_of items ∙ ap (λ xs. reverse (map step_of xs)) is
     ∙ ap reverse (listed_all u field order ∙ ap (filter (at_field field)) (cut ∙ ap (λ o. filter (is_at ps) (steps_by t o)) replayed))
 
-pub few_back : (u : Tables) (field : ℕ) (order : List ℕ) (items turned : List Taken) → length (steps_by u order) < 2 ^ 31
+-- What is at one of some points and at a field is at one point and one field, where there is one point.
+one_place : (point field : ℕ) (xs : List Step)
+    → filter (at_field field) (filter (is_at (point ∷ [])) xs) ≡ filter (is_at_place point field) xs
+one_place point field [] = refl
+one_place point field (x ∷ xs) = elim (cases_Bool (point == (target x.move).point)) [
+  | inl here ↦
+      let at = eq-eqb (target x.move).point point (sym (eqb-true point (target x.move).point here)) in
+      elim (cases_Bool ((target x.move).field == field)) [
+        | inl of ↦ rw (here, at, of) (ap (λ ys. x ∷ ys) (one_place point field xs))
+        | inr other ↦ rw (here, at, other) (one_place point field xs)
+      ]
+  | inr away ↦
+      let not_at = ne_eqb (target x.move).point point (λ e. true≢false (sym (eq-eqb point (target x.move).point (sym e)) ∙ away)) in
+      rw (away, not_at) (one_place point field xs)
+]
+
+pub few_back : (t u : Tables) (point field : ℕ) (order : List ℕ) (items turned : List Taken)
+    → steps_by u order ≡ filter (is_at (point ∷ [])) (steps_by t order) → order ≡ replay_order (graph_of t.nodes)
+    → length (filter (is_at_place point field) (replay_steps t)) < 2 ^ 31
     → items ≡ taken_before u field order (length order) → turned ≡ reverse items → length turned < 2 ^ 32
-few_back u field order items turned few is back =
-    let a : length turned ≡ length items = ap length back ∙ length-reverse items in
-    let b : length items ≡ length (filter (at_field field) (steps_by u order)) =
-    sym (length-map items step_of) ∙ ap (λ xs. length (map step_of xs)) is ∙ ap length (listed_all u field order) in
-    let c = length-filter (at_field field) (steps_by u order) in
-    let d = count_by-le-length (at_field field) (steps_by u order) in
-    omega (arith, a, b, c, d, few)
+few_back t u point field order items turned cut replayed few is back =
+    let steps = listed_back t u (point ∷ []) field order items turned cut replayed is back in
+    let xs = filter (at_field field) (filter (is_at (point ∷ [])) (replay_steps t)) in
+    omega (
+      arith,
+      few,
+      sym (length-map turned step_of) ∙ ap length steps ∙ length-reverse xs ∙ ap length (one_place point field (replay_steps t)),
+    )

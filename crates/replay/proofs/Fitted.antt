@@ -18,6 +18,7 @@ use Rattle.log_laws.proofs.lemmas.Members.{Member, Each, each_more, contains_of,
 use Rattle.log_laws.proofs.lemmas.StepLists.{of_node}
 use Rattle.log_laws.proofs.lemmas.Admitted.{Unbroken, rule_kept, by_records, no_broken_rule}
 use Rattle.inst_steps.specs.Celled.{AreOfInsts}
+use Rattle.inst_steps.specs.Places.{StaysAtPlace}
 use Rattle.inst_steps.specs.Stepping.{moves_at}
 use Rattle.replay.specs.Fitting.{Fits, IsOfItem, KeepsKinds, item_at, item_run}
 
@@ -135,20 +136,20 @@ nodes_fit t d = subst NodesFit (sym d.tables) (by_records (λ r. Unit {0}) Nodes
 
 -- What matters of a move of an operation that runs an item.
 abbrev Suits : Tables → ℕ → Move → Type 0
-Suits t item m = KeepsKinds t m × IsOfItem t item m
+Suits t item m = KeepsKinds t m × StaysAtPlace m × IsOfItem t item m
 
 module _ (t : Tables) (item task : ℕ) (at : place_of t.items task ≡ item) (within : item < length t.items) where
   read_suits : (number : ℕ) (p : Priv) (c : Cell) (m : Move) → Member (reads_by task number p c) m → Suits t item m
-  read_suits number privileges.Ro c m is = subst (Suits t item) (sym (only is)) (tt, (at, within))
-  read_suits number privileges.Rw c m is = subst (Suits t item) (sym (only is)) (tt, (at, within))
+  read_suits number privileges.Ro c m is = subst (Suits t item) (sym (only is)) (tt, tt, (at, within))
+  read_suits number privileges.Rw c m is = subst (Suits t item) (sym (only is)) (tt, tt, (at, within))
   read_suits number privileges.Wd c m is = absurd is
   read_suits number (privileges.Red op) c m is = absurd is
 
   change_suits : (number : ℕ) (p : Priv) (c : Cell) (m : Move) → Member (changes_by task number p c) m → Suits t item m
   change_suits number privileges.Ro c m is = absurd is
-  change_suits number privileges.Rw c m is = subst (Suits t item) (sym (only is)) (tt, tt)
-  change_suits number privileges.Wd c m is = subst (Suits t item) (sym (only is)) (tt, tt)
-  change_suits number (privileges.Red op) c m is = subst (Suits t item) (sym (only is)) (tt, tt)
+  change_suits number privileges.Rw c m is = subst (Suits t item) (sym (only is)) (tt, tt, tt)
+  change_suits number privileges.Wd c m is = subst (Suits t item) (sym (only is)) (tt, tt, tt)
+  change_suits number (privileges.Red op) c m is = subst (Suits t item) (sym (only is)) (tt, tt, tt)
 
   cells_suit : (does : Req → Cell → List Move) → ((r : Req) (c : Cell) (m : Move) → Member (does r c) m → Suits t item m)
       → (rs : List Req) (m : Move) → Member (at_cells t does rs) m → Suits t item m
@@ -172,16 +173,16 @@ op_suits : (t : Tables) → ((item : ℕ) → item < length t.items → place_of
 op_suits t apart (operations.Run item) h m is = run_suits t item (id_of t item) (apart item h) h (reqs_of t item) m is
 op_suits t apart (operations.Copy src dst space fields) h m is =
     let p = member_map (λ p. moves.Copy (cell_in src p) (cell_in dst p)) (grid (points_in t space) fields) m is in
-    subst (Suits t 0) (sym p.2) (kind_is t dst false h, tt)
+    subst (Suits t 0) (sym p.2) (kind_is t dst false h, (refl, refl), tt)
 op_suits t apart (operations.Put inst space fields n) h m is =
     let p = member_map (λ p. moves.Put (cell_in inst p) n) (grid (points_in t space) fields) m is in
-    subst (Suits t 0) (sym p.2) (tt, tt)
+    subst (Suits t 0) (sym p.2) (tt, tt, tt)
 op_suits t apart (operations.Reset inst space fields) h m is =
     let p = member_map (λ p. moves.Reset (cell_in inst p)) (grid (points_in t space) fields) m is in
-    subst (Suits t 0) (sym p.2) (tt, tt)
+    subst (Suits t 0) (sym p.2) (tt, tt, tt)
 op_suits t apart (operations.Fold src dst space fields) h m is =
     let p = member_map (λ p. moves.Fold (operator_of t src) (cell_in src p) (cell_in dst p)) (grid (points_in t space) fields) m is in
-    subst (Suits t 0) (sym p.2) ((kind_is t src true h.0, kind_is t dst false h.1), tt)
+    subst (Suits t 0) (sym p.2) ((kind_is t src true h.0, kind_is t dst false h.1), (refl, refl), tt)
 op_suits t apart operations.Merge h m is = absurd is
 
 -- ---- the steps
@@ -201,5 +202,6 @@ steps_fitted u nodes apart cells ks = all_of (Fits u) (steps_by u ks) (λ x m.
     record {
       cells = cells x.node x.move (contains_of (moves_at u x.node) x.move (subst (λ ms. Member ms x.move) (sym at) of.is_move));
       kinds = suits.0;
-      item = subst (λ i. IsOfItem u i x.move) (sym item) suits.1;
+      stays = suits.1;
+      item = subst (λ i. IsOfItem u i x.move) (sym item) suits.2;
     })

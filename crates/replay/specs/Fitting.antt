@@ -6,6 +6,7 @@ use Rattle.semantics.specs.declared.moves.Move.TheVariants as moves
 use Rattle.semantics.specs.declared.tables.Op.TheVariants as operations
 use Rattle.semantics.specs.Rules.{reduces_in}
 use Rattle.inst_steps.specs.Celled.{AreOfInsts}
+use Rattle.inst_steps.specs.Places.{StaysAtPlace}
 
 -- The item that an operation runs.
 abbrev pub item_run : Op → ℕ
@@ -27,8 +28,9 @@ KeepsKinds t (moves.Copy from to) = reduces_in t to.inst ≡ false
 KeepsKinds t (moves.Fold op from to) = (reduces_in t from.inst ≡ true) × (reduces_in t to.inst ≡ false)
 KeepsKinds t _ = Unit {0}
 
--- A step is of instances of the right kinds, and a read is of the item that its node runs.
+-- A step is of instances of the right kinds, from one to another at one point and field, and a read is of the item that its node runs.
 pub record Fits (t : Tables) (x : Step) : Type 0 where
   pub cells : AreOfInsts t x.move
   pub kinds : KeepsKinds t x.move
+  pub stays : StaysAtPlace x.move
   pub item : IsOfItem t (item_at t x.node) x.move

@@ -1,35 +1,41 @@
--- The steps of a replay are few.
-use Rattle.std.proofs.Common.{◌≡◌, ◌≢◌, ℕ, suc, ◌+◌, ◌*◌, ◌≤◌, ◌<◌, ◌^◌, ◌==◌, inl, inr, true, false, List, [], ◌∷◌, ◌++◌, map, filter, flat_map, length, slice_get, refl, sym, ap, ◌∙◌, subst, arith, AllPairs, Contains, append-nil, append_assoc, sum_by, Option, Some, None}
+-- The steps of a replay at one point and field are few.
+use Rattle.std.proofs.Common.{◌≡◌, ◌≢◌, ℕ, suc, ◌+◌, ◌*◌, ◌≤◌, ◌<◌, ◌^◌, ◌==◌, ◌&&◌, ◌⊎◌, inl, inr, Bool, true, false, List, [], ◌∷◌, ◌++◌, filter, flat_map, length, slice_get, refl, sym, ap, ap₂, ◌∙◌, subst, arith, append-nil, append_assoc, Option, Some, None}
 use Rattle.std.specs.List.{range_with_len}
 use Rattle.std.specs.Option.{option_map_or}
-use Rattle.std.proofs.lemmas.Bool.{eqb-true, eq-eqb, true≢false}
+use Rattle.std.proofs.lemmas.Bool.{cases_Bool, and_parts, eqb-true, eq-eqb, true≢false}
 use Rattle.std.proofs.lemmas.List.{length-append, length-map}
-use Rattle.std.proofs.lemmas.List.Sums.{sum_by-cons, length-filter, count_by-le-length}
-use Rattle.std.proofs.lemmas.List.Elements.{recursion_from_All}
-use Rattle.std.proofs.lemmas.List.Concat.{flat_map-append}
-use Rattle.vocabulary.specs.Prelude.{Priv, Record, Cell, Move, Req, LogNode, Op, records_of, Tables, place_of, with_record, tables_of, graph_of, replay_steps, points_in, reqs_of, grid, req_grid, Step, mapped_cell, at_cells, reads_by, changes_by, run_moves, move_of, data_moves, moves_of, id_of, steps_by}
+use Rattle.std.proofs.lemmas.List.Elements.{filter-append, recursion_from_All}
+use Rattle.std.proofs.lemmas.List.Concat.{flat_map-append, flat_map_single}
+use Rattle.vocabulary.specs.Prelude.{Priv, Record, Good, Cell, Move, Req, LogNode, Op, records_of, Tables, place_of, with_record, tables_of, graph_of, replay_steps, points_in, reqs_of, grid, req_grid, Step, mapped_cell, at_cells, reads_by, changes_by, run_moves, move_of, data_moves, moves_of, id_of}
 use Rattle.privilege.specs.declared.kinds.Priv.TheVariants as privileges
 use Rattle.spy_grammar.specs.declared.code.Code.TheVariants as codes
 use Rattle.spy_grammar.specs.declared.record.Record.TheVariants as records
 use Rattle.semantics.specs.declared.tables.Op.TheVariants as operations
-use Rattle.semantics.specs.DataOps.{DataOp, data_of}
+use Rattle.semantics.specs.DataOps.{DataAct, Copies, Puts, Resets, Folds, DataOp, data_of}
 use Rattle.semantics.specs.declared.command.Command.TheVariants.{Deps}
 use Rattle.semantics.specs.ReplayOrder.{replay_order}
-use Rattle.semantics.specs.Rules.{size_of, runs_item, is_run_again}
-use Rattle.point_laws.specs.Alike.{is_at}
+use Rattle.semantics.specs.Rules.{runs_item, is_run_again}
+use Rattle.point_laws.specs.Alike.{HasPointsInOrder, is_at, target}
 use Rattle.point_laws.specs.Cut.{cut_to}
 use Rattle.point_laws.proofs.lemmas.Cuts.{steps_cut}
+use Rattle.point_laws.proofs.lemmas.Order.{good_in_order, points_in_apart}
 use Rattle.logs.specs.Faultless.{AreDeclared}
-use Rattle.log_laws.proofs.lemmas.Members.{Member, contains_of, member_left, member_right, member_append, member_flat, member_filter, none_at, only}
-use Rattle.log_laws.proofs.lemmas.Apart.{Apart, pairs_from, pairs_append, apart_flat, apart_filter, number_in}
-use Rattle.log_laws.proofs.lemmas.Lists.{split_at}
+use Rattle.log_laws.proofs.lemmas.Members.{Member, Each, each_more, contains_of, member_left, member_right, member_append, member_flat, member_filter, none_at, only}
+use Rattle.log_laws.proofs.lemmas.Apart.{Apart, pairs_from, pairs_append, apart_flat, apart_filter, fields_apart, grid_apart, number_in}
+use Rattle.log_laws.proofs.lemmas.Lists.{split_at, filter_map_of, filter_short}
 use Rattle.log_laws.proofs.lemmas.Rounds.{replay, once, listed_decides}
 use Rattle.log_laws.proofs.lemmas.Sane.{reqs_apart}
 use Rattle.log_laws.proofs.lemmas.Admitted.{rule_kept, by_records, no_broken_rule, sane}
 use Rattle.log_laws.proofs.lemmas.StepLists.{moves_at, steps_at}
-use Rattle.inst_steps.proofs.lemmas.Accesses.{sizes, data_size, op_size, op_sizes, few_accesses}
+use Rattle.inst_steps.specs.Places.{is_cell_at, is_at_place}
+use Rattle.inst_steps.proofs.Numbers.{few_entries}
 
--- ---- lengths
+-- ---- lists that are made part by part
+
+filter_flat : {X Y : Type 0} (p : Y → Bool) (g : X → List Y) (xs : List X)
+    → filter p (flat_map g xs) ≡ flat_map (λ x. filter p (g x)) xs
+filter_flat p g [] = refl
+filter_flat p g (x ∷ xs) = filter-append p (g x) (flat_map g xs) ∙ ap (λ ys. filter p (g x) ++ ys) (filter_flat p g xs)
 
 flat_append : {X Y : Type 0} (g : X → List Y) (xs ys : List X)
     → length (flat_map g (xs ++ ys)) ≡ length (flat_map g xs) + length (flat_map g ys)
@@ -55,54 +61,69 @@ flat_few g (k ∷ ks) ns h within =
       | inr (inr r) ↦ member_right front back x r
     ]
 
-flat_ones : {X Y : Type 0} (f : X → List Y) → ((x : X) → length (f x) ≤ 1) → (xs : List X) → length (flat_map f xs) ≤ length xs
-flat_ones f one [] = omega arith
-flat_ones f one (x ∷ xs) =
-    let a = length-append (f x) (flat_map f xs) in
-    let rest = flat_ones f one xs in
-    let here = one x in
-    omega (arith, a, rest, here)
+-- Different elements of a list are no more than the list has.
+fewer : {X : Type 0} (xs ys : List X) → Apart xs → Each (Member ys) xs → length xs ≤ length ys
+fewer xs ys h within = omega (arith, flat_few (λ x. x ∷ []) xs ys h within, singles xs, singles ys)
+  where
+    singles : {X : Type 0} (zs : List X) → length (flat_map (λ x. x ∷ []) zs) ≡ length zs
+    singles zs = ap length (flat_map_single (λ x. x) zs) ∙ length-map zs (λ x. x)
 
-grid_size : (points fields : List ℕ) → length (grid points fields) ≡ length points * length fields
-grid_size [] fields = omega arith
-grid_size (x ∷ points) fields =
-    let at : ℕ → ℕ × ℕ = λ f. (x, f) in
-    let a = length-append (map at fields) (grid points fields) in
-    let b = length-map fields at in
-    let rest = grid_size points fields in
-    a ∙ ap (λ n. n + length (grid points fields)) b ∙ ap (λ n. length fields + n) rest ∙ omega arith
+-- Parts of no more than one element each have together no more than there are parts.
+flat_ones : {X Y : Type 0} (g : X → List Y) (xs : List X) → Each (λ x. length (g x) ≤ 1) xs → length (flat_map g xs) ≤ length xs
+flat_ones g [] one = omega arith
+flat_ones g (x ∷ xs) one =
+    omega (arith, length-append (g x) (flat_map g xs), flat_ones g xs (λ y m. one y (inr m)), one x (inl refl))
 
--- ---- the moves of an operation
+flat_nothing : {X Y : Type 0} (g : X → List Y) (xs : List X) → Each (λ x. g x ≡ []) xs → flat_map g xs ≡ []
+flat_nothing g [] none = refl
+flat_nothing g (x ∷ xs) none = ap₂ ◌++◌ (none x (inl refl)) (flat_nothing g xs (λ y m. none y (inr m)))
 
-cells_few : (t : Tables) (does : Req → Cell → List Move) → ((r : Req) (c : Cell) → length (does r c) ≤ 1) → (rs : List Req)
-    → length (at_cells t does rs) ≤ length (flat_map (req_grid t) rs)
-cells_few t does one [] = omega arith
-cells_few t does one (r ∷ rs) =
-    let here = flat_ones (λ p. does r (mapped_cell t r p)) (λ p. one r (mapped_cell t r p)) (req_grid t r) in
-    let rest = cells_few t does one rs in
-    let a = length-append (flat_map (λ p. does r (mapped_cell t r p)) (req_grid t r)) (at_cells t does rs) in
-    let b = length-append (req_grid t r) (flat_map (req_grid t) rs) in
-    omega (arith, here, rest, a, b)
+-- Of different parts only one has an element, and no more than one.
+flat_one : {X Y : Type 0} (g : X → List Y) (key : X) → ((x : X) → (x ≡ key) ⊎ (g x ≡ [])) → ((x : X) → length (g x) ≤ 1) → (xs : List X)
+    → Apart xs → length (flat_map g xs) ≤ 1
+flat_one g key tells one [] h = omega arith
+flat_one g key tells one (x ∷ xs) h =
+    let all = length-append (g x) (flat_map g xs) in
+    elim (tells x) [
+      | inl is ↦
+          let none : Each (λ y. g y ≡ []) xs =
+          λ y m. elim (tells y) [ inl same ↦ absurd (h.0 y m (is ∙ sym same)) | inr none ↦ none ] in
+          omega (arith, all, one x, ap length (flat_nothing g xs none))
+      | inr none ↦ omega (arith, all, ap length none, flat_one g key tells one xs h.1)
+    ]
+
+-- What passes two tests is no more than what passes the one.
+filter_both : {X : Type 0} (p q : X → Bool) (xs : List X) → length (filter p (filter q xs)) ≤ length (filter p xs)
+filter_both p q [] = omega arith
+filter_both p q (x ∷ xs) = elim (cases_Bool (q x)) [
+  | inl kept ↦ elim (cases_Bool (p x)) [
+    | inl here ↦ rw (kept, here) (omega (arith, filter_both p q xs))
+    | inr away ↦ rw (kept, away) (filter_both p q xs)
+  ]
+  | inr left ↦ elim (cases_Bool (p x)) [
+    | inl here ↦ rw (left, here) (omega (arith, filter_both p q xs))
+    | inr away ↦ rw (left, away) (filter_both p q xs)
+  ]
+]
+
+-- ---- the moves of a node at a point and a field
 
 one_read : (task number : ℕ) (p : Priv) (c : Cell) → length (reads_by task number p c) ≤ 1
 one_read task number privileges.Ro c = omega arith
 one_read task number privileges.Rw c = omega arith
-one_read task number privileges.Wd c = omega arith
-one_read task number (privileges.Red op) c = omega arith
+one_read task number _ c = omega arith
 
 one_change : (task number : ℕ) (p : Priv) (c : Cell) → length (changes_by task number p c) ≤ 1
 one_change task number privileges.Ro c = omega arith
-one_change task number privileges.Rw c = omega arith
-one_change task number privileges.Wd c = omega arith
-one_change task number (privileges.Red op) c = omega arith
+one_change task number _ c = omega arith
 
-run_few : (t : Tables) (task : ℕ) (rs : List Req) → length (run_moves t task rs) ≤ 2 * length (flat_map (req_grid t) rs)
-run_few t task rs =
-    let reads = cells_few t (λ r c. reads_by task r.number r.access c) (λ r c. one_read task r.number r.access c) rs in
-    let changes = cells_few t (λ r c. changes_by task r.number r.access c) (λ r c. one_change task r.number r.access c) rs in
-    let a = length-append (at_cells t (λ r c. reads_by task r.number r.access c) rs)
-    (at_cells t (λ r c. changes_by task r.number r.access c) rs) in
-    omega (arith, reads, changes, a)
+abbrev data_fields : Option DataOp → List ℕ
+data_fields o = option_map_or (λ (d : DataOp). d.fields) o []
+
+-- No requirement and no operation has a field twice.
+record HasFieldsApart (t : Tables) : Type 0 where
+  reqs : Each (λ (r : Req). Apart r.fields) t.reqs
+  nodes : Each (λ (n : LogNode). Apart (data_fields (data_of n.op))) t.nodes
 
 abbrev runs_of : Op → List ℕ
 runs_of (operations.Run item) = item ∷ []
@@ -114,59 +135,113 @@ run_items ns = flat_map (λ (n : LogNode). runs_of n.op) ns
 abbrev own_reqs : Tables → List ℕ → List Req
 own_reqs t items = flat_map (reqs_of t) items
 
-abbrev owned : Tables → List ℕ → ℕ
-owned t items = length (flat_map (req_grid t) (own_reqs t items))
+module _ (t : Tables) (order : HasPointsInOrder t) (fields : HasFieldsApart t) (point field : ℕ) where
+  abbrev is_here : Cell → Bool
+  is_here c = is_cell_at point field c
 
-owned_more : (t : Tables) (items others : List ℕ) → owned t (items ++ others) ≡ owned t items + owned t others
-owned_more t [] others = omega arith
-owned_more t (item ∷ items) others =
-    let a = flat_append (req_grid t) (reqs_of t item) (own_reqs t (items ++ others)) in
-    let b = flat_append (req_grid t) (reqs_of t item) (own_reqs t items) in
-    let rest = owned_more t items others in
-    omega (arith, a, b, rest)
+  abbrev here : List Move → List Move
+  here ms = filter (λ m. is_here (target m)) ms
 
-data_few : (t : Tables) (o : Option DataOp) → length (data_moves t o) ≤ 2 * 0 + data_size t o
-data_few t None = omega arith
-data_few t (Some d) = let a = length-map (grid (points_in t d.space) d.fields) (move_of t d.act) in let b =
-    grid_size (points_in t d.space) d.fields in omega (arith, a, b)
+  none_read : (task number : ℕ) (p : Priv) (c : Cell) → is_here c ≡ false → here (reads_by task number p c) ≡ []
+  none_read task number privileges.Ro c e = rw e refl
+  none_read task number privileges.Rw c e = rw e refl
+  none_read task number _ c e = refl
 
-op_few : (t : Tables) (op : Op) → length (moves_of t op) ≤ 2 * owned t (runs_of op) + op_size t op
-op_few t (operations.Run item) =
-    let all = run_few t (id_of t item) (reqs_of t item) in
-    let same = ap (λ rs. length (flat_map (req_grid t) rs)) (append-nil (reqs_of t item)) in
-    omega (arith, all, same)
-op_few t op = data_few t (data_of op)
+  none_change : (task number : ℕ) (p : Priv) (c : Cell) → is_here c ≡ false → here (changes_by task number p c) ≡ []
+  none_change task number privileges.Ro c e = refl
+  none_change task number _ c e = rw e refl
 
--- ---- the moves of all nodes
+  -- Where no more than one move is done for each point and field, and it is there, no more than one is done here.
+  one_here : (does : ℕ × ℕ → List Move) → ((p : ℕ × ℕ) → length (does p) ≤ 1)
+      → ((p : ℕ × ℕ) → ((p.0 == point) && (p.1 == field)) ≡ false → here (does p) ≡ []) → (space : ℕ) (fields : List ℕ) → Apart fields
+      → length (here (flat_map does (grid (points_in t space) fields))) ≤ 1
+  one_here does one none space fields apart =
+      let cells = grid (points_in t space) fields in
+      subst (λ ms. length ms ≤ 1) (sym (filter_flat (λ m. is_here (target m)) does cells))
+      (flat_one (λ p. here (does p)) (point, field) at (λ p. omega (arith, one p, filter_short (λ m. is_here (target m)) (does p))) cells
+      (grid_apart (points_in t space) fields (points_in_apart t order space) apart))
+    where
+      at : (p : ℕ × ℕ) → (p ≡ (point, field)) ⊎ (here (does p) ≡ [])
+      at p = elim (cases_Bool ((p.0 == point) && (p.1 == field))) [
+        | inl is ↦
+            let both = and_parts (p.0 == point) (p.1 == field) is in
+            inl (ap₂ (λ x f. (x, f)) (eqb-true p.0 point both.0) (eqb-true p.1 field both.1))
+        | inr other ↦ inr (none p other)
+      ]
 
-abbrev node_moves : Tables → LogNode → ℕ
-node_moves t n = length (moves_of t n.op)
+  cells_few : (does : Req → Cell → List Move) → ((r : Req) (c : Cell) → length (does r c) ≤ 1)
+      → ((r : Req) (c : Cell) → is_here c ≡ false → here (does r c) ≡ []) → (rs : List Req) → Each (Member t.reqs) rs
+      → length (here (at_cells t does rs)) ≤ length rs
+  cells_few does one none rs within =
+      let part : Req → List Move = λ r. flat_map (λ p. does r (mapped_cell t r p)) (req_grid t r) in
+      subst (λ ms. length ms ≤ length rs) (sym (filter_flat (λ m. is_here (target m)) part rs))
+      (flat_ones (λ r. here (part r)) rs (λ r m.
+      one_here (λ p. does r (mapped_cell t r p)) (λ p. one r (mapped_cell t r p)) (λ p e. none r (mapped_cell t r p) e) r.space r.fields
+      (fields.reqs r (within r m))))
 
-nodes_few : (t : Tables) (ns : List LogNode) → sum_by (node_moves t) ns ≤ 2 * owned t (run_items ns) + op_sizes t ns
-nodes_few t [] = omega arith
-nodes_few t (n ∷ ns) =
-    let here = op_few t n.op in
-    let rest = nodes_few t ns in
-    let a = owned_more t (runs_of n.op) (run_items ns) in
-    let moves = sum_by-cons (node_moves t) n ns in
-    let ops = sum_by-cons (λ (n : LogNode). op_size t n.op) n ns in
-    omega (arith, here, rest, a, moves, ops)
+  -- A task does no more than two moves here for each of its requirements.
+  run_few : (task : ℕ) (rs : List Req) → Each (Member t.reqs) rs → length (here (run_moves t task rs)) ≤ 2 * length rs
+  run_few task rs within =
+      let reads : Req → Cell → List Move = λ r c. reads_by task r.number r.access c in
+      let changes : Req → Cell → List Move = λ r c. changes_by task r.number r.access c in
+      omega (
+        arith,
+        cells_few reads (λ r c. one_read task r.number r.access c) (λ r c e. none_read task r.number r.access c e) rs within,
+        cells_few changes (λ r c. one_change task r.number r.access c) (λ r c e. none_change task r.number r.access c e) rs within,
+        ap length (filter-append (λ m. is_here (target m)) (at_cells t reads rs) (at_cells t changes rs)),
+        length-append (here (at_cells t reads rs)) (here (at_cells t changes rs)),
+      )
 
-by_places : (t : Tables) (first : ℕ) (ns : List LogNode) → ((k : ℕ) → slice_get t.nodes (first + k) ≡ slice_get ns k)
-    → length (flat_map (steps_at t) (range_with_len first (length ns))) ≡ sum_by (node_moves t) ns
-by_places t first [] at = refl
-by_places t first (n ∷ ns) at =
-    let one : first + 0 ≡ first = omega arith in
-    let here : moves_at t first ≡ moves_of t n.op =
-    ap (λ o. option_map_or (λ (n : LogNode). moves_of t n.op) o []) (ap (slice_get t.nodes) (sym one) ∙ at 0) in
-    let rest = by_places t (first + 1) ns (λ k. let far : first + 1 + k ≡ first + suc k = omega arith in
-    ap (slice_get t.nodes) far ∙ at (suc k)) in
-    let a = length-append (steps_at t first) (flat_map (steps_at t) (range_with_len (first + 1) (length ns))) in
-    let step : Move → Step = λ m. record { node = first; move = m } in
-    let b = length-map (moves_at t first) step in
-    let c = ap length here in
-    let all = sum_by-cons (node_moves t) n ns in
-    omega (arith, rest, a, b, c, all)
+  -- An operation on data does no more than one.
+  data_few : (o : Option DataOp) → Apart (data_fields o) → length (here (data_moves t o)) ≤ 1
+  data_few None apart = omega arith
+  data_few (Some d) apart =
+      subst (λ ms. length (here ms) ≤ 1) (flat_map_single (move_of t d.act) (grid (points_in t d.space) d.fields))
+      (one_here (λ p. move_of t d.act p ∷ []) (λ p. omega arith) (λ p e. none_moved d.act p e) d.space d.fields apart)
+    where
+      none_moved : (act : DataAct) (p : ℕ × ℕ) → ((p.0 == point) && (p.1 == field)) ≡ false → here (move_of t act p ∷ []) ≡ []
+      none_moved (Copies src dst) p e = rw e refl
+      none_moved (Puts inst n) p e = rw e refl
+      none_moved (Resets inst) p e = rw e refl
+      none_moved (Folds src dst) p e = rw e refl
+
+  node_few : (op : Op) → Apart (data_fields (data_of op)) → length (here (moves_of t op)) ≤ 2 * length (own_reqs t (runs_of op)) + 1
+  node_few (operations.Run item) apart =
+      omega (
+        arith,
+        run_few (id_of t item) (reqs_of t item) (λ r m. (member_filter (λ (r : Req). r.item == item) t.reqs r m).0),
+        ap length (append-nil (reqs_of t item)),
+      )
+  node_few op apart = omega (arith, data_few (data_of op) apart)
+
+  -- ---- the steps of all nodes here
+
+  abbrev steps_here : ℕ → List Step
+  steps_here k = filter (is_at_place point field) (steps_at t k)
+
+  nodes_few : (first : ℕ) (ns : List LogNode) → ((k : ℕ) → slice_get t.nodes (first + k) ≡ slice_get ns k)
+      → Each (λ (n : LogNode). Apart (data_fields (data_of n.op))) ns
+      → length (flat_map steps_here (range_with_len first (length ns))) ≤ 2 * length (own_reqs t (run_items ns)) + length ns
+  nodes_few first [] at apart = omega arith
+  nodes_few first (n ∷ ns) at apart =
+      let one : first + 0 ≡ first = omega arith in
+      let moves : moves_at t first ≡ moves_of t n.op =
+      ap (λ o. option_map_or (λ (n : LogNode). moves_of t n.op) o []) (ap (slice_get t.nodes) (sym one) ∙ at 0) in
+      let step : Move → Step = λ m. record { node = first; move = m } in
+      let own : length (steps_here first) ≡ length (here (moves_of t n.op)) =
+      ap length (filter_map_of (is_at_place point field) step (moves_at t first)) ∙ length-map (here (moves_at t first)) step
+      ∙ ap (λ ms. length (here ms)) moves in
+      let rest = nodes_few (first + 1) ns (λ k. let far : first + 1 + k ≡ first + suc k = omega arith in
+      ap (slice_get t.nodes) far ∙ at (suc k)) (λ m is. apart m (inr is)) in
+      omega (
+        arith,
+        own,
+        rest,
+        node_few n.op (apart n (inl refl)),
+        length-append (steps_here first) (flat_map steps_here (range_with_len (first + 1) (length ns))),
+        ap length (flat_map-append (reqs_of t) (runs_of n.op) (run_items ns)),
+        length-append (own_reqs t (runs_of n.op)) (own_reqs t (run_items ns)),
+      )
 
 -- ---- each item is run once
 
@@ -210,61 +285,71 @@ run_once t d = subst RunOnce (sym d.tables) (by_records (λ r. Unit {0}) RunOnce
     (λ earlier l u _. more_once (tables_of earlier) l.line l.rec (rule_kept codes.TwoRuns refl u))
     [] d.log (recursion_from_All _ (records_of d.log) (λ k d lt. tt)) (no_broken_rule d.lines d.log d.faultless) tt)
 
+-- ---- no field twice
+
+with_good : (t : Tables) (line : ℕ) (r : Record) → Good r → HasFieldsApart t → HasFieldsApart (with_record t line r)
+with_good t line (records.Req task tree space fields access atomic) good h =
+    record { reqs = each_more _ t.reqs _ h.reqs (fields_apart _ good.1.1.1.0); nodes = h.nodes }
+with_good t line (records.Run task done waits) good h = record { reqs = h.reqs; nodes = each_more _ t.nodes _ h.nodes tt }
+with_good t line (records.Copy src dst space fields done waits) good h =
+    record { reqs = h.reqs; nodes = each_more _ t.nodes _ h.nodes (fields_apart fields good.1.1.1.0) }
+with_good t line (records.Put inst space fields n done waits) good h =
+    record { reqs = h.reqs; nodes = each_more _ t.nodes _ h.nodes (fields_apart fields good.1.1.0) }
+with_good t line (records.Reset inst space fields done waits) good h =
+    record { reqs = h.reqs; nodes = each_more _ t.nodes _ h.nodes (fields_apart fields good.1.1.0) }
+with_good t line (records.Fold src dst space fields done waits) good h =
+    record { reqs = h.reqs; nodes = each_more _ t.nodes _ h.nodes (fields_apart fields good.1.1.1.0) }
+with_good t line (records.Merge done waits) good h = record { reqs = h.reqs; nodes = each_more _ t.nodes _ h.nodes tt }
+with_good t line _ good h = record { reqs = h.reqs; nodes = h.nodes }
+
 -- ---- all together
 
-own_few : (t : Tables) → Apart t.reqs → (items : List ℕ) → Apart items → owned t items ≤ sizes t t.reqs
-own_few t reqs items h =
-    let apart = apart_flat (reqs_of t) items (λ i m. apart_filter (λ (r : Req). r.item == i) t.reqs reqs)
-    (λ i j r _ _ a b. sym (eqb-true r.item i (member_filter (λ (r : Req). r.item == i) t.reqs r a).1)
-    ∙ eqb-true r.item j (member_filter (λ (r : Req). r.item == j) t.reqs r b).1) h in
-    let some = flat_few (req_grid t) (own_reqs t items) t.reqs apart (λ r m.
-    let at = member_flat (reqs_of t) items r m in (member_filter (λ (r : Req). r.item == at.0) t.reqs r at.2).0) in
-    let all = grids t t.reqs in
-    omega (arith, some, all)
-  where
-    grids : (t : Tables) (rs : List Req) → length (flat_map (req_grid t) rs) ≡ sizes t rs
-    grids t [] = refl
-    grids t (r ∷ rs) =
-        let a = length-append (req_grid t r) (flat_map (req_grid t) rs) in
-        let b = grid_size (points_in t r.space) r.fields in
-        let rest = grids t rs in
-        omega (arith, a, b, rest, sum_by-cons (λ (r : Req). size_of t r.space r.fields) r rs)
+module _ (t : Tables) (d : AreDeclared t) where
+  in_order : HasPointsInOrder t
+  in_order = subst HasPointsInOrder (sym d.tables) (good_in_order d.log d.good)
 
-sane_reqs : (t : Tables) → AreDeclared t → Apart t.reqs
-sane_reqs t d = subst (λ (u : Tables). Apart u.reqs) (sym d.tables)
-    (reqs_apart (tables_of d.log) (sane Deps d.log (record { records = no_broken_rule d.lines d.log d.faultless; maps = refl })))
+  no_field_twice : HasFieldsApart t
+  no_field_twice = subst HasFieldsApart (sym d.tables) (by_records Good HasFieldsApart (records_of d.log)
+      (λ earlier l u good h. with_good (tables_of earlier) l.line l.rec good h) [] d.log d.good (no_broken_rule d.lines d.log d.faultless)
+      (record { reqs = λ r m. absurd m; nodes = λ n m. absurd m }))
 
-steps_few : (t : Tables) → AreDeclared t → length (flat_map (steps_at t) (range_with_len 0 (length t.nodes))) ≤ 8388608
-steps_few t d =
-    let all = few_accesses t d in
-    let own = own_few t (sane_reqs t d) (run_items t.nodes) (run_once t d) in
-    let nodes = nodes_few t t.nodes in
-    let same = by_places t 0 t.nodes (λ k. let e : 0 + k ≡ k = omega arith in ap (slice_get t.nodes) e) in
-    omega (arith, all, own, nodes, same)
+  all_apart : Apart t.reqs
+  all_apart = subst (λ (u : Tables). Apart u.reqs) (sym d.tables)
+      (reqs_apart (tables_of d.log) (sane Deps d.log (record { records = no_broken_rule d.lines d.log d.faultless; maps = refl })))
 
-replay_few : (t : Tables) → AreDeclared t → (ks : List ℕ) → AllPairs (λ a b. a ≢ b) ks → ((k : ℕ) → Contains ks k → k < length t.nodes)
-    → length (steps_by t ks) < 2 ^ 31
-replay_few t d ks once within =
-    let some = flat_few (steps_at t) ks (range_with_len 0 (length t.nodes)) (pairs_from (λ a b. a ≢ b) ks once)
-    (λ k m. number_in (length t.nodes) k (within k (contains_of ks k m))) in
-    let all = steps_few t d in
-    omega (arith, some, all)
+  own_few : (items : List ℕ) → Apart items → length (own_reqs t items) ≤ length t.reqs
+  own_few items h =
+      fewer (own_reqs t items) t.reqs (apart_flat (reqs_of t) items (λ i m. apart_filter (λ (r : Req). r.item == i) t.reqs all_apart)
+      (λ i j r _ _ a b. sym (eqb-true r.item i (member_filter (λ (r : Req). r.item == i) t.reqs r a).1)
+      ∙ eqb-true r.item j (member_filter (λ (r : Req). r.item == j) t.reqs r b).1) h)
+      (λ r m. let at = member_flat (reqs_of t) items r m in (member_filter (λ (r : Req). r.item == at.0) t.reqs r at.2).0)
 
--- Each node stands in the replay order once, and runs and operations make at most two steps of an access: so they are few, at all points and at listed ones.
-pub steps_are_few : (t : Tables) → AreDeclared t → (listed : Option (List ℕ)) → length (replay_steps (cut_to listed t)) < 2 ^ 31
-steps_are_few t d listed = by listed
-  where
-    few : length (steps_by t (replay_order (graph_of t.nodes))) < 2 ^ 31
-    few =
-        let ns = graph_of t.nodes in
-        replay_few t d (replay_order ns) (once (replay ns).taken)
-        (λ k h. subst (λ n. k < n) (length-map t.nodes _) ((listed_decides ns k).0 h).0)
+  -- Each node stands in the replay order once.
+  whole_few : (point field : ℕ) → length (filter (is_at_place point field) (replay_steps t)) < 2 ^ 31
+  whole_few point field =
+      let ns = graph_of t.nodes in
+      let ks = replay_order ns in
+      let steps : ℕ → List Step = λ k. filter (is_at_place point field) (steps_at t k) in
+      let within : Each (Member (range_with_len 0 (length t.nodes))) ks =
+      λ k m. number_in (length t.nodes) k (subst (λ n. k < n) (length-map t.nodes _) ((listed_decides ns k).0 (contains_of ks k m)).0) in
+      omega (
+        arith,
+        ap length (filter_flat (is_at_place point field) (steps_at t) ks),
+        flat_few steps ks (range_with_len 0 (length t.nodes)) (pairs_from (λ a b. a ≢ b) ks (once (replay ns).taken)) within,
+        nodes_few t in_order no_field_twice point field 0 t.nodes (λ k. let e : 0 + k ≡ k = omega arith in ap (slice_get t.nodes) e)
+            no_field_twice.nodes,
+        own_few (run_items t.nodes) (run_once t d),
+        few_entries t d,
+      )
 
-    by : (listed : Option (List ℕ)) → length (replay_steps (cut_to listed t)) < 2 ^ 31
-    by None = few
-    by (Some points) =
-        let xs = steps_by t (replay_order (graph_of t.nodes)) in
-        let same = ap length (steps_cut points t (replay_order (graph_of t.nodes))) in
-        let fewer = length-filter (is_at points) xs in
-        let bound = count_by-le-length (is_at points) xs in
-        omega (arith, few, same, fewer, bound)
+  -- A replay takes few steps at a point and a field, also in tables that are cut: a run makes no more than two for each requirement of its task, an operation on data no more than one, and each task is run once.
+  pub steps_are_few : (listed : Option (List ℕ)) (point field : ℕ)
+      → length (filter (is_at_place point field) (replay_steps (cut_to listed t))) < 2 ^ 31
+  steps_are_few None point field = whole_few point field
+  steps_are_few (Some points) point field =
+      omega (
+        arith,
+        whole_few point field,
+        ap (λ xs. length (filter (is_at_place point field) xs)) (steps_cut points t (replay_order (graph_of t.nodes))),
+        filter_both (is_at_place point field) (is_at points) (replay_steps t),
+      )

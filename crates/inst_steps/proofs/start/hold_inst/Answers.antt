@@ -1,6 +1,5 @@
 use Rattle.std.proofs.Common.{sym}
 use Rattle.std.proofs.lemmas.Result.{on_ok_weaker}
-use Rattle.vocabulary.specs.Prelude.{points_in}
 use Rattle.inst_steps.proofs.Starting.{one_inst_by, no_points_held}
 use Rattle.inst_steps.proofs.start.hold_inst.Goals as goal
 

@@ -2,7 +2,7 @@ use Rattle.std.proofs.Common.{ℕ, List, Some, cond, sym, ap, ◌∙◌}
 use Rattle.std.specs.FinMap.{get}
 use Rattle.vocabulary.specs.Prelude.{plain, is_in}
 use Rattle.inst_steps.specs.Stores.{is_at_points}
-use Rattle.inst_steps.proofs.Starting.{all_points, more_points}
+use Rattle.inst_steps.proofs.Starting.{more_points}
 use Rattle.inst_steps.proofs.start.hold_points.Goals as goal
 
 pub loop-point-init : goal.loop-point-init

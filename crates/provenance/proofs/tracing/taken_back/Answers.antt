@@ -1,6 +1,6 @@
-use Rattle.std.proofs.Common.{Some, ◌∷◌, [], ◌∙◌, ◌<◌, ◌^◌, length, refl, sym, ap, subst, arith, All}
+use Rattle.std.proofs.Common.{None, ◌∷◌, [], ◌∙◌, ◌<◌, length, refl, sym, ap, subst, arith, All}
 use Rattle.std.proofs.lemmas.List.{length-map}
-use Rattle.vocabulary.specs.Prelude.{graph_of, steps_by, Tables}
+use Rattle.vocabulary.specs.Prelude.{graph_of, Tables}
 use Rattle.log_laws.proofs.lemmas.Members.{all_contained}
 use Rattle.event_graph.proofs.lemmas.Whole.{order_within}
 use Rattle.point_laws.specs.Cut.{cut}
@@ -35,11 +35,10 @@ returns-clause-steps g c =
 
 pub returns-clause-few : goal.returns-clause-few
 returns-clause-few g c =
-    let ps = c.args.point ∷ [] in
+    let point = c.args.point in
     let t = c.args.log.now in
     let field = c.args.field in
     let ks = c.as_slice.result.now in
-    few_back (cut ps t) field ks c.in_ok-taken.taken.items c.reverse.new.self.items
-    (subst (λ ks. length (steps_by (cut ps t) ks) < 2 ^ 31) (sym (c.as_slice.ensures ∙ c.requires.order.replayed))
-    (steps_are_few t c.is_declared.ensures (Some ps)))
+    few_back t (cut (point ∷ []) t) point field ks c.in_ok-taken.taken.items c.reverse.new.self.items
+    (steps_cut (point ∷ []) t ks) (c.as_slice.ensures ∙ c.requires.order.replayed) (steps_are_few t c.is_declared.ensures None point field)
     (c.in_ok-taken.ensures ∙ ap (λ u. taken_before u field ks (length ks)) c.at-cut.ensures) c.reverse.ensures.items
