@@ -6,7 +6,7 @@ use Rattle.point_set.specs.declared.rect.Rect.{Rect}
 use Rattle.point_set.specs.Rects.{Holds}
 use Rattle.grid.specs.Cuts.{AreCuts, Cuts, IsInSpan, grid_of}
 use Rattle.covered_cells.specs.declared.grid_cell.GridCell.{GridCell}
-use Rattle.covered_cells.specs.Covered.{HavePoints, cells_of}
+use Rattle.covered_cells.specs.Covered.{cells_of}
 use Rattle.vocabulary.specs.Prelude.{Tables, Space, is_in}
 use Rattle.point_laws.specs.Alike.{AreAlike}
 
@@ -63,7 +63,6 @@ IsPlaceOf ns n o = MatchOption o (¬ Contains ns n) (λ k. (k < length ns) × (g
 -- What is kept of some rectangles: their grid, its cells that have points, and the first points of these.
 pub record AreKept (grid : Cuts) (cells : List GridCell) (firsts : List ℕ) : Type 0 where
   pub rects : List Rect
-  pub some : HavePoints rects
   pub grid_is : grid ≡ grid_of rects
   pub rows : AreCuts grid.ys
   pub cells_are : cells ≡ cells_of rects

@@ -2,7 +2,6 @@
 
 ghost use Rattle.std.specs.Prelude.{◌≡◌, ◌+◌, ◌<◌, ◌≤◌, map, length, slice_get, IfOk};
 ghost use Rattle.std.specs.List.Sorted.{IsPartitionPoint, IsStrictlyIncreasing};
-ghost use Rattle.covered_cells.specs.Covered.{HavePoints};
 ghost use Rattle.log_laws.specs.Drawn.{AreDrawn};
 ghost use Rattle.vocabulary.specs.Prelude.{Tables};
 ghost use Rattle.point_laws.specs.Alike.{AreFirsts};
@@ -94,7 +93,6 @@ fn place_of(numbers: &[u64], n: u64) -> Option<usize>
 impl Atoms {
     /// The atoms of the rectangles of a log. The time goes by the rectangles and the cells of their grid, and not by the points.
     pub fn build(alloc: Global, rects: &[Rect]) -> Result<Atoms, Memory>
-        requires points { HavePoints rects.now }
         ensures atoms { IfOk result (λ atoms. atoms ≡ atoms_of rects.now) }
         ensures are { IfOk result (λ atoms. (t : Tables) → rects.now ≡ t.rects → AreDrawn t
             → AreAtomsOf t atoms) }

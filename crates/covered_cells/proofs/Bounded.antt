@@ -1,23 +1,28 @@
 -- Rectangles and their blocks of cells.
-use Rattle.std.proofs.Common.{◌≡◌, ℕ, zero, suc, ◌+◌, ◌-◌, ◌<◌, ◌≤◌, ◌&&◌, ◌||◌, nat_le, nat_lt, Bool, true, false, List, map, [], ◌∷◌, ◌++◌, All, Contains, length, get_or, take, filter, refl, sym, ap, ◌∙◌, subst, inl, inr, arith}
+use Rattle.std.proofs.Common.{◌≡◌, ℕ, zero, suc, ◌+◌, ◌-◌, ◌^◌, ◌<◌, ◌≤◌, ◌&&◌, ◌||◌, nat_le, nat_lt, Bool, true, false, List, map, [], ◌∷◌, ◌++◌, All, Contains, length, get_or, take, filter, refl, sym, ap, ◌∙◌, subst, inl, inr, arith}
 use Rattle.std.specs.List.{flat_map, range_with_len}
 use Rattle.std.specs.List.Sorted.{IsStrictlyIncreasing}
-use Rattle.std.proofs.lemmas.Bool.{cases_lt, le-leb, lt-leb, lt-ltb, le-ltb}
+use Rattle.std.proofs.lemmas.Bool.{and_parts, cases_Bool, cases_lt, le-leb, leb-true, lt-leb, lt-ltb, le-ltb, true≢false}
 use Rattle.std.proofs.lemmas.List.{take_more}
 use Rattle.std.proofs.lemmas.List.Elements.{All-nil, All-cons, All-head, All-tail, Contains-get_or}
 use Rattle.point_set.specs.declared.rect.Rect.{Rect}
 use Rattle.point_set.specs.Rects.{rect_at}
 use Rattle.point_set.proofs.lemmas.Ahead.{spread}
-use Rattle.grid.specs.Cuts.{Cuts, IsInSpan, cuts, grid_of, span_count, x_ends, y_ends}
-use Rattle.grid.proofs.lemmas.Cutting.{begins, cuts_ascend, has_ends, has_span}
+use Rattle.grid.specs.Cuts.{AreCuts, Cuts, IsInSpan, cuts, grid_of, span_count, x_ends, y_ends}
+use Rattle.grid.proofs.lemmas.Cutting.{are_small, begins, cuts_ascend, has_ends, has_span}
 use Rattle.covered_cells.specs.declared.blocks.Block.{Block}
 use Rattle.covered_cells.specs.declared.grid_cell.GridCell.{GridCell}
-use Rattle.covered_cells.specs.Covered.{HavePoints, cell_at, cells_of, column_cells, holds, is_covered}
-use Rattle.covered_cells.specs.Marks.{AreBlocks, AreBlocksOf, IsBehind, IsBlockOf, IsWithin, cells_before, cells_below, has_cell, is_in_blocks, one_if, times}
+use Rattle.covered_cells.specs.Covered.{cell_at, cells_of, column_cells, holds, is_covered}
+use Rattle.covered_cells.specs.Marks.{AreBlocks, AreBlocksOf, HasCellsOf, HaveSmallEnds, IsBehind, IsBlockOf, IsWithin, cells_before, cells_below, has_cell, has_point, is_in_blocks, no_block, one_if, times}
 
--- a rectangle of the grid lies in its columns and rows
-pub is_within : (rects : List Rect) (r : Rect) → Contains rects r → (r.x0 ≤ r.x1) × (r.y0 ≤ r.y1) → IsWithin (grid_of rects) r
-is_within rects r has some =
+-- a rectangle of the grid that has a point lies in its columns and rows
+spans : (r : Rect) → has_point r ≡ true → (r.x0 ≤ r.x1) × (r.y0 ≤ r.y1)
+spans r some = let both = and_parts (nat_le r.x0 r.x1) (nat_le r.y0 r.y1) some in
+    (leb-true r.x0 r.x1 both.0, leb-true r.y0 r.y1 both.1)
+
+pub is_within : (rects : List Rect) (r : Rect) → Contains rects r → has_point r ≡ true → IsWithin (grid_of rects) r
+is_within rects r has point =
+    let some = spans r point in
     let ends = has_ends rects r has in
     let x_up = cuts_ascend (x_ends rects) in
     let y_up = cuts_ascend (y_ends rects) in
@@ -28,12 +33,12 @@ is_within rects r has some =
       high = has_span (cuts (y_ends rects)) r.y0 (r.y1 + 1) r.y1 y_up ends.low ends.high some.1 (omega arith);
     }
 
-pub all_within : (rects : List Rect) (grid : Cuts) (k : ℕ) → grid ≡ grid_of rects → HavePoints rects → k < length rects
-    → IsWithin grid (rect_at rects k)
-all_within rects grid k is points lt =
+pub all_within : (rects : List Rect) (grid : Cuts) (k : ℕ) → grid ≡ grid_of rects → k < length rects
+    → has_point (rect_at rects k) ≡ true → IsWithin grid (rect_at rects k)
+all_within rects grid k is lt point =
     let none : Rect = record { x0 = 0; x1 = 0; y0 = 0; y1 = 0 } in
     subst (λ g. IsWithin g (rect_at rects k)) (sym is)
-    (is_within rects (rect_at rects k) (Contains-get_or rects k none lt) (points k none lt))
+    (is_within rects (rect_at rects k) (Contains-get_or rects k none lt) point)
 
 -- one block more
 push_block : (grid : Cuts) (rs : List Rect) (bs : List Block) (r : Rect) (b : Block) → AreBlocksOf grid rs bs → IsBlockOf grid r b
@@ -85,15 +90,43 @@ pub record Cut (grid : Cuts) (r : Rect) : Type 0 where
   pub left : Contains grid.xs r.x0
   pub low : Contains grid.ys r.y0
 
-same_holds : (grid : Cuts) (r : Rect) (b : Block) (k l : ℕ) → IsStrictlyIncreasing grid.xs → IsStrictlyIncreasing grid.ys
-    → Cut grid r → IsBlockOf grid r b
+same_cells_of : (grid : Cuts) (r : Rect) (b : Block) (k l : ℕ) → IsStrictlyIncreasing grid.xs → IsStrictlyIncreasing grid.ys
+    → Cut grid r → HasCellsOf grid r b
     → k < length grid.xs → l < length grid.ys → holds (get_or grid.xs k 0) (get_or grid.ys l 0) r ≡ has_cell k l b
-same_holds grid r b k l x_up y_up cut is k_lt l_lt =
+same_cells_of grid r b k l x_up y_up cut is k_lt l_lt =
     both (nat_le r.x0 (get_or grid.xs k 0)) (nat_le (get_or grid.xs k 0) r.x1) (nat_le r.y0 (get_or grid.ys l 0))
     (nat_le (get_or grid.ys l 0) r.y1)
     (nat_le b.column k) (nat_lt k b.column_end) (nat_le b.row l) (nat_lt l b.row_end)
     (same_low grid.xs k b.column r.x0 x_up is.left cut.left k_lt) (same_high grid.xs k b.column_end r.x1 x_up is.right k_lt)
     (same_low grid.ys l b.row r.y0 y_up is.low cut.low l_lt) (same_high grid.ys l b.row_end r.y1 y_up is.high l_lt)
+
+-- A rectangle without a point holds none, as no block has no cell.
+holds_none : (x y : ℕ) (r : Rect) → has_point r ≡ false → holds x y r ≡ false
+holds_none x y r none = elim (cases_Bool (holds x y r)) [
+  | inr e ↦ e
+  | inl here ↦
+      let parts = and_parts (nat_le r.x0 x && nat_le x r.x1) (nat_le r.y0 y && nat_le y r.y1) here in
+      let columns = and_parts (nat_le r.x0 x) (nat_le x r.x1) parts.0 in
+      let rows = and_parts (nat_le r.y0 y) (nat_le y r.y1) parts.1 in
+      let wide = le-leb r.x0 r.x1 (omega (arith, leb-true r.x0 x columns.0, leb-true x r.x1 columns.1)) in
+      let tall = le-leb r.y0 r.y1 (omega (arith, leb-true r.y0 y rows.0, leb-true y r.y1 rows.1)) in
+      absurd (true≢false (sym (rw (wide, tall) refl) ∙ none))
+]
+
+no_cell : (k l : ℕ) → has_cell k l no_block ≡ false
+no_cell k l = by (nat_le 0 k) (nat_lt k 0) (nat_le 0 l && nat_lt l 0) (le-ltb k 0 (omega arith))
+  where
+    by : (a b c : Bool) → b ≡ false → ((a && b) && c) ≡ false
+    by false b c e = refl
+    by true b c e = rw e refl
+
+same_holds : (grid : Cuts) (r : Rect) (b : Block) (k l : ℕ) → IsStrictlyIncreasing grid.xs → IsStrictlyIncreasing grid.ys
+    → Cut grid r → IsBlockOf grid r b
+    → k < length grid.xs → l < length grid.ys → holds (get_or grid.xs k 0) (get_or grid.ys l 0) r ≡ has_cell k l b
+same_holds grid r b k l x_up y_up cut is k_lt l_lt = elim (cases_Bool (has_point r)) [
+  | inl some ↦ same_cells_of grid r b k l x_up y_up cut (is.0 some) k_lt l_lt
+  | inr none ↦ holds_none (get_or grid.xs k 0) (get_or grid.ys l 0) r none ∙ sym (ap (has_cell k l) (is.1 none) ∙ no_cell k l)
+]
 
 one_more : (b : Bool) (n : ℕ) → nat_lt 0 (one_if b + n) ≡ (b || nat_lt 0 n)
 one_more true n = lt-ltb 0 (1 + n) (omega arith)
@@ -159,22 +192,31 @@ ends_behind ns b e low high up begin end le = elim (cases_lt e b) [
 ]
 
 pub are_blocks : (grid : Cuts) (rects : List Rect) (blocks : List Block) → IsStrictlyIncreasing grid.xs
-    → IsStrictlyIncreasing grid.ys → HavePoints rects → AreBlocksOf grid rects blocks → AreBlocks blocks
-are_blocks grid [] [] x_up y_up points are = All-nil (λ (b : Block). (b.column ≤ b.column_end) × (b.row ≤ b.row_end))
-are_blocks grid [] (b ∷ bs) x_up y_up points are = absurd are
-are_blocks grid (r ∷ rs) [] x_up y_up points are = absurd are
-are_blocks grid (r ∷ rs) (b ∷ bs) x_up y_up points are =
-    let some = All-head (λ (q : Rect). (q.x0 ≤ q.x1) × (q.y0 ≤ q.y1)) r rs points in
-    let more = are_blocks grid rs bs x_up y_up (All-tail (λ (q : Rect). (q.x0 ≤ q.x1) × (q.y0 ≤ q.y1)) r rs points) are.1 in
-    let columns = ends_behind grid.xs b.column b.column_end r.x0 r.x1 x_up are.0.left are.0.right some.0 in
-    let rows = ends_behind grid.ys b.row b.row_end r.y0 r.y1 y_up are.0.low are.0.high some.1 in
-    All-cons (λ (q : Block). (q.column ≤ q.column_end) × (q.row ≤ q.row_end)) b bs (columns, rows) more
+    → IsStrictlyIncreasing grid.ys → AreBlocksOf grid rects blocks → AreBlocks blocks
+are_blocks grid [] [] x_up y_up are = All-nil (λ (b : Block). (b.column ≤ b.column_end) × (b.row ≤ b.row_end))
+are_blocks grid [] (b ∷ bs) x_up y_up are = absurd are
+are_blocks grid (r ∷ rs) [] x_up y_up are = absurd are
+are_blocks grid (r ∷ rs) (b ∷ bs) x_up y_up are =
+    All-cons (λ (q : Block). (q.column ≤ q.column_end) × (q.row ≤ q.row_end)) b bs (ends r b are.0)
+    (are_blocks grid rs bs x_up y_up are.1)
+  where
+    ends : (r : Rect) (b : Block) → IsBlockOf grid r b → (b.column ≤ b.column_end) × (b.row ≤ b.row_end)
+    ends r b is = elim (cases_Bool (has_point r)) [
+      | inl point ↦
+          let some = spans r point in
+          let has = is.0 point in (
+            ends_behind grid.xs b.column b.column_end r.x0 r.x1 x_up has.left has.right some.0,
+            ends_behind grid.ys b.row b.row_end r.y0 r.y1 y_up has.low has.high some.1,
+          )
+      | inr none ↦ subst (λ (b : Block). (b.column ≤ b.column_end) × (b.row ≤ b.row_end)) (sym (is.1 none))
+          (omega arith, omega arith)
+    ]
 
 -- the same of a grid that is that of the rectangles
-pub blocks_begin : (rects : List Rect) (grid : Cuts) (blocks : List Block) → grid ≡ grid_of rects → HavePoints rects
+pub blocks_begin : (rects : List Rect) (grid : Cuts) (blocks : List Block) → grid ≡ grid_of rects
     → AreBlocksOf grid rects blocks → AreBlocks blocks
-blocks_begin rects grid blocks is points are =
-    are_blocks (grid_of rects) rects blocks (cuts_ascend (x_ends rects)) (cuts_ascend (y_ends rects)) points
+blocks_begin rects grid blocks is are =
+    are_blocks (grid_of rects) rects blocks (cuts_ascend (x_ends rects)) (cuts_ascend (y_ends rects))
     (subst (λ g. AreBlocksOf g rects blocks) is are)
 
 pub same_list : (rects : List Rect) (grid : Cuts) (blocks : List Block) (cells : List GridCell) → grid ≡ grid_of rects
@@ -183,3 +225,25 @@ pub same_list : (rects : List Rect) (grid : Cuts) (blocks : List Block) (cells :
 same_list rects grid blocks cells is are listed =
     subst (λ g. cells ≡ cells_before g blocks (span_count g.xs)) is listed
     ∙ same_cells rects blocks (subst (λ g. AreBlocksOf g rects blocks) is are)
+
+-- ---- The cuts of rectangles whose ends are small are small.
+
+abbrev Small : Rect → Type 0
+Small r = ((r.x0 < 2 ^ 32) × (r.x1 < 2 ^ 32)) × ((r.y0 < 2 ^ 32) × (r.y1 < 2 ^ 32))
+
+ends_small : (first last : Rect → ℕ) (ends : List Rect → List ℕ) → ends [] ≡ []
+    → ((r : Rect) (rs : List Rect) → ends (r ∷ rs) ≡ first r ∷ (last r + 1) ∷ ends rs)
+    → ((r : Rect) → Small r → (first r < 2 ^ 32) × (last r < 2 ^ 32)) → (rects : List Rect) → HaveSmallEnds rects
+    → All (λ n. n ≤ 2 ^ 32) (ends rects)
+ends_small first last ends none more fit [] small = rw none (All-nil (λ n. n ≤ 2 ^ 32))
+ends_small first last ends none more fit (r ∷ rs) small =
+    let here = fit r (All-head Small r rs small) in
+    rw (more r rs) (All-cons (λ n. n ≤ 2 ^ 32) (first r) ((last r + 1) ∷ ends rs) (omega (arith, here.0))
+    (All-cons (λ n. n ≤ 2 ^ 32) (last r + 1) (ends rs) (omega (arith, here.1))
+    (ends_small first last ends none more fit rs (All-tail Small r rs small))))
+
+pub cuts_of_small : (rects : List Rect) → HaveSmallEnds rects → AreCuts (grid_of rects).xs × AreCuts (grid_of rects).ys
+cuts_of_small rects small = (
+  are_small (x_ends rects) (ends_small (λ r. r.x0) (λ r. r.x1) x_ends refl (λ r rs. refl) (λ r fit. fit.0) rects small),
+  are_small (y_ends rects) (ends_small (λ r. r.y0) (λ r. r.y1) y_ends refl (λ r rs. refl) (λ r fit. fit.1) rects small),
+)

@@ -1,5 +1,5 @@
 -- The cells of a grid that have points of its rectangles.
-use Rattle.std.specs.Prelude.{ℕ, ◌+◌, ◌*◌, ◌^◌, ◌≤◌, ◌&&◌, nat_le, Bool, List, All, Contains, map, filter, get_or}
+use Rattle.std.specs.Prelude.{ℕ, ◌+◌, ◌*◌, ◌^◌, ◌&&◌, nat_le, Bool, List, Contains, map, filter, get_or}
 use Rattle.std.specs.List.{flat_map, list_any, range_with_len}
 use Rattle.point_set.specs.declared.rect.Rect.{Rect}
 use Rattle.point_set.specs.Rects.{Holds}
@@ -43,7 +43,3 @@ pub record HasPoint (rects : List Rect) (k l : ℕ) : Type 0 where
   pub in_column : IsInSpan (grid_of rects).xs k x
   pub in_row : IsInSpan (grid_of rects).ys l y
   pub holds : Holds rect x y
-
--- Each rectangle has a point.
-abbrev pub HavePoints : List Rect → Type 0
-HavePoints rects = All (λ r. (r.x0 ≤ r.x1) × (r.y0 ≤ r.y1)) rects

@@ -1,5 +1,5 @@
 -- Blocks of cells, and how many of them have a cell, told by marks at their corners.
-use Rattle.std.specs.Prelude.{◌≡◌, ℕ, ◌+◌, ◌-◌, ◌<◌, ◌≤◌, ◌&&◌, ◌==◌, nat_le, nat_lt, zero, suc, Bool, true, false, List, [], ◌∷◌, All, length, get_or, map, filter, take}
+use Rattle.std.specs.Prelude.{◌≡◌, ℕ, ◌+◌, ◌-◌, ◌^◌, ◌<◌, ◌≤◌, ◌&&◌, ◌==◌, nat_le, nat_lt, zero, suc, Bool, true, false, List, [], ◌∷◌, All, length, get_or, map, filter, take}
 use Rattle.std.specs.List.{AllZip, flat_map, range_with_len}
 use Rattle.std.specs.List.Sorted.{IsPermutation}
 use Rattle.point_set.specs.declared.rect.Rect.{Rect}
@@ -43,11 +43,27 @@ abbrev pub IsBehind : List ℕ → ℕ → ℕ → Type 0
 IsBehind ns n e = (0 < e) × IsInSpan ns (e - 1) n
 
 -- The block has the cells of the rectangle.
-pub record IsBlockOf (grid : Cuts) (r : Rect) (b : Block) : Type 0 where
+pub record HasCellsOf (grid : Cuts) (r : Rect) (b : Block) : Type 0 where
   pub left : IsInSpan grid.xs b.column r.x0
   pub right : IsBehind grid.xs r.x1 b.column_end
   pub low : IsInSpan grid.ys b.row r.y0
   pub high : IsBehind grid.ys r.y1 b.row_end
+
+-- Whether a rectangle has a point.
+abbrev pub has_point : Rect → Bool
+has_point r = nat_le r.x0 r.x1 && nat_le r.y0 r.y1
+
+-- A block that has no cell.
+abbrev pub no_block : Block
+no_block = record { column = 0; column_end = 0; row = 0; row_end = 0 }
+
+-- The block has the cells of the rectangle, and none if that has no point.
+abbrev pub IsBlockOf : Cuts → Rect → Block → Type 0
+IsBlockOf grid r b = (has_point r ≡ true → HasCellsOf grid r b) × (has_point r ≡ false → b ≡ no_block)
+
+-- The ends of the rectangles are numbers of 32 bits.
+abbrev pub HaveSmallEnds : List Rect → Type 0
+HaveSmallEnds rects = All (λ r. ((r.x0 < 2 ^ 32) × (r.x1 < 2 ^ 32)) × ((r.y0 < 2 ^ 32) × (r.y1 < 2 ^ 32))) rects
 
 -- Each rectangle has its block, in the same order.
 abbrev pub AreBlocksOf : Cuts → List Rect → List Block → Type 0

@@ -1,8 +1,8 @@
 //! A rectangle as a block of cells.
 
-ghost use Rattle.std.specs.Prelude.{◌^◌, ◌<◌, ◌≤◌};
+ghost use Rattle.std.specs.Prelude.{◌≡◌, ◌^◌, ◌<◌, ◌≤◌, true};
 ghost use Rattle.grid.specs.Cuts.{IsInSpan};
-ghost use Rattle.covered_cells.specs.Marks.{IsBlockOf, IsInSome, IsWithin};
+ghost use Rattle.covered_cells.specs.Marks.{HasCellsOf, IsBlockOf, IsInSome, IsWithin, has_point};
 
 use grid::Grid;
 use point_set::Rect;
@@ -42,16 +42,40 @@ fn row_with(grid: &Grid, y: u32) -> usize
     }
 }
 
-/// The cells of a rectangle, by four searches.
-pub(crate) fn block_of(grid: &Grid, rect: Rect) -> Block
+/// Whether a rectangle has a point.
+fn has_point(rect: Rect) -> bool
+    ensures { result ≡ has_point rect }
+{
+    rect.x0 <= rect.x1 && rect.y0 <= rect.y1
+}
+
+/// The cells of a rectangle that has a point, by four searches.
+fn cells_of(grid: &Grid, rect: Rect) -> Block
     requires { IsWithin grid.now rect }
-    ensures block { IsBlockOf grid.now rect result }
-    ensures small { (rect.x1 < 2 ^ 32) × (rect.y1 < 2 ^ 32) }
+    ensures { HasCellsOf grid.now rect result }
 {
     Block {
         column: column_with(grid, rect.x0),
         column_end: column_with(grid, rect.x1) + 1,
         row: row_with(grid, rect.y0),
         row_end: row_with(grid, rect.y1) + 1,
+    }
+}
+
+/// The cells of a rectangle: none, if it has no point.
+pub(crate) fn block_of(grid: &Grid, rect: Rect) -> Block
+    requires { has_point rect ≡ true → IsWithin grid.now rect }
+    ensures block { IsBlockOf grid.now rect result }
+    ensures small { ((rect.x0 < 2 ^ 32) × (rect.x1 < 2 ^ 32)) × ((rect.y0 < 2 ^ 32) × (rect.y1 < 2 ^ 32)) }
+{
+    if has_point(rect) {
+        cells_of(grid, rect)
+    } else {
+        Block {
+            column: 0,
+            column_end: 0,
+            row: 0,
+            row_end: 0,
+        }
     }
 }

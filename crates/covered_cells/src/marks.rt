@@ -2,10 +2,8 @@
 
 ghost use Rattle.std.specs.Prelude.{◌≡◌, ◌++◌, IfOk, OnOk};
 ghost use Rattle.std.specs.List.Sorted.{IsNonDecreasingBy, IsPermutation};
-ghost use Rattle.point_set.specs.Rects.{AreSmall};
 ghost use Rattle.grid.specs.Cuts.{grid_of};
-ghost use Rattle.covered_cells.specs.Covered.{HavePoints};
-ghost use Rattle.covered_cells.specs.Marks.{AreMarksOf, minus_of, plus_of};
+ghost use Rattle.covered_cells.specs.Marks.{AreMarksOf, HaveSmallEnds, minus_of, plus_of};
 
 use crate::blocks::{Block, block_of};
 use grid::Grid;
@@ -54,9 +52,8 @@ fn push_marks(marks: &mut BlockMarks, block: Block) -> Result<(), Memory>
 /// The marks of rectangles' blocks, rectangle by rectangle.
 fn unsorted_marks(alloc: Global, grid: &Grid, rects: &[Rect]) -> Result<BlockMarks, Memory>
     requires grid { grid.now ≡ grid_of rects.now }
-    requires points { HavePoints rects.now }
     ensures marks { IfOk result (λ marks. AreMarksOf grid.now rects.now marks.plus.items marks.minus.items) }
-    ensures small { IfOk result (λ _. AreSmall rects.now) }
+    ensures small { IfOk result (λ _. HaveSmallEnds rects.now) }
 {
     let mut marks = BlockMarks {
         plus: Vec::new(alloc),
@@ -79,11 +76,10 @@ fn sort_by_column(marks: &mut Vec<Mark>)
 /// The marks of rectangles' blocks, by their columns.
 pub(crate) fn marks_of(alloc: Global, grid: &Grid, rects: &[Rect]) -> Result<BlockMarks, Memory>
     requires grid { grid.now ≡ grid_of rects.now }
-    requires points { HavePoints rects.now }
     ensures marks { IfOk result (λ marks. AreMarksOf grid.now rects.now marks.plus.items marks.minus.items) }
     ensures plus { IfOk result (λ marks. IsNonDecreasingBy (λ m. m.column) marks.plus.items) }
     ensures minus { IfOk result (λ marks. IsNonDecreasingBy (λ m. m.column) marks.minus.items) }
-    ensures small { IfOk result (λ _. AreSmall rects.now) }
+    ensures small { IfOk result (λ _. HaveSmallEnds rects.now) }
 {
     let mut marks = unsorted_marks(alloc, grid, rects)?;
     sort_by_column(&mut marks.plus);

@@ -76,6 +76,24 @@ fn covered_cells_are_listed(rt: HostRuntime) -> Result<(), Fail> {
     Ok(())
 }
 
+#[test]
+fn empty_rectangles_cover_no_cell(rt: HostRuntime) -> Result<(), Fail> {
+    let rects = [
+        rect(1, 3, 2, 2),
+        rect(3, 2, 0, 9),
+        rect(0, 9, 4, 1),
+        rect(4, 4, 2, 2),
+    ];
+    let grid = Grid::build(rt.alloc(), &rects).ok().ok_or("no memory")?;
+    let cells = covered_cells(rt.alloc(), &grid, &rects)
+        .ok()
+        .ok_or("no memory")?;
+    let set = [rect(1, 3, 2, 2), rect(4, 4, 2, 2)];
+    let set = RectSet::over(&set).ok_or("rectangles in bands")?;
+    assert!(rt; compare(&grid, &set, &cells) == (cells.len(), true) && cells.len() == 3);
+    Ok(())
+}
+
 /// Whether a set has just these points.
 fn has_just<P: PointSet>(set: &P, points: &[u64]) -> bool {
     let mut next = 0usize;

@@ -12,7 +12,7 @@ loop-rect-init c = record {
 }
 
 pub block_of-requires : goal.block_of-requires
-block_of-requires c = all_within c.args.rects.now c.args.grid.now c.loop-rect.rect-index c.requires.grid c.requires.points
+block_of-requires c = all_within c.args.rects.now c.args.grid.now c.loop-rect.rect-index c.requires.grid
     c.loop-rect-test.true
 
 pub loop-rect-preserved : goal.loop-rect-preserved
@@ -24,5 +24,5 @@ loop-rect-preserved c = record {
 
 pub returns-clause-small : goal.returns-clause-small
 returns-clause-small c =
-    All-from_get_or (λ (r : Rect). (r.x1 < 2 ^ 32) × (r.y1 < 2 ^ 32)) c.args.rects.now (record { x0 = 0; x1 = 0; y0 = 0; y1 = 0 })
+    All-from_get_or (λ (r : Rect). ((r.x0 < 2 ^ 32) × (r.x1 < 2 ^ 32)) × ((r.y0 < 2 ^ 32) × (r.y1 < 2 ^ 32))) c.args.rects.now (record { x0 = 0; x1 = 0; y0 = 0; y1 = 0 })
     (λ i lt. c.loop-rect.invariant.small i (omega (arith, lt, c.loop-rect-test.false)))
