@@ -1,5 +1,5 @@
 -- The walk, record by record.
-use Rattle.std.proofs.Common.{◌≡◌, ℕ, zero, suc, ◌+◌, ◌<◌, ◌==◌, List, [], ◌∷◌, ◌++◌, length, get_or, take, true, false, is_some, Option, Some, None, subst, refl, sym, ap, ◌∙◌, append_assoc, arith}
+use Rattle.std.proofs.Common.{◌≡◌, ℕ, zero, suc, ◌+◌, ◌-◌, ◌^◌, ◌<◌, ◌==◌, List, [], ◌∷◌, ◌++◌, length, get_or, take, true, false, is_some, Option, Some, None, subst, refl, sym, ap, ◌∙◌, append_assoc, arith}
 use Rattle.std.proofs.lemmas.Bool.{false≢true}
 use Rattle.std.proofs.lemmas.Option.{none-some, slice_get-get_or}
 use Rattle.std.proofs.lemmas.List.{append-nil, take_more, map-append}
@@ -33,11 +33,12 @@ flat_here log i t l e tables lt is line flat = ap is_planar tables
 -- A record that breaks none of the rules may be counted.
 pub may_count : (log es : List Record) (t : Tables) (r : Record)
     → ((line : ℕ) → is_planar (with_record t line r) ≡ false → is_planar t ≡ false)
-    → broken_of log es t r ≡ None → MayCount es t r
-may_count log es t r flat e =
+    → length t.reqs + 1 < 2 ^ 32 - 1 → broken_of log es t r ≡ None → MayCount es t r
+may_count log es t r flat few e =
     let kept = none_passes (breaks_other (record { log = log; earlier = es; tables = t; rec = r })) e in
     record {
       version = flat;
+      few = few;
       known = kept codes.UnknownId refl;
       points = kept codes.TooManyPoints refl;
       cells = kept codes.TooManyCells refl;

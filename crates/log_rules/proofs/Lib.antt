@@ -8,4 +8,5 @@ mod Loading
 mod Mappings
 mod Members
 mod Noding
+mod Numbering
 mod Repeats

@@ -1,9 +1,9 @@
 -- Places that the requirements of tasks claim.
-use Rattle.std.specs.Prelude.{◌≡◌, ℕ, ◌==◌, Bool, true, false, not, ◌&&◌, ◌||◌, List, Option, Some, None}
+use Rattle.std.specs.Prelude.{◌≡◌, ℕ, ◌==◌, Bool, true, false, not, ◌&&◌, ◌||◌, List, Option, Some, None, slice_get, ◌+◌}
 use Rattle.std.specs.HashMap.{get}
 use Rattle.std.specs.Option.{option_map_or}
 use Rattle.std.specs.List.{list_any}
-use Rattle.vocabulary.specs.Prelude.{Priv, agree, Req, Record, Tables, place_of, privilege_of, reqs_before, is_in, meets, points_in, req_at}
+use Rattle.vocabulary.specs.Prelude.{Priv, agree, Req, Record, Tables, place_of, privilege_of, reqs_before, is_in, meets, points_in, req_at, reqs_of}
 use Rattle.spy_grammar.specs.declared.record.Record.TheVariants as records
 use Rattle.log_rules.specs.declared.claims.OwnPlace.{OwnPlace}
 use Rattle.log_rules.specs.declared.claims.Claims.{Claims}
@@ -29,6 +29,10 @@ clashes_own t item tree space fields access =
 -- The same of what is asked for.
 abbrev pub clashes_asked : Tables → Asked → Bool
 clashes_asked t asked = clashes_own t asked.item asked.tree asked.space asked.fields.now asked.access
+
+-- The requirements of each item are found by their numbers, from 1 on.
+abbrev pub AreNumbered : Tables → Type 0
+AreNumbered t = (item k : ℕ) → req_at t item (k + 1) ≡ slice_get (reqs_of t item) k
 
 -- Whether the first requirement of the item does.
 abbrev pub first_clashes : Tables → ℕ → ℕ → ℕ → List ℕ → Priv → Bool

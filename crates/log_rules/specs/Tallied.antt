@@ -1,5 +1,5 @@
 -- What is kept count of along a log.
-use Rattle.std.specs.Prelude.{◌≡◌, ◌≤◌, ◌&&◌, ℕ, nat_eq, Bool, true, false, List, [], Option, MatchOption, unwrap_or}
+use Rattle.std.specs.Prelude.{◌≡◌, ◌<◌, ◌≤◌, ◌+◌, ◌-◌, ◌^◌, ◌&&◌, ℕ, nat_eq, length, Bool, true, false, List, [], Option, MatchOption, unwrap_or}
 use Rattle.std.specs.Borrow.{Bor}
 use Rattle.std.specs.HashSet.{contains}
 use Rattle.std.specs.List.{list_all}
@@ -14,7 +14,7 @@ use Rattle.log_rules.specs.Counts.{point_total, cell_total, access_total}
 use Rattle.log_limits.specs.declared.corners.Corners.{Corners}
 use Rattle.log_limits.specs.Corners.{corners_of}
 use Rattle.log_rules.specs.Listing.{IsSetOf}
-use Rattle.log_rules.specs.Own.{AreClaims}
+use Rattle.log_rules.specs.Own.{AreClaims, AreNumbered}
 use Rattle.log_rules.specs.declared.tally.Tally.{Tally}
 
 -- Whether the space is declared whose accesses a record asks for.
@@ -40,6 +40,8 @@ pub record IsTally (earlier : List Record) (t : Tables) (tally : Tally) : Type 0
   pub counts : is_planar t ≡ false → AreCounts earlier t tally
   pub lists : IsSetOf (listed t) (contains nat_eq tally.listed)
   pub known : AreKnown earlier t
+  pub numbered : AreNumbered t
+  pub few : length t.reqs < 2 ^ 32 - 1
 
 -- A fact of all earlier records whose tally and tables these are.
 abbrev pub IfTally : Tables → Tally → (List Record → Type 0) → Type 0
@@ -48,6 +50,7 @@ IfTally t tally P = (earlier : List Record) → IsTally earlier t tally → P ea
 -- The record keeps the rules on names and the limits, and leaves the version of the log as it is, so that it may be counted.
 pub record MayCount (earlier : List Record) (t : Tables) (r : Record) : Type 0 where
   pub version : (line : ℕ) → is_planar (with_record t line r) ≡ false → is_planar t ≡ false
+  pub few : length t.reqs + 1 < 2 ^ 32 - 1
   pub known : names_unknown t r ≡ false
   pub points : has_many_points t r ≡ false
   pub cells : has_many_cells t r ≡ false

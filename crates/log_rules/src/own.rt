@@ -1,12 +1,12 @@
 //! Requirements of one task that share a place.
 
-ghost use Rattle.std.specs.Prelude.{◌≡◌, false};
+ghost use Rattle.std.specs.Prelude.{◌≡◌, ◌<◌, ◌-◌, ◌^◌, length, false};
 ghost use Rattle.std.specs.List.{list_any};
 ghost use Rattle.std.specs.List.Sorted.{IsStrictlyIncreasing};
 ghost use Rattle.vocabulary.specs.Prelude.{agree, Record, points_in, meets};
 ghost use Rattle.semantics.specs.Rules.{interferes_with_own};
 ghost use Rattle.log_tables.specs.Views.{Ascends};
-ghost use Rattle.log_rules.specs.Own.{AreClaims, clashes_with, clashes_asked, first_clashes, clashes_row};
+ghost use Rattle.log_rules.specs.Own.{AreClaims, AreNumbered, clashes_with, clashes_asked, first_clashes, clashes_row};
 ghost use Rattle.log_rules.specs.Tallied.{IfTally};
 
 use crate::claims::Claims;
@@ -66,9 +66,13 @@ fn clashes_with<P: PointSet>(draft: &Draft<P>, req: &Req, asked: &Asked<'_>) -> 
 /// Whether some requirement of the item clashes so, requirement by requirement.
 fn clashes_by_req<P: PointSet>(draft: &Draft<P>, asked: &Asked<'_>) -> bool
     requires { IsStrictlyIncreasing asked.now.fields.now }
-    ensures { result ≡ clashes_asked draft.now asked.now }
+    ensures { AreNumbered draft.now → length draft.now.reqs < 2 ^ 32 - 1
+        → result ≡ clashes_asked draft.now asked.now }
 {
-    for req in draft.reqs() {
+    for before in 0..u32::MAX {
+        let Some(req) = draft.req(asked.item, before + 1) else {
+            return false;
+        };
         if clashes_with(draft, req, asked) {
             return true;
         }
@@ -117,7 +121,8 @@ fn clashes_own<P: PointSet>(
     asked: &Asked<'_>,
 ) -> bool
     requires { IsStrictlyIncreasing asked.now.fields.now }
-    ensures { (has_many ≡ false → AreClaims draft.now claims.now)
+    ensures { AreNumbered draft.now → length draft.now.reqs < 2 ^ 32 - 1
+        → (has_many ≡ false → AreClaims draft.now claims.now)
         → result ≡ clashes_asked draft.now asked.now }
 {
     if draft.req_count(asked.item) == 0 {

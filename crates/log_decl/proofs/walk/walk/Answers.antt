@@ -38,7 +38,8 @@ loop-l-preserved g c =
     ∙ none_where c.in_ok-code.code (sym c.is_some.ensures ∙ c.if-is_some.false) in
     let next = c.in_ok-add.ensures.ok in
     let tally = c.in_ok-tally.ensures es l.line inv.tally (may_count (records_of log) es t r
-    (flat_here log i t l c.requires.header inv.tables c.loop-l-test.true c.l-item.is) none) in
+    (flat_here log i t l c.requires.header inv.tables c.loop-l-test.true c.l-item.is)
+    (omega (arith, inv.few, c.loop-l-test.true, c.requires.few)) none) in
     record {
       at = ap (λ n. n + 1) inv.at;
       tables = next ∙ tables_more log i t l inv.tables c.loop-l-test.true c.l-item.is;

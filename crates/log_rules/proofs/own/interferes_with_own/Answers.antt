@@ -8,7 +8,7 @@ pub returns-in-Req : goal.returns-in-Req
 returns-in-Req g c = λ earlier is.
     let t = c.args.draft.now in
     let req = c.in-Req in
-    c.clashes_own.ensures (λ few. (is.counts (c.claims_many.ensures few)).claims)
+    c.clashes_own.ensures is.numbered is.few (λ few. (is.counts (c.claims_many.ensures few)).claims)
     ∙ ap (λ item. clashes_own t item req.tree req.space c.as_slice.result.now c.priv_of.result) c.place.ensures
     ∙ ap (λ (fields : List ℕ). clashes_own t (place_of t.items req.task) req.tree req.space fields c.priv_of.result) c.as_slice.ensures
     ∙ ap (clashes_own t (place_of t.items req.task) req.tree req.space req.fields) c.priv_of.ensures

@@ -8,6 +8,7 @@ use Rattle.log_limits.specs.Sums.{cut}
 use Rattle.log_rules.specs.Listing.{ids_listed}
 use Rattle.log_rules.proofs.Limits.{cut-both}
 use Rattle.log_rules.proofs.Growing.{AreKnown-add, point_total-add, cell_total-add, access_total-add, points-exact, cells-exact, accesses-exact, few_accesses, listed-add, AreClaims-add}
+use Rattle.log_rules.proofs.Numbering.{AreNumbered-add, few_more}
 use Rattle.log_rules.proofs.tally.Tally.add.Goals as goal
 
 within_limit : (a b n : ℕ) → nat_lt 4194304 (a + b) ≡ false → n ≡ a + b → n ≤ 4194304
@@ -42,4 +43,6 @@ returns g c = λ earlier line is may.
           };
       lists = λ n. c.in_ok-note_listed.ensures n ∙ ap (λ b. b || is_in (ids_listed r) n) (is.lists n) ∙ sym (listed-add t line r n);
       known = AreKnown-add earlier t line r is.known may.known;
+      numbered = AreNumbered-add t line r is.numbered;
+      few = omega (arith, few_more t line r, may.few);
     }
