@@ -1,10 +1,13 @@
 -- The walk, record by record.
-use Rattle.std.proofs.Common.{◌≡◌, ℕ, zero, suc, ◌+◌, ◌-◌, ◌^◌, ◌<◌, ◌==◌, List, [], ◌∷◌, ◌++◌, length, get_or, take, true, false, is_some, Option, Some, None, subst, refl, sym, ap, ◌∙◌, append_assoc, arith}
+use Rattle.std.proofs.Common.{◌≡◌, ℕ, zero, suc, ◌+◌, ◌-◌, ◌^◌, ◌<◌, ◌==◌, Bool, cond, Contains, List, [], ◌∷◌, ◌++◌, length, get_or, take, true, false, is_some, Option, Some, None, option_map, subst, refl, sym, ap, ◌∙◌, append_assoc, arith}
 use Rattle.std.proofs.lemmas.Bool.{false≢true}
 use Rattle.std.proofs.lemmas.Option.{none-some, slice_get-get_or}
 use Rattle.std.proofs.lemmas.List.{append-nil, take_more, map-append}
+use Rattle.std.proofs.lemmas.Grind.{flat_map-append}
+use Rattle.std.proofs.lemmas.List.Elements.{Contains-append_left, Contains-append_right}
 use Rattle.std.proofs.lemmas.List.Sums.{fold-append}
-use Rattle.vocabulary.specs.Prelude.{Code, Record, Lined, records_of, Tables, tables_of, with_record, no_tables}
+use Rattle.vocabulary.specs.Prelude.{Code, Record, Lined, Rect, records_of, Tables, tables_of, with_record, no_tables}
+use Rattle.grid.specs.Cuts.{Cuts, grid_of}
 use Rattle.spy_grammar.specs.declared.code.Code.TheVariants as codes
 use Rattle.spy_grammar.specs.declared.record.Record.TheVariants as records
 use Rattle.semantics.specs.Faults.{header_fault}
@@ -12,8 +15,8 @@ use Rattle.semantics.specs.Rules.{is_planar}
 use Rattle.semantics.proofs.lemmas.RecordRules.{none_passes}
 use Rattle.semantics.proofs.lemmas.Versions.{flat_before, version_at}
 use Rattle.log_rules.specs.declared.tally.Tally.{Tally}
-use Rattle.log_rules.specs.Tallied.{IsTally, MayCount, rects_in}
-use Rattle.log_decl.specs.Sizes.{is_plane_log, opens_plane}
+use Rattle.log_rules.specs.Tallied.{AreListed, IsTally, MayCount, rects_in}
+use Rattle.log_decl.specs.Sizes.{is_plane_log, opens_plane, plane_rects, rects_of_log}
 use Rattle.log_decl.specs.Walk.{breaks_other, broken_of, other_broken, Keep, IsWithin, StandsAt}
 
 pub tables_more : (log : List Lined) (i : ℕ) (t : Tables) (l : Lined) → t ≡ tables_of (take i log) → i < length log → l ≡ get_or log i l
@@ -31,10 +34,10 @@ flat_here log i t l e tables lt is line flat = ap is_planar tables
     ∙ flat_before log e i l lt is line (ap (λ (u : Tables). is_planar (with_record u line l.rec)) (sym tables) ∙ flat)
 
 -- A record that breaks none of the rules may be counted.
-pub may_count : (log es : List Record) (t : Tables) (r : Record)
+pub may_count : (all : Option (List Rect)) (log es : List Record) (t : Tables) (r : Record)
     → ((line : ℕ) → is_planar (with_record t line r) ≡ false → is_planar t ≡ false)
-    → length t.reqs + 1 < 2 ^ 32 - 1 → broken_of log es t r ≡ None → MayCount es t r
-may_count log es t r flat few e =
+    → length t.reqs + 1 < 2 ^ 32 - 1 → AreListed all r → broken_of log es t r ≡ None → MayCount all es t r
+may_count all log es t r flat few listed e =
     let kept = none_passes (breaks_other (record { log = log; earlier = es; tables = t; rec = r })) e in
     record {
       version = flat;
@@ -43,7 +46,39 @@ may_count log es t r flat few e =
       points = kept codes.TooManyPoints refl;
       cells = kept codes.TooManyCells refl;
       accesses = kept codes.TooManyAccesses refl;
+      listed = listed;
     }
+
+-- The rectangles of each record are among those of the log.
+in_log : (log : List Lined) (k : ℕ) (l : Lined) (q : Rect) → k < length log → get_or log k l ≡ l → Contains (rects_in l.rec) q
+    → Contains (rects_of_log log) q
+in_log [] k l q lt at c = absurd (omega arith)
+in_log (x ∷ xs) zero l q lt at c =
+    Contains-append_left (rects_in x.rec) (rects_of_log xs) q (subst (λ (y : Lined). Contains (rects_in y.rec) q) (sym at) c)
+in_log (x ∷ xs) (suc k) l q lt at c = Contains-append_right (rects_in x.rec) (rects_of_log xs) q (in_log xs k l q (omega arith) at c)
+
+pub log_rects_more : (log : List Lined) (i : ℕ) (l : Lined) (old more : List Rect) → i < length log → l ≡ get_or log i l
+    → old ≡ rects_of_log (take i log) → more ≡ rects_in l.rec → old ++ more ≡ rects_of_log (take (i + 1) log)
+log_rects_more log i l old more lt is before here =
+    let of : Lined → List Rect = λ x. rects_in x.rec in
+    ap (λ rects. rects ++ more) before
+    ∙ ap (λ rects. rects_of_log (take i log) ++ rects) (here ∙ ap of is ∙ sym (append-nil (of (get_or log i l))))
+    ∙ sym (ap rects_of_log (take_more log i l lt) ∙ flat_map-append of (take i log) (get_or log i l ∷ []))
+
+-- They are given where the log is of the second version.
+pub no_plane_rects : (log : List Lined) → is_plane_log log ≡ false → None ≡ option_map grid_of (plane_rects log)
+no_plane_rects log flat = rw flat refl
+
+pub some_plane_rects : (log : List Lined) (grid : Cuts) → is_plane_log log ≡ true → grid ≡ grid_of (rects_of_log log)
+    → Some grid ≡ option_map grid_of (plane_rects log)
+some_plane_rects log grid plane is = rw plane (ap (λ g. Some g) is)
+
+pub listed_in : (log : List Lined) (i : ℕ) (l : Lined) → i < length log → l ≡ get_or log i l → AreListed (plane_rects log) l.rec
+listed_in log i l lt is = by (is_plane_log log)
+  where
+    by : (b : Bool) → AreListed (cond b (Some (rects_of_log log)) None) l.rec
+    by true = λ q c. in_log log i l q lt (sym is) c
+    by false = tt
 
 -- One record more.
 pub keep_more : (log : List Record) (earlier xs : List Lined) (l : Lined) → Keep log earlier xs
@@ -117,6 +152,7 @@ pub none_where : (o : Option Code) → is_some o ≡ false → o ≡ None
 none_where None e = refl
 none_where (Some code) e = absurd (false≢true (sym e))
 
-pub tally_more : (es rs : List Record) (u v : Tables) (tally : Tally) → IsTally es u tally → es ≡ rs → v ≡ u → IsTally rs v tally
-tally_more es rs u v tally is same here = subst (λ (w : Tables). IsTally rs w tally) (sym here)
-    (subst (λ (xs : List Record). IsTally xs u tally) same is)
+pub tally_more : (all : Option (List Rect)) (es rs : List Record) (u v : Tables) (tally : Tally) → IsTally all es u tally → es ≡ rs → v ≡ u
+    → IsTally all rs v tally
+tally_more all es rs u v tally is same here = subst (λ (w : Tables). IsTally all rs w tally) (sym here)
+    (subst (λ (xs : List Record). IsTally all xs u tally) same is)

@@ -63,7 +63,7 @@ fn breaks<P: PointSet>(
         NotRoot => Ok(is_no_root(at.draft, at.rec)),
         NotInTree => Ok(is_not_in_tree(at.draft, at.rec)),
         Fields => Ok(has_wrong_fields(at.draft, at.rec)),
-        SelfInterference => Ok(interferes_with_own(at.draft, at.tally, at.rec)),
+        SelfInterference => interferes_with_own(alloc, at.draft, at.tally, at.rec),
         WrongTree => Ok(is_of_wrong_tree(at.draft, at.rec)),
         WrongKind => Ok(is_of_wrong_kind(at.draft, at.rec)),
         NotCovered => Ok(is_not_covered(at.draft, at.rec)),

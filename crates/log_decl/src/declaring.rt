@@ -12,6 +12,7 @@ ghost use Rattle.log_decl.specs.Walk.{StandsAt};
 use crate::decl_end::DeclEnd;
 use crate::frame::frame_fault;
 use crate::regions::judge_forest;
+use crate::sizes::whole_grid;
 use crate::walk::{Walked, walk};
 use bumpalo::Bump;
 use log_rules::{Tally, WholeLog};
@@ -34,7 +35,8 @@ fn walked<'a, P: ArenaRects<'a>>(
     ensures { IfOk result (λ w. StandsAt records.now w.kept draft.new w.code) }
 {
     let whole = WholeLog::new(alloc, records)?;
-    walk(draft, Tally::new(alloc), alloc, bump, &whole, records)
+    let grid = whole_grid(alloc, records)?;
+    walk(draft, Tally::new(alloc, grid), alloc, bump, &whole, records)
 }
 
 /// Adds the records of a log to a draft in which nothing is declared, and judges their forest; or the fault of the first that breaks a rule.

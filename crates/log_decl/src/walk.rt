@@ -5,6 +5,7 @@ ghost use Rattle.semantics.specs.Faults.{header_fault};
 ghost use Rattle.log_tables.specs.Views.{Ascends};
 ghost use Rattle.log_rules.specs.Tallied.{IsTally};
 ghost use Rattle.vocabulary.specs.Prelude.{records_of, no_tables};
+ghost use Rattle.log_decl.specs.Sizes.{plane_rects};
 ghost use Rattle.log_decl.specs.Walk.{StandsAt};
 
 use crate::broken::{AtRecord, first_broken};
@@ -34,7 +35,7 @@ pub(crate) fn walk<'a, P: ArenaRects<'a>>(
     records: &[Lined],
 ) -> Result<Walked, Memory>
     requires none { draft.old ≡ no_tables }
-    requires tally { IsTally [] no_tables tally }
+    requires tally { IsTally (plane_rects records.now) [] no_tables tally }
     requires whole { whole.now ≡ records_of records.now }
     requires ascends { All (λ l. Ascends l.rec) records.now }
     requires few { length records.now < 2 ^ 32 - 1 }
@@ -58,7 +59,7 @@ pub(crate) fn walk<'a, P: ArenaRects<'a>>(
         if code.is_some() {
             return Ok(Walked { kept, code });
         }
-        tally = tally.add(draft, &l.rec)?;
+        tally = tally.add(alloc, draft, &l.rec)?;
         draft.add(alloc, bump, l.line, &l.rec)?;
         kept += 1;
     }

@@ -6,11 +6,14 @@ use Rattle.std.proofs.lemmas.Bool.{and_parts, cases_Bool, eqb-true, ne_eqb}
 use Rattle.std.proofs.lemmas.List.Folds.{list_any_more}
 use Rattle.std.proofs.lemmas.List.Sums.{length-filter}
 use Rattle.std.proofs.Math.Bool.{or-false, or_assoc, and_comm}
+use Rattle.point_set.specs.declared.rect.Rect.{Rect}
 use Rattle.vocabulary.specs.Prelude.{Priv, agree, PrivWord, Req, Tables, place_of, privilege_of, reqs_before, is_in, meets, points_in, req_at}
 use Rattle.spy_grammar.specs.declared.record.Record.TheVariants as records
 use Rattle.log_rules.specs.declared.claims.OwnPlace.{OwnPlace}
 use Rattle.log_rules.specs.declared.claims.Claims.{Claims}
-use Rattle.log_rules.specs.Own.{AreClaims, clashes, claims_at, clashes_with, clashes_own, first_clashes, req_clashes_at, clashes_at, first_clashes_at, clashes_in, clashes_row, same_place, claimed}
+use Rattle.log_rules.specs.Cells.{HasCells}
+use Rattle.log_rules.specs.Own.{AreClaims, claim_points, is_claim_point, clashes, claims_at, clashes_with, clashes_own, first_clashes, req_clashes_at, clashes_at, first_clashes_at, clashes_in, clashes_row, same_place, claimed}
+use Rattle.log_rules.proofs.Cells.{IsOfCells, any_alike, any_claim_point, any_of_cells, in_claim_points, of_cells, test_of_cells}
 use Rattle.log_rules.proofs.Members.{meets_turned}
 use Rattle.log_rules.proofs.ListTests.{list_any-alike, list_any-false, list_any-and, list_any-or, list_any-list_any, is_some-find, find-none}
 
@@ -78,6 +81,38 @@ claims_at-field old mid new item tree point field fields i access k a lt is befo
     )
     )
 
+-- One point more.
+point_more : (i t ps p rest : Bool) → ((i && (t && (ps && rest))) || (i && (t && ((p || false) && rest)))) ≡ (i && (t && ((ps || p) && rest)))
+point_more false t ps p rest = refl
+point_more true false ps p rest = refl
+point_more true true true true true = refl
+point_more true true true true false = refl
+point_more true true true false true = refl
+point_more true true true false false = refl
+point_more true true false true rest = refl
+point_more true true false false rest = refl
+
+pub claims_at-point : (old mid new : Bool) (item tree : ℕ) (points fields : List ℕ) (i : ℕ) (access : Priv) (k : OwnPlace) (a : Priv)
+    → i < length points → mid ≡ (old || claims_at item tree (take i points) fields access k a)
+    → new ≡ (mid || claims_at item tree (get_or points i 0 ∷ []) fields access k a)
+    → new ≡ (old || claims_at item tree (take (i + 1) points) fields access k a)
+claims_at-point old mid new item tree points fields i access k a lt before after =
+    let rest = is_in fields k.field && not (agree access a) in
+    after
+    ∙ ap (λ b. b || claims_at item tree (get_or points i 0 ∷ []) fields access k a) before
+    ∙ or_assoc old (claims_at item tree (take i points) fields access k a) (claims_at item tree (get_or points i 0 ∷ []) fields access k a)
+    ∙ ap (λ b. old || b)
+    (point_more (item == k.item) (tree == k.tree) (is_in (take i points) k.point) (get_or points i 0 == k.point) rest
+    ∙ ap (λ b. (item == k.item) && ((tree == k.tree) && (b && rest))) (sym (list_any_more (λ m. m == k.point) points i 0 lt)))
+
+-- At a place that may be claimed all points of a space are claimed with those that are.
+pub claims_at-claim_points : (all : Option (List Rect)) (item tree : ℕ) (points fields : List ℕ) (access : Priv) (k : OwnPlace) (a : Priv)
+    → is_claim_point all k.point ≡ true
+    → claims_at item tree (claim_points all points) fields access k a ≡ claims_at item tree points fields access k a
+claims_at-claim_points all item tree points fields access k a begins =
+    ap (λ b. (item == k.item) && ((tree == k.tree) && (b && (is_in fields k.field && not (agree access a)))))
+    (in_claim_points all points k.point begins)
+
 -- One requirement, place by place.
 row_told : (a b d : Bool) (ns ms : ℕ → Bool) (P F : List ℕ)
     → (a && (b && (list_any ns P && (list_any ms F && d)))) ≡ list_any (λ x. list_any (λ f. a && (b && (ns x && (ms f && d)))) F) P
@@ -127,17 +162,39 @@ clashes_own-by_place t item tree space fields a =
     ∙ list_any-list_any (λ r x. list_any (row r x) fields) t.reqs P
     ∙ list_any-alike _ _ P (λ x. list_any-list_any (λ r f. row r x f) t.reqs fields)
 
+-- Whether a requirement clashes at a place does not divide a cell, and so it is with the first one and with some one.
+req_of_cells : (all : Option (List Rect)) (t : Tables) (item tree f : ℕ) (a : Priv) (r : Req) → HasCells all t
+    → IsOfCells all (λ x. req_clashes_at t (place item tree x f) a r)
+req_of_cells all t item tree f a r cells = test_of_cells all (is_in (points_in t r.space))
+    (λ b. (r.item == item) && ((r.tree == tree) && (b && (is_in r.fields f && not (agree r.access a))))) (of_cells all t r.space cells)
+
+first_of_cells : (all : Option (List Rect)) (t : Tables) (item tree f : ℕ) (a : Priv) → HasCells all t
+    → IsOfCells all (λ x. first_clashes_at t (place item tree x f) a)
+first_of_cells all t item tree f a cells = by (req_at t item 1)
+  where
+    by : (o : Option Req) → IsOfCells all (λ x. option_map_or (req_clashes_at t (place item tree x f) a) o false)
+    by None = test_of_cells all (is_in (points_in t 0)) (λ b. false) (of_cells all t 0 cells)
+    by (Some r) = req_of_cells all t item tree f a r cells
+
 -- The first requirement and the claims tell whether some requirement does.
-pub own_by_claims : (t : Tables) (c : Claims) (item tree space : ℕ) (fields : List ℕ) (a : Priv) → AreClaims t c
-    → (first_clashes t item tree space fields a || list_any (clashes_row c item tree fields a) (points_in t space))
+pub own_by_claims : (all : Option (List Rect)) (t : Tables) (c : Claims) (item tree space : ℕ) (fields : List ℕ) (a : Priv) → HasCells all t
+    → AreClaims all t c
+    → (first_clashes t item tree space fields a || list_any (clashes_row c item tree fields a) (claim_points all (points_in t space)))
     ≡ clashes_own t item tree space fields a
-own_by_claims t c item tree space fields a are =
+own_by_claims all t c item tree space fields a cells are =
     let P = points_in t space in
     let first : ℕ → ℕ → Bool = λ x f. first_clashes_at t (place item tree x f) a in
     let kept : ℕ → ℕ → Bool = λ x f. clashes_in c (place item tree x f) a in
-    ap (λ b. b || list_any (λ x. list_any (kept x) fields) P) (first_clashes-by_place t item tree space fields a)
-    ∙ sym (list_any-or (λ x. list_any (first x) fields) (λ x. list_any (kept x) fields) P)
-    ∙ list_any-alike _ _ P (λ x. sym (list_any-or (first x) (kept x) fields) ∙ list_any-alike _ _ fields (λ f. are (place item tree x f) a))
+    let some : ℕ → ℕ → Bool = λ x f. clashes_at t (place item tree x f) a in
+    let first_cells = any_of_cells all (λ f x. first x f) fields (λ f. first_of_cells all t item tree f a cells) in
+    let some_cells = any_of_cells all (λ f x. some x f) fields
+    (λ f. any_of_cells all (λ r x. req_clashes_at t (place item tree x f) a r) t.reqs (λ r. req_of_cells all t item tree f a r cells)) in
+    ap (λ b. b || list_any (λ x. list_any (kept x) fields) (claim_points all P))
+    (first_clashes-by_place t item tree space fields a ∙ any_claim_point all t space (λ x. list_any (first x) fields) cells first_cells)
+    ∙ sym (list_any-or (λ x. list_any (first x) fields) (λ x. list_any (kept x) fields) (claim_points all P))
+    ∙ any_alike all (λ x. list_any (first x) fields || list_any (kept x) fields) (λ x. list_any (some x) fields) P
+    (λ x begins. sym (list_any-or (first x) (kept x) fields) ∙ list_any-alike _ _ fields (λ f. are (place item tree x f) a begins))
+    ∙ sym (any_claim_point all t space (λ x. list_any (some x) fields) cells some_cells)
     ∙ sym (clashes_own-by_place t item tree space fields a)
 
 -- An item with no requirements has none that clashes.

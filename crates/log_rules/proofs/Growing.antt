@@ -9,6 +9,7 @@ use Rattle.std.proofs.lemmas.Grind.{flat_map-append}
 use Rattle.std.proofs.lemmas.List.{append-nil}
 use Rattle.std.proofs.lemmas.List.Sums.{sum_by-cons, sum_by_push, length-filter}
 use Rattle.std.proofs.Math.Bool.{or_comm, or-false, or_assoc}
+use Rattle.point_set.specs.declared.rect.Rect.{Rect}
 use Rattle.vocabulary.specs.Prelude.{InstKind, Priv, agree, Record, Tables, Space, points_of, plane_points, place_of, privilege_of, coherence_of, reqs_before, with_record, is_in, points_in}
 use Rattle.spy_grammar.specs.declared.record.Record.TheVariants.{Ispace, Plane, Req, Fill, Serial, Inst, Copy, Put, Reset, Fold, End}
 use Rattle.semantics.specs.declared.tables.Req as reqs
@@ -21,7 +22,7 @@ use Rattle.log_rules.specs.Counts.{point_total, cell_total, access_total, points
 use Rattle.log_limits.specs.Sums.{cut}
 use Rattle.log_rules.specs.Listing.{ids_listed}
 use Rattle.log_rules.specs.declared.claims.Claims.{Claims}
-use Rattle.log_rules.specs.Own.{Adds, AreClaims, claims_at, claimed, clashes_in, clashes_at, first_clashes_at, req_clashes_at}
+use Rattle.log_rules.specs.Own.{AddsAt, AreClaims, claims_at, claimed, clashes_in, clashes_at, first_clashes_at, req_clashes_at}
 use Rattle.log_rules.specs.Tallied.{knows_space, AreKnown}
 use Rattle.log_rules.proofs.ListTests.{find-none, find-kept, find-last}
 
@@ -205,22 +206,22 @@ req_clashes_at-grow : (t u : Tables) (k : OwnPlace) (a : Priv) → Grows t u →
     → req_clashes_at u k a q ≡ req_clashes_at t k a q
 req_clashes_at-grow t u k a g q here = ap (λ (xs : List ℕ). claims_at q.item q.tree xs q.fields q.access k a) (g.points q.space here)
 
-claims_stay : (t u : Tables) (old new : Claims) → Grows t u → u.reqs ≡ t.reqs → AreClaims t old
-    → list_all (λ (q : reqs.Req). is_declared t (space_id q.space)) t.reqs ≡ true → Adds old new (λ k a. false) → AreClaims u new
-claims_stay t u old new g same are known adds = λ k a.
+claims_stay : (all : Option (List Rect)) (t u : Tables) (old new : Claims) → Grows t u → u.reqs ≡ t.reqs → AreClaims all t old
+    → list_all (λ (q : reqs.Req). is_declared t (space_id q.space)) t.reqs ≡ true → AddsAt all old new (λ k a. false) → AreClaims all u new
+claims_stay all t u old new g same are known adds = λ k a begins.
     let here = λ (q : reqs.Req). is_declared t (space_id q.space) in
     let first : reqs.Req → Bool = λ q. (q.item == k.item) && (q.number == 1) in
     ap (λ b. b || clashes_in new k a) (ap (λ (rs : List reqs.Req). option_map_or (req_clashes_at u k a) (find first rs) false) same
     ∙ found-known here first (req_clashes_at u k a) (req_clashes_at t k a) t.reqs (req_clashes_at-grow t u k a g) known)
-    ∙ ap (λ b. first_clashes_at t k a || b) (adds k a ∙ or-false (clashes_in old k a))
-    ∙ are k a
+    ∙ ap (λ b. first_clashes_at t k a || b) (adds k a begins ∙ or-false (clashes_in old k a))
+    ∙ are k a begins
     ∙ sym (ap (list_any (req_clashes_at u k a)) same
     ∙ any-known here (req_clashes_at u k a) (req_clashes_at t k a) t.reqs (req_clashes_at-grow t u k a g) known)
 
-pub AreClaims-add : (t : Tables) (line : ℕ) (r : Record) (old new : Claims) → AreClaims t old
-    → list_all (λ (q : reqs.Req). is_declared t (space_id q.space)) t.reqs ≡ true → Adds old new (claimed t r)
-    → AreClaims (with_record t line r) new
-AreClaims-add t line (Req task tree space fields access atomic) old new are known adds = λ k a.
+pub AreClaims-add : (all : Option (List Rect)) (t : Tables) (line : ℕ) (r : Record) (old new : Claims) → AreClaims all t old
+    → list_all (λ (q : reqs.Req). is_declared t (space_id q.space)) t.reqs ≡ true → AddsAt all old new (claimed t r)
+    → AreClaims all (with_record t line r) new
+AreClaims-add all t line (Req task tree space fields access atomic) old new are known adds = λ k a begins.
     let I = place_of t.items task in
     let n = reqs_before t.reqs I in
     let one : reqs.Req = record {
@@ -251,13 +252,13 @@ AreClaims-add t line (Req task tree space fields access atomic) old new are know
                 started first first2 (clashes_in old k a) (clashes_in new k a) (clashes_at t k a) more
                 (ap (λ o. option_map_or f o false) no)
                 (ap (λ o. option_map_or f o false) (find-last p t.reqs one no yes_one))
-                (are k a)
-                (adds k a ∙ ap (λ b. clashes_in old k a || (not b && more)) none)
+                (are k a begins)
+                (adds k a begins ∙ ap (λ b. clashes_in old k a || (not b && more)) none)
             | inr other ↦
                 added first first2 (clashes_in old k a) (clashes_in new k a) (clashes_at t k a) more
                 (kept (ap (λ b. b && (n + 1 == 1)) other))
-                (are k a)
-                (adds k a ∙ ap (λ b. clashes_in old k a || (not b && more)) none
+                (are k a begins)
+                (adds k a begins ∙ ap (λ b. clashes_in old k a || (not b && more)) none
                 ∙ sym (ap (λ b. clashes_in old k a ||
                 (b && ((tree == k.tree) && (is_in (points_in t space) k.point
                 && (is_in fields k.field && not (agree (privilege_of access) a)))))) other))
@@ -265,8 +266,8 @@ AreClaims-add t line (Req task tree space fields access atomic) old new are know
       | inr some ↦
           added first first2 (clashes_in old k a) (clashes_in new k a) (clashes_at t k a) more
           (kept (later (I == k.item) n some))
-          (are k a)
-          (adds k a ∙ ap (λ b. clashes_in old k a || (not b && more)) some)
+          (are k a begins)
+          (adds k a begins ∙ ap (λ b. clashes_in old k a || (not b && more)) some)
     ])
     ∙ ap (λ b. clashes_at t k a || b) (sym (or-false more))
     ∙ sym (list_any-append f t.reqs (one ∷ []))
@@ -274,12 +275,12 @@ AreClaims-add t line (Req task tree space fields access atomic) old new are know
     later : (b : Bool) (n : ℕ) → (n == 0) ≡ false → (b && (n + 1 == 1)) ≡ false
     later true n some = grind (arith, nat_tests)
     later false n some = refl
-AreClaims-add t line (Ispace id set) old new are known adds =
-    claims_stay t (with_record t line (Ispace id set)) old new (grows t line (Ispace id set)) refl are known adds
-AreClaims-add t line (Plane id quads) old new are known adds =
-    claims_stay t (with_record t line (Plane id quads)) old new (grows t line (Plane id quads)) refl are known adds
-AreClaims-add t line _ old new are known adds = λ k a.
-    ap (λ b. first_clashes_at t k a || b) (adds k a ∙ or-false (clashes_in old k a)) ∙ are k a
+AreClaims-add all t line (Ispace id set) old new are known adds =
+    claims_stay all t (with_record t line (Ispace id set)) old new (grows t line (Ispace id set)) refl are known adds
+AreClaims-add all t line (Plane id quads) old new are known adds =
+    claims_stay all t (with_record t line (Plane id quads)) old new (grows t line (Plane id quads)) refl are known adds
+AreClaims-add all t line _ old new are known adds = λ k a begins.
+    ap (λ b. first_clashes_at t k a || b) (adds k a begins ∙ or-false (clashes_in old k a)) ∙ are k a begins
 
 -- ---- What is known stays known.
 

@@ -1,3 +1,4 @@
+mod Cells
 mod Claiming
 mod Climbs
 mod Growing

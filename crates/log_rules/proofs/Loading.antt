@@ -134,7 +134,7 @@ sum-grid g (x ∷ xs) fields =
 abbrev Counts : Tables → ℕ → Type 0
 Counts t p = is_planar t ≡ true → is_corner t.rects p ≡ true
 
-in_filter : (q : ℕ → Bool) (ps : List ℕ) (p : ℕ) → q p ≡ true → is_in (filter q ps) p ≡ is_in ps p
+pub in_filter : (q : ℕ → Bool) (ps : List ℕ) (p : ℕ) → q p ≡ true → is_in (filter q ps) p ≡ is_in ps p
 in_filter q [] p passes = refl
 in_filter q (x ∷ ps) p passes =
     let rest = in_filter q ps p passes in

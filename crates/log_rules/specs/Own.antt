@@ -3,6 +3,8 @@ use Rattle.std.specs.Prelude.{◌≡◌, ℕ, ◌==◌, Bool, true, false, not, 
 use Rattle.std.specs.HashMap.{get}
 use Rattle.std.specs.Option.{option_map_or}
 use Rattle.std.specs.List.{list_any}
+use Rattle.point_set.specs.declared.rect.Rect.{Rect}
+use Rattle.grid.specs.Corners.{corners_in, is_corner}
 use Rattle.vocabulary.specs.Prelude.{Priv, agree, Req, Record, Tables, place_of, privilege_of, reqs_before, is_in, meets, points_in, req_at, reqs_of}
 use Rattle.spy_grammar.specs.declared.record.Record.TheVariants as records
 use Rattle.log_rules.specs.declared.claims.OwnPlace.{OwnPlace}
@@ -70,13 +72,27 @@ abbrev pub clashes_row : Claims → ℕ → ℕ → List ℕ → Priv → ℕ �
 clashes_row c item tree fields access point =
     list_any (λ f. clashes_in c (record { item = item; tree = tree; point = point; field = f }) access) fields
 
--- At each place the first requirement of the item and what is kept there tell together whether some requirement of the item clashes.
-abbrev pub AreClaims : Tables → Claims → Type 0
-AreClaims t c = (k : OwnPlace) (a : Priv) → (first_clashes_at t k a || clashes_in c k a) ≡ clashes_at t k a
+-- Whether places at a point are claimed: all are, or, where the rectangles of a log are given, those at a point where a cell of their grid begins.
+abbrev pub is_claim_point : Option (List Rect) → ℕ → Bool
+is_claim_point all p = option_map_or (λ rects. is_corner rects p) all true
+
+-- The points among these at which places are claimed.
+abbrev pub claim_points : Option (List Rect) → List ℕ → List ℕ
+claim_points all points = option_map_or (λ rects. corners_in rects points) all points
+
+-- At each place that may be claimed the first requirement of the item and what is kept there tell together whether some requirement of the item clashes.
+abbrev pub AreClaims : Option (List Rect) → Tables → Claims → Type 0
+AreClaims all t c = (k : OwnPlace) (a : Priv) → is_claim_point all k.point ≡ true
+    → (first_clashes_at t k a || clashes_in c k a) ≡ clashes_at t k a
 
 -- What clashes with the claims is what did before, and what clashes with these further ones.
 abbrev pub Adds : Claims → Claims → (OwnPlace → Priv → Bool) → Type 0
 Adds old new more = (k : OwnPlace) (a : Priv) → clashes_in new k a ≡ (clashes_in old k a || more k a)
+
+-- The same at the places that may be claimed.
+abbrev pub AddsAt : Option (List Rect) → Claims → Claims → (OwnPlace → Priv → Bool) → Type 0
+AddsAt all old new more = (k : OwnPlace) (a : Priv) → is_claim_point all k.point ≡ true
+    → clashes_in new k a ≡ (clashes_in old k a || more k a)
 
 -- Whether a record is a requirement, but not the first of its item, that is at a place and does not agree with a privilege there.
 abbrev pub claimed : Tables → Record → OwnPlace → Priv → Bool

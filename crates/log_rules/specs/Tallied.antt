@@ -1,9 +1,10 @@
 -- What is kept count of along a log.
-use Rattle.std.specs.Prelude.{◌≡◌, ◌<◌, ◌≤◌, ◌+◌, ◌-◌, ◌^◌, ◌&&◌, ℕ, nat_eq, length, Bool, true, false, List, [], Option, MatchOption, unwrap_or}
+use Rattle.std.specs.Prelude.{◌≡◌, ◌<◌, ◌≤◌, ◌+◌, ◌-◌, ◌^◌, ◌&&◌, ℕ, nat_eq, length, Bool, true, false, List, [], Contains, Option, MatchOption, ⊤, option_map, unwrap_or}
 use Rattle.std.specs.Borrow.{Bor}
 use Rattle.std.specs.HashSet.{contains}
 use Rattle.std.specs.List.{list_all}
 use Rattle.std.specs.Option.{option_map_or}
+use Rattle.grid.specs.Cuts.{grid_of}
 use Rattle.vocabulary.specs.Prelude.{Record, Rect, Tables, with_record}
 use Rattle.semantics.specs.declared.tables.Req as reqs
 use Rattle.semantics.specs.declared.tables.Inst as insts
@@ -13,6 +14,7 @@ use Rattle.semantics.specs.Rules.{asked, is_declared, space_id, names_unknown, i
 use Rattle.log_rules.specs.Counts.{point_total, cell_total, access_total}
 use Rattle.log_limits.specs.declared.corners.Corners.{Corners}
 use Rattle.log_limits.specs.Corners.{corners_of}
+use Rattle.log_rules.specs.Cells.{HasCells}
 use Rattle.log_rules.specs.Listing.{IsSetOf}
 use Rattle.log_rules.specs.Own.{AreClaims, AreNumbered}
 use Rattle.log_rules.specs.declared.tally.Tally.{Tally}
@@ -27,40 +29,51 @@ pub record AreKnown (earlier : List Record) (t : Tables) : Type 0 where
   pub insts : list_all (λ (i : insts.Inst). is_declared t (space_id i.space)) t.insts ≡ true
   pub accesses : list_all (knows_space t) earlier ≡ true
 
--- What is counted along a log of the first version: the points, cells and accesses of these records, which keep the limit on the last, and the places that requirements claim.
+-- The rectangles of the space that a record declares, if it declares one.
+abbrev pub rects_in : Record → List Rect
+rects_in r = unwrap_or (rects_declared r) []
+
+-- They are among these rectangles, if these are given.
+abbrev pub AreListed : Option (List Rect) → Record → Type 0
+AreListed all r = MatchOption all ⊤ (λ rects. (q : Rect) → Contains (rects_in r) q → Contains rects q)
+
+-- What is counted along a log of the first version: the points, cells and accesses of these records, which keep the limit on the last.
 pub record AreCounts (earlier : List Record) (t : Tables) (tally : Tally) : Type 0 where
   pub points : tally.points ≡ point_total t
   pub cells : tally.cells ≡ cell_total t
   pub accesses : tally.accesses ≡ access_total t earlier
-  pub claims : AreClaims t tally.claims
   pub within : access_total t earlier ≤ MOST_ACCESSES
 
--- The tally is that of these records, whose tables these are.
-pub record IsTally (earlier : List Record) (t : Tables) (tally : Tally) : Type 0 where
-  pub counts : is_planar t ≡ false → AreCounts earlier t tally
-  pub lists : IsSetOf (listed t) (contains nat_eq tally.listed)
-  pub known : AreKnown earlier t
+-- What is kept of the requirements of tasks: the grid is that of the rectangles, if they are given, and no space divides a cell of it. While few places were asked for, they are claimed.
+pub record AreKept (all : Option (List Rect)) (t : Tables) (tally : Tally) : Type 0 where
+  pub grid : tally.places.grid ≡ option_map grid_of all
+  pub cells : HasCells all t
+  pub claims : tally.claimed ≤ MOST_ACCESSES → AreClaims all t tally.claims
   pub numbered : AreNumbered t
   pub few : length t.reqs < 2 ^ 32 - 1
 
+-- The tally is that of these records, whose tables these are. In a log of the second version all its rectangles are given.
+pub record IsTally (all : Option (List Rect)) (earlier : List Record) (t : Tables) (tally : Tally) : Type 0 where
+  pub counts : is_planar t ≡ false → AreCounts earlier t tally
+  pub lists : IsSetOf (listed t) (contains nat_eq tally.listed)
+  pub known : AreKnown earlier t
+  pub kept : AreKept all t tally
+
 -- A fact of all earlier records whose tally and tables these are.
 abbrev pub IfTally : Tables → Tally → (List Record → Type 0) → Type 0
-IfTally t tally P = (earlier : List Record) → IsTally earlier t tally → P earlier
+IfTally t tally P = (all : Option (List Rect)) (earlier : List Record) → IsTally all earlier t tally → P earlier
 
--- The record keeps the rules on names and the limits, and leaves the version of the log as it is, so that it may be counted.
-pub record MayCount (earlier : List Record) (t : Tables) (r : Record) : Type 0 where
+-- The record keeps the rules on names and the limits, and leaves the version of the log as it is, so that it may be counted. Its rectangles are among those that are given.
+pub record MayCount (all : Option (List Rect)) (earlier : List Record) (t : Tables) (r : Record) : Type 0 where
   pub version : (line : ℕ) → is_planar (with_record t line r) ≡ false → is_planar t ≡ false
   pub few : length t.reqs + 1 < 2 ^ 32 - 1
   pub known : names_unknown t r ≡ false
   pub points : has_many_points t r ≡ false
   pub cells : has_many_cells t r ≡ false
   pub accesses : has_many_accesses earlier t r ≡ false
+  pub listed : AreListed all r
 
 -- How many cells begin in each space is counted at the end of a log of the second version, and not before.
 abbrev pub AreAtEnd : Tables → Record → Option (Bor Corners) → Type 0
 AreAtEnd t r corners = MatchOption corners ((is_planar t && is_end r) ≡ false)
     (λ (c : Bor Corners). ((is_planar t && is_end r) ≡ true) × (c.now ≡ corners_of t))
-
--- The rectangles of the space that a record declares, if it declares one.
-abbrev pub rects_in : Record → List Rect
-rects_in r = unwrap_or (rects_declared r) []

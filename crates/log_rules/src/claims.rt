@@ -7,7 +7,6 @@ ghost use Rattle.log_rules.specs.Own.{Adds, clashes, clashes_in, same_place, cla
 ghost use Rattle.log_rules.specs.declared.claims.OwnPlace.{OwnPlace};
 ghost use Rattle.vocabulary.specs.Prelude.{agree, Priv};
 
-use point_set::{PointSet, points_in};
 use privilege::{Priv, agree};
 use std::alloc::{AllocError, Global};
 use std::collections::HashMap;
@@ -90,22 +89,19 @@ impl Claims {
     }
 
     /// Whether a privilege clashes at some of these points and fields.
-    pub fn clashes_any<P: PointSet>(
+    pub fn clashes_any(
         &self,
         item: usize,
         tree: u32,
-        set: &P,
+        points: &[u64],
         fields: &[u32],
         access: Priv,
     ) -> bool
-        ensures { result ≡ list_any (clashes_row self.now item tree fields.now access) (P.points set.now) }
+        ensures { result ≡ list_any (clashes_row self.now item tree fields.now access) points.now }
     {
-        for point in points_in(set) {
-            if self.clashes_at_point(item, tree, point, fields, access) {
-                return true;
-            }
-        }
-        false
+        points
+            .iter()
+            .any(|point| self.clashes_at_point(item, tree, *point, fields, access))
     }
 
     /// One requirement more at a place.
@@ -142,19 +138,18 @@ impl Claims {
     }
 
     /// One requirement more at these points and fields.
-    pub fn claim_all<P: PointSet>(
+    pub fn claim_all(
         &mut self,
         item: usize,
         tree: u32,
-        set: &P,
+        points: &[u64],
         fields: &[u32],
         access: Priv,
     ) -> Result<(), AllocError>
-        ensures { OnOk result (Adds self.old self.new
-            (claims_at item tree (P.points set.now) fields.now access)) }
+        ensures { OnOk result (Adds self.old self.new (claims_at item tree points.now fields.now access)) }
     {
-        for point in points_in(set) {
-            self.claim_at_point(item, tree, point, fields, access)?;
+        for point in points {
+            self.claim_at_point(item, tree, *point, fields, access)?;
         }
         Ok(())
     }

@@ -6,6 +6,7 @@
 //! fault is shown, are for `log_decl`. Begin with any rule, `names.rt` say.
 #![tactic(auto)]
 
+mod claim_points;
 mod claims;
 mod counts;
 mod events;
@@ -20,6 +21,7 @@ mod spaces;
 mod tally;
 mod whole_log;
 
+pub use claim_points::rects_declared;
 pub use counts::{has_many_reads, is_late};
 pub use events::{is_run_again, repeats_event};
 pub use instances::{is_mapped_again, is_not_covered, is_of_wrong_kind, is_of_wrong_tree};

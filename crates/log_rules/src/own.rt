@@ -1,22 +1,26 @@
 //! Requirements of one task that share a place.
 
-ghost use Rattle.std.specs.Prelude.{◌≡◌, ◌<◌, ◌-◌, ◌^◌, length, false};
+ghost use Rattle.std.specs.Prelude.{◌≡◌, ◌<◌, ◌≤◌, ◌-◌, ◌^◌, List, Option, length, false, option_map, IfOk};
 ghost use Rattle.std.specs.List.{list_any};
 ghost use Rattle.std.specs.List.Sorted.{IsStrictlyIncreasing};
+ghost use Rattle.point_set.specs.declared.rect.Rect.{Rect};
+ghost use Rattle.grid.specs.Cuts.{grid_of};
 ghost use Rattle.vocabulary.specs.Prelude.{agree, Record, points_in, meets};
+ghost use Rattle.semantics.specs.declared.limits.TheConstants.{MOST_ACCESSES};
 ghost use Rattle.semantics.specs.Rules.{interferes_with_own};
 ghost use Rattle.log_tables.specs.Views.{Ascends};
-ghost use Rattle.log_rules.specs.Own.{AreClaims, AreNumbered, clashes_with, clashes_asked, first_clashes, clashes_row};
-ghost use Rattle.log_rules.specs.Tallied.{IfTally};
+ghost use Rattle.log_rules.specs.Own.{AreNumbered, claim_points, clashes_with, clashes_asked, first_clashes, clashes_row};
+ghost use Rattle.log_rules.specs.Tallied.{AreKept, IfTally};
 
-use crate::claims::Claims;
 use crate::fields::meets;
 use crate::tally::{Tally, claims_many};
 use log_tables::{Draft, priv_of};
+use memory::Memory;
 use point_set::PointSet;
 use privilege::{Priv, agree};
 use semantics::Req;
 use spy_grammar::Record;
+use std::alloc::Global;
 
 /// What a requirement asks for: these fields of a space in a tree, for an item, with a privilege.
 #[derive(Clone, Copy)]
@@ -93,53 +97,76 @@ fn first_clashes<P: PointSet>(draft: &Draft<P>, asked: &Asked<'_>) -> bool
 }
 
 /// Whether a privilege clashes with what is claimed at these fields of a space.
-fn clashes_with_claims<P: PointSet>(draft: &Draft<P>, claims: &Claims, asked: &Asked<'_>) -> bool
-    ensures { result
-        ≡ list_any (clashes_row claims.now asked.now.item asked.now.tree asked.now.fields.now asked.now.access)
-        (points_in draft.now asked.now.space) }
+fn clashes_with_claims<P: PointSet>(
+    alloc: Global,
+    draft: &Draft<P>,
+    tally: &Tally,
+    asked: &Asked<'_>,
+) -> Result<bool, Memory>
+    ensures { IfOk result (λ clashes. (all : Option (List Rect)) → tally.now.places.grid ≡ option_map grid_of all
+        → clashes ≡ list_any (clashes_row tally.now.claims asked.now.item asked.now.tree asked.now.fields.now asked.now.access)
+        (claim_points all (points_in draft.now asked.now.space))) }
 {
-    match draft.set(asked.space) {
-        Some(set) => claims.clashes_any(asked.item, asked.tree, set, asked.fields, asked.access),
-        None => false,
-    }
+    let points = tally.places.points_in(alloc, draft, asked.space)?;
+    Ok(tally.claims.clashes_any(
+        asked.item,
+        asked.tree,
+        points.as_slice(),
+        asked.fields,
+        asked.access,
+    ))
 }
 
 /// Whether some requirement of the item clashes so: the first, or a later one, whose places are claimed.
-fn clashes_by_place<P: PointSet>(draft: &Draft<P>, claims: &Claims, asked: &Asked<'_>) -> bool
+fn clashes_by_place<P: PointSet>(
+    alloc: Global,
+    draft: &Draft<P>,
+    tally: &Tally,
+    asked: &Asked<'_>,
+) -> Result<bool, Memory>
     requires { IsStrictlyIncreasing asked.now.fields.now }
-    ensures { AreClaims draft.now claims.now
-        → result ≡ clashes_asked draft.now asked.now }
+    ensures { IfOk result (λ clashes. (all : Option (List Rect)) → AreKept all draft.now tally.now
+        → tally.now.claimed ≤ MOST_ACCESSES → clashes ≡ clashes_asked draft.now asked.now) }
 {
-    first_clashes(draft, asked) || clashes_with_claims(draft, claims, asked)
+    if first_clashes(draft, asked) {
+        return Ok(true);
+    }
+    clashes_with_claims(alloc, draft, tally, asked)
 }
 
 /// Whether some requirement of the item clashes so. The places are not gone through where nothing can clash, or where they may be too many.
 fn clashes_own<P: PointSet>(
+    alloc: Global,
     draft: &Draft<P>,
-    claims: &Claims,
+    tally: &Tally,
     has_many: bool,
     asked: &Asked<'_>,
-) -> bool
+) -> Result<bool, Memory>
     requires { IsStrictlyIncreasing asked.now.fields.now }
-    ensures { AreNumbered draft.now → length draft.now.reqs < 2 ^ 32 - 1
-        → (has_many ≡ false → AreClaims draft.now claims.now)
-        → result ≡ clashes_asked draft.now asked.now }
+    ensures { IfOk result (λ clashes. (all : Option (List Rect)) → AreKept all draft.now tally.now
+        → (has_many ≡ false → tally.now.claimed ≤ MOST_ACCESSES) → clashes ≡ clashes_asked draft.now asked.now) }
 {
     if draft.req_count(asked.item) == 0 {
-        false
+        Ok(false)
     } else if has_many {
-        clashes_by_req(draft, asked)
+        Ok(clashes_by_req(draft, asked))
     } else {
-        clashes_by_place(draft, claims, asked)
+        clashes_by_place(alloc, draft, tally, asked)
     }
 }
 
 /// Whether a record is a requirement that shares a place with an earlier one of its task, where the two privileges do not agree.
 ///
-/// It is held against the first of its task, and against the places that the others claim, of which the accesses bound how many there are. A requirement that asks for too many accesses, and each of a log of the second version, is held against each earlier one instead.
-pub fn interferes_with_own<P: PointSet>(draft: &Draft<P>, tally: &Tally, rec: &Record) -> bool
+/// It is held against the first of its task, and against the places that the others claim: in a log of the second version those at points where cells of the grid of the whole log begin. Where the requirements ask for too many places, it is held against each earlier one of its task instead.
+pub fn interferes_with_own<P: PointSet>(
+    alloc: Global,
+    draft: &Draft<P>,
+    tally: &Tally,
+    rec: &Record,
+) -> Result<bool, Memory>
     requires { Ascends rec.now }
-    ensures { IfTally draft.now tally.now (λ earlier. result ≡ interferes_with_own draft.now rec.now) }
+    ensures { IfOk result (λ interferes. IfTally draft.now tally.now
+        (λ earlier. interferes ≡ interferes_with_own draft.now rec.now)) }
 {
     match rec {
         Record::Req {
@@ -150,8 +177,9 @@ pub fn interferes_with_own<P: PointSet>(draft: &Draft<P>, tally: &Tally, rec: &R
             access,
             ..
         } => clashes_own(
+            alloc,
             draft,
-            &tally.claims,
+            tally,
             claims_many(draft, tally, rec),
             &Asked {
                 item: draft.place(*task),
@@ -161,6 +189,6 @@ pub fn interferes_with_own<P: PointSet>(draft: &Draft<P>, tally: &Tally, rec: &R
                 access: priv_of(*access),
             },
         ),
-        _ => false,
+        _ => Ok(false),
     }
 }

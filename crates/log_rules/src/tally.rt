@@ -1,34 +1,41 @@
 //! What is kept count of along a log, and the limits on it.
 
-ghost use Rattle.std.specs.Prelude.{◌≡◌, nat_eq, ℕ, List, [], ◌++◌, ◌∷◌, false, true, IfOk, OnOk};
+ghost use Rattle.std.specs.Prelude.{◌≡◌, ◌≤◌, nat_eq, ℕ, List, [], ◌++◌, ◌∷◌, false, true, Option, option_map, IfOk, OnOk};
 ghost use Rattle.std.specs.HashSet.{contains};
+ghost use Rattle.point_set.specs.declared.rect.Rect.{Rect};
 ghost use Rattle.grid.specs.Corners.{cell_count};
-ghost use Rattle.vocabulary.specs.Prelude.{Record, points_in, no_tables, records_of, with_record};
+ghost use Rattle.grid.specs.Cuts.{grid_of};
+ghost use Rattle.vocabulary.specs.Prelude.{Record, no_tables, records_of, with_record};
+ghost use Rattle.semantics.specs.declared.limits.TheConstants.{MOST_ACCESSES};
 ghost use Rattle.semantics.specs.Rules.{has_many_points, has_many_atoms, has_many_cells, has_many_accesses, is_planar};
 ghost use Rattle.log_tables.specs.Views.{Ascends};
-ghost use Rattle.log_rules.specs.Own.{Adds, claims_at, claimed};
+ghost use Rattle.log_rules.specs.Own.{AddsAt, claimed};
 ghost use Rattle.log_rules.specs.Listing.{AddsAll, ids_listed};
 ghost use Rattle.log_rules.specs.Tallied.{AreAtEnd, IfTally, IsTally, MayCount, rects_in};
 
+use crate::claim_points::ClaimPoints;
 use crate::claims::Claims;
 use crate::counts::{cells_asked, points_asked, size_asked};
 use crate::serial::note_all;
+use grid::Grid;
 use log_limits::{Corners, access_total, cell_total, exceeds, raised};
 use log_tables::{Draft, priv_of};
+use memory::Memory;
 use point_set::PointSet;
-use privilege::Priv;
 use semantics::{MOST_ACCESSES, MOST_ATOMS, MOST_CELLS, MOST_POINTS};
-use spy_grammar::{Lined, Nums, Record};
+use spy_grammar::{Lined, Record};
 use std::alloc::{AllocError, Global};
 use std::collections::HashSet;
 
-/// What the records so far add up to: their points, cells and accesses, the items that they list in serial order, and the places that the requirements of each task claim, but for its first.
+/// What the records so far add up to: their points, cells and accesses, the items that they list in serial order, and the places that the requirements of each task claim, but for its first. Once they ask for too many places none is claimed.
 #[derive(Drop)]
 pub struct Tally {
     pub(crate) points: u128,
     pub(crate) cells: u128,
     pub(crate) accesses: u128,
     pub(crate) listed: HashSet<u32>,
+    pub(crate) places: ClaimPoints,
+    pub(crate) claimed: u128,
     pub(crate) claims: Claims,
 }
 
@@ -43,34 +50,26 @@ fn note_listed(listed: &mut HashSet<u32>, rec: &Record) -> Result<(), AllocError
     }
 }
 
-/// Claims the places of a requirement.
-fn claim_req<P: PointSet>(
-    claims: &mut Claims,
-    draft: &Draft<P>,
-    item: usize,
-    tree: u32,
-    space: u32,
-    fields: &Nums,
-    access: Priv,
-) -> Result<(), AllocError>
-    ensures { OnOk result (Adds claims.old claims.new
-        (claims_at item tree (points_in draft.now space) fields.now access)) }
+/// How many places the requirements so far and a record ask for.
+fn claimed_with<P: PointSet>(draft: &Draft<P>, tally: &Tally, rec: &Record) -> u128
+    ensures { tally.now.claimed ≤ result }
 {
-    match draft.set(space) {
-        Some(set) => claims.claim_all(item, tree, set, fields.as_slice(), access),
-        None => Ok(()),
-    }
+    raised(tally.claimed, tally.places.asked(draft, rec))
 }
 
-/// Claims the places of a record, if it is a requirement of a log of the first version, and not the first of its task. Later ones are held against the first itself, so that a task with one requirement claims nothing.
+/// Claims the places of a record, if it is a requirement, and not the first of its task. Later ones are held against the first itself, so that a task with one requirement claims nothing. Nothing is claimed where the requirements ask for too many places.
 fn note_claims<P: PointSet>(
+    alloc: Global,
     claims: &mut Claims,
+    places: &ClaimPoints,
+    sum: u128,
     draft: &Draft<P>,
     rec: &Record,
-) -> Result<(), AllocError>
-    ensures { OnOk result (is_planar draft.now ≡ false → Adds claims.old claims.new (claimed draft.now rec.now)) }
+) -> Result<(), Memory>
+    ensures { OnOk result ((all : Option (List Rect)) → places.now.grid ≡ option_map grid_of all → sum ≤ MOST_ACCESSES
+        → AddsAt all claims.old claims.new (claimed draft.now rec.now)) }
 {
-    if draft.is_planar() {
+    if sum > MOST_ACCESSES {
         return Ok(());
     }
     match rec {
@@ -86,7 +85,8 @@ fn note_claims<P: PointSet>(
             if draft.req_count(item) == 0 {
                 return Ok(());
             }
-            claim_req(claims, draft, item, *tree, *space, fields, priv_of(*access))?;
+            let points = places.points_in(alloc, draft, *space)?;
+            claims.claim_all(item, *tree, points.as_slice(), fields.as_slice(), priv_of(*access))?;
             Ok(())
         }
         _ => Ok(()),
@@ -94,32 +94,42 @@ fn note_claims<P: PointSet>(
 }
 
 impl Tally {
-    /// The tally of no records.
-    pub fn new(alloc: Global) -> Tally
-        ensures { IsTally [] no_tables result }
+    /// The tally of no records. In a log of the second version the grid is that of all its rectangles.
+    pub fn new(alloc: Global, grid: Option<Grid>) -> Tally
+        ensures { (all : Option (List Rect)) → grid ≡ option_map grid_of all → IsTally all [] no_tables result }
     {
         Tally {
             points: 0,
             cells: 0,
             accesses: 0,
             listed: HashSet::new(alloc),
+            places: ClaimPoints::new(alloc, grid),
+            claimed: 0,
             claims: Claims::new(alloc),
         }
     }
 
     /// The tally of one record more, given what the records before it declare. The old one is spent, also where memory runs out.
-    pub fn add<P: PointSet>(self, draft: &Draft<P>, rec: &Record) -> Result<Tally, AllocError>
+    pub fn add<P: PointSet>(
+        self,
+        alloc: Global,
+        draft: &Draft<P>,
+        rec: &Record,
+    ) -> Result<Tally, Memory>
         requires { Ascends rec.now }
-        ensures { IfOk result (λ tally. (earlier : List Record) (line : ℕ) → IsTally earlier draft.now self
-            → MayCount earlier draft.now rec.now
-            → IsTally (earlier ++ rec.now ∷ []) (with_record draft.now line rec.now) tally) }
+        ensures { IfOk result (λ tally. (all : Option (List Rect)) (earlier : List Record) (line : ℕ)
+            → IsTally all earlier draft.now self → MayCount all earlier draft.now rec.now
+            → IsTally all (earlier ++ rec.now ∷ []) (with_record draft.now line rec.now) tally) }
     {
         let mut tally = self;
         tally.points = raised(tally.points, points_asked(rec));
         tally.cells = raised(tally.cells, cells_asked(draft, rec));
         tally.accesses = raised(tally.accesses, size_asked(draft, rec));
         note_listed(&mut tally.listed, rec)?;
-        note_claims(&mut tally.claims, draft, rec)?;
+        let claimed = claimed_with(draft, &tally, rec);
+        note_claims(alloc, &mut tally.claims, &tally.places, claimed, draft, rec)?;
+        tally.places.note(alloc, rec)?;
+        tally.claimed = claimed;
         Ok(tally)
     }
 }
@@ -194,9 +204,9 @@ pub fn has_many_accesses<P: PointSet>(
     }
 }
 
-/// Whether a requirement may claim too many places: it does so in each log of the second version.
+/// Whether a record and the requirements so far ask for so many places that they are not claimed.
 pub(crate) fn claims_many<P: PointSet>(draft: &Draft<P>, tally: &Tally, rec: &Record) -> bool
-    ensures { result ≡ false → is_planar draft.now ≡ false }
+    ensures { result ≡ false → tally.now.claimed ≤ MOST_ACCESSES }
 {
-    draft.is_planar() || exceeds(tally.accesses, size_asked(draft, rec), MOST_ACCESSES)
+    claimed_with(draft, tally, rec) > MOST_ACCESSES
 }

@@ -2,21 +2,23 @@ use Rattle.std.proofs.Common.{◌≡◌, ◌+◌, true, List, take, None, sym, a
 use Rattle.grid.specs.Cuts.{grid_of}
 use Rattle.vocabulary.specs.Prelude.{Record, Tables, records_of}
 use Rattle.semantics.specs.Rules.{is_planar}
+use Rattle.log_decl.specs.Sizes.{plane_rects}
 use Rattle.log_decl.specs.Walk.{broken_of}
-use Rattle.log_decl.proofs.Walking.{stands_where, none_where, may_count, flat_here, plane_at, rects_more, tables_more, records_more, keeps_more, tally_more}
+use Rattle.log_decl.proofs.Walking.{stands_where, none_where, may_count, flat_here, listed_in, plane_at, rects_more, tables_more, records_more, keeps_more, tally_more}
 use Rattle.log_decl.proofs.walk.walk.Goals as goal
 
 pub returns-then-is_some : goal.returns-then-is_some
 returns-then-is_some g c =
     let inv = c.loop-l.invariant in
     let log = c.args.records.now in
+    let all = plane_rects log in
     let i = c.loop-l.l-index in
     let es = records_of (take i log) in
     let t = c.loop-l.draft in
     let r = c.l-item.result.rec in
     let measured = λ (planar : is_planar t ≡ true). let plane = c.is_plane_log-is_plane.ensures ∙ plane_at log i t c.requires.header inv.tables planar in
     (c.in_ok-cells.ensures t.rects plane (inv.size plane)).1 in
-    let told = c.in_ok-code.ensures es inv.tally (ap (λ n. records_of (take n log)) (sym inv.at)) measured in
+    let told = c.in_ok-code.ensures all es inv.tally (ap (λ n. records_of (take n log)) (sym inv.at)) measured in
     stands_where log c.loop-l.kept i t c.in_ok-code.code c.l-item.result inv.at inv.tables inv.keep (λ flat. (inv.tally.counts flat).within) c.loop-l-test.true c.l-item.is
     (sym c.is_some.ensures ∙ c.if-is_some.true)
     (told ∙ ap (λ (w : List Record). broken_of w es t r) c.requires.whole)
@@ -25,6 +27,7 @@ pub loop-l-preserved : goal.loop-l-preserved
 loop-l-preserved g c =
     let inv = c.loop-l.invariant in
     let log = c.args.records.now in
+    let all = plane_rects log in
     let i = c.loop-l.l-index in
     let es = records_of (take i log) in
     let t = c.loop-l.draft in
@@ -32,18 +35,18 @@ loop-l-preserved g c =
     let r = c.l-item.result.rec in
     let measured = λ (planar : is_planar t ≡ true). let plane = c.is_plane_log-is_plane.ensures ∙ plane_at log i t c.requires.header inv.tables planar in
     (c.in_ok-cells.ensures t.rects plane (inv.size plane)).1 in
-    let told = c.in_ok-code.ensures es inv.tally (ap (λ n. records_of (take n log)) (sym inv.at)) measured in
+    let told = c.in_ok-code.ensures all es inv.tally (ap (λ n. records_of (take n log)) (sym inv.at)) measured in
     let none : broken_of (records_of log) es t r ≡ None =
     ap (λ (w : List Record). broken_of w es t r) (sym c.requires.whole) ∙ sym told
     ∙ none_where c.in_ok-code.code (sym c.is_some.ensures ∙ c.if-is_some.false) in
     let next = c.in_ok-add.ensures.ok in
-    let tally = c.in_ok-tally.ensures es l.line inv.tally (may_count (records_of log) es t r
+    let tally = c.in_ok-tally.ensures all es l.line inv.tally (may_count all (records_of log) es t r
     (flat_here log i t l c.requires.header inv.tables c.loop-l-test.true c.l-item.is)
-    (omega (arith, inv.few, c.loop-l-test.true, c.requires.few)) none) in
+    (omega (arith, inv.few, c.loop-l-test.true, c.requires.few)) (listed_in log i l c.loop-l-test.true c.l-item.is) none) in
     record {
       at = ap (λ n. n + 1) inv.at;
       tables = next ∙ tables_more log i t l inv.tables c.loop-l-test.true c.l-item.is;
-      tally = tally_more _ _ _ _ _ tally (records_more log i l c.loop-l-test.true c.l-item.is) next;
+      tally = tally_more _ _ _ _ _ _ tally (records_more log i l c.loop-l-test.true c.l-item.is) next;
       few = omega (arith, c.in_ok-add.ensures.few, inv.few);
       size = λ plane. (c.in_ok-cells.ensures t.rects plane (inv.size plane)).0 ∙ ap grid_of (sym (rects_more t l.line r))
           ∙ ap (λ (u : Tables). grid_of u.rects) (sym next);

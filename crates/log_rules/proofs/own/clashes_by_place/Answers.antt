@@ -1,26 +1,28 @@
-use Rattle.std.proofs.Common.{◌||◌, sym, ap, ◌∙◌}
+use Rattle.std.proofs.Common.{◌||◌, List, Option, sym, ap, ◌∙◌}
 use Rattle.std.specs.List.{list_any}
-use Rattle.vocabulary.specs.Prelude.{points_in}
-use Rattle.log_rules.specs.Own.{clashes_row}
+use Rattle.std.proofs.lemmas.Result.{IfOk-weaker}
+use Rattle.vocabulary.specs.Prelude.{Rect, points_in}
+use Rattle.log_rules.specs.Own.{claim_points, clashes_row}
 use Rattle.log_rules.proofs.Claiming.{own_by_claims}
 use Rattle.log_rules.proofs.own.clashes_by_place.Goals as goal
 
 pub returns-then-first_clashes : goal.returns-then-first_clashes
-returns-then-first_clashes g c = λ are.
+returns-then-first_clashes g c = λ all are few.
     let t = c.args.draft.now in
-    let claims = c.args.claims.now in
-    let kept = list_any (clashes_row claims c.args.asked.now.item c.args.asked.now.tree c.args.asked.now.fields.now c.args.asked.now.access)
-    (points_in t c.args.asked.now.space) in
-    c.if-first_clashes.true
-    ∙ ap (λ b. b || kept) (sym c.if-first_clashes.true ∙ c.first_clashes.ensures)
-    ∙ own_by_claims t claims c.args.asked.now.item c.args.asked.now.tree c.args.asked.now.space c.args.asked.now.fields.now c.args.asked.now.access are
+    let claims = c.args.tally.now.claims in
+    let asked = c.args.asked.now in
+    let kept = list_any (clashes_row claims asked.item asked.tree asked.fields.now asked.access) (claim_points all (points_in t asked.space)) in
+    ap (λ b. b || kept) (sym c.if-first_clashes.true ∙ c.first_clashes.ensures)
+    ∙ own_by_claims all t claims asked.item asked.tree asked.space asked.fields.now asked.access are.cells (are.claims few)
 
-pub returns-else-first_clashes : goal.returns-else-first_clashes
-returns-else-first_clashes g c = λ are.
+pub returns : goal.returns
+returns g c =
     let t = c.args.draft.now in
-    let claims = c.args.claims.now in
-    let kept = list_any (clashes_row claims c.args.asked.now.item c.args.asked.now.tree c.args.asked.now.fields.now c.args.asked.now.access)
-    (points_in t c.args.asked.now.space) in
+    let claims = c.args.tally.now.claims in
+    let asked = c.args.asked.now in
+    let kept = λ (all : Option (List Rect)). list_any (clashes_row claims asked.item asked.tree asked.fields.now asked.access) (claim_points all (points_in t asked.space)) in
+    IfOk-weaker c.clashes_with_claims.result _ _ (λ clashes told all are few.
+    told all are.grid
+    ∙ ap (λ b. b || kept all) (sym c.if-first_clashes.false ∙ c.first_clashes.ensures)
+    ∙ own_by_claims all t claims asked.item asked.tree asked.space asked.fields.now asked.access are.cells (are.claims few))
     c.clashes_with_claims.ensures
-    ∙ ap (λ b. b || kept) (sym c.if-first_clashes.false ∙ c.first_clashes.ensures)
-    ∙ own_by_claims t claims c.args.asked.now.item c.args.asked.now.tree c.args.asked.now.space c.args.asked.now.fields.now c.args.asked.now.access are

@@ -7,7 +7,7 @@ use Rattle.log_rules.proofs.Listings.{lists_badly-is}
 use Rattle.log_rules.proofs.serial.is_bad_serial.Goals as goal
 
 pub returns-in_ok-bad-in-Serial : goal.returns-in_ok-bad-in-Serial
-returns-in_ok-bad-in-Serial g c = λ earlier is.
+returns-in_ok-bad-in-Serial g c = λ all earlier is.
     let log = c.args.whole.now in
     let t = c.args.draft.now in
     let set = contains nat_eq c.args.tally.now.listed in

@@ -8,7 +8,7 @@ use Rattle.log_rules.proofs.Growing.{planar_accesses}
 use Rattle.log_rules.proofs.tally.has_many_accesses.Goals as goal
 
 pub returns-in-Some : goal.returns-in-Some
-returns-in-Some g c = λ earlier is same at.
+returns-in-Some g c = λ all earlier is same at.
     let t = c.args.draft.now in
     let r = c.args.rec.now in
     let ends = subst (AreAtEnd t r) c.in-Some.is at in

@@ -7,7 +7,7 @@ use Rattle.log_rules.proofs.Growing.{judged_cells, planar_cells}
 use Rattle.log_rules.proofs.tally.has_many_cells.Goals as goal
 
 pub returns-then-not-is_planar : goal.returns-then-not-is_planar
-returns-then-not-is_planar g c = λ earlier is at.
+returns-then-not-is_planar g c = λ all earlier is at.
     let t = c.args.draft.now in
     let r = c.args.rec.now in
     let flat = sym c.is_planar.ensures ∙ c.if-not-is_planar.true in
@@ -17,7 +17,7 @@ returns-then-not-is_planar g c = λ earlier is at.
     ∙ judged_cells t c.in-Inst.id c.in-Inst.tree _ _ c.in-Inst.kind flat ∙ ap (has_many_cells t) (sym c.in-Inst.is)
 
 pub returns-in-Some : goal.returns-in-Some
-returns-in-Some g c = λ earlier is at.
+returns-in-Some g c = λ all earlier is at.
     let t = c.args.draft.now in
     let r = c.args.rec.now in
     let ends = subst (AreAtEnd t r) c.in-Some.is at in

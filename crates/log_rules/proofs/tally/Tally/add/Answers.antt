@@ -6,6 +6,7 @@ use Rattle.semantics.specs.Rules.{accesses}
 use Rattle.log_rules.specs.Counts.{points_asked, cells_asked, size_asked}
 use Rattle.log_limits.specs.Sums.{cut}
 use Rattle.log_rules.specs.Listing.{ids_listed}
+use Rattle.log_rules.proofs.Cells.{HasCells-add}
 use Rattle.log_rules.proofs.Limits.{cut-both}
 use Rattle.log_rules.proofs.Growing.{AreKnown-add, point_total-add, cell_total-add, access_total-add, points-exact, cells-exact, accesses-exact, few_accesses, listed-add, AreClaims-add}
 use Rattle.log_rules.proofs.Numbering.{AreNumbered-add, few_more}
@@ -15,7 +16,7 @@ within_limit : (a b n : ℕ) → nat_lt 4194304 (a + b) ≡ false → n ≡ a + 
 within_limit a b n few is = elim (cases_lt 4194304 (a + b)) [ inl lt ↦ grind (arith, nat_tests) | inr le ↦ omega arith ]
 
 pub returns : goal.returns
-returns g c = λ earlier line is may.
+returns g c = λ all earlier line is may.
     let t = c.args.draft.now in
     let r = c.args.rec.now in
     let old = c.args.self in
@@ -37,12 +38,18 @@ returns g c = λ earlier line is may.
                 c.raised-3.ensures.sum ∙ ap (λ m. cut (old.accesses + m)) c.size_asked.ensures
                 ∙ cut-both old.accesses (size_asked t r) most ∙ accesses-exact earlier t r old.accesses of.accesses flat may.accesses
                 ∙ sym (access_total-add earlier t line r flat still is.known.accesses may.known);
-            claims = AreClaims-add t line r old.claims c.note_claims.new.claims of.claims is.known.reqs (c.in_ok-note_claims.ensures flat);
             within = within_limit _ (accesses t r) _ (few_accesses earlier t r flat may.accesses)
                 (access_total-add earlier t line r flat still is.known.accesses may.known);
           };
       lists = λ n. c.in_ok-note_listed.ensures n ∙ ap (λ b. b || is_in (ids_listed r) n) (is.lists n) ∙ sym (listed-add t line r n);
       known = AreKnown-add earlier t line r is.known may.known;
-      numbered = AreNumbered-add t line r is.numbered;
-      few = omega (arith, few_more t line r, may.few);
+      kept = record {
+        grid = c.in_ok-note.ensures ∙ is.kept.grid;
+        cells = HasCells-add all t line r c.requires may.listed is.kept.cells;
+        claims = λ low. AreClaims-add all t line r old.claims c.note_claims.new.claims
+            (is.kept.claims (omega (arith, c.claimed_with-claimed.ensures, low))) is.known.reqs
+            (c.in_ok-note_claims.ensures all is.kept.grid low);
+        numbered = AreNumbered-add t line r is.kept.numbered;
+        few = omega (arith, few_more t line r, may.few);
+      };
     }
