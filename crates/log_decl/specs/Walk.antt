@@ -4,9 +4,10 @@ use Rattle.log_rules.specs.Counts.{access_total}
 use Rattle.std.specs.Borrow.{Bor}
 use Rattle.grid.specs.Corners.{cell_count}
 use Rattle.log_limits.specs.declared.corners.Corners.{Corners}
-use Rattle.log_rules.specs.Tallied.{AreAtEnd, IfTally, rects_in}
+use Rattle.log_rules.specs.Tallied.{AreAtEnd, IsTally, rects_in}
+use Rattle.log_rules.specs.declared.tally.Tally.{Tally}
 use Rattle.std.specs.Option.{option_or}
-use Rattle.vocabulary.specs.Prelude.{Code, Record, Lined, records_of, Tables, tables_of, Fault}
+use Rattle.vocabulary.specs.Prelude.{Code, Record, Rect, Lined, records_of, Tables, tables_of, Fault}
 use Rattle.spy_grammar.specs.declared.code.Code.TheVariants as codes
 use Rattle.semantics.specs.declared.limits.TheConstants.{MOST_ACCESSES}
 use Rattle.semantics.specs.Faults.{at_line, InLog, record_rules, breaks}
@@ -31,10 +32,15 @@ seen at earlier = record { log = at.whole.now; earlier = earlier; tables = at.dr
 abbrev pub AreCellsAt : {P : Type 0} → AtRecord P → Type 0
 AreCellsAt at = rules.is_planar at.draft.now ≡ true → at.cells ≡ cell_count (at.draft.now.rects ++ rects_in at.rec.now)
 
+-- The tally is that of these records, whose tables these are. In a log of the second version it goes by rectangles.
+pub record HasTally (earlier : List Record) (t : Tables) (tally : Tally) : Type 0 where
+  pub all : Option (List Rect)
+  pub is : IsTally all earlier t tally
+
 -- A fact of that record, after the earlier ones, where what is known of these is so.
 abbrev pub IfAt : {P : Type 0} → AtRecord P → (InLog → Type 0) → Type 0
-IfAt at P = IfTally at.draft.now at.tally.now
-    (λ earlier. earlier ≡ records_of at.earlier.now → AreCellsAt at → P (seen at earlier))
+IfAt at P = (earlier : List Record) → HasTally earlier at.draft.now at.tally.now
+    → earlier ≡ records_of at.earlier.now → AreCellsAt at → P (seen at earlier)
 
 -- The same where besides it is counted at the end of a log of the second version how many cells begin in each space.
 abbrev pub IfAtEnd : {P : Type 0} → AtRecord P → Option (Bor Corners) → (InLog → Type 0) → Type 0

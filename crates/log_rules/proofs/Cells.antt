@@ -1,5 +1,5 @@
 -- Rectangles of a log are whole cells of its grid, each of which begins at a point of its own.
-use Rattle.std.proofs.Common.{◌≡◌, ℕ, ◌+◌, ◌*◌, ◌/◌, ◌%◌, ◌^◌, ◌<◌, ◌==◌, Bool, true, false, ◌&&◌, ◌||◌, cond, List, [], ◌∷◌, ◌++◌, filter, find, map, length, get_or, Contains, Option, Some, None, MatchOption, refl, sym, ap, ◌∙◌, subst, inl, inr, arith}
+use Rattle.std.proofs.Common.{◌≡◌, ℕ, ◌+◌, ◌*◌, ◌/◌, ◌%◌, ◌^◌, ◌<◌, ◌==◌, Bool, true, false, ◌||◌, cond, List, [], ◌∷◌, ◌++◌, filter, find, map, length, get_or, Contains, Option, Some, None, MatchOption, refl, sym, ap, ◌∙◌, subst, inl, inr, arith}
 use Rattle.std.specs.Prelude.{⊤, option_map}
 use Rattle.std.specs.Cmp.{both_ways}
 use Rattle.std.specs.List.{list_any}
@@ -9,7 +9,7 @@ use Rattle.std.proofs.lemmas.List.Elements.{Contains-get_or}
 use Rattle.std.proofs.lemmas.Option.{none-some, same_Some}
 use Rattle.std.proofs.lemmas.List.Folds.{Any-from_list_any, find-append, list_any-from_Any}
 use Rattle.point_set.specs.declared.rect.Rect.{Rect}
-use Rattle.point_set.specs.Rects.{AreRects, AreSmall, Has, rect_at, rect_points}
+use Rattle.point_set.specs.Rects.{AreSmall, Has, rect_at, rect_points}
 use Rattle.point_set.proofs.lemmas.Columns.{of_has, to_has}
 use Rattle.grid.specs.Corners.{corners_in, is_corner}
 use Rattle.grid.specs.Cuts.{Cuts, IsInSpan, cuts, grid_of, x_ends, y_ends}
@@ -21,7 +21,7 @@ use Rattle.log_tables.specs.Views.{Ascends}
 use Rattle.log_tables.proofs.lemmas.Members.{has_in, in_has}
 use Rattle.log_rules.specs.Cells.{AreCells, Cell, HasCells, InCell}
 use Rattle.log_rules.specs.Own.{claim_points, is_claim_point}
-use Rattle.log_rules.specs.Tallied.{AreListed, rects_in}
+use Rattle.log_rules.specs.Tallied.{AreListed}
 use Rattle.log_rules.proofs.ListTests.{list_any-alike}
 use Rattle.log_rules.proofs.Loading.{in_filter}
 
@@ -208,7 +208,7 @@ pub in_claim_points : (all : Option (List Rect)) (ps : List ℕ) (p : ℕ) → i
 in_claim_points None ps p begins = refl
 in_claim_points (Some all) ps p begins = in_filter (is_corner all) ps p begins
 
--- What code tells of the points of a space, with a grid and without one.
+-- What code tells of the points of a space where it has a grid.
 pub no_claim_points : (all : Option (List Rect)) → claim_points all [] ≡ []
 no_claim_points None = refl
 no_claim_points (Some all) = refl
@@ -219,11 +219,6 @@ pub corners_told : (all : Option (List Rect)) (o : Option Cuts) (grid : Cuts) (t
 corners_told None o grid told have points some is same tells = absurd (none-some grid (sym is ∙ some))
 corners_told (Some all) o grid told have points some is same tells =
     tells all (same_Some grid (grid_of all) (sym some ∙ is)) ∙ ap (corners_in all) same
-
-pub all_told : (all : Option (List Rect)) (o : Option Cuts) (told have points : List ℕ) → o ≡ None → o ≡ option_map grid_of all → have ≡ points
-    → told ≡ have → told ≡ claim_points all points
-all_told None o told have points empty is same tells = tells ∙ same
-all_told (Some all) o told have points empty is same tells = absurd (none-some (grid_of all) (sym empty ∙ is))
 
 -- Whether a space has a point does not divide a cell.
 pub of_cells : (all : Option (List Rect)) (t : Tables) (id : ℕ) → HasCells all t → IsOfCells all (is_in (points_in t id))

@@ -110,8 +110,14 @@ impl ClaimPoints {
     /// How many places a record claims: a requirement claims some, unless it is the first of its task.
     pub fn asked<P: PointSet>(&self, draft: &Draft<P>, rec: &Record) -> u128 {
         match rec {
-            Record::Req { task, space, fields, .. } if draft.req_count(draft.place(*task)) != 0 => {
-                self.count(draft, *space).saturating_mul(fields.len() as u128)
+            Record::Req {
+                task,
+                space,
+                fields,
+                ..
+            } if draft.req_count(draft.place(*task)) != 0 => {
+                self.count(draft, *space)
+                    .saturating_mul(fields.len() as u128)
             }
             _ => 0,
         }

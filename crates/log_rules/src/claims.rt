@@ -99,9 +99,7 @@ impl Claims {
     ) -> bool
         ensures { result ≡ list_any (clashes_row self.now item tree fields.now access) points.now }
     {
-        points
-            .iter()
-            .any(|point| self.clashes_at_point(item, tree, *point, fields, access))
+        points.iter().any(|point| self.clashes_at_point(item, tree, *point, fields, access))
     }
 
     /// One requirement more at a place.

@@ -108,13 +108,15 @@ fn clashes_with_claims<P: PointSet>(
         (claim_points all (points_in draft.now asked.now.space))) }
 {
     let points = tally.places.points_in(alloc, draft, asked.space)?;
-    Ok(tally.claims.clashes_any(
-        asked.item,
-        asked.tree,
-        points.as_slice(),
-        asked.fields,
-        asked.access,
-    ))
+    Ok(
+        tally.claims.clashes_any(
+            asked.item,
+            asked.tree,
+            points.as_slice(),
+            asked.fields,
+            asked.access,
+        ),
+    )
 }
 
 /// Whether some requirement of the item clashes so: the first, or a later one, whose places are claimed.

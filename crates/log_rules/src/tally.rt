@@ -86,7 +86,13 @@ fn note_claims<P: PointSet>(
                 return Ok(());
             }
             let points = places.points_in(alloc, draft, *space)?;
-            claims.claim_all(item, *tree, points.as_slice(), fields.as_slice(), priv_of(*access))?;
+            claims.claim_all(
+                item,
+                *tree,
+                points.as_slice(),
+                fields.as_slice(),
+                priv_of(*access),
+            )?;
             Ok(())
         }
         _ => Ok(()),

@@ -13,10 +13,10 @@ past_first test (x ∷ xs) d some fails =
     rw fails (ap (λ n. find test (take n xs)) others ∙ ap (find test) (take-length xs))
 
 pub loop-rest-init : goal.loop-rest-init
-loop-rest-init g c = λ ends all earlier is same cells. ap (find (breaks_other (seen c.args.at.now earlier))) c.as_slice-rest.ensures
+loop-rest-init g c = λ ends earlier is same cells. ap (find (breaks_other (seen c.args.at.now earlier))) c.as_slice-rest.ensures
 
 pub loop-rest-preserved : goal.loop-rest-preserved
-loop-rest-preserved g c = λ ends all earlier is same cells.
+loop-rest-preserved g c = λ ends earlier is same cells.
     past_first (breaks_other (seen c.args.at.now earlier)) c.loop-rest.rest.now TooLong c.in-len1-up.len_at_least
-    (sym (c.in_ok-breaks.ensures ends all earlier is same cells) ∙ c.if-branch.false)
-    ∙ c.loop-rest.invariant ends all earlier is same cells
+    (sym (c.in_ok-breaks.ensures ends earlier is same cells) ∙ c.if-branch.false)
+    ∙ c.loop-rest.invariant ends earlier is same cells

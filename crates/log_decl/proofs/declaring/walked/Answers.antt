@@ -1,5 +1,15 @@
+use Rattle.std.proofs.Common.{refl}
 use Rattle.log_decl.specs.Sizes.{plane_rects}
 use Rattle.log_decl.proofs.declaring.walked.Goals as goal
 
-pub walk-requires-clause-tally : goal.walk-requires-clause-tally
-walk-requires-clause-tally g c = c.new.ensures (plane_rects c.args.records.now) c.in_ok-grid.ensures
+pub walk-requires : goal.walk-requires
+walk-requires g c κs = (
+  (refl, tt),
+  (
+    c.requires.none,
+    (
+      c.new-2.ensures (plane_rects c.args.records.now) c.in_ok-grid.ensures,
+      (c.in_ok-whole.ensures, (c.requires.ascends, (c.requires.few, c.requires.header))),
+    ),
+  ),
+)

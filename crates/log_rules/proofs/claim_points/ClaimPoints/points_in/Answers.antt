@@ -2,7 +2,7 @@ use Rattle.std.proofs.Common.{ap, sym, ◌∙◌}
 use Rattle.std.proofs.lemmas.Result.{IfOk-weaker}
 use Rattle.vocabulary.specs.Prelude.{points_in}
 use Rattle.log_rules.specs.Own.{claim_points}
-use Rattle.log_rules.proofs.Cells.{all_told, corners_told, no_claim_points}
+use Rattle.log_rules.proofs.Cells.{corners_told, no_claim_points}
 use Rattle.log_rules.proofs.claim_points.ClaimPoints.points_in.Goals as goal
 
 pub returns-in_default : goal.returns-in_default
