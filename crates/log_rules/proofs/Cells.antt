@@ -81,7 +81,8 @@ cells_of : (all parts : List Rect) → AreSmall parts → listed all parts → A
 cells_of all parts small among =
     let points = rect_points parts in
     let go : (k l a b : ℕ) → InCell all k l a → InCell all k l b → is_in points a ≡ true → is_in points b ≡ true =
-    λ k l a b from to e. in_has points b (of_point parts b (moved all parts k l a b among from to (has_point parts a small (has_in points a e)))) in
+    λ k l a b from to e. in_has points b
+    (of_point parts b (moved all parts k l a b among from to (has_point parts a small (has_in points a e)))) in
     record {
       cell = λ p e. in_cell all parts p among (has_point parts p small (has_in points p e));
       whole = λ k l p q here there. both_ways (is_in points p) (is_in points q) (go k l p q here there) (go k l q p there here);
@@ -128,7 +129,8 @@ first_in_cell all k l p h =
     let y = get_or (grid_of all).ys l 0 in
     let fits : y < 2 ^ 32 = omega (arith, h.row.1) in
     record {
-      column = subst (IsInSpan (grid_of all).xs k) (sym (column_is x y fits)) (h.column.0, omega arith, omega (arith, h.column.1, h.column.2));
+      column = subst (IsInSpan (grid_of all).xs k) (sym (column_is x y fits))
+          (h.column.0, omega arith, omega (arith, h.column.1, h.column.2));
       row = subst (IsInSpan (grid_of all).ys l) (sym (row_is x y fits)) (h.row.0, omega arith, omega (arith, h.row.1, h.row.2));
     }
 
@@ -158,7 +160,8 @@ any_kept q f (p ∷ ps) h = elim (cases_Bool (q p)) [
     | inl here ↦ ap (λ b. b || list_any f ps) here
     | inr there ↦
         ap (λ b. b || list_any f ps) there
-        ∙ any_kept q f ps (sym (ap (λ b. b || list_any f (filter q ps)) there) ∙ sym (ap (λ b. list_any f (cond b (p ∷ filter q ps) (filter q ps))) stays) ∙ h)
+        ∙ any_kept q f ps (sym (ap (λ b. b || list_any f (filter q ps)) there)
+        ∙ sym (ap (λ b. list_any f (cond b (p ∷ filter q ps) (filter q ps))) stays) ∙ h)
   ]
   | inr goes ↦
       let rest = any_kept q f ps (sym (ap (λ b. list_any f (cond b (p ∷ filter q ps) (filter q ps))) goes) ∙ h) in

@@ -82,7 +82,8 @@ claims_at-field old mid new item tree point field fields i access k a lt is befo
     )
 
 -- One point more.
-point_more : (i t ps p rest : Bool) → ((i && (t && (ps && rest))) || (i && (t && ((p || false) && rest)))) ≡ (i && (t && ((ps || p) && rest)))
+point_more : (i t ps p rest : Bool)
+    → ((i && (t && (ps && rest))) || (i && (t && ((p || false) && rest)))) ≡ (i && (t && ((ps || p) && rest)))
 point_more false t ps p rest = refl
 point_more true false ps p rest = refl
 point_more true true true true true = refl

@@ -61,7 +61,8 @@ pub record IsTally (all : Option (List Rect)) (earlier : List Record) (t : Table
 
 -- A fact of all earlier records whose tally and tables these are.
 abbrev pub IfTally : Tables → Tally → (List Record → Type 0) → Type 0
-IfTally t tally P = (all : Option (List Rect)) (earlier : List Record) → IsTally all earlier t tally → P earlier
+IfTally t tally P =
+    (all : Option (List Rect)) (earlier : List Record) → IsTally all earlier t tally → P earlier
 
 -- The record keeps the rules on names and the limits, and leaves the version of the log as it is, so that it may be counted. Its rectangles are among those that are given.
 pub record MayCount (all : Option (List Rect)) (earlier : List Record) (t : Tables) (r : Record) : Type 0 where

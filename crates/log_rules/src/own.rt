@@ -103,8 +103,9 @@ fn clashes_with_claims<P: PointSet>(
     tally: &Tally,
     asked: &Asked<'_>,
 ) -> Result<bool, Memory>
-    ensures { IfOk result (λ clashes. (all : Option (List Rect)) → tally.now.places.grid ≡ option_map grid_of all
-        → clashes ≡ list_any (clashes_row tally.now.claims asked.now.item asked.now.tree asked.now.fields.now asked.now.access)
+    ensures { IfOk result (λ clashes. (all : Option (List Rect))
+        → tally.now.places.grid ≡ option_map grid_of all → clashes
+        ≡ list_any (clashes_row tally.now.claims asked.now.item asked.now.tree asked.now.fields.now asked.now.access)
         (claim_points all (points_in draft.now asked.now.space))) }
 {
     let points = tally.places.points_in(alloc, draft, asked.space)?;
@@ -146,7 +147,8 @@ fn clashes_own<P: PointSet>(
 ) -> Result<bool, Memory>
     requires { IsStrictlyIncreasing asked.now.fields.now }
     ensures { IfOk result (λ clashes. (all : Option (List Rect)) → AreKept all draft.now tally.now
-        → (has_many ≡ false → tally.now.claimed ≤ MOST_ACCESSES) → clashes ≡ clashes_asked draft.now asked.now) }
+        → (has_many ≡ false → tally.now.claimed ≤ MOST_ACCESSES)
+        → clashes ≡ clashes_asked draft.now asked.now) }
 {
     if draft.req_count(asked.item) == 0 {
         Ok(false)

@@ -66,8 +66,8 @@ fn note_claims<P: PointSet>(
     draft: &Draft<P>,
     rec: &Record,
 ) -> Result<(), Memory>
-    ensures { OnOk result ((all : Option (List Rect)) → places.now.grid ≡ option_map grid_of all → sum ≤ MOST_ACCESSES
-        → AddsAt all claims.old claims.new (claimed draft.now rec.now)) }
+    ensures { OnOk result ((all : Option (List Rect)) → places.now.grid ≡ option_map grid_of all
+        → sum ≤ MOST_ACCESSES → AddsAt all claims.old claims.new (claimed draft.now rec.now)) }
 {
     if sum > MOST_ACCESSES {
         return Ok(());
@@ -102,7 +102,8 @@ fn note_claims<P: PointSet>(
 impl Tally {
     /// The tally of no records. In a log of the second version the grid is that of all its rectangles.
     pub fn new(alloc: Global, grid: Option<Grid>) -> Tally
-        ensures { (all : Option (List Rect)) → grid ≡ option_map grid_of all → IsTally all [] no_tables result }
+        ensures { (all : Option (List Rect)) → grid ≡ option_map grid_of all
+            → IsTally all [] no_tables result }
     {
         Tally {
             points: 0,

@@ -11,7 +11,8 @@ returns-then-first_clashes g c = λ all are few.
     let t = c.args.draft.now in
     let claims = c.args.tally.now.claims in
     let asked = c.args.asked.now in
-    let kept = list_any (clashes_row claims asked.item asked.tree asked.fields.now asked.access) (claim_points all (points_in t asked.space)) in
+    let kept = list_any (clashes_row claims asked.item asked.tree asked.fields.now asked.access)
+    (claim_points all (points_in t asked.space)) in
     ap (λ b. b || kept) (sym c.if-first_clashes.true ∙ c.first_clashes.ensures)
     ∙ own_by_claims all t claims asked.item asked.tree asked.space asked.fields.now asked.access are.cells (are.claims few)
 
@@ -20,7 +21,8 @@ returns g c =
     let t = c.args.draft.now in
     let claims = c.args.tally.now.claims in
     let asked = c.args.asked.now in
-    let kept = λ (all : Option (List Rect)). list_any (clashes_row claims asked.item asked.tree asked.fields.now asked.access) (claim_points all (points_in t asked.space)) in
+    let kept = λ (all : Option (List Rect)).
+    list_any (clashes_row claims asked.item asked.tree asked.fields.now asked.access) (claim_points all (points_in t asked.space)) in
     IfOk-weaker c.clashes_with_claims.result _ _ (λ clashes told all are few.
     told all are.grid
     ∙ ap (λ b. b || kept all) (sym c.if-first_clashes.false ∙ c.first_clashes.ensures)

@@ -13,7 +13,8 @@ returns-in_default g c = λ numbered few.
     let k = c.loop-before.before in
     let none : slice_get (reqs_of t asked.item) k ≡ None = sym (numbered asked.item k) ∙ sym c.in_default.ensures.req in
     let f = clashes_with t asked.item asked.tree (points_in t asked.space) asked.fields.now asked.access in
-    sym (own_all asked.item f t.reqs (λ r other. rw other refl) ∙ all_fail f (reqs_of t asked.item) k none (c.loop-before.invariant numbered))
+    sym (own_all asked.item f t.reqs (λ r other. rw other refl)
+    ∙ all_fail f (reqs_of t asked.item) k none (c.loop-before.invariant numbered))
 
 pub returns-then-clashes_with : goal.returns-then-clashes_with
 returns-then-clashes_with g c = λ numbered few.
@@ -42,4 +43,5 @@ returns g c = λ numbered few.
     let count = length-filter (λ (r : Req). r.item == asked.item) t.reqs in
     let fewer = count_by-le-length (λ (r : Req). r.item == asked.item) t.reqs in
     let past : length own ≤ k = omega (arith, few, count, fewer, c.loop-before-test.false) in
-    sym (own_all asked.item f t.reqs (λ r other. rw other refl) ∙ all_fail f own k (slice_get_past own k past) (c.loop-before.invariant numbered))
+    sym (own_all asked.item f t.reqs (λ r other. rw other refl)
+    ∙ all_fail f own k (slice_get_past own k past) (c.loop-before.invariant numbered))
