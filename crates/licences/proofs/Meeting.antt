@@ -1,10 +1,11 @@
 -- When lists and sets meet.
-use Rattle.std.proofs.Common.{◌≡◌, ℕ, ◌↔◌, ◌^◌, ◌<◌, All, Option, Some, None, Bool, true, false, not, ◌&&◌, List, [], ◌∷◌, IsTrue, Contains, refl}
+use Rattle.std.proofs.Common.{◌≡◌, ℕ, ◌↔◌, ◌^◌, ◌<◌, All, Option, Some, None, Bool, true, false, not, ◌&&◌, List, [], ◌∷◌, IsTrue, Contains, refl, arith}
 use Rattle.std.specs.List.{Any}
 use Rattle.std.specs.Option.{option_map_or}
 use Rattle.std.proofs.lemmas.List.Elements.{All-nil}
 use Rattle.std.proofs.lemmas.Bool.Decides.{same_from_decides}
 use Rattle.std.proofs.lemmas.List.Folds.{Any-from_list_any, list_any-from_Any}
+use Rattle.point_set.specs.Least.{IsLeastOf, IsLeastOutside}
 use Rattle.log_tables.proofs.lemmas.Members.{Decides-is_in}
 use Rattle.vocabulary.specs.Prelude.{is_in, meets}
 
@@ -36,3 +37,8 @@ pub bounded_none : {P : Type 0} (points : P → List ℕ) → ((s : P) → All (
     → All (λ x. x < 2 ^ 64) (option_map_or points o [])
 bounded_none points law None = All-nil (λ x. x < 2 ^ 64)
 bounded_none points law (Some s) = law s
+
+-- The first point is the least that no set has.
+pub outside_none : (xs : List ℕ) (o : Option ℕ) → IsLeastOf xs o → IsLeastOutside xs [] o
+outside_none xs (Some p) h = ((h.0, λ has. absurd (omega (arith, has.1))), λ q r. h.1 q r.0)
+outside_none xs None h = λ q r. h q r.0

@@ -6,9 +6,9 @@ use Rattle.std.proofs.lemmas.Bool.{cases_Bool, cases_lt, false≢true}
 use Rattle.privilege.specs.Allowed.{contains}
 use Rattle.vocabulary.specs.Prelude.{is_in}
 use Rattle.log_tables.proofs.lemmas.Members.{has_in, in_has}
-use Rattle.point_set.specs.Least.{IsLeastGap}
+use Rattle.point_set.specs.Least.{IsLeastFrom, IsLeastGap, IsLeastOutside}
 use Rattle.licences.specs.Claims.{Claimed, holds}
-use Rattle.licences.specs.Reach.{at, allows_at, serves, Reaches}
+use Rattle.licences.specs.Reach.{at, allows_at, serves, IsDoubt, Reaches}
 
 -- One claim allows what is asked for at a point exactly where it serves the field and has the point.
 one_allows : (one c : Claimed) (f x : ℕ) → (holds (at c f x) one && contains one.access c.access) ≡ (serves one c f && is_in one.points x)
@@ -163,3 +163,14 @@ none_reach all i c f from le none = (
   (λ x le lt. absurd (omega (arith, le, lt))),
   λ e. subst (λ cs. allows_at cs c f from ≡ false) (take_all i all le) none,
 )
+
+-- What is refused is none of the points of a claim that serves the field, so no point before the first that it lacks is.
+pub doubt_by_one : (all : List Claimed) (one c : Claimed) (f : ℕ) (o : Option ℕ) → Contains all one → serves one c f ≡ true
+    → IsLeastOutside c.points one.points o → IsDoubt all c f o
+doubt_by_one all one c f (Some from) of s h = λ x r. h.1 x (r.0, λ has. false≢true (sym r.1 ∙ served_at all one c f x of s has))
+doubt_by_one all one c f None of s h = λ x r. h x (r.0, λ has. false≢true (sym r.1 ∙ served_at all one c f x of s has))
+
+-- No point before the first that is asked for is refused.
+pub doubt_at_first : (all : List Claimed) (c : Claimed) (f : ℕ) (o : Option ℕ) → IsLeastFrom c.points 0 o → IsDoubt all c f o
+doubt_at_first all c f (Some from) h = λ x r. h.1 x (r.0, omega arith)
+doubt_at_first all c f None h = λ x r. h x (r.0, omega arith)

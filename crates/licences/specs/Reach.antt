@@ -33,6 +33,11 @@ Reaches test from None = (x : ℕ) → from ≤ x → x < 2 ^ 64 → test x ≡ 
 abbrev pub IsRefusedAt : List Claimed → Claimed → ℕ → ℕ → Type 0
 IsRefusedAt cs c field point = Contains c.points point × (allows_at cs c field point ≡ false)
 
+-- A claim is not refused below this point, and without a point it is refused nowhere.
+abbrev pub IsDoubt : List Claimed → Claimed → ℕ → Option ℕ → Type 0
+IsDoubt cs c field (Some from) = (x : ℕ) → IsRefusedAt cs c field x → from ≤ x
+IsDoubt cs c field None = (x : ℕ) → ¬ IsRefusedAt cs c field x
+
 -- The least place at a field at which a claim is refused.
 pub record IsLeastAt (cs : List Claimed) (c : Claimed) (field : ℕ) (o : Option Place) : Type 0 where
   pub least : IsLeast (IsRefusedAt cs c field) (option_map (λ (p : Place). p.point) o)

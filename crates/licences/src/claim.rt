@@ -4,7 +4,7 @@ ghost use Rattle.std.specs.Prelude.{◌≡◌, ◌==◌, ◌&&◌, ◌^◌, ◌<
 ghost use Rattle.std.specs.List.{list_all};
 ghost use Rattle.std.specs.Option.{option_map_or};
 ghost use Rattle.std.specs.List.Sorted.{IsStrictlyIncreasing};
-ghost use Rattle.point_set.specs.Least.{IsLeastFrom, IsLeastGap};
+ghost use Rattle.point_set.specs.Least.{IsLeastFrom, IsLeastGap, IsLeastOutside};
 ghost use Rattle.vocabulary.specs.Prelude.{agree, meets};
 ghost use Rattle.licences.specs.Claims.{claimed, conflict};
 ghost use Rattle.licences.specs.Reach.{serves, serves_all};
@@ -98,6 +98,19 @@ fn gap_in<P: PointSet>(set: &Option<P>, from: u64) -> Option<u64>
     }
 }
 
+/// The least point of a set that another does not have, where there are both: without another it is the first point.
+fn outside_in<P: PointSet>(ours: &Option<P>, theirs: &Option<P>) -> Option<u64>
+    ensures { IsLeastOutside (option_map_or P.points ours.now []) (option_map_or P.points theirs.now []) result }
+{
+    let Some(ours) = ours else {
+        return None;
+    };
+    match theirs {
+        Some(theirs) => ours.outside(theirs),
+        None => ours.first(),
+    }
+}
+
 /// Whether a claim serves each of some fields of another.
 fn serves_each<P: PointSet + Copy>(one: &Claim<'_, P>, asked: &Claim<'_, P>, fields: &[u32]) -> bool
     ensures { result ≡ list_all (serves one.now asked.now) fields.now }
@@ -182,6 +195,13 @@ impl<'a, P: PointSet + Copy> Claim<'a, P> {
         ensures { IsLeastGap self.now.points from result }
     {
         gap_in(&self.set, from)
+    }
+
+    /// The least point that another does not have. It is found rectangle by rectangle, where the sets are rectangles.
+    pub(crate) fn outside(&self, other: &Claim<'_, P>) -> Option<u64>
+        ensures { IsLeastOutside self.now.points other.now.points result }
+    {
+        outside_in(&self.set, &other.set)
     }
 
     /// Whether it allows what another asks for at a field, wherever it has the point.

@@ -4,7 +4,7 @@ ghost use Rattle.std.specs.Prelude.{◌≡◌, ◌∷◌, [], All, Some};
 ghost use Rattle.std.specs.List.{list_any};
 ghost use Rattle.point_set.specs.Least.{IsLeast};
 ghost use Rattle.licences.specs.Claims.{AreOfSpaces, first_refused, lesser_place, refused};
-ghost use Rattle.licences.specs.Reach.{IsLeastAmong, IsLeastAt, IsRefusedAt, Reaches, allows_at, is_before, serves_all};
+ghost use Rattle.licences.specs.Reach.{IsDoubt, IsLeastAmong, IsLeastAt, IsRefusedAt, Reaches, allows_at, is_before, serves_all};
 
 use crate::claim::Claim;
 use point_set::PointSet;
@@ -114,16 +114,38 @@ fn reach<P: PointSet + Copy>(
     first_reach(all, asked, field, from)
 }
 
-/// The least point at which a claim is refused at a field. Each step passes over a run of what is allowed.
-fn refused_point<P: PointSet + Copy>(
+/// A point below which a claim is not refused at a field, or none if it is refused nowhere: the least one that the first claim lacks which allows some of what is asked for. So whatever that one allows is passed over at once, however many columns it has.
+fn first_doubt<P: PointSet + Copy>(
     all: &[Claim<'_, P>],
     asked: &Claim<'_, P>,
     field: u32,
 ) -> Option<u64>
+    ensures { IsDoubt all.now asked.now field result }
+{
+    let first = asked.next_from(0);
+    for one in all {
+        if one.serves(asked, field) {
+            let point = asked.outside(one);
+            if point != first {
+                return point;
+            }
+        }
+    }
+    first
+}
+
+/// The least point at which a claim is refused at a field, where it is not below a given one. Each step passes over a run of what is allowed.
+fn refused_from<P: PointSet + Copy>(
+    all: &[Claim<'_, P>],
+    asked: &Claim<'_, P>,
+    field: u32,
+    doubt: u64,
+) -> Option<u64>
+    requires { IsDoubt all.now asked.now field (Some doubt) }
     ensures { IsLeast (IsRefusedAt all.now asked.now field) result }
 {
     asked.points_are_bounded();
-    let mut from = 0;
+    let mut from = doubt;
     let mut recent = Recent { last: 0, before: 0 };
     loop {
         let Some(point) = asked.next_from(from) else {
@@ -138,6 +160,20 @@ fn refused_point<P: PointSet + Copy>(
         }
         from = end;
         recent = recent.with(by);
+    }
+}
+
+/// The least point at which a claim is refused at a field.
+fn refused_point<P: PointSet + Copy>(
+    all: &[Claim<'_, P>],
+    asked: &Claim<'_, P>,
+    field: u32,
+) -> Option<u64>
+    ensures { IsLeast (IsRefusedAt all.now asked.now field) result }
+{
+    match first_doubt(all, asked, field) {
+        Some(doubt) => refused_from(all, asked, field, doubt),
+        None => None,
     }
 }
 

@@ -2,7 +2,7 @@ use Rattle.std.proofs.Common.{◌^◌, ◌<◌, Option, ℕ, inl, inr, sym, ◌�
 use Rattle.std.proofs.lemmas.Bool.{cases_lt, false≢true}
 use Rattle.std.proofs.lemmas.List.Elements.{All-contains}
 use Rattle.licences.specs.Reach.{Reaches, allows_at}
-use Rattle.licences.proofs.refusal.refused_point.Goals as goal
+use Rattle.licences.proofs.refusal.refused_from.Goals as goal
 
 pub returns-in_default : goal.returns-in_default
 returns-in_default g c = λ q h. c.in_default.ensures q (h.0, c.loop-point.invariant q h)

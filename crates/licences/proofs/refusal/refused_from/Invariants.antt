@@ -1,6 +1,6 @@
 use Rattle.std.proofs.Common.{ℕ, ◌-◌, ◌^◌, ◌≤◌}
 use Rattle.licences.specs.Reach.{IsRefusedAt}
-use Rattle.licences.proofs.refusal.refused_point.Given as goal
+use Rattle.licences.proofs.refusal.refused_from.Given as goal
 
 -- no point below `from` is refused
 abbrev pub invariant-loop-point : goal.invariant-loop-point
