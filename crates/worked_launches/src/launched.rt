@@ -56,9 +56,12 @@ fn launches_with_some_lines_changed(rt: HostRuntime) -> Result<(), Fail> {
     assert!(rt; status == Status::Yes);
     assert_eq!(rt; written.as_slice(), HALVES_WRITTEN);
     // The report, the status of `launched`, and that of `expand`.
-    let rows: [(&[u8], Status, Status, &[u8]); 30] = [
+    let rows: [(&[u8], Status, Status, &[u8]); 32] = [
         (b"", Status::Yes, Status::Yes, b"accepted tasks 2 operations 2 reads 0\n"),
         (b"6 ispace 3 1-3", Status::Fault, Status::Fault, b"fault 11 launch-interference\n"),
+        // Halves of a plane, and ones that share a column.
+        (b"1 legion-spy 2\n2 ispace 1 0-1048575:0-1048575\n4 ispace 2 0-524287:0-1048575\n6 ispace 3 524288-1048575:0-1048575", Status::Yes, Status::Yes, b"accepted tasks 2 operations 2 reads 0\n"),
+        (b"1 legion-spy 2\n2 ispace 1 0-1048575:0-1048575\n4 ispace 2 0-524287:0-1048575\n6 ispace 3 524287-1048575:0-1048575", Status::Fault, Status::Fault, b"fault 11 launch-interference\n"),
         (b"10 launch 1 0,2", Status::Fault, Status::Fault, b"fault 11 unknown-id\n"),
         (b"11 lreq 1 1 1 1 wd ex\n11 req 2 1 1 1 ro ex\n17 end 16", Status::Fault, Status::Fault, b"fault 12 launch-interference\n"),
         // What is written is checked: its cycle, its race, its fault on a line of its own.

@@ -53,8 +53,9 @@ end 12
 #[test]
 fn two_tasks_in_groups(rt: HostRuntime) -> Result<(), Fail> {
     let alloc = rt.alloc();
-    let rows: [(&[u8], Status, &[u8]); 27] = [
+    let rows: [(&[u8], Status, &[u8]); 28] = [
         (b"", Status::Yes, b"nested tasks 2 groups 2 free 0\n"),
+        (b"1 legion-spy 2", Status::Yes, b"nested tasks 2 groups 2 free 0\n"),
         (b"13 member 1 2", Status::Refused, b"unlicensed task 1 req 1 group 2 tree 1 point 0 field 1\n"),
         (b"6 req 1 1 1 1 ro ex\n10 greq 1 1 1 1 ro\n11 group 2 0", Status::Yes, b"nested tasks 2 groups 2 free 1\n"),
         (b"10 greq 1 1 1 1 wd", Status::Refused, b"unlicensed group 2 req 1 group 1 tree 1 point 0 field 1\n"),
@@ -102,7 +103,7 @@ fn two_tasks_in_groups(rt: HostRuntime) -> Result<(), Fail> {
 #[test]
 fn privileges_on_halves(rt: HostRuntime) -> Result<(), Fail> {
     let alloc = rt.alloc();
-    let rows: [(&[u8], Status, &[u8]); 18] = [
+    let rows: [(&[u8], Status, &[u8]); 20] = [
         (b"", Status::Yes, b"nested tasks 1 groups 2 free 0\n"),
         // Two privileges of the parent license together: two halves, and two fields.
         (b"15 greq 2 1 1 1,2 rw", Status::Yes, b"nested tasks 1 groups 2 free 0\n"),
@@ -110,6 +111,9 @@ fn privileges_on_halves(rt: HostRuntime) -> Result<(), Fail> {
         (b"13\n15 greq 2 1 1 1 rw", Status::Refused, b"unlicensed group 2 req 1 group 1 tree 1 point 4 field 1\n"),
         (b"13 greq 1 1 3 1 rw\n15 greq 2 1 1 1,2 rw", Status::Refused, b"unlicensed group 2 req 1 group 1 tree 1 point 4 field 2\n"),
         (b"13 greq 1 1 3 1,2 ro\n15 greq 2 1 1 1,2 rw", Status::Refused, b"unlicensed group 2 req 1 group 1 tree 1 point 4 field 1\n"),
+        // Halves of all points of two dimensions.
+        (b"1 legion-spy 2\n2 ispace 1 0-4294967295:0-4294967295\n4 ispace 2 0-2147483647:0-4294967295\n6 ispace 3 2147483648-4294967295:0-4294967295\n8 ispace 4 0:0", Status::Yes, b"nested tasks 1 groups 2 free 0\n"),
+        (b"1 legion-spy 2\n2 ispace 1 0-4294967295:0-4294967295\n4 ispace 2 0-2147483647:0-4294967295\n6 ispace 3 2147483648-4294967295:0-4294967295\n8 ispace 4 0:0\n13\n15 greq 2 1 1 1 rw", Status::Refused, b"unlicensed group 2 req 1 group 1 tree 1 point 9223372036854775808 field 1\n"),
         // The second requirement of a task, and the second privilege of a group.
         (b"17 req 1 1 2 1 rw ex\n17 req 1 1 3 1 ro ex\n20 end 13", Status::Refused, b"unlicensed task 1 req 2 group 2 tree 1 point 4 field 1\n"),
         (b"15 greq 2 1 2 1 rw\n15 greq 2 1 2 2 ro", Status::Yes, b"nested tasks 1 groups 2 free 0\n"),

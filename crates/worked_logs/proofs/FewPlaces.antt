@@ -8,7 +8,7 @@ use Rattle.vocabulary.specs.Prelude.{lined, points_of, grid}
 use Rattle.semantics.specs.declared.command.Command.TheVariants.{Check}
 use Rattle.semantics.specs.Faults.{at_line, log_fault}
 use Rattle.semantics.specs.Computed.{logs_computed}
-use Rattle.worked_logs.specs.WorkedLimits.{of_points, of_cells, of_accesses}
+use Rattle.worked_logs.specs.WorkedLimits.{of_points, of_cells, of_accesses, plane_accesses, plane_cells}
 use Rattle.worked_logs.proofs.Lists.{within_itself}
 
 -- The points of a space of so many, and how many points and fields there are together.
@@ -101,3 +101,42 @@ accesses_broken points fields few many =
       within_itself (range_with_len 1 fields),
       lt-ltb 4194304 (0 + size points fields) (omega (arith, many, n)),
     ) refl
+
+-- ---- One rectangle in a log of the second version: of its nine points, or its one, the first alone is counted.
+
+load_free : (places : List (ℕ × ℕ)) → nat_lt 67108864 (0 + sum_by (λ (p : ℕ × ℕ). 0) places) ≡ false
+load_free places = let none = no_load places in le-ltb 67108864 (0 + sum_by (λ (p : ℕ × ℕ). 0) places) (omega (arith, none))
+
+pub plane_cells_kept : (fields : ℕ) → fields ≤ 1048576 → log_fault Check 6 (lined (plane_cells 2 fields)) ≡ None
+unfolding logs_computed
+plane_cells_kept fields fits =
+    let n = length-range_with_len 1 fields in
+    let all = range_with_len 1 fields in
+    rw (
+      within_itself all,
+      le-ltb 1048576 (0 + 1 * length all) (omega (arith, fits, n)),
+      load_free (grid (0 ∷ []) all),
+    ) refl
+
+pub plane_cells_broken : (fields : ℕ) → 1048576 < fields
+    → log_fault Check 6 (lined (plane_cells 0 fields)) ≡ Some (at_line codes.TooManyCells 6)
+unfolding logs_computed
+plane_cells_broken fields many =
+    let n = length-range_with_len 1 fields in
+    let all = range_with_len 1 fields in
+    rw (within_itself all, lt-ltb 1048576 (0 + 1 * length all) (omega (arith, many, n))) refl
+
+pub plane_accesses_kept : (fields : ℕ) → fields ≤ 4194304 → log_fault Check 6 (lined (plane_accesses 2 fields)) ≡ None
+unfolding logs_computed
+plane_accesses_kept fields fits =
+    let n = length-range_with_len 1 fields in
+    let all = range_with_len 1 fields in
+    rw (within_itself all, le-ltb 4194304 (0 + 1 * length all + 0) (omega (arith, fits, n))) refl
+
+pub plane_accesses_broken : (fields : ℕ) → 4194304 < fields
+    → log_fault Check 6 (lined (plane_accesses 0 fields)) ≡ Some (at_line codes.TooManyAccesses 6)
+unfolding logs_computed
+plane_accesses_broken fields many =
+    let n = length-range_with_len 1 fields in
+    let all = range_with_len 1 fields in
+    rw (within_itself all, lt-ltb 4194304 (0 + 1 * length all + 0) (omega (arith, many, n))) refl

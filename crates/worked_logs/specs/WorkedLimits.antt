@@ -4,7 +4,7 @@ use Rattle.std.specs.List.{range_with_len}
 use Rattle.spy_words.specs.declared.access.PrivWord.TheVariants.{Red}
 use Rattle.spy_words.specs.declared.access.InstKind.TheVariants as layouts
 use Rattle.vocabulary.specs.Prelude.{Record}
-use Rattle.spy_grammar.specs.declared.record.Record.TheVariants.{Header, Ispace, Fields, Tree, Redop, Task, Req, Fill, Inst, Run, End}
+use Rattle.spy_grammar.specs.declared.record.Record.TheVariants.{Header, Ispace, Plane, Fields, Tree, Redop, Task, Req, Fill, Inst, Run, End}
 
 -- These records between a header and an end, which counts them.
 abbrev pub framed : List Record → List Record
@@ -30,6 +30,22 @@ of_cells points fields =
 -- A fill of each place of a region.
 abbrev pub of_accesses : ℕ → ℕ → List Record
 of_accesses points fields = framed (area points fields ++ Fill 1 1 1 (range_with_len 1 fields) 0 ∷ [])
+
+-- A region of a single rectangle, whatever its size, and so many fields, in a log of the second version, which these records end.
+abbrev pub on_plane : ℕ → ℕ → List Record → List Record
+on_plane last fields rs = Header 2
+    ∷ Plane 1 (record { x0 = 0; x1 = last; y0 = 0; y1 = last } ∷ [])
+    ∷ Fields 1 (range_with_len 1 fields)
+    ∷ Tree 1 1 1
+    ∷ rs
+
+-- An instance there, and a fill.
+abbrev pub plane_cells : ℕ → ℕ → List Record
+plane_cells last fields =
+    on_plane last fields (Inst 1 1 1 (range_with_len 1 fields) layouts.Plain ∷ End 4 ∷ [])
+
+abbrev pub plane_accesses : ℕ → ℕ → List Record
+plane_accesses last fields = on_plane last fields (Fill 1 1 1 (range_with_len 1 fields) 0 ∷ End 4 ∷ [])
 
 -- A task with so many requirements, each of which reduces at each place of a region.
 abbrev pub reductions : ℕ → ℕ → List Record

@@ -3,12 +3,18 @@ use Rattle.std.specs.Prelude.{ℕ, ◌+◌, zero, suc, true, false, List, [], �
 use Rattle.vocabulary.specs.Prelude.{PrivWord, InstKind, Record}
 use Rattle.spy_words.specs.declared.access.PrivWord.TheVariants.{Ro, Red}
 use Rattle.spy_words.specs.declared.access.InstKind.TheVariants as layouts
-use Rattle.spy_grammar.specs.declared.record.Record.TheVariants.{Header, Ispace, Part, Sub, Fields, Tree, Redop, Task, Req, Fill, Serial, Inst, Map, Run, Copy, Put, Reset, End}
+use Rattle.spy_grammar.specs.declared.record.Record.TheVariants.{Header, Ispace, Plane, Part, Sub, Fields, Tree, Redop, Task, Req, Fill, Serial, Inst, Map, Run, Copy, Put, Reset, End}
 use Rattle.worked_logs.specs.WorkedLogs.{one, region}
 
 -- A log of this version, with nothing in it.
 abbrev pub of_version : ℕ → List Record
 of_version version = Header version ∷ End 0 ∷ []
+
+-- A log of this version, with a space of columns 2 to 3 and rows 5 to 6.
+abbrev pub plane_of : ℕ → List Record
+plane_of version = Header version
+    ∷ Plane 1 (record { x0 = 2; x1 = 3; y0 = 5; y1 = 6 } ∷ [])
+    ∷ End 1 ∷ []
 
 -- A log with nothing in it, and these records after its end.
 abbrev pub ended_before : List Record → List Record

@@ -7,7 +7,7 @@ ghost use Rattle.semantics.specs.declared.command.Command.TheVariants.{Check, Or
 ghost use Rattle.semantics.specs.Faults.{at_line, log_fault};
 ghost use Rattle.semantics.specs.Rules.{load_of};
 ghost use Rattle.worked_logs.specs.WorkedLogs.{folded_once};
-ghost use Rattle.worked_logs.specs.WorkedLimits.{of_accesses, of_cells, of_load, of_points, of_records};
+ghost use Rattle.worked_logs.specs.WorkedLimits.{of_accesses, of_cells, of_load, of_points, of_records, plane_accesses, plane_cells};
 
 /// The limits on numbers.
 pub fn worked_limits()
@@ -23,6 +23,14 @@ pub fn worked_limits()
     ensures accesses { log_fault Check 6 (lined (of_accesses 1048576 4)) ≡ None }
     ensures too_many_accesses { log_fault Check 6 (lined (of_accesses 838861 5))
         ≡ Some (at_line codes.TooManyAccesses 5) }
+
+    // A rectangle counts once, however many points it has: here nine, and then one.
+    ensures plane_cells { log_fault Check 6 (lined (plane_cells 2 1048576)) ≡ None }
+    ensures too_many_plane_cells { log_fault Check 6 (lined (plane_cells 0 1048577))
+        ≡ Some (at_line codes.TooManyCells 6) }
+    ensures plane_accesses { log_fault Check 6 (lined (plane_accesses 2 4194304)) ≡ None }
+    ensures too_many_plane_accesses { log_fault Check 6 (lined (plane_accesses 0 4194305))
+        ≡ Some (at_line codes.TooManyAccesses 6) }
 
     // The load is a product: of points, fields, requirements and instances.
     ensures load { log_fault Ordered 104 (lined (of_load 4096 8 64 32)) ≡ None }

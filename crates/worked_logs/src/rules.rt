@@ -9,14 +9,17 @@ ghost use Rattle.vocabulary.specs.Prelude.{lined};
 ghost use Rattle.semantics.specs.declared.command.Command.TheVariants.{Check, Ordered};
 ghost use Rattle.semantics.specs.Faults.{at_line, log_fault};
 ghost use Rattle.worked_logs.specs.WorkedLogs.{one, turned, turned_by_log};
-ghost use Rattle.worked_logs.specs.WorkedRules.{both, copied_to, copied_to_tree, counted_as, deep, disjoint_up_to, ended_before, fill_with_id, filled, filled_field, in_order, mapped_also, mapped_fields, mapped_number, of_version, operator_with_id, put_up_to, reaching, reads_and, reduced_in, reset_kind, run_then, split, split_before, task_then, tree_of, two_subs};
+ghost use Rattle.worked_logs.specs.WorkedRules.{both, copied_to, copied_to_tree, counted_as, deep, disjoint_up_to, ended_before, fill_with_id, filled, filled_field, in_order, mapped_also, mapped_fields, mapped_number, of_version, operator_with_id, plane_of, put_up_to, reaching, reads_and, reduced_in, reset_kind, run_then, split, split_before, task_then, tree_of, two_subs};
 
 /// The rules on the frame, and on names.
 #[tactic(auto, unfolding(semantics::specs::Computed::logs_computed))]
 pub fn worked_frames()
     // The frame.
     ensures version_1 { log_fault Check 2 (lined (of_version 1)) ≡ None }
-    ensures version_2 { log_fault Check 2 (lined (of_version 2)) ≡ Some (at_line codes.Header 1) }
+    ensures version_2 { log_fault Check 2 (lined (of_version 2)) ≡ None }
+    ensures version_3 { log_fault Check 2 (lined (of_version 3)) ≡ Some (at_line codes.Header 1) }
+    ensures rectangles { log_fault Check 3 (lined (plane_of 2)) ≡ None }
+    ensures no_rectangles { log_fault Check 3 (lined (plane_of 1)) ≡ Some (at_line codes.Version 2) }
     ensures second_header { log_fault Check 3 (lined (Header 1 ∷ of_version 1))
         ≡ Some (at_line codes.Header 2) }
     ensures end_last { log_fault Check 2 (lined (ended_before [])) ≡ None }

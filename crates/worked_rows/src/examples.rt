@@ -149,7 +149,7 @@ fn examples_of_groups_have_their_reports(rt: HostRuntime) -> Result<(), Fail> {
 #[test]
 fn faults_are_as_the_page_has_them(rt: HostRuntime) -> Result<(), Fail> {
     let alloc = rt.alloc();
-    let rows: [(&[u8], &[u8]); 26] = [
+    let rows: [(&[u8], &[u8]); 27] = [
         (b"legion-spy 1\nend 1\n", b"fault 2 count\n"),
         (b"legion-spy 1\ntask 1\ntask 1\nrun 1 1 -\nend 3\n", b"fault 3 repeated-id\n"),
         (b"legion-spy 1\ntask 1\nreq 1 1 1 1 ro ex\nrun 1 1 -\nend 3\n", b"fault 3 unknown-id\n"),
@@ -174,6 +174,7 @@ fn faults_are_as_the_page_has_them(rt: HostRuntime) -> Result<(), Fail> {
         (b"legion-spy 1\nispace 1 0-1048575\nfields 1 1,2\ntree 1 1 1\ninst 1 1 1 1,2 plain\nend 4\n", b"fault 5 too-many-cells\n"),
         (b"legion-spy 1\nispace 1 0-1048575\nfields 1 1,2,3,4,5\ntree 1 1 1\nfill 1 1 1 1,2,3,4,5 0\nend 4\n", b"fault 5 too-many-accesses\n"),
         (b"legion-spy 1\nispace 1 0:0-3\nend 1\n", b"fault 2 version\n"),
+        (b"legion-spy 2\nispace 1 0-4294967295:0-4294967295\nfields 1 1\ntree 1 1 1\ntask 1\nreq 1 1 1 1 ro ex\nrun 1 1 -\nend 6\n", b"fault 8 too-many-reads\n"),
         (b"legion-spy 1\nispace 1 0\nfields 1 1\ntree 1 1 1\nfill 1 1 1 1 0\nfill 2 1 1 1 0\nserial 2 1\nend 6\n", b"fault 7 serial-order\n"),
         (b"legion-spy 1\nispace 1 0\nfields 1 1\ntree 1 1 1\ntask 1\nreq 1 1 1 1 ro ex\nrun 1 1 -\nend 6\n", b"fault 6 unmapped\n"),
     ];

@@ -115,7 +115,7 @@ fn frames_and_lines_with_faults(rt: HostRuntime) -> Result<(), Fail> {
         // The frame of a log.
         ("ordered", WRITE_THEN_READ, b"14", Status::Fault, b"fault 14 ended\n"),
         ("ordered", WRITE_THEN_READ, b"14 end 11", Status::Fault, b"fault 14 count\n"),
-        ("deps", WRITE_THEN_READ, b"1 legion-spy 2", Status::Fault, b"fault 1 header\n"),
+        ("deps", WRITE_THEN_READ, b"1 legion-spy 3", Status::Fault, b"fault 1 header\n"),
         ("ordered", WRITE_THEN_READ, b"14 end 12\n14 end 12", Status::Fault, b"fault 15 ended\n"),
         // Faults of lines come first.
         ("ordered", WRITE_THEN_READ, b"9 inst 1 1 1 1 plan\n14", Status::Fault, b"fault 9 form\n"),

@@ -1,5 +1,5 @@
 use Rattle.std.proofs.Common.{arith}
-use Rattle.worked_logs.proofs.FewPlaces.{points_kept, points_broken, cells_kept, cells_broken, accesses_kept, accesses_broken}
+use Rattle.worked_logs.proofs.FewPlaces.{points_kept, points_broken, cells_kept, cells_broken, accesses_kept, accesses_broken, plane_cells_kept, plane_cells_broken, plane_accesses_kept, plane_accesses_broken}
 use Rattle.worked_logs.proofs.MuchLoad.{Fit, load_kept, load_broken}
 use Rattle.worked_logs.proofs.ManyRecords.{records_kept, records_broken}
 use Rattle.worked_logs.proofs.limits.worked_limits.Goals as goal
@@ -47,3 +47,15 @@ returns-clause-too_much_load c =
       cells_fit = omega arith;
     } in
     load_broken 218 1613 5 157 53 fit (omega arith)
+
+pub returns-clause-plane_cells : goal.returns-clause-plane_cells
+returns-clause-plane_cells c = plane_cells_kept 1048576 (omega arith)
+
+pub returns-clause-too_many_plane_cells : goal.returns-clause-too_many_plane_cells
+returns-clause-too_many_plane_cells c = plane_cells_broken 1048577 (omega arith)
+
+pub returns-clause-plane_accesses : goal.returns-clause-plane_accesses
+returns-clause-plane_accesses c = plane_accesses_kept 4194304 (omega arith)
+
+pub returns-clause-too_many_plane_accesses : goal.returns-clause-too_many_plane_accesses
+returns-clause-too_many_plane_accesses c = plane_accesses_broken 4194305 (omega arith)
