@@ -66,7 +66,7 @@ fn breaks<P: PointSet>(
         SelfInterference => interferes_with_own(alloc, at.draft, at.tally, at.rec),
         WrongTree => Ok(is_of_wrong_tree(at.draft, at.rec)),
         WrongKind => Ok(is_of_wrong_kind(at.draft, at.rec)),
-        NotCovered => Ok(is_not_covered(at.draft, at.rec)),
+        NotCovered => Ok(is_not_covered(at.draft, at.tally, at.rec)),
         MappedTwice => Ok(is_mapped_again(at.draft, at.rec)),
         NoRun => Ok(has_no_run(at.whole, at.rec)),
         TwoRuns => Ok(is_run_again(at.draft, at.rec)),

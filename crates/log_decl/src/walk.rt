@@ -47,6 +47,7 @@ pub(crate) fn walk<'a, P: ArenaRects<'a>>(
     let mut kept = 0;
     for l in records {
         let cells = cells_with(alloc, is_plane, &mut size, &l.rec)?;
+        tally.remember(draft, &l.rec)?;
         let at = AtRecord {
             whole: &*whole,
             draft: &*draft,

@@ -28,9 +28,9 @@ use Rattle.log_rules.proofs.ListTests.{find-none, find-kept, find-last}
 
 -- ---- Spaces that are declared keep their points.
 
-record Grows (t u : Tables) : Type 0 where
-  points : (id : ℕ) → is_declared t (space_id id) ≡ true → points_in u id ≡ points_in t id
-  declared : (id : ℕ) → is_declared t (space_id id) ≡ true → is_declared u (space_id id) ≡ true
+pub record Grows (t u : Tables) : Type 0 where
+  pub points : (id : ℕ) → is_declared t (space_id id) ≡ true → points_in u id ≡ points_in t id
+  pub declared : (id : ℕ) → is_declared t (space_id id) ≡ true → is_declared u (space_id id) ≡ true
 
 found_first : (id : ℕ) (xs ys : List Space) → list_any (λ (s : Space). s.id == id) xs ≡ true
     → find (λ (s : Space). s.id == id) (xs ++ ys) ≡ find (λ (s : Space). s.id == id) xs
@@ -50,7 +50,7 @@ grows_by t u s is = record {
       ∙ ap (λ b. b || list_any (λ (s : Space). s.id == id) (s ∷ [])) known;
 }
 
-grows : (t : Tables) (line : ℕ) (r : Record) → Grows t (with_record t line r)
+pub grows : (t : Tables) (line : ℕ) (r : Record) → Grows t (with_record t line r)
 grows t line (Ispace id set) = grows_by t (with_record t line (Ispace id set)) (record { id = id; points = points_of set }) refl
 grows t line (Plane id quads) = grows_by t (with_record t line (Plane id quads)) (record { id = id; points = plane_points quads }) refl
 grows t line _ = record { points = λ other known. refl; declared = λ other known. known }

@@ -1,3 +1,4 @@
+mod BitRows
 mod Cells
 mod Claiming
 mod Climbs
@@ -10,4 +11,5 @@ mod Mappings
 mod Members
 mod Noding
 mod Numbering
+mod Remembered
 mod Repeats

@@ -5,6 +5,8 @@ pub mod Instances
 pub mod Listing
 pub mod Loads
 pub mod Own
+pub mod Pairs
+pub mod Rows
 pub mod Tallied
 pub use Rattle.privilege.specs.Interference
 pub use Rattle.semantics.specs.Points

@@ -17,6 +17,7 @@ use Rattle.log_limits.specs.Corners.{corners_of}
 use Rattle.log_rules.specs.Cells.{HasCells}
 use Rattle.log_rules.specs.Listing.{IsSetOf}
 use Rattle.log_rules.specs.Own.{AreClaims, AreNumbered}
+use Rattle.log_rules.specs.Pairs.{HasPairs}
 use Rattle.log_rules.specs.declared.tally.Tally.{Tally}
 
 -- Whether the space is declared whose accesses a record asks for.
@@ -44,13 +45,18 @@ pub record AreCounts (earlier : List Record) (t : Tables) (tally : Tally) : Type
   pub accesses : tally.accesses ≡ access_total t earlier
   pub within : access_total t earlier ≤ MOST_ACCESSES
 
--- What is kept of the requirements of tasks: the grid is that of the rectangles, if they are given, and no space divides a cell of it. While few places were asked for, they are claimed.
+-- What is kept of spaces and of the requirements of tasks: the grid is that of the rectangles, if they are given, no space divides a cell of it, and what is known of pairs of spaces is true. While few places were asked for, they are claimed.
 pub record AreKept (all : Option (List Rect)) (t : Tables) (tally : Tally) : Type 0 where
   pub grid : tally.places.grid ≡ option_map grid_of all
   pub cells : HasCells all t
+  pub pairs : HasPairs all t tally.pairs
   pub claims : tally.claimed ≤ MOST_ACCESSES → AreClaims all t tally.claims
   pub numbered : AreNumbered t
   pub few : length t.reqs < 2 ^ 32 - 1
+
+-- A fact of all tables of which this is kept.
+abbrev pub IfKept : Tables → Tally → Type 0 → Type 0
+IfKept t tally P = (all : Option (List Rect)) → AreKept all t tally → P
 
 -- The tally is that of these records, whose tables these are. In a log of the second version all its rectangles are given.
 pub record IsTally (all : Option (List Rect)) (earlier : List Record) (t : Tables) (tally : Tally) : Type 0 where
@@ -58,6 +64,11 @@ pub record IsTally (all : Option (List Rect)) (earlier : List Record) (t : Table
   pub lists : IsSetOf (listed t) (contains nat_eq tally.listed)
   pub known : AreKnown earlier t
   pub kept : AreKept all t tally
+
+-- What was the tally of some records whose tables these are is so still.
+abbrev pub Keeps : Tables → Tally → Tally → Type 0
+Keeps t old new = (all : Option (List Rect)) (earlier : List Record) → IsTally all earlier t old
+    → IsTally all earlier t new
 
 -- A fact of all earlier records whose tally and tables these are.
 abbrev pub IfTally : Tables → Tally → (List Record → Type 0) → Type 0

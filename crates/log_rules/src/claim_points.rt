@@ -44,7 +44,7 @@ pub fn rects_declared(alloc: Global, rec: &Record) -> Result<Vec<Rect>, AllocErr
 fn all_points<P: PointSet>(alloc: Global, set: &P) -> Result<Vec<u64>, AllocError>
     ensures { IfOk result (λ points. points.items ≡ P.points set.now) }
 {
-    let mut points = Vec::new(alloc);
+    let mut points = Vec::with_capacity(alloc, usize::try_from(set.count()).unwrap_or(0))?;
     for point in points_in(set) {
         points.push(point)?;
     }
@@ -69,6 +69,9 @@ fn corners_declared(
         _ => Ok(None),
     }
 }
+
+/// How many cells begin at most in a space that is held against others by its set again and again.
+const FEW_CELLS: u128 = 256;
 
 impl ClaimPoints {
     /// The grid is that of the whole log, if it is of the second version.
@@ -104,6 +107,14 @@ impl ClaimPoints {
         match draft.set(space) {
             Some(set) => set.count(),
             None => 0,
+        }
+    }
+
+    /// Whether many cells begin in a space, in a log of the second version.
+    pub fn has_many(&self, space: u32) -> bool {
+        match self.counts.get(&space) {
+            Some(count) => *count > FEW_CELLS,
+            None => false,
         }
     }
 

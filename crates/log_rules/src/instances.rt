@@ -1,14 +1,17 @@
 //! Instances: of which tree and kind they are, and what they cover.
 
-ghost use Rattle.std.specs.Prelude.{◌≡◌, ◌||◌, false, [], not};
+ghost use Rattle.std.specs.Prelude.{◌≡◌, ◌||◌, false, [], ◌∷◌, not};
 ghost use Rattle.std.specs.List.{list_any};
 ghost use Rattle.std.specs.Option.{option_map_or};
+ghost use Rattle.log_rules.specs.Tallied.{IfKept, IfTally};
 ghost use Rattle.log_rules.specs.Instances.{tree_of_req, points_of_req, root_points, fits_inst, is_mapped, is_any_mapped};
 ghost use Rattle.vocabulary.specs.Prelude.{points_in, is_within};
 ghost use Rattle.semantics.specs.Rules.{is_of_wrong_tree, is_of_wrong_kind, is_not_covered, is_mapped_again, is_reduction, reduces_in, tree_of_inst, is_of_tree, fits, lacks, named_req};
 
 use crate::fields::is_within;
 use crate::names::named_req;
+use crate::space_pairs::is_vacant;
+use crate::tally::Tally;
 use log_tables::Draft;
 use point_set::PointSet;
 use privilege::Priv;
@@ -143,62 +146,33 @@ pub fn is_of_wrong_kind<P: PointSet>(draft: &Draft<P>, rec: &Record) -> bool
     }
 }
 
-/// Whether a set has no points.
-fn is_empty<P: PointSet>(set: &P) -> bool
-    ensures { result ≡ is_within (P.points set.now) [] }
-{
-    match set.first() {
-        Some(_) => false,
-        None => true,
-    }
-}
-
-/// Whether each point of a set is in another one.
-fn is_set_within<P: PointSet>(ours: &P, theirs: &P) -> bool
-    ensures { result ≡ is_within (P.points ours.now) (P.points theirs.now) }
-{
-    ours.within(theirs)
-}
-
-/// Whether a space has no points.
-fn is_vacant<P: PointSet>(draft: &Draft<P>, space: u32) -> bool
-    ensures { result ≡ is_within (points_in draft.now space) [] }
-{
-    match draft.set(space) {
-        Some(set) => is_empty(set),
-        None => true,
-    }
-}
-
-/// Whether each point of a space is in another one.
-fn is_space_within<P: PointSet>(draft: &Draft<P>, ours: u32, theirs: u32) -> bool
-    ensures { result ≡ is_within (points_in draft.now ours) (points_in draft.now theirs) }
-{
-    match (draft.set(ours), draft.set(theirs)) {
-        (Some(ours), Some(theirs)) => is_set_within(ours, theirs),
-        (Some(ours), None) => is_empty(ours),
-        (None, _) => true,
-    }
-}
-
 /// Whether an instance lacks a point of a space, or one of these fields.
-fn lacks<P: PointSet>(draft: &Draft<P>, space: u32, fields: &Nums, id: u32) -> bool
-    ensures { result ≡ lacks draft.now (points_in draft.now space) fields.now id }
+fn lacks<P: PointSet>(draft: &Draft<P>, tally: &Tally, space: u32, fields: &Nums, id: u32) -> bool
+    ensures { IfKept draft.now tally.now
+        (result ≡ lacks draft.now (points_in draft.now space) fields.now id) }
 {
     match draft.inst(id) {
         Some(inst) => {
-            !(is_space_within(draft, space, inst.space)
+            !(tally.pairs.within(draft, space, inst.space)
                 && is_within(fields.as_slice(), inst.fields.as_slice()))
         }
         None => true,
     }
 }
 
-/// Whether one of some instances lacks a point of a space, or one of these fields.
-fn any_lacks<P: PointSet>(draft: &Draft<P>, space: u32, fields: &Nums, insts: &[u32]) -> bool
-    ensures { result ≡ list_any (lacks draft.now (points_in draft.now space) fields.now) insts.now }
+/// Whether one of two instances lacks a point of a space, or one of these fields.
+fn any_lacks<P: PointSet>(
+    draft: &Draft<P>,
+    tally: &Tally,
+    space: u32,
+    fields: &Nums,
+    src: u32,
+    dst: u32,
+) -> bool
+    ensures { IfKept draft.now tally.now (result
+        ≡ list_any (lacks draft.now (points_in draft.now space) fields.now) (src ∷ dst ∷ [])) }
 {
-    insts.iter().any(|inst| lacks(draft, space, fields, *inst))
+    lacks(draft, tally, space, fields, src) || lacks(draft, tally, space, fields, dst)
 }
 
 /// Whether an instance lacks one of these fields.
@@ -214,41 +188,44 @@ fn lacks_field<P: PointSet>(draft: &Draft<P>, fields: &Nums, id: u32) -> bool
 /// Whether an instance lacks a point of a requirement, or one of these fields.
 fn lacks_of_req<P: PointSet>(
     draft: &Draft<P>,
+    tally: &Tally,
     task: u32,
     number: u32,
     fields: &Nums,
     inst: u32,
 ) -> bool
-    ensures { result ≡ lacks draft.now (points_of_req draft.now task number) fields.now inst }
+    ensures { IfKept draft.now tally.now (result
+        ≡ lacks draft.now (points_of_req draft.now task number) fields.now inst) }
 {
     match named_req(draft, task, number) {
-        Some(req) => lacks(draft, req.space, fields, inst),
+        Some(req) => lacks(draft, tally, req.space, fields, inst),
         None => lacks_field(draft, fields, inst),
     }
 }
 
 /// Whether a space has a point outside the root space of a tree.
-fn exceeds_root<P: PointSet>(draft: &Draft<P>, tree: u32, space: u32) -> bool
-    ensures { result ≡ not (is_within (points_in draft.now space) (root_points draft.now tree)) }
+fn exceeds_root<P: PointSet>(draft: &Draft<P>, tally: &Tally, tree: u32, space: u32) -> bool
+    ensures { IfKept draft.now tally.now (result
+        ≡ not (is_within (points_in draft.now space) (root_points draft.now tree))) }
 {
     match draft.tree(tree) {
-        Some(tree) => !is_space_within(draft, space, tree.space),
+        Some(tree) => !tally.pairs.within(draft, space, tree.space),
         None => !is_vacant(draft, space),
     }
 }
 
 /// Whether an instance has a point outside the root space of its tree, or lacks a point or a field of what is done with it.
-pub fn is_not_covered<P: PointSet>(draft: &Draft<P>, rec: &Record) -> bool
-    ensures { result ≡ is_not_covered draft.now rec.now }
+pub fn is_not_covered<P: PointSet>(draft: &Draft<P>, tally: &Tally, rec: &Record) -> bool
+    ensures { IfTally draft.now tally.now (λ earlier. result ≡ is_not_covered draft.now rec.now) }
 {
     match rec {
-        Record::Inst { tree, space, .. } => exceeds_root(draft, *tree, *space),
+        Record::Inst { tree, space, .. } => exceeds_root(draft, tally, *tree, *space),
         Record::Map {
             task,
             req,
             fields,
             inst,
-        } => lacks_of_req(draft, *task, *req, fields, *inst),
+        } => lacks_of_req(draft, tally, *task, *req, fields, *inst),
         Record::Copy {
             src,
             dst,
@@ -262,7 +239,7 @@ pub fn is_not_covered<P: PointSet>(draft: &Draft<P>, rec: &Record) -> bool
             space,
             fields,
             ..
-        } => { any_lacks(draft, *space, fields, &[*src, *dst]) }
+        } => any_lacks(draft, tally, *space, fields, *src, *dst),
         Record::Put {
             inst,
             space,
@@ -274,7 +251,7 @@ pub fn is_not_covered<P: PointSet>(draft: &Draft<P>, rec: &Record) -> bool
             space,
             fields,
             ..
-        } => { any_lacks(draft, *space, fields, &[*inst]) }
+        } => lacks(draft, tally, *space, fields, *inst),
         _ => false,
     }
 }

@@ -6,6 +6,7 @@
 //! fault is shown, are for `log_decl`. Begin with any rule, `names.rt` say.
 #![tactic(auto)]
 
+mod cell_rows;
 mod claim_points;
 mod claims;
 mod counts;
@@ -15,8 +16,10 @@ mod instances;
 mod load;
 mod names;
 mod own;
+mod pair_answers;
 mod requirements;
 mod serial;
+mod space_pairs;
 mod spaces;
 mod tally;
 mod whole_log;

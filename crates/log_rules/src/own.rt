@@ -10,7 +10,7 @@ ghost use Rattle.semantics.specs.declared.limits.TheConstants.{MOST_ACCESSES};
 ghost use Rattle.semantics.specs.Rules.{interferes_with_own};
 ghost use Rattle.log_tables.specs.Views.{Ascends};
 ghost use Rattle.log_rules.specs.Own.{AreNumbered, claim_points, clashes_with, clashes_asked, first_clashes, clashes_row};
-ghost use Rattle.log_rules.specs.Tallied.{AreKept, IfTally};
+ghost use Rattle.log_rules.specs.Tallied.{AreKept, IfKept, IfTally};
 
 use crate::fields::meets;
 use crate::tally::{Tally, claims_many};
@@ -32,52 +32,31 @@ struct Asked<'a> {
     access: Priv,
 }
 
-/// Whether two sets have a point in common.
-fn sets_meet<P: PointSet>(ours: &P, theirs: &P) -> bool
-    ensures { result ≡ meets (P.points ours.now) (P.points theirs.now) }
-{
-    ours.meets(theirs)
-}
-
-/// Whether two spaces have a point in common.
-fn spaces_meet<P: PointSet>(draft: &Draft<P>, ours: u32, theirs: u32) -> bool
-    ensures { result ≡ meets (points_in draft.now ours) (points_in draft.now theirs) }
-{
-    let Some(our_set) = draft.set(ours) else {
-        return false;
-    };
-    match draft.set(theirs) {
-        Some(their_set) => sets_meet(our_set, their_set),
-        None => false,
-    }
-}
-
 /// Whether a requirement is of the item, and shares a place with what is asked for, where the two privileges do not agree.
-fn clashes_with<P: PointSet>(draft: &Draft<P>, req: &Req, asked: &Asked<'_>) -> bool
+fn clashes_with<P: PointSet>(draft: &Draft<P>, tally: &Tally, req: &Req, asked: &Asked<'_>) -> bool
     requires req { IsStrictlyIncreasing req.now.fields }
     requires fields { IsStrictlyIncreasing asked.now.fields.now }
-    ensures { result
+    ensures { IfKept draft.now tally.now (result
         ≡ clashes_with draft.now asked.now.item asked.now.tree (points_in draft.now asked.now.space)
-        asked.now.fields.now asked.now.access req.now }
+        asked.now.fields.now asked.now.access req.now) }
 {
     req.item == asked.item
         && req.tree == asked.tree
         && !agree(req.access, asked.access)
         && meets(req.fields.as_slice(), asked.fields)
-        && spaces_meet(draft, req.space, asked.space)
+        && tally.pairs.meet(draft, req.space, asked.space)
 }
 
 /// Whether some requirement of the item clashes so, requirement by requirement.
-fn clashes_by_req<P: PointSet>(draft: &Draft<P>, asked: &Asked<'_>) -> bool
+fn clashes_by_req<P: PointSet>(draft: &Draft<P>, tally: &Tally, asked: &Asked<'_>) -> bool
     requires { IsStrictlyIncreasing asked.now.fields.now }
-    ensures { AreNumbered draft.now → length draft.now.reqs < 2 ^ 32 - 1
-        → result ≡ clashes_asked draft.now asked.now }
+    ensures { IfKept draft.now tally.now (result ≡ clashes_asked draft.now asked.now) }
 {
     for before in 0..u32::MAX {
         let Some(req) = draft.req(asked.item, before + 1) else {
             return false;
         };
-        if clashes_with(draft, req, asked) {
+        if clashes_with(draft, tally, req, asked) {
             return true;
         }
     }
@@ -85,13 +64,13 @@ fn clashes_by_req<P: PointSet>(draft: &Draft<P>, asked: &Asked<'_>) -> bool
 }
 
 /// Whether the first requirement of the item clashes so.
-fn first_clashes<P: PointSet>(draft: &Draft<P>, asked: &Asked<'_>) -> bool
+fn first_clashes<P: PointSet>(draft: &Draft<P>, tally: &Tally, asked: &Asked<'_>) -> bool
     requires { IsStrictlyIncreasing asked.now.fields.now }
-    ensures { result ≡ first_clashes draft.now asked.now.item asked.now.tree asked.now.space
-        asked.now.fields.now asked.now.access }
+    ensures { IfKept draft.now tally.now (result ≡ first_clashes draft.now asked.now.item asked.now.tree
+        asked.now.space asked.now.fields.now asked.now.access) }
 {
     match draft.req(asked.item, 1) {
-        Some(first) => clashes_with(draft, first, asked),
+        Some(first) => clashes_with(draft, tally, first, asked),
         None => false,
     }
 }
@@ -131,7 +110,7 @@ fn clashes_by_place<P: PointSet>(
     ensures { IfOk result (λ clashes. (all : Option (List Rect)) → AreKept all draft.now tally.now
         → tally.now.claimed ≤ MOST_ACCESSES → clashes ≡ clashes_asked draft.now asked.now) }
 {
-    if first_clashes(draft, asked) {
+    if first_clashes(draft, tally, asked) {
         return Ok(true);
     }
     clashes_with_claims(alloc, draft, tally, asked)
@@ -153,7 +132,7 @@ fn clashes_own<P: PointSet>(
     if draft.req_count(asked.item) == 0 {
         Ok(false)
     } else if has_many {
-        Ok(clashes_by_req(draft, asked))
+        Ok(clashes_by_req(draft, tally, asked))
     } else {
         clashes_by_place(alloc, draft, tally, asked)
     }

@@ -9,14 +9,18 @@ ghost use Rattle.vocabulary.specs.Prelude.{Record, no_tables, records_of, with_r
 ghost use Rattle.semantics.specs.declared.limits.TheConstants.{MOST_ACCESSES};
 ghost use Rattle.semantics.specs.Rules.{has_many_points, has_many_atoms, has_many_cells, has_many_accesses, is_planar};
 ghost use Rattle.log_tables.specs.Views.{Ascends};
+ghost use Rattle.log_limits.specs.Sums.{cut};
+ghost use Rattle.log_rules.specs.Counts.{size_asked};
 ghost use Rattle.log_rules.specs.Own.{AddsAt, claimed};
 ghost use Rattle.log_rules.specs.Listing.{AddsAll, ids_listed};
-ghost use Rattle.log_rules.specs.Tallied.{AreAtEnd, IfTally, IsTally, MayCount, rects_in};
+ghost use Rattle.log_rules.specs.Tallied.{AreAtEnd, IfTally, IsTally, Keeps, MayCount, rects_in};
 
 use crate::claim_points::ClaimPoints;
 use crate::claims::Claims;
 use crate::counts::{cells_asked, points_asked, size_asked};
+use crate::names::named_req;
 use crate::serial::note_all;
+use crate::space_pairs::SpacePairs;
 use grid::Grid;
 use log_limits::{Corners, access_total, cell_total, exceeds, raised};
 use log_tables::{Draft, priv_of};
@@ -27,7 +31,7 @@ use spy_grammar::{Lined, Record};
 use std::alloc::{AllocError, Global};
 use std::collections::HashSet;
 
-/// What the records so far add up to: their points, cells and accesses, the items that they list in serial order, and the places that the requirements of each task claim, but for its first. Once they ask for too many places none is claimed.
+/// What the records so far add up to: their points, cells and accesses, the items that they list in serial order, what is known of pairs of spaces, and the places that the requirements of each task claim, but for its first. Once they ask for too many places none is claimed.
 #[derive(Drop)]
 pub struct Tally {
     pub(crate) points: u128,
@@ -35,6 +39,7 @@ pub struct Tally {
     pub(crate) accesses: u128,
     pub(crate) listed: HashSet<u32>,
     pub(crate) places: ClaimPoints,
+    pub(crate) pairs: SpacePairs,
     pub(crate) claimed: u128,
     pub(crate) claims: Claims,
 }
@@ -48,6 +53,16 @@ fn note_listed(listed: &mut HashSet<u32>, rec: &Record) -> Result<(), AllocError
         Record::Serial { items } => note_all(listed, items.as_slice()),
         _ => note_all(listed, &[]),
     }
+}
+
+/// How many accesses a record asks for, in a log of the first version. In one of the second they are counted at its end, and no set is gone through before.
+fn accesses_asked<P: PointSet>(draft: &Draft<P>, rec: &Record) -> u128
+    ensures { is_planar draft.now ≡ false → result ≡ cut (size_asked draft.now rec.now) }
+{
+    if draft.is_planar() {
+        return 0;
+    }
+    size_asked(draft, rec)
 }
 
 /// How many places the requirements so far and a record ask for.
@@ -111,8 +126,153 @@ impl Tally {
             accesses: 0,
             listed: HashSet::new(alloc),
             places: ClaimPoints::new(alloc, grid),
+            pairs: SpacePairs::new(alloc),
             claimed: 0,
             claims: Claims::new(alloc),
+        }
+    }
+
+    /// Remembers whether a space is within another one, if it has many cells.
+    fn remember_within<P: PointSet>(
+        &mut self,
+        draft: &Draft<P>,
+        ours: u32,
+        theirs: u32,
+    ) -> Result<(), AllocError>
+        ensures { OnOk result (Keeps draft.now self.old self.new) }
+    {
+        if !self.places.has_many(ours) {
+            return Ok(());
+        }
+        self.pairs.note_within(draft, ours, theirs)?;
+        Ok(())
+    }
+
+    /// Remembers whether two spaces meet, if one of them has many cells.
+    fn remember_meeting<P: PointSet>(
+        &mut self,
+        draft: &Draft<P>,
+        ours: u32,
+        theirs: u32,
+    ) -> Result<(), AllocError>
+        ensures { OnOk result (Keeps draft.now self.old self.new) }
+    {
+        if !self.places.has_many(ours) && !self.places.has_many(theirs) {
+            return Ok(());
+        }
+        self.pairs.note_meeting(draft, ours, theirs)?;
+        Ok(())
+    }
+
+    /// Remembers whether a space is within that of an instance.
+    fn remember_held<P: PointSet>(
+        &mut self,
+        draft: &Draft<P>,
+        space: u32,
+        inst: u32,
+    ) -> Result<(), AllocError>
+        ensures { OnOk result (Keeps draft.now self.old self.new) }
+    {
+        match draft.inst(inst) {
+            Some(inst) => self.remember_within(draft, space, inst.space),
+            None => Ok(()),
+        }
+    }
+
+    /// Remembers whether a space is within those of two instances.
+    fn remember_both<P: PointSet>(
+        &mut self,
+        draft: &Draft<P>,
+        space: u32,
+        src: u32,
+        dst: u32,
+    ) -> Result<(), AllocError>
+        ensures { OnOk result (Keeps draft.now self.old self.new) }
+    {
+        self.remember_held(draft, space, src)?;
+        self.remember_held(draft, space, dst)?;
+        Ok(())
+    }
+
+    /// Remembers whether the space of a requirement is within that of an instance.
+    fn remember_mapped<P: PointSet>(
+        &mut self,
+        draft: &Draft<P>,
+        task: u32,
+        number: u32,
+        inst: u32,
+    ) -> Result<(), AllocError>
+        ensures { OnOk result (Keeps draft.now self.old self.new) }
+    {
+        match named_req(draft, task, number) {
+            Some(req) => self.remember_held(draft, req.space, inst),
+            None => Ok(()),
+        }
+    }
+
+    /// Remembers whether a space is within the root space of a tree.
+    fn remember_rooted<P: PointSet>(
+        &mut self,
+        draft: &Draft<P>,
+        space: u32,
+        tree: u32,
+    ) -> Result<(), AllocError>
+        ensures { OnOk result (Keeps draft.now self.old self.new) }
+    {
+        match draft.tree(tree) {
+            Some(tree) => self.remember_within(draft, space, tree.space),
+            None => Ok(()),
+        }
+    }
+
+    /// Remembers whether a space meets that of the first requirement of a task.
+    fn remember_first<P: PointSet>(
+        &mut self,
+        draft: &Draft<P>,
+        task: u32,
+        space: u32,
+    ) -> Result<(), AllocError>
+        ensures { OnOk result (Keeps draft.now self.old self.new) }
+    {
+        match named_req(draft, task, 1) {
+            Some(first) => self.remember_meeting(draft, first.space, space),
+            None => Ok(()),
+        }
+    }
+
+    /// Remembers what the rules on a record ask of two spaces, of which one has many cells, so that two such spaces are held against each other by their sets once in a log, however many records ask for it.
+    pub fn remember<P: PointSet>(
+        &mut self,
+        draft: &Draft<P>,
+        rec: &Record,
+    ) -> Result<(), AllocError>
+        ensures { OnOk result (Keeps draft.now self.old self.new) }
+    {
+        match rec {
+            Record::Req { task, space, .. } => self.remember_first(draft, *task, *space),
+            Record::Inst { tree, space, .. } => self.remember_rooted(draft, *space, *tree),
+            Record::Map {
+                task,
+                req,
+                inst,
+                ..
+            } => self.remember_mapped(draft, *task, *req, *inst),
+            Record::Copy {
+                src,
+                dst,
+                space,
+                ..
+            }
+            | Record::Fold {
+                src,
+                dst,
+                space,
+                ..
+            } => { self.remember_both(draft, *space, *src, *dst) }
+            Record::Put { inst, space, .. } | Record::Reset { inst, space, .. } => {
+                self.remember_held(draft, *space, *inst)
+            }
+            _ => Ok(()),
         }
     }
 
@@ -131,10 +291,11 @@ impl Tally {
         let mut tally = self;
         tally.points = raised(tally.points, points_asked(rec));
         tally.cells = raised(tally.cells, cells_asked(draft, rec));
-        tally.accesses = raised(tally.accesses, size_asked(draft, rec));
+        tally.accesses = raised(tally.accesses, accesses_asked(draft, rec));
         note_listed(&mut tally.listed, rec)?;
         let claimed = claimed_with(draft, &tally, rec);
         note_claims(alloc, &mut tally.claims, &tally.places, claimed, draft, rec)?;
+        tally.pairs.note(alloc, &tally.places, draft, rec)?;
         tally.places.note(alloc, rec)?;
         tally.claimed = claimed;
         Ok(tally)

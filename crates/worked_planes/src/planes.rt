@@ -84,6 +84,18 @@ fn diagonal(alloc: Global, id: u64, count: u64) -> Result<Vec<u8>, Fail> {
     Ok(line)
 }
 
+/// The line of a space of so many points in the first column, in every other row from one on.
+fn comb(alloc: Global, id: u64, row: u64, count: u64) -> Result<Vec<u8>, Fail> {
+    let mut line = Vec::new(alloc);
+    line.extend_from_slice(format!(in alloc; "ispace {id} 0:{row}")?.as_bytes())?;
+    for i in 1..count {
+        let next = i.wrapping_mul(2).wrapping_add(row);
+        line.extend_from_slice(format!(in alloc; ",0:{next}")?.as_bytes())?;
+    }
+    line.extend_from_slice(b"\n")?;
+    Ok(line)
+}
+
 /// A log in which so many records of a kind follow on others.
 fn repeated(
     alloc: Global,
@@ -104,6 +116,45 @@ fn repeated(
 fn says(alloc: Global, command: &str, log: &[u8], report: &[u8]) -> Result<bool, Fail> {
     let (_, said) = answer(alloc, command, log)?;
     Ok(said.as_slice() == report)
+}
+
+/// Spaces of many rectangles, held against each other by the cells of the grid, and against the whole plane by what was found before.
+#[test]
+fn large_spaces(rt: HostRuntime) -> Result<(), Fail> {
+    let alloc = rt.alloc();
+    let mut lines = b"ispace 1 0-1:0-4095\n".to_vec(alloc)?;
+    // The rows of space 2 are even, space 3 lacks the last of them, and those of space 4 are odd.
+    lines.extend_from_slice(&comb(alloc, 2, 0, 1_100)?)?;
+    lines.extend_from_slice(&comb(alloc, 3, 0, 1_099)?)?;
+    lines.extend_from_slice(&comb(alloc, 4, 1, 1_100)?)?;
+    lines.extend_from_slice(b"fields 1 1\ntree 1 1 1\n")?;
+    // What is put lies within its instance, but for the last.
+    let mut puts = lines.to_vec(alloc)?;
+    puts.extend_from_slice(b"inst 1 1 2 1 plain\ninst 2 1 3 1 plain\ninst 3 1 1 1 plain\n")?;
+    puts.extend_from_slice(
+        b"put 1 2 1 0 1 -\nput 1 3 1 0 2 1\nput 3 2 1 0 3 2\nput 3 2 1 0 4 3\n",
+    )?;
+    let within = plane_log(alloc, &puts)?;
+    assert!(rt;
+        says(
+            alloc,
+            "check",
+            &within,
+            b"accepted tasks 0 operations 4 reads 0\n"
+        )?
+    );
+    puts.extend_from_slice(b"put 2 2 1 0 5 4\n")?;
+    let outside = plane_log(alloc, &puts)?;
+    assert!(rt; says(alloc, "check", &outside, b"fault 15 not-covered\n")?);
+    // Two requirements that share no point, and a third that shares points with the first.
+    lines.extend_from_slice(b"part 1 1 aliased\nsub 1 0 2\nsub 1 1 3\nsub 1 2 4\n")?;
+    lines.extend_from_slice(b"task 1\nrun 1 1 -\nreq 1 1 2 1 rw ex\nreq 1 1 4 1 rw ex\n")?;
+    let apart = plane_log(alloc, &lines)?;
+    assert!(rt; says(alloc, "ordered", &apart, b"ordered tasks 1 pairs 0\n")?);
+    lines.extend_from_slice(b"req 1 1 3 1 rw ex\n")?;
+    let shared = plane_log(alloc, &lines)?;
+    assert!(rt; says(alloc, "ordered", &shared, b"fault 16 self-interference\n")?);
+    Ok(())
 }
 
 /// Logs that just keep the limits of the second version, and ones that break them.

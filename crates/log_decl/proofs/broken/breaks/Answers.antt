@@ -12,6 +12,10 @@ returns-in-SelfInterference g c = λ ends earlier has same cells.
     IfOk-weaker c.interferes_with_own.result _ _ (λ broken told.
     told has.all earlier has.is ∙ ap (breaks_other (seen c.args.at.now earlier)) (sym c.in-SelfInterference.is)) c.interferes_with_own.ensures
 
+pub returns-in-NotCovered : goal.returns-in-NotCovered
+returns-in-NotCovered g c = λ ends earlier has same cells.
+    c.is_not_covered.ensures has.all earlier has.is ∙ ap (breaks_other (seen c.args.at.now earlier)) (sym c.in-NotCovered.is)
+
 pub returns-in_ok-is_bad_serial-in-Serial : goal.returns-in_ok-is_bad_serial-in-Serial
 returns-in_ok-is_bad_serial-in-Serial g c = λ ends earlier has same cells.
     c.in_ok-is_bad_serial-in-Serial.ensures has.all earlier has.is ∙ ap (breaks_other (seen c.args.at.now earlier)) (sym c.in-Serial.is)

@@ -18,7 +18,7 @@ returns-then-is_some g c =
     let r = c.l-item.result.rec in
     let measured = λ (planar : is_planar t ≡ true). let plane = c.is_plane_log-is_plane.ensures ∙ plane_at log i t c.requires.header inv.tables planar in
     (c.in_ok-cells.ensures t.rects plane (inv.size plane)).1 in
-    let told = c.in_ok-code.ensures es (record { all = all; is = inv.tally }) (ap (λ n. records_of (take n log)) (sym inv.at)) measured in
+    let told = c.in_ok-code.ensures es (record { all = all; is = c.in_ok-remember.ensures all es inv.tally }) (ap (λ n. records_of (take n log)) (sym inv.at)) measured in
     stands_where log c.loop-l.kept i t c.in_ok-code.code c.l-item.result inv.at inv.tables inv.keep (λ flat. (inv.tally.counts flat).within) c.loop-l-test.true c.l-item.is
     (sym c.is_some.ensures ∙ c.if-is_some.true)
     (told ∙ ap (λ (w : List Record). broken_of w es t r) c.requires.whole)
@@ -35,12 +35,12 @@ loop-l-preserved g c =
     let r = c.l-item.result.rec in
     let measured = λ (planar : is_planar t ≡ true). let plane = c.is_plane_log-is_plane.ensures ∙ plane_at log i t c.requires.header inv.tables planar in
     (c.in_ok-cells.ensures t.rects plane (inv.size plane)).1 in
-    let told = c.in_ok-code.ensures es (record { all = all; is = inv.tally }) (ap (λ n. records_of (take n log)) (sym inv.at)) measured in
+    let told = c.in_ok-code.ensures es (record { all = all; is = c.in_ok-remember.ensures all es inv.tally }) (ap (λ n. records_of (take n log)) (sym inv.at)) measured in
     let none : broken_of (records_of log) es t r ≡ None =
     ap (λ (w : List Record). broken_of w es t r) (sym c.requires.whole) ∙ sym told
     ∙ none_where c.in_ok-code.code (sym c.is_some.ensures ∙ c.if-is_some.false) in
     let next = c.in_ok-add.ensures.ok in
-    let tally = c.in_ok-tally.ensures all es l.line inv.tally (may_count all (records_of log) es t r
+    let tally = c.in_ok-tally.ensures all es l.line (c.in_ok-remember.ensures all es inv.tally) (may_count all (records_of log) es t r
     (flat_here log i t l c.requires.header inv.tables c.loop-l-test.true c.l-item.is)
     (omega (arith, inv.few, c.loop-l-test.true, c.requires.few)) (listed_in log i l c.loop-l-test.true c.l-item.is) none) in
     record {

@@ -13,7 +13,7 @@ returns-then-first_clashes g c = λ all are few.
     let asked = c.args.asked.now in
     let kept = list_any (clashes_row claims asked.item asked.tree asked.fields.now asked.access)
     (claim_points all (points_in t asked.space)) in
-    ap (λ b. b || kept) (sym c.if-first_clashes.true ∙ c.first_clashes.ensures)
+    ap (λ b. b || kept) (sym c.if-first_clashes.true ∙ c.first_clashes.ensures all are)
     ∙ own_by_claims all t claims asked.item asked.tree asked.space asked.fields.now asked.access are.cells (are.claims few)
 
 pub returns : goal.returns
@@ -25,6 +25,6 @@ returns g c =
     list_any (clashes_row claims asked.item asked.tree asked.fields.now asked.access) (claim_points all (points_in t asked.space)) in
     IfOk-weaker c.clashes_with_claims.result _ _ (λ clashes told all are few.
     told all are.grid
-    ∙ ap (λ b. b || kept all) (sym c.if-first_clashes.false ∙ c.first_clashes.ensures)
+    ∙ ap (λ b. b || kept all) (sym c.if-first_clashes.false ∙ c.first_clashes.ensures all are)
     ∙ own_by_claims all t claims asked.item asked.tree asked.space asked.fields.now asked.access are.cells (are.claims few))
     c.clashes_with_claims.ensures

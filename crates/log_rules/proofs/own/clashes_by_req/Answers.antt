@@ -7,34 +7,34 @@ use Rattle.log_rules.proofs.Numbering.{all_fail, found_any, is_at, one_fails, ow
 use Rattle.log_rules.proofs.own.clashes_by_req.Goals as goal
 
 pub returns-in_default : goal.returns-in_default
-returns-in_default g c = λ numbered few.
+returns-in_default g c = λ all are.
     let t = c.args.draft.now in
     let asked = c.args.asked.now in
     let k = c.loop-before.before in
-    let none : slice_get (reqs_of t asked.item) k ≡ None = sym (numbered asked.item k) ∙ sym c.in_default.ensures.req in
+    let none : slice_get (reqs_of t asked.item) k ≡ None = sym (are.numbered asked.item k) ∙ sym c.in_default.ensures.req in
     let f = clashes_with t asked.item asked.tree (points_in t asked.space) asked.fields.now asked.access in
     sym (own_all asked.item f t.reqs (λ r other. rw other refl)
-    ∙ all_fail f (reqs_of t asked.item) k none (c.loop-before.invariant numbered))
+    ∙ all_fail f (reqs_of t asked.item) k none (c.loop-before.invariant all are))
 
 pub returns-then-clashes_with : goal.returns-then-clashes_with
-returns-then-clashes_with g c = λ numbered few.
+returns-then-clashes_with g c = λ all are.
     let t = c.args.draft.now in
     let asked = c.args.asked.now in
     let f = clashes_with t asked.item asked.tree (points_in t asked.space) asked.fields.now asked.access in
     sym (found_any (is_at asked.item (c.loop-before.before + 1)) f t.reqs c.in-Some.req.now (sym c.in-Some.ensures.req)
-    (sym c.clashes_with.ensures ∙ c.if-clashes_with.true))
+    (sym (c.clashes_with.ensures all are) ∙ c.if-clashes_with.true))
 
 pub loop-before-preserved : goal.loop-before-preserved
-loop-before-preserved g c = λ numbered.
+loop-before-preserved g c = λ all are.
     let t = c.args.draft.now in
     let asked = c.args.asked.now in
     let k = c.loop-before.before in
     let f = clashes_with t asked.item asked.tree (points_in t asked.space) asked.fields.now asked.access in
-    one_fails f (reqs_of t asked.item) k c.in-Some.req.now (sym (numbered asked.item k) ∙ sym c.in-Some.ensures.req)
-    (sym c.clashes_with.ensures ∙ c.if-clashes_with.false) (c.loop-before.invariant numbered)
+    one_fails f (reqs_of t asked.item) k c.in-Some.req.now (sym (are.numbered asked.item k) ∙ sym c.in-Some.ensures.req)
+    (sym (c.clashes_with.ensures all are) ∙ c.if-clashes_with.false) (c.loop-before.invariant all are)
 
 pub returns : goal.returns
-returns g c = λ numbered few.
+returns g c = λ all are.
     let t = c.args.draft.now in
     let asked = c.args.asked.now in
     let k = c.loop-before.before in
@@ -42,6 +42,7 @@ returns g c = λ numbered few.
     let f = clashes_with t asked.item asked.tree (points_in t asked.space) asked.fields.now asked.access in
     let count = length-filter (λ (r : Req). r.item == asked.item) t.reqs in
     let fewer = count_by-le-length (λ (r : Req). r.item == asked.item) t.reqs in
+    let few = are.few in
     let past : length own ≤ k = omega (arith, few, count, fewer, c.loop-before-test.false) in
     sym (own_all asked.item f t.reqs (λ r other. rw other refl)
-    ∙ all_fail f own k (slice_get_past own k past) (c.loop-before.invariant numbered))
+    ∙ all_fail f own k (slice_get_past own k past) (c.loop-before.invariant all are))

@@ -1,10 +1,11 @@
 use Rattle.std.proofs.Common.{◌≡◌, false, take}
 use Rattle.std.specs.List.{list_any}
 use Rattle.vocabulary.specs.Prelude.{points_in, reqs_of}
-use Rattle.log_rules.specs.Own.{AreNumbered, clashes_with}
+use Rattle.log_rules.specs.Own.{clashes_with}
+use Rattle.log_rules.specs.Tallied.{IfKept}
 use Rattle.log_rules.proofs.own.clashes_by_req.Given as goal
 
 abbrev pub invariant-loop-before : goal.invariant-loop-before
-invariant-loop-before g l = AreNumbered l.draft
-    → list_any (clashes_with l.draft l.asked.item l.asked.tree (points_in l.draft l.asked.space) l.asked.fields.now l.asked.access)
-    (take l.before (reqs_of l.draft l.asked.item)) ≡ false
+invariant-loop-before g l = IfKept l.draft l.tally
+    (list_any (clashes_with l.draft l.asked.item l.asked.tree (points_in l.draft l.asked.space) l.asked.fields.now l.asked.access)
+    (take l.before (reqs_of l.draft l.asked.item)) ≡ false)

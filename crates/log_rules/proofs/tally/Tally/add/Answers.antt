@@ -35,7 +35,7 @@ returns g c = λ all earlier line is may.
                 ∙ cut-both old.cells (cells_asked t r) most ∙ cells-exact t r old.cells of.cells c.raised-2.ensures.fits flat may.cells
                 ∙ sym (cell_total-add t line r is.known.insts may.known);
             accesses =
-                c.raised-3.ensures.sum ∙ ap (λ m. cut (old.accesses + m)) c.size_asked.ensures
+                c.raised-3.ensures.sum ∙ ap (λ m. cut (old.accesses + m)) (c.accesses_asked.ensures flat)
                 ∙ cut-both old.accesses (size_asked t r) most ∙ accesses-exact earlier t r old.accesses of.accesses flat may.accesses
                 ∙ sym (access_total-add earlier t line r flat still is.known.accesses may.known);
             within = within_limit _ (accesses t r) _ (few_accesses earlier t r flat may.accesses)
@@ -44,8 +44,9 @@ returns g c = λ all earlier line is may.
       lists = λ n. c.in_ok-note_listed.ensures n ∙ ap (λ b. b || is_in (ids_listed r) n) (is.lists n) ∙ sym (listed-add t line r n);
       known = AreKnown-add earlier t line r is.known may.known;
       kept = record {
-        grid = c.in_ok-note.ensures ∙ is.kept.grid;
+        grid = c.in_ok-note-2.ensures ∙ is.kept.grid;
         cells = HasCells-add all t line r c.requires may.listed is.kept.cells;
+        pairs = c.in_ok-note.ensures all line is.kept.grid is.kept.pairs;
         claims = λ low. AreClaims-add all t line r old.claims c.note_claims.new.claims
             (is.kept.claims (omega (arith, c.claimed_with-claimed.ensures, low))) is.known.reqs
             (c.in_ok-note_claims.ensures all is.kept.grid low);

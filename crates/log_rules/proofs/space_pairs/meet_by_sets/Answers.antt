@@ -1,7 +1,7 @@
 use Rattle.std.proofs.Common.{◌∙◌, ap, sym, ℕ, List}
 use Rattle.vocabulary.specs.Prelude.{meets, points_in}
 use Rattle.log_rules.proofs.ListTests.{list_any-false}
-use Rattle.log_rules.proofs.own.spaces_meet.Goals as goal
+use Rattle.log_rules.proofs.space_pairs.meet_by_sets.Goals as goal
 
 pub returns-in-None : goal.returns-in-None
 returns-in-None g c =

@@ -1,0 +1,3 @@
+mod BitWords
+mod Blocks
+pub mod lemmas

@@ -1,0 +1,107 @@
+//! The cells of a grid that some points touch.
+
+ghost use Rattle.std.specs.Prelude.{◌≡◌, ◌<◌, ◌≤◌, ◌*◌, ◌+◌, ◌^◌, ◌↔◌, ◌⊎◌, ⊤, ℕ, false, true, length, List, MatchOption, IfOk};
+ghost use Rattle.point_set.specs.declared.rect.Rect.{Rect};
+ghost use Rattle.point_set.specs.Rects.{AreSmall, rect_points};
+ghost use Rattle.grid.specs.Cuts.{grid_of, span_count};
+ghost use Rattle.cell_bits.specs.Bits.{AreBitsOf, HasAll, HasNone, IsInBlock, TouchesRect, TouchesSome, has_bit};
+
+use crate::words::{are_within, have_common, set_between};
+use grid::Grid;
+use point_set::Rect;
+use std::alloc::{AllocError, Global};
+
+/// How many cells a grid has at most for which bits are kept.
+const MOST_CELLS: u128 = 1_048_576;
+
+/// Which cells of a grid some points touch, a bit for each cell, column by column.
+#[derive(Drop)]
+pub struct CellBits {
+    words: Vec<u64>,
+}
+
+/// Sets the bits of the cells from one column up to another, from one row to another.
+fn set_block(words: &mut [u64], rows: usize, left: usize, end: usize, low: usize, high: usize)
+    requires columns { left ≤ end }
+    requires order { low ≤ high }
+    requires rows { high < rows }
+    requires within { end * rows ≤ 64 * length words.old }
+    requires few { end * rows < 2 ^ 32 }
+    ensures words { length words.new ≡ length words.old }
+    ensures bits { (n : ℕ) → (has_bit words.new n ≡ true)
+        ↔ ((has_bit words.old n ≡ true) ⊎ IsInBlock rows left end low high n) }
+{
+    for k in left..end {
+        set_between(words, k * rows + low, k * rows + high + 1);
+    }
+}
+
+/// Sets the bits of the cells that a rectangle touches. It answers `false` where the rectangle has no point, or an end of it is in no cell.
+fn set_rect(words: &mut [u64], grid: &Grid, rect: Rect) -> bool
+    requires within { span_count grid.now.xs * span_count grid.now.ys ≤ 64 * length words.old }
+    requires few { span_count grid.now.xs * span_count grid.now.ys < 2 ^ 32 }
+    ensures words { length words.new ≡ length words.old }
+    ensures bits { result ≡ true → (all : List Rect) → grid.now ≡ grid_of all → (n : ℕ)
+        → (has_bit words.new n ≡ true) ↔ ((has_bit words.old n ≡ true) ⊎ TouchesRect grid.now rect n) }
+{
+    let (Some(left), Some(right)) = (grid.column_of(rect.x0), grid.column_of(rect.x1)) else {
+        return false;
+    };
+    let (Some(low), Some(high)) = (grid.row_of(rect.y0), grid.row_of(rect.y1)) else {
+        return false;
+    };
+    if rect.x0 > rect.x1 || rect.y0 > rect.y1 || left > right || low > high {
+        return false;
+    }
+    set_block(words, grid.rows(), left, right + 1, low, high);
+    true
+}
+
+/// Sets the bits of the cells that some rectangles touch, or answers `false`.
+fn set_rects(words: &mut [u64], grid: &Grid, rects: &[Rect]) -> bool
+    requires within { span_count grid.now.xs * span_count grid.now.ys ≤ 64 * length words.old }
+    requires few { span_count grid.now.xs * span_count grid.now.ys < 2 ^ 32 }
+    ensures words { length words.new ≡ length words.old }
+    ensures bits { result ≡ true → (all : List Rect) → grid.now ≡ grid_of all → (n : ℕ)
+        → (has_bit words.new n ≡ true)
+        ↔ ((has_bit words.old n ≡ true) ⊎ TouchesSome grid.now rects.now (length rects.now) n) }
+{
+    for i in 0..rects.len() {
+        if !set_rect(words, grid, rects[i]) {
+            return false;
+        }
+    }
+    true
+}
+
+impl CellBits {
+    /// The cells that some rectangles touch. There are none for a grid of too many cells, or where a rectangle goes beyond the grid.
+    pub fn of(alloc: Global, grid: &Grid, rects: &[Rect]) -> Result<Option<CellBits>, AllocError>
+        ensures { IfOk result (λ found. (all : List Rect) → grid.now ≡ grid_of all → AreSmall rects.now
+            → MatchOption found ⊤ (λ bits. AreBitsOf grid.now (rect_points rects.now) bits)) }
+    {
+        let cells = grid.columns() as u128 * grid.rows() as u128;
+        if cells > MOST_CELLS {
+            return Ok(None);
+        }
+        let mut words = vec![in alloc; 0u64; (cells / 64 + 1) as usize]?;
+        if !set_rects(words.as_mut_slice(), grid, rects) {
+            return Ok(None);
+        }
+        Ok(Some(CellBits { words }))
+    }
+
+    /// Whether others have each of these bits.
+    pub fn within(&self, other: &CellBits) -> bool
+        ensures { (result ≡ true) ↔ HasAll other.now self.now }
+    {
+        are_within(self.words.as_slice(), other.words.as_slice())
+    }
+
+    /// Whether some of these bits is one of others too.
+    pub fn meets(&self, other: &CellBits) -> bool
+        ensures { (result ≡ false) ↔ HasNone other.now self.now }
+    {
+        have_common(self.words.as_slice(), other.words.as_slice())
+    }
+}

@@ -1,0 +1,12 @@
+use Rattle.std.proofs.Common.{ap, ◌∙◌}
+use Rattle.vocabulary.specs.Prelude.{is_within, points_in}
+use Rattle.log_rules.proofs.BitRows.{within_itself}
+use Rattle.log_rules.proofs.space_pairs.SpacePairs.within.Goals as goal
+
+pub returns-then-ours-theirs : goal.returns-then-ours-theirs
+returns-then-ours-theirs g c = λ all cells has.
+    let t = c.args.draft.now in
+    within_itself (points_in t c.args.ours) ∙ ap (λ id. is_within (points_in t c.args.ours) (points_in t id)) c.if-ours-theirs.true
+
+pub returns-in-Some-get : goal.returns-in-Some-get
+returns-in-Some-get g c = λ all cells has. c.in-Some-get.ensures is_within c.args.draft.now has.within

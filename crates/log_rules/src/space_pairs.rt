@@ -1,0 +1,180 @@
+//! Whether a space is within another one, and whether two spaces meet.
+
+ghost use Rattle.std.specs.Prelude.{◌≡◌, ℕ, List, Option, [], option_map, OnOk};
+ghost use Rattle.point_set.specs.declared.rect.Rect.{Rect};
+ghost use Rattle.grid.specs.Cuts.{grid_of};
+ghost use Rattle.vocabulary.specs.Prelude.{Tables, is_within, meets, points_in, with_record};
+ghost use Rattle.log_tables.specs.Views.{Ascends};
+ghost use Rattle.log_rules.specs.Cells.{HasCells};
+ghost use Rattle.log_rules.specs.Pairs.{HasPairs};
+
+use crate::cell_rows::CellRows;
+use crate::claim_points::ClaimPoints;
+use crate::pair_answers::PairAnswers;
+use log_tables::Draft;
+use point_set::PointSet;
+use spy_grammar::Record;
+use std::alloc::{AllocError, Global};
+
+/// Whether a set has no points.
+fn is_empty<P: PointSet>(set: &P) -> bool
+    ensures { result ≡ is_within (P.points set.now) [] }
+{
+    match set.first() {
+        Some(_) => false,
+        None => true,
+    }
+}
+
+/// Whether each point of a set is in another one.
+fn is_set_within<P: PointSet>(ours: &P, theirs: &P) -> bool
+    ensures { result ≡ is_within (P.points ours.now) (P.points theirs.now) }
+{
+    ours.within(theirs)
+}
+
+/// Whether two sets have a point in common.
+fn sets_meet<P: PointSet>(ours: &P, theirs: &P) -> bool
+    ensures { result ≡ meets (P.points ours.now) (P.points theirs.now) }
+{
+    ours.meets(theirs)
+}
+
+/// Whether a space has no points.
+pub(crate) fn is_vacant<P: PointSet>(draft: &Draft<P>, space: u32) -> bool
+    ensures { result ≡ is_within (points_in draft.now space) [] }
+{
+    match draft.set(space) {
+        Some(set) => is_empty(set),
+        None => true,
+    }
+}
+
+/// Whether each point of a space is in another one, by their sets.
+fn is_within_by_sets<P: PointSet>(draft: &Draft<P>, ours: u32, theirs: u32) -> bool
+    ensures { result ≡ is_within (points_in draft.now ours) (points_in draft.now theirs) }
+{
+    match (draft.set(ours), draft.set(theirs)) {
+        (Some(ours), Some(theirs)) => is_set_within(ours, theirs),
+        (Some(ours), None) => is_empty(ours),
+        (None, _) => true,
+    }
+}
+
+/// Whether two spaces have a point in common, by their sets.
+fn meet_by_sets<P: PointSet>(draft: &Draft<P>, ours: u32, theirs: u32) -> bool
+    ensures { result ≡ meets (points_in draft.now ours) (points_in draft.now theirs) }
+{
+    let Some(our_set) = draft.set(ours) else {
+        return false;
+    };
+    match draft.set(theirs) {
+        Some(their_set) => sets_meet(our_set, their_set),
+        None => false,
+    }
+}
+
+/// What is known of pairs of spaces beside their sets: the cells of large spaces as bits, and what was found of pairs before. So a pair of large spaces is held against each other word by word, and no pair of which an answer was noted by its sets again.
+#[derive(Drop)]
+pub(crate) struct SpacePairs {
+    rows: CellRows,
+    within: PairAnswers,
+    meeting: PairAnswers,
+}
+
+impl SpacePairs {
+    /// Nothing is known.
+    pub(crate) fn new(alloc: Global) -> SpacePairs
+        ensures { (all : Option (List Rect)) (t : Tables) → HasPairs all t result }
+    {
+        SpacePairs {
+            rows: CellRows::new(alloc),
+            within: PairAnswers::new(alloc),
+            meeting: PairAnswers::new(alloc),
+        }
+    }
+
+    /// Notes the cells of the space that a record declares, if it is a large one.
+    pub(crate) fn note<P: PointSet>(
+        &mut self,
+        alloc: Global,
+        places: &ClaimPoints,
+        draft: &Draft<P>,
+        rec: &Record,
+    ) -> Result<(), AllocError>
+        requires { Ascends rec.now }
+        ensures { OnOk result ((all : Option (List Rect)) (line : ℕ)
+            → places.now.grid ≡ option_map grid_of all → HasPairs all draft.now self.old
+            → HasPairs all (with_record draft.now line rec.now) self.new) }
+    {
+        self.rows.note(alloc, places, draft, rec)?;
+        Ok(())
+    }
+
+    /// Whether each point of a space is in another one.
+    pub(crate) fn within<P: PointSet>(&self, draft: &Draft<P>, ours: u32, theirs: u32) -> bool
+        ensures { (all : Option (List Rect)) → HasCells all draft.now → HasPairs all draft.now self.now
+            → result ≡ is_within (points_in draft.now ours) (points_in draft.now theirs) }
+    {
+        if ours == theirs {
+            return true;
+        }
+        if let Some(answer) = self.rows.within(ours, theirs) {
+            return answer;
+        }
+        match self.within.get(ours, theirs) {
+            Some(answer) => answer,
+            None => is_within_by_sets(draft, ours, theirs),
+        }
+    }
+
+    /// Whether two spaces have a point in common.
+    pub(crate) fn meet<P: PointSet>(&self, draft: &Draft<P>, ours: u32, theirs: u32) -> bool
+        ensures { (all : Option (List Rect)) → HasCells all draft.now → HasPairs all draft.now self.now
+            → result ≡ meets (points_in draft.now ours) (points_in draft.now theirs) }
+    {
+        if let Some(answer) = self.rows.meets(ours, theirs) {
+            return answer;
+        }
+        match self.meeting.get(ours, theirs) {
+            Some(answer) => answer,
+            None => meet_by_sets(draft, ours, theirs),
+        }
+    }
+
+    /// Notes whether each point of a space is in another one, unless that is known.
+    pub(crate) fn note_within<P: PointSet>(
+        &mut self,
+        draft: &Draft<P>,
+        ours: u32,
+        theirs: u32,
+    ) -> Result<(), AllocError>
+        ensures { OnOk result ((all : Option (List Rect)) → HasPairs all draft.now self.old
+            → HasPairs all draft.now self.new) }
+    {
+        if self.rows.within(ours, theirs).is_some() || self.within.get(ours, theirs).is_some() {
+            return Ok(());
+        }
+        let answer = is_within_by_sets(draft, ours, theirs);
+        self.within.note(draft, ours, theirs, answer)?;
+        Ok(())
+    }
+
+    /// Notes whether two spaces have a point in common, unless that is known.
+    pub(crate) fn note_meeting<P: PointSet>(
+        &mut self,
+        draft: &Draft<P>,
+        ours: u32,
+        theirs: u32,
+    ) -> Result<(), AllocError>
+        ensures { OnOk result ((all : Option (List Rect)) → HasPairs all draft.now self.old
+            → HasPairs all draft.now self.new) }
+    {
+        if self.rows.meets(ours, theirs).is_some() || self.meeting.get(ours, theirs).is_some() {
+            return Ok(());
+        }
+        let answer = meet_by_sets(draft, ours, theirs);
+        self.meeting.note(draft, ours, theirs, answer)?;
+        Ok(())
+    }
+}
