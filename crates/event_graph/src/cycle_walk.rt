@@ -1,8 +1,8 @@
 //! The walk over the nodes that are never taken, and the cycle that it ends in.
 
-ghost use Rattle.std.specs.Prelude.{◌≡◌, ◌==◌, ◌||◌, ℕ, ◌+◌, ◌^◌, ◌<◌, ◌≤◌, true, false, not, nat_eq, length, reverse, unwrap_or, position, [], All, IfOk, IfSome, IfNone};
+ghost use Rattle.std.specs.Prelude.{◌≡◌, ◌==◌, ◌||◌, ℕ, ◌+◌, ◌^◌, ◌<◌, ◌≤◌, true, false, not, length, reverse, unwrap_or, position, [], All, IfOk, IfSome, IfNone};
 ghost use Rattle.std.specs.List.{slice_index_or, list_any};
-ghost use Rattle.std.specs.HashMap.{get};
+ghost use Rattle.id_maps.specs.Entries.{entry_at};
 ghost use Rattle.std.specs.Option.{IsSomeAnd};
 ghost use Rattle.vocabulary.specs.Prelude.{is_in};
 ghost use Rattle.semantics.specs.ReplayOrder.{is_stuck, stuck_wait, walk, up_to, from_least, least_among, begun_at, waits_at, replay_order};
@@ -12,17 +12,17 @@ ghost use Rattle.event_graph.specs.Marked.{AreMarked};
 use crate::marks::{is_marked, mark, no_marks};
 use crate::node::NodeIn;
 use crate::places::place_of;
+use id_maps::IdMap;
 use std::alloc::{AllocError, Global};
-use std::collections::HashMap;
 
 /// The least unmarked place of some events, or else how many places there are.
-fn least_unmarked(places: &HashMap<u32, usize>, marks: &[bool], waits: &[u32]) -> usize
-    requires { All (λ e. IsSomeAnd (get nat_eq places.now e) (λ p. p < length marks.now)) waits.now }
+fn least_unmarked(places: &IdMap<usize>, marks: &[bool], waits: &[u32]) -> usize
+    requires { All (λ e. IsSomeAnd (entry_at places.now e) (λ p. p < length marks.now)) waits.now }
     ensures within { result ≤ length marks.now }
     ensures found { result < length marks.now → (slice_index_or marks.now result false ≡ false)
-        × (list_any (λ e. is_place result (get nat_eq places.now e)) waits.now ≡ true) }
+        × (list_any (λ e. is_place result (entry_at places.now e)) waits.now ≡ true) }
     ensures least { (j : ℕ) → j < result → slice_index_or marks.now j false ≡ false
-        → list_any (λ e. is_place j (get nat_eq places.now e)) waits.now ≡ false }
+        → list_any (λ e. is_place j (entry_at places.now e)) waits.now ≡ false }
 {
     let mut best = marks.len();
     for event in waits {
@@ -109,9 +109,9 @@ pub(crate) fn waits_of(nodes: &[NodeIn], k: usize) -> &[u32]
 }
 
 /// The first stuck node that a node waits on, or else the node.
-fn next_stuck(nodes: &[NodeIn], places: &HashMap<u32, usize>, taken: &[bool], k: usize) -> usize
+fn next_stuck(nodes: &[NodeIn], places: &IdMap<usize>, taken: &[bool], k: usize) -> usize
     requires node { k < length nodes.now }
-    requires indexed { IsIndexed nodes.now (get nat_eq places.now) }
+    requires indexed { IsIndexed nodes.now (entry_at places.now) }
     requires taken { AreMarked taken.now (length nodes.now) (replay_order nodes.now) }
     ensures next { result ≡ unwrap_or (stuck_wait nodes.now k) k }
     ensures within { result < length nodes.now }
@@ -124,13 +124,13 @@ fn next_stuck(nodes: &[NodeIn], places: &HashMap<u32, usize>, taken: &[bool], k:
 pub(crate) fn walk_from(
     alloc: Global,
     nodes: &[NodeIn],
-    places: &HashMap<u32, usize>,
+    places: &IdMap<usize>,
     taken: &[bool],
     start: usize,
 ) -> Result<Vec<usize>, AllocError>
     requires few { length nodes.now < 2 ^ 32 }
     requires start { start < length nodes.now }
-    requires indexed { IsIndexed nodes.now (get nat_eq places.now) }
+    requires indexed { IsIndexed nodes.now (entry_at places.now) }
     requires taken { AreMarked taken.now (length nodes.now) (replay_order nodes.now) }
     ensures { IfOk result (λ v. v.items ≡ walk nodes.now (length nodes.now + 1) [] start) }
 {

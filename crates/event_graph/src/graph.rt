@@ -13,21 +13,21 @@ use crate::places::{place_of, places_at, places_of};
 use crate::rounds::order_by;
 use crate::stuck::Stuck;
 use crate::waiters::waiters_of;
+use id_maps::IdMap;
 use memory::Memory;
 use std::alloc::{AllocError, Global};
-use std::collections::HashMap;
 use std::marker::Model;
 
 /// Nodes and their waits. A node is named by its position, or by its event.
 #[derive(Drop)]
 pub struct Graph {
     nodes: Vec<NodeIn>,
-    places: HashMap<u32, usize>,
+    places: IdMap<usize>,
 }
 
 impl Model for Graph {
-    ghost use Rattle.std.specs.Prelude.{List, nat_eq, length, ◌<◌, ◌^◌};
-    ghost use Rattle.std.specs.HashMap.{get};
+    ghost use Rattle.std.specs.Prelude.{List, length, ◌<◌, ◌^◌};
+    ghost use Rattle.id_maps.specs.Entries.{entry_at};
     ghost use Rattle.vocabulary.specs.Prelude.{Node};
     ghost use Rattle.event_graph.specs.EventPlaces.{IsIndexed};
 
@@ -35,7 +35,7 @@ impl Model for Graph {
 
     ghost view = { λ g. g.nodes.items };
 
-    ghost invariant = { λ g. (length g.nodes.items < 2 ^ 32) × IsIndexed g.nodes.items (get nat_eq g.places) };
+    ghost invariant = { λ g. (length g.nodes.items < 2 ^ 32) × IsIndexed g.nodes.items (entry_at g.places) };
 }
 
 /// The events of these nodes.
@@ -77,7 +77,7 @@ impl Graph {
         ensures some { IfSome result (λ k. done_at self.now k ≡ Some event) }
         ensures none { IfNone result ((k : ℕ) → done_at self.now k ≢ Some event) }
     {
-        self.places.get(&event).copied()
+        self.places.get(event)
     }
 
     /// The node whose event a node lists in place `k`, from 0, or `None` where it is no node or lists no more.

@@ -1,34 +1,41 @@
 //! Whether nodes make a graph.
 
-ghost use Rattle.std.specs.Prelude.{◌≡◌, ◌↔◌, ℕ, ◌<◌, true, nat_eq, length, slice_index, All, Some, is_some, IfOk, IsTrue};
-ghost use Rattle.std.specs.HashMap.{get};
+ghost use Rattle.std.specs.Prelude.{◌≡◌, ◌↔◌, ℕ, ◌<◌, true, length, slice_index, All, Some, is_some, IfOk, IsTrue};
+ghost use Rattle.id_maps.specs.Entries.{entry_at};
 ghost use Rattle.vocabulary.specs.Prelude.{AreLinked};
 
 use crate::node::NodeIn;
 use crate::places::{events_of, first_places};
+use id_maps::IdMap;
 use memory::Memory;
 use std::alloc::Global;
-use std::collections::HashMap;
 
 /// Whether each event stands first where it stands.
-fn are_first(places: &HashMap<u32, usize>, events: &[u32]) -> bool
+fn are_first(places: &IdMap<usize>, events: &[u32]) -> bool
     ensures { IsTrue result
-        ↔ ((k : ℕ) → k < length events.now → get nat_eq places.now (slice_index events.now k) ≡ Some k) }
+        ↔ ((k : ℕ) → k < length events.now → entry_at places.now (slice_index events.now k) ≡ Some k) }
 {
     for (k, event) in events.iter().enumerate() {
-        if places.get(&*event).copied() != Some(k) {
+        if places.get(*event) != Some(k) {
             return false;
         }
     }
     true
 }
 
+/// Whether it is known where an event stands.
+fn is_known(places: &IdMap<usize>, event: u32) -> bool
+    ensures { result ≡ is_some (entry_at places.now event) }
+{
+    places.get(event).is_some()
+}
+
 /// Whether it is known where each of these events stands.
-fn are_known(places: &HashMap<u32, usize>, events: &[u32]) -> bool
-    ensures { IsTrue result ↔ All (λ e. is_some (get nat_eq places.now e) ≡ true) events.now }
+fn are_known(places: &IdMap<usize>, events: &[u32]) -> bool
+    ensures { IsTrue result ↔ All (λ e. is_some (entry_at places.now e) ≡ true) events.now }
 {
     for event in events {
-        if places.get(&*event).is_none() {
+        if !is_known(places, *event) {
             return false;
         }
     }
@@ -36,8 +43,8 @@ fn are_known(places: &HashMap<u32, usize>, events: &[u32]) -> bool
 }
 
 /// Whether it is known where each event stands that a node waits on.
-fn are_waits_known(places: &HashMap<u32, usize>, nodes: &[NodeIn]) -> bool
-    ensures { IsTrue result ↔ All (λ n. All (λ e. is_some (get nat_eq places.now e) ≡ true) n.waits) nodes.now }
+fn are_waits_known(places: &IdMap<usize>, nodes: &[NodeIn]) -> bool
+    ensures { IsTrue result ↔ All (λ n. All (λ e. is_some (entry_at places.now e) ≡ true) n.waits) nodes.now }
 {
     for node in nodes {
         if !are_known(places, node.waits.as_slice()) {

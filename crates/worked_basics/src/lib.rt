@@ -5,6 +5,8 @@
 #![tactic(auto)]
 
 #[cfg(test)]
+mod id_maps_tests;
+#[cfg(test)]
 mod launch_claims_tests;
 #[cfg(test)]
 mod launches_tests;

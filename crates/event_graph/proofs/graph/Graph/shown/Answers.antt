@@ -1,5 +1,5 @@
-use Rattle.std.proofs.Common.{◌∙◌, ap, nat_eq, map, List, subst}
-use Rattle.std.specs.HashMap.{get}
+use Rattle.std.proofs.Common.{◌∙◌, ap, map, List, subst}
+use Rattle.id_maps.specs.Entries.{entry_at}
 use Rattle.vocabulary.specs.Prelude.{Node, AreLinked}
 use Rattle.event_graph.specs.Orders.{event_at}
 use Rattle.log_laws.proofs.lemmas.Cycles.{shown_is_cycle}
@@ -10,14 +10,14 @@ use Rattle.event_graph.proofs.graph.Graph.shown.Goals as goal
 pub events_at-requires : goal.events_at-requires
 events_at-requires c =
     let linked = subst AreLinked c.self.view_is (linked_from c.self.inside.nodes.items
-    (get nat_eq c.self.inside.places) c.self.invariant.1) in
+    (entry_at c.self.inside.places) c.self.invariant.1) in
     let is = shown_is_cycle c.args.self.now linked c.args.cycle.now c.requires in
     rw (c.as_slice.ensures.value, c.self.view_is) (cycle_within c.args.self.now c.args.cycle.now is)
 
 pub returns : goal.returns
 returns c =
     let linked = subst AreLinked c.self.view_is (linked_from c.self.inside.nodes.items
-    (get nat_eq c.self.inside.places) c.self.invariant.1) in
+    (entry_at c.self.inside.places) c.self.invariant.1) in
     record {
       cycle = c.args.cycle.now;
       is_cycle = shown_is_cycle c.args.self.now linked c.args.cycle.now c.requires;

@@ -1,5 +1,5 @@
-use Rattle.std.proofs.Common.{◌≡◌, ◌∙◌, ap, nat_eq, length, List, subst, arith}
-use Rattle.std.specs.HashMap.{get}
+use Rattle.std.proofs.Common.{◌≡◌, ◌∙◌, ap, length, List, subst, arith}
+use Rattle.id_maps.specs.Entries.{entry_at}
 use Rattle.vocabulary.specs.Prelude.{Node}
 use Rattle.semantics.specs.ReplayOrder.{waits_at}
 use Rattle.event_graph.specs.Orders.{IsWait}
@@ -16,7 +16,7 @@ returns-then-k-events-clause-some c =
     let events = c.waits_of-events.ensures ∙ ap (λ (ns : List Node). waits_at ns c.args.node) c.as_slice.ensures.value in
     subst (λ (ns : List Node). IsWait ns c.args.node c.args.k c.place_of.result) c.self.view_is
     (wait_found c.self.inside.nodes.items
-    (get nat_eq c.self.inside.places) c.self.invariant.1 c.args.node c.args.k c.place_of.result c.waits_of-events.result.now events c.if-k-events.true c.place_of.ensures)
+    (entry_at c.self.inside.places) c.self.invariant.1 c.args.node c.args.k c.place_of.result c.waits_of-events.result.now events c.if-k-events.true c.place_of.ensures)
 
 pub returns-else-node-len-clause-none : goal.returns-else-node-len-clause-none
 returns-else-node-len-clause-none c =

@@ -1,5 +1,5 @@
-use Rattle.std.proofs.Common.{◌≡◌, ◌∙◌, ◌<◌, arith, nat_eq, length, get_or, List, ℕ, Contains, sym, subst}
-use Rattle.std.specs.HashMap.{get}
+use Rattle.std.proofs.Common.{◌≡◌, ◌∙◌, ◌<◌, arith, length, get_or, List, ℕ, Contains, sym, subst}
+use Rattle.id_maps.specs.Entries.{entry_at}
 use Rattle.std.proofs.lemmas.List.Elements.{Contains-get_or}
 use Rattle.vocabulary.specs.Prelude.{AreLinked}
 use Rattle.log_laws.proofs.lemmas.Cycles.{cycle_is_stuck, none_shown}
@@ -29,7 +29,7 @@ of-requires-clause-whole c = λ k lt.
 pub returns : goal.returns
 returns c =
     let linked = subst AreLinked c.self.view_is (linked_from c.self.inside.nodes.items
-    (get nat_eq c.self.inside.places) c.self.invariant.1) in
+    (entry_at c.self.inside.places) c.self.invariant.1) in
     record {
       replayed = c.in_ok-order.ensures ∙ c.requires.taken;
       free = no_cycle c.args.self.now ((none_shown c.args.self.now).0 c.requires.none)
