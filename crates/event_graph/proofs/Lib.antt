@@ -4,4 +4,5 @@ mod Taking
 mod Walks
 mod Waited
 mod Inverted
+mod NodeOrder
 mod Cycling

@@ -1,5 +1,5 @@
 -- Where the nodes of events stand.
-use Rattle.std.specs.Prelude.{◌≡◌, ◌≢◌, ◌==◌, ◌+◌, ℕ, Bool, true, false, List, [], ◌∷◌, Option, Some, None, is_some, All, AllPairs, if◌then◌else◌}
+use Rattle.std.specs.Prelude.{◌≡◌, ◌≢◌, ◌==◌, ◌+◌, ◌<◌, ℕ, Bool, true, false, List, [], ◌∷◌, Option, Some, None, is_some, All, AllPairs, if◌then◌else◌}
 use Rattle.vocabulary.specs.Prelude.{Node}
 use Rattle.semantics.specs.ReplayOrder.{waits_at, done_at}
 
@@ -23,3 +23,11 @@ pub record IsIndexed (nodes : List Node) (place : ℕ → Option ℕ) : Type 0 w
   pub apart : AllPairs (λ (m : Node) (n : Node). m.done ≢ n.done) nodes
   pub places : ArePlaces nodes place
   pub waits : (k : ℕ) → All (λ e. is_some (place e) ≡ true) (waits_at nodes k)
+
+-- An event is that of a node before the one at a position.
+abbrev pub IsBehind : (ℕ → Option ℕ) → ℕ → ℕ → Type 0
+IsBehind place k event = (p : ℕ) × (p < k) × (place event ≡ Some p)
+
+-- Each node waits on earlier ones alone.
+abbrev pub WaitBack : List Node → (ℕ → Option ℕ) → Type 0
+WaitBack nodes place = (k : ℕ) → All (IsBehind place k) (waits_at nodes k)

@@ -5,6 +5,7 @@ ghost use Rattle.vocabulary.specs.Prelude.{AreLinked, WaitsOn};
 ghost use Rattle.semantics.specs.ReplayOrder.{done_at, waits_at, replay_order, shown_cycle};
 ghost use Rattle.event_graph.specs.Orders.{IsOrderOf, IsWait, IsWhy, AreCycleEvents, event_at};
 
+use crate::backward::{positions, wait_back};
 use crate::cycle_walk::{from_its_least, waits_of, walk_from};
 use crate::marks::{first_unmarked, marks_of};
 use crate::node::{EventList, NodeIn};
@@ -107,10 +108,14 @@ impl Graph {
         Ok(found)
     }
 
-    // The nodes that are ever taken, in replay order.
+    // The nodes that are ever taken, in replay order: their own, where each waits on earlier ones alone.
     fn taken(&self, alloc: Global) -> Result<Vec<usize>, AllocError>
         ensures { IfOk result (λ v. v.items ≡ replay_order self.now) }
     {
+        if wait_back(self.nodes.as_slice(), &self.places) {
+            let all = positions(alloc, self.nodes.len())?;
+            return Ok(all);
+        }
         let waiters = waiters_of(alloc, self.nodes.as_slice(), &self.places)?;
         order_by(alloc, self.nodes.as_slice(), &waiters)
     }

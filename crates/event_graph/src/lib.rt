@@ -6,6 +6,7 @@
 //! with `graph.rt`; `order.rt` has the order, and `stuck.rt` the cycle.
 #![tactic(auto)]
 
+mod backward;
 mod cycle_walk;
 mod graph;
 mod linked;
