@@ -8,7 +8,7 @@ use Rattle.memchr.specs.Find.{IsFirstByte, is_byte}
 use Rattle.spy_lines.specs.LinesOf.{with_ends, IsLine, IsUnended, begun_by, lines_of}
 
 -- what line feeds and other bytes keep is so of a text and its lines
-by_bytes :
+pub by_bytes :
     (P : List ℕ → List (List ℕ) → Type 0) → P [] []
     → ((bs : List ℕ) (ls : List (List ℕ)) → P bs ls → P (10 ∷ bs) ([] ∷ ls))
     → ((b : ℕ) (bs : List ℕ) (ls : List (List ℕ)) → b ≢ 10 → P bs ls → P (b ∷ bs) (begun_by b ls))

@@ -1,1 +1,2 @@
 pub mod LinesOf
+pub mod Kept

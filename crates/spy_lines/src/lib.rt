@@ -5,10 +5,12 @@
 //! Begin with `lines.rt`.
 #![tactic(auto)]
 
+mod kept;
 mod law;
 mod line_list;
 mod lines;
 
+pub use kept::KeptLines;
 pub use law::one_list_of_lines;
 pub use line_list::{LineIter, LineList};
 pub use lines::{Lines, NoNewline};

@@ -1,8 +1,9 @@
-ghost use Rattle.std.specs.Prelude.{◌≡◌, ◌≤◌, ◌^◌, ◌==◌, length, slice_get, count_by};
+ghost use Rattle.std.specs.Prelude.{◌≡◌, ◌≤◌, ◌^◌, ◌==◌, [], length, slice_get, count_by};
 ghost use Rattle.std.specs.Iterator.{YieldsFirstRef, item_count};
 ghost use Rattle.std.specs.Option.{option_map};
 ghost use Rattle.spy_lines.specs.LinesOf.{lines_of};
 
+use crate::kept::KeptLines;
 use memchr::{memchr, memchr_iter};
 use std::marker::Model;
 
@@ -62,6 +63,15 @@ impl LineList {
         ensures few { length result ≤ 2 ^ 26 }
     {
         LineIter { rest: &self.bytes }
+    }
+
+    /// The same lines, to keep some of them and pass over the others. It takes no memory.
+    pub fn keeping(self) -> KeptLines
+        ensures kept { result.kept ≡ [] }
+        ensures rest { result.rest ≡ self }
+        ensures few { length result.rest ≤ 2 ^ 26 }
+    {
+        KeptLines::of(self.bytes)
     }
 }
 
