@@ -1,6 +1,6 @@
 -- What one line adds to a log, how its fault ends the reading, and what an input spells.
 use Rattle.std.specs.Prelude.{◌≡◌, ℕ, true, Some, None, Option, Result, Err, List, [], ◌∷◌, ◌++◌}
-use Rattle.vocabulary.specs.Prelude.{LineFault, Code, Lined, LLined, is_passed_over, spelling, on_line, Good, GoodLaunch, Fault, ReadsBy, line_count}
+use Rattle.vocabulary.specs.Prelude.{LineFault, Code, Lined, LLined, is_passed_over, spelling, on_line, Good, GoodLaunch, Fault, Hold, ReadsBy, records_of, text_of, line_count}
 use Rattle.spy_words.specs.declared.fault.LineFault.TheVariants as faults
 use Rattle.spy_grammar.specs.declared.code.Code.TheVariants as codes
 use Rattle.spy_grammar.specs.declared.nested.NLined.{NLined}
@@ -51,6 +51,19 @@ SpellsLaunch bytes lines log =
 abbrev pub SpellsNested : List ℕ → ℕ → List NLined → Type 0
 SpellsNested bytes lines log =
     SpellsBy nested_text_fault GoodNested nested_spelling on_nested_line bytes lines log
+
+-- Lines, numbered from `number`, hold the records of a log, of which this is the text.
+pub record HoldText (number : ℕ) (lines : List (List ℕ)) (text : List ℕ) : Type 0 where
+  pub log : List Lined
+  pub hold : Hold number lines log
+  pub text_is : text ≡ text_of (records_of log)
+
+-- An input without a fault of its bytes and lines spells the records of a log, of which this is the text.
+pub record SpellsText (bytes text : List ℕ) : Type 0 where
+  pub lines : ℕ
+  pub log : List Lined
+  pub spelled : Spells bytes lines log
+  pub text_is : text ≡ text_of (records_of log)
 
 -- An input has this fault of its bytes and lines.
 abbrev pub HasFault : List ℕ → ℕ → Code → Type 0

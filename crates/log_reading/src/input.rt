@@ -17,13 +17,19 @@ use spy_grammar::{Code, LLined, Lined, NLined};
 use spy_lines::{LineList, Lines};
 use std::alloc::Global;
 
-/// The lines of an input, over its bytes.
-fn lines_of<L: LogLine>(bytes: Vec<u8>) -> Result<LineList, SpellEnd>
-    requires { length bytes.items ≤ MOST_BYTES }
+/// The lines of an input, over its bytes, or the fault of an input that is too long or ends within a line.
+pub(crate) fn lines_of<L: LogLine>(bytes: Vec<u8>) -> Result<LineList, SpellEnd>
     ensures bytes { IfOk result (λ lines. with_ends lines ≡ bytes.items) }
     ensures lines { IfOk result (λ lines. All IsLine lines) }
+    ensures short { OnOk result (length bytes.items ≤ MOST_BYTES) }
     ensures fault { EndsBy (λ line code. text_fault_by L.read bytes.items ≡ Some (record { line = line; code = code })) result }
 {
+    if bytes.len() as u64 > MOST_BYTES {
+        return Err(SpellEnd::Fault {
+            line: 0,
+            code: Code::TooLong,
+        });
+    }
     match Lines::of(bytes).finish() {
         Ok(list) => Ok(list),
         Err(end) => Err(SpellEnd::Fault {
@@ -53,12 +59,6 @@ fn any_input_in<L: LogLine>(alloc: Global, bytes: Vec<u8>) -> Result<Input<L>, S
     ensures lines { IfOk result (λ i. AreLinesBy L.line_of i.lines i.records.items) }
     ensures fault { EndsBy (λ line code. text_fault_by L.read bytes.items ≡ Some (record { line = line; code = code })) result }
 {
-    if bytes.len() as u64 > MOST_BYTES {
-        return Err(SpellEnd::Fault {
-            line: 0,
-            code: Code::TooLong,
-        });
-    }
     let list = lines_of::<L>(bytes)?;
     records_of::<L>(alloc, list)
 }

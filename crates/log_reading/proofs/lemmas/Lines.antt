@@ -76,6 +76,13 @@ pub lines_fault_is : {R : Type 0} (read : List ℕ → Result (Option R) LineFau
 lines_fault_is read lines line code single short shown =
     lines_decide_by read lines (recursion_from_All _ lines single) (omega (arith, short)) ∙ shown
 
+pub input_fault_is : {R : Type 0} (read : List ℕ → Result (Option R) LineFault) (bytes : List ℕ) (lines : List (List ℕ)) (line : ℕ) (code : Code)
+    → with_ends lines ≡ bytes → All IsLine lines → length bytes ≤ 2 ^ 26
+    → HasFaultOfLines read lines line code → text_fault_by read bytes ≡ Some (record { line = line; code = code })
+input_fault_is read bytes lines line code whole single short shown =
+    subst (λ bs. text_fault_by read bs ≡ Some (record { line = line; code = code })) whole
+    (lines_fault_is read lines line code single (subst (λ bs. length bs ≤ 2 ^ 26) (sym whole) short) shown)
+
 -- What lines hold, their bytes spell.
 pub lines_spell : {R L : Type 0} (read : List ℕ → Result (Option R) LineFault) (IsGood : R → Type 0) (spelled : R → List ℕ) (on : ℕ → R → L)
     (lines : List (List ℕ)) (log : List L) → All IsLine lines → length (with_ends lines) ≤ 2 ^ 26

@@ -1,13 +1,12 @@
-use Rattle.std.proofs.Common.{arith, ◌≡◌, ◌≤◌, ◌<◌, ◌^◌, List, ℕ, All, Option, Some, Ok, Err, length, None, sym, subst}
+use Rattle.std.proofs.Common.{◌≡◌, ◌≤◌, ◌^◌, List, ℕ, All, Option, Ok, Err, length, None, sym, subst}
 use Rattle.std.specs.Prelude.{Result, IfOk, OnOk}
 use Rattle.spy_lines.specs.LinesOf.{with_ends, IsLine}
-use Rattle.spy_grammar.specs.declared.code.Code.TheVariants.{TooLong}
 use Rattle.vocabulary.specs.Prelude.{HoldBy, LineFault}
 use Rattle.semantics.specs.TextFaults.{lines_fault_by, text_fault_by}
 use Rattle.log_reading.specs.Spelled.{SpellsBy}
 use Rattle.log_reading.specs.declared.reading.Input.{Input}
 use Rattle.log_reading.specs.declared.reading.SpellEnd.{SpellEnd}
-use Rattle.log_reading.proofs.lemmas.Lines.{lines_fault_is, lines_spell, long_by, same_end}
+use Rattle.log_reading.proofs.lemmas.Lines.{input_fault_is, lines_spell}
 use Rattle.log_reading.proofs.input.any_input_in.Goals as goal
 
 spelled_by : {R L : Type 0} (read : List ℕ → Result (Option R) LineFault) (IsGood : R → Type 0) (spelled : R → List ℕ) (on : ℕ → R → L)
@@ -25,21 +24,10 @@ spelled_by read IsGood spelled on bytes list (Err e) whole single short held cle
 
 pub returns-clause-spelled : goal.returns-clause-spelled
 returns-clause-spelled g c =
-    let short : length c.args.bytes.items ≤ 2 ^ 26 = omega arith in
-    spelled_by g.L.LogLine.read g.L.LogLine.good g.L.LogLine.spelled g.L.LogLine.on c.args.bytes.items c.in_ok-list.list c.records_of.result c.in_ok-list.ensures.bytes c.in_ok-list.ensures.lines short
+    spelled_by g.L.LogLine.read g.L.LogLine.good g.L.LogLine.spelled g.L.LogLine.on c.args.bytes.items c.in_ok-list.list c.records_of.result c.in_ok-list.ensures.bytes c.in_ok-list.ensures.lines c.in_ok-list.ensures.short
     c.records_of.ensures.held c.records_of.ensures.clean c.records_of.ensures.count
 
 pub returns-clause-fault : goal.returns-clause-fault
 returns-clause-fault g c line code is =
-    let read = g.L.LogLine.read in
-    let short : length c.args.bytes.items ≤ 2 ^ 26 = omega arith in
-    let fits = subst (λ bs. length bs ≤ 2 ^ 26) (sym c.in_ok-list.ensures.bytes) short in
-    subst (λ bs. text_fault_by read bs ≡ Some (record { line = line; code = code })) c.in_ok-list.ensures.bytes
-    (lines_fault_is read c.in_ok-list.list line code c.in_ok-list.ensures.lines fits (c.records_of.ensures.fault line code is))
-
-pub returns-then-len-gt-MOST_BYTES-clause-fault : goal.returns-then-len-gt-MOST_BYTES-clause-fault
-returns-then-len-gt-MOST_BYTES-clause-fault g c line code is =
-    let read = g.L.LogLine.read in
-    let long_input : 2 ^ 26 < length c.args.bytes.items = omega arith in
-    same_end (λ l k. text_fault_by read c.args.bytes.items ≡ Some (record { line = l; code = k })) 0 line TooLong code is
-    (long_by read c.args.bytes.items long_input)
+    input_fault_is g.L.LogLine.read c.args.bytes.items c.in_ok-list.list line code c.in_ok-list.ensures.bytes c.in_ok-list.ensures.lines c.in_ok-list.ensures.short
+    (c.records_of.ensures.fault line code is)
