@@ -15,7 +15,8 @@ use std::alloc::Global;
 
 /// Keeps the next line if it says a record, which is let go, and else passes over the line.
 fn keep_said(lines: &mut KeptLines, said: Option<Lined>)
-    ensures kept { lines.new.kept ≡ (if is_some said then lines.old.kept ++ with_ends (take 1 lines.old.rest) else lines.old.kept) }
+    ensures kept { lines.new.kept ≡ (if is_some said
+        then lines.old.kept ++ with_ends (take 1 lines.old.rest) else lines.old.kept) }
     ensures rest { lines.new.rest ≡ drop 1 lines.old.rest }
 {
     match said {

@@ -1,4 +1,4 @@
-//! Records, written again.
+//! Records, written out, and the report of `print`.
 
 ghost use Rattle.std.specs.Prelude.{◌≡◌, ◌≤◌, ◌^◌, length, IfOk};
 ghost use Rattle.std.specs.List.{AllByRecursion};
@@ -7,7 +7,7 @@ ghost use Rattle.spy_cli.specs.Answers.{IsPrintAnswer};
 
 use crate::report::{Report, fault_report};
 use crate::status::Status;
-use log_reading::{SpellEnd, input_in};
+use log_reading::{SpellEnd, kept_text};
 use memory::Memory;
 use spy_grammar::{Lined, with_line};
 use std::alloc::Global;
@@ -24,14 +24,14 @@ pub(crate) fn printed_text(alloc: Global, records: &[Lined]) -> Result<Vec<u8>, 
     Ok(text)
 }
 
-/// The report of `print` on an input.
+/// The report of `print` on an input: the lines of its records, handed on as they stand there.
 pub(crate) fn printed_report(alloc: Global, bytes: Vec<u8>) -> Result<Report, Memory>
     ensures { IfOk result (λ r. IsPrintAnswer bytes.items r.status r.text.items) }
 {
-    match input_in(alloc, bytes) {
-        Ok(input) => Ok(Report {
+    match kept_text(alloc, bytes) {
+        Ok(text) => Ok(Report {
             status: Status::Yes,
-            text: printed_text(alloc, &input.records)?,
+            text,
         }),
         Err(SpellEnd::Fault { line, code }) => fault_report(alloc, line, code),
         Err(SpellEnd::Memory) => Err(Memory),

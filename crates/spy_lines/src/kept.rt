@@ -30,7 +30,8 @@ impl Model for KeptLines {
 
     ghost view = { λ k. record { kept = take k.to k.bytes.items; rest = lines_of (drop k.at k.bytes.items) } };
 
-    ghost invariant = { λ k. (k.to ≤ k.at) × (k.at + k.len ≤ length k.bytes.items) × (k.len ≡ length (with_ends (take 1 (lines_of (drop k.at k.bytes.items))))) };
+    ghost invariant = { λ k. (k.to ≤ k.at) × (k.at + k.len ≤ length k.bytes.items)
+        × (k.len ≡ length (with_ends (take 1 (lines_of (drop k.at k.bytes.items))))) };
 }
 
 /// How many bytes the first line has with its line feed, or 0 where there is no line.

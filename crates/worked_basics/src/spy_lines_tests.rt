@@ -1,4 +1,4 @@
-//! Lines out of pieces, and of bytes without a line feed at their end.
+//! Lines out of pieces, of bytes without a line feed at their end, and lines of which some are kept.
 
 use spy_lines::{Lines, NoNewline};
 use std::test::Fail;
@@ -20,5 +20,29 @@ fn pieces_of_a_line_are_joined(rt: HostRuntime) -> Result<(), Fail> {
     assert!(rt; rest.next().is_none());
     let unended = Lines::of(b"a\nb".to_vec(rt.alloc())?).finish();
     assert!(rt; unended.err() == Some(NoNewline { line: 2 }));
+    Ok(())
+}
+
+#[test]
+fn the_second_and_fourth_line_are_kept(rt: HostRuntime) -> Result<(), Fail> {
+    let Ok(list) = Lines::of(b"a\nbcd\n\nef\ng\n".to_vec(rt.alloc())?).finish() else {
+        return Err("lines without an end".into());
+    };
+    let mut lines = list.keeping();
+    for (k, line) in [b"a".as_slice(), b"bcd", b"", b"ef", b"g"]
+        .iter()
+        .enumerate()
+    {
+        assert_eq!(rt; lines.line(), Some(*line));
+        if k % 2 == 1 {
+            lines.keep();
+        } else {
+            lines.pass();
+        }
+    }
+    assert!(rt; lines.line().is_none());
+    // There is no line that could be kept.
+    lines.keep();
+    assert_eq!(rt; lines.finish().as_slice(), b"bcd\nef\n".as_slice());
     Ok(())
 }
