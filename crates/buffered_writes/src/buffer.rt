@@ -53,7 +53,7 @@ impl Buffered {
         ensures cause { HasCause (K.faults sink.old) (K.faults sink.new) result }
 
         // No call follows one that failed.
-        ensures calm { OnOk result (K.ended sink.old ≡ 0 → K.ended sink.new ≡ 0) }
+        ensures not_ended { OnOk result (K.ended sink.old ≡ 0 → K.ended sink.new ≡ 0) }
         ensures once { K.ended sink.old ≡ 0 → K.ended sink.new ≤ 1 }
     {
         let written = write_all(sink, &self.kept);
@@ -71,7 +71,7 @@ impl Buffered {
         ensures cause { HasCause (K.faults sink.old) (K.faults sink.new) result }
 
         // No call follows one that failed.
-        ensures calm { OnOk result (K.ended sink.old ≡ 0 → K.ended sink.new ≡ 0) }
+        ensures not_ended { OnOk result (K.ended sink.old ≡ 0 → K.ended sink.new ≡ 0) }
         ensures once { K.ended sink.old ≡ 0 → K.ended sink.new ≤ 1 }
     {
         if self.keep(piece) {

@@ -43,7 +43,7 @@ pub fn write_deps<K: Sink>(
     ensures memory { IsErrOf result DepsEnd.Memory → sink.new ≡ sink.old }
 
     // The sink failed where the answer says so, and nowhere else, and no call follows one that failed.
-    ensures calm { OnOk result (K.faults sink.new ≡ K.faults sink.old) }
+    ensures no_fault { OnOk result (K.faults sink.new ≡ K.faults sink.old) }
     ensures rose { IsErrOf result DepsEnd.WriteFault → Rose (K.faults sink.old) (K.faults sink.new) }
     ensures once { K.ended sink.old ≡ 0 → K.ended sink.new ≤ 1 }
 {

@@ -3,9 +3,9 @@ use Rattle.std.specs.Prelude.{◌≡◌, List}
 use Rattle.vocabulary.specs.Prelude.{Node}
 use Rattle.event_graph.specs.Orders.{IsOrderOf, AreCycleEvents}
 use Rattle.reach_marks.specs.Reached.{AreMarksOf}
-use Rattle.log_findings.specs.declared.sorting.Sorting.{Sorting}
-use Rattle.log_findings.specs.declared.sorting.Unsorted.{Unsorted}
-use Rattle.log_findings.specs.declared.sorting.Unsorted.TheVariants.{Cycle, Memory}
+use Rattle.log_findings.specs.declared.node_order.Sorting.{Sorting}
+use Rattle.log_findings.specs.declared.node_order.Unsorted.{Unsorted}
+use Rattle.log_findings.specs.declared.node_order.Unsorted.TheVariants.{Cycle, Memory}
 
 -- This is the graph of the nodes, with its order and its marks.
 pub record AreSorted (nodes : List Node) (s : Sorting) : Type 0 where

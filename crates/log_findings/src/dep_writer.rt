@@ -69,7 +69,7 @@ impl DepWriter {
         ensures before { OnOk result (self.new.before ≡ self.old.before + (if dep.before then 1 else 0)) }
         ensures all { OnOk result (self.new.before + self.new.turn ≡ self.old.before + self.old.turn + 1) }
         ensures cause { HasCause (K.faults sink.old) (K.faults sink.new) result }
-        ensures calm { OnOk result (K.ended sink.old ≡ 0 → K.ended sink.new ≡ 0) }
+        ensures not_ended { OnOk result (K.ended sink.old ≡ 0 → K.ended sink.new ≡ 0) }
         ensures once { K.ended sink.old ≡ 0 → K.ended sink.new ≤ 1 }
     {
         count(self, dep.before);

@@ -9,10 +9,10 @@ ghost use Rattle.log_findings.specs.Findings.{IsFoundOf};
 ghost use Rattle.log_findings.specs.Sorted.{AreSorted};
 
 use crate::items::event_at;
-use crate::ordering::sort_log;
+use crate::node_order::{Sorting, Unsorted};
+use crate::ordered::sort_log;
 use crate::reports::{cycle_found, fault_found, spare_found};
 use crate::serial::serial_fault;
-use crate::sorting::{Sorting, Unsorted};
 use findings::{Finding, PairList};
 use logs::Log;
 use memory::Memory;

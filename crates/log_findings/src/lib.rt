@@ -10,20 +10,20 @@ mod dep_writer;
 mod dependences;
 mod implied;
 mod items;
-mod ordering;
+mod node_order;
+mod ordered;
 mod reports;
 mod serial;
-mod sorting;
 mod written_deps;
 
 pub use dependences::deps_finding;
 pub use implied::spare_finding;
 pub use items::{event_at, operation_count, task_count};
 pub use memory::Memory;
-pub use ordering::{ordered_finding, sort_log};
+pub use node_order::{Sorting, Unsorted};
+pub use ordered::{ordered_finding, sort_log};
 pub use reports::{
     accepted_found, cycle_found, differ_found, fault_found, no_read_found, race_found, why_found,
 };
 pub use serial::serial_fault;
-pub use sorting::{Sorting, Unsorted};
 pub use written_deps::{DepsEnd, write_deps};

@@ -73,7 +73,7 @@ fn put_pairs<'a, P: ArenaSet<'a>, K: Sink>(
     ensures part { OnErr result ((more : List ℕ) → Grows (K.held sink.old) (K.held sink.new)
         (lines_text (map dep_line (dependences log.now)) ++ more)) }
     ensures cause { HasCause (K.faults sink.old) (K.faults sink.new) result }
-    ensures calm { OnOk result (K.ended sink.old ≡ 0 → K.ended sink.new ≡ 0) }
+    ensures not_ended { OnOk result (K.ended sink.old ≡ 0 → K.ended sink.new ≡ 0) }
     ensures once { K.ended sink.old ≡ 0 → K.ended sink.new ≤ 1 }
 {
     for pair in pairs(log) {
@@ -122,7 +122,7 @@ pub fn write_deps<'a, P: ArenaSet<'a>, K: Sink>(
     ensures memory { IsErrOf result DepsEnd.Memory → sink.new ≡ sink.old }
 
     // The sink failed where the answer says so, and nowhere else, and no call follows one that failed.
-    ensures calm { OnOk result (K.faults sink.new ≡ K.faults sink.old) }
+    ensures no_fault { OnOk result (K.faults sink.new ≡ K.faults sink.old) }
     ensures rose { IsErrOf result DepsEnd.WriteFault → Rose (K.faults sink.old) (K.faults sink.new) }
     ensures once { K.ended sink.old ≡ 0 → K.ended sink.new ≤ 1 }
 {

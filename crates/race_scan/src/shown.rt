@@ -9,7 +9,7 @@ ghost use Rattle.point_laws.specs.Alike.{AreFirsts};
 ghost use Rattle.atoms.specs.Atoms.{first_points};
 ghost use Rattle.race_scan.specs.Ends.{IsEndOf, IsShownIn};
 
-use crate::gathering::touches_of;
+use crate::node_touches::touches_of;
 use atoms::Atoms;
 use cell_races::{Clashing, shown_clash};
 use cut_logs::CutLog;

@@ -21,7 +21,7 @@ pub ending_memory : (Holds : Finding → Type 0) (before after : Option (List �
 ending_memory Holds before after faults now = record {
   told = λ decided. absurd decided;
   part = λ is. absurd cc;
-  calm = λ decided. absurd decided;
+  no_fault = λ decided. absurd decided;
   rose = λ is. absurd cc;
   no_usage = λ is. cc;
   no_read_fault = λ is. cc;
@@ -32,7 +32,7 @@ pub ending_part : (Holds : Finding → Type 0) (before after : Option (List ℕ)
 ending_part Holds before after faults now part rose = record {
   told = λ decided. absurd decided;
   part = λ is. part;
-  calm = λ decided. absurd decided;
+  no_fault = λ decided. absurd decided;
   rose = λ is. rose;
   no_usage = λ is. cc;
   no_read_fault = λ is. cc;
@@ -40,10 +40,10 @@ ending_part Holds before after faults now part rose = record {
 
 pub ending_told : (Holds : Finding → Type 0) (status : Status) (before after : Option (List ℕ)) (faults now : ℕ) → IsDecided status
     → IsTold Holds status before after → now ≡ faults → IsEnding Holds status before after faults now
-ending_told Holds status before after faults now decided told calm = record {
+ending_told Holds status before after faults now decided told no_fault = record {
   told = λ _. told;
   part = λ is. absurd (decided_is_not status WriteFault decided is);
-  calm = λ _. calm;
+  no_fault = λ _. no_fault;
   rose = λ is. absurd (decided_is_not status WriteFault decided is);
   no_usage = λ is. decided_is_not status Usage decided is;
   no_read_fault = λ is. decided_is_not status ReadFault decided is;
@@ -60,7 +60,7 @@ ending_of Holds f status result before after faults now text holds status_is tex
       let all = done (λ is. decided_is_not result WriteFault d is) in
       record { finding = f; holds = holds; status_is = all.0 ∙ status_is; written = subst (Appends before after) text_is all.1 };
   part = λ is. record { finding = f; holds = holds; written = subst (Grows before after) text_is (fault is).1 };
-  calm = λ d. (done (λ is. decided_is_not result WriteFault d is)).2;
+  no_fault = λ d. (done (λ is. decided_is_not result WriteFault d is)).2;
   rose = λ is. (fault is).0;
   no_usage = λ is. other Usage is (λ same. cc) (λ d. d);
   no_read_fault = λ is. other ReadFault is (λ same. cc) (λ d. d);
@@ -86,7 +86,7 @@ pub ending_so : (P Q : Finding → Type 0) (status : Status) (before after : Opt
 ending_so P Q status before after faults now so e = record {
   told = λ d. told_so P Q status before after so (e.told d);
   part = λ is. part_so P Q before after so (e.part is);
-  calm = e.calm;
+  no_fault = e.no_fault;
   rose = e.rose;
   no_usage = e.no_usage;
   no_read_fault = e.no_read_fault;

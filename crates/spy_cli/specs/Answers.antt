@@ -212,11 +212,11 @@ Ends (requests.Demo size) status = IsDecided status ⊎ (status ≡ statuses.Mem
 Ends _ status = (status ≡ statuses.Yes) ⊎ (status ≡ statuses.Memory)
 
 -- A count of faults did not rise, and it could have.
-pub record IsCalm (before now : ℕ) : Type 0 where
+pub record HasNoFault (before now : ℕ) : Type 0 where
   pub same : now ≡ before
   pub room : before < 2 ^ 64 - 1
 
--- The source of an input is calm; nothing is asked of that of `demo`, which reads none.
-abbrev pub IsInputCalm : Request → ℕ → ℕ → Type 0
-IsInputCalm (requests.Demo size) before now = Unit {0}
-IsInputCalm _ before now = IsCalm before now
+-- The source of an input had no fault; nothing is asked of that of `demo`, which reads none.
+abbrev pub InputHasNoFault : Request → ℕ → ℕ → Type 0
+InputHasNoFault (requests.Demo size) before now = Unit {0}
+InputHasNoFault _ before now = HasNoFault before now

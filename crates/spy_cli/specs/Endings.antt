@@ -26,7 +26,7 @@ pub record IsEnding (Holds : Finding → Type 0) (status : Status) (before after
     (faults now : ℕ) : Type 0 where
   pub told : IsDecided status → IsTold Holds status before after
   pub part : status ≡ statuses.WriteFault → IsToldInPart Holds before after
-  pub calm : IsDecided status → now ≡ faults
+  pub no_fault : IsDecided status → now ≡ faults
   pub rose : status ≡ statuses.WriteFault → Rose faults now
   pub no_usage : status ≢ statuses.Usage
   pub no_read_fault : status ≢ statuses.ReadFault

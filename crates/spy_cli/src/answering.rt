@@ -34,7 +34,7 @@ pub(crate) fn input_of<S: Source>(
     ensures not_called { takes_input (Some request) ≡ false → source.new ≡ source.old }
     ensures once { S.ended source.old ≡ 0 → S.ended source.new ≤ 1 }
     ensures roomy { S.idle source.new ≡ S.idle source.old }
-    ensures calm { result ≢ Err ReadEnd.ReadFault → S.faults source.new ≡ S.faults source.old }
+    ensures no_fault { result ≢ Err ReadEnd.ReadFault → S.faults source.new ≡ S.faults source.old }
     ensures fault { IsErrOf result ReadEnd.ReadFault
         → FailsToRead request (S.faults source.old) (S.faults source.new) (S.left source.old) (S.left source.new) }
     ensures memory { IsErrOf result ReadEnd.Memory
@@ -94,7 +94,7 @@ pub(crate) fn report_on<S: Source>(
     ensures not_called { takes_input (Some request) ≡ false → source.new ≡ source.old }
     ensures once { S.ended source.old ≡ 0 → S.ended source.new ≤ 1 }
     ensures roomy { S.idle source.new ≡ S.idle source.old }
-    ensures calm { result ≢ Err ReportEnd.ReadFault → S.faults source.new ≡ S.faults source.old }
+    ensures no_fault { result ≢ Err ReportEnd.ReadFault → S.faults source.new ≡ S.faults source.old }
     ensures fault { IsErrOf result ReportEnd.ReadFault
         → FailsToRead request (S.faults source.old) (S.faults source.new) (S.left source.old) (S.left source.new) }
     ensures memory { IsErrOf result ReportEnd.Memory

@@ -90,7 +90,7 @@ pub(crate) fn deps_answered<S: Source, K: Sink>(
     ensures taken { result ≡ Status.Memory → Takes (S.left source.old) (S.left source.new) (MOST_BYTES + 1) }
 
     // A device that failed says so by its count.
-    ensures calm { IsDecided result
+    ensures no_fault { IsDecided result
         → (S.faults source.new ≡ S.faults source.old) × (K.faults sink.new ≡ K.faults sink.old) }
     ensures read_fault { result ≡ Status.ReadFault → Rose (S.faults source.old) (S.faults source.new)
         × Takes (S.left source.old) (S.left source.new) (MOST_BYTES) }
@@ -101,7 +101,7 @@ pub(crate) fn deps_answered<S: Source, K: Sink>(
 
     // Without memory nothing is written, and no device failed.
     ensures memory { result ≡ Status.Memory → sink.new ≡ sink.old }
-    ensures calm_memory { result ≡ Status.Memory → S.faults source.new ≡ S.faults source.old }
+    ensures no_fault_memory { result ≡ Status.Memory → S.faults source.new ≡ S.faults source.old }
 {
     match input_of(alloc, Request::Judge(Command::Deps), source) {
         Ok(bytes) => input_listed(alloc, bytes, sink),

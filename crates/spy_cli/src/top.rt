@@ -10,7 +10,7 @@ ghost use Rattle.spy_args.specs.Asked.{asked};
 ghost use Rattle.spy_cli.specs.declared.status.Status.{Status};
 ghost use Rattle.findings.specs.declared.finding.Finding.TheVariants as findings;
 ghost use Rattle.findings.specs.Texts as reports;
-ghost use Rattle.spy_cli.specs.Answers.{Answers, AnswersLong, AnswersPart, Ends, IsAnswer, IsAnswerLong, IsCalm, IsDecided, IsInput, IsInputCalm, IsRead, Keeps, takes_input};
+ghost use Rattle.spy_cli.specs.Answers.{Answers, AnswersLong, AnswersPart, Ends, IsAnswer, IsAnswerLong, HasNoFault, IsDecided, IsInput, InputHasNoFault, IsRead, Keeps, takes_input};
 
 use crate::answering::{ReportEnd, report_on};
 use crate::listing::{deps_answered, is_deps};
@@ -58,8 +58,8 @@ pub fn run<S: Source, K: Sink>(
     // An input that keeps each rule is answered, if no device fails and memory suffices.
     ensures complete { (request : Request) → asked (map string_bytes words.now.items) ≡ Some request
         → (bytes : List ℕ) → IsInput request (S.left source.old) bytes → Keeps request bytes
-        → IsInputCalm request (S.faults source.old) (S.faults source.new)
-        → IsCalm (K.faults sink.old) (K.faults sink.new) → Ends request result }
+        → InputHasNoFault request (S.faults source.old) (S.faults source.new)
+        → HasNoFault (K.faults sink.old) (K.faults sink.new) → Ends request result }
 
     // What is taken of the source: where nothing is read it is not called; else all, or one byte more than an input may
     // have, unless a call fails or memory runs out before. No call follows one that gave the end or failed, and each has
@@ -78,7 +78,7 @@ pub fn run<S: Source, K: Sink>(
     ensures taken { result ≡ Status.Memory → Takes (S.left source.old) (S.left source.new) (MOST_BYTES + 1) }
 
     // A device that failed says so by its count, and no other answer comes from a failure.
-    ensures calm { IsDecided result ⊎ (result ≡ Status.Usage)
+    ensures no_fault { IsDecided result ⊎ (result ≡ Status.Usage)
         → (S.faults source.new ≡ S.faults source.old) × (K.faults sink.new ≡ K.faults sink.old) }
     ensures read_fault { result ≡ Status.ReadFault
         → (takes_input (asked (map string_bytes words.now.items)) ≡ true)
@@ -107,7 +107,7 @@ pub fn run<S: Source, K: Sink>(
 
     // Without memory nothing is written, and no device failed.
     ensures memory { result ≡ Status.Memory → sink.new ≡ sink.old }
-    ensures calm_memory { result ≡ Status.Memory → S.faults source.new ≡ S.faults source.old }
+    ensures no_fault_memory { result ≡ Status.Memory → S.faults source.new ≡ S.faults source.old }
 {
     let request = match request_in(alloc, words) {
         Ok(Some(request)) => request,

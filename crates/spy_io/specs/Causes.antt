@@ -13,7 +13,7 @@ Rose before now = counted before ≤ now
 -- An error has a fault as its cause: the count never falls, stays at `Ok`, and rose at `Err`.
 pub record HasCause {T E : Type 0} (before now : ℕ) (result : Result T E) : Type 0 where
   pub later : before ≤ now
-  pub calm : OnOk result (now ≡ before)
+  pub no_fault : OnOk result (now ≡ before)
   pub failed : OnErr result (Rose before now)
 
 -- Whether a call gave the end of input, or failed: the one with an answer for a buffer.

@@ -48,9 +48,9 @@ pub fn read_all<S: Source>(alloc: Global, source: &mut S, limit: u64) -> Result<
     // The source failed where the answer says so, and nowhere else.
     ensures later { S.faults source.old ≤ S.faults source.new }
     ensures fault { IsErrOf result ReadEnd.ReadFault → Rose (S.faults source.old) (S.faults source.new) }
-    ensures calm { OnOk result (S.faults source.new ≡ S.faults source.old) }
-    ensures calm_too_long { IsErrOf result ReadEnd.TooLong → S.faults source.new ≡ S.faults source.old }
-    ensures calm_memory { IsErrOf result ReadEnd.Memory → S.faults source.new ≡ S.faults source.old }
+    ensures no_fault { OnOk result (S.faults source.new ≡ S.faults source.old) }
+    ensures no_fault_too_long { IsErrOf result ReadEnd.TooLong → S.faults source.new ≡ S.faults source.old }
+    ensures no_fault_memory { IsErrOf result ReadEnd.Memory → S.faults source.new ≡ S.faults source.old }
 {
     let mut bytes = Vec::new(alloc);
     let mut piece = [0u8; 4096];

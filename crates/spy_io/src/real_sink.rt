@@ -26,7 +26,7 @@ impl<W: Write> RealSink<W> {
     /// What the writer holds is held, and no call has failed.
     pub fn new(inner: W) -> Self
         ensures held { (⟦<RealSink<W> as Sink>⟧).held result ≡ W.contents inner }
-        ensures calm { (⟦<RealSink<W> as Sink>⟧).faults result ≡ 0 }
+        ensures no_fault { (⟦<RealSink<W> as Sink>⟧).faults result ≡ 0 }
         ensures unended { (⟦<RealSink<W> as Sink>⟧).ended result ≡ 0 }
     {
         RealSink {

@@ -27,7 +27,7 @@ impl<R: Read> RealSource<R> {
     /// What the reader has left is left, and no call was made.
     pub fn new(inner: R) -> Self
         ensures left { (⟦<RealSource<R> as Source>⟧).left result ≡ R.remaining inner }
-        ensures calm { (⟦<RealSource<R> as Source>⟧).faults result ≡ 0 }
+        ensures no_fault { (⟦<RealSource<R> as Source>⟧).faults result ≡ 0 }
         ensures unended { (⟦<RealSource<R> as Source>⟧).ended result ≡ 0 }
         ensures roomy { (⟦<RealSource<R> as Source>⟧).idle result ≡ 0 }
     {

@@ -15,7 +15,7 @@ pub fn write_all<K: Sink>(sink: &mut K, bytes: &[u8]) -> Result<(), WriteFault>
     ensures cause { HasCause (K.faults sink.old) (K.faults sink.new) result }
 
     // No call follows one that failed.
-    ensures calm { OnOk result (K.ended sink.old ≡ 0 → K.ended sink.new ≡ 0) }
+    ensures not_ended { OnOk result (K.ended sink.old ≡ 0 → K.ended sink.new ≡ 0) }
     ensures once { K.ended sink.old ≡ 0 → K.ended sink.new ≤ 1 }
 {
     let mut rest = bytes;

@@ -4,10 +4,10 @@
 //! groups of `cell_races`, and notes tasks so that all others are run in serial order. `runs_of` gives the node that runs each item. Begin with `scan.rt`.
 #![tactic(auto)]
 
-mod gathering;
 mod runs;
 mod scan;
+mod task_touches;
 
-pub use gathering::touches_of_tasks;
 pub use runs::runs_of;
 pub use scan::loose_tasks;
+pub use task_touches::touches_of_tasks;

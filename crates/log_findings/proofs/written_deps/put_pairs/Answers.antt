@@ -43,8 +43,8 @@ loop-pair-preserved g c =
           writer.out after.out writer.before writer.turn after.before after.turn c.loop-pair.pair-iterator c.next.new.self
           c.in-Some.pair c.dep_of-dep.result c.loop-pair.invariant.3 c.in-Some.ensures.steps c.dep_of-dep.ensures
           c.in_ok-put.ensures.sent c.in_ok-put.ensures.before c.in_ok-put.ensures.all,
-      c.in_ok-put.ensures.cause.calm ∙ c.loop-pair.invariant.4,
-      λ none. c.in_ok-put.ensures.calm (c.loop-pair.invariant.5 none),
+      c.in_ok-put.ensures.cause.no_fault ∙ c.loop-pair.invariant.4,
+      λ none. c.in_ok-put.ensures.not_ended (c.loop-pair.invariant.5 none),
     )
 
 pub returns-in_err-put-clause-part : goal.returns-in_err-put-clause-part

@@ -16,7 +16,7 @@ returns-in-Ok-clause-ends g c =
     (g.K.Sink.held c.args.sink.now) (g.K.Sink.held c.write_deps.new.sink)
     (g.K.Sink.faults c.args.sink.now) (g.K.Sink.faults c.write_deps.new.sink) tt
     (record { finding = deps_shown (tables_of c.args.records.now.items); holds = found.0; status_is = refl; written = found.1 })
-    c.in-Ok.ensures.calm
+    c.in-Ok.ensures.no_fault
 
 pub returns-in-Err-Fault-clause-ends : goal.returns-in-Err-Fault-clause-ends
 returns-in-Err-Fault-clause-ends g c =

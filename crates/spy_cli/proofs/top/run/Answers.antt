@@ -6,7 +6,7 @@ use Rattle.spy_args.specs.declared.request.Request.{Request}
 use Rattle.spy_args.specs.declared.request.Request.TheVariants.{Judge}
 use Rattle.semantics.specs.declared.command.Command.TheVariants.{Check, Deps}
 use Rattle.spy_args.specs.Asked.{IsSized}
-use Rattle.spy_cli.specs.Answers.{Answers, AnswersPart, Ends, IsAnswer, IsCalm, IsDecided, IsInput, IsInputCalm, Keeps, takes_input}
+use Rattle.spy_cli.specs.Answers.{Answers, AnswersPart, Ends, IsAnswer, HasNoFault, IsDecided, IsInput, InputHasNoFault, Keeps, takes_input}
 use Rattle.spy_cli.proofs.Completing.{ends}
 use Rattle.spy_cli.proofs.Ending.{answers_in_part, answers_told, deps_ends}
 use Rattle.spy_cli.proofs.Reports.{same_answer, same_in_long}
@@ -68,14 +68,14 @@ returns-in-Ok-clause-part g c request asks bytes status text input out fails =
     ]
 
 pub returns-in-Ok-clause-complete : goal.returns-in-Ok-clause-complete
-returns-in-Ok-clause-complete g c request asks bytes input keeps source_calm sink_calm =
+returns-in-Ok-clause-complete g c request asks bytes input keeps source_had_none sink_had_none =
     let r = c.in-Ok.report in
     let both : ◌≡◌ {A = Option Request} (Some c.in-Ok-Some.request) (Some request) =
     sym c.in-Ok-Some.field-0-is ∙ c.in-Ok-Some.ensures.asked ∙ asks in
     let same : c.in-Ok-Some.request ≡ request = cc in
     let own = c.in-Ok.ensures.outcome bytes (subst (λ k. IsInput k (g.S.Source.left c.args.source.now) bytes) (sym same) input) in
     let done = c.written-in-Ok.ensures.done (λ e. absurd
-    (omega (arith, (c.written-in-Ok.ensures.fault e).0, sink_calm.same, sink_calm.room))) in
+    (omega (arith, (c.written-in-Ok.ensures.fault e).0, sink_had_none.same, sink_had_none.room))) in
     subst (Ends request) (sym done.0)
     (ends request bytes r.status r.text.items (subst (λ k. IsAnswer k bytes r.status r.text.items) same own) keeps c.in-Ok.ensures.decided)
 
@@ -131,22 +131,22 @@ returns-then-is_deps-clause-part g c request asks bytes status text input out fa
     ]
 
 pub returns-then-is_deps-clause-complete : goal.returns-then-is_deps-clause-complete
-returns-then-is_deps-clause-complete g c request asks bytes input keeps source_calm sink_calm =
+returns-then-is_deps-clause-complete g c request asks bytes input keeps source_had_none sink_had_none =
     let both : ◌≡◌ {A = Option Request} (Some c.in-Ok-Some.request) (Some request) =
     sym c.in-Ok-Some.field-0-is ∙ c.in-Ok-Some.ensures.asked ∙ asks in
     let same : c.in-Ok-Some.request ≡ request = cc in
     let whole : Judge Deps ≡ request = sym (c.is_deps.ensures c.if-is_deps.true) ∙ same in
     let left = subst (λ k. IsInput k (g.S.Source.left c.args.source.now) bytes) (sym whole) input in
     let keeps_its = subst (λ k. Keeps k bytes) (sym whole) keeps in
-    let calm : IsCalm (g.S.Source.faults c.args.source.now) (g.S.Source.faults c.deps_answered.new.source) =
-    subst (λ k. IsInputCalm k (g.S.Source.faults c.args.source.now) (g.S.Source.faults c.deps_answered.new.source)) (sym whole) source_calm in
+    let no_fault : HasNoFault (g.S.Source.faults c.args.source.now) (g.S.Source.faults c.deps_answered.new.source) =
+    subst (λ k. InputHasNoFault k (g.S.Source.faults c.args.source.now) (g.S.Source.faults c.deps_answered.new.source)) (sym whole) source_had_none in
     subst (λ k. Ends k c.deps_answered.result) whole (deps_ends c.deps_answered.result
     (λ decided.
     let a = answers_told Deps bytes c.deps_answered.result (g.K.Sink.held c.args.sink.now) (g.K.Sink.held c.deps_answered.new.sink)
     (c.deps_answered.ensures.told decided bytes left) in
     ends (Judge Deps) bytes c.deps_answered.result a.text a.answer keeps_its decided)
-    (λ is. let rose = c.deps_answered.ensures.write_fault is in absurd (omega (arith, rose, sink_calm.same, sink_calm.room)))
-    (λ is. let rose = (c.deps_answered.ensures.read_fault is).0 in absurd (omega (arith, rose, calm.same, calm.room)))
+    (λ is. let rose = c.deps_answered.ensures.write_fault is in absurd (omega (arith, rose, sink_had_none.same, sink_had_none.room)))
+    (λ is. let rose = (c.deps_answered.ensures.read_fault is).0 in absurd (omega (arith, rose, no_fault.same, no_fault.room)))
     c.deps_answered.ensures.not_usage)
 
 pub returns-then-is_deps-clause-usage : goal.returns-then-is_deps-clause-usage
@@ -179,6 +179,6 @@ returns-then-is_deps-clause-read_fault g c is =
     let fault = c.deps_answered.ensures.read_fault is in
     (ap takes_input (sym (sym c.in-Ok-Some.field-0-is ∙ c.in-Ok-Some.ensures.asked)) ∙ yes, fault.0, fault.1)
 
-pub returns-then-is_deps-clause-calm : goal.returns-then-is_deps-clause-calm
-returns-then-is_deps-clause-calm g c (inl decided) = c.deps_answered.ensures.calm decided
-returns-then-is_deps-clause-calm g c (inr usage) = absurd (c.deps_answered.ensures.not_usage usage)
+pub returns-then-is_deps-clause-no_fault : goal.returns-then-is_deps-clause-no_fault
+returns-then-is_deps-clause-no_fault g c (inl decided) = c.deps_answered.ensures.no_fault decided
+returns-then-is_deps-clause-no_fault g c (inr usage) = absurd (c.deps_answered.ensures.not_usage usage)

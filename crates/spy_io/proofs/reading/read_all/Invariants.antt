@@ -9,7 +9,7 @@ invariant-loop-piece g l = record {
   most : l.most ≡ l.fn.limit + 1;
   unended : g.S.Source.ended l.fn.source ≡ 0 → g.S.Source.ended l.source ≡ 0;
   roomy : g.S.Source.idle l.source ≡ g.S.Source.idle l.fn.source;
-  calm : g.S.Source.faults l.source ≡ g.S.Source.faults l.fn.source;
+  no_fault : g.S.Source.faults l.source ≡ g.S.Source.faults l.fn.source;
 }
 
 abbrev pub decreases-loop-piece : goal.decreases-loop-piece

@@ -2,7 +2,7 @@ use Rattle.std.proofs.Common.{◌∙◌, ◌++◌, ◌∷◌, [], sym, ap, subst
 use Rattle.std.proofs.lemmas.List.{take_more}
 use Rattle.turn_scan.specs.Gathered.{AreDoneBy}
 use Rattle.turn_scan.proofs.Adding.{done_more}
-use Rattle.turn_scan.proofs.gathering.touches_at_points.Goals as goal
+use Rattle.turn_scan.proofs.task_touches.touches_at_points.Goals as goal
 
 pub loop-req-preserved : goal.loop-req-preserved
 loop-req-preserved g c =

@@ -1,5 +1,5 @@
 use Rattle.turn_scan.proofs.Adding.{done_still}
-use Rattle.turn_scan.proofs.gathering.touches_of_tasks.Goals as goal
+use Rattle.turn_scan.proofs.task_touches.touches_of_tasks.Goals as goal
 
 pub returns-clause-touches : goal.returns-clause-touches
 returns-clause-touches g c = record {

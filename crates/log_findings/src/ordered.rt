@@ -10,9 +10,9 @@ ghost use Rattle.log_findings.specs.Findings.{IsFoundOf};
 ghost use Rattle.log_findings.specs.Sorted.{AreSorted, IsUnsorted};
 
 use crate::items::{ids_by_serial, task_count};
+use crate::node_order::{Sorting, Unsorted, sorting_of};
 use crate::reports::{cycle_found, fault_found, ordered_found, unordered_found};
 use crate::serial::serial_fault;
-use crate::sorting::{Sorting, Unsorted, sorting_of};
 use findings::Finding;
 use logs::Log;
 use memory::Memory;

@@ -4,7 +4,7 @@ use Rattle.cell_races.specs.declared.touches.Touch.{Touch}
 use Rattle.turn_scan.specs.Gathered.{touches_over}
 use Rattle.turn_scan.proofs.Adding.{adds_over}
 use Rattle.turn_scan.proofs.Turned.{adds_done}
-use Rattle.turn_scan.proofs.gathering.push_task.Goals as goal
+use Rattle.turn_scan.proofs.task_touches.push_task.Goals as goal
 
 pub returns-in_ok-push_points : goal.returns-in_ok-push_points
 returns-in_ok-push_points g c =

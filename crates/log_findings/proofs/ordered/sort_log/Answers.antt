@@ -2,7 +2,7 @@ use Rattle.std.proofs.Common.{◌<◌, ◌^◌, List, length, sym, subst}
 use Rattle.vocabulary.specs.Prelude.{LogNode, AreLinked, graph_of}
 use Rattle.log_laws.proofs.lemmas.Laws.{faultless_linked}
 use Rattle.log_findings.proofs.lemmas.Ends.{few_declared_nodes, linked_in}
-use Rattle.log_findings.proofs.ordering.sort_log.Goals as goal
+use Rattle.log_findings.proofs.ordered.sort_log.Goals as goal
 
 pub sorting_of-requires-clause-few : goal.sorting_of-requires-clause-few
 sorting_of-requires-clause-few g c =

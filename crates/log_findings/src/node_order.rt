@@ -31,7 +31,7 @@ pub enum Unsorted {
 
 impl From<Memory> for Unsorted {
     ghost use Rattle.std.specs.Prelude.{◌≡◌};
-    ghost use Rattle.log_findings.specs.declared.sorting.Unsorted.TheVariants.{Memory};
+    ghost use Rattle.log_findings.specs.declared.node_order.Unsorted.TheVariants.{Memory};
 
     ghost from_gives = { λ _ e. e ≡ Memory };
 

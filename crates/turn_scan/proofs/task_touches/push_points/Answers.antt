@@ -1,7 +1,7 @@
 use Rattle.std.proofs.Common.{ℕ, List, ◌++◌, ap, ◌∙◌}
 use Rattle.turn_scan.specs.Gathered.{touches_over}
 use Rattle.turn_scan.proofs.Adding.{over_more}
-use Rattle.turn_scan.proofs.gathering.push_points.Goals as goal
+use Rattle.turn_scan.proofs.task_touches.push_points.Goals as goal
 
 pub loop-point-init : goal.loop-point-init
 loop-point-init g c =

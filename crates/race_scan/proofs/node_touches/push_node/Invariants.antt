@@ -1,7 +1,7 @@
 use Rattle.std.proofs.Common.{◌≡◌, ◌++◌, flat_map}
 use Rattle.cell_races.specs.Touches.{touches_of}
 use Rattle.race_scan.specs.Gathered.{node_touches}
-use Rattle.race_scan.proofs.gathering.push_node.Given as goal
+use Rattle.race_scan.proofs.node_touches.push_node.Given as goal
 
 abbrev pub invariant-loop-step : goal.invariant-loop-step
 invariant-loop-step g l =

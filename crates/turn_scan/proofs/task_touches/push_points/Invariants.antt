@@ -1,6 +1,6 @@
 use Rattle.std.proofs.Common.{◌≡◌, ◌++◌}
 use Rattle.turn_scan.specs.Gathered.{touches_over}
-use Rattle.turn_scan.proofs.gathering.push_points.Given as goal
+use Rattle.turn_scan.proofs.task_touches.push_points.Given as goal
 
 abbrev pub invariant-loop-point : goal.invariant-loop-point
 invariant-loop-point g l =
