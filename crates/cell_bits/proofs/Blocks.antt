@@ -90,7 +90,7 @@ column_more rows left k low high n old now new le so step = (forth, back)
 -- ---- Spans between two numbers.
 
 -- A greater number is in no earlier span.
-in_order : (ns : List ℕ) (k m x y : ℕ) → IsStrictlyIncreasing ns → IsInSpan ns k x → IsInSpan ns m y → x ≤ y → k ≤ m
+pub in_order : (ns : List ℕ) (k m x y : ℕ) → IsStrictlyIncreasing ns → IsInSpan ns k x → IsInSpan ns m y → x ≤ y → k ≤ m
 in_order ns k m x y up here there le = elim (cases_lt m k) [
   | inl less ↦ absurd (let s = spread ns (m + 1) k up (omega (arith, less)) (let h = here.0 in omega (arith, h)) in
       let at = here.1 in let end = there.2 in omega (arith, s, at, end, le))

@@ -6,6 +6,7 @@ use Rattle.point_set.specs.declared.rect.Rect.{Rect}
 use Rattle.point_set.specs.Rects.{Has, Holds}
 use Rattle.grid.specs.Cuts.{Cuts, IsInSpan, span_count}
 use Rattle.cell_bits.specs.declared.cells.CellBits.{CellBits}
+use Rattle.cell_bits.specs.declared.cells.TheConstants.{MOST_CELLS}
 
 -- Whether a bit is set in words of 64.
 unfoldable pub has_bit : List ℕ → ℕ → Bool
@@ -31,6 +32,19 @@ TouchesRect grid r n = (p : ℕ) × IsInCell grid n p × Holds r (p / 2 ^ 32) (p
 abbrev pub TouchesSome : Cuts → List Rect → ℕ → ℕ → Type 0
 TouchesSome grid rects i n =
     (p : ℕ) × IsInCell grid n p × (h : Has rects (p / 2 ^ 32) (p % 2 ^ 32)) × (h.place < i)
+
+-- A rectangle has points, and its ends lie in columns and rows of the grid.
+pub record IsOnGrid (grid : Cuts) (r : Rect) : Type 0 where
+  pub wide : r.x0 ≤ r.x1
+  pub tall : r.y0 ≤ r.y1
+  pub left : (k : ℕ) × IsInSpan grid.xs k r.x0
+  pub right : (k : ℕ) × IsInSpan grid.xs k r.x1
+  pub low : (l : ℕ) × IsInSpan grid.ys l r.y0
+  pub high : (l : ℕ) × IsInSpan grid.ys l r.y1
+
+-- The grid has no more cells than bits are kept for.
+abbrev pub HasFew : Cuts → Type 0
+HasFew grid = span_count grid.xs * span_count grid.ys ≤ MOST_CELLS
 
 -- The number is that of a cell from one column up to another, and from one row to another.
 pub record IsInBlock (rows left end low high n : ℕ) : Type 0 where

@@ -1,10 +1,10 @@
 //! The cells of a grid that some points touch.
 
-ghost use Rattle.std.specs.Prelude.{◌≡◌, ◌<◌, ◌≤◌, ◌*◌, ◌+◌, ◌^◌, ◌↔◌, ◌⊎◌, ⊤, ℕ, false, true, length, List, MatchOption, IfOk};
+ghost use Rattle.std.specs.Prelude.{◌≡◌, ◌<◌, ◌≤◌, ◌*◌, ◌+◌, ◌^◌, ◌↔◌, ◌⊎◌, ⊤, ℕ, false, true, length, All, List, MatchOption, None, IfOk};
 ghost use Rattle.point_set.specs.declared.rect.Rect.{Rect};
 ghost use Rattle.point_set.specs.Rects.{AreSmall, rect_points};
 ghost use Rattle.grid.specs.Cuts.{grid_of, span_count};
-ghost use Rattle.cell_bits.specs.Bits.{AreBitsOf, HasAll, HasNone, IsInBlock, TouchesRect, TouchesSome, has_bit};
+ghost use Rattle.cell_bits.specs.Bits.{AreBitsOf, HasAll, HasFew, HasNone, IsInBlock, IsOnGrid, TouchesRect, TouchesSome, has_bit};
 
 use crate::words::{are_within, have_common, set_between};
 use grid::Grid;
@@ -12,7 +12,7 @@ use point_set::Rect;
 use std::alloc::{AllocError, Global};
 
 /// How many cells a grid has at most for which bits are kept.
-const MOST_CELLS: u128 = 1_048_576;
+pub const MOST_CELLS: u128 = 1_048_576;
 
 /// Which cells of a grid some points touch, a bit for each cell, column by column.
 #[derive(Drop)]
@@ -36,13 +36,14 @@ fn set_block(words: &mut [u64], rows: usize, left: usize, end: usize, low: usize
     }
 }
 
-/// Sets the bits of the cells that a rectangle touches. It answers `false` where the rectangle has no point, or an end of it is in no cell.
+/// Sets the bits of the cells that a rectangle touches. It answers `false` only where the rectangle has no point, or an end of it is in no cell.
 fn set_rect(words: &mut [u64], grid: &Grid, rect: Rect) -> bool
     requires within { span_count grid.now.xs * span_count grid.now.ys ≤ 64 * length words.old }
     requires few { span_count grid.now.xs * span_count grid.now.ys < 2 ^ 32 }
     ensures words { length words.new ≡ length words.old }
     ensures bits { result ≡ true → (all : List Rect) → grid.now ≡ grid_of all → (n : ℕ)
         → (has_bit words.new n ≡ true) ↔ ((has_bit words.old n ≡ true) ⊎ TouchesRect grid.now rect n) }
+    ensures off { result ≡ false → (all : List Rect) → grid.now ≡ grid_of all → IsOnGrid grid.now rect → ⊥ }
 {
     let (Some(left), Some(right)) = (grid.column_of(rect.x0), grid.column_of(rect.x1)) else {
         return false;
@@ -57,7 +58,7 @@ fn set_rect(words: &mut [u64], grid: &Grid, rect: Rect) -> bool
     true
 }
 
-/// Sets the bits of the cells that some rectangles touch, or answers `false`.
+/// Sets the bits of the cells that some rectangles touch. It answers `false` only where one of them has no point, or an end in no cell.
 fn set_rects(words: &mut [u64], grid: &Grid, rects: &[Rect]) -> bool
     requires within { span_count grid.now.xs * span_count grid.now.ys ≤ 64 * length words.old }
     requires few { span_count grid.now.xs * span_count grid.now.ys < 2 ^ 32 }
@@ -65,6 +66,8 @@ fn set_rects(words: &mut [u64], grid: &Grid, rects: &[Rect]) -> bool
     ensures bits { result ≡ true → (all : List Rect) → grid.now ≡ grid_of all → (n : ℕ)
         → (has_bit words.new n ≡ true)
         ↔ ((has_bit words.old n ≡ true) ⊎ TouchesSome grid.now rects.now (length rects.now) n) }
+    ensures off { result ≡ false → (all : List Rect) → grid.now ≡ grid_of all
+        → All (IsOnGrid grid.now) rects.now → ⊥ }
 {
     for i in 0..rects.len() {
         if !set_rect(words, grid, rects[i]) {
@@ -75,10 +78,12 @@ fn set_rects(words: &mut [u64], grid: &Grid, rects: &[Rect]) -> bool
 }
 
 impl CellBits {
-    /// The cells that some rectangles touch. There are none for a grid of too many cells, or where a rectangle goes beyond the grid.
+    /// The cells that some rectangles touch. It answers `None` only for a grid of more than `MOST_CELLS` cells, or where a rectangle has no point or goes beyond the grid.
     pub fn of(alloc: Global, grid: &Grid, rects: &[Rect]) -> Result<Option<CellBits>, AllocError>
-        ensures { IfOk result (λ found. (all : List Rect) → grid.now ≡ grid_of all → AreSmall rects.now
+        ensures bits { IfOk result (λ found. (all : List Rect) → grid.now ≡ grid_of all → AreSmall rects.now
             → MatchOption found ⊤ (λ bits. AreBitsOf grid.now (rect_points rects.now) bits)) }
+        ensures none { IfOk result (λ found. (all : List Rect) → grid.now ≡ grid_of all → found ≡ None
+            → HasFew grid.now → All (IsOnGrid grid.now) rects.now → ⊥) }
     {
         let cells = grid.columns() as u128 * grid.rows() as u128;
         if cells > MOST_CELLS {

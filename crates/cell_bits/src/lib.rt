@@ -8,4 +8,4 @@
 mod cells;
 mod words;
 
-pub use cells::CellBits;
+pub use cells::{CellBits, MOST_CELLS};

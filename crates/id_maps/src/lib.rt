@@ -1,6 +1,7 @@
-//! Values by ids, which are mostly small numbers.
+//! Values by ids, which are mostly small numbers, and sets of ids.
 //!
-//! `IdMap` is asked and told like a hash map. What stands at an id is `entry_at` of `specs/Entries.antt`.
+//! `IdMap` is asked and told like a hash map, and `IdSet` like a set. What stands at an id is `entry_at` of
+//! `specs/Entries.antt`, and whether one is in a set `has_id` of `specs/Sets.antt`. Begin with `IdMap`.
 #![tactic(auto)]
 
 ghost use Rattle.std.specs.Prelude.{◌≡◌, ℕ, ◌==◌, ◌≤◌, cond, length, slice_get, Some, None, OnOk, OnErr};
@@ -8,6 +9,10 @@ ghost use Rattle.id_maps.specs.Entries.{entry_at, held};
 
 use std::alloc::{AllocError, Global};
 use std::collections::HashMap;
+
+mod sets;
+
+pub use sets::IdSet;
 
 /// The ids below this one have a place in a table, and the others are hashed.
 const TABLE_END: usize = 1_048_576;

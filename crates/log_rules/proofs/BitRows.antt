@@ -1,5 +1,5 @@
 -- Spaces are held against each other by the bits of their cells.
-use Rattle.std.proofs.Common.{◌≡◌, ◌↔◌, ℕ, ◌+◌, ◌*◌, ◌==◌, Bool, true, false, ◌||◌, cond, List, [], ◌∷◌, ◌++◌, All, Contains, find, get_or, Option, Some, None, MatchOption, refl, sym, ap, ◌∙◌, subst, inl, inr}
+use Rattle.std.proofs.Common.{◌≡◌, ◌↔◌, ℕ, ◌+◌, ◌*◌, ◌==◌, Bool, true, false, ◌||◌, cond, List, [], ◌∷◌, ◌++◌, All, Contains, find, get_or, Option, Some, None, MatchOption, refl, sym, ap, ◌∙◌, subst, inl, inr, arith}
 use Rattle.std.specs.Prelude.{⊤, option_map}
 use Rattle.std.specs.List.{list_any}
 use Rattle.std.specs.Option.{option_map_or}
@@ -8,7 +8,7 @@ use Rattle.std.proofs.lemmas.List.Elements.{All-contains, Contains-get_or}
 use Rattle.std.proofs.lemmas.List.Folds.{Any-from_list_any, list_any-from_Any}
 use Rattle.std.proofs.lemmas.Option.{none-some, same_Some}
 use Rattle.point_set.specs.declared.rect.Rect.{Rect}
-use Rattle.point_set.specs.Rects.{rect_points}
+use Rattle.point_set.specs.Rects.{AreSmall, rect_points}
 use Rattle.grid.specs.Cuts.{Cuts, IsInSpan, grid_of, span_count}
 use Rattle.cell_bits.specs.declared.cells.CellBits.{CellBits}
 use Rattle.cell_bits.specs.Bits.{AreBitsOf, HasAll, HasNone, IsInCell, has_cell}
@@ -17,6 +17,7 @@ use Rattle.vocabulary.specs.Prelude.{Record, Space, Tables, is_in, is_within, me
 use Rattle.spy_grammar.specs.declared.record.Record.TheVariants as records
 use Rattle.semantics.specs.Rules.{is_declared, space_id}
 use Rattle.semantics.proofs.lemmas.InOrder.{points_of_strips}
+use Rattle.log_tables.specs.Views.{Ascends}
 use Rattle.log_tables.proofs.lemmas.Members.{has_in, in_has}
 use Rattle.log_rules.specs.Cells.{AreCells, Cell, HasCells}
 use Rattle.log_rules.specs.Rows.{HasRows, IsNewRow, IsRow, bits_of, space_declared}
@@ -176,6 +177,12 @@ row_new (Some rects) grid t r (Some f) is told = λ line none.
       subst (λ (ps : List ℕ). AreBitsOf (grid_of rects) ps f.1) (sym new.1)
           (subst (λ (g : Cuts). AreBitsOf g (rect_points (rects_in r)) f.1) same facts.1),
     )
+
+-- The rectangles of a record fit.
+pub small_rects : (r : Record) → Ascends r → AreSmall (rects_in r)
+small_rects (records.Ispace id set) up = up.1
+small_rects (records.Plane id quads) up = up.1
+small_rects r up = λ k d lt. absurd (omega (arith, lt))
 
 -- A row more.
 pub rows_more : (all : Option (List Rect)) (t : Tables) (line : ℕ) (r : Record) (old new : CellRows) (id : ℕ) (bits : CellBits)

@@ -1,9 +1,9 @@
 -- Numbers that stand twice in a list.
-use Rattle.std.proofs.Common.{◌≡◌, ℕ, ◌+◌, ◌<◌, ◌==◌, Bool, true, false, not, ◌||◌, cond, List, [], ◌∷◌, ◌++◌, take, drop, take-append-drop, length, get_or, refl, sym, ap, ◌∙◌, inl, inr}
+use Rattle.std.proofs.Common.{◌≡◌, ℕ, ◌+◌, ◌<◌, ◌==◌, Bool, true, false, not, ◌||◌, List, [], ◌∷◌, ◌++◌, take, drop, take-append-drop, length, get_or, refl, sym, ap, ◌∙◌, inl, inr}
 use Rattle.std.proofs.lemmas.Bool.{cases_Bool, false≢true, or_right}
 use Rattle.std.proofs.lemmas.List.{take_more}
 use Rattle.std.proofs.lemmas.List.Folds.{list_any-append, list_any_more}
-use Rattle.std.proofs.Math.Bool.{or-false, not-not}
+use Rattle.std.proofs.Math.Bool.{not-not}
 use Rattle.vocabulary.specs.Prelude.{is_in}
 use Rattle.semantics.specs.Rules.{has_repeat}
 use Rattle.log_rules.specs.Listing.{IsSetOf}
@@ -49,13 +49,6 @@ has_repeat_kept ids i h = ap has_repeat (sym (take-append-drop i ids)) ∙ has_r
 
 -- The set with one number more.
 pub IsSetOf_more : (ids : List ℕ) (i : ℕ) (old new : ℕ → Bool) → i < length ids → IsSetOf (take i ids) old
-    → ((n : ℕ) → new n ≡ cond (get_or ids i 0 == n) true (old n)) → IsSetOf (take (i + 1) ids) new
+    → ((n : ℕ) → new n ≡ (old n || (get_or ids i 0 == n))) → IsSetOf (take (i + 1) ids) new
 IsSetOf_more ids i old new lt is puts n =
-    puts n
-    ∙ elim (cases_Bool (get_or ids i 0 == n)) [
-      | inl same ↦ ap (λ b. cond b true (old n)) same
-          ∙ sym (ap (λ b. is_in (take i ids) n || b) same ∙ or_right (is_in (take i ids) n) true refl)
-      | inr other ↦ ap (λ b. cond b true (old n)) other ∙ is n
-          ∙ sym (ap (λ b. is_in (take i ids) n || b) other ∙ or-false (is_in (take i ids) n))
-    ]
-    ∙ sym (list_any_more (λ m. m == n) ids i 0 lt)
+    puts n ∙ ap (λ b. b || (get_or ids i 0 == n)) (is n) ∙ sym (list_any_more (λ m. m == n) ids i 0 lt)

@@ -1,6 +1,7 @@
 -- Records that list items in serial order.
-use Rattle.std.specs.Prelude.{◌≡◌, ℕ, ◌+◌, ◌==◌, nat_eq, Bool, true, false, not, ◌&&◌, ◌||◌, List, [], Option, MatchOption, unwrap_or}
-use Rattle.std.specs.HashSet.{HashSet, contains}
+use Rattle.std.specs.Prelude.{◌≡◌, ℕ, ◌+◌, ◌==◌, Bool, true, false, not, ◌&&◌, ◌||◌, List, [], Option, MatchOption, unwrap_or}
+use Rattle.id_maps.specs.Sets.{has_id}
+use Rattle.id_maps.specs.declared.sets.IdSet.{IdSet}
 use Rattle.std.specs.List.{list_any, list_all}
 use Rattle.vocabulary.specs.Prelude.{Record, is_in}
 use Rattle.semantics.specs.Rules.{has_repeat, items_declared, items_listed}
@@ -28,8 +29,7 @@ lists_badly log before listed ids =
     has_repeat ids || list_any listed ids
     || ((list_count log == before + 1) && not (list_all (is_listed listed (is_in ids)) log))
 
-module _ {S : Type 0} where
-  -- The numbers of a list as a set, or none where one of them stands there twice.
-  abbrev pub TellsRepeat : List ℕ → Option (HashSet ℕ S) → Type 0
-  TellsRepeat ids found = MatchOption found (has_repeat ids ≡ true) (λ set. (has_repeat ids ≡ false)
-      × IsSetOf ids (contains nat_eq set))
+-- The numbers of a list as a set, or none where one of them stands there twice.
+abbrev pub TellsRepeat : List ℕ → Option IdSet → Type 0
+TellsRepeat ids found = MatchOption found (has_repeat ids ≡ true) (λ set. (has_repeat ids ≡ false)
+    × IsSetOf ids (has_id set))

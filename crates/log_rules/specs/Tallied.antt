@@ -1,7 +1,7 @@
 -- What is kept count of along a log.
-use Rattle.std.specs.Prelude.{◌≡◌, ◌<◌, ◌≤◌, ◌+◌, ◌-◌, ◌^◌, ◌&&◌, ℕ, nat_eq, length, Bool, true, false, List, [], Contains, Option, MatchOption, ⊤, option_map, unwrap_or}
+use Rattle.std.specs.Prelude.{◌≡◌, ◌<◌, ◌≤◌, ◌+◌, ◌-◌, ◌^◌, ◌&&◌, ℕ, length, Bool, true, false, List, [], Contains, Option, MatchOption, ⊤, option_map, unwrap_or}
 use Rattle.std.specs.Borrow.{Bor}
-use Rattle.std.specs.HashSet.{contains}
+use Rattle.id_maps.specs.Sets.{has_id}
 use Rattle.std.specs.List.{list_all}
 use Rattle.std.specs.Option.{option_map_or}
 use Rattle.grid.specs.Cuts.{grid_of}
@@ -61,7 +61,7 @@ IfKept t tally P = (all : Option (List Rect)) → AreKept all t tally → P
 -- The tally is that of these records, whose tables these are. In a log of the second version all its rectangles are given.
 pub record IsTally (all : Option (List Rect)) (earlier : List Record) (t : Tables) (tally : Tally) : Type 0 where
   pub counts : is_planar t ≡ false → AreCounts earlier t tally
-  pub lists : IsSetOf (listed t) (contains nat_eq tally.listed)
+  pub lists : IsSetOf (listed t) (has_id tally.listed)
   pub known : AreKnown earlier t
   pub kept : AreKept all t tally
 

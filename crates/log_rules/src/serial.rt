@@ -1,7 +1,7 @@
 //! The serial order that a log lists.
 
 ghost use Rattle.std.specs.Prelude.{◌≡◌, ◌+◌, ◌==◌, nat_eq, IfOk, OnOk};
-ghost use Rattle.std.specs.HashSet.{contains};
+ghost use Rattle.id_maps.specs.Sets.{has_id};
 ghost use Rattle.std.specs.List.{list_any, list_all};
 ghost use Rattle.vocabulary.specs.Prelude.{records_of};
 ghost use Rattle.semantics.specs.Rules.{is_bad_serial};
@@ -10,17 +10,17 @@ ghost use Rattle.log_rules.specs.Listing.{AddsAll, TellsRepeat, is_listed, lists
 
 use crate::tally::Tally;
 use crate::whole_log::WholeLog;
+use id_maps::IdSet;
 use log_tables::Draft;
 use point_set::PointSet;
 use spy_grammar::{Lined, Record};
 use std::alloc::{AllocError, Global};
-use std::collections::HashSet;
 
 /// The numbers of a list as a set, or `None` where one of them stands there twice.
-fn distinct(alloc: Global, ids: &[u32]) -> Result<Option<HashSet<u32>>, AllocError>
+fn distinct(alloc: Global, ids: &[u32]) -> Result<Option<IdSet>, AllocError>
     ensures { IfOk result (TellsRepeat ids.now) }
 {
-    let mut seen = HashSet::new(alloc);
+    let mut seen = IdSet::new(alloc);
     for id in ids {
         if !seen.insert(*id)? {
             return Ok(None);
@@ -30,8 +30,8 @@ fn distinct(alloc: Global, ids: &[u32]) -> Result<Option<HashSet<u32>>, AllocErr
 }
 
 /// Notes more numbers.
-pub(crate) fn note_all(set: &mut HashSet<u32>, ids: &[u32]) -> Result<(), AllocError>
-    ensures { OnOk result (AddsAll (contains nat_eq set.old) (contains nat_eq set.new) ids.now) }
+pub(crate) fn note_all(set: &mut IdSet, ids: &[u32]) -> Result<(), AllocError>
+    ensures { OnOk result (AddsAll (has_id set.old) (has_id set.new) ids.now) }
 {
     for id in ids {
         set.insert(*id)?;
@@ -40,25 +40,25 @@ pub(crate) fn note_all(set: &mut HashSet<u32>, ids: &[u32]) -> Result<(), AllocE
 }
 
 /// Whether some number is in a set.
-fn finds_any(set: &HashSet<u32>, ids: &[u32]) -> bool
-    ensures { result ≡ list_any (contains nat_eq set.now) ids.now }
+fn finds_any(set: &IdSet, ids: &[u32]) -> bool
+    ensures { result ≡ list_any (has_id set.now) ids.now }
 {
-    ids.iter().any(|id| set.contains(id))
+    ids.iter().any(|id| set.contains(*id))
 }
 
 /// Whether the item that a record declares, if it declares one, is in one of two sets.
-fn is_listed(rec: &Record, listed: &HashSet<u32>, here: &HashSet<u32>) -> bool
-    ensures { result ≡ is_listed (contains nat_eq listed.now) (contains nat_eq here.now) rec.now }
+fn is_listed(rec: &Record, listed: &IdSet, here: &IdSet) -> bool
+    ensures { result ≡ is_listed (has_id listed.now) (has_id here.now) rec.now }
 {
     match rec {
-        Record::Task { id } | Record::Fill { id, .. } => listed.contains(id) || here.contains(id),
+        Record::Task { id } | Record::Fill { id, .. } => listed.contains(*id) || here.contains(*id),
         _ => true,
     }
 }
 
 /// Whether each item of a log is in one of two sets.
-fn are_listed(log: &[Lined], listed: &HashSet<u32>, here: &HashSet<u32>) -> bool
-    ensures { result ≡ list_all (is_listed (contains nat_eq listed.now) (contains nat_eq here.now))
+fn are_listed(log: &[Lined], listed: &IdSet, here: &IdSet) -> bool
+    ensures { result ≡ list_all (is_listed (has_id listed.now) (has_id here.now))
         (records_of log.now) }
 {
     for l in log {
@@ -81,10 +81,10 @@ fn lists_badly(
     alloc: Global,
     whole: &WholeLog,
     before: usize,
-    listed: &HashSet<u32>,
+    listed: &IdSet,
     ids: &[u32],
 ) -> Result<bool, AllocError>
-    ensures { IfOk result (λ bad. bad ≡ lists_badly whole.now before (contains nat_eq listed.now) ids.now) }
+    ensures { IfOk result (λ bad. bad ≡ lists_badly whole.now before (has_id listed.now) ids.now) }
 {
     let here = match distinct(alloc, ids)? {
         Some(here) => here,

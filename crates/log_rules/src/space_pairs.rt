@@ -74,7 +74,7 @@ fn meet_by_sets<P: PointSet>(draft: &Draft<P>, ours: u32, theirs: u32) -> bool
     }
 }
 
-/// What is known of pairs of spaces beside their sets: the cells of large spaces as bits, and what was found of pairs before. So a pair of large spaces is held against each other word by word, and no pair of which an answer was noted by its sets again.
+/// What is known of pairs of spaces beside their sets: the cells of large spaces as bits, and what was found of pairs before. So a pair of large spaces is held against each other word by word, and no pair of which an answer was noted is held against each other again.
 #[derive(Drop)]
 pub(crate) struct SpacePairs {
     rows: CellRows,
@@ -119,10 +119,10 @@ impl SpacePairs {
         if ours == theirs {
             return true;
         }
-        if let Some(answer) = self.rows.within(ours, theirs) {
+        if let Some(answer) = self.within.get(ours, theirs) {
             return answer;
         }
-        match self.within.get(ours, theirs) {
+        match self.rows.within(ours, theirs) {
             Some(answer) => answer,
             None => is_within_by_sets(draft, ours, theirs),
         }
@@ -133,10 +133,10 @@ impl SpacePairs {
         ensures { (all : Option (List Rect)) → HasCells all draft.now → HasPairs all draft.now self.now
             → result ≡ meets (points_in draft.now ours) (points_in draft.now theirs) }
     {
-        if let Some(answer) = self.rows.meets(ours, theirs) {
+        if let Some(answer) = self.meeting.get(ours, theirs) {
             return answer;
         }
-        match self.meeting.get(ours, theirs) {
+        match self.rows.meets(ours, theirs) {
             Some(answer) => answer,
             None => meet_by_sets(draft, ours, theirs),
         }
@@ -149,13 +149,13 @@ impl SpacePairs {
         ours: u32,
         theirs: u32,
     ) -> Result<(), AllocError>
-        ensures { OnOk result ((all : Option (List Rect)) → HasPairs all draft.now self.old
-            → HasPairs all draft.now self.new) }
+        ensures { OnOk result ((all : Option (List Rect)) → HasCells all draft.now
+            → HasPairs all draft.now self.old → HasPairs all draft.now self.new) }
     {
-        if self.rows.within(ours, theirs).is_some() || self.within.get(ours, theirs).is_some() {
+        if self.within.get(ours, theirs).is_some() {
             return Ok(());
         }
-        let answer = is_within_by_sets(draft, ours, theirs);
+        let answer = self.within(draft, ours, theirs);
         self.within.note(draft, ours, theirs, answer)?;
         Ok(())
     }
@@ -167,13 +167,13 @@ impl SpacePairs {
         ours: u32,
         theirs: u32,
     ) -> Result<(), AllocError>
-        ensures { OnOk result ((all : Option (List Rect)) → HasPairs all draft.now self.old
-            → HasPairs all draft.now self.new) }
+        ensures { OnOk result ((all : Option (List Rect)) → HasCells all draft.now
+            → HasPairs all draft.now self.old → HasPairs all draft.now self.new) }
     {
-        if self.rows.meets(ours, theirs).is_some() || self.meeting.get(ours, theirs).is_some() {
+        if self.meeting.get(ours, theirs).is_some() {
             return Ok(());
         }
-        let answer = meet_by_sets(draft, ours, theirs);
+        let answer = self.meet(draft, ours, theirs);
         self.meeting.note(draft, ours, theirs, answer)?;
         Ok(())
     }

@@ -1,7 +1,7 @@
 //! What is kept count of along a log, and the limits on it.
 
 ghost use Rattle.std.specs.Prelude.{◌≡◌, ◌≤◌, nat_eq, ℕ, List, [], ◌++◌, ◌∷◌, false, true, Option, option_map, IfOk, OnOk};
-ghost use Rattle.std.specs.HashSet.{contains};
+ghost use Rattle.id_maps.specs.Sets.{has_id};
 ghost use Rattle.point_set.specs.declared.rect.Rect.{Rect};
 ghost use Rattle.grid.specs.Corners.{cell_count};
 ghost use Rattle.grid.specs.Cuts.{grid_of};
@@ -22,6 +22,7 @@ use crate::names::named_req;
 use crate::serial::note_all;
 use crate::space_pairs::SpacePairs;
 use grid::Grid;
+use id_maps::IdSet;
 use log_limits::{Corners, access_total, cell_total, exceeds, raised};
 use log_tables::{Draft, priv_of};
 use memory::Memory;
@@ -29,7 +30,6 @@ use point_set::PointSet;
 use semantics::{MOST_ACCESSES, MOST_ATOMS, MOST_CELLS, MOST_POINTS};
 use spy_grammar::{Lined, Record};
 use std::alloc::{AllocError, Global};
-use std::collections::HashSet;
 
 /// What the records so far add up to: their points, cells and accesses, the items that they list in serial order, what is known of pairs of spaces, and the places that the requirements of each task claim, but for its first. Once they ask for too many places none is claimed.
 #[derive(Drop)]
@@ -37,7 +37,7 @@ pub struct Tally {
     pub(crate) points: u128,
     pub(crate) cells: u128,
     pub(crate) accesses: u128,
-    pub(crate) listed: HashSet<u32>,
+    pub(crate) listed: IdSet,
     pub(crate) places: ClaimPoints,
     pub(crate) pairs: SpacePairs,
     pub(crate) claimed: u128,
@@ -45,8 +45,8 @@ pub struct Tally {
 }
 
 /// Notes the items that a record lists.
-fn note_listed(listed: &mut HashSet<u32>, rec: &Record) -> Result<(), AllocError>
-    ensures { OnOk result (AddsAll (contains nat_eq listed.old) (contains nat_eq listed.new)
+fn note_listed(listed: &mut IdSet, rec: &Record) -> Result<(), AllocError>
+    ensures { OnOk result (AddsAll (has_id listed.old) (has_id listed.new)
         (ids_listed rec.now)) }
 {
     match rec {
@@ -124,7 +124,7 @@ impl Tally {
             points: 0,
             cells: 0,
             accesses: 0,
-            listed: HashSet::new(alloc),
+            listed: IdSet::new(alloc),
             places: ClaimPoints::new(alloc, grid),
             pairs: SpacePairs::new(alloc),
             claimed: 0,

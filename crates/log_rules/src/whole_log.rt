@@ -1,30 +1,30 @@
 //! What some rules ask of a log as a whole.
 
 ghost use Rattle.std.specs.Prelude.{◌≡◌, nat_eq, IfOk};
-ghost use Rattle.std.specs.HashSet.{contains};
+ghost use Rattle.id_maps.specs.Sets.{has_id};
 ghost use Rattle.std.specs.List.{list_any, list_all};
 ghost use Rattle.std.specs.Option.{is_some};
 ghost use Rattle.log_rules.specs.Gathered.{AreCompleted, AreRun, done_of, waits_of, task_run, list_count};
 ghost use Rattle.vocabulary.specs.Prelude.{records_of};
 ghost use Rattle.semantics.specs.Rules.{has_no_run, waits_for_none, runs_task, completes, items_listed};
 
+use id_maps::IdSet;
 use spy_grammar::{Lined, Record};
 use std::alloc::{AllocError, Global};
-use std::collections::HashSet;
 use std::marker::Model;
 
 /// A log as a whole, which contracts see as its records. Which tasks are run, and which events are completed, is looked up in constant time.
 #[derive(Drop)]
 pub struct WholeLog<'l> {
     log: &'l [Lined],
-    completed: HashSet<u32>,
-    run: HashSet<u32>,
+    completed: IdSet,
+    run: IdSet,
     lists: usize,
 }
 
 impl<'l> Model for WholeLog<'l> {
     ghost use Rattle.std.specs.Prelude.{List, nat_eq};
-    ghost use Rattle.std.specs.HashSet.{contains};
+    ghost use Rattle.id_maps.specs.Sets.{has_id};
     ghost use Rattle.vocabulary.specs.Prelude.{Record, records_of};
     ghost use Rattle.log_rules.specs.Gathered.{IsGathered};
 
@@ -33,7 +33,7 @@ impl<'l> Model for WholeLog<'l> {
     ghost view = { λ w. records_of w.log.now };
 
     ghost invariant = { λ w. IsGathered (records_of w.log.now)
-        (contains nat_eq w.completed) (contains nat_eq w.run) w.lists };
+        (has_id w.completed) (has_id w.run) w.lists };
 }
 
 /// The completion event of a record.
@@ -87,10 +87,10 @@ fn lists_items(rec: &Record) -> bool
 }
 
 /// The events that the records of a log complete.
-fn completed(alloc: Global, log: &[Lined]) -> Result<HashSet<u32>, AllocError>
-    ensures { IfOk result (λ done. AreCompleted (records_of log.now) (contains nat_eq done)) }
+fn completed(alloc: Global, log: &[Lined]) -> Result<IdSet, AllocError>
+    ensures { IfOk result (λ done. AreCompleted (records_of log.now) (has_id done)) }
 {
-    let mut done = HashSet::new(alloc);
+    let mut done = IdSet::new(alloc);
     for l in log {
         if let Some(event) = done_of(&l.rec) {
             done.insert(event)?;
@@ -100,10 +100,10 @@ fn completed(alloc: Global, log: &[Lined]) -> Result<HashSet<u32>, AllocError>
 }
 
 /// The tasks that the records of a log run.
-fn tasks_run(alloc: Global, log: &[Lined]) -> Result<HashSet<u32>, AllocError>
-    ensures { IfOk result (λ run. AreRun (records_of log.now) (contains nat_eq run)) }
+fn tasks_run(alloc: Global, log: &[Lined]) -> Result<IdSet, AllocError>
+    ensures { IfOk result (λ run. AreRun (records_of log.now) (has_id run)) }
 {
-    let mut run = HashSet::new(alloc);
+    let mut run = IdSet::new(alloc);
     for l in log {
         if let Some(task) = task_run(&l.rec) {
             run.insert(task)?;
@@ -126,10 +126,10 @@ fn list_count(log: &[Lined]) -> usize
 }
 
 /// Whether all events are among these.
-fn are_done(done: &HashSet<u32>, events: &[u32]) -> bool
-    ensures { result ≡ list_all (contains nat_eq done.now) events.now }
+fn are_done(done: &IdSet, events: &[u32]) -> bool
+    ensures { result ≡ list_all (has_id done.now) events.now }
 {
-    events.iter().all(|event| done.contains(event))
+    events.iter().all(|event| done.contains(*event))
 }
 
 impl<'l> WholeLog<'l> {
@@ -166,7 +166,7 @@ impl<'l> WholeLog<'l> {
     fn runs(&self, task: u32) -> bool
         ensures { result ≡ list_any (runs_task task) self.now }
     {
-        self.run.contains(&task)
+        self.run.contains(task)
     }
 
     /// Whether each of some events is completed by a record.

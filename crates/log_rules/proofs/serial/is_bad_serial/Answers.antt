@@ -1,6 +1,6 @@
-use Rattle.std.proofs.Common.{◌∙◌, ap, sym, nat_eq, ℕ, List, length}
+use Rattle.std.proofs.Common.{◌∙◌, ap, sym, ℕ, List, length}
 use Rattle.vocabulary.specs.Prelude.{Serial}
-use Rattle.std.specs.HashSet.{contains}
+use Rattle.id_maps.specs.Sets.{has_id}
 use Rattle.semantics.specs.Rules.{is_bad_serial}
 use Rattle.log_rules.specs.Listing.{lists_badly}
 use Rattle.log_rules.proofs.Listings.{lists_badly-is}
@@ -10,7 +10,7 @@ pub returns-in_ok-bad-in-Serial : goal.returns-in_ok-bad-in-Serial
 returns-in_ok-bad-in-Serial g c = λ all earlier is.
     let log = c.args.whole.now in
     let t = c.args.draft.now in
-    let set = contains nat_eq c.args.tally.now.listed in
+    let set = has_id c.args.tally.now.listed in
     c.in_ok-bad-in-Serial.ensures
     ∙ ap (λ (ids : List ℕ). lists_badly log (length c.serials-before.result.now) set ids) c.as_slice.ensures
     ∙ ap (λ (lists : List Serial). lists_badly log (length lists) set c.in-Serial.items) c.serials-before.ensures

@@ -6,8 +6,8 @@ use Rattle.cell_bits.proofs.BitWords.{no_bits}
 use Rattle.cell_bits.proofs.Blocks.{both_ways, touched_points}
 use Rattle.cell_bits.proofs.cells.CellBits.of.Goals as goal
 
-pub returns : goal.returns
-returns c = λ all is small n.
+pub returns-clause-bits : goal.returns-clause-bits
+returns-clause-bits c = λ all is small n.
     let grid = c.args.grid.now in
     let rects = c.args.rects.now in
     let vec = c.in_ok-words.words in

@@ -2,8 +2,8 @@ use Rattle.vocabulary.specs.Prelude.{meets}
 use Rattle.log_rules.proofs.space_pairs.SpacePairs.note_meeting.Goals as goal
 
 pub returns : goal.returns
-returns g c = λ all has. record {
+returns g c = λ all cells has. record {
   rows = has.rows;
   within = has.within;
-  meeting = c.in_ok-note.ensures meets c.meet_by_sets-answer.ensures has.meeting;
+  meeting = c.in_ok-note.ensures meets (c.meet-answer.ensures all cells has) has.meeting;
 }

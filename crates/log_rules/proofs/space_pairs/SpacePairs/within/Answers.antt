@@ -8,5 +8,5 @@ returns-then-ours-theirs g c = λ all cells has.
     let t = c.args.draft.now in
     within_itself (points_in t c.args.ours) ∙ ap (λ id. is_within (points_in t c.args.ours) (points_in t id)) c.if-ours-theirs.true
 
-pub returns-in-Some-get : goal.returns-in-Some-get
-returns-in-Some-get g c = λ all cells has. c.in-Some-get.ensures is_within c.args.draft.now has.within
+pub returns-in-Some : goal.returns-in-Some
+returns-in-Some g c = λ all cells has. c.in-Some.ensures is_within c.args.draft.now has.within
