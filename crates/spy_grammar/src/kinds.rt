@@ -66,9 +66,33 @@ pub fn name_text(kind: RecordKind) -> &'static [u8]
     }
 }
 
-/// The kind with this first word.
+/// A kind of which a word may be the name, by its first two letters. Only how soon it is found rests on it.
+#[inline]
+fn likely_kind(word: &[u8]) -> RecordKind {
+    match word {
+        [b'i', b's', ..] => Ispace,
+        [b'p', b'a', ..] => Part,
+        [b's', b'u', ..] => Sub,
+        [b'f', b'i', b'e', ..] => Fields,
+        [b't', b'r', ..] => Tree,
+        [b't', b'a', ..] => Task,
+        [b'r', b'e', b'q', ..] => Req,
+        [b'f', b'i', ..] => Fill,
+        [b'i', b'n', ..] => Inst,
+        [b'm', b'a', ..] => Map,
+        [b'r', b'u', ..] => Run,
+        [b'c', b'o', ..] => Copy,
+        [b'p', b'u', ..] => Put,
+        [b'r', b'e', b's', ..] => Reset,
+        [b'f', b'o', ..] => Fold,
+        [b'm', b'e', ..] => Merge,
+        _ => End,
+    }
+}
+
+/// The kind with this first word, found in the table.
 #[tactic(auto, unfolding(crate::specs::Rows::kind_in))]
-pub fn kind_of(word: &[u8]) -> Result<RecordKind, LineFault>
+fn kind_in_table(word: &[u8]) -> Result<RecordKind, LineFault>
     ensures { result ≡ kind_in plain_log word.now }
 {
     let mut rest = KINDS.as_slice();
@@ -79,4 +103,15 @@ pub fn kind_of(word: &[u8]) -> Result<RecordKind, LineFault>
         rest = more;
     }
     Err(LineFault::Word)
+}
+
+/// The kind with this first word.
+pub fn kind_of(word: &[u8]) -> Result<RecordKind, LineFault>
+    ensures { result ≡ kind_in plain_log word.now }
+{
+    let kind = likely_kind(word);
+    if word == name_text(kind) {
+        return Ok(kind);
+    }
+    kind_in_table(word)
 }

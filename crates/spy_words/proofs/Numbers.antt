@@ -26,11 +26,11 @@ digit_at : (w : List ℕ) (i : ℕ) → list_all is_ascii_digit w ≡ true → i
 digit_at w i all lt = digit_of_test (get_or w i 0) _ refl (λ fails. false≢true (sym (list_all_at is_ascii_digit w i 0 lt fails) ∙ all))
 
 -- one more digit, in a value that stops at 2 ^ 32
-pub value_more : (w : List ℕ) (i value b : ℕ) → list_all is_ascii_digit w ≡ true → i < length w → b ≡ get_or w i 0
+pub value_more : (w : List ℕ) (i value : ℕ) → i < length w → is_ascii_digit (get_or w i 0) ≡ true
     → value ≡ min (digits_value 10 (take i w)) (2 ^ 32)
-    → min (value * 10 + (b - 48)) (2 ^ 32) ≡ min (digits_value 10 (take (i + 1) w)) (2 ^ 32)
-value_more w i value b all lt is so_far =
-    let d = digit_at w i all lt in
+    → min (value * 10 + (get_or w i 0 - 48)) (2 ^ 32) ≡ min (digits_value 10 (take (i + 1) w)) (2 ^ 32)
+value_more w i value lt digit so_far =
+    let d = digit_of_test (get_or w i 0) _ refl (λ fails. false≢true (sym fails ∙ digit)) in
     omega (arith, digits_value_more 10 w i lt, digit_value_digit (get_or w i 0) d, d.0, d.1)
 
 -- the words of digits, in std's terms

@@ -1,5 +1,5 @@
 -- What a word of each class says, or its fault.
-use Rattle.std.specs.Prelude.{ℕ, ◌^◌, Bool, true, false, not, ◌||◌, ◌&&◌, ◌==◌, nat_eq, nat_lt, List, [], ◌∷◌, length, drop, slice_index, None, Result, Ok, Err, if◌then◌else◌, codes}
+use Rattle.std.specs.Prelude.{ℕ, ◌^◌, Bool, true, false, not, ◌||◌, ◌&&◌, ◌==◌, ◌≡◌, ◌≢◌, ◌<◌, nat_eq, nat_lt, min, List, [], ◌∷◌, length, drop, slice_index, Option, Some, None, Result, Ok, Err, if◌then◌else◌, codes}
 use Rattle.std.specs.List.{slice_split, list_all, list_any, starts_with}
 use Rattle.std.specs.Str.{bytes_eq}
 use Rattle.std.specs.Char.{is_ascii_digit}
@@ -18,6 +18,11 @@ use Rattle.spy_words.specs.Faults.{both, map_ok, tested, each_after}
 abbrev pub parts : ℕ → List ℕ → List (List ℕ)
 parts c w = slice_split (λ b. b == c) w
 
+-- The first place of a byte in a text, or none.
+abbrev pub IsFirstPlace : ℕ → List ℕ → Option ℕ → Type 0
+IsFirstPlace c w None = (j : ℕ) → j < length w → slice_index w j ≢ c
+IsFirstPlace c w (Some k) = (k < length w) × (slice_index w k ≡ c) × ((j : ℕ) → j < k → slice_index w j ≢ c)
+
 -- Digits, at least one.
 abbrev pub is_digits : List ℕ → Bool
 is_digits w = not (length w == 0) && list_all is_ascii_digit w
@@ -25,6 +30,10 @@ is_digits w = not (length w == 0) && list_all is_ascii_digit w
 -- A zero before further digits.
 abbrev pub has_leading_zero : List ℕ → Bool
 has_leading_zero w = nat_lt 1 (length w) && (slice_index w 0 == 48)
+
+-- The value of digits, or 2 ^ 32 where it is greater, if all bytes are digits.
+abbrev pub capped_value : List ℕ → Option ℕ
+capped_value w = if list_all is_ascii_digit w then Some (min (digits_value 10 w) (2 ^ 32)) else None
 
 -- A number from the least up.
 unfoldable pub number_from : ℕ → List ℕ → Result ℕ LineFault

@@ -2,9 +2,8 @@
 
 ghost use Rattle.std.specs.Prelude.{◌≡◌, drop, slice_get};
 ghost use Rattle.std.specs.Option.{option_map};
-ghost use Rattle.spy_words.specs.Reading.{parts};
+ghost use Rattle.spy_words.specs.Reading.{IsFirstPlace, parts};
 
-use memchr::memchr;
 use std::marker::Model;
 
 /// The pieces of a text that are still to come.
@@ -24,6 +23,19 @@ impl<'a> Model for Pieces<'a> {
     ghost view = { λ p. option_map_or (λ text. parts p.byte text.now) p.rest [] };
 }
 
+/// The first place of a byte. The words of a line are short, so they are searched byte by byte.
+#[inline]
+fn first_place(byte: u8, text: &[u8]) -> Option<usize>
+    ensures { IsFirstPlace byte text.now result }
+{
+    for k in 0..text.len() {
+        if text[k] == byte {
+            return Some(k);
+        }
+    }
+    None
+}
+
 impl<'a> Pieces<'a> {
     /// The pieces of a text, cut at each such byte.
     pub fn of(text: &'a [u8], byte: u8) -> Pieces<'a>
@@ -41,7 +53,7 @@ impl<'a> Pieces<'a> {
         ensures rest { self.new ≡ drop 1 self.old }
     {
         let text = self.rest?;
-        let Some(end) = memchr(self.byte, text) else {
+        let Some(end) = first_place(self.byte, text) else {
             self.rest = None;
             return Some(text);
         };

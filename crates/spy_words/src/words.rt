@@ -2,34 +2,40 @@
 
 ghost use Rattle.std.specs.Prelude.{◌≡◌, ◌∷◌, [], ◌++◌, true, false, if◌then◌else◌, Err, OnOk, codes, decimal};
 ghost use Rattle.spy_words.specs.declared.fault.LineFault.TheVariants.{Form};
-ghost use Rattle.std.specs.Char.{is_ascii_digit};
-ghost use Rattle.std.specs.List.{list_all};
 ghost use Rattle.spy_words.specs.Classes.{split_word, access, access_word, coherence_word, layout, layout_word};
-ghost use Rattle.spy_words.specs.Reading.{meaning_at, number_from, operator_at, text_at};
+ghost use Rattle.spy_words.specs.Reading.{capped_value, meaning_at, number_from, operator_at, text_at};
 
 use crate::access::{InstKind, PrivWord};
 use crate::fault::LineFault;
 use itoa::Buffer;
 use std::alloc::AllocError;
 
-fn all_digits(word: &[u8]) -> bool
-    ensures { result ≡ list_all is_ascii_digit word.now }
+/// The value of digits, or 2^32 where it is greater; `None` where some byte is no digit. One pass.
+#[inline]
+fn value_of(word: &[u8]) -> Option<u64>
+    ensures { result ≡ capped_value word.now }
 {
-    word.iter().all(|b| b.is_ascii_digit())
+    let mut value = 0u64;
+    for b in word {
+        if !b.is_ascii_digit() {
+            return None;
+        }
+        value = (value * 10 + u64::from(*b - b'0')).min(1 << 32);
+    }
+    Some(value)
 }
 
 /// A number from the least up.
-#[tactic(auto, using(crate::proofs::Numbers::value_more), unfolding(crate::specs::Reading::number_from))]
+#[tactic(auto, unfolding(crate::specs::Reading::number_from))]
 pub fn number_of(least: u32, word: &[u8]) -> Result<u32, LineFault>
     ensures { result ≡ number_from least word.now }
 {
-    if word.is_empty() || !all_digits(word) {
+    if word.is_empty() {
         return Err(LineFault::Form);
     }
-    let mut value = 0u64;
-    for b in word {
-        value = (value * 10 + u64::from(*b - b'0')).min(1 << 32);
-    }
+    let Some(value) = value_of(word) else {
+        return Err(LineFault::Form);
+    };
     if (word.len() > 1 && word[0] == b'0') || value < u64::from(least) || value >= 1 << 32 {
         return Err(LineFault::Number);
     }

@@ -1,7 +1,7 @@
 -- For each class of words: what is read has that word, and what has a word is read from it.
 use Rattle.std.proofs.Common.{◌≡◌, ◌≢◌, ℕ, ◌<◌, ◌≤◌, eqb, Bool, true, false, cond, ◌||◌, List, [], ◌∷◌, ◌++◌, map, codes, drop, nat_lt, nat_eq, Option, None, Result, Ok, Err, refl, sym, ap, subst, ◌∙◌, append_assoc, append-nil, arith, rules, inl, inr, ◌↔◌}
 use Rattle.std.specs.Prelude.{decimal}
-use Rattle.std.specs.List.{AllByRecursion, list_any, starts_with, join_with_byte}
+use Rattle.std.specs.List.{AllByRecursion, starts_with, join_with_byte}
 use Rattle.std.specs.Str.{bytes_eq}
 use Rattle.std.proofs.lemmas.Bool.{false≢true, lt-ltb, ltb-true, eq-eqb, eqb-true, eqb-false, ne_eqb, cases_Bool}
 use Rattle.std.proofs.lemmas.Bool.Decides.{Decides-eqb}

@@ -1,13 +1,13 @@
 -- Words, joined by a byte that is below all of theirs, and cut there again.
 use Rattle.std.proofs.Common.{◌≡◌, ◌≢◌, ℕ, ◌-◌, ◌+◌, zero, suc, ◌<◌, ◌≤◌, ltb, eqb, true, false, List, [], ◌∷◌, ◌++◌, length, take, drop, get_or, Some, None, refl, sym, ap, ◌∙◌, arith, append-nil, add-one}
 use Rattle.std.specs.List.{join_with_byte, list_all, AllByRecursion}
-use Rattle.std.proofs.lemmas.Bool.{eq-eqb, ne_eqb, false_from_ne_true}
+use Rattle.std.proofs.lemmas.Bool.{eq-eqb, eqb-true, ne_eqb, false_from_ne_true}
 use Rattle.std.proofs.lemmas.Bool.Decides.{nat_tests}
 use Rattle.std.proofs.lemmas.List.Elements.{All-from_recursion}
 use Rattle.std.proofs.lemmas.List.Splits.{slice_split_none, slice_split_at, slice_split-cons_yes, slice_split-cons_no, join_with_byte-slice_split, length-slice_split}
 use Rattle.std.proofs.lemmas.List.{take_all, length-drop}
 use Rattle.std.specs.List.{onto_first}
-use Rattle.memchr.specs.Find.{IsFirstByte, is_byte}
+use Rattle.spy_words.specs.Reading.{IsFirstPlace}
 use Rattle.spy_words.specs.Classes.{follow}
 use Rattle.spy_words.specs.Reading.{parts}
 
@@ -95,12 +95,12 @@ none_at c (b ∷ bs) h =
     ∙ ap (onto_first b) (none_at c bs (λ j lt f. h (suc j) (omega arith) f))
 
 -- the first piece, and the pieces of the rest
-pub first_piece : (c at : ℕ) (bs : List ℕ) → IsFirstByte (is_byte c) bs (Some at)
+pub first_piece : (c at : ℕ) (bs : List ℕ) → IsFirstPlace c bs (Some at)
     → parts c bs ≡ take at bs ∷ parts c (take (length bs - (at + 1)) (drop (at + 1) bs))
 first_piece c at bs first =
     let rest : take (length bs - (at + 1)) (drop (at + 1) bs) ≡ drop (at + 1) bs =
     take_all _ (drop (at + 1) bs) (omega (arith, length-drop (at + 1) bs)) in
-    rw (rest, add-one) (first_at c at bs first.0.high (λ j lt e. first.0.before j (omega arith) lt e) first.1)
+    rw (rest, add-one) (first_at c at bs first.0 (λ j lt e. first.2 j lt (eqb-true (get_or bs j 0) c e)) (eq-eqb (get_or bs at 0) c first.1))
 
-pub only_piece : (c : ℕ) (bs : List ℕ) → IsFirstByte (is_byte c) bs None → parts c bs ≡ bs ∷ []
-only_piece c bs none = none_at c bs (λ j lt e. none j (omega arith) lt e)
+pub only_piece : (c : ℕ) (bs : List ℕ) → IsFirstPlace c bs None → parts c bs ≡ bs ∷ []
+only_piece c bs none = none_at c bs (λ j lt e. none j lt (eqb-true (get_or bs j 0) c e))
