@@ -3,11 +3,10 @@
 ghost use Rattle.std.specs.Prelude.{◌≡◌, ◌≢◌, ◌≤◌, [], length, not, true, map, count_by};
 ghost use Rattle.std.specs.List.{AllByRecursion};
 ghost use Rattle.findings.specs.declared.finding.Finding.TheVariants as findings;
-ghost use Rattle.findings.specs.Texts.{Good, IsInRange, is_chain, small};
-ghost use Rattle.outcomes.specs.Outcome.{ask_shown};
+ghost use Rattle.findings.specs.Texts.{Good, IsInRange, small};
 
-use findings::{DepList, EventList, Finding, PairList, WhyAsk, WhyList, lines_fit};
-use semantics::{Ask, Cell, Place};
+use findings::{DepList, EventList, Finding, PairList, lines_fit};
+use semantics::{Cell, Place};
 use spy_grammar::Code;
 use value_terms::Value;
 
@@ -123,33 +122,4 @@ pub(crate) fn spare_found(list: PairList, waits: u64) -> Finding
 {
     lines_fit(list.as_slice());
     Finding::Spare { list, waits }
-}
-
-/// A read that is asked for, of which the log has none.
-pub fn no_read_found(ask: Ask) -> Finding
-    ensures finding { result ≡ findings.NoRead ask.task ask.req ask.point ask.field }
-    ensures good { Good result }
-{
-    Finding::NoRead {
-        task: ask.task,
-        req: ask.req,
-        point: ask.point,
-        field: ask.field,
-    }
-}
-
-/// The links of a read that is asked for.
-pub fn why_found(ask: Ask, links: WhyList) -> Finding
-    requires { is_chain links ≡ true }
-    ensures finding { result ≡ findings.Why (ask_shown ask) links }
-    ensures good { Good result }
-{
-    lines_fit(links.as_slice());
-    let ask = WhyAsk {
-        task: ask.task,
-        req: ask.req,
-        point: ask.point,
-        field: ask.field,
-    };
-    Finding::Why { ask, links }
 }

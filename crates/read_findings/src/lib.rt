@@ -5,6 +5,7 @@
 #![tactic(auto)]
 
 mod links;
+mod reports;
 
 pub use links::read_finding;
 pub use memory::Memory;

@@ -10,9 +10,9 @@ ghost use Rattle.semantics.specs.Links.{AreLinksOf, EndsInOrigin};
 ghost use Rattle.event_graph.specs.Orders.{IsOrderOf};
 ghost use Rattle.outcomes.specs.Outcome.{WhyFinds, ask_shown, kind_shown, link_shown};
 
+use crate::reports::{no_read_found, why_found};
 use event_graph::Order;
 use findings::{Finding, WhyKind, WhyLink, WhyList};
-use log_findings::{no_read_found, why_found};
 use logs::Log;
 use memory::Memory;
 use provenance::{TraceEnd, trace};

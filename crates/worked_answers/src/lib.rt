@@ -1,6 +1,6 @@
 //! What the tests of the whole program share: the logs of the examples, and calls of `run` over memory.
 //!
-//! Begin with `example_logs.rt`, whose logs lie in the folder `examples` too; `blocks.rt` makes two more by rule, and `answers.rt` asks a command about a log, with some lines changed.
+//! Begin with `example_logs.rt`, whose logs lie in the folder `examples` too; `blocks.rt` makes two more by rule, and `answers.rt` asks a command about a log, with some lines changed. `run` and its statuses are handed on from `spy_cli`.
 #![tactic(auto)]
 
 mod answers;
@@ -16,3 +16,4 @@ pub use example_logs::{
     NEVER_EMPTIED, STALE_COPY, STALE_HALO, TURNED_WRITES, TWO_OPERATORS, TWO_TASKS,
     TWO_TASKS_UNORDERED, UNSTATED_TURN, WAITS_IN_A_CYCLE, WRITE_THEN_READ, WRITER_APART,
 };
+pub use spy_cli::{Status, run};

@@ -1,9 +1,8 @@
 //! Launch logs under `expand` and `launched`, each through `run`.
 
-use spy_cli::Status;
 use std::alloc::Global;
 use std::test::Fail;
-use worked_answers::{answer, answer_edited, framed};
+use worked_answers::{Status, answer, answer_edited, framed};
 
 /// Two tasks of a launch write a half of a region each.
 const HALVES: &[u8] = b"legion-spy 1

@@ -1,9 +1,8 @@
 //! Nested logs under `nested`, each through `run`.
 
-use spy_cli::Status;
 use std::alloc::Global;
 use std::test::Fail;
-use worked_answers::{answer, answer_edited, framed};
+use worked_answers::{Status, answer, answer_edited, framed};
 
 /// The task that writes is a member of a group that may do all, and the one that reads a member of a group below, which may read.
 const BELOW: &[u8] = b"legion-spy 1

@@ -1,10 +1,9 @@
 //! Logs of the second version, whose points have a column and a row, each through `run`.
 
-use spy_cli::Status;
 use std::alloc::Global;
 use std::test::Fail;
 use worked_answers::{
-    STALE_COPY, TWO_TASKS, WRITE_THEN_READ, answer, answer_edited, answer_why,
+    STALE_COPY, Status, TWO_TASKS, WRITE_THEN_READ, answer, answer_edited, answer_why,
     block_halos as made_log, digest,
 };
 

@@ -1,11 +1,10 @@
 //! The worked examples of `check`, each through `run`.
 
-use spy_cli::Status;
 use std::alloc::Global;
 use std::test::Fail;
 use worked_answers::{
-    GATHERED_REDUCTIONS, STALE_COPY, TURNED_WRITES, TWO_OPERATORS, TWO_TASKS, WRITE_THEN_READ,
-    answer, edited, framed,
+    GATHERED_REDUCTIONS, STALE_COPY, Status, TURNED_WRITES, TWO_OPERATORS, TWO_TASKS,
+    WRITE_THEN_READ, answer, edited, framed,
 };
 
 #[rattlefmt::skip]

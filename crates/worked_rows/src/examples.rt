@@ -1,13 +1,12 @@
 //! The logs of the folder `examples` with their reports, as its page lists them, and the faults of the logs that `docs/FORMAT.md` gives as examples. `.ci/examples` holds the files and the pages against these tables.
 
-use spy_cli::Status;
 use std::alloc::Global;
 use std::test::Fail;
 use worked_answers::{
     EARLY_HALO, FILL_NEVER_PUT, FOLDED_EARLY, FOLDED_TWICE, FRESH_COPY, FULL_BARRIERS,
     GATHERED_REDUCTIONS, HALO_EXCHANGE, HALO_STENCIL, HALO_STENCIL_UNORDERED, LAUNCHED_HALO,
     LAUNCHED_OVERLAP, MERGED_WAITS, MISSING_COPY, MISSING_WAIT, NESTED_HALVES, NESTED_OVERREACH,
-    NEVER_EMPTIED, STALE_COPY, STALE_HALO, TURNED_WRITES, TWO_OPERATORS, TWO_TASKS,
+    NEVER_EMPTIED, STALE_COPY, STALE_HALO, Status, TURNED_WRITES, TWO_OPERATORS, TWO_TASKS,
     TWO_TASKS_UNORDERED, UNSTATED_TURN, WAITS_IN_A_CYCLE, WRITE_THEN_READ, WRITER_APART, answer,
     answer_why,
 };

@@ -1,10 +1,9 @@
 //! The worked examples of whole logs, each through `run`.
 
-use spy_cli::Status;
 use std::test::Fail;
 use worked_answers::{
-    GATHERED_REDUCTIONS, STALE_COPY, TURNED_WRITES, TWO_OPERATORS, TWO_TASKS, WRITE_THEN_READ,
-    answer, answer_edited,
+    GATHERED_REDUCTIONS, STALE_COPY, Status, TURNED_WRITES, TWO_OPERATORS, TWO_TASKS,
+    WRITE_THEN_READ, answer, answer_edited,
 };
 
 /// The log of two tasks, with some lines changed.

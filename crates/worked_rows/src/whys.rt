@@ -1,9 +1,8 @@
 //! Where values came from that tasks read, each question through `run`.
 
-use spy_cli::Status;
 use std::test::Fail;
 use worked_answers::{
-    FRESH_COPY, GATHERED_REDUCTIONS, MISSING_WAIT, STALE_COPY, TURNED_WRITES, TWO_TASKS,
+    FRESH_COPY, GATHERED_REDUCTIONS, MISSING_WAIT, STALE_COPY, Status, TURNED_WRITES, TWO_TASKS,
     WAITS_IN_A_CYCLE, WRITE_THEN_READ, answer_why, edited,
 };
 

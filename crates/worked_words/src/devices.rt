@@ -1,10 +1,9 @@
 //! Sources and sinks that fail, give short pieces or have little room, under `check` over one log.
 
-use spy_cli::{Status, run};
 use spy_io::{MemSink, MemSource};
 use std::alloc::Global;
 use std::test::Fail;
-use worked_answers::{WRITE_THEN_READ, words_of};
+use worked_answers::{Status, WRITE_THEN_READ, run, words_of};
 
 /// The report on the log, where no device fails.
 const REPORT: &[u8] = b"accepted tasks 2 operations 2 reads 4\n";

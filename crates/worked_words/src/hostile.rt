@@ -1,9 +1,8 @@
 //! Logs at the limits and past them, and logs that are cut off.
 
-use spy_cli::Status;
 use std::alloc::Global;
 use std::test::Fail;
-use worked_answers::{WRITE_THEN_READ, answer, framed};
+use worked_answers::{Status, WRITE_THEN_READ, answer, framed};
 
 /// Lines of so many merges, none of which waits.
 fn merges(alloc: Global, count: u64) -> Result<Vec<u8>, Fail> {

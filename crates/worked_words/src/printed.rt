@@ -1,11 +1,10 @@
 //! `print`, and the faults of lines.
 
-use spy_cli::Status;
 use std::alloc::Global;
 use std::test::Fail;
 use worked_answers::{
-    GATHERED_REDUCTIONS, STALE_COPY, TURNED_WRITES, TWO_OPERATORS, TWO_TASKS, WRITE_THEN_READ,
-    answer, with_line,
+    GATHERED_REDUCTIONS, STALE_COPY, Status, TURNED_WRITES, TWO_OPERATORS, TWO_TASKS,
+    WRITE_THEN_READ, answer, with_line,
 };
 
 #[test]

@@ -1,12 +1,11 @@
 //! Words of the command line, and `demo`.
 
 use log_gen::stencil;
-use spy_cli::{Status, run};
 use spy_grammar::{good, write_record};
 use spy_io::{MemSink, MemSource};
 use std::alloc::Global;
 use std::test::Fail;
-use worked_answers::{WRITE_THEN_READ, answer, words_of};
+use worked_answers::{Status, WRITE_THEN_READ, answer, run, words_of};
 
 /// The status of a command line that reads no source, and what it writes.
 fn answer_unread(alloc: Global, line: &str) -> Result<(Status, Vec<u8>), Fail> {
