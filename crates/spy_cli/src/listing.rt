@@ -15,7 +15,6 @@ ghost use Rattle.spy_cli.specs.Endings.{IsEnding, IsTold, IsToldInPart};
 use crate::answering::input_of;
 use crate::status::Status;
 use crate::writing::{fault_written, written};
-use deps_writing::{DepsEnd, write_deps};
 use findings::cannot_read_text;
 use log_reading::{SpellEnd, input_in};
 use semantics::Command;
@@ -23,6 +22,7 @@ use spy_args::Request;
 use spy_grammar::{Code, Lined};
 use spy_io::{ReadEnd, Sink, Source};
 use std::alloc::Global;
+use verdict::{DepsEnd, write_deps};
 
 /// Whether `deps` is asked for.
 pub(crate) fn is_deps(request: Request) -> bool

@@ -6,7 +6,7 @@ use Rattle.reach_marks.specs.Reached.{AreMarksOf}
 use Rattle.order_laws.specs.Turns.{AreKeptBut, do_interfere}
 use Rattle.cell_races.specs.Turns.{is_noted}
 use Rattle.pair_rows.specs.Bits1024.{has_bit}
-use Rattle.turn_scan.specs.Runs.{AreRunsOf}
+use Rattle.task_order.specs.Runs.{AreRunsOf}
 use Rattle.task_order.specs.declared.kept.Schedule.{Schedule}
 
 -- What a question about two runs goes by: the marks of the nodes, the node that runs each item, and items so that every two others are run in serial order.

@@ -2,7 +2,7 @@
 
 ghost use Rattle.std.specs.Prelude.{◌≡◌, ◌+◌, ◌<◌, ◌^◌, length, IfOk};
 ghost use Rattle.std.specs.Option.{option_map_or};
-ghost use Rattle.task_users.specs.Users.{AreTaskPlaces};
+ghost use Rattle.task_order.specs.Users.{AreTaskPlaces};
 ghost use Rattle.task_order.specs.Rows.{AreRows, IsFoundBefore, IsFoundIn, IsFoundOf, IsRow, IsSchedule};
 
 use crate::kept::{Schedule, is_kept};

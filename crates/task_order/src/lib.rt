@@ -1,15 +1,22 @@
 //! Whether the tasks of a log that interfere are run in serial order.
 //!
 //! `task_order` says so, or shows the first pair that is not, exactly as `Shown` of `semantics` defines it.
-//! It goes over no pairs where all are in order: `turn_scan` tells that place by place, and `task_users`
-//! counts the pairs by rows of bits. Else `sifting.rt` leaves in such rows the pairs of a task that the scan
-//! noted, and `least.rt` looks for the first of these. Begin with `search.rt`.
+//! It goes over no pairs where all are in order. `task_touches.rt` gathers what tasks do at first points, and
+//! `scan.rt` goes over it once, place by place, with the groups of `cell_races`, and notes tasks so that all
+//! others are run in serial order. `tasks.rt` makes the users of each place, and counts the pairs of tasks that
+//! interfere by the rows of bits of `pair_rows`. Where a task is noted, `sifting.rt` leaves in such rows its
+//! pairs, and `least.rt` looks for the first of these. Begin with `search.rt`.
 #![tactic(auto)]
 
+mod cells;
 mod kept;
 mod least;
+mod runs;
+mod scan;
 mod search;
 mod sifting;
+mod task_touches;
+mod tasks;
 
 pub use memory::Memory;
 pub use search::{TaskOrder, task_order};

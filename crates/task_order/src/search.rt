@@ -6,12 +6,16 @@ ghost use Rattle.semantics.specs.Shown.{AreKept};
 ghost use Rattle.reach_marks.specs.Reached.{AreMarksOf};
 ghost use Rattle.cell_races.specs.Turns.{is_noted};
 ghost use Rattle.order_laws.specs.Turns.{do_interfere};
-ghost use Rattle.task_users.specs.Users.{AreTaskPlaces};
+ghost use Rattle.task_order.specs.Users.{AreTaskPlaces};
 ghost use Rattle.task_order.specs.Rows.{IsSchedule};
 ghost use Rattle.task_order.specs.Searched.{IsTaskOrder};
 
 use crate::kept::Schedule;
 use crate::least::first_unkept;
+use crate::runs::runs_of;
+use crate::scan::loose_tasks;
+use crate::task_touches::touches_of_tasks;
+use crate::tasks::{count_task_pairs, task_places};
 use atoms::Atoms;
 use logs::Log;
 use memory::Memory;
@@ -22,8 +26,6 @@ use reach_marks::Reach;
 use region_tree::ArenaSet;
 use semantics::Place;
 use std::alloc::Global;
-use task_users::{count_task_pairs, task_places};
-use turn_scan::{loose_tasks, runs_of, touches_of_tasks};
 
 /// Whether every two tasks that interfere are run in serial order.
 #[derive(Clone, Copy, PartialEq, Eq)]

@@ -4,7 +4,7 @@ ghost use Rattle.std.specs.Prelude.{◌≡◌, ◌+◌, ◌<◌, ◌^◌, ◌&&�
 ghost use Rattle.cell_races.specs.Turns.{is_noted};
 ghost use Rattle.pair_rows.specs.Bits1024.{has_bit};
 ghost use Rattle.pair_rows.specs.Meetings.{row_bit};
-ghost use Rattle.task_users.specs.Users.{AreTaskPlaces};
+ghost use Rattle.task_order.specs.Users.{AreTaskPlaces};
 ghost use Rattle.task_order.specs.Rows.{AreRows, IsSchedule};
 
 use crate::kept::Schedule;

@@ -3,7 +3,7 @@ use Rattle.findings.specs.declared.finding.Finding.TheVariants.{Fault}
 use Rattle.vocabulary.specs.Prelude.{tables_of}
 use Rattle.semantics.specs.declared.command.Command.TheVariants.{Deps}
 use Rattle.outcomes.specs.Outcome.{IsFound}
-use Rattle.deps_writing.specs.Findings.{deps_shown}
+use Rattle.verdict.specs.Findings.{deps_shown}
 use Rattle.spy_cli.specs.declared.status.Status.TheVariants.{Yes}
 use Rattle.spy_cli.specs.Endings.{IsEnding}
 use Rattle.spy_cli.proofs.Ending.{ending_memory, ending_part, ending_so, ending_told}

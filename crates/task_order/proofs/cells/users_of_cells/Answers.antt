@@ -1,0 +1,44 @@
+use Rattle.std.proofs.Common.{◌-◌, sym, subst, arith, take, drop}
+use Rattle.std.proofs.lemmas.List.{take_all}
+use Rattle.std.proofs.lemmas.List.Elements.{All-nil}
+use Rattle.log_laws.proofs.lemmas.Members.{Member, member_left}
+use Rattle.cell_races.proofs.lemmas.CellEnds.{AreApart, take_to_end, rest_parts, one_cell, apart_still}
+use Rattle.pair_rows.specs.Meetings.{AreByClass}
+use Rattle.task_order.specs.Users.{AreUsersOf}
+use Rattle.task_order.proofs.Grown.{users_none, users_more, classes_more}
+use Rattle.task_order.proofs.cells.users_of_cells.Goals as goal
+
+pub loop-from-init : goal.loop-from-init
+loop-from-init c = record {
+  within = omega arith;
+  users = rw c.new-places.ensures (users_none c.args.order.now);
+  classes = rw c.new-places.ensures (All-nil AreByClass);
+  apart = λ x y m n e. absurd m;
+}
+
+pub loop-from-preserved : goal.loop-from-preserved
+loop-from-preserved c =
+    let order = c.args.order.now in
+    let touches = c.args.touches.now in
+    let from = c.loop-from.from in
+    let end = c.cell_end-end.result in
+    let is_end = c.cell_end-end.ensures in
+    let h = c.loop-from.invariant in
+    let front = take from touches in
+    let run = take (end - from) (drop from touches) in
+    let far : AreApart front run = λ x y m n. h.apart x y m (subst (λ xs. Member xs y) (sym (rest_parts touches from end is_end))
+    (member_left run (drop end touches) y n)) in
+    let one = one_cell touches from end is_end c.requires.in_order h.apart in
+    record {
+      within = is_end.within;
+      users = subst (λ xs. AreUsersOf order xs c.push_place.new.places) (sym (take_to_end touches from end is_end))
+          (users_more order front run c.loop-from.places c.push_place.new.places h.users c.in_ok-push_place.ensures one far);
+      classes = classes_more order front run c.loop-from.places c.push_place.new.places h.users c.in_ok-push_place.ensures
+          one far h.classes;
+      apart = apart_still touches from end is_end c.requires.in_order h.apart;
+    }
+
+pub returns-clause-users : goal.returns-clause-users
+returns-clause-users c = subst (λ xs. AreUsersOf c.args.order.now xs c.loop-from.places)
+    (take_all c.loop-from.from c.args.touches.now (omega (arith, c.loop-from-test.false)))
+    c.loop-from.invariant.users

@@ -1,0 +1,16 @@
+use Rattle.std.proofs.Common.{◌≤◌, ◌-◌, All, length, take, drop}
+use Rattle.cell_races.proofs.lemmas.CellEnds.{AreApart}
+use Rattle.pair_rows.specs.Meetings.{AreByClass}
+use Rattle.task_order.specs.Users.{AreUsersOf}
+use Rattle.task_order.proofs.cells.users_of_cells.Given as goal
+
+abbrev pub invariant-loop-from : goal.invariant-loop-from
+invariant-loop-from l = record {
+  within : l.from ≤ length l.touches;
+  users : AreUsersOf l.order (take l.from l.touches) l.places;
+  classes : All AreByClass l.places;
+  apart : AreApart (take l.from l.touches) (drop l.from l.touches);
+}
+
+abbrev pub decreases-loop-from : goal.decreases-loop-from
+decreases-loop-from l = length l.touches - l.from

@@ -1,0 +1,107 @@
+//! Whether tasks that interfere are run in serial order.
+
+ghost use Rattle.std.specs.Prelude.{◌≡◌, ℕ, ◌<◌, All, IfOk, IsTrue, length};
+ghost use Rattle.vocabulary.specs.Prelude.{graph_of};
+ghost use Rattle.semantics.specs.SerialOrder.{serial, serial_place};
+ghost use Rattle.reach_marks.specs.Reached.{AreMarksOf};
+ghost use Rattle.cell_races.specs.Touches.{AreInOrder};
+ghost use Rattle.cell_races.specs.Turns.{IsMarked, is_noted};
+ghost use Rattle.order_laws.specs.Turns.{AreKeptBut, ListsItems};
+ghost use Rattle.task_order.specs.Gathered.{AreFirstTouches, in_order};
+ghost use Rattle.task_order.specs.Runs.{AreRunsOf};
+
+use cell_races::{Touch, loose_places};
+use log_laws::serial_order_lists;
+use logs::Log;
+use order_laws::places_tell_of_tasks;
+use point_set::PointSet;
+use reach_marks::{Reach, before_is_transitive};
+use std::alloc::{AllocError, Global};
+
+/// The law of the serial order of a log. There is nothing to do.
+fn lists_items<'a, P: PointSet + Copy>(log: &Log<'a, P>)
+    ensures { ListsItems log.now }
+{
+    log.is_declared();
+    serial_order_lists();
+}
+
+/// The node that runs each item, in serial order.
+fn runs_in_order<'a, P: PointSet + Copy>(
+    alloc: Global,
+    log: &Log<'a, P>,
+    runs: &[usize],
+) -> Result<Vec<usize>, AllocError>
+    requires { All (λ item. item < length runs.now) (serial log.now) }
+    ensures { IfOk result (λ v. v.items ≡ in_order runs.now log.now) }
+{
+    let mut order = Vec::new(alloc);
+    for item in log.serial() {
+        order.push(runs[*item])?;
+    }
+    Ok(order)
+}
+
+/// Whether what is done is done by nodes that are marked.
+fn are_marked(reach: &Reach, order: &[usize], touches: &[Touch]) -> bool
+    ensures { IsTrue result → All (IsMarked order.now reach.now) touches.now }
+{
+    for touch in touches {
+        let place = touch.place;
+        if place >= order.len() {
+            return false;
+        }
+        if order[place] >= reach.len() {
+            return false;
+        }
+    }
+    true
+}
+
+/// For each item whether its place in serial order is noted.
+fn items_noted<'a, P: PointSet + Copy>(
+    alloc: Global,
+    log: &Log<'a, P>,
+    noted: &[bool],
+) -> Result<Vec<bool>, AllocError>
+    requires places { (item : ℕ) → item < length log.now.items
+        → serial_place log.now item < length noted.now }
+    ensures each { IfOk result (λ v. length v.items ≡ length log.now.items) }
+    ensures items { IfOk result (λ v. (item : ℕ) → item < length log.now.items
+        → is_noted v.items item ≡ is_noted noted.now (serial_place log.now item)) }
+{
+    let count = log.items().len();
+    let mut items = Vec::with_capacity(alloc, count)?;
+    for item in 0..count {
+        items.push(noted[log.serial_place(item)])?;
+    }
+    Ok(items)
+}
+
+/// For each item whether it is noted as a task that is not in turn, from what tasks do at first points alone: every two tasks that interfere, neither of which is noted, are run in serial order. One pass over what they do.
+pub(crate) fn loose_tasks<'a, P: PointSet + Copy>(
+    alloc: Global,
+    log: &Log<'a, P>,
+    reach: &Reach,
+    runs: &[usize],
+    touches: &[Touch],
+) -> Result<Vec<bool>, AllocError>
+    requires marks { AreMarksOf (graph_of log.now.nodes) reach.now }
+    requires runs { AreRunsOf log.now runs.now }
+    requires touches { AreFirstTouches log.now touches.now }
+    requires order { AreInOrder touches.now }
+    ensures each { IfOk result (λ loose. length loose.items ≡ length log.now.items) }
+    ensures kept { IfOk result (λ loose. AreKeptBut log.now (is_noted loose.items)) }
+{
+    lists_items(log);
+    before_is_transitive();
+    places_tell_of_tasks();
+    let order = runs_in_order(alloc, log, runs)?;
+    if !are_marked(reach, &order, touches) {
+        let all = Vec::from_elem(alloc, true, log.items().len())?;
+        return Ok(all);
+    }
+    let noted = loose_places(alloc, reach, &order, touches)?;
+    let items = items_noted(alloc, log, &noted)?;
+    Ok(items)
+}

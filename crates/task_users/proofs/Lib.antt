@@ -1,3 +1,0 @@
-mod Grown
-mod Told
-mod Counted

@@ -1,6 +1,0 @@
-use Rattle.std.proofs.Common.{◌≡◌, map, take}
-use Rattle.task_users.specs.Users.{user_of}
-use Rattle.task_users.proofs.cells.users_of.Given as goal
-
-abbrev pub invariant-loop-touch : goal.invariant-loop-touch
-invariant-loop-touch l = l.users.items ≡ map (user_of l.order) (take l.touch-index l.touches)
