@@ -9,9 +9,11 @@ ghost use Rattle.cell_races.specs.Ranks.{AreRanked, rank_in};
 ghost use Rattle.cell_races.specs.Touches.{AreInOrder, IsCellEnd};
 ghost use Rattle.cell_races.specs.Clashes.{IsFree, IsShown};
 
+use crate::access::Visit;
 use crate::cell_scan::first_race;
+use crate::frontier::Frontier;
 use crate::touches::{Touch, sort_touches};
-use crate::visits::visits_of;
+use crate::visits::list_visits;
 use event_graph::{Graph, Order};
 use reach_marks::Reach;
 use semantics::Cell;
@@ -38,9 +40,10 @@ pub fn cell_end(touches: &[Touch], from: usize) -> usize
     touches.len()
 }
 
-/// The race that is shown at one cell.
+/// The race that is shown at one cell. The list and the groups are made anew in the room of earlier ones.
 fn race_at(
-    alloc: Global,
+    visits: &mut Vec<Visit>,
+    frontier: &mut Frontier,
     reach: &Reach,
     order: &[usize],
     touches: &[Touch],
@@ -49,8 +52,8 @@ fn race_at(
     requires within { All (λ x. x.place < length order.now) touches.now }
     ensures { IfOk result (λ r. r ≡ race_in (before_in reach.now) (visits_of order.now touches.now)) }
 {
-    let visits = visits_of(alloc, order, touches)?;
-    let race = first_race(alloc, reach, visits.as_slice())?;
+    list_visits(visits, order, touches)?;
+    let race = first_race(frontier, reach, visits.as_slice())?;
     Ok(race)
 }
 
@@ -67,10 +70,13 @@ fn first_clash(
     ensures { IfOk result (λ r. MatchOption r (IsFree (before_in reach.now) order.now touches.now)
         (IsShown (before_in reach.now) (rank_in reach.now) order.now touches.now)) }
 {
+    let mut visits = Vec::new(alloc);
+    let mut frontier = Frontier::new(alloc);
     let mut from = 0;
     while from < touches.len() {
         let end = cell_end(touches, from);
-        if let Some((a, b)) = race_at(alloc, reach, order, &touches[from..end])? {
+        let at_cell = &touches[from..end];
+        if let Some((a, b)) = race_at(&mut visits, &mut frontier, reach, order, at_cell)? {
             let cell = touches[from].cell;
             return Ok(Some(Clashing { a, b, cell }));
         }
