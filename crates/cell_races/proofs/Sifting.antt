@@ -7,8 +7,8 @@ use Rattle.cell_races.specs.declared.access.Visit.{Visit}
 use Rattle.cell_races.specs.declared.touches.Touch.{Touch}
 use Rattle.cell_races.specs.Accesses.{conflicts}
 use Rattle.cell_races.specs.Groups.{Groups, no_groups, with_visit, fails_at}
-use Rattle.cell_races.specs.Races.{is_loose, race_in, IsTransitive}
-use Rattle.cell_races.specs.Turns.{is_noted, IsLooseAt, NotesMore, AreNoted}
+use Rattle.cell_races.specs.Races.{is_unordered, race_in, IsTransitive}
+use Rattle.cell_races.specs.Turns.{is_noted, IsUnorderedAt, NotesMore, AreNoted}
 use Rattle.cell_races.specs.Visits.{visit_of}
 use Rattle.cell_races.proofs.Ordered.{Ordered}
 use Rattle.cell_races.proofs.Cells.{IsApart, NotAfter, place_after}
@@ -65,7 +65,7 @@ pub record IsSifted (before : ℕ → ℕ → Bool) (order : List ℕ) (seen : L
   pub each : length new ≡ length old
   pub kept : (k : ℕ) → is_noted old k ≡ true → is_noted new k ≡ true
   pub sound : (k : ℕ) → is_noted new k ≡ true → (is_noted old k ≡ true)
-      ⊎ (Ordered NotAfter seen → ((x y : Touch) → Member seen x → Member seen y → x.cell ≡ y.cell) → IsLooseAt before order seen k)
+      ⊎ (Ordered NotAfter seen → ((x y : Touch) → Member seen x → Member seen y → x.cell ≡ y.cell) → IsUnorderedAt before order seen k)
 
 pub sifted_none : (before : ℕ → ℕ → Bool) (order : List ℕ) (noted : List Bool) → IsSifted before order [] no_groups noted noted
 sifted_none before order noted = record {
@@ -95,8 +95,8 @@ module _ (before : ℕ → ℕ → Bool) (goes : IsTransitive before) (order : L
   x_in = member_right seen (x ∷ []) x (inl refl)
 
   wider : (k : ℕ) → (Ordered NotAfter seen → ((x y : Touch) → Member seen x → Member seen y → x.cell ≡ y.cell)
-      → IsLooseAt before order seen k)
-      → Ordered NotAfter more → ((x y : Touch) → Member more x → Member more y → x.cell ≡ y.cell) → IsLooseAt before order more k
+      → IsUnorderedAt before order seen k)
+      → Ordered NotAfter more → ((x y : Touch) → Member more x → Member more y → x.cell ≡ y.cell) → IsUnorderedAt before order more k
   wider k f o one =
       let l = f (ordered_front NotAfter seen x o).0 (λ a b m n. one a b (old_in a m) (old_in b n)) in
       record {
@@ -127,7 +127,7 @@ module _ (before : ℕ → ℕ → Bool) (goes : IsTransitive before) (order : L
     kept = λ k e. noted_at mid x.place k lt (inr (h.kept k e));
     sound = λ k e. elim (noted_of mid x.place k e) [
       | inl is ↦ inr (λ o one.
-          let w = any_found (is_loose before v) (map (visit_of order) h.taken) (sym (tells goes h.stands v) ∙ fails) in
+          let w = any_found (is_unordered before v) (map (visit_of order) h.taken) (sym (tells goes h.stands v) ∙ fails) in
           let y = member_map (visit_of order) h.taken w.0 w.1 in
           let y_in = h.of_seen y.0 y.1 in
           let l = and_parts (conflicts w.0.access v.access) (not (before w.0.node v.node)) w.2 in
@@ -216,9 +216,9 @@ notes_kept {before} {order} {touches} {old} {new} h k free = elim (cases_Bool (i
   | inr none ↦ none
 ]
 
-loose_in : (before : ℕ → ℕ → Bool) (order : List ℕ) (some all : List Touch) (k : ℕ) → ((x : Touch) → Contains some x → Contains all x)
-    → IsLooseAt before order some k → IsLooseAt before order all k
-loose_in before order some all k inside l = record {
+unordered_in : (before : ℕ → ℕ → Bool) (order : List ℕ) (some all : List Touch) (k : ℕ) → ((x : Touch) → Contains some x → Contains all x)
+    → IsUnorderedAt before order some k → IsUnorderedAt before order all k
+unordered_in before order some all k inside l = record {
   x = l.x;
   y = l.y;
   x_in = inside l.x l.x_in;
@@ -244,9 +244,9 @@ notes_both before order front run old mid new far h g =
         | inl earlier ↦ elim (h.sound k earlier) [
           | inl first ↦ inl first
           | inr l ↦
-              inr (loose_in before order front (front ++ run) k left l)
+              inr (unordered_in before order front (front ++ run) k left l)
         ]
-        | inr l ↦ inr (loose_in before order run (front ++ run) k right l)
+        | inr l ↦ inr (unordered_in before order run (front ++ run) k right l)
       ];
       turn = λ x y xm ym same lt c x_free y_free. elim (member_append front run x (member_of (front ++ run) x xm)) [
         | inl x_front ↦ elim (member_append front run y (member_of (front ++ run) y ym)) [

@@ -7,7 +7,7 @@ use Rattle.log_laws.proofs.lemmas.Apart as apart
 use Rattle.cell_races.specs.declared.access.Visit.{Visit}
 use Rattle.cell_races.specs.declared.touches.Touch.{Touch}
 use Rattle.cell_races.specs.Accesses.{conflicts}
-use Rattle.cell_races.specs.Races.{is_loose, race_from, race_in}
+use Rattle.cell_races.specs.Races.{is_unordered, race_from, race_in}
 use Rattle.reach_marks.specs.Reached.{Marks}
 use Rattle.cell_races.specs.Turns.{IsMarked}
 use Rattle.cell_races.proofs.Members.{all_of, all_at}
@@ -19,24 +19,24 @@ module _ (before : ℕ → ℕ → Bool) (order : List ℕ) where
   -- ---- the race of a list, and its pairs
 
   passes : (behind : List Visit) (b : Visit) (bs : List Visit) → race_from before behind (b ∷ bs) ≡ None
-      → (find (is_loose before b) behind ≡ None) × (race_from before (behind ++ b ∷ []) bs ≡ None)
-  passes behind b bs e = elim (none_or_some (find (is_loose before b) behind)) [
+      → (find (is_unordered before b) behind ≡ None) × (race_from before (behind ++ b ∷ []) bs ≡ None)
+  passes behind b bs e = elim (none_or_some (find (is_unordered before b) behind)) [
     | inl none ↦ (none, rw none at e)
     | inr some ↦ let bad = rw some.1 at e in absurd cc
   ]
 
-  -- No earlier touch is loose.
+  -- No earlier touch is unordered.
   abbrev Tied : Touch → Touch → Type 0
-  Tied x y = is_loose before (visit_of order y) (visit_of order x) ≡ false
+  Tied x y = is_unordered before (visit_of order y) (visit_of order x) ≡ false
 
   abbrev pub visits : List Touch → List Visit
   visits xs = map (visit_of order) xs
 
   tied_behind : (behind : List Visit) (ys : List Touch) → race_from before behind (visits ys) ≡ None → (v : Visit) (y : Touch)
-      → Member behind v → Member ys y → is_loose before (visit_of order y) v ≡ false
+      → Member behind v → Member ys y → is_unordered before (visit_of order y) v ≡ false
   tied_behind behind [] e v y m n = absurd n
-  tied_behind behind (z ∷ ys) e v y m (inl is) = none_found (is_loose before (visit_of order y)) behind v
-      (subst (λ u. find (is_loose before (visit_of order u)) behind ≡ None) (sym is)
+  tied_behind behind (z ∷ ys) e v y m (inl is) = none_found (is_unordered before (visit_of order y)) behind v
+      (subst (λ u. find (is_unordered before (visit_of order u)) behind ≡ None) (sym is)
       (passes behind (visit_of order z) (visits ys) e).0) m
   tied_behind behind (z ∷ ys) e v y m (inr n) = tied_behind (behind ++ visit_of order z ∷ []) ys
       (passes behind (visit_of order z) (visits ys) e).1 v y (member_left behind (visit_of order z ∷ []) v m) n

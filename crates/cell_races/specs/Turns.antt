@@ -19,7 +19,7 @@ abbrev pub is_noted : List Bool → ℕ → Bool
 is_noted noted place = slice_index_or noted place false
 
 -- What is done at a place conflicts with something that is done at the same cell, at no later place, by a node that is not before its node.
-pub record IsLooseAt (before : ℕ → ℕ → Bool) (order : List ℕ) (touches : List Touch)
+pub record IsUnorderedAt (before : ℕ → ℕ → Bool) (order : List ℕ) (touches : List Touch)
     (place : ℕ) : Type 0 where
   pub x : Touch
   pub y : Touch
@@ -38,17 +38,17 @@ AreInTurnBut before order touches noted = (x y : Touch) → Contains touches x �
     → is_noted noted x.place ≡ false → is_noted noted y.place ≡ false
     → before (slice_index order x.place) (slice_index order y.place) ≡ true
 
--- What is noted of some touches more: loose places alone, so that the others are in turn.
+-- What is noted of some touches more: unordered places alone, so that the others are in turn.
 pub record NotesMore (before : ℕ → ℕ → Bool) (order : List ℕ) (touches : List Touch)
     (old new : List Bool) : Type 0 where
   pub each : length new ≡ length old
   pub kept : (k : ℕ) → is_noted old k ≡ true → is_noted new k ≡ true
-  pub sound : (k : ℕ) → is_noted new k ≡ true → (is_noted old k ≡ true) ⊎ IsLooseAt before order touches k
+  pub sound : (k : ℕ) → is_noted new k ≡ true → (is_noted old k ≡ true) ⊎ IsUnorderedAt before order touches k
   pub turn : AreInTurnBut before order touches new
 
--- Loose places alone are noted, and the others are in turn.
+-- Unordered places alone are noted, and the others are in turn.
 pub record AreNoted (before : ℕ → ℕ → Bool) (order : List ℕ) (touches : List Touch)
     (noted : List Bool) : Type 0 where
   pub each : length noted ≡ length order
-  pub sound : (k : ℕ) → is_noted noted k ≡ true → IsLooseAt before order touches k
+  pub sound : (k : ℕ) → is_noted noted k ≡ true → IsUnorderedAt before order touches k
   pub turn : AreInTurnBut before order touches noted

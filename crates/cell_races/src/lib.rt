@@ -1,9 +1,9 @@
 //! The race that is shown of what the nodes of a replay do at cells: two that conflict at a cell, neither before the other.
 //!
-//! Whoever goes over the steps of nodes adds what each touches (`push_touches`), and `shown_clash` gives the
+//! Whoever goes over the steps of nodes adds what each touches (`push_touches`), and `shown_race` gives the
 //! race at the least cell, exactly where there is one. At one cell neighbours that do not conflict form
 //! groups, and a node is compared with a whole group at once; that this finds the same race is the law
-//! `groups_tell`. `loose_places` asks the same groups which nodes are not in turn, by an order of their own.
+//! `groups_tell`. `unordered_places` asks the same groups which nodes are not in turn, by an order of their own.
 //! Begin with `scan.rt`; `frontier.rt` has the groups of one cell.
 #![tactic(auto)]
 
@@ -18,6 +18,6 @@ mod visits;
 
 pub use access::{Access, Visit};
 pub use laws::{first_race_is_first, groups_tell};
-pub use scan::{Clashing, cell_end, shown_clash};
+pub use scan::{FoundRace, cell_end, shown_race};
 pub use touches::{Touch, push_touches, sort_touches};
-pub use turns::loose_places;
+pub use turns::unordered_places;

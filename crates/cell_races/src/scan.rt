@@ -21,7 +21,7 @@ use std::alloc::{AllocError, Global};
 
 /// Two nodes that conflict at a cell, neither before the other.
 #[derive(Clone, Copy)]
-pub struct Clashing {
+pub struct FoundRace {
     pub a: usize,
     pub b: usize,
     pub cell: Cell,
@@ -58,12 +58,12 @@ fn race_at(
 }
 
 /// The race that is shown of touches in order, cell by cell.
-fn first_clash(
+fn first_shown_race(
     alloc: Global,
     reach: &Reach,
     order: &[usize],
     touches: &[Touch],
-) -> Result<Option<Clashing>, AllocError>
+) -> Result<Option<FoundRace>, AllocError>
     requires ranked { AreRanked order.now reach.now }
     requires within { All (λ x. x.place < length order.now) touches.now }
     requires in_order { AreInOrder touches.now }
@@ -78,7 +78,7 @@ fn first_clash(
         let at_cell = &touches[from..end];
         if let Some((a, b)) = race_at(&mut visits, &mut frontier, reach, order, at_cell)? {
             let cell = touches[from].cell;
-            return Ok(Some(Clashing { a, b, cell }));
+            return Ok(Some(FoundRace { a, b, cell }));
         }
         from = end;
     }
@@ -86,13 +86,13 @@ fn first_clash(
 }
 
 /// The race that is shown of what the nodes of a graph do at cells. The time is that of a sort of the touches, and linear in them but for that.
-pub fn shown_clash(
+pub fn shown_race(
     alloc: Global,
     graph: &Graph,
     order: &Order,
     reach: &Reach,
     touches: Vec<Touch>,
-) -> Result<Option<Clashing>, AllocError>
+) -> Result<Option<FoundRace>, AllocError>
     requires order { IsOrderOf graph.now order.now }
     requires reach { AreMarksOf graph.now reach.now }
     requires within { All (λ x. x.place < length order.now) touches.items }
@@ -101,6 +101,6 @@ pub fn shown_clash(
 {
     let mut sorted = touches;
     sort_touches(&mut sorted);
-    let clash = first_clash(alloc, reach, order.as_slice(), sorted.as_slice())?;
+    let clash = first_shown_race(alloc, reach, order.as_slice(), sorted.as_slice())?;
     Ok(clash)
 }

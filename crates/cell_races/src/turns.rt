@@ -67,7 +67,7 @@ fn note_cell(
 }
 
 /// The places of an order at which nodes are not in turn at some cell, so many that all others are in turn: of two that conflict, the one at the earlier place is before the other. One pass over the touches, which are in order.
-pub fn loose_places(
+pub fn unordered_places(
     alloc: Global,
     reach: &Reach,
     order: &[usize],

@@ -6,7 +6,7 @@ use Rattle.semantics.specs.SerialOrder.{serial}
 use Rattle.semantics.specs.Shown.{is_task_at, run_of}
 use Rattle.cell_races.specs.declared.access.Visit.{Visit}
 use Rattle.cell_races.specs.Accesses.{conflicts}
-use Rattle.cell_races.specs.Races.{is_loose, race_from, race_in}
+use Rattle.cell_races.specs.Races.{is_unordered, race_from, race_in}
 use Rattle.log_laws.proofs.lemmas.Members.{Member, member_of, contains_of, member_append, member_left, member_map, map_member, member_filter, filter_member, none_or_some, none_found, only, found_at}
 use Rattle.log_laws.proofs.lemmas.Apart.{pairs_from}
 use Rattle.order_laws.specs.Turns.{Meeting, AreInTurn, AgreeWithThemselves, ListsItems}
@@ -20,32 +20,32 @@ use Rattle.order_laws.proofs.Kept.{place_is, listed}
 
 module _ (before : ℕ → ℕ → Bool) where
   passes : (behind : List Visit) (b : Visit) (bs : List Visit) → race_from before behind (b ∷ bs) ≡ None
-      → (find (is_loose before b) behind ≡ None) × (race_from before (behind ++ b ∷ []) bs ≡ None)
-  passes behind b bs e = elim (none_or_some (find (is_loose before b) behind)) [
+      → (find (is_unordered before b) behind ≡ None) × (race_from before (behind ++ b ∷ []) bs ≡ None)
+  passes behind b bs e = elim (none_or_some (find (is_unordered before b) behind)) [
     | inl none ↦ (none, rw none at e)
     | inr some ↦ let bad = rw some.1 at e in absurd cc
   ]
 
-  none_loose : (behind bs : List Visit) → race_from before behind bs ≡ None → (v w : Visit) → (Member behind v × Member bs w)
-      ⊎ Earlier bs v w → is_loose before w v ≡ false
-  none_loose behind [] e v w (inl m) = absurd m.1
-  none_loose behind [] e v w (inr m) = absurd m
-  none_loose behind (b ∷ bs) e v w (inl (m, inl is)) = none_found (is_loose before w) behind v
-      (subst (λ u. find (is_loose before u) behind ≡ None) (sym is) (passes behind b bs e).0) m
-  none_loose behind (b ∷ bs) e v w (inl (m, inr n)) = none_loose (behind ++ b ∷ []) bs (passes behind b bs e).1 v w
+  none_unordered : (behind bs : List Visit) → race_from before behind bs ≡ None → (v w : Visit) → (Member behind v × Member bs w)
+      ⊎ Earlier bs v w → is_unordered before w v ≡ false
+  none_unordered behind [] e v w (inl m) = absurd m.1
+  none_unordered behind [] e v w (inr m) = absurd m
+  none_unordered behind (b ∷ bs) e v w (inl (m, inl is)) = none_found (is_unordered before w) behind v
+      (subst (λ u. find (is_unordered before u) behind ≡ None) (sym is) (passes behind b bs e).0) m
+  none_unordered behind (b ∷ bs) e v w (inl (m, inr n)) = none_unordered (behind ++ b ∷ []) bs (passes behind b bs e).1 v w
       (inl (member_left behind (b ∷ []) v m, n))
-  none_loose behind (b ∷ bs) e v w (inr (inl (is, n))) = none_loose (behind ++ b ∷ []) bs (passes behind b bs e).1 v w
+  none_unordered behind (b ∷ bs) e v w (inr (inl (is, n))) = none_unordered (behind ++ b ∷ []) bs (passes behind b bs e).1 v w
       (inl (last behind v b is, n))
     where
       last : (behind : List Visit) (v b : Visit) → v ≡ b → Member (behind ++ b ∷ []) v
       last [] v b is = inl is
       last (x ∷ xs) v b is = inr (last xs v b is)
-  none_loose behind (b ∷ bs) e v w (inr (inr m)) = none_loose (behind ++ b ∷ []) bs (passes behind b bs e).1 v w (inr m)
+  none_unordered behind (b ∷ bs) e v w (inr (inr m)) = none_unordered (behind ++ b ∷ []) bs (passes behind b bs e).1 v w (inr m)
 
   all_calm : (behind bs : List Visit) → ((v w : Visit) → (Member behind v × Member bs w) ⊎ Earlier bs v w
-      → is_loose before w v ≡ false) → race_from before behind bs ≡ None
+      → is_unordered before w v ≡ false) → race_from before behind bs ≡ None
   all_calm behind [] h = refl
-  all_calm behind (b ∷ bs) h = elim (none_or_some (find (is_loose before b) behind)) [
+  all_calm behind (b ∷ bs) h = elim (none_or_some (find (is_unordered before b) behind)) [
     | inl none ↦ rw none (all_calm (behind ++ b ∷ []) bs (λ v w side. elim side [
       | inl both ↦ elim (member_append behind (b ∷ []) v both.0) [
         | inl old ↦ h v w (inl (old, inr both.1))
@@ -54,7 +54,7 @@ module _ (before : ℕ → ℕ → Bool) where
       | inr later ↦ h v w (inr (inr later))
     ]))
     | inr some ↦
-        let at = found_at (is_loose before b) behind some.0 some.1 in
+        let at = found_at (is_unordered before b) behind some.0 some.1 in
         absurd (true≢false (sym at.1 ∙ h some.0 b (inl (at.0, inl refl))))
   ]
 
@@ -92,8 +92,8 @@ visits_of t p a v m = elim (cases_Bool (is_task_at t a)) [
 ]
 
 module _ (t : Tables) (before : ℕ → ℕ → Bool) (tells : Tells t before) (lists : ListsItems t) where
-  -- What is not loose, and conflicts, is before.
-  is_before : (v w : Visit) → is_loose before w v ≡ false → conflicts v.access w.access ≡ true → before v.node w.node ≡ true
+  -- What is not unordered, and conflicts, is before.
+  is_before : (v w : Visit) → is_unordered before w v ≡ false → conflicts v.access w.access ≡ true → before v.node w.node ≡ true
   is_before v w e c = elim (cases_Bool (before v.node w.node)) [
     | inl so ↦ so
     | inr not_so ↦ absurd (true≢false (sym (and_from (conflicts v.access w.access) (not (before v.node w.node)) c (ap not not_so)) ∙ e))
@@ -109,7 +109,7 @@ module _ (t : Tables) (before : ℕ → ℕ → Bool) (tells : Tells t before) (
       let e = flat_earlier (item_visits t p) (serial t) a b v w order
       (visited t p a m.q one (member_of (uses_of t a) m.q m.of_a) m.at_a)
       (visited t p b m.r other (member_of (uses_of t b) m.r m.of_b) m.at_b) in
-      let none = none_loose before [] (task_visits t p) (calm p first) v w (inr e) in
+      let none = none_unordered before [] (task_visits t p) (calm p first) v w (inr e) in
       (tells (run_of t a) (run_of t b)).0 (is_before v w none (conflicts_are m.q.access m.r.access ∙ ap not m.differ))
 
   pub is_calm : AgreeWithThemselves t → (points : List ℕ) → AreInTurn t points → (p : Place) → is_in points p.point ≡ true
@@ -120,8 +120,8 @@ module _ (t : Tables) (before : ℕ → ℕ → Bool) (tells : Tells t before) (
         let parts = earlier_flat (item_visits t p) (serial t) v w e in
         let one = visits_of t p parts.a v parts.in_a in
         let other = visits_of t p parts.b w parts.in_b in
-        false_from_ne_true (is_loose before w v) (λ is_loose_so.
-        let l = and_parts (conflicts v.access w.access) (not (before v.node w.node)) is_loose_so in
+        false_from_ne_true (is_unordered before w v) (λ is_unordered_so.
+        let l = and_parts (conflicts v.access w.access) (not (before v.node w.node)) is_unordered_so in
         let c : conflicts (access_of one.r.access) (access_of other.r.access) ≡ true =
         ap (λ (u : Visit). conflicts (access_of one.r.access) u.access) (sym other.is)
         ∙ (ap (λ (u : Visit). conflicts u.access w.access) (sym one.is) ∙ l.0) in

@@ -13,7 +13,7 @@ use Rattle.log_laws.proofs.lemmas.Apart.{number_within, number_in}
 use Rattle.reach_marks.specs.Reached.{Marks, AreMarksOf, before_in}
 use Rattle.cell_races.specs.declared.access.Access.{Access}
 use Rattle.cell_races.specs.declared.touches.Touch.{Touch}
-use Rattle.cell_races.specs.declared.scan.Clashing.{Clashing}
+use Rattle.cell_races.specs.declared.scan.FoundRace.{FoundRace}
 use Rattle.cell_races.specs.Accesses.{meant}
 use Rattle.cell_races.specs.Touches.{touch}
 use Rattle.cell_races.specs.Ranks.{rank_in}
@@ -140,7 +140,7 @@ module _ (t : Tables) (order : List ℕ) (marks : Marks) (replayed : order ≡ r
   pub free_race : IsFree (before_in marks) order touches → IsRaceFree t
   free_race free a b cell r = free a b cell (to_clash a b cell r)
 
-  pub shown_race : (s : Clashing) → IsShown (before_in marks) (rank_in marks) order touches s → IsShownRace t s.a s.b s.cell
+  pub shown_race : (s : FoundRace) → IsShown (before_in marks) (rank_in marks) order touches s → IsShownRace t s.a s.b s.cell
   shown_race s h =
       let race = to_race s.a s.b s.cell h.clash in
       let at = nodes_of s.a s.b s.cell race in
@@ -154,7 +154,7 @@ module _ (t : Tables) (order : List ℕ) (marks : Marks) (replayed : order ≡ r
             rw (at.0, n.0) (h.first_earlier c (to_clash c s.b s.cell r) (rw (← n.0, ← at.1) less));
       }
 
-  pub found_race : (o : Option Clashing) → MatchOption o (IsFree (before_in marks) order touches)
+  pub found_race : (o : Option FoundRace) → MatchOption o (IsFree (before_in marks) order touches)
       (IsShown (before_in marks) (rank_in marks) order touches) → MatchOption o (IsRaceFree t) (IsShownIn t)
   found_race None h = free_race h
   found_race (Some s) h = shown_race s h

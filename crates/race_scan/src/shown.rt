@@ -11,7 +11,7 @@ ghost use Rattle.race_scan.specs.Ends.{IsEndOf, IsShownIn};
 
 use crate::node_touches::touches_of;
 use atoms::Atoms;
-use cell_races::{Clashing, shown_clash};
+use cell_races::{FoundRace, shown_race};
 use cut_logs::CutLog;
 use event_graph::{Graph, Order};
 use logs::Log;
@@ -47,7 +47,7 @@ fn race_of<'a, P: ArenaSet<'a>>(
     graph: &Graph,
     order: &Order,
     reach: &Reach,
-) -> Result<Option<Clashing>, AllocError>
+) -> Result<Option<FoundRace>, AllocError>
     requires graph { graph.now ≡ graph_of log.now.nodes }
     requires order { IsOrderOf graph.now order.now }
     requires reach { AreMarksOf graph.now reach.now }
@@ -55,7 +55,7 @@ fn race_of<'a, P: ArenaSet<'a>>(
 {
     let _linked = graph.len();
     let touches = touches_of(alloc, log, order.as_slice())?;
-    let clash = shown_clash(alloc, graph, order, reach, touches)?;
+    let clash = shown_race(alloc, graph, order, reach, touches)?;
     Ok(clash)
 }
 
@@ -79,6 +79,6 @@ pub fn scan<'a, P: ArenaSet<'a>>(
     let log = CutLog::at(log, atoms.firsts());
     match race_of(alloc, &log, graph, order, reach)? {
         None => Ok(()),
-        Some(Clashing { a, b, cell }) => Err(ScanEnd::Race { a, b, cell }),
+        Some(FoundRace { a, b, cell }) => Err(ScanEnd::Race { a, b, cell }),
     }
 }

@@ -152,7 +152,7 @@ module _ (t : Tables) where
   sifted_row out kept base a row sifted bits sift = record {
     sound = λ i lt e. sym (bits i lt) ∙ (and_parts (has_bit row i) (out a || out (base + i)) (sym (sift i lt) ∙ e)).0;
     whole = λ i lt order meet. elim (cases_Bool (out a || out (base + i))) [
-      | inl loose ↦ inl (sift i lt ∙ and_from (has_bit row i) (out a || out (base + i)) (bits i lt ∙ meet) loose)
+      | inl unordered ↦ inl (sift i lt ∙ and_from (has_bit row i) (out a || out (base + i)) (bits i lt ∙ meet) unordered)
       | inr neither ↦
           let free = or_false (out a) (out (base + i)) neither in
           inr (kept a (base + i) order meet free.0 free.1)

@@ -13,7 +13,7 @@ use Rattle.task_order.specs.declared.kept.Schedule.{Schedule}
 pub record IsSchedule {P : Type 0} (s : Schedule P) : Type 0 where
   pub marks : AreMarksOf (graph_of s.log.now.nodes) s.reach.now
   pub runs : AreRunsOf s.log.now s.runs.now
-  pub kept : AreKeptBut s.log.now (is_noted s.loose.now)
+  pub kept : AreKeptBut s.log.now (is_noted s.unordered.now)
 
 -- Each bit of a row is of an item, from a base on, with which the item of the row interferes; and each later one with which it interferes has its bit, or is run in serial order with it.
 pub record IsRow (t : Tables) (base a : ℕ) (row : List ℕ) : Type 0 where

@@ -16,7 +16,7 @@ pub(crate) struct Schedule<'l, 'a, P: PointSet + Copy> {
     pub(crate) log: &'l Log<'a, P>,
     pub(crate) reach: &'l Reach,
     pub(crate) runs: &'l [usize],
-    pub(crate) loose: &'l [bool],
+    pub(crate) unordered: &'l [bool],
 }
 
 /// Whether a node is before another, where there are both.

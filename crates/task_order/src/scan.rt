@@ -10,7 +10,7 @@ ghost use Rattle.order_laws.specs.Turns.{AreKeptBut, ListsItems};
 ghost use Rattle.task_order.specs.Gathered.{AreFirstTouches, in_order};
 ghost use Rattle.task_order.specs.Runs.{AreRunsOf};
 
-use cell_races::{Touch, loose_places};
+use cell_races::{Touch, unordered_places};
 use log_laws::serial_order_lists;
 use logs::Log;
 use order_laws::places_tell_of_tasks;
@@ -79,7 +79,7 @@ fn items_noted<'a, P: PointSet + Copy>(
 }
 
 /// For each item whether it is noted as a task that is not in turn, from what tasks do at first points alone: every two tasks that interfere, neither of which is noted, are run in serial order. One pass over what they do.
-pub(crate) fn loose_tasks<'a, P: PointSet + Copy>(
+pub(crate) fn unordered_tasks<'a, P: PointSet + Copy>(
     alloc: Global,
     log: &Log<'a, P>,
     reach: &Reach,
@@ -90,8 +90,8 @@ pub(crate) fn loose_tasks<'a, P: PointSet + Copy>(
     requires runs { AreRunsOf log.now runs.now }
     requires touches { AreFirstTouches log.now touches.now }
     requires order { AreInOrder touches.now }
-    ensures each { IfOk result (λ loose. length loose.items ≡ length log.now.items) }
-    ensures kept { IfOk result (λ loose. AreKeptBut log.now (is_noted loose.items)) }
+    ensures each { IfOk result (λ unordered. length unordered.items ≡ length log.now.items) }
+    ensures kept { IfOk result (λ unordered. AreKeptBut log.now (is_noted unordered.items)) }
 {
     lists_items(log);
     before_is_transitive();
@@ -101,7 +101,7 @@ pub(crate) fn loose_tasks<'a, P: PointSet + Copy>(
         let all = Vec::from_elem(alloc, true, log.items().len())?;
         return Ok(all);
     }
-    let noted = loose_places(alloc, reach, &order, touches)?;
+    let noted = unordered_places(alloc, reach, &order, touches)?;
     let items = items_noted(alloc, log, &noted)?;
     Ok(items)
 }

@@ -13,7 +13,7 @@ ghost use Rattle.task_order.specs.Searched.{IsTaskOrder};
 use crate::kept::Schedule;
 use crate::least::first_unkept;
 use crate::runs::runs_of;
-use crate::scan::loose_tasks;
+use crate::scan::unordered_tasks;
 use crate::task_touches::touches_of_tasks;
 use crate::tasks::{count_task_pairs, task_places};
 use atoms::Atoms;
@@ -111,7 +111,7 @@ fn order_of_tasks<'a, P: PointSet + Copy>(
     ensures { IfOk result (IsTaskOrder schedule.now.log.now) }
 {
     first_pair_is_shown();
-    if none_noted(schedule.loose) {
+    if none_noted(schedule.unordered) {
         kept_order(alloc, schedule.log, places)
     } else {
         order_by_rows(alloc, schedule, places)
@@ -131,13 +131,13 @@ pub fn task_order<'a, P: ArenaSet<'a>>(
     let atoms = Atoms::build(alloc, log.rects())?;
     let runs = runs_of(alloc, log)?;
     let touches = touches_of_tasks(alloc, log, atoms.firsts())?;
-    let loose = loose_tasks(alloc, log, reach, &runs, &touches)?;
+    let unordered = unordered_tasks(alloc, log, reach, &runs, &touches)?;
     let places = task_places(alloc, log, &touches)?;
     let schedule = Schedule {
         log,
         reach,
         runs: &runs,
-        loose: &loose,
+        unordered: &unordered,
     };
     order_of_tasks(alloc, &schedule, &places)
 }

@@ -12,37 +12,37 @@ use pair_rows::{Places, meeting_rows, minus, no_bits, set};
 use point_set::PointSet;
 use std::alloc::{AllocError, Global};
 
-/// Whether an item is loose.
-fn is_loose(loose: &[bool], item: usize) -> bool
-    ensures { result ≡ is_noted loose.now item }
+/// Whether an item is unordered.
+fn is_unordered(unordered: &[bool], item: usize) -> bool
+    ensures { result ≡ is_noted unordered.now item }
 {
-    item < loose.len() && loose[item]
+    item < unordered.len() && unordered[item]
 }
 
-/// The bits of those of 1,024 items in a row that are not loose.
-fn bits_of_others(loose: &[bool], base: usize) -> [u64; 16]
+/// The bits of those of 1,024 items in a row that are not unordered.
+fn bits_of_others(unordered: &[bool], base: usize) -> [u64; 16]
     requires { base < 2 ^ 32 }
-    ensures { (i : ℕ) → i < 1024 → has_bit result i ≡ not (is_noted loose.now (base + i)) }
+    ensures { (i : ℕ) → i < 1024 → has_bit result i ≡ not (is_noted unordered.now (base + i)) }
 {
     let mut bits = no_bits();
     for i in 0..1024 {
-        if !is_loose(loose, base + i) {
+        if !is_unordered(unordered, base + i) {
             set(&mut bits, i);
         }
     }
     bits
 }
 
-/// Leaves in the row of each item that is not loose the bits of loose items alone.
-fn sift(rows: &mut Vec<[u64; 16]>, loose: &[bool], base: usize)
+/// Leaves in the row of each item that is not unordered the bits of unordered items alone.
+fn sift(rows: &mut Vec<[u64; 16]>, unordered: &[bool], base: usize)
     requires { base < 2 ^ 32 }
     ensures rows { length rows.new.items ≡ length rows.old.items }
     ensures bits { (a i : ℕ) → a < length rows.old.items → i < 1024 → row_bit rows.new.items a i
-        ≡ (row_bit rows.old.items a i && (is_noted loose.now a || is_noted loose.now (base + i))) }
+        ≡ (row_bit rows.old.items a i && (is_noted unordered.now a || is_noted unordered.now (base + i))) }
 {
-    let others = bits_of_others(loose, base);
+    let others = bits_of_others(unordered, base);
     for a in 0..rows.len() {
-        if !is_loose(loose, a) {
+        if !is_unordered(unordered, a) {
             minus(&mut rows[a], &others);
         }
     }
@@ -63,6 +63,6 @@ pub(crate) fn sifted_rows<'a, P: PointSet + Copy>(
     ensures rows { IfOk result (λ rows. AreRows schedule.now.log.now base rows.items) }
 {
     let mut rows = meeting_rows(alloc, places, count, base)?;
-    sift(&mut rows, schedule.loose, base);
+    sift(&mut rows, schedule.unordered, base);
     Ok(rows)
 }

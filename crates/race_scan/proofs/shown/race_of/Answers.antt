@@ -17,8 +17,8 @@ touches_of-requires g c κs =
           ∙ length-map nodes _) placed.within),
     )
 
-pub shown_clash-requires-clause-within : goal.shown_clash-requires-clause-within
-shown_clash-requires-clause-within g c = rw (c.in_ok-touches.ensures, c.as_slice.ensures)
+pub shown_race-requires-clause-within : goal.shown_race-requires-clause-within
+shown_race-requires-clause-within g c = rw (c.in_ok-touches.ensures, c.as_slice.ensures)
     (places_within c.args.log.now c.args.order.now (length c.args.order.now))
 
 pub returns : goal.returns

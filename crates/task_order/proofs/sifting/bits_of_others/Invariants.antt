@@ -4,4 +4,4 @@ use Rattle.pair_rows.specs.Bits1024.{has_bit}
 use Rattle.task_order.proofs.sifting.bits_of_others.Given as goal
 
 abbrev pub invariant-loop-i : goal.invariant-loop-i
-invariant-loop-i l = (i : ℕ) → i < 1024 → has_bit l.bits i ≡ (nat_lt i l.i && not (is_noted l.loose (l.base + i)))
+invariant-loop-i l = (i : ℕ) → i < 1024 → has_bit l.bits i ≡ (nat_lt i l.i && not (is_noted l.unordered (l.base + i)))

@@ -7,6 +7,6 @@ abbrev pub invariant-loop-a : goal.invariant-loop-a
 invariant-loop-a l = record {
   rows : length l.rows.items ≡ length l.fn.rows.items;
   done : (a i : ℕ) → a < length l.fn.rows.items → i < 1024 → a < l.a
-      → row_bit l.rows.items a i ≡ (row_bit l.fn.rows.items a i && (is_noted l.loose a || is_noted l.loose (l.base + i)));
+      → row_bit l.rows.items a i ≡ (row_bit l.fn.rows.items a i && (is_noted l.unordered a || is_noted l.unordered (l.base + i)));
   left : (a i : ℕ) → a < length l.fn.rows.items → i < 1024 → l.a ≤ a → row_bit l.rows.items a i ≡ row_bit l.fn.rows.items a i;
 }

@@ -11,6 +11,6 @@ returns-clause-rows g c a lt =
     let count = c.in_ok-rows.ensures.rows in
     let long = c.sift.ensures.rows in
     let within : a < length old = omega (arith, lt, long) in
-    sifted_row t (is_noted c.args.schedule.now.loose.now) c.requires.schedule.kept c.args.base a (get_or old a []) (get_or new a [])
+    sifted_row t (is_noted c.args.schedule.now.unordered.now) c.requires.schedule.kept c.args.base a (get_or old a []) (get_or new a [])
     (λ i less. c.in_ok-rows.ensures.bits a i (omega (arith, within, count)) less ∙ c.requires.places.meet a (c.args.base + i))
     (λ i less. c.sift.ensures.bits a i within less)

@@ -7,7 +7,7 @@ use Rattle.cell_races.specs.Turns as turns
 use Rattle.order_laws.proofs.lemmas.SerialPlaces.{serial_place_within}
 use Rattle.task_order.specs.Gathered.{in_order}
 use Rattle.task_order.proofs.Turned.{in_turn, listed_within}
-use Rattle.task_order.proofs.scan.loose_tasks.Goals as goal
+use Rattle.task_order.proofs.scan.unordered_tasks.Goals as goal
 
 pub runs_in_order-requires : goal.runs_in_order-requires
 runs_in_order-requires g c = all_contained (λ item. item < length c.args.runs.now) (serial c.args.log.now)

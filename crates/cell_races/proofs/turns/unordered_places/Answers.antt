@@ -10,7 +10,7 @@ use Rattle.cell_races.proofs.Cells.{IsApart, NotAfter}
 use Rattle.cell_races.proofs.Parts.{take_end, drop_parts, at, apart_more, run_in_order}
 use Rattle.cell_races.proofs.Turning.{pairs_in}
 use Rattle.cell_races.proofs.Sifting.{notes_both, notes_all}
-use Rattle.cell_races.proofs.turns.loose_places.Goals as goal
+use Rattle.cell_races.proofs.turns.unordered_places.Goals as goal
 
 abbrev none : Touch
 none = record { cell = record { inst = 0; point = 0; field = 0 }; place = 0; access = Reads }
