@@ -1,10 +1,11 @@
 -- Tests of the members of lists.
-use Rattle.std.proofs.Common.{◌≡◌, ℕ, suc, Bool, true, false, ◌&&◌, ◌||◌, cond, List, [], ◌∷◌, ◌++◌, filter, length, find, Some, None, is_some, refl, sym, ap, ◌∙◌, inl, inr, arith}
+use Rattle.std.proofs.Common.{◌≡◌, ℕ, ◌<◌, zero, suc, get_or, Bool, true, false, ◌&&◌, ◌||◌, cond, List, [], ◌∷◌, ◌++◌, filter, length, find, Some, None, is_some, refl, sym, ap, ◌∙◌, inl, inr, arith}
 use Rattle.std.specs.List.{list_any, list_all}
 use Rattle.std.specs.Option.{option_map, option_or}
-use Rattle.std.proofs.lemmas.Bool.{cases_Bool}
+use Rattle.std.proofs.lemmas.Bool.{cases_Bool, or_right}
 use Rattle.std.proofs.lemmas.List.Folds.{find-append, list_any_none}
 use Rattle.list_lemmas.proofs.lemmas.Firsts.{or_none}
+use Rattle.vocabulary.specs.Prelude.{Lined, Record, records_of}
 
 pub list_any-alike : {X : Type 0} (p q : X → Bool) (xs : List X) → ((x : X) → p x ≡ q x) → list_any p xs ≡ list_any q xs
 list_any-alike p q [] e = refl
@@ -67,3 +68,11 @@ find-kept p xs x miss = find-append p xs (x ∷ []) ∙ ap (λ b. option_or (fin
 
 pub find-last : {X : Type 0} (p : X → Bool) (xs : List X) (x : X) → find p xs ≡ None → p x ≡ true → find p (xs ++ x ∷ []) ≡ Some x
 find-last p xs x none hit = find-append p xs (x ∷ []) ∙ ap (λ o. option_or o (find p (x ∷ []))) none ∙ ap (λ b. cond b (Some x) None) hit
+
+-- One record settles whether some record passes.
+pub any_record : (p : Record → Bool) (log : List Lined) (i : ℕ) (d : Lined) → i < length log → p (get_or log i d).rec ≡ true
+    → list_any p (records_of log) ≡ true
+any_record p [] i d lt h = absurd (omega (arith, lt))
+any_record p (l ∷ ls) zero d lt h = ap (λ b. b || list_any p (records_of ls)) h
+any_record p (l ∷ ls) (suc i) d lt h =
+    or_right (p l.rec) (list_any p (records_of ls)) (any_record p ls i d (omega (arith, lt)) h)

@@ -1,5 +1,5 @@
 -- What is gathered of a log as a whole.
-use Rattle.std.specs.Prelude.{◌≡◌, ℕ, Bool, List, [], filter, length, Option, Some, None, is_some}
+use Rattle.std.specs.Prelude.{◌≡◌, ℕ, Bool, true, List, [], filter, length, Option, Some, None, is_some}
 use Rattle.std.specs.List.{list_any}
 use Rattle.std.specs.Option.{option_map, option_map_or}
 use Rattle.vocabulary.specs.Prelude.{Record, Node}
@@ -23,16 +23,16 @@ task_run _ = None
 abbrev pub list_count : List Record → ℕ
 list_count log = length (filter (λ r. is_some (items_listed r)) log)
 
--- These are the completion events of the records.
-abbrev pub AreCompleted : List Record → (ℕ → Bool) → Type 0
-AreCompleted log done = (event : ℕ) → done event ≡ list_any (completes event) log
+-- Of some events these are the ones that the records complete.
+abbrev pub AreCompleted : List Record → (ℕ → Bool) → (ℕ → Bool) → Type 0
+AreCompleted log events done = (event : ℕ) → events event ≡ true → done event ≡ list_any (completes event) log
 
--- These are the tasks that the records run.
-abbrev pub AreRun : List Record → (ℕ → Bool) → Type 0
-AreRun log run = (task : ℕ) → run task ≡ list_any (runs_task task) log
+-- Of some tasks these are the ones that the records run.
+abbrev pub AreRun : List Record → (ℕ → Bool) → (ℕ → Bool) → Type 0
+AreRun log tasks run = (task : ℕ) → tasks task ≡ true → run task ≡ list_any (runs_task task) log
 
 -- What is kept of the records is right.
-pub record IsGathered (log : List Record) (done run : ℕ → Bool) (lists : ℕ) : Type 0 where
-  pub completions : AreCompleted log done
-  pub runs : AreRun log run
+pub record IsGathered (log : List Record) (events done tasks run : ℕ → Bool) (lists : ℕ) : Type 0 where
+  pub completions : AreCompleted log events done
+  pub runs : AreRun log tasks run
   pub count : lists ≡ list_count log

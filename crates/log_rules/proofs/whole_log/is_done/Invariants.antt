@@ -1,0 +1,8 @@
+use Rattle.std.proofs.Common.{◌≡◌, false, take}
+use Rattle.std.specs.List.{list_any}
+use Rattle.vocabulary.specs.Prelude.{records_of}
+use Rattle.semantics.specs.Rules.{completes}
+use Rattle.log_rules.proofs.whole_log.is_done.Given as goal
+
+abbrev pub invariant-loop-l : goal.invariant-loop-l
+invariant-loop-l l = list_any (completes l.event) (records_of (take l.l-index l.log)) ≡ false
