@@ -19,7 +19,8 @@ cell_rect grid c = record {
   y1 = get_or grid.ys (c.row + 1) 0 - 1;
 }
 
--- The atoms of rectangles are the cells of their grid of which some rectangle has a point, column by column and then row by row.
+-- The atoms of rectangles are the cells of their grid of which some rectangle has a point, column by column
+-- and then row by row.
 abbrev pub atoms_of : List Rect → List Rect
 atoms_of rects = map (cell_rect (grid_of rects)) (cells_of rects)
 
@@ -35,7 +36,8 @@ HasPoint r p = Holds r (p / 2 ^ 32) (p % 2 ^ 32)
 abbrev pub IsDeclared : Tables → ℕ → Type 0
 IsDeclared t p = Any (λ (s : Space). is_in s.points p ≡ true) t.spaces
 
--- Rectangles have just the points of declared spaces, no two of them share one, and no space tells two points of one apart.
+-- Rectangles have just the points of declared spaces, no two of them share one, and no space tells two points
+-- of one apart.
 pub record AreAtomsOf (t : Tables) (atoms : List Rect) : Type 0 where
   pub points : (p : ℕ) → Any (λ r. HasPoint r p) atoms ↔ IsDeclared t p
   pub apart : AllPairs (λ r s. (p : ℕ) → HasPoint r p → ¬ HasPoint s p) atoms

@@ -26,7 +26,8 @@ IsStep grid p next = (all : List Rect) → grid ≡ grid_of all
 abbrev pub IsColumnAfter : ℕ → Option ℕ → Type 0
 IsColumnAfter x next = MatchOption next (x + 1 ≡ 2 ^ 32) (λ q. q ≡ (x + 1) * 2 ^ 32)
 
--- The next point of a set behind which one can go on: no cell begins at a point of the set between the two; or none does at a point behind the first.
+-- The next point of a set behind which one can go on: no cell begins at a point of the set between the two;
+-- or none does at a point behind the first.
 abbrev pub IsPointAfter : List Rect → List ℕ → ℕ → Option ℕ → Type 0
 IsPointAfter all points p next = MatchOption next ((q : ℕ) → p < q → Contains points q → is_corner all q ≡ false)
     (λ n. Contains points n × ((q : ℕ) → p < q → q < n → Contains points q → is_corner all q ≡ false))

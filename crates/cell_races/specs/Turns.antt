@@ -18,7 +18,8 @@ AreOfOneCell touches = (x y : Touch) → Contains touches x → Contains touches
 abbrev pub is_noted : List Bool → ℕ → Bool
 is_noted noted place = slice_index_or noted place false
 
--- What is done at a place conflicts with something that is done at the same cell, at no later place, by a node that is not before its node.
+-- What is done at a place conflicts with something that is done at the same cell, at no later place, by a
+-- node that is not before its node.
 pub record IsUnorderedAt (before : ℕ → ℕ → Bool) (order : List ℕ) (touches : List Touch)
     (place : ℕ) : Type 0 where
   pub x : Touch
@@ -31,7 +32,8 @@ pub record IsUnorderedAt (before : ℕ → ℕ → Bool) (order : List ℕ) (tou
   pub not_later : x.place ≤ y.place
   pub not_before : before (slice_index order x.place) (slice_index order y.place) ≡ false
 
--- Of two touches that conflict at a cell, neither at a place that is noted, the node at the earlier place is before the other.
+-- Of two touches that conflict at a cell, neither at a place that is noted, the node at the earlier place is
+-- before the other.
 abbrev pub AreInTurnBut : (ℕ → ℕ → Bool) → List ℕ → List Touch → List Bool → Type 0
 AreInTurnBut before order touches noted = (x y : Touch) → Contains touches x → Contains touches y
     → x.cell ≡ y.cell → x.place < y.place → conflicts x.access y.access ≡ true

@@ -12,11 +12,13 @@ use Rattle.earliest_uses.specs.declared.place_uses.PlaceUses.{PlaceUses}
 abbrev pub against : Earliest → Priv → ℕ
 against e q = if agree q e.access then e.other else e.position
 
--- The position of the earliest use with which another may not change places: it takes turns with atomic ones if it is atomic itself.
+-- The position of the earliest use with which another may not change places: it takes turns with atomic ones
+-- if it is atomic itself.
 abbrev pub bound : PlaceUses → SerialUse → ℕ
 bound s u = elim u.coherence [ Exclusive ↦ against s.all u.access | Atomic ↦ against s.exclusive u.access ]
 
--- What bounds uses takes account of one: those that may not change places with it have a bound that is not above its position.
+-- What bounds uses takes account of one: those that may not change places with it have a bound that is not
+-- above its position.
 abbrev pub IsNoted : (SerialUse → ℕ) → SerialUse → Type 0
 IsNoted bounds one = (u : SerialUse) → kind_of u.access u.coherence one.access one.coherence ≡ Before
     → bounds u ≤ one.position

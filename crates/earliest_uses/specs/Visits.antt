@@ -8,7 +8,8 @@ use Rattle.earliest_uses.specs.declared.place_uses.PlaceUses.{PlaceUses}
 use Rattle.earliest_uses.specs.declared.uses.EarliestUses.{EarliestUses}
 use Rattle.earliest_uses.specs.Earlier.{IsNoted, bound}
 
--- The position of the earliest use of a place with which another may not change places, and the greatest number where there is none.
+-- The position of the earliest use of a place with which another may not change places, and the greatest
+-- number where there is none.
 abbrev pub bound_at : EarliestUses → Place → SerialUse → ℕ
 bound_at e p u = option_map_or (λ (s : PlaceUses). bound s u) (get same_place e.places p) (2 ^ 64 - 1)
 
@@ -18,7 +19,8 @@ pub record IsOver (tree : ℕ) (points fields : List ℕ) (p : Place) : Type 0 w
   pub at_point : is_in points p.point ≡ true
   pub at_field : is_in fields p.field ≡ true
 
--- One use more of some places: no bound rises, those at the places take account of it, and no bound on it there was below a position.
+-- One use more of some places: no bound rises, those at the places take account of it, and no bound on it
+-- there was below a position.
 pub record IsVisit (old new : EarliestUses) (At : Place → Type 0) (one : SerialUse) (earliest : ℕ) : Type 0 where
   pub lower : (p : Place) (u : SerialUse) → bound_at new p u ≤ bound_at old p u
   pub noted : (p : Place) → At p → IsNoted (bound_at new p) one

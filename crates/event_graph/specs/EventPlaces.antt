@@ -18,7 +18,8 @@ pub record ArePlaces (nodes : List Node) (place : ℕ → Option ℕ) : Type 0 w
   pub found : (e p : ℕ) → place e ≡ Some p → done_at nodes p ≡ Some e
   pub known : (e p : ℕ) → done_at nodes p ≡ Some e → place e ≡ Some p
 
--- The nodes' events are all different, and the place of each is known, as is that of each event that a node waits on.
+-- The nodes' events are all different, and the place of each is known, as is that of each event that a node
+-- waits on.
 pub record IsIndexed (nodes : List Node) (place : ℕ → Option ℕ) : Type 0 where
   pub apart : AllPairs (λ (m : Node) (n : Node). m.done ≢ n.done) nodes
   pub places : ArePlaces nodes place

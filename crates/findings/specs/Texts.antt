@@ -135,7 +135,8 @@ abbrev pub event_words : WhyKind → ℕ → List Word → List Word
 event_words Start done ws = ws
 event_words kind done ws = small done ∷ ws
 
--- The line of a link: it names its event, which the start has not, the instance, and how often something was added.
+-- The line of a link: it names its event, which the start has not, the instance, and how often something was
+-- added.
 abbrev pub link_line : WhyLink → Line
 link_line l = record {
   name = kind_text l.kind;
@@ -210,7 +211,8 @@ has_its_event l = elim l.kind [
   | _ ↦ not (l.done == 0)
 ]
 
--- Whether links are a chain, so that all but the last are copies, and the last is none: behind a copy stands a chain, and behind any other link none.
+-- Whether links are a chain, so that all but the last are copies, and the last is none: behind a copy stands
+-- a chain, and behind any other link none.
 abbrev pub is_chain : List WhyLink → Bool
 is_chain [] = false
 is_chain (l ∷ ls) = has_its_event l && (elim l.kind [
@@ -218,7 +220,8 @@ is_chain (l ∷ ls) = has_its_event l && (elim l.kind [
   | _ ↦ length ls == 0
 ])
 
--- Where a report counts what it lists, the counts are right; no more waits are listed as spare than there are; a cycle has an event; and links are a chain.
+-- Where a report counts what it lists, the counts are right; no more waits are listed as spare than there
+-- are; a cycle has an event; and links are a chain.
 abbrev pub IsWhole : Finding → Type 0
 IsWhole (Deps list items before turn) =
     (before ≡ count_by (λ d. d.before) list) × (turn ≡ count_by (λ d. not d.before) list)

@@ -8,7 +8,8 @@ use Rattle.grid.specs.Cuts.{grid_of, span_count, x_ends, y_ends}
 abbrev pub cell_count : List Rect → ℕ
 cell_count rects = span_count (grid_of rects).xs * span_count (grid_of rects).ys
 
--- Whether a point is the first of its cell: some rectangle begins in its column, or ends in the column before, and the same holds of its row.
+-- Whether a point is the first of its cell: some rectangle begins in its column, or ends in the column
+-- before, and the same holds of its row.
 abbrev pub is_corner : List Rect → ℕ → Bool
 is_corner rects p =
     list_any (λ n. n == p / 2 ^ 32) (x_ends rects) && list_any (λ n. n == p % 2 ^ 32) (y_ends rects)

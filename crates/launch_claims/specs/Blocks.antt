@@ -1,4 +1,5 @@
--- Blocks of columns and rows that tasks claim. The first and the last point of the claim of a block are its rows.
+-- Blocks of columns and rows that tasks claim. The first and the last point of the claim of a block are its
+-- rows.
 use Rattle.std.specs.Prelude.{◌≡◌, ◌≢◌, ℕ, ◌+◌, ◌*◌, ◌^◌, ◌<◌, ◌≤◌, ◌⊎◌, ◌&&◌, ◌||◌, max, min, nat_le, nat_lt, not, true, Bool, List, filter, AllPairs, Contains, IsTrue}
 use Rattle.std.specs.List.{Any}
 use Rattle.privilege.specs.Interference.{agree}
@@ -44,7 +45,8 @@ RowsClash seen d = (b : Block) × Contains seen b × IsTrue (clashes b.claim d.c
 
 -- ---- The blocks of which it is enough to know.
 
--- Whether a claim stands in for another, but for its task: it reaches as far, and no privilege agrees with its own but that of the other.
+-- Whether a claim stands in for another, but for its task: it reaches as far, and no privilege agrees with
+-- its own but that of the other.
 abbrev pub covers : Claim → Claim → Bool
 covers c d = share_field c d && (nat_le d.last c.last
     && (agree c.access d.access || not (agree c.access c.access)))
@@ -55,7 +57,8 @@ IsNeedless kept d = Any (λ (b : Block). IsTrue (covers b.claim d.claim)
     × ((b.claim.task ≡ d.claim.task)
     ⊎ Any (λ (e : Block). IsTrue (covers e.claim d.claim) × (e.claim.task ≢ b.claim.task)) kept)) kept
 
--- Whatever block comes behind all that were seen: its rows clash with those of one that is kept, where they do with those of one that was seen.
+-- Whatever block comes behind all that were seen: its rows clash with those of one that is kept, where they
+-- do with those of one that was seen.
 pub record StandFor (kept seen : List Block) : Type 0 where
   pub among : (b : Block) → Contains kept b → Contains seen b
   pub told : (d : Block) → ComeBefore seen d → RowsClash seen d → RowsClash kept d

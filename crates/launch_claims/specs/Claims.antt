@@ -11,7 +11,8 @@ share_field c d = (c.tree == d.tree) && (c.field == d.field)
 abbrev pub share_point : Claim → Claim → Bool
 share_point c d = nat_le (max c.first d.first) (min c.last d.last)
 
--- Two claims clash where two tasks of a launch use a common point of a field, and their privileges do not agree.
+-- Two claims clash where two tasks of a launch use a common point of a field, and their privileges do not
+-- agree.
 abbrev pub clashes : Claim → Claim → Bool
 clashes c d = share_field c d && (share_point c d
     && (not (c.task == d.task) && not (agree c.access d.access)))
@@ -24,7 +25,8 @@ HasClash claims = (c : Claim) × (d : Claim) × Contains claims c × Contains cl
 abbrev pub asked_below : ℕ → List Claim → List Claim
 asked_below number claims = filter (λ (c : Claim). nat_lt c.record number) claims
 
--- The record asks for a claim. Some two claims clash that records up to it ask for, and no two that records below it ask for.
+-- The record asks for a claim. Some two claims clash that records up to it ask for, and no two that records
+-- below it ask for.
 pub record IsFirstClash (claims : List Claim) (number : ℕ) : Type 0 where
   pub asks : (c : Claim) × Contains claims c × (c.record ≡ number)
   pub clash : HasClash (asked_below (number + 1) claims)

@@ -12,7 +12,8 @@ IsTaskOf l id = (l.base ≤ id) × (id < l.end)
 abbrev pub ShareNumber : List ℕ → List ℕ → Type 0
 ShareNumber ns ms = (n : ℕ) × Contains ns n × Contains ms n
 
--- Two tasks use a common point of a field of a tree, and their privileges do not agree. Each set has its points.
+-- Two tasks use a common point of a field of a tree, and their privileges do not agree. Each set has its
+-- points.
 pub record Conflict {P : Type 0} (points_of : P → List ℕ) (u v : Requirement P) : Type 0 where
   pub tasks : u.task ≢ v.task
   pub tree : u.tree ≡ v.tree
@@ -20,7 +21,8 @@ pub record Conflict {P : Type 0} (points_of : P → List ℕ) (u v : Requirement
   pub points : ShareNumber (points_of u.set) (points_of v.set)
   pub accesses : agree u.access v.access ≡ false
 
--- The record of this number asks for the first requirement, the second is asked for by then, and the launch and all points are known before it.
+-- The record of this number asks for the first requirement, the second is asked for by then, and the launch
+-- and all points are known before it.
 pub record IsKnownAt {P : Type 0} (l : LaunchTasks) (n : ℕ) (u v : Requirement P) : Type 0 where
   pub launched : l.number < n
   pub asks : u.record ≡ n
@@ -28,7 +30,8 @@ pub record IsKnownAt {P : Type 0} (l : LaunchTasks) (n : ℕ) (u v : Requirement
   pub others : v.record ≤ n
   pub others_declared : v.declared < n
 
--- At the record of this number, some requirement that it asks for is in conflict with one that is asked for by then.
+-- At the record of this number, some requirement that it asks for is in conflict with one that is asked for
+-- by then.
 abbrev pub InterferesIn : {P : Type 0} → (P → List ℕ) → LaunchTasks → List (Requirement P) → ℕ → Type 0
 InterferesIn {P} points_of l reqs n =
     (u : Requirement P) × (v : Requirement P) × Contains reqs u × Contains reqs v
@@ -42,7 +45,8 @@ AllAgree {P} reqs = (u v : Requirement P) → Contains reqs u → Contains reqs 
 abbrev pub IsOfLaunch : {P : Type 0} → LaunchTasks → List (Requirement P) → Requirement P → Type 0
 IsOfLaunch l reqs u = Contains reqs u × IsTaskOf l u.task
 
--- At the record of this number, some requirement that it asks for interferes with that of another task of a launch.
+-- At the record of this number, some requirement that it asks for interferes with that of another task of a
+-- launch.
 abbrev pub InterferesAt : {P : Type 0} → (P → List ℕ) → List LaunchTasks → List (Requirement P) → ℕ → Type 0
 InterferesAt {P} points_of launches reqs n =
     (l : LaunchTasks) × Contains launches l

@@ -5,7 +5,8 @@ use Rattle.launch_claims.specs.declared.claim.Claim.{Claim}
 use Rattle.launch_claims.specs.declared.reach.Reach.{Reach}
 use Rattle.launch_claims.specs.Claims.{share_field, clashes, HasClash, asked_below}
 
--- The first claim is of the field of the second, or of an earlier one: trees come in ascending order, and in each its fields.
+-- The first claim is of the field of the second, or of an earlier one: trees come in ascending order, and in
+-- each its fields.
 pub record IsFieldBefore (c d : Claim) : Type 0 where
   pub tree : c.tree ≤ d.tree
   pub field : c.tree ≡ d.tree → c.field ≤ d.field
@@ -42,7 +43,8 @@ IsReachOf P seen o =
     (λ last. ((c : Claim) × Contains seen c × P c × (c.last ≡ last))
     × ((c : Claim) → Contains seen c → P c → c.last ≤ last))
 
--- What a reach tells of claims that stand in order: which of those of the last field reaches furthest, and how far those of them reach that are not of its task, or whose privilege does not agree with its.
+-- What a reach tells of claims that stand in order: which of those of the last field reaches furthest, and
+-- how far those of them reach that are not of its task, or whose privilege does not agree with its.
 pub record Measures (r : Reach) (seen : List Claim) : Type 0 where
   pub found : Contains seen r.furthest
   pub latest : (c : Claim) → Contains seen c → IsFieldBefore c r.furthest
@@ -63,12 +65,14 @@ HasNoneOfField d seen = (c : Claim) → Contains seen c → share_field c d ≡ 
 abbrev pub TellsReachOf : (Claim → Type 0) → Reach → Option ℕ → Type 0
 TellsReachOf P r o = (seen : List Claim) → Measures r seen → IsReachOf P seen o
 
--- Of all claims of which something is known, of which no two clash and behind which this one stands: whether one of them clashes with it.
+-- Of all claims of which something is known, of which no two clash and behind which this one stands: whether
+-- one of them clashes with it.
 abbrev pub JudgesNext : (List Claim → Type 0) → Claim → Bool → Type 0
 JudgesNext Known d told = (seen : List Claim) → Known seen → IsBehind seen d → ¬ HasClash seen
     → (IsTrue told ↔ ClashesWithSome seen d)
 
--- Of all claims of which something is known and behind which this one stands: how far they reach with this one.
+-- Of all claims of which something is known and behind which this one stands: how far they reach with this
+-- one.
 abbrev pub MeasuresNext : (List Claim → Type 0) → Claim → Reach → Type 0
 MeasuresNext Known d r = (seen : List Claim) → Known seen → IsBehind seen d → Measures r (seen ++ d ∷ [])
 

@@ -17,7 +17,8 @@ pub record IsTaskOf (t : Tables) (l : TaskLaunch) (item : ℕ) : Type 0 where
   pub at : slice_get t.items item ≡ Some task
   pub launched : is_launched l task.id ≡ true
 
--- Two orders agree but for the order of some tasks of a launch, which stand next to each other: each of these stands there once, in the one order and in the other.
+-- Two orders agree but for the order of some tasks of a launch, which stand next to each other: each of these
+-- stands there once, in the one order and in the other.
 pub record AgreeButFor (t : Tables) (l : TaskLaunch) (order other : List ℕ) : Type 0 where
   pub front : List ℕ
   pub here : List ℕ

@@ -30,7 +30,8 @@ abbrev pub both_run : List Record
 both_run = Inst 1 1 1 one_field layouts.Plain ∷ Map 1 1 one_field 1 ∷ Map 2 1 one_field 1 ∷ Run 1 1 []
     ∷ Run 2 2 [] ∷ []
 
--- A launch over these colours, whose tasks each write a half; then further records, and both run. There are `count` records between header and end.
+-- A launch over these colours, whose tasks each write a half; then further records, and both run. There are
+-- `count` records between header and end.
 abbrev pub halves_written : ℕ → List ℕ → List Record → ℕ → List LLined
 halves_written first colours more count =
     launch_lined_from 1 (plain_records (halves first) ++ Launch 1 colours ∷ Lreq 1 1 1 one_field Wd false

@@ -1,4 +1,5 @@
--- Interference in launches, judged of all that is written. Beside each launch and each written record stands the line of the record that it comes from.
+-- Interference in launches, judged of all that is written. Beside each launch and each written record stands
+-- the line of the record that it comes from.
 use Rattle.std.specs.Prelude.{◌≡◌, ℕ, ◌<◌, ◌≤◌, nat_lt, List, filter, map, Contains, IsTrue, Option, Some, None}
 use Rattle.vocabulary.specs.Prelude.{Fault, Record, lined, tables_of}
 use Rattle.spy_grammar.specs.declared.code.Code.TheVariants as codes
@@ -9,7 +10,8 @@ use Rattle.semantics.specs.Launches.{TaskLaunch, clash}
 abbrev pub written_before : ℕ → List (ℕ × Record) → List Record
 written_before line ws = map (λ (w : ℕ × Record). w.1) (filter (λ (w : ℕ × Record). nat_lt w.0 line) ws)
 
--- What the record on this line writes for a task of an earlier launch clashes with what is written by then for another task of that launch.
+-- What the record on this line writes for a task of an earlier launch clashes with what is written by then
+-- for another task of that launch.
 pub record BreaksAt (ls : List (ℕ × TaskLaunch)) (ws : List (ℕ × Record)) (line : ℕ) : Type 0 where
   pub launch : ℕ × TaskLaunch
   pub own : ℕ × Record

@@ -1,4 +1,5 @@
--- The requirements that written records state, with the points of their spaces. Beside a record stands the line of the record that writes it.
+-- The requirements that written records state, with the points of their spaces. Beside a record stands the
+-- line of the record that writes it.
 use Rattle.std.specs.Prelude.{ℕ, ◌+◌, ◌==◌, List, length, Option, Some, None, option_map, find}
 use Rattle.vocabulary.specs.Prelude.{Priv, Record, points_of, plane_points, privilege_of}
 use Rattle.spy_grammar.specs.declared.record.Record.TheVariants as records

@@ -11,7 +11,8 @@ abbrev pub AreInOrder : List (ℕ × Record) → Type 0
 AreInOrder [] = ⊤
 AreInOrder (w ∷ ws) = ((v : ℕ × Record) → Contains ws v → w.0 ≤ v.0) × AreInOrder ws
 
--- What is launched and written up to the first record that breaks a rule by itself, with the lines beside it, and the fault of that record: the fault of the log is that of the first interference, and else this one.
+-- What is launched and written up to the first record that breaks a rule by itself, with the lines beside it,
+-- and the fault of that record: the fault of the log is that of the first interference, and else this one.
 pub record HasWalked (log : List LLined) (e : Expanded) (launched written : List ℕ)
     (shown : Option Fault) : Type 0 where
   pub fault : (o : Option ℕ) → IsLeast (BreaksAt (zip launched e.launches) (zip written e.written)) o

@@ -22,7 +22,8 @@ is_inner r = not (is_header r || is_end r)
 abbrev pub capped : ℕ → ℕ
 capped n = min n (2 ^ 64 - 1)
 
--- These are the subspaces that the records declare, how many are neither header nor end, and how many bytes their text has.
+-- These are the subspaces that the records declare, how many are neither header nor end, and how many bytes
+-- their text has.
 pub record Tells (rs : List Record) (subs : List Sub) (n : ℕ) (m : ℕ) : Type 0 where
   pub declared : subs ≡ subs_by rs
   pub inner : n ≡ capped (length (filter is_inner rs))

@@ -23,7 +23,8 @@ serves one c field = (one.tree == c.tree) && (contains one.access c.access && is
 abbrev pub serves_all : Claimed → Claimed → Bool
 serves_all one c = (one.space == c.space) && list_all (serves one c) c.fields
 
--- The test passes from the first number up to where it reaches; if it reaches nothing, it fails at the first number; and without an end it passes at each `u64`.
+-- The test passes from the first number up to where it reaches; if it reaches nothing, it fails at the first
+-- number; and without an end it passes at each `u64`.
 abbrev pub Reaches : (ℕ → Bool) → ℕ → Option ℕ → Type 0
 Reaches test from (Some end) = (from ≤ end) × ((x : ℕ) → from ≤ x → x < end → test x ≡ true)
     × (end ≡ from → test from ≡ false)

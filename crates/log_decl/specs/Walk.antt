@@ -32,7 +32,8 @@ seen at earlier = record { log = at.whole.now; earlier = earlier; tables = at.dr
 abbrev pub AreCellsAt : {P : Type 0} → AtRecord P → Type 0
 AreCellsAt at = rules.is_planar at.draft.now ≡ true → at.cells ≡ cell_count (at.draft.now.rects ++ rects_in at.rec.now)
 
--- The tally is that of these records, whose tables these are. In a log of the second version it goes by rectangles.
+-- The tally is that of these records, whose tables these are. In a log of the second version it goes by
+-- rectangles.
 pub record HasTally (earlier : List Record) (t : Tables) (tally : Tally) : Type 0 where
   pub all : Option (List Rect)
   pub is : IsTally all earlier t tally
@@ -42,7 +43,8 @@ abbrev pub IfAt : {P : Type 0} → AtRecord P → (InLog → Type 0) → Type 0
 IfAt at P = (earlier : List Record) → HasTally earlier at.draft.now at.tally.now
     → earlier ≡ records_of at.earlier.now → AreCellsAt at → P (seen at earlier)
 
--- The same where besides it is counted at the end of a log of the second version how many cells begin in each space.
+-- The same where besides it is counted at the end of a log of the second version how many cells begin in each
+-- space.
 abbrev pub IfAtEnd : {P : Type 0} → AtRecord P → Option (Bor Corners) → (InLog → Type 0) → Type 0
 IfAtEnd at corners P = AreAtEnd at.draft.now at.rec.now corners → IfAt at P
 
@@ -75,7 +77,8 @@ spaces_fault earlier (l ∷ rest) = option_or
 abbrev pub IsWithin : Tables → List Record → Type 0
 IsWithin t earlier = rules.is_planar t ≡ false → access_total t earlier ≤ MOST_ACCESSES
 
--- The walk has kept `k` records of the log, whose tables these are; with a code it stands at a record that breaks that rule, and else at the end.
+-- The walk has kept `k` records of the log, whose tables these are; with a code it stands at a record that
+-- breaks that rule, and else at the end.
 pub record StandsAt (log : List Lined) (k : ℕ) (t : Tables) (code : Option Code) : Type 0 where
   pub in_log : k ≤ length log
   pub tables : t ≡ tables_of (take k log)

@@ -1,8 +1,11 @@
--- The numbers of a stencil log of `n` pieces. Pieces and boundaries are counted from 0: piece `i` has the points
--- from `10 i` to `10 i + 9`, and boundary `j` lies between the pieces `j` and `j + 1`. Steps are counted from 0.
+-- The numbers of a stencil log of `n` pieces. Pieces and boundaries are counted from 0: piece `i` has the
+-- points
+-- from `10 i` to `10 i + 9`, and boundary `j` lies between the pieces `j` and `j + 1`. Steps are counted from
+-- 0.
 use Rattle.std.specs.Prelude.{ℕ, ◌+◌, ◌-◌, ◌*◌}
 
--- The ids of spaces: a piece, a piece with a point of each neighbour, and the last point before a boundary and the
+-- The ids of spaces: a piece, a piece with a point of each neighbour, and the last point before a boundary
+-- and the
 -- first one after it.
 abbrev pub piece : ℕ → ℕ
 piece i = 2 + i

@@ -1,4 +1,5 @@
--- The stencil log of `n` pieces in a row, each of 10 points, over 10 steps. Field 1 holds what the stencil reads, at
+-- The stencil log of `n` pieces in a row, each of 10 points, over 10 steps. Field 1 holds what the stencil
+-- reads, at
 -- its piece and one point of each neighbour; field 2 what it gives, from which field 1 is updated.
 use Rattle.std.specs.Prelude.{ℕ, zero, suc, ◌+◌, ◌-◌, ◌*◌, min, true, false, List, [], ◌∷◌, ◌++◌}
 use Rattle.spy_words.specs.declared.access.PrivWord.TheVariants.{Ro, Rw, Wd}
@@ -33,7 +34,8 @@ piece_space i =
     ∷ Sub 1 i (piece i)
     ∷ []
 
--- The pieces with a point of each neighbour. The first begins at 0 (so does `10 * 0 - 1`), and the last ends with all.
+-- The pieces with a point of each neighbour. The first begins at 0 (so does `10 * 0 - 1`), and the last ends
+-- with all.
 abbrev pub halo_space : ℕ → ℕ → List Record
 halo_space n i =
     Ispace (halo n i) (one (10 * i - 1, min (10 * n - 1) (10 * i + 10)))

@@ -23,7 +23,8 @@ AddsAll old new ids = (n : ℕ) → new n ≡ (old n || is_in ids n)
 abbrev pub is_listed : (ℕ → Bool) → (ℕ → Bool) → Record → Bool
 is_listed listed here r = list_all (λ id. listed id || here id) (items_declared r)
 
--- Whether a record lists items badly, given the records of the log, how many records list items before, and the items that those list.
+-- Whether a record lists items badly, given the records of the log, how many records list items before, and
+-- the items that those list.
 abbrev pub lists_badly : List Record → ℕ → (ℕ → Bool) → List ℕ → Bool
 lists_badly log before listed ids =
     has_repeat ids || list_any listed ids

@@ -11,13 +11,15 @@ use Rattle.log_rules.specs.declared.claims.OwnPlace.{OwnPlace}
 use Rattle.log_rules.specs.declared.claims.Claims.{Claims}
 use Rattle.log_rules.specs.declared.own.Asked.{Asked}
 
--- Whether a requirement of this item, tree, points, fields and privilege is at a place and does not agree with a privilege there.
+-- Whether a requirement of this item, tree, points, fields and privilege is at a place and does not agree
+-- with a privilege there.
 abbrev pub claims_at : ℕ → ℕ → List ℕ → List ℕ → Priv → OwnPlace → Priv → Bool
 claims_at item tree points fields access k a =
     (item == k.item) && ((tree == k.tree)
     && (is_in points k.point && (is_in fields k.field && not (agree access a))))
 
--- Whether a requirement is of an item, and shares a place with these points and fields of a tree, where its privilege and the other do not agree.
+-- Whether a requirement is of an item, and shares a place with these points and fields of a tree, where its
+-- privilege and the other do not agree.
 abbrev pub clashes_with : Tables → ℕ → ℕ → List ℕ → List ℕ → Priv → Req → Bool
 clashes_with t item tree points fields access r =
     (r.item == item) && ((r.tree == tree)
@@ -53,7 +55,8 @@ clashes_at t k a = list_any (req_clashes_at t k a) t.reqs
 abbrev pub first_clashes_at : Tables → OwnPlace → Priv → Bool
 first_clashes_at t k a = option_map_or (req_clashes_at t k a) (req_at t k.item 1) false
 
--- What is kept of a place: nothing if no requirement is there, a privilege that agrees with what all of them agree with, or that no privilege does.
+-- What is kept of a place: nothing if no requirement is there, a privilege that agrees with what all of them
+-- agree with, or that no privilege does.
 abbrev pub clashes : Option (Option Priv) → Priv → Bool
 clashes None a = false
 clashes (Some None) a = true
@@ -72,7 +75,8 @@ abbrev pub clashes_row : Claims → ℕ → ℕ → List ℕ → Priv → ℕ �
 clashes_row c item tree fields access point =
     list_any (λ f. clashes_in c (record { item = item; tree = tree; point = point; field = f }) access) fields
 
--- Whether places at a point are claimed: all are, or, where the rectangles of a log are given, those at a point where a cell of their grid begins.
+-- Whether places at a point are claimed: all are, or, where the rectangles of a log are given, those at a
+-- point where a cell of their grid begins.
 abbrev pub is_claim_point : Option (List Rect) → ℕ → Bool
 is_claim_point all p = option_map_or (λ rects. is_corner rects p) all true
 
@@ -80,7 +84,8 @@ is_claim_point all p = option_map_or (λ rects. is_corner rects p) all true
 abbrev pub claim_points : Option (List Rect) → List ℕ → List ℕ
 claim_points all points = option_map_or (λ rects. corners_in rects points) all points
 
--- At each place that may be claimed the first requirement of the item and what is kept there tell together whether some requirement of the item clashes.
+-- At each place that may be claimed the first requirement of the item and what is kept there tell together
+-- whether some requirement of the item clashes.
 abbrev pub AreClaims : Option (List Rect) → Tables → Claims → Type 0
 AreClaims all t c = (k : OwnPlace) (a : Priv) → is_claim_point all k.point ≡ true
     → (first_clashes_at t k a || clashes_in c k a) ≡ clashes_at t k a
@@ -94,7 +99,8 @@ abbrev pub AddsAt : Option (List Rect) → Claims → Claims → (OwnPlace → P
 AddsAt all old new more = (k : OwnPlace) (a : Priv) → is_claim_point all k.point ≡ true
     → clashes_in new k a ≡ (clashes_in old k a || more k a)
 
--- Whether a record is a requirement, but not the first of its item, that is at a place and does not agree with a privilege there.
+-- Whether a record is a requirement, but not the first of its item, that is at a place and does not agree
+-- with a privilege there.
 abbrev pub claimed : Tables → Record → OwnPlace → Priv → Bool
 claimed t (records.Req task tree space fields access atomic) k a =
     not (reqs_before t.reqs (place_of t.items task) == 0)

@@ -24,7 +24,8 @@ abbrev pub AreAnswers : (List ℕ → List ℕ → Bool) → Tables → PairAnsw
 AreAnswers test t kept =
     (k : SpacePair) → MatchOption (get same_pair kept.answers k) ⊤ (IsAnswer test t k.ours k.theirs)
 
--- The bits that are kept are those of the cells of spaces, in the grid of the rectangles if these are given, and the answers are right.
+-- The bits that are kept are those of the cells of spaces, in the grid of the rectangles if these are given,
+-- and the answers are right.
 pub record HasPairs (all : Option (List Rect)) (t : Tables) (pairs : SpacePairs) : Type 0 where
   pub rows : HasRows all t pairs.rows
   pub within : AreAnswers is_within t pairs.within

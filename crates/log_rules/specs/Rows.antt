@@ -20,7 +20,8 @@ space_declared _ = None
 abbrev pub bits_of : CellRows → ℕ → Option CellBits
 bits_of rows id = get nat_eq rows.rows id
 
--- They are those of the cells that the space has in the grid of the rectangles, which are given; and the space is declared.
+-- They are those of the cells that the space has in the grid of the rectangles, which are given; and the
+-- space is declared.
 abbrev pub IsRow : Option (List Rect) → Tables → ℕ → CellBits → Type 0
 IsRow all t id bits = (is_declared t (space_id id) ≡ true)
     × MatchOption all ⊥ (λ rects. AreBitsOf (grid_of rects) (points_in t id) bits)

@@ -24,7 +24,8 @@ use Rattle.log_rules.specs.declared.tally.Tally.{Tally}
 abbrev pub knows_space : Tables → Record → Bool
 knows_space t r = option_map_or (λ p. is_declared t (space_id p.0)) (asked r) true
 
--- The spaces of all requirements, all instances and all accesses are declared, so that their points stay as they are.
+-- The spaces of all requirements, all instances and all accesses are declared, so that their points stay as
+-- they are.
 pub record AreKnown (earlier : List Record) (t : Tables) : Type 0 where
   pub reqs : list_all (λ (r : reqs.Req). is_declared t (space_id r.space)) t.reqs ≡ true
   pub insts : list_all (λ (i : insts.Inst). is_declared t (space_id i.space)) t.insts ≡ true
@@ -38,14 +39,17 @@ rects_in r = unwrap_or (rects_declared r) []
 abbrev pub AreListed : Option (List Rect) → Record → Type 0
 AreListed all r = MatchOption all ⊤ (λ rects. (q : Rect) → Contains (rects_in r) q → Contains rects q)
 
--- What is counted along a log of the first version: the points, cells and accesses of these records, which keep the limit on the last.
+-- What is counted along a log of the first version: the points, cells and accesses of these records, which
+-- keep the limit on the last.
 pub record AreCounts (earlier : List Record) (t : Tables) (tally : Tally) : Type 0 where
   pub points : tally.points ≡ point_total t
   pub cells : tally.cells ≡ cell_total t
   pub accesses : tally.accesses ≡ access_total t earlier
   pub within : access_total t earlier ≤ MOST_ACCESSES
 
--- What is kept of spaces and of the requirements of tasks: the grid is that of the rectangles, if they are given, no space divides a cell of it, and what is known of pairs of spaces is true. While few places were asked for, they are claimed.
+-- What is kept of spaces and of the requirements of tasks: the grid is that of the rectangles, if they are
+-- given, no space divides a cell of it, and what is known of pairs of spaces is true. While few places were
+-- asked for, they are claimed.
 pub record AreKept (all : Option (List Rect)) (t : Tables) (tally : Tally) : Type 0 where
   pub grid : tally.places.grid ≡ option_map grid_of all
   pub cells : HasCells all t
@@ -58,7 +62,8 @@ pub record AreKept (all : Option (List Rect)) (t : Tables) (tally : Tally) : Typ
 abbrev pub IfKept : Tables → Tally → Type 0 → Type 0
 IfKept t tally P = (all : Option (List Rect)) → AreKept all t tally → P
 
--- The tally is that of these records, whose tables these are. In a log of the second version all its rectangles are given.
+-- The tally is that of these records, whose tables these are. In a log of the second version all its
+-- rectangles are given.
 pub record IsTally (all : Option (List Rect)) (earlier : List Record) (t : Tables) (tally : Tally) : Type 0 where
   pub counts : is_planar t ≡ false → AreCounts earlier t tally
   pub lists : IsSetOf (listed t) (has_id tally.listed)
@@ -75,7 +80,8 @@ abbrev pub IfTally : Tables → Tally → (List Record → Type 0) → Type 0
 IfTally t tally P =
     (all : Option (List Rect)) (earlier : List Record) → IsTally all earlier t tally → P earlier
 
--- The record keeps the rules on names and the limits, and leaves the version of the log as it is, so that it may be counted. Its rectangles are among those that are given.
+-- The record keeps the rules on names and the limits, and leaves the version of the log as it is, so that it
+-- may be counted. Its rectangles are among those that are given.
 pub record MayCount (all : Option (List Rect)) (earlier : List Record) (t : Tables) (r : Record) : Type 0 where
   pub version : (line : ℕ) → is_planar (with_record t line r) ≡ false → is_planar t ≡ false
   pub few : length t.reqs + 1 < 2 ^ 32 - 1

@@ -15,7 +15,8 @@ space_seen points s = record { id = s.id; points = points s.set }
 abbrev pub Declares : tables.Tables → tables.Tables → Record → Type 0
 Declares old new rec = new ≡ tables.with_record old 0 rec
 
--- The runs or rectangles of a record's space ascend, and so do the fields of a field space, a requirement, a fill or an instance.
+-- The runs or rectangles of a record's space ascend, and so do the fields of a field space, a requirement, a
+-- fill or an instance.
 abbrev pub Ascends : Record → Type 0
 Ascends (Ispace id set) = AreRects (map strip set)
 Ascends (Plane id quads) = AreRects (map rect_of quads)

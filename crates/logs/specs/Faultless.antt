@@ -4,7 +4,8 @@ use Rattle.std.specs.List.{AllByRecursion}
 use Rattle.vocabulary.specs.Prelude.{Lined, Good, records_of, AreLines, Tables, tables_of}
 use Rattle.semantics.specs.Faults.{declaration_fault}
 
--- The tables are those of good records, on lines that ascend, that break no rule of a log's frame and no rule on single records.
+-- The tables are those of good records, on lines that ascend, that break no rule of a log's frame and no rule
+-- on single records.
 pub record AreDeclared (t : Tables) : Type 0 where
   pub lines : ℕ
   pub log : List Lined

@@ -33,7 +33,8 @@ is_read_of task p r = (r.task == task)
     && ((r.req == p.0) && ((r.place.tree == p.1.tree)
     && ((r.place.point == p.1.point) && (r.place.field == p.1.field))))
 
--- The list that a task carries: its own among some reads, in the order of its requirements, their points and fields.
+-- The list that a task carries: its own among some reads, in the order of its requirements, their points and
+-- fields.
 abbrev pub carried : Tables → ℕ → List LongRead → Readings
 carried t task reads =
     readings (flat_map (λ p. filter (is_read_of task p) reads) (places_read t (place_of t.items task)))

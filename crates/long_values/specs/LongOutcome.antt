@@ -11,7 +11,8 @@ use Rattle.semantics.specs.Counts.{operation_count, read_count, task_count}
 use Rattle.long_values.specs.LongSequential.{LongRead, wanted_long}
 use Rattle.long_values.specs.LongExecution.{start_long, executed_long, IsShort, IsRightLong}
 
--- The run computed what sequential execution computes: whatever order its events allow, each read sees what it should, with all that was read for it.
+-- The run computed what sequential execution computes: whatever order its events allow, each read sees what
+-- it should, with all that was read for it.
 pub record IsSoundLong (t : Tables) : Type 0 where
   pub no_cycle : HasNoCycle t
   pub no_race : IsRaceFree t

@@ -23,7 +23,8 @@ one_field = 1 ∷ []
 
 -- ---- two tasks
 
--- Two tasks use a region, the first by this privilege, and the second reads; then these records, from line 9 on; and both run.
+-- Two tasks use a region, the first by this privilege, and the second reads; then these records, from line 9
+-- on; and both run.
 abbrev pub two_tasks : PrivWord → List NRecord → List NLined
 two_tasks access nested = nested_lined_from 1 (
     plain_records (records.Header 1 ∷ records.Ispace 1 ((0, 3) ∷ []) ∷ records.Fields 1 one_field
@@ -31,7 +32,8 @@ two_tasks access nested = nested_lined_from 1 (
     ∷ records.Req 2 1 1 one_field Ro false ∷ [])
     ++ nested ++ plain_records (records.Run 1 1 [] ∷ records.Run 2 2 one_field ∷ records.End 9 ∷ []))
 
--- The group 1 with this privilege on the region, and the group 2, a child of this one, which reads; then these members.
+-- The group 1 with this privilege on the region, and the group 2, a child of this one, which reads; then
+-- these members.
 abbrev pub two_groups : PrivWord → ℕ → List NRecord → List NRecord
 two_groups access parent members = Group 1 0 ∷ Greq 1 1 1 one_field access ∷ Group 2 parent
     ∷ Greq 2 1 1 one_field Ro ∷ members
@@ -65,7 +67,8 @@ abbrev pub licensed_later : List NLined
 licensed_later = two_tasks Rw (Group 1 0 ∷ Group 2 1 ∷ Greq 2 1 1 one_field Ro ∷ first_in 1
     ++ Greq 1 1 1 one_field Rw ∷ [])
 
--- What is shown of a child, a task or not, whose only requirement asks for more than its group licenses, at the least place of the region.
+-- What is shown of a child, a task or not, whose only requirement asks for more than its group licenses, at
+-- the least place of the region.
 abbrev pub unlicensed_at_first : Bool → ℕ → ℕ → Unlicensed
 unlicensed_at_first leaf id group = record {
   child = record { leaf = leaf; id = id; group = group };
@@ -76,7 +79,8 @@ unlicensed_at_first leaf id group = record {
 
 -- ---- groups on a region
 
--- A region with the points 0 to 3, and a space with the points 0 and 1; then these records, from line 6 on; then further records of a log.
+-- A region with the points 0 to 3, and a space with the points 0 and 1; then these records, from line 6 on;
+-- then further records of a log.
 abbrev pub on_region : List NRecord → List Record → List NLined
 on_region nested rest = nested_lined_from 1 (
     plain_records (records.Header 1 ∷ records.Ispace 1 ((0, 3) ∷ []) ∷ records.Ispace 2 ((0, 1) ∷ [])
@@ -130,7 +134,8 @@ unfoldable pub nests_computed : ⊤
 unfolding nested_fault
 nests_computed = tt
 
--- So many groups without a parent, each on a line of its own: the first has this id, and stands on the next line.
+-- So many groups without a parent, each on a line of its own: the first has this id, and stands on the next
+-- line.
 abbrev pub groups_from : ℕ → ℕ → List NLined
 groups_from id zero = []
 groups_from id (suc k) = record { line = id + 1; rec = Group id 0 } ∷ groups_from (id + 1) k

@@ -26,7 +26,8 @@ pub record Nested : Type 0 where
 abbrev pub nested_by : List NLined → Nested
 nested_by log = record { tables = nested_tables log; nesting = nesting_of log }
 
--- This is what some nested log says of which no fault is shown, and no child of which asks for more than its group licenses.
+-- This is what some nested log says of which no fault is shown, and no child of which asks for more than its
+-- group licenses.
 pub record IsLicensed (t : Tables) (n : Nesting) : Type 0 where
   pub lines : ℕ
   pub log : List NLined
@@ -39,7 +40,8 @@ pub record IsLicensed (t : Tables) (n : Nesting) : Type 0 where
 abbrev pub all_nested : List Pending → Nesting
 all_nested ps = fold with_pending no_nesting ps
 
--- These tables are those of the plain records of some nested log, which have no fault, and these are its other records.
+-- These tables are those of the plain records of some nested log, which have no fault, and these are its
+-- other records.
 pub record IsOrigin (t : Tables) (ps : List Pending) : Type 0 where
   pub lines : ℕ
   pub log : List NLined
@@ -67,7 +69,8 @@ IsRefusal t n (ends.Fault line code) = ⊥
 IsRefusal t n (ends.Unlicensed u) = shown_unlicensed t n ≡ Some u
 IsRefusal t n ends.Memory = Unit {0}
 
--- These are the groups of such a nested log and their privileges, and no child asks for more than its group licenses.
+-- These are the groups of such a nested log and their privileges, and no child asks for more than its group
+-- licenses.
 pub record AreFound (t : Tables) (ps : List Pending) (n : Nesting)
     (claims : List (List Claimed)) : Type 0 where
   pub groups : AreGroups t ps n

@@ -4,7 +4,8 @@ use Rattle.vocabulary.specs.Prelude.{agree, Place, Req, Tables, is_in, uses_of, 
 use Rattle.semantics.specs.SerialOrder.{serial, serial_place}
 use Rattle.semantics.specs.Shown.{is_task_at, run_of, IsKept}
 
--- Two items do not agree at a place: each has a requirement that covers it, and the privileges of the two do not agree.
+-- Two items do not agree at a place: each has a requirement that covers it, and the privileges of the two do
+-- not agree.
 pub record Meeting (t : Tables) (a b : ℕ) (p : Place) : Type 0 where
   pub q : Req
   pub r : Req
@@ -14,7 +15,8 @@ pub record Meeting (t : Tables) (a b : ℕ) (p : Place) : Type 0 where
   pub at_b : covers t p r ≡ true
   pub differ : agree q.access r.access ≡ false
 
--- Of two tasks that do not agree at one of these points, the one that is earlier in serial order is run before the other.
+-- Of two tasks that do not agree at one of these points, the one that is earlier in serial order is run
+-- before the other.
 abbrev pub AreInTurn : Tables → List ℕ → Type 0
 AreInTurn t points = (a b : ℕ) (p : Place) → is_in points p.point ≡ true → is_task_at t a ≡ true
     → is_task_at t b ≡ true → Meeting t a b p → serial_place t a < serial_place t b

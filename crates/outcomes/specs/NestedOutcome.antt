@@ -6,7 +6,9 @@ use Rattle.findings.specs.declared.finding.Finding.{Finding}
 use Rattle.findings.specs.declared.finding.Finding.TheVariants as findings
 use Rattle.semantics.specs.Nesting.{NestedReads, free_pairs, nested_fault, nested_tables, nested_text_fault, nesting_of, shown_unlicensed}
 
--- What is found in a nested log of so many lines: its fault; or the first child that asks for more than its group licenses; or how many tasks are members and how many groups there are, and how many pairs of these are free of each other.
+-- What is found in a nested log of so many lines: its fault; or the first child that asks for more than its
+-- group licenses; or how many tasks are members and how many groups there are, and how many pairs of these
+-- are free of each other.
 abbrev pub NestedFinds : ℕ → List NLined → Finding → Type 0
 NestedFinds lines log (findings.Fault line code) =
     nested_fault lines log ≡ Some (record { line = line; code = code })

@@ -1,4 +1,5 @@
--- What each command finds in an input: the first that holds of a fault, a cycle, a race or an unordered pair, and a differing read; and else its counts, with what it lists, or where a read came from.
+-- What each command finds in an input: the first that holds of a fault, a cycle, a race or an unordered pair,
+-- and a differing read; and else its counts, with what it lists, or where a read came from.
 use Rattle.std.specs.Prelude.{◌≡◌, ℕ, ◌+◌, List, map, filter, filter_map, length, Some, None, option_map, slice_get, unwrap_or, ◌⊎◌}
 use Rattle.vocabulary.specs.Prelude.{Value, Lined, Place, Cell, ListedWait, Ask, Link, LinkKind, Reads, records_of, text_of, line_count, Tables, tables_of, pairs, item_kind, is_before, least_place, graph_of, IsCycle, HasNoCycle, id_of, IsRaceFree, Seen, want_of, IsRight, Differs, shown_difference, Command, Fault}
 use Rattle.findings.specs.declared.finding.Dep.{Dep}
@@ -81,7 +82,8 @@ pub record ShowsDifference (t : Tables) (r : Seen) (want : Value) : Type 0 where
   pub differs : Differs t r
   pub want_is : want ≡ want_of t r
 
--- The run computed what sequential execution computes: whatever order its events allow, each read sees what it should.
+-- The run computed what sequential execution computes: whatever order its events allow, each read sees what
+-- it should.
 pub record IsSound (t : Tables) : Type 0 where
   pub no_cycle : HasNoCycle t
   pub no_race : IsRaceFree t
@@ -159,7 +161,8 @@ Finds commands.Deps t f = DepsFinds t f
 Finds commands.Spare t f = SpareFinds t f
 Finds (commands.Why ask) t f = WhyFinds t ask f
 
--- What a command finds in a log of so many lines: the fault that it shows of the log, or else what it finds in the tables.
+-- What a command finds in a log of so many lines: the fault that it shows of the log, or else what it finds
+-- in the tables.
 abbrev pub IsFound : Command → ℕ → List Lined → Finding → Type 0
 IsFound command lines log (findings.Fault line code) =
     log_fault command lines log ≡ Some (record { line = line; code = code })

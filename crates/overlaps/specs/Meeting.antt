@@ -62,7 +62,8 @@ goes_right lo hi middle r = not (spans lo hi r) && nat_lt middle r.x1
 abbrev pub column_with : Ends → Rect → ℕ
 column_with e r = if nat_lt e.any (r.y1 + 1) then r.x0 else e.column
 
--- The row above all rectangles so far, the first column of one that ends there, and the row above all that have all columns.
+-- The row above all rectangles so far, the first column of one that ends there, and the row above all that
+-- have all columns.
 abbrev pub ends_with : ℕ → ℕ → Ends → Rect → Ends
 ends_with lo hi e r = record {
   any = max e.any (r.y1 + 1);

@@ -12,7 +12,8 @@ AreTall rects = All (λ r. r.y0 ≤ r.y1) rects
 abbrev pub place_with : Reached → ℕ → ℕ
 place_with reached end = if nat_lt reached.end end then reached.count else reached.place
 
--- The first rectangles begin up to a row, this is the row above all of them, and this the place of one that ends there.
+-- The first rectangles begin up to a row, this is the row above all of them, and this the place of one that
+-- ends there.
 pub record IsReached (rects : List Rect) (reached : Reached) (row : ℕ) : Type 0 where
   pub within : reached.count ≤ length rects
   pub begin : (k : ℕ) → k < reached.count → (rect_at rects k).y0 ≤ row

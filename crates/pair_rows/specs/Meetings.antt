@@ -31,7 +31,8 @@ HasOneClass users = (u v : User) → Contains users u → Contains users v → u
 abbrev pub AreByClass : List User → Type 0
 AreByClass users = IsNonDecreasingBy (λ (u : User). u.class) users
 
--- From a place on all users are of the class that stands there, up to the end, and what stands at the end is of another.
+-- From a place on all users are of the class that stands there, up to the end, and what stands at the end is
+-- of another.
 pub record IsClassEnd (users : List User) (from end : ℕ) : Type 0 where
   pub behind : from < end
   pub within : end ≤ length users

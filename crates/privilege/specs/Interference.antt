@@ -18,7 +18,8 @@ abbrev pub both_atomic : Coherence → Coherence → Bool
 both_atomic Atomic Atomic = true
 both_atomic _ _ = false
 
--- Two accesses, each with its privilege and its coherence, are free where they agree; else they take turns where both are atomic; else the earlier comes before the other.
+-- Two accesses, each with its privilege and its coherence, are free where they agree; else they take turns
+-- where both are atomic; else the earlier comes before the other.
 abbrev pub kind_of : Priv → Coherence → Priv → Coherence → Kind
 kind_of p c q d = if agree p q then Free else if both_atomic c d then Turn else Before
 

@@ -9,7 +9,8 @@ use Rattle.race_scan.specs.declared.shown.ScanEnd.TheVariants.{Race, Memory}
 abbrev pub IsShownIn : Tables → FoundRace → Type 0
 IsShownIn t s = IsShownRace t s.a s.b s.cell
 
--- Why a scan finds no log free of races: the race is the one that is shown. Memory may have run out at any time.
+-- Why a scan finds no log free of races: the race is the one that is shown. Memory may have run out at any
+-- time.
 abbrev pub IsEndOf : Tables → ScanEnd → Type 0
 IsEndOf t (Race a b cell) = IsShownRace t a b cell
 IsEndOf t Memory = Unit {0}

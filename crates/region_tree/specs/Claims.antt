@@ -128,7 +128,8 @@ abbrev pub NoneFails : Regions → Asked → ℕ → List Claim → Type 0
 NoneFails d (Apart also) limit claims = NoneOverlap also limit claims
 NoneFails d Within limit claims = NoneLeave d limit claims
 
--- A subspace before a limit such that up to it there is a fault, or `None` where there is none before the limit.
+-- A subspace before a limit such that up to it there is a fault, or `None` where there is none before the
+-- limit.
 abbrev pub IsFailing : Regions → Asked → ℕ → List Claim → Option ℕ → Type 0
 IsFailing d asked limit claims o = MatchOption o (NoneFails d asked limit claims)
     (λ i. (i < limit) × ¬ NoneFails d asked (i + 1) claims)

@@ -34,7 +34,8 @@ Meets d i j point = (s : Sub) × (t : Sub) × (j < i) × (slice_get d.subs i ≡
 abbrev pub MeetsEarlier : Regions → ℕ → ℕ → Type 0
 MeetsEarlier d i j = (point : ℕ) × Meets d i j point
 
--- Subspace `i` is not within the space that its partition cuts, or meets an earlier subspace of its disjoint partition.
+-- Subspace `i` is not within the space that its partition cuts, or meets an earlier subspace of its disjoint
+-- partition.
 abbrev pub IsFaulty : Regions → ℕ → Type 0
 IsFaulty d i = ((point : ℕ) × IsOutside d i point) ⊎ ((j : ℕ) × MeetsEarlier d i j)
 
@@ -54,7 +55,8 @@ Shows d i Memory = ⊤
 abbrev pub FirstNotWithin : Regions → ℕ → ℕ → Type 0
 FirstNotWithin d sub point = IsFirstFault d sub × IsLeast (IsOutside d sub) (Some point)
 
--- The first fault is of the second way alone; `other` is the least earlier subspace that is met, and this the least point that the two share.
+-- The first fault is of the second way alone; `other` is the least earlier subspace that is met, and this the
+-- least point that the two share.
 abbrev pub FirstNotDisjoint : Regions → ℕ → ℕ → ℕ → Type 0
 FirstNotDisjoint d sub other point =
     IsFirstFault d sub × IsLeast (IsOutside d sub) None × IsLeast (MeetsEarlier d sub) (Some other)

@@ -21,7 +21,8 @@ with_part d p = record d { parts = d.parts ++ p ∷ [] }
 abbrev pub with_sub : Regions → Sub → Regions
 with_sub d s = record d { subs = d.subs ++ s ∷ [] }
 
--- The subspace may be declared: its partition and its space are, its step is new, its space is no subspace yet and is not split, and the space of its partition lies less than `DEEPEST` steps below another.
+-- The subspace may be declared: its partition and its space are, its step is new, its space is no subspace
+-- yet and is not split, and the space of its partition lies less than `DEEPEST` steps below another.
 pub record MaySub (d : Regions) (s : Sub) : Type 0 where
   pub part : IsSome (part_of d s.part)
   pub space : IsSome (space_of d s.space)

@@ -10,7 +10,8 @@ pub record Way : Type 0 where
   pub top : ℕ
   pub steps : List Step
 
--- The steps lead from one space down to another: each to a subspace of the space that the steps before it reach.
+-- The steps lead from one space down to another: each to a subspace of the space that the steps before it
+-- reach.
 abbrev pub Leads : Regions → ℕ → List Step → ℕ → Type 0
 Leads d from [] to = from ≡ to
 Leads d from (step ∷ steps) to = (s : Sub) × Contains d.subs s × (step_of s ≡ step)

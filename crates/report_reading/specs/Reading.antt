@@ -1,4 +1,5 @@
--- What the words of a text say if it is the text of a report. Of other texts it is some report that has another text.
+-- What the words of a text say if it is the text of a report. Of other texts it is some report that has
+-- another text.
 use Rattle.std.specs.Prelude.{ℕ, ◌-◌, ◌^◌, Bool, List, map, take, drop, length, codes, if◌then◌else◌}
 use Rattle.std.specs.Str.{bytes_eq}
 use Rattle.spy_words.specs.Reading.{parts}
@@ -54,7 +55,8 @@ ask_at ws = record { task = small_at ws 2; req = small_at ws 4; point = large_at
 abbrev pub events_at : List (List ℕ) → List ℕ
 events_at ws = map (number_of (2 ^ 32 - 1)) ws
 
--- The table, backwards: the report that the words of its own line say, if the lines beside it have these words.
+-- The table, backwards: the report that the words of its own line say, if the lines beside it have these
+-- words.
 unfoldable pub report_at : List (List (List ℕ)) → List (List ℕ) → Finding
 report_at listed ws =
     if bytes_eq (word_at ws 0) (codes "accepted")

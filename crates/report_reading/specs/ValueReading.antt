@@ -37,7 +37,8 @@ abbrev pub with_entries : ℕ → List (List ℕ) → Value → Value
 with_entries op [] v = v
 with_entries op (w ∷ ws) v = with_entries op ws (with_entry op (entry_at w) v)
 
--- A value with the group added that a word says: the operator stands before the opening bracket, the contributions before the closing one.
+-- A value with the group added that a word says: the operator stands before the opening bracket, the
+-- contributions before the closing one.
 unfoldable pub with_group : List ℕ → Value → Value
 with_group w v = with_entries (small_at (parts 91 w) 0)
     (parts 44 (word_at (parts 93 (word_at (parts 91 w) 1)) 0)) v

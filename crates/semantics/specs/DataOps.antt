@@ -1,11 +1,13 @@
--- Operations on data in one shape. Each does one thing, with the instances that it names, at each point of a space and each of some fields.
+-- Operations on data in one shape. Each does one thing, with the instances that it names, at each point of a
+-- space and each of some fields.
 use Rattle.std.specs.Prelude.{ℕ, List, [], ◌∷◌, Option, Some, None}
 use Rattle.spy_grammar.specs.declared.record.Record.{Record}
 use Rattle.spy_grammar.specs.declared.record.Record.TheVariants as records
 use Rattle.semantics.specs.declared.tables.Op.{Op}
 use Rattle.semantics.specs.declared.tables.Op.TheVariants as operations
 
--- What is done with instances: data is copied, a constant is put, gathered contributions are emptied, or they are folded.
+-- What is done with instances: data is copied, a constant is put, gathered contributions are emptied, or they
+-- are folded.
 pub data DataAct : Type 0 where
   Copies : (src dst : ℕ) → DataAct
   Puts : (inst n : ℕ) → DataAct

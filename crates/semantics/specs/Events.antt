@@ -29,7 +29,8 @@ IsChain nodes start (next ∷ between) end = WaitsOn nodes next start × IsChain
 abbrev pub Before : List Node → ℕ → ℕ → Type 0
 Before nodes a b = (between : List ℕ) × IsChain nodes a between b
 
--- A cycle: nodes, at least one and each once, of which each is waited on by the next, and the last by the first.
+-- A cycle: nodes, at least one and each once, of which each is waited on by the next, and the last by the
+-- first.
 abbrev pub IsCycle : List Node → List ℕ → Type 0
 IsCycle nodes [] = ⊥
 IsCycle nodes (first ∷ rest) = AllPairs (λ a b. a ≢ b) (first ∷ rest) × IsChain nodes first rest first

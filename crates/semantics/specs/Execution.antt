@@ -26,7 +26,8 @@ abbrev pub is_home_cell : Tables → Cell → Bool
 is_home_cell t c = option_map_or (λ (i : Inst). is_home i.kind
     && (is_in (points_in t i.space) c.point && is_in i.fields c.field)) (inst_at t c.inst) false
 
--- At the start the cells of a home instance hold what their places hold then, and all others nothing that is known.
+-- At the start the cells of a home instance hold what their places hold then, and all others nothing that is
+-- known.
 abbrev pub start : Tables → State
 start t c = if is_home_cell t c then plain Init else plain Raw
 

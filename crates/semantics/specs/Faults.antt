@@ -1,4 +1,5 @@
--- The fault that is shown of a log: its frame first, then its records line by line, then what concerns the log as a whole.
+-- The fault that is shown of a log: its frame first, then its records line by line, then what concerns the
+-- log as a whole.
 use Rattle.std.specs.Prelude.{ℕ, ◌+◌, ◌-◌, ◌==◌, Bool, true, false, not, ◌||◌, List, [], ◌∷◌, ◌++◌, find, length, Option, Some, None, option_map, is_some, if◌then◌else◌}
 use Rattle.std.specs.List.{list_all}
 use Rattle.std.specs.Option.{option_or, option_map_or}
@@ -37,7 +38,8 @@ abbrev pub opens : Record → Bool
 opens (Header version) = (version == 1) || (version == 2)
 opens _ = false
 
--- header: there is no record; or the first is no header of these versions; or a later one is a header. (`lines` is the number of lines.)
+-- header: there is no record; or the first is no header of these versions; or a later one is a header.
+-- (`lines` is the number of lines.)
 abbrev pub header_fault : ℕ → List Lined → Option Fault
 header_fault lines [] = Some (at_line codes.Header (lines + 1))
 header_fault lines (l ∷ log) = if opens l.rec then first_with codes.Header is_header log
@@ -57,7 +59,8 @@ miscounts count _ = false
 abbrev pub count_fault : List Lined → Option Fault
 count_fault log = first_with codes.Count (miscounts (length log - 2)) log
 
--- A record in its log, as the rules see it: the records of the whole log, those before it, what these declare, and the record.
+-- A record in its log, as the rules see it: the records of the whole log, those before it, what these
+-- declare, and the record.
 pub record InLog : Type 0 where
   pub log : List Record
   pub earlier : List Record
@@ -160,7 +163,8 @@ abbrev pub serial_line : Tables → ℕ → ℕ
 serial_line t item = option_map_or (λ (s : Serial). s.line)
     (find (λ (s : Serial). is_in s.ids (id_of t item)) t.serials) 0
 
--- serial-order: two items stand against program order that may not. The line is the one that lists the first of them.
+-- serial-order: two items stand against program order that may not. The line is the one that lists the first
+-- of them.
 abbrev pub serial_fault : Tables → Option Fault
 serial_fault t = option_map (λ (p : ℕ × ℕ). at_line codes.SerialOrder (serial_line t p.0)) (turned_pair t)
 

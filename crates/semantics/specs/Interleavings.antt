@@ -11,7 +11,8 @@ abbrev pub is_read : Move → Bool
 is_read (Read task req cell) = true
 is_read _ = false
 
--- A step has to be taken before another where its node is before the other's, or where both are of one node, and the first is a read and the other none.
+-- A step has to be taken before another where its node is before the other's, or where both are of one node,
+-- and the first is a read and the other none.
 abbrev pub MustPrecede : List Node → Step → Step → Type 0
 MustPrecede nodes x y = Before nodes x.node y.node
     ⊎ ((x.node ≡ y.node) × (is_read x.move ≡ true) × (is_read y.move ≡ false))

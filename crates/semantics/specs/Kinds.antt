@@ -61,7 +61,8 @@ abbrev pub strongest : List Kind → Kind
 strongest [] = Free
 strongest (k ∷ ks) = stronger k (strongest ks)
 
--- The kind of two items at a place: the strongest over the requirements of the one and of the other that cover it.
+-- The kind of two items at a place: the strongest over the requirements of the one and of the other that
+-- cover it.
 abbrev pub kind_at : Tables → ℕ → ℕ → Place → Kind
 kind_at t a b p = strongest (flat_map
     (λ (q : Req). map (λ (r : Req). kind_of q.access q.coherence r.access r.coherence)
@@ -79,7 +80,8 @@ abbrev pub is_before : Kind → Bool
 is_before Before = true
 is_before _ = false
 
--- Two items interfere where their kind is not `Free`. These are the pairs that do, each in program order: by the first item, and then by the second.
+-- Two items interfere where their kind is not `Free`. These are the pairs that do, each in program order: by
+-- the first item, and then by the second.
 abbrev pub pairs : Tables → List (ℕ × ℕ)
 pairs t = flat_map (λ a. map (λ b. (a, b))
     (filter (λ b. not (is_free (item_kind t a b))) (range_with_len (a + 1) (length t.items - (a + 1)))))

@@ -60,7 +60,8 @@ abbrev pub for_tasks : (ℕ → ℕ → Record) → ℕ → List ℕ → List Re
 for_tasks make id [] = []
 for_tasks make id (colour ∷ colours) = make id colour ∷ for_tasks make (id + 1) colours
 
--- What a record writes: a launch its tasks; an `lreq` a requirement of each, on the subspace of the task's colour; `end` how many records are written between header and end; and any other itself.
+-- What a record writes: a launch its tasks; an `lreq` a requirement of each, on the subspace of the task's
+-- colour; `end` how many records are written between header and end; and any other itself.
 abbrev pub writes : Expanded → LRecord → List Record
 writes e (Plain (records.End n)) = records.End (length e.written - 1) ∷ []
 writes e (Plain r) = r ∷ []
@@ -95,7 +96,8 @@ abbrev pub repeats_launch : Expanded → LRecord → Bool
 repeats_launch e (Launch base colours) = is_some (launch_of e base)
 repeats_launch e r = false
 
--- unknown-id: no earlier launch has its id, or the partition has no subspace so far under some colour of the launch.
+-- unknown-id: no earlier launch has its id, or the partition has no subspace so far under some colour of the
+-- launch.
 abbrev pub names_no_launch : Expanded → LRecord → Bool
 names_no_launch e (Lreq base tree part fields access atomic) =
     is_none (launch_of e base) || list_any (λ colour. is_none (space_under (declared_by e) part colour))
@@ -121,7 +123,8 @@ writes_long e r = nat_lt MOST_BYTES (length (text_of (e.written ++ writes e r)))
 abbrev pub is_launched : TaskLaunch → ℕ → Bool
 is_launched l id = not (nat_lt id l.base) && nat_lt id (l.base + length l.colours)
 
--- Whether two records are requirements of two tasks of a launch that share a place and may not both be used there in any order.
+-- Whether two records are requirements of two tasks of a launch that share a place and may not both be used
+-- there in any order.
 abbrev pub clash : Tables → TaskLaunch → Record → Record → Bool
 clash t l (records.Req task tree space fields access atomic)
     (records.Req other its_tree its_space its_fields its_access its_atomic) =
@@ -131,7 +134,8 @@ clash t l (records.Req task tree space fields access atomic)
     (coherence_of its_atomic))))))
 clash t l q r = false
 
--- launch-interference: what it writes for a task of an earlier launch clashes with what is written so far, or by itself, for another task of that launch.
+-- launch-interference: what it writes for a task of an earlier launch clashes with what is written so far, or
+-- by itself, for another task of that launch.
 abbrev pub interferes_in_launch : Expanded → LRecord → Bool
 interferes_in_launch e r =
     list_any (λ (l : TaskLaunch). list_any
@@ -152,7 +156,8 @@ breaks_launch e r codes.TooLong = writes_long e r
 breaks_launch e r codes.LaunchInterference = interferes_in_launch e r
 breaks_launch e r _ = false
 
--- The fault of the first of some records that breaks a rule on launches, and that rule is the first that it breaks.
+-- The fault of the first of some records that breaks a rule on launches, and that rule is the first that it
+-- breaks.
 abbrev pub launches_fault : Expanded → List LLined → Option Fault
 launches_fault e [] = None
 launches_fault e (l ∷ rest) = option_or
@@ -161,7 +166,8 @@ launches_fault e (l ∷ rest) = option_or
 
 -- ---- the fault of a launch log
 
--- How a record stands in the frame of its log. There a launch is like a task, and an `lreq` like a requirement.
+-- How a record stands in the frame of its log. There a launch is like a task, and an `lreq` like a
+-- requirement.
 abbrev pub as_framed : LRecord → Record
 as_framed (Plain r) = r
 as_framed (Launch base colours) = records.Task base
@@ -170,7 +176,8 @@ as_framed (Lreq base tree part fields access atomic) = records.Req base tree par
 abbrev pub framed : List LLined → List Lined
 framed log = map (λ (l : LLined). record { line = l.line; rec = as_framed l.rec }) log
 
--- The fault that is shown of a launch log: that of its frame, and else that of the first record that breaks a rule on launches.
+-- The fault that is shown of a launch log: that of its frame, and else that of the first record that breaks a
+-- rule on launches.
 unfoldable pub launch_fault : ℕ → List LLined → Option Fault
 launch_fault lines log = option_or (header_fault lines (framed log))
     (option_or (ended_fault lines (framed log))

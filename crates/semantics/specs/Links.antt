@@ -20,7 +20,8 @@ use Rattle.semantics.specs.Execution.{same_cell, start, ReadsIn}
 use Rattle.semantics.specs.Interleavings.{IsInterleaving}
 use Rattle.semantics.specs.Shown.{event_of}
 
--- What a move does to a cell, as far as it matters where the cell's value came from: nothing, or it adds to what the cell holds, puts something of its own there, or puts there what another cell holds.
+-- What a move does to a cell, as far as it matters where the cell's value came from: nothing, or it adds to
+-- what the cell holds, puts something of its own there, or puts there what another cell holds.
 pub data Touch : Type 0 where
   Leaves : Touch
   Adds : Touch
@@ -40,13 +41,15 @@ touch (Put cell n) c = touch_at cell Puts c
 touch (Reset cell) c = Leaves
 touch (Fold op from to) c = touch_at to Adds c
 
--- The step that put something into a cell, or none where the cell held it from the start on; and how often something was added to it there before it was read.
+-- The step that put something into a cell, or none where the cell held it from the start on; and how often
+-- something was added to it there before it was read.
 pub record Source : Type 0 where
   pub by : Option Step
   pub cell : Cell
   pub adds : ℕ
 
--- What is behind a cell, the latest first, from the last step that was taken and what is behind the cells before it. So many adds were met on the way back.
+-- What is behind a cell, the latest first, from the last step that was taken and what is behind the cells
+-- before it. So many adds were met on the way back.
 abbrev pub with_last : Step → Touch → Cell → ℕ → (Cell → ℕ → List Source) → List Source
 with_last x Leaves c adds before = before c adds
 with_last x Adds c adds before = before c (adds + 1)
@@ -98,7 +101,8 @@ link_of t s = elim s.by [
   | Some x ↦ record { kind = kind_of x.move; done = event_of t x.node; inst = s.cell.inst; adds = s.adds }
 ]
 
--- The links of the read that is asked for: in every interleaving they are the steps by which came what it reads.
+-- The links of the read that is asked for: in every interleaving they are the steps by which came what it
+-- reads.
 pub record AreLinksOf (t : Tables) (ask : Ask) (links : List Link) : Type 0 where
   pub read : Step
   pub is_step : Contains (steps t) read
@@ -134,7 +138,8 @@ last_put t ask [] = None
 last_put t ask (l ∷ []) = value_put t ask l
 last_put t ask (l ∷ m ∷ ls) = last_put t ask (m ∷ ls)
 
--- Where nothing was added on the way, the read that is asked for sees in every interleaving what the last link puts.
+-- Where nothing was added on the way, the read that is asked for sees in every interleaving what the last
+-- link puts.
 abbrev pub TellValue : Tables → Ask → List Link → Type 0
 TellValue t ask links = AllByRecursion (λ (l : Link). l.adds ≡ 0) links → (xs : List Step)
     → IsInterleaving t xs

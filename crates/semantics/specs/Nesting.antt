@@ -1,4 +1,5 @@
--- Nested logs: groups and what is a child of them, which places a group licenses, which groups are free of each other, and the faults that are shown.
+-- Nested logs: groups and what is a child of them, which places a group licenses, which groups are free of
+-- each other, and the faults that are shown.
 use Rattle.std.specs.Prelude.{ℕ, zero, suc, ◌+◌, ◌==◌, nat_lt, Bool, true, false, not, ◌&&◌, ◌||◌, List, [], ◌∷◌, ◌++◌, map, filter, find, fold, length, count_by, Option, Some, None, option_map, option_and_then, if◌then◌else◌}
 use Rattle.std.specs.List.{list_any, list_all, filter_map}
 use Rattle.std.specs.Option.{option_or}
@@ -106,7 +107,8 @@ from_group n zero group = []
 from_group n (suc k) None = []
 from_group n (suc k) (Some group) = group ∷ from_group n k (group_above n group)
 
--- The ancestors of a group: all groups above it. There are no more of them than groups, since no group lies above itself.
+-- The ancestors of a group: all groups above it. There are no more of them than groups, since no group lies
+-- above itself.
 abbrev pub ancestors : Nesting → ℕ → List ℕ
 ancestors n group = from_group n (length n.groups) (group_above n group)
 
@@ -167,7 +169,8 @@ abbrev pub first_given : {X Y : Type 0} → (X → Option Y) → List X → Opti
 first_given f [] = None
 first_given f (x ∷ xs) = option_or (f x) (first_given f xs)
 
--- The least place of the first requirement of a child that has one which the group of the child does not license.
+-- The least place of the first requirement of a child that has one which the group of the child does not
+-- license.
 abbrev pub unlicensed_child : Tables → Nesting → Child → Option Unlicensed
 unlicensed_child t n c = first_given
     (λ (r : Req). option_map (λ place. record { child = c; req = r.number; place = place })
@@ -204,7 +207,8 @@ free_pairs t n = pairs_apart t n n.groups
 
 -- ---- the rules on groups, their privileges and their members
 
--- A record in its nested log, as these rules see it: what the whole log declares, what the earlier records declare and nest, and the record.
+-- A record in its nested log, as these rules see it: what the whole log declares, what the earlier records
+-- declare and nest, and the record.
 pub record InNested : Type 0 where
   pub whole : Tables
   pub tables : Tables
@@ -285,7 +289,8 @@ nested_in whole earlier r = record {
   rec = r;
 }
 
--- The fault of the first of some records that breaks a rule on groups, and that rule is the first that it breaks.
+-- The fault of the first of some records that breaks a rule on groups, and that rule is the first that it
+-- breaks.
 abbrev pub groups_fault : Tables → List NLined → List NLined → Option Fault
 groups_fault whole earlier [] = None
 groups_fault whole earlier (l ∷ rest) =
@@ -293,7 +298,8 @@ groups_fault whole earlier (l ∷ rest) =
     (find (breaks_nested (nested_in whole earlier l.rec)) nested_rules))
     (groups_fault whole (earlier ++ l ∷ []) rest)
 
--- The fault that is shown of a nested log: that of its plain records, which are a log with a frame of their own, and else that of the first record that breaks a rule on groups.
+-- The fault that is shown of a nested log: that of its plain records, which are a log with a frame of their
+-- own, and else that of the first record that breaks a rule on groups.
 unfoldable pub nested_fault : ℕ → List NLined → Option Fault
 nested_fault lines log = option_or (declaration_fault lines (plain_log log))
     (groups_fault (nested_tables log) [] log)

@@ -20,7 +20,8 @@ pub data Access : Type 0 where
 abbrev pub at_cell : Cell → Access → Cell → Access
 at_cell cell here c = if same_cell c cell then here else Untouched
 
--- A read at `from`, and this access at `to`. Where the two are one cell it is a write, since it changes what it reads.
+-- A read at `from`, and this access at `to`. Where the two are one cell it is a write, since it changes what
+-- it reads.
 abbrev pub from_to : Cell → Cell → Access → Cell → Access
 from_to from to here c = if same_cell c to then (if same_cell c from then Writes else here)
     else at_cell from Reads c

@@ -17,7 +17,8 @@ use Rattle.semantics.specs.Interleavings.{IsInterleaving}
 abbrev pub req_at : Tables → ℕ → ℕ → Option Req
 req_at t item number = find (λ (r : Req). (r.item == item) && (r.number == number)) t.reqs
 
--- What a read of an item for a requirement should see at a point and a field: the value of sequential execution just before the item, in the tree of the requirement.
+-- What a read of an item for a requirement should see at a point and a field: the value of sequential
+-- execution just before the item, in the tree of the requirement.
 abbrev pub wanted_by : Tables → ℕ → ℕ → ℕ → ℕ → Value
 wanted_by t item number point field =
     wanted t item (record {

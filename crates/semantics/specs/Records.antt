@@ -34,7 +34,9 @@ parts_of bytes = slice_split (λ b. b == 10) bytes
 abbrev pub line_count : List ℕ → ℕ
 line_count bytes = length (parts_of bytes) - 1
 
--- Some lines, numbered from `number`, hold these records and no others: each line is blank or a comment, or spells the next record, which stands on the line of that number. Of a kind of log this is said by which of its records have a spelling, by that spelling, and by how a record stands on a line.
+-- Some lines, numbered from `number`, hold these records and no others: each line is blank or a comment, or
+-- spells the next record, which stands on the line of that number. Of a kind of log this is said by which of
+-- its records have a spelling, by that spelling, and by how a record stands on a line.
 abbrev pub HoldBy : {R L : Type 0} → (R → Type 0) → (R → List ℕ) → (ℕ → R → L) → ℕ → List (List ℕ) → List L
     → Type 0
 HoldBy IsGood spelled on number [] log = log ≡ []
@@ -61,7 +63,8 @@ Hold number lines log = HoldBy Good spelling on_line number lines log
 abbrev pub Reads : List ℕ → List Lined → Type 0
 Reads bytes log = ReadsBy Good spelling on_line bytes log
 
--- The records stand on lines that ascend, each on one of these many lines. (Each line of an input has a byte at least, its line feed.)
+-- The records stand on lines that ascend, each on one of these many lines. (Each line of an input has a byte
+-- at least, its line feed.)
 pub record AreLinesBy {L : Type 0} (line_of : L → ℕ) (lines : ℕ) (log : List L) : Type 0 where
   pub ascend : IsStrictlyIncreasing (map line_of log)
   pub within : All (λ (l : L). line_of l ≤ lines) log

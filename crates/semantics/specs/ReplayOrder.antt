@@ -1,4 +1,5 @@
--- The one order of nodes in which a log is replayed, and the nodes that never come into it. Nodes are named by position.
+-- The one order of nodes in which a log is replayed, and the nodes that never come into it. Nodes are named
+-- by position.
 use Rattle.std.specs.Prelude.{ℕ, zero, suc, ◌+◌, ◌==◌, min, Bool, false, not, ◌&&◌, List, [], ◌∷◌, ◌++◌, filter, find, length, drop, take, position, Option, Some, None, option_map, unwrap_or, slice_get, if◌then◌else◌}
 use Rattle.std.specs.List.{list_any, list_all, range_with_len}
 use Rattle.semantics.specs.Points.{is_in}
@@ -30,7 +31,8 @@ abbrev pub with_next : List ℕ → Option ℕ → List ℕ
 with_next taken None = taken
 with_next taken (Some k) = taken ++ k ∷ []
 
--- The nodes taken after so many rounds more. Each round takes the first node, in node order, that may be taken.
+-- The nodes taken after so many rounds more. Each round takes the first node, in node order, that may be
+-- taken.
 abbrev pub after_rounds : List Node → ℕ → List ℕ → List ℕ
 after_rounds nodes zero taken = taken
 after_rounds nodes (suc n) taken = after_rounds nodes n
@@ -57,7 +59,9 @@ abbrev pub up_to : ℕ → List ℕ → List ℕ
 up_to k [] = []
 up_to k (n ∷ ns) = n ∷ (if n == k then [] else up_to k ns)
 
--- The walk from a node to its first stuck wait, and so on, until it comes to a node again: the nodes from there on, the latest first, so that each is waited on by the next. (`walked` are the nodes so far, the latest first.)
+-- The walk from a node to its first stuck wait, and so on, until it comes to a node again: the nodes from
+-- there on, the latest first, so that each is waited on by the next. (`walked` are the nodes so far, the
+-- latest first.)
 abbrev pub walk : List Node → ℕ → List ℕ → ℕ → List ℕ
 walk nodes zero walked k = []
 walk nodes (suc n) walked k = if is_in walked k then up_to k walked

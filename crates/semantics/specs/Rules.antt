@@ -1,4 +1,5 @@
--- The rules that each record has to keep, given what the earlier records declare. Each is a test that passes where the rule is broken. It looks at some kinds of record, and no other record breaks it.
+-- The rules that each record has to keep, given what the earlier records declare. Each is a test that passes
+-- where the rule is broken. It looks at some kinds of record, and no other record breaks it.
 use Rattle.std.specs.Prelude.{ℕ, ◌+◌, ◌*◌, ◌==◌, nat_lt, Bool, true, false, not, ◌&&◌, ◌||◌, List, [], ◌∷◌, ◌++◌, map, filter, length, Option, Some, None, option_map, is_some, sum_by, if◌then◌else◌}
 use Rattle.std.specs.List.{list_any, list_all}
 use Rattle.std.specs.Option.{option_map_or}
@@ -36,7 +37,8 @@ use Rattle.semantics.specs.Reads.{req_at}
 
 -- ---- The number of records, and their names.
 
--- too-many-records: it is later than the 131,072nd record after the header, and not the end. (`before` records stand before it.)
+-- too-many-records: it is later than the 131,072nd record after the header, and not the end. (`before`
+-- records stand before it.)
 abbrev pub is_late : ℕ → Record → Bool
 is_late before (End n) = false
 is_late before r = nat_lt MOST_RECORDS before
@@ -133,7 +135,8 @@ points_declared (Ispace id set) = Some (points_of set)
 points_declared (Plane id quads) = Some (plane_points quads)
 points_declared _ = None
 
--- too-many-points, in a log of the first version: the spaces up to this one have more than 1,048,576 points together.
+-- too-many-points, in a log of the first version: the spaces up to this one have more than 1,048,576 points
+-- together.
 abbrev pub has_many_points : Tables → Record → Bool
 has_many_points t r = not (is_planar t) && option_map_or (λ points. nat_lt MOST_POINTS
     (sum_by (λ (s : tables.Space). length s.points) t.spaces + length points)) (points_declared r) false
@@ -144,7 +147,8 @@ rects_declared (Ispace id set) = Some (map strip set)
 rects_declared (Plane id quads) = Some (map rect_of quads)
 rects_declared _ = None
 
--- too-many-atoms, in a log of the second version: the rectangles of the spaces up to this one make a grid of more than 1,048,576 cells.
+-- too-many-atoms, in a log of the second version: the rectangles of the spaces up to this one make a grid of
+-- more than 1,048,576 cells.
 abbrev pub has_many_atoms : Tables → Record → Bool
 has_many_atoms t r = is_planar t && option_map_or (λ rects. nat_lt MOST_ATOMS
     (cell_count (t.rects ++ rects))) (rects_declared r) false
@@ -183,7 +187,8 @@ is_outside t (Sub part colour space) =
     (option_map_or (λ (p : tables.Part). points_in t p.space) (part_at t part) []))
 is_outside t _ = false
 
--- not-disjoint: its partition is disjoint, and its space has a point in common with an earlier subspace of the partition.
+-- not-disjoint: its partition is disjoint, and its space has a point in common with an earlier subspace of
+-- the partition.
 abbrev pub is_not_disjoint : Tables → Record → Bool
 is_not_disjoint t (Sub part colour space) =
     option_map_or (λ (p : tables.Part). p.disjoint) (part_at t part) false
@@ -218,7 +223,8 @@ has_wrong_fields t (Map task number fields inst) =
     not (is_within fields (option_map_or (λ (r : reqs.Req). r.fields) (named_req t task number) []))
 has_wrong_fields t _ = false
 
--- self-interference: an earlier requirement of its task shares a place with it, and the two privileges do not agree. Coherence does not matter.
+-- self-interference: an earlier requirement of its task shares a place with it, and the two privileges do not
+-- agree. Coherence does not matter.
 abbrev pub interferes_with_own : Tables → Record → Bool
 interferes_with_own t (Req task tree space fields access atomic) =
     list_any (λ (r : reqs.Req). (r.item == place_of t.items task)
@@ -249,19 +255,22 @@ abbrev pub are_of_two_trees : Tables → List ℕ → Bool
 are_of_two_trees t (src ∷ dst ∷ []) = not (is_of_tree t (tree_of_inst t src) dst)
 are_of_two_trees t _ = false
 
--- wrong-tree: the instance is of another tree than the requirement, or the two instances are of different trees.
+-- wrong-tree: the instance is of another tree than the requirement, or the two instances are of different
+-- trees.
 abbrev pub is_of_wrong_tree : Tables → Record → Bool
 is_of_wrong_tree t (Map task number fields inst) =
     not (is_of_tree t (option_map (λ (r : reqs.Req). r.tree) (named_req t task number)) inst)
 is_of_wrong_tree t r = option_map_or (λ (d : DataOp). are_of_two_trees t (insts_of d.act)) (data_in r) false
 
--- Whether a requirement with this privilege may be mapped to an instance of this kind: a reduction to any but a reduction instance of another operator, and all others to any but a reduction instance.
+-- Whether a requirement with this privilege may be mapped to an instance of this kind: a reduction to any but
+-- a reduction instance of another operator, and all others to any but a reduction instance.
 abbrev pub fits : Priv → InstKind → Bool
 fits (privileges.Red op) (layouts.Red other) = op == other
 fits (privileges.Red op) kind = true
 fits p kind = not (is_reduction kind)
 
--- Whether an instance is of a kind with which this cannot be done, or a copy has one instance as source and target.
+-- Whether an instance is of a kind with which this cannot be done, or a copy has one instance as source and
+-- target.
 abbrev pub misuses : Tables → DataAct → Bool
 misuses t (Copies src dst) = reduces_in t src || reduces_in t dst || (src == dst)
 misuses t (Puts inst n) = reduces_in t inst
@@ -281,7 +290,8 @@ lacks t points fields id =
     not (option_map_or (λ (i : insts.Inst). is_within points (points_in t i.space)
     && is_within fields i.fields) (inst_at t id) false)
 
--- not-covered: an instance has a point outside the root space of its tree, or lacks a point or a field of what is done with it.
+-- not-covered: an instance has a point outside the root space of its tree, or lacks a point or a field of
+-- what is done with it.
 abbrev pub is_not_covered : Tables → Record → Bool
 is_not_covered t (Inst id tree space fields kind) =
     not (is_within (points_in t space)
@@ -355,7 +365,8 @@ items_declared (Task id) = id ∷ []
 items_declared (Fill id tree space fields n) = id ∷ []
 items_declared _ = []
 
--- serial: an item is listed twice, here or here and earlier; or no later record lists items, and some item of the log is listed nowhere.
+-- serial: an item is listed twice, here or here and earlier; or no later record lists items, and some item of
+-- the log is listed nowhere.
 abbrev pub is_bad_serial : List Record → Tables → Record → Bool
 is_bad_serial log t (Serial ids) =
     has_repeat ids || meets ids (listed t)
@@ -369,7 +380,8 @@ is_bad_serial log t _ = false
 abbrev pub size_of : Tables → ℕ → List ℕ → ℕ
 size_of t space fields = length (points_in t space) * length fields
 
--- The points of a space that the limits count: all in a log of the first version. In one of the second those at which a cell of the grid of all spaces begins, since all points of a cell are alike.
+-- The points of a space that the limits count: all in a log of the first version. In one of the second those
+-- at which a cell of the grid of all spaces begins, since all points of a cell are alike.
 abbrev pub points_counted : Tables → ℕ → List ℕ
 points_counted t space = if is_planar t then corners_in t.rects (points_in t space) else points_in t space
 
@@ -381,7 +393,8 @@ cost_of t space fields = length (points_counted t space) * length fields
 abbrev pub cells_of : Tables → ℕ
 cells_of t = sum_by (λ (i : insts.Inst). cost_of t i.space i.fields) t.insts
 
--- too-many-cells: the instances have more than 1,048,576 cells. In a log of the first version they are counted up to each instance, and in one of the second at the end.
+-- too-many-cells: the instances have more than 1,048,576 cells. In a log of the first version they are
+-- counted up to each instance, and in one of the second at the end.
 abbrev pub has_many_cells : Tables → Record → Bool
 has_many_cells t (Inst id tree space fields kind) =
     not (is_planar t) && nat_lt MOST_CELLS (cells_of t + cost_of t space fields)
@@ -402,7 +415,8 @@ abbrev pub is_end : Record → Bool
 is_end (End n) = true
 is_end _ = false
 
--- Whether accesses are counted up to a record: in a log of the first version up to each, in one of the second up to the end.
+-- Whether accesses are counted up to a record: in a log of the first version up to each, in one of the second
+-- up to the end.
 abbrev pub counts_accesses : Tables → Record → Bool
 counts_accesses t r = not (is_planar t) || is_end r
 
@@ -415,7 +429,8 @@ abbrev pub reduces : Priv → Bool
 reduces (privileges.Red op) = true
 reduces _ = false
 
--- The load of an instance: for each of its cells, the number of requirements that reduce at the place of the cell.
+-- The load of an instance: for each of its cells, the number of requirements that reduce at the place of the
+-- cell.
 abbrev pub load_of : Tables → insts.Inst → ℕ
 load_of t i = sum_by (λ (p : ℕ × ℕ). length
     (filter (λ (r : reqs.Req). reduces r.access

@@ -14,7 +14,8 @@ use Rattle.semantics.specs.Tables.{Tables}
 use Rattle.semantics.specs.Kinds.{covers, uses_of}
 use Rattle.semantics.specs.SerialOrder.{serial, serial_place}
 
--- What a task makes of a value by a requirement: a reduction adds one contribution, a write puts what the task writes, a read leaves the value.
+-- What a task makes of a value by a requirement: a reduction adds one contribution, a write puts what the
+-- task writes, a read leaves the value.
 abbrev pub acted : ℕ → ℕ → Priv → Value → Value
 acted task number (Red op) v = add_one op (record { task = task; req = number }) v
 acted task number p v = if may_write p then plain (Out task) else v
@@ -38,6 +39,7 @@ after_items t [] p v = v
 after_items t (item ∷ items) p v = after_items t items p
     (option_map_or (λ i. after_uses t i (uses_of t item) p v) (slice_get t.items item) v)
 
--- The value of sequential execution at a place just before an item: what a read of that item should see there.
+-- The value of sequential execution at a place just before an item: what a read of that item should see
+-- there.
 abbrev pub wanted : Tables → ℕ → Place → Value
 wanted t item p = after_items t (take (serial_place t item) (serial t)) p (plain Init)

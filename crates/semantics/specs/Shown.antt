@@ -1,4 +1,5 @@
--- Which unordered pair and which race are shown of several. (The fault, the cycle and the differing read that are shown are computed where they are defined.)
+-- Which unordered pair and which race are shown of several. (The fault, the cycle and the differing read that
+-- are shown are computed where they are defined.)
 use Rattle.std.specs.Prelude.{◌≡◌, ℕ, ◌==◌, ◌<◌, ◌≤◌, Bool, false, ◌&&◌, List, ◌∷◌, ◌++◌, filter, length, position, unwrap_or, slice_get}
 use Rattle.std.specs.List.{AllByRecursion}
 use Rattle.std.specs.Option.{option_map_or}
@@ -49,7 +50,8 @@ pub record IsShownPair (t : Tables) (p : ℕ × ℕ) : Type 0 where
 abbrev pub replay_place : Tables → ℕ → ℕ
 replay_place t k = unwrap_or (position (λ n. n == k) (replay_order (graph_of t.nodes))) (length t.nodes)
 
--- The race that is shown: at the least cell with a race, the first node in replay order that races there with an earlier one, and the first such earlier one.
+-- The race that is shown: at the least cell with a race, the first node in replay order that races there with
+-- an earlier one, and the first such earlier one.
 pub record IsShownRace (t : Tables) (a b : ℕ) (cell : Cell) : Type 0 where
   pub race : Race t a b cell
   pub in_order : replay_place t a < replay_place t b

@@ -1,4 +1,5 @@
--- Listed waits that others imply, and graphs without some of their waits. Nodes are named by position, and waits by their places in the list of their node, from 0.
+-- Listed waits that others imply, and graphs without some of their waits. Nodes are named by position, and
+-- waits by their places in the list of their node, from 0.
 use Rattle.std.specs.Prelude.{◌≡◌, ◌↔◌, ℕ, ◌<◌, ◌+◌, ◌==◌, ◌&&◌, Bool, List, [], ◌∷◌, Some, Contains, AllPairs, take, slice_get, ◌⊎◌, if◌then◌else◌}
 use Rattle.std.specs.List.{list_any}
 use Rattle.semantics.specs.declared.waits.ListedWait.{ListedWait}
@@ -13,7 +14,8 @@ pub record IsBeforeAnother (nodes : List Node) (node event : ℕ) : Type 0 where
   pub waits : WaitsOn nodes node other
   pub before : Before nodes on other
 
--- A listed wait is spare where its event stands earlier in the same list too, or where its event's node is before the node of another event of the list. (Where there is no cycle, no node is before itself.)
+-- A listed wait is spare where its event stands earlier in the same list too, or where its event's node is
+-- before the node of another event of the list. (Where there is no cycle, no node is before itself.)
 pub record IsSpare (nodes : List Node) (node k : ℕ) : Type 0 where
   pub event : ℕ
   pub listed : slice_get (waits_at nodes node) k ≡ Some event

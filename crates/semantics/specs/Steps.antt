@@ -89,7 +89,8 @@ pub record Step : Type 0 where
   pub node : ℕ
   pub move : Move
 
--- The steps of some nodes, node by node. Those of one node stand in one of the orders in which it may have taken them.
+-- The steps of some nodes, node by node. Those of one node stand in one of the orders in which it may have
+-- taken them.
 abbrev pub steps_by : Tables → List ℕ → List Step
 steps_by t ks = flat_map (λ k. map (λ m. record { node = k; move = m })
     (option_map_or (λ (n : LogNode). moves_of t n.op) (slice_get t.nodes k) [])) ks

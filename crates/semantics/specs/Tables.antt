@@ -33,7 +33,8 @@ pub record Space : Type 0 where
   pub id : ℕ
   pub points : List ℕ
 
--- All that a log declares. Its version is 0 before its header, and `rects` are the rectangles of its spaces, in order.
+-- All that a log declares. Its version is 0 before its header, and `rects` are the rectangles of its spaces,
+-- in order.
 pub record Tables : Type 0 where
   pub version : ℕ
   pub rects : List Rect

@@ -19,7 +19,8 @@ is_too_long bytes = nat_lt MOST_BYTES (length bytes)
 abbrev pub ends_within_line : List ℕ → Bool
 ends_within_line bytes = not (list_all (λ w. length w == 0) (drop (line_count bytes) (parts_of bytes)))
 
--- word, form, number, order: what is wrong with a line. (Reading by the definitions never runs out of memory, which is no fault of a line.)
+-- word, form, number, order: what is wrong with a line. (Reading by the definitions never runs out of memory,
+-- which is no fault of a line.)
 abbrev pub code_of : LineFault → Code
 code_of faults.Form = codes.Form
 code_of faults.Number = codes.Number
@@ -36,7 +37,8 @@ abbrev pub lines_fault_by : {R : Type 0} → (List ℕ → Result (Option R) Lin
 lines_fault_by read line [] = None
 lines_fault_by read line (l ∷ ls) = option_or (line_fault line (read l)) (lines_fault_by read (line + 1) ls)
 
--- The fault that is shown of the bytes and the single lines: too long; else not ended; else that of the first line that has one.
+-- The fault that is shown of the bytes and the single lines: too long; else not ended; else that of the first
+-- line that has one.
 abbrev pub text_fault_by : {R : Type 0} → (List ℕ → Result (Option R) LineFault) → List ℕ → Option Fault
 text_fault_by read bytes =
     if is_too_long bytes then Some (record { line = 0; code = codes.TooLong })

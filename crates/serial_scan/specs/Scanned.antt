@@ -12,7 +12,8 @@ pub record IsAtFirst (t : Tables) (firsts : List ℕ) (c : Claim) (p : Place) : 
   pub at_point : is_in (points_in t c.space) p.point ≡ true
   pub at_field : is_in c.fields.now p.field ≡ true
 
--- The claims of later items that cover one of these places too, and may not change places with it, are not earlier in serial order.
+-- The claims of later items that cover one of these places too, and may not change places with it, are not
+-- earlier in serial order.
 abbrev pub IsClear : Tables → List ℕ → List Claim → Claim → Type 0
 IsClear t firsts claims c = (p : Place) → IsAtFirst t firsts c p → (d : Claim) → Contains claims d
     → c.item < d.item → IsAtFirst t firsts d p

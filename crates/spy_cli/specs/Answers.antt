@@ -24,7 +24,8 @@ use Rattle.spy_cli.specs.declared.status.Status.TheVariants as statuses
 
 -- ---- words
 
--- Whether words ask for a command that reads the source: `demo` does not, and where no command is asked for nothing does.
+-- Whether words ask for a command that reads the source: `demo` does not, and where no command is asked for
+-- nothing does.
 abbrev pub takes_input : Option Request → Bool
 takes_input None = false
 takes_input (Some (requests.Demo size)) = false
@@ -87,7 +88,8 @@ pub record IsFaulty (bytes : List ℕ) (status : Status) (text : List ℕ) : Typ
   pub fault : HasTextFault bytes finding
   pub tells : Tells finding status text
 
--- What `check` finds in the log of some records is answered. They stand on lines of their own, from line 1 on.
+-- What `check` finds in the log of some records is answered. They stand on lines of their own, from line 1
+-- on.
 pub record IsChecked (rs : List Record) (status : Status) (text : List ℕ) : Type 0 where
   pub finding : Finding
   pub found : IsFound commands.Check (length rs) (lined rs) finding

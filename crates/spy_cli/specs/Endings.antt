@@ -21,7 +21,8 @@ pub record IsToldInPart (Holds : Finding → Type 0) (before after : Option (Lis
   pub holds : Holds finding
   pub written : Grows before after (reports.report_text finding)
 
--- What is found has this property. It is told, or in part where the sink failed, or memory ran out; and the sink's faults tell which.
+-- What is found has this property. It is told, or in part where the sink failed, or memory ran out; and the
+-- sink's faults tell which.
 pub record IsEnding (Holds : Finding → Type 0) (status : Status) (before after : Option (List ℕ))
     (faults now : ℕ) : Type 0 where
   pub told : IsDecided status → IsTold Holds status before after

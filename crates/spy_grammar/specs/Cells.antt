@@ -1,4 +1,5 @@
--- A record as its kind and six cells, the words after the first from the left: so that one table serves all that goes through records.
+-- A record as its kind and six cells, the words after the first from the left: so that one table serves all
+-- that goes through records.
 use Rattle.std.specs.Prelude.{List, [], ◌∷◌}
 use Rattle.spy_words.specs.Classes.{any_number, id, extent, fields, waits, split, access, coherence, layout}
 use Rattle.spy_words.specs.declared.lists.Extent.TheVariants.{Runs, Plane}

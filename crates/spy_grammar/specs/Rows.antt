@@ -1,4 +1,5 @@
--- The table of the format: for each kind of record its first word, the classes of the words after it, and the record that they mean. A log of another kind has a table of its own, of the same shape.
+-- The table of the format: for each kind of record its first word, the classes of the words after it, and the
+-- record that they mean. A log of another kind has a table of its own, of the same shape.
 use Rattle.std.specs.Prelude.{ℕ, List, codes, Result, Err}
 use Rattle.spy_words.specs.declared.lists.Extent.{Extent}
 use Rattle.spy_words.specs.declared.lists.Extent.TheVariants.{Runs, Plane}
@@ -37,7 +38,8 @@ pub record Entry (R : Type 0) : Type 0 where
   pub row : Row
   pub record_of : Makes R row
 
--- A grammar of lines: the kinds of record in order, a line of the table for each, and what the words of a record are, by its kind.
+-- A grammar of lines: the kinds of record in order, a line of the table for each, and what the words of a
+-- record are, by its kind.
 pub record Grammar (K R : Type 0) : Type 0 where
   pub kinds : List K
   pub entry : K → Entry R

@@ -30,7 +30,8 @@ has_failed (Err e) = true
 abbrev pub faults_after : ℕ → Bool → ℕ
 faults_after faults failed = if failed then counted faults else faults
 
--- How many calls were made from the first on that no call should follow, after one more that was or was not such a one.
+-- How many calls were made from the first on that no call should follow, after one more that was or was not
+-- such a one.
 abbrev pub ended_after : ℕ → Bool → ℕ
 ended_after ended last = if ended == 0 && not last then 0 else counted ended
 

@@ -2,7 +2,8 @@
 use Rattle.std.specs.Prelude.{false, ◌≡◌, ℕ, ◌-◌, ◌<◌, ◌⊎◌, min, List, [], length, take, ◌++◌, Contains}
 use Rattle.spy_io.specs.Causes.{counted, ended_after}
 
--- The bytes held, how many there is room for, the most that a call takes, the numbers of the calls that fail, the calls and faults so far, and how many calls were made from the first on that failed.
+-- The bytes held, how many there is room for, the most that a call takes, the numbers of the calls that fail,
+-- the calls and faults so far, and how many calls were made from the first on that failed.
 pub record SinkState : Type 0 where
   pub held : List ℕ
   pub room : ℕ

@@ -2,7 +2,9 @@
 use Rattle.std.specs.Prelude.{ℕ, ◌==◌, ◌&&◌, min, not, List, length, drop, Contains}
 use Rattle.spy_io.specs.Causes.{counted, ended_after, idle_after}
 
--- The bytes left, the most that a call gives, the numbers of the calls that fail, the calls and faults so far, how many calls were made from the first on that gave the end or failed, and how many had an empty buffer.
+-- The bytes left, the most that a call gives, the numbers of the calls that fail, the calls and faults so
+-- far, how many calls were made from the first on that gave the end or failed, and how many had an empty
+-- buffer.
 pub record SourceState : Type 0 where
   pub left : List ℕ
   pub cut : ℕ

@@ -1,4 +1,5 @@
--- The classes of words: what a word of each class means, how it is spelled, and which meanings have a spelling.
+-- The classes of words: what a word of each class means, how it is spelled, and which meanings have a
+-- spelling.
 use Rattle.std.specs.Prelude.{◌≢◌, ℕ, ◌^◌, ◌<◌, ◌≤◌, ◌==◌, ◌&&◌, ◌||◌, nat_lt, Bool, true, false, IsTrue, List, [], ◌∷◌, ◌++◌, map, codes, decimal, if◌then◌else◌}
 use Rattle.std.specs.List.{join_with_byte, AllByRecursion}
 use Rattle.spy_words.specs.declared.access.PrivWord.{PrivWord}
@@ -110,7 +111,8 @@ span_before p q = nat_lt p.1 q.0
 abbrev pub quad_before : Quad → Quad → Bool
 quad_before q r = nat_lt q.x1 r.x0 || (q.x0 == r.x0 && q.x1 == r.x1 && nat_lt q.y1 r.y0)
 
--- Runs have a word where each goes upward and they ascend. So have rectangles, of which there is at least one, since no rectangle is no run.
+-- Runs have a word where each goes upward and they ascend. So have rectangles, of which there is at least
+-- one, since no rectangle is no run.
 abbrev pub IsExtent : Extent → Type 0
 IsExtent (Runs ps) = AllByRecursion IsSpan ps × IsTrue (ascends span_before ps)
 IsExtent (Plane qs) = AllByRecursion IsQuad qs × IsTrue (ascends quad_before qs) × (qs ≢ [])
@@ -124,7 +126,8 @@ abbrev pub HoldsOperator : InstKind → Type 0
 HoldsOperator (instances.Red op) = IsNumberFrom 1 op
 HoldsOperator _ = Unit {0}
 
--- What is said of a class: what its words mean, the one word that has a meaning, which meanings have a word, and what stands in where there is none.
+-- What is said of a class: what its words mean, the one word that has a meaning, which meanings have a word,
+-- and what stands in where there is none.
 pub record About : Type 1 where
   pub Meaning : Type 0
   pub word : Meaning → List ℕ

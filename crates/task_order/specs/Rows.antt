@@ -9,13 +9,15 @@ use Rattle.pair_rows.specs.Bits1024.{has_bit}
 use Rattle.task_order.specs.Runs.{AreRunsOf}
 use Rattle.task_order.specs.declared.kept.Schedule.{Schedule}
 
--- What a question about two runs goes by: the marks of the nodes, the node that runs each item, and items so that every two others are run in serial order.
+-- What a question about two runs goes by: the marks of the nodes, the node that runs each item, and items so
+-- that every two others are run in serial order.
 pub record IsSchedule {P : Type 0} (s : Schedule P) : Type 0 where
   pub marks : AreMarksOf (graph_of s.log.now.nodes) s.reach.now
   pub runs : AreRunsOf s.log.now s.runs.now
   pub kept : AreKeptBut s.log.now (is_noted s.unordered.now)
 
--- Each bit of a row is of an item, from a base on, with which the item of the row interferes; and each later one with which it interferes has its bit, or is run in serial order with it.
+-- Each bit of a row is of an item, from a base on, with which the item of the row interferes; and each later
+-- one with which it interferes has its bit, or is run in serial order with it.
 pub record IsRow (t : Tables) (base a : ℕ) (row : List ℕ) : Type 0 where
   pub sound : (i : ℕ) → i < 1024 → has_bit row i ≡ true → do_interfere t a (base + i) ≡ true
   pub whole : (i : ℕ) → i < 1024 → a < base + i → do_interfere t a (base + i) ≡ true
@@ -24,11 +26,13 @@ pub record IsRow (t : Tables) (base a : ℕ) (row : List ℕ) : Type 0 where
 abbrev pub AreRows : Tables → ℕ → List (List ℕ) → Type 0
 AreRows t base rows = (a : ℕ) → a < length rows → IsRow t base a (slice_index_or rows a [])
 
--- An item is run in serial order with each later one, from a position to before another, with which it interferes.
+-- An item is run in serial order with each later one, from a position to before another, with which it
+-- interferes.
 abbrev pub IsKeptWith : Tables → ℕ → ℕ → ℕ → Type 0
 IsKeptWith t low high a = (b : ℕ) → low ≤ b → b < high → a < b → do_interfere t a b ≡ true → IsKept t (a, b)
 
--- Of the later items, from a position to before another, with which an item interferes this is the first with which it is not.
+-- Of the later items, from a position to before another, with which an item interferes this is the first with
+-- which it is not.
 pub record IsFirstOf (t : Tables) (low high a b : ℕ) : Type 0 where
   pub low_is : low ≤ b
   pub high_is : b < high

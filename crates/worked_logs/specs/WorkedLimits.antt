@@ -10,7 +10,8 @@ use Rattle.spy_grammar.specs.declared.record.Record.TheVariants.{Header, Ispace,
 abbrev pub framed : List Record → List Record
 framed rs = Header 1 ∷ rs ++ End (length rs) ∷ []
 
--- So many records, each of which declares an operator. (They are too many to write out: only proofs open this.)
+-- So many records, each of which declares an operator. (They are too many to write out: only proofs open
+-- this.)
 unfoldable pub of_records : ℕ → List Record
 of_records n = framed (map (λ id. Redop id) (range_with_len 1 n))
 
@@ -31,7 +32,8 @@ of_cells points fields =
 abbrev pub of_accesses : ℕ → ℕ → List Record
 of_accesses points fields = framed (area points fields ++ Fill 1 1 1 (range_with_len 1 fields) 0 ∷ [])
 
--- A region of a single rectangle, whatever its size, and so many fields, in a log of the second version, which these records end.
+-- A region of a single rectangle, whatever its size, and so many fields, in a log of the second version,
+-- which these records end.
 abbrev pub on_plane : ℕ → ℕ → List Record → List Record
 on_plane last fields rs = Header 2
     ∷ Plane 1 (record { x0 = 0; x1 = last; y0 = 0; y1 = last } ∷ [])

@@ -90,7 +90,8 @@ abbrev pub two_operators : List Record
 two_operators = region 0 ++ Redop 1 ∷ Redop 2 ∷ task_with 1 (Red 1) ++ task_with 2 (Red 2)
     ++ Inst 1 1 1 one layouts.Home ∷ Map 1 1 one 1 ∷ Map 2 1 one 1 ∷ Run 1 1 [] ∷ Run 2 2 [] ∷ End 14 ∷ []
 
--- Two tasks that read and write, with or without atomic coherence, run the second first; where `serial` has records, they say so.
+-- Two tasks that read and write, with or without atomic coherence, run the second first; where `serial` has
+-- records, they say so.
 abbrev pub turned : Bool → List Record → ℕ → List Record
 turned atomic serial count = region 3 ++ Task 1 ∷ Req 1 1 1 one Rw atomic ∷ Task 2 ∷ Req 2 1 1 one Rw atomic
     ∷ (serial ++ Inst 1 1 1 one layouts.Home ∷ Map 1 1 one 1 ∷ Map 2 1 one 1 ∷ Run 1 1 (2 ∷ []) ∷ Run 2 2 []
@@ -99,7 +100,8 @@ turned atomic serial count = region 3 ++ Task 1 ∷ Req 1 1 1 one Rw atomic ∷ 
 abbrev pub turned_by_log : List Record
 turned_by_log = turned true (Serial (2 ∷ 1 ∷ []) ∷ []) 13
 
--- Two tasks that take turns run the second first; a third reads two of the points, waits for none, and is followed by a fill.
+-- Two tasks that take turns run the second first; a third reads two of the points, waits for none, and is
+-- followed by a fill.
 abbrev pub three_tasks : List Record
 three_tasks = region 3 ++ Ispace 2 ((2, 3) ∷ []) ∷ Part 1 1 false ∷ Sub 1 0 2 ∷ Task 1 ∷ Req 1 1 1 one Rw true
     ∷ Task 2 ∷ Req 2 1 1 one Rw true ∷ Task 3 ∷ Req 3 1 2 one Ro false ∷ Fill 4 1 1 one 0

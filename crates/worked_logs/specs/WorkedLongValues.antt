@@ -28,7 +28,8 @@ second_writes = out 2 (first_seen 0 (first_seen 1 (first_seen 2 (first_seen 3 no
 abbrev pub both_added_long : Long
 both_added_long = added 1 from_second no_reads (added 1 from_first no_reads init)
 
--- What the first task contributes to the value at the start, when it has read nothing, and when it has read a place that another task had written.
+-- What the first task contributes to the value at the start, when it has read nothing, and when it has read a
+-- place that another task had written.
 abbrev pub contributed : Readings → Long
 contributed reads = added 1 from_first reads init
 
