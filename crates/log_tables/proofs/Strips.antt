@@ -1,5 +1,5 @@
 -- Runs as rectangles of the first column.
-use Rattle.std.proofs.Common.{ℕ, ◌^◌, ◌<◌, List, map, length, get_or, subst, sym, ap, ◌∙◌, arith}
+use Rattle.std.proofs.Common.{ℕ, ◌^◌, ◌<◌, List, map, length, get_or, ap, arith}
 use Rattle.std.proofs.lemmas.List.{length-map, get_or-map}
 use Rattle.point_set.specs.declared.rect.Rect.{Rect}
 use Rattle.point_set.specs.Rects.{AreRects, strip}

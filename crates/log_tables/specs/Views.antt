@@ -5,6 +5,8 @@ use Rattle.spy_grammar.specs.declared.record.Record.TheVariants.{Ispace, Plane, 
 use Rattle.std.specs.List.Sorted.{IsStrictlyIncreasing}
 use Rattle.point_set.specs.Rects.{AreRects}
 use Rattle.semantics.specs.Tables as tables
+use Rattle.semantics.specs.declared.tables.Op.{Op}
+use Rattle.semantics.specs.declared.tables.Op.TheVariants as operations
 use Rattle.log_tables.specs.declared.entries.Space as spaces
 
 -- A space is seen as its id and its points.
@@ -62,3 +64,11 @@ IsOfNodes (Reset inst space fields done waits) = Unit {0}
 IsOfNodes (Fold src dst space fields done waits) = Unit {0}
 IsOfNodes (Merge done waits) = Unit {0}
 IsOfNodes _ = ⊥
+
+-- What a record does to data, if it does something.
+abbrev pub op_on_data : Record → Op
+op_on_data (Copy src dst space fields done waits) = operations.Copy src dst space fields
+op_on_data (Put inst space fields n done waits) = operations.Put inst space fields n
+op_on_data (Reset inst space fields done waits) = operations.Reset inst space fields
+op_on_data (Fold src dst space fields done waits) = operations.Fold src dst space fields
+op_on_data _ = operations.Merge

@@ -2,6 +2,7 @@
 
 ghost use Rattle.std.specs.Prelude.{◌≡◌, ◌<◌, ◌≤◌, ◌+◌, ◌-◌, ◌^◌, ◌++◌, ◌∷◌, [], length, map, OnOk, IfOk, OnErr};
 ghost use Rattle.vocabulary.specs.Prelude.{with_node, with_record, with_space, privilege_of, coherence_of, rect_of, strip};
+ghost use Rattle.log_tables.specs.Views as views;
 ghost use Rattle.log_tables.specs.Views.{Ascends, IsOfSpaces, IsOfRegions, IsOfItems, IsOfNodes};
 ghost use Rattle.spy_grammar.specs.declared.record.Record.TheVariants as records;
 ghost use Rattle.std.specs.List.Sorted.{IsStrictlyIncreasing};
@@ -45,6 +46,61 @@ fn coherence_word(atomic: bool) -> Coherence
         Coherence::Atomic
     } else {
         Coherence::Exclusive
+    }
+}
+
+/// What a record does to data: a copy, a put, a reset or a fold, whose fields are copied.
+fn op_on_data(alloc: Global, rec: &Record) -> Result<Op, AllocError>
+    ensures { IfOk result (λ op. op ≡ views.op_on_data rec.now) }
+{
+    match rec {
+        Record::Copy {
+            src,
+            dst,
+            space,
+            fields,
+            ..
+        } => Ok(Op::Copy {
+            src: *src,
+            dst: *dst,
+            space: *space,
+            fields: copied(alloc, fields)?,
+        }),
+        Record::Put {
+            inst,
+            space,
+            fields,
+            n,
+            ..
+        } => Ok(Op::Put {
+            inst: *inst,
+            space: *space,
+            fields: copied(alloc, fields)?,
+            n: *n,
+        }),
+        Record::Reset {
+            inst,
+            space,
+            fields,
+            ..
+        } => Ok(Op::Reset {
+            inst: *inst,
+            space: *space,
+            fields: copied(alloc, fields)?,
+        }),
+        Record::Fold {
+            src,
+            dst,
+            space,
+            fields,
+            ..
+        } => Ok(Op::Fold {
+            src: *src,
+            dst: *dst,
+            space: *space,
+            fields: copied(alloc, fields)?,
+        }),
+        _ => Ok(Op::Merge),
     }
 }
 
@@ -381,70 +437,11 @@ impl<'a, P: ArenaRects<'a>> Draft<P> {
                 let item = self.place(*task);
                 self.add_node_of(alloc, line, *done, waits, Op::Run { item })?;
             }
-            Record::Copy {
-                src,
-                dst,
-                space,
-                fields,
-                done,
-                waits,
-            } => {
-                let fields = copied(alloc, fields)?;
-                let op = Op::Copy {
-                    src: *src,
-                    dst: *dst,
-                    space: *space,
-                    fields,
-                };
-                self.add_node_of(alloc, line, *done, waits, op)?;
-            }
-            Record::Put {
-                inst,
-                space,
-                fields,
-                n,
-                done,
-                waits,
-            } => {
-                let fields = copied(alloc, fields)?;
-                let op = Op::Put {
-                    inst: *inst,
-                    space: *space,
-                    fields,
-                    n: *n,
-                };
-                self.add_node_of(alloc, line, *done, waits, op)?;
-            }
-            Record::Reset {
-                inst,
-                space,
-                fields,
-                done,
-                waits,
-            } => {
-                let fields = copied(alloc, fields)?;
-                let op = Op::Reset {
-                    inst: *inst,
-                    space: *space,
-                    fields,
-                };
-                self.add_node_of(alloc, line, *done, waits, op)?;
-            }
-            Record::Fold {
-                src,
-                dst,
-                space,
-                fields,
-                done,
-                waits,
-            } => {
-                let fields = copied(alloc, fields)?;
-                let op = Op::Fold {
-                    src: *src,
-                    dst: *dst,
-                    space: *space,
-                    fields,
-                };
+            Record::Copy { done, waits, .. }
+            | Record::Put { done, waits, .. }
+            | Record::Reset { done, waits, .. }
+            | Record::Fold { done, waits, .. } => {
+                let op = op_on_data(alloc, rec)?;
                 self.add_node_of(alloc, line, *done, waits, op)?;
             }
             Record::Merge { done, waits } => {
