@@ -43,36 +43,30 @@ join_front true true true true x y = refl
 one_in : {X : Type 0} (p : X → Bool) (xs : List X) (x : X) → list_any p (xs ++ x ∷ []) ≡ (list_any p xs || p x)
 one_in p xs x = list_any-append p xs (x ∷ []) ∙ ap (λ b. list_any p xs || b) (or-false (p x))
 
-pub more_field : (inst point : ℕ) (fields : List ℕ) (i d : ℕ) (b : Base) (m n o : Contents) → i < length fields
-    → HoldsMore (is_at_point inst point (take i fields)) (λ c. plain b) m n
-    → o ≡ insert n (record { inst = inst; point = point; field = get_or fields i d }) (plain b)
-    → HoldsMore (is_at_point inst point (take (i + 1) fields)) (λ c. plain b) m o
-more_field inst point fields i d b m n o lt so_far is c =
+pub more_field : (inst point : ℕ) (fields : List ℕ) (i d : ℕ) (v w : Value) (m n o : Contents) → i < length fields → w ≡ v
+    → HoldsMore (is_at_point inst point (take i fields)) (λ c. v) m n
+    → o ≡ insert n (record { inst = inst; point = point; field = get_or fields i d }) w
+    → HoldsMore (is_at_point inst point (take (i + 1) fields)) (λ c. v) m o
+more_field inst point fields i d v w m n o lt same so_far is c =
     let f = get_or fields i d in
     let cell : Cell = record { inst = inst; point = point; field = f } in
-    ap (λ m. get m c) is ∙ get_put n cell (plain b) c
-    ∙ ap₂ (λ e rest. cond ((c.inst == inst) && ((c.point == point) && e)) (Some (plain b)) rest) (same_turned c.field f) (so_far c)
-    ∙ join (c.inst == inst) (c.point == point) (is_in (take i fields) c.field) (f == c.field) (Some (plain b)) (get m c)
-    ∙ ap (λ e. cond ((c.inst == inst) && ((c.point == point) && e)) (Some (plain b)) (get m c))
+    ap (λ m. get m c) (is ∙ ap (insert n cell) same) ∙ get_put n cell v c
+    ∙ ap₂ (λ e rest. cond ((c.inst == inst) && ((c.point == point) && e)) (Some v) rest) (same_turned c.field f) (so_far c)
+    ∙ join (c.inst == inst) (c.point == point) (is_in (take i fields) c.field) (f == c.field) (Some v) (get m c)
+    ∙ ap (λ e. cond ((c.inst == inst) && ((c.point == point) && e)) (Some v) (get m c))
     (sym (one_in (λ m. m == c.field) (take i fields) f) ∙ ap (λ fs. is_in fs c.field) (sym (take_more fields i d lt)))
 
 -- Where the fields at a point are held, the rest of the points is left.
-pub more_points : (inst x : ℕ) (xs fields : List ℕ) (b : Base) (mid new : Contents) (all : Cell → Option Value)
-    → ((c : Cell) → cond (is_at_points inst (is_in (x ∷ xs)) fields c) (Some (plain b)) (get mid c) ≡ all c)
-    → HoldsMore (is_at_point inst x fields) (λ c. plain b) mid new
-    → (c : Cell) → cond (is_at_points inst (is_in xs) fields c) (Some (plain b)) (get new c) ≡ all c
-more_points inst x xs fields b mid new all before here c =
-    ap (cond (is_at_points inst (is_in xs) fields c) (Some (plain b))) (here c)
-    ∙ join_front (c.inst == inst) (is_in xs c.point) (c.point == x) (is_in fields c.field) (Some (plain b)) (get mid c)
-    ∙ ap (λ e. cond ((c.inst == inst) && ((e || is_in xs c.point) && is_in fields c.field)) (Some (plain b)) (get mid c))
+pub more_points : (inst x : ℕ) (xs fields : List ℕ) (v : Value) (mid new : Contents) (all : Cell → Option Value)
+    → ((c : Cell) → cond (is_at_points inst (is_in (x ∷ xs)) fields c) (Some v) (get mid c) ≡ all c)
+    → HoldsMore (is_at_point inst x fields) (λ c. v) mid new
+    → (c : Cell) → cond (is_at_points inst (is_in xs) fields c) (Some v) (get new c) ≡ all c
+more_points inst x xs fields v mid new all before here c =
+    ap (cond (is_at_points inst (is_in xs) fields c) (Some v)) (here c)
+    ∙ join_front (c.inst == inst) (is_in xs c.point) (c.point == x) (is_in fields c.field) (Some v) (get mid c)
+    ∙ ap (λ e. cond ((c.inst == inst) && ((e || is_in xs c.point) && is_in fields c.field)) (Some v) (get mid c))
     (eq_turned c.point x)
     ∙ before c
-
--- Where no point is left, all hold the base.
-pub all_points : (inst : ℕ) (fields : List ℕ) (b : Base) (test : Cell → Bool) (old new : Contents)
-    → ((c : Cell) → cond (is_at_points inst (is_in []) fields c) (Some (plain b)) (get new c) ≡ cond (test c) (Some (plain b)) (get old c))
-    → HoldsMore test (λ c. plain b) old new
-all_points inst fields b test old new h c = sym (ap (λ e. cond e (Some (plain b)) (get new c)) (and-false (c.inst == inst))) ∙ h c
 
 -- ---- one instance more
 
@@ -101,10 +95,11 @@ one_inst t id i m n found held c = elim (cases_Bool (c.inst == id)) [
       (Some (plain (base_of i.kind))) (get m c)) other)
 ]
 
-pub no_points_held : (t : Tables) (id : ℕ) (i : Inst) (m : Contents) → inst_at t id ≡ Some i → points_in t i.space ≡ []
-    → HoldsMore (is_of t id) (start t) m m
-no_points_held t id i m found none = one_inst t id i m m found
-    (λ c. sym (ap (λ points. cond ((c.inst == id) && (is_in points c.point && is_in i.fields c.field)) (Some (plain (base_of i.kind)))
+pub no_points_held : (t : Tables) (id : ℕ) (i : Inst) (m n : Contents) → inst_at t id ≡ Some i → points_in t i.space ≡ [] → n ≡ m
+    → HoldsMore (is_of t id) (start t) m n
+no_points_held t id i m n found none same = one_inst t id i m n found
+    (λ c. ap (λ (n : Contents). get n c) same
+    ∙ sym (ap (λ points. cond ((c.inst == id) && (is_in points c.point && is_in i.fields c.field)) (Some (plain (base_of i.kind)))
     (get m c)) none
     ∙ ap (λ e. cond e (Some (plain (base_of i.kind))) (get m c)) (and-false (c.inst == id))))
 
@@ -121,12 +116,13 @@ all_started t m n none held c =
           rw (missing, here) refl
     ]
 
-pub one_inst_by : (t : Tables) (id : ℕ) (i : Inst) (points fields : List ℕ) (b : Base) (m n : Contents) → inst_at t id ≡ Some i
+pub one_inst_by : (t : Tables) (id : ℕ) (i : Inst) (points fields : List ℕ) (b : Base) (v : Value) (m k n : Contents)
+    → inst_at t id ≡ Some i
     → points_in t i.space ≡ points
-    → fields ≡ i.fields → b ≡ base_of i.kind
-    → HoldsMore (is_at_points id (is_in points) fields) (λ c. plain b) m n
+    → fields ≡ i.fields → b ≡ base_of i.kind → v ≡ plain b → k ≡ m
+    → HoldsMore (is_at_points id (is_in points) fields) (λ c. v) k n
     → HoldsMore (is_of t id) (start t) m n
-one_inst_by t id i points fields b m n found at same based held =
+one_inst_by t id i points fields b v m k n found at same based valued kept held =
     one_inst t id i m n found (λ c. held c
-    ∙ ap₂ (λ fs b. cond (is_at_points id (is_in points) fs c) (Some (plain b)) (get m c)) same based
-    ∙ ap (λ ps. cond (is_at_points id (is_in ps) i.fields c) (Some (plain (base_of i.kind))) (get m c)) (sym at))
+    ∙ ap₂ (λ fs v. cond (is_at_points id (is_in points) fs c) (Some v) (get k c)) same (valued ∙ ap plain based)
+    ∙ ap₂ (λ ps (k : Contents). cond (is_at_points id (is_in ps) i.fields c) (Some (plain (base_of i.kind))) (get k c)) (sym at) kept)

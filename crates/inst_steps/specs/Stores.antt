@@ -1,13 +1,15 @@
--- What a store holds: a finite map from cells to values.
-use Rattle.std.specs.Prelude.{◌≡◌, ℕ, zero, suc, ◌+◌, ◌<◌, ◌^◌, Bool, true, false, ◌-◌, ◌==◌, ◌&&◌, List, refl, Option, Some, None, unwrap_or, if◌then◌else◌}
+-- What a store holds: a finite map from cells to values, which have numbers.
+use Rattle.std.specs.Prelude.{◌≡◌, ℕ, zero, suc, ◌+◌, ◌<◌, ◌^◌, Bool, true, false, ◌-◌, ◌==◌, nat_eq, ◌&&◌, List, map, length, refl, Option, Some, None, IfSome, unwrap_or, if◌then◌else◌}
 use Rattle.std.specs.Option.{option_map_or}
 use Rattle.std.specs.List.{list_any}
 use Rattle.vocabulary.specs.Prelude.{InstKind, Base, Contribution, Group, Bag, Value, value_of, plain, add_one, fold_in, weight_of, Cell, Move, Inst, Tables, is_in, points_in, inst_at, State, is_home, start}
 use Rattle.std.specs.Coded.{Coded, code_by, coded×, coded_ℕ, coded_list}
-use Rattle.std.specs.FinMap.{FinMap, get, insert, contains_key}
+use Rattle.std.specs.FinMap.{FinMap, code, get, insert, contains_key, from_entries}
+use Rattle.std.specs.Map.{lookup}
 use Rattle.std.specs.Ordering.{nat_cmp, ordering_then}
 use Rattle.std.specs.declared.cmp.Ordering.{Ordering}
 use Rattle.value_terms.specs.declared.terms.Base.TheVariants.{Raw, Init, Ident, Const, Out}
+use Rattle.shared_values.specs.Arenas.{value_at}
 use Rattle.semantics.specs.declared.moves.Move.TheVariants as moves
 
 -- ---- cells in order: by instance, then point, then field
@@ -62,6 +64,35 @@ coded_value = code_by (Base × List Group) (coded× coded_base (coded_list coded
 
 abbrev pub Contents : Type 0
 Contents = FinMap cell_cmp Value
+
+-- What a store holds: the values that have a number, each at its number, and what each cell holds.
+pub record Held : Type 0 where
+  pub values : List Value
+  pub cells : Contents
+
+abbrev pub coded_held : Coded Held
+coded_held = code_by (List Value × Contents) (coded× (coded_list coded_value) (code coded_cell coded_value))
+    (λ h. (h.values, h.cells)) (λ p. record { values = p.0; cells = p.1 }) (λ _. refl)
+
+-- Cells with the values of their numbers.
+abbrev pub valued : List Value → List (Cell × ℕ) → List (Cell × Value)
+valued values es = map (λ e. (e.0, value_at values e.1)) es
+
+abbrev pub held : List Value → List (Cell × ℕ) → Held
+held values es = record { values = values; cells = from_entries (valued values es) }
+
+-- Whether two cells are one, as a table of cells tells.
+abbrev pub same_key : Cell → Cell → Bool
+same_key a b = nat_eq a.inst b.inst && (nat_eq a.point b.point && nat_eq a.field b.field)
+
+-- Each cell has the number of a value.
+abbrev pub AreKnown : List Value → List (Cell × ℕ) → Type 0
+AreKnown values es = (c : Cell) → IfSome (lookup (same_key c) es) (λ n. n < length values)
+
+-- A number stands for a value.
+pub record IsNumberOf (values : List Value) (v : Value) (n : ℕ) : Type 0 where
+  pub known : n < length values
+  pub is : value_at values n ≡ v
 
 -- Whether an instance has a cell.
 abbrev pub has_cell : Tables → Cell → Bool

@@ -2,9 +2,10 @@
 //!
 //! `steps_of` goes over the moves of a node in the order in which they are made, of a whole log or of a cut
 //! one, exactly as `Steps` of `semantics` defines them; `actions_of` says besides by which requirement each
-//! is made. `Store` is what the cells of instances hold, seen as a map from cells to values, and a `View` of
-//! it reads, writes or reduces only as its privilege allows. Begin with `of_nodes.rt` for the steps and with
-//! `store.rt` for the store.
+//! is made. `Store` is what the cells of instances hold, seen as a map from cells to values; it holds them by
+//! number, in an `Arena` of `shared_values`, so that a copy takes constant time. A `View` of it reads, writes
+//! or reduces only as its privilege allows. Begin with `of_nodes.rt` for the steps and with `store.rt` for
+//! the store.
 #![tactic(auto)]
 
 mod act;

@@ -1,10 +1,11 @@
 //! What instances hold at the start.
 
-ghost use Rattle.std.specs.Prelude.{◌≡◌, IfOk, OnOk};
+ghost use Rattle.std.specs.Prelude.{◌≡◌, ◌<◌, length, IfOk, OnOk};
 ghost use Rattle.std.specs.List.Sorted.{IsStrictlyIncreasing};
-ghost use Rattle.vocabulary.specs.Prelude.{plain, is_in};
+ghost use Rattle.vocabulary.specs.Prelude.{is_in};
 ghost use Rattle.semantics.specs.Execution as says;
 ghost use Rattle.point_laws.specs.Cut.{cut};
+ghost use Rattle.shared_values.specs.Arenas.{value_at};
 ghost use Rattle.inst_steps.specs.Stores.{HoldsMore, IsStart, base_of, is_at_point, is_at_points, is_of, is_of_some};
 
 use crate::store::Store;
@@ -14,7 +15,7 @@ use point_set::{PointSet, points_in};
 use semantics::Cell;
 use spy_grammar::InstKind;
 use std::alloc::Global;
-use value_terms::{Base, Memory, Value};
+use value_terms::{Base, Memory};
 
 /// What the cells of an instance hold at the start.
 fn base_of(kind: InstKind) -> Base
@@ -26,41 +27,44 @@ fn base_of(kind: InstKind) -> Base
     }
 }
 
-/// Holds a base at a point of an instance.
+/// Holds the value of a number at a point of an instance.
 fn hold_fields(
     store: &mut Store,
     inst: u32,
     point: u64,
     fields: &[u32],
-    base: Base,
+    number: usize,
 ) -> Result<(), Memory>
-    ensures { OnOk result (HoldsMore (is_at_point inst point fields.now) (λ c. plain base) store.old store.new) }
+    requires { number < length store.old.values }
+    ensures held { OnOk result (HoldsMore (is_at_point inst point fields.now)
+        (λ c. value_at store.old.values number) store.old.cells store.new.cells) }
+    ensures values { store.new.values ≡ store.old.values }
 {
     for field in fields {
-        let value = Value::of(store.alloc(), base);
         let cell = Cell {
             inst,
             point,
             field: *field,
         };
-        store.hold(cell, value)?;
+        store.hold(cell, number)?;
     }
     Ok(())
 }
 
-/// Holds a base at these points of an instance.
+/// Holds the value of a number at these points of an instance.
 fn hold_points<P: PointSet>(
     store: &mut Store,
     inst: u32,
     set: &P,
     fields: &[u32],
-    base: Base,
+    number: usize,
 ) -> Result<(), Memory>
+    requires { number < length store.old.values }
     ensures { OnOk result (HoldsMore (is_at_points inst (is_in (P.points set.now)) fields.now)
-        (λ c. plain base) store.old store.new) }
+        (λ c. value_at store.old.values number) store.old.cells store.new.cells) }
 {
     for point in points_in(set) {
-        hold_fields(store, inst, point, fields, base)?;
+        hold_fields(store, inst, point, fields, number)?;
     }
     Ok(())
 }
@@ -71,13 +75,15 @@ fn hold_inst<P: PointSet + Copy>(
     log: &CutLog<'_, '_, '_, P>,
     id: u32,
 ) -> Result<(), Memory>
-    ensures { OnOk result (HoldsMore (is_of log.now id) (says.start log.now) store.old store.new) }
+    ensures { OnOk result (HoldsMore (is_of log.now id) (says.start log.now)
+        store.old.cells store.new.cells) }
 {
     let Some(inst) = log.inst(id) else {
         return Ok(());
     };
+    let number = store.number_of(base_of(inst.kind))?;
     match log.set(inst.space) {
-        Some(set) => hold_points(store, id, &set, inst.fields.as_slice(), base_of(inst.kind)),
+        Some(set) => hold_points(store, id, &set, inst.fields.as_slice(), number),
         None => Ok(()),
     }
 }
@@ -88,7 +94,7 @@ fn hold_insts<P: PointSet + Copy>(
     log: &CutLog<'_, '_, '_, P>,
 ) -> Result<(), Memory>
     ensures { OnOk result (HoldsMore (is_of_some log.now log.now.insts)
-        (says.start log.now) store.old store.new) }
+        (says.start log.now) store.old.cells store.new.cells) }
 {
     for inst in log.insts() {
         hold_inst(store, log, inst.id)?;
@@ -102,7 +108,7 @@ impl Store {
         alloc: Global,
         log: &CutLog<'_, '_, '_, P>,
     ) -> Result<Store, Memory>
-        ensures { IfOk result (IsStart log.now) }
+        ensures { IfOk result (λ s. IsStart log.now s.cells) }
     {
         let mut store = Store::new(alloc);
         match hold_insts(&mut store, log) {
@@ -113,7 +119,7 @@ impl Store {
 
     /// What instances hold at the start: the store has each of their cells, and no other.
     pub fn start<P: PointSet + Copy>(alloc: Global, log: &Log<'_, P>) -> Result<Store, Memory>
-        ensures { IfOk result (IsStart log.now) }
+        ensures { IfOk result (λ s. IsStart log.now s.cells) }
     {
         let log = CutLog::whole(log);
         Store::start_of(alloc, &log)
@@ -126,7 +132,7 @@ impl Store {
         points: &[u64],
     ) -> Result<Store, Memory>
         requires { IsStrictlyIncreasing points.now }
-        ensures { IfOk result (IsStart (cut points.now log.now)) }
+        ensures { IfOk result (λ s. IsStart (cut points.now log.now) s.cells) }
     {
         let log = CutLog::at(log, points);
         Store::start_of(alloc, &log)

@@ -1,8 +1,9 @@
 //! A store as one requirement of a task sees it.
 
-ghost use Rattle.std.specs.Prelude.{◌≡◌, ℕ, ◌-◌, ◌<◌, ◌^◌, true, Some, OnOk, OnErr};
+ghost use Rattle.std.specs.Prelude.{◌≡◌, ℕ, ◌-◌, ◌<◌, ◌^◌, true, length, Some, OnOk, OnErr};
 ghost use Rattle.std.specs.FinMap as map;
 ghost use Rattle.vocabulary.specs.Prelude.{Priv, weight_of};
+ghost use Rattle.shared_values.specs.Arenas.{value_at, Keeps};
 ghost use Rattle.inst_steps.specs.Stores.{value_in, with_added};
 ghost use Rattle.inst_steps.specs.Viewing.{HasPrivilege, viewed_cell};
 
@@ -11,7 +12,7 @@ use logs::Log;
 use point_set::PointSet;
 use privilege::{Folds, Reads, Red, Ro, Rw, Wd, Writes};
 use semantics::Cell;
-use value_terms::{Contribution, Memory, Value};
+use value_terms::{Contribution, Memory};
 
 /// A store, in the cells to which a requirement is mapped. What it allows to do follows from the privilege, by its type.
 #[derive(Drop)]
@@ -132,48 +133,54 @@ fn viewed_cell<P: PointSet + Copy>(log: &Log<'_, P>, req: usize, point: u64, fie
 }
 
 impl<'s, 'a, P: PointSet + Copy, V: Reads> View<'s, 'a, P, V> {
-    /// What the cell of a point and a field holds.
-    pub fn get(&self, point: u64, field: u32) -> &Value
-        requires { map.contains_key self.now.store.now
+    /// The number of what the cell of a point and a field holds.
+    pub fn get(&self, point: u64, field: u32) -> usize
+        requires { map.contains_key self.now.store.now.cells
             (viewed_cell self.now.log.now self.now.req point field) ≡ true }
-        ensures { map.get self.now.store.now (viewed_cell self.now.log.now self.now.req point field)
-            ≡ Some result.now }
+        ensures known { result < length self.now.store.now.values }
+        ensures value { map.get self.now.store.now.cells
+            (viewed_cell self.now.log.now self.now.req point field)
+            ≡ Some (value_at self.now.store.now.values result) }
     {
         let cell = viewed_cell(self.log, self.req, point, field);
-        match self.store.value(&cell) {
-            Some(value) => value,
+        match self.store.number(&cell) {
+            Some(number) => number,
             None => unreachable!(),
         }
     }
 }
 
 impl<'s, 'a, P: PointSet + Copy, V: Writes> View<'s, 'a, P, V> {
-    /// Puts a value into the cell of a point and a field, and into no other.
-    pub fn set(&mut self, point: u64, field: u32, v: Value)
-        requires { map.contains_key self.old.store.now
+    /// Puts the value of a number into the cell of a point and a field, and into no other.
+    pub fn set(&mut self, point: u64, field: u32, number: usize)
+        requires there { map.contains_key self.old.store.now.cells
             (viewed_cell self.old.log.now self.old.req point field) ≡ true }
-        ensures store { self.new.store.now
-            ≡ map.insert self.old.store.now (viewed_cell self.old.log.now self.old.req point field) v }
+        requires known { number < length self.old.store.now.values }
+        ensures store { self.new.store.now.cells ≡ map.insert self.old.store.now.cells
+            (viewed_cell self.old.log.now self.old.req point field)
+            (value_at self.old.store.now.values number) }
+        ensures values { self.new.store.now.values ≡ self.old.store.now.values }
         ensures same_reference { self.new.store.ghost_name ≡ self.old.store.ghost_name }
         ensures log { self.new.log.now ≡ self.old.log.now }
         ensures req { self.new.req ≡ self.old.req }
     {
         let cell = viewed_cell(self.log, self.req, point, field);
-        self.store.put(cell, v);
+        self.store.put(cell, number);
     }
 }
 
 impl<'s, 'a, P: PointSet + Copy, V: Folds> View<'s, 'a, P, V> {
-    /// Adds a contribution once to the cell of a point and a field, and to no other, with the operator of the privilege. Where memory runs out the store is as it was.
+    /// Adds a contribution once to the cell of a point and a field, and to no other, with the operator of the privilege. Where memory runs out the cells hold what they held.
     pub fn fold_in(&mut self, point: u64, field: u32, c: Contribution) -> Result<(), Memory>
-        requires there { map.contains_key self.old.store.now
+        requires there { map.contains_key self.old.store.now.cells
             (viewed_cell self.old.log.now self.old.req point field) ≡ true }
-        requires fits { weight_of (value_in self.old.store.now
+        requires fits { weight_of (value_in self.old.store.now.cells
             (viewed_cell self.old.log.now self.old.req point field)) < 2 ^ 64 - 1 }
-        ensures ok { OnOk result (self.new.store.now
-            ≡ with_added self.old.store.now (viewed_cell self.old.log.now self.old.req point field)
-            (V.op self.old.privilege) c) }
-        ensures err { OnErr result (self.new.store.now ≡ self.old.store.now) }
+        ensures ok { OnOk result (self.new.store.now.cells
+            ≡ with_added self.old.store.now.cells
+            (viewed_cell self.old.log.now self.old.req point field) (V.op self.old.privilege) c) }
+        ensures err { OnErr result (self.new.store.now.cells ≡ self.old.store.now.cells) }
+        ensures kept { Keeps self.old.store.now.values self.new.store.now.values }
         ensures same_reference { self.new.store.ghost_name ≡ self.old.store.ghost_name }
         ensures log { self.new.log.now ≡ self.old.log.now }
         ensures req { self.new.req ≡ self.old.req }

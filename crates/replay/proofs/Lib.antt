@@ -4,3 +4,4 @@ mod Stood
 mod Pointed
 mod Judged
 mod Laws
+mod Wanting

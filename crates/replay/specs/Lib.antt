@@ -3,6 +3,7 @@ pub mod Ends
 pub mod Fitting
 pub mod Standing
 pub mod Versioned
+pub mod Wanting
 pub use Rattle.point_laws.specs.Alike
 pub use Rattle.atoms.specs.Atoms
 pub use Rattle.semantics.specs.Events

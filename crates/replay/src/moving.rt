@@ -3,22 +3,26 @@
 ghost use Rattle.std.specs.Prelude.{◌≡◌, ◌<◌, length, option_map, slice_get, IfErr, IfOk, MatchOption, None, OnErr, OnOk};
 ghost use Rattle.std.specs.Option.{option_map_or};
 ghost use Rattle.vocabulary.specs.Prelude.{Req, difference, req_at};
+ghost use Rattle.shared_values.specs.Arenas as numbered;
+ghost use Rattle.shared_values.specs.Arenas.{Keeps};
 ghost use Rattle.serial_exec.specs.Kept.{value_at};
 ghost use Rattle.inst_steps.specs.Acting.{IsAllowed, IsBy};
 ghost use Rattle.inst_steps.specs.Celled.{AreOfInsts};
-ghost use Rattle.inst_steps.specs.Stores.{HasCells, IsLight, after_move, value_in};
+ghost use Rattle.inst_steps.specs.Stores.{HasCells, IsLight, IsNumberOf, after_move, value_in};
 ghost use Rattle.replay.specs.Ends.{IsUnlike, Tells};
 ghost use Rattle.replay.specs.Fitting.{IsOfItem, item_at};
 ghost use Rattle.replay.specs.Versioned.{AreVersionsIn};
+ghost use Rattle.replay.specs.Wanting.{AreWanted};
 
 use crate::ends::ReplayEnd;
+use crate::wanted::number_wanted;
 use cut_logs::CutLog;
 use inst_steps::{Action, Store};
 use logs::Log;
 use point_set::PointSet;
 use privilege::Priv;
 use semantics::{Cell, Move, Op, Place};
-use serial_exec::Versions;
+use serial_exec::{PlaceLists, Versions};
 use std::alloc::Global;
 use value_terms::{Base, Contribution, Memory, Value};
 
@@ -58,22 +62,30 @@ fn privilege_of<P: PointSet + Copy>(log: &Log<'_, P>, req: usize) -> Option<Priv
     }
 }
 
-/// A value that a read of an item sees at a place and the one that it should see, where these differ. Where they agree, it takes no memory.
+/// The value of a number that a read of an item sees at a place and the one that it should see, where these differ. Values are made only for that.
 fn unlike_at(
     alloc: Global,
+    store: &mut Store,
+    wanted: &mut PlaceLists<usize>,
     versions: &Versions,
     item: usize,
     place: &Place,
-    value: &Value,
+    got: usize,
 ) -> Result<Option<Unlike>, Memory>
-    requires { item < length versions.now.moments }
-    ensures { IfOk result (λ r. MatchOption r (value.now ≡ value_at versions.now item place.now)
-        (IsUnlike value.now (value_at versions.now item place.now))) }
+    requires item { item < length versions.now.moments }
+    requires got { got < length store.old.values }
+    requires wanted { AreWanted store.old.values versions.now wanted.old }
+    ensures unlike { IfOk result (λ r. MatchOption r
+        (numbered.value_at store.old.values got ≡ value_at versions.now item place.now)
+        (IsUnlike (numbered.value_at store.old.values got) (value_at versions.now item place.now))) }
+    ensures wanted { OnOk result (AreWanted store.new.values versions.now wanted.new) }
+    ensures cells { store.new.cells ≡ store.old.cells }
 {
-    if versions.agrees(item, place, value) {
+    let number = number_wanted(alloc, wanted, store, versions, item, place)?;
+    if store.same(got, number)? {
         return Ok(None);
     }
-    let got = value.copy_of(alloc)?;
+    let got = store.value_of(got)?;
     let want = versions.want(alloc, item, place)?;
     Ok(Some(Unlike { got, want }))
 }
@@ -90,29 +102,35 @@ impl<'r, 'a, P: PointSet + Copy> Replay<'r, 'a, P> {
         }
     }
 
-    /// Judges a value that an item reads from a cell.
+    /// Judges the value of a number that an item reads from a cell.
     fn judge(
         &self,
+        store: &mut Store,
+        wanted: &mut PlaceLists<usize>,
         item: usize,
         task: u32,
         req: u32,
         cell: &Cell,
-        value: &Value,
+        got: usize,
     ) -> Result<(), ReplayEnd>
         requires item { IsOfItem self.now.cut.now item (Move.Read task req cell.now) }
         requires inst { AreOfInsts self.now.cut.now (Move.Read task req cell.now) }
         requires versions { AreVersionsIn self.now.cut.now self.now.versions.now }
-        ensures right { OnOk result (difference self.now.cut.now
-            (Move.Read task req cell.now) (λ c. value.now) ≡ None) }
-        ensures end { IfErr result (Tells self.now.cut.now
-            (difference self.now.cut.now (Move.Read task req cell.now) (λ c. value.now))) }
+        requires got { got < length store.old.values }
+        requires wanted { AreWanted store.old.values self.now.versions.now wanted.old }
+        ensures right { OnOk result (difference self.now.cut.now (Move.Read task req cell.now)
+            (λ c. numbered.value_at store.old.values got) ≡ None) }
+        ensures wanted { OnOk result (AreWanted store.new.values self.now.versions.now wanted.new) }
+        ensures cells { store.new.cells ≡ store.old.cells }
+        ensures end { IfErr result (Tells self.now.cut.now (difference self.now.cut.now
+            (Move.Read task req cell.now) (λ c. numbered.value_at store.old.values got))) }
     {
         let place = Place {
             tree: tree_of(self.cut, item, req),
             point: cell.point,
             field: cell.field,
         };
-        match unlike_at(self.alloc, self.versions, item, &place, value)? {
+        match unlike_at(self.alloc, store, wanted, self.versions, item, &place, got)? {
             None => Ok(()),
             Some(Unlike { got, want }) => Err(ReplayEnd::Differ {
                 task,
@@ -125,10 +143,32 @@ impl<'r, 'a, P: PointSet + Copy> Replay<'r, 'a, P> {
         }
     }
 
+    /// The number of what a read sees, by the requirement at a position, in its view.
+    fn number_read(
+        &self,
+        store: &mut Store,
+        req: usize,
+        task: u32,
+        number: u32,
+        cell: &Cell,
+    ) -> usize
+        requires allowed { IsAllowed self.now.log.now (Move.Read task number cell.now) req }
+        requires cell { HasCells store.old.cells (Move.Read task number cell.now) }
+        ensures number { IsNumberOf store.new.values (value_in store.new.cells cell.now) result }
+        ensures same { store.new ≡ store.old }
+    {
+        match privilege_of(self.log, req) {
+            Some(Priv::Ro) => store.view_ro(self.log, req).get(cell.point, cell.field),
+            Some(Priv::Rw) => store.view_rw(self.log, req).get(cell.point, cell.field),
+            _ => unreachable!(),
+        }
+    }
+
     /// Judges a read by the requirement at a position, in its view.
     fn read(
         &self,
         store: &mut Store,
+        wanted: &mut PlaceLists<usize>,
         item: usize,
         req: usize,
         task: u32,
@@ -139,50 +179,48 @@ impl<'r, 'a, P: PointSet + Copy> Replay<'r, 'a, P> {
         requires item { IsOfItem self.now.cut.now item (Move.Read task number cell.now) }
         requires inst { AreOfInsts self.now.cut.now (Move.Read task number cell.now) }
         requires versions { AreVersionsIn self.now.cut.now self.now.versions.now }
-        requires cell { HasCells store.old (Move.Read task number cell.now) }
+        requires cell { HasCells store.old.cells (Move.Read task number cell.now) }
+        requires wanted { AreWanted store.old.values self.now.versions.now wanted.old }
         ensures right { OnOk result (difference self.now.cut.now
-            (Move.Read task number cell.now) (value_in store.old) ≡ None) }
-        ensures kept { store.new ≡ store.old }
-        ensures end { IfErr result (Tells self.now.cut.now
-            (difference self.now.cut.now (Move.Read task number cell.now) (value_in store.old))) }
+            (Move.Read task number cell.now) (value_in store.old.cells) ≡ None) }
+        ensures wanted { OnOk result (AreWanted store.new.values self.now.versions.now wanted.new) }
+        ensures cells { store.new.cells ≡ store.old.cells }
+        ensures end { IfErr result (Tells self.now.cut.now (difference self.now.cut.now
+            (Move.Read task number cell.now) (value_in store.old.cells))) }
     {
-        match privilege_of(self.log, req) {
-            Some(Priv::Ro) => {
-                let view = store.view_ro(self.log, req);
-                self.judge(item, task, number, cell, view.get(cell.point, cell.field))
-            }
-            Some(Priv::Rw) => {
-                let view = store.view_rw(self.log, req);
-                self.judge(item, task, number, cell, view.get(cell.point, cell.field))
-            }
-            _ => unreachable!(),
-        }
+        let got = self.number_read(store, req, task, number, cell);
+        self.judge(store, wanted, item, task, number, cell, got)
     }
 
     /// Puts what a task writes by the requirement at a position into its view.
-    fn write(&self, store: &mut Store, req: usize, task: u32, cell: &Cell)
+    fn write(&self, store: &mut Store, req: usize, task: u32, cell: &Cell) -> Result<(), Memory>
         requires allowed { IsAllowed self.now.log.now (Move.Write task cell.now) req }
-        requires cell { HasCells store.old (Move.Write task cell.now) }
-        ensures { store.new ≡ after_move (Move.Write task cell.now) store.old }
+        requires cell { HasCells store.old.cells (Move.Write task cell.now) }
+        ensures moved { OnOk result (store.new.cells
+            ≡ after_move (Move.Write task cell.now) store.old.cells) }
+        ensures kept { Keeps store.old.values store.new.values }
     {
-        let value = Value::of(self.alloc, Base::Out(task));
+        let number = store.number_of(Base::Out(task))?;
         match privilege_of(self.log, req) {
             Some(Priv::Rw) => {
                 let mut view = store.view_rw(self.log, req);
-                view.set(cell.point, cell.field, value);
+                view.set(cell.point, cell.field, number);
             }
             Some(Priv::Wd) => {
                 let mut view = store.view_wd(self.log, req);
-                view.set(cell.point, cell.field, value);
+                view.set(cell.point, cell.field, number);
             }
             _ => unreachable!(),
         }
+        Ok(())
     }
 
     /// Takes a move of a run in the view of the requirement at a position: judges a read, and does what others do.
+    #[tactic(auto, using(crate::proofs::Wanting::still_wanted))]
     fn take_by(
         &self,
         store: &mut Store,
+        wanted: &mut PlaceLists<usize>,
         item: usize,
         req: usize,
         step: &Move,
@@ -191,22 +229,24 @@ impl<'r, 'a, P: PointSet + Copy> Replay<'r, 'a, P> {
         requires item { IsOfItem self.now.cut.now item step.now }
         requires insts { AreOfInsts self.now.cut.now step.now }
         requires versions { AreVersionsIn self.now.cut.now self.now.versions.now }
-        requires cells { HasCells store.old step.now }
-        requires light { IsLight store.old step.now }
+        requires cells { HasCells store.old.cells step.now }
+        requires light { IsLight store.old.cells step.now }
+        requires wanted { AreWanted store.old.values self.now.versions.now wanted.old }
         ensures right { OnOk result (difference self.now.cut.now
-            step.now (value_in store.old) ≡ None) }
-        ensures moved { OnOk result (store.new ≡ after_move step.now store.old) }
+            step.now (value_in store.old.cells) ≡ None) }
+        ensures moved { OnOk result (store.new.cells ≡ after_move step.now store.old.cells) }
+        ensures wanted { OnOk result (AreWanted store.new.values self.now.versions.now wanted.new) }
         ensures end { IfErr result (Tells self.now.cut.now
-            (difference self.now.cut.now step.now (value_in store.old))) }
+            (difference self.now.cut.now step.now (value_in store.old.cells))) }
     {
         match *step {
             Move::Read {
                 task,
                 req: number,
                 cell,
-            } => self.read(store, item, req, task, number, &cell),
+            } => self.read(store, wanted, item, req, task, number, &cell),
             Move::Write { task, cell } => {
-                self.write(store, req, task, &cell);
+                self.write(store, req, task, &cell)?;
                 Ok(())
             }
             Move::Reduce {
@@ -224,9 +264,11 @@ impl<'r, 'a, P: PointSet + Copy> Replay<'r, 'a, P> {
     }
 
     /// Takes a move of a node that runs an item: those of the run through the view of their requirement, and others as they are.
+    #[tactic(auto, using(crate::proofs::Wanting::still_wanted))]
     pub(crate) fn take(
         &self,
         store: &mut Store,
+        wanted: &mut PlaceLists<usize>,
         item: usize,
         action: &Action,
     ) -> Result<(), ReplayEnd>
@@ -234,16 +276,18 @@ impl<'r, 'a, P: PointSet + Copy> Replay<'r, 'a, P> {
         requires item { IsOfItem self.now.cut.now item action.now.step }
         requires insts { AreOfInsts self.now.cut.now action.now.step }
         requires versions { AreVersionsIn self.now.cut.now self.now.versions.now }
-        requires cells { HasCells store.old action.now.step }
-        requires light { IsLight store.old action.now.step }
+        requires cells { HasCells store.old.cells action.now.step }
+        requires light { IsLight store.old.cells action.now.step }
+        requires wanted { AreWanted store.old.values self.now.versions.now wanted.old }
         ensures right { OnOk result (difference self.now.cut.now
-            action.now.step (value_in store.old) ≡ None) }
-        ensures moved { OnOk result (store.new ≡ after_move action.now.step store.old) }
+            action.now.step (value_in store.old.cells) ≡ None) }
+        ensures moved { OnOk result (store.new.cells ≡ after_move action.now.step store.old.cells) }
+        ensures wanted { OnOk result (AreWanted store.new.values self.now.versions.now wanted.new) }
         ensures end { IfErr result (Tells self.now.cut.now
-            (difference self.now.cut.now action.now.step (value_in store.old))) }
+            (difference self.now.cut.now action.now.step (value_in store.old.cells))) }
     {
         match action.req {
-            Some(req) => self.take_by(store, item, req, &action.step),
+            Some(req) => self.take_by(store, wanted, item, req, &action.step),
             None => {
                 store.apply(&action.step)?;
                 Ok(())

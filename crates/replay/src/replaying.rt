@@ -12,6 +12,7 @@ ghost use Rattle.serial_exec.specs.Kept.{AreVersionsAt};
 ghost use Rattle.replay.specs.Ends.{IsEndOf};
 ghost use Rattle.replay.specs.Standing.{Stands};
 ghost use Rattle.replay.specs.Versioned.{AreVersionsIn};
+ghost use Rattle.replay.specs.Wanting.{AreWanted};
 
 use crate::counting::count_reads;
 use crate::ends::{Reads, ReplayEnd};
@@ -23,43 +24,57 @@ use inst_steps::{Store, actions_of};
 use logs::Log;
 use point_set::PointSet;
 use region_tree::ArenaSet;
-use serial_exec::Versions;
+use serial_exec::{PlaceLists, Versions};
 use std::alloc::Global;
 
 impl<'r, 'a, P: PointSet + Copy> Replay<'r, 'a, P> {
     /// Takes the moves of the node at a place of the replay order.
     #[tactic(auto, using(crate::proofs::Laws::stand_cells, crate::proofs::Stood::stand_light, crate::proofs::Stood::stand_end))]
-    fn take_node(&self, store: &mut Store, order: &[usize], place: usize) -> Result<(), ReplayEnd>
+    fn take_node(
+        &self,
+        store: &mut Store,
+        wanted: &mut PlaceLists<usize>,
+        order: &[usize],
+        place: usize,
+    ) -> Result<(), ReplayEnd>
         requires nodes { All (λ k. k < length self.now.cut.now.nodes) order.now }
         requires cut { IsCutOf self.now.log.now self.now.cut.now }
         requires place { place < length order.now }
         requires versions { AreVersionsIn self.now.cut.now self.now.versions.now }
         requires stands { Stands self.now.cut.now
-            (steps_by self.now.cut.now (drop place order.now)) store.old }
+            (steps_by self.now.cut.now (drop place order.now)) store.old.cells }
+        requires wanted { AreWanted store.old.values self.now.versions.now wanted.old }
         ensures stands { OnOk result (Stands self.now.cut.now
-            (steps_by self.now.cut.now (drop (place + 1) order.now)) store.new) }
+            (steps_by self.now.cut.now (drop (place + 1) order.now)) store.new.cells) }
+        ensures wanted { OnOk result (AreWanted store.new.values self.now.versions.now wanted.new) }
         ensures end { IfErr result (IsEndOf self.now.cut.now) }
     {
         let node = order[place];
         let item = self.item_at(node);
         for action in actions_of(self.cut, node) {
-            self.take(store, item, &action)?;
+            self.take(store, wanted, item, &action)?;
         }
         Ok(())
     }
 
     /// Takes the moves of all nodes, in replay order.
-    fn take_nodes(&self, store: &mut Store, order: &[usize]) -> Result<(), ReplayEnd>
+    fn take_nodes(
+        &self,
+        store: &mut Store,
+        wanted: &mut PlaceLists<usize>,
+        order: &[usize],
+    ) -> Result<(), ReplayEnd>
         requires cut { IsCutOf self.now.log.now self.now.cut.now }
         requires nodes { All (λ k. k < length self.now.cut.now.nodes) order.now }
         requires versions { AreVersionsIn self.now.cut.now self.now.versions.now }
         requires stands { Stands self.now.cut.now
-            (steps_by self.now.cut.now order.now) store.old }
+            (steps_by self.now.cut.now order.now) store.old.cells }
+        requires wanted { AreWanted store.old.values self.now.versions.now wanted.old }
         ensures right { OnOk result (shown_difference self.now.cut.now ≡ None) }
         ensures end { IfErr result (IsEndOf self.now.cut.now) }
     {
         for place in 0..order.len() {
-            self.take_node(store, order, place)?;
+            self.take_node(store, wanted, order, place)?;
         }
         Ok(())
     }
@@ -75,7 +90,8 @@ impl<'r, 'a, P: PointSet + Copy> Replay<'r, 'a, P> {
     {
         self.log.is_declared();
         let mut store = Store::start_of(self.alloc, self.cut)?;
-        self.take_nodes(&mut store, order.as_slice())
+        let mut wanted = PlaceLists::new(self.alloc);
+        self.take_nodes(&mut store, &mut wanted, order.as_slice())
     }
 }
 

@@ -1,6 +1,6 @@
 -- What is kept of places is what sequential execution wants.
-use Rattle.std.proofs.Common.{◌≡◌, ℕ, zero, suc, ◌+◌, ◌-◌, ◌<◌, ◌≤◌, Bool, true, false, cond, List, [], ◌∷◌, map, take, drop, filter, length, get_or, Option, Some, None, refl, sym, ap, subst, ◌∙◌, inl, inr, arith, zero-add}
-use Rattle.std.specs.List.{AllByRecursion, AllWithin}
+use Rattle.std.proofs.Common.{◌≡◌, ℕ, zero, suc, ◌+◌, ◌-◌, ◌<◌, ◌≤◌, Bool, true, false, cond, List, [], ◌∷◌, map, take, drop, filter, length, get_or, Option, refl, sym, ap, subst, ◌∙◌, inl, inr, arith, zero-add}
+use Rattle.std.specs.List.{AllWithin}
 use Rattle.std.specs.List.Sorted.{IsNonDecreasingBy}
 use Rattle.std.specs.Map.{lookup}
 use Rattle.std.specs.Option.{option_map_or, unwrap_or}
@@ -11,11 +11,11 @@ use Rattle.serial_exec.specs.declared.change.Action.TheVariants.{Put}
 use Rattle.semantics.specs.SerialOrder.{serial, serial_place}
 use Rattle.logs.specs.Listing.{ArePlacesIn}
 use Rattle.serial_exec.specs.declared.change.Change.{Change}
-use Rattle.serial_exec.specs.declared.histories.Histories.{Histories}
-use Rattle.serial_exec.specs.Changes.{after_changes, acted_by, before, items_changes, IsAdded}
+use Rattle.serial_exec.specs.declared.place_lists.PlaceLists.{PlaceLists}
+use Rattle.serial_exec.specs.Changes.{after_changes, acted_by, before, items_changes}
 use Rattle.point_laws.specs.Cut.{cut}
 use Rattle.point_laws.proofs.lemmas.Cuts.{wanted_cut}
-use Rattle.serial_exec.specs.Histories.{changes_at}
+use Rattle.serial_exec.specs.Histories.{listed}
 use Rattle.serial_exec.specs.Kept.{Kept, kept, changes_in, AreInOrder, AreVersionsAt, AreVersionsOf}
 use Rattle.serial_exec.proofs.Changing.{before-items, items-changes, Rises, items-rise}
 
@@ -27,7 +27,7 @@ lookup-mapped items test (e ∷ es) = elim (cases_Bool (test e.0)) [
   | inr other ↦ rw other (lookup-mapped items test es)
 ]
 
-pub kept-changes : (moments : List ℕ) (h : Histories) (p : Place) → changes_in (kept moments h) p ≡ changes_at h p
+pub kept-changes : (moments : List ℕ) (h : PlaceLists Change) (p : Place) → changes_in (kept moments h) p ≡ listed h p
 kept-changes moments h p = lookup-mapped (λ v. v.items) (same_place p) h.lists.entries
 
 -- What is looked up.
@@ -44,15 +44,15 @@ rises-at (c ∷ cs) up zero (suc j) d le lt = up.0 j d (omega (arith, lt))
 rises-at (c ∷ cs) up (suc i) zero d le lt = absurd (omega (arith, le))
 rises-at (c ∷ cs) up (suc i) (suc j) d le lt = rises-at cs up.1 i j d (omega (arith, le)) (omega (arith, lt))
 
-pub kept-in_order : (t : Tables) (moments : List ℕ) (h : Histories) → ((p : Place) → changes_at h p ≡ items_changes t 0 (serial t) p)
+pub kept-in_order : (t : Tables) (moments : List ℕ) (h : PlaceLists Change) → ((p : Place) → listed h p ≡ items_changes t 0 (serial t) p)
     → AreInOrder (kept moments h)
 kept-in_order t moments h are p = subst (λ cs. IsNonDecreasingBy (λ c. c.moment) cs) (sym (kept-changes moments h p ∙ are p))
     (rises-at (items_changes t 0 (serial t) p) (items-rise t 0 (serial t) p))
 
 -- ---- what is wanted
 
-pub versions-of : (t : Tables) (moments : List ℕ) (h : Histories) → ArePlacesIn (serial t) (length t.items) moments
-    → ((p : Place) → changes_at h p ≡ items_changes t 0 (serial t) p) → AreVersionsOf t (kept moments h)
+pub versions-of : (t : Tables) (moments : List ℕ) (h : PlaceLists Change) → ArePlacesIn (serial t) (length t.items) moments
+    → ((p : Place) → listed h p ≡ items_changes t 0 (serial t) p) → AreVersionsOf t (kept moments h)
 versions-of t moments h places are = record {
   each = places.each;
   value = λ item p lt.
@@ -93,20 +93,6 @@ after-split (c ∷ cs) zero d v lt = refl
 after-split (c ∷ cs) (suc k) d v lt = after-split cs k d (acted_by c.action v) (omega (arith, lt))
     ∙ ap (λ n. after_changes (drop n (c ∷ cs)) (acted_by (get_or cs k d).action (after_changes (take k cs) (acted_by c.action v))))
     (let e : suc (k + 1) ≡ suc k + 1 = omega arith in e)
-
-pub added-more : (cs : List Change) (k : ℕ) (d : Change) → k < length cs → IsAdded (get_or cs k d)
-    → AllByRecursion IsAdded (drop (k + 1) cs) → AllByRecursion IsAdded (drop k cs)
-added-more [] k d lt one all = absurd (omega (arith, lt))
-added-more (c ∷ cs) zero d lt one all = (one, all)
-added-more (c ∷ cs) (suc k) d lt one all = added-more cs k d (omega (arith, lt)) one
-    (subst (λ n. AllByRecursion IsAdded (drop n (c ∷ cs))) (let e : suc k + 1 ≡ suc (k + 1) = omega arith in e) all)
-
-pub after-more : (cs : List Change) (k : ℕ) (d : Change) (v : Value) → k < length cs
-    → after_changes (take (k + 1) cs) v ≡ acted_by (get_or cs k d).action (after_changes (take k cs) v)
-after-more [] k d v lt = absurd (omega (arith, lt))
-after-more (c ∷ cs) zero d v lt = refl
-after-more (c ∷ cs) (suc k) d v lt = ap (λ n. after_changes (take n (c ∷ cs)) v) (let e : suc k + 1 ≡ suc (k + 1) = omega arith in e)
-    ∙ after-more cs k d (acted_by c.action v) (omega (arith, lt))
 
 pub put-latest : (cs : List Change) (n : ℕ) (d : Change) (base : Base) (v : Value) → 0 < n → n ≤ length cs
     → (get_or cs (n - 1) d).action ≡ Put base → after_changes cs v ≡ after_changes (drop n cs) (plain base)

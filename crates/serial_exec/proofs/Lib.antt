@@ -1,9 +1,6 @@
+pub mod lemmas
 mod Changing
 mod Noting
 mod Owned
 mod Gathered
 mod Keeping
-mod Bags
-mod Marking
-mod Marked
-mod Grouping

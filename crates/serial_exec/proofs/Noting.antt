@@ -17,7 +17,7 @@ use Rattle.serial_exec.specs.declared.change.Change.{Change}
 use Rattle.serial_exec.specs.Changes.{covered}
 
 -- A list more at a place.
-pub list-put : {V : Type 0} (items : V → List Change) (old : Place → Option V) (new : Option V) (key k : Place) (list : V) (c : Change)
+pub list-put : {V X : Type 0} (items : V → List X) (old : Place → Option V) (new : Option V) (key k : Place) (list : V) (c : X)
     → new ≡ cond (same_place key k) (Some list) (old k)
     → items list ≡ option_map_or items (old key) [] ++ c ∷ []
     → option_map_or items new [] ≡ option_map_or items (old k) [] ++ cond (same_place key k) (c ∷ []) []

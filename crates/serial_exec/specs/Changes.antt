@@ -1,5 +1,5 @@
 -- What items do to the value at a place, change by change.
-use Rattle.std.specs.Prelude.{◌≡◌, ℕ, ◌+◌, ◌==◌, ◌&&◌, nat_lt, Bool, List, [], ◌∷◌, ◌++◌, filter, Option, Some, None, slice_get, if◌then◌else◌, ⊤}
+use Rattle.std.specs.Prelude.{◌≡◌, ℕ, ◌+◌, ◌==◌, ◌&&◌, nat_lt, Bool, List, [], ◌∷◌, ◌++◌, filter, Option, Some, None, slice_get, if◌then◌else◌}
 use Rattle.std.specs.Option.{option_map_or}
 use Rattle.vocabulary.specs.Prelude.{Priv, Value, plain, add_one, Place, Item, Req, Tables, is_in, covers, uses_of}
 use Rattle.privilege.specs.declared.kinds.Priv.TheVariants.{Ro, Rw, Wd, Red}
@@ -74,18 +74,6 @@ covered tree points fields p = (tree == p.tree) && (is_in points p.point && is_i
 abbrev pub Adds : Change → (Place → Bool) → (Place → List Change) → (Place → List Change) → Type 0
 Adds c here old new = (p : Place) → new p ≡ old p ++ (if here p then c ∷ [] else [])
 
--- A change adds to what is there.
-abbrev pub IsAddedBy : Action → Type 0
-IsAddedBy (Put base) = ⊥
-IsAddedBy (Add op c) = ⊤
-
-abbrev pub IsAdded : Change → Type 0
-IsAdded c = IsAddedBy c.action
-
 -- These are the first of some changes.
 abbrev pub AreFirst : List Change → List Change → Type 0
 AreFirst cs first = (later : List Change) × (cs ≡ first ++ later)
-
--- These are the last of some changes.
-abbrev pub AreLast : List Change → List Change → Type 0
-AreLast cs last = (earlier : List Change) × (cs ≡ earlier ++ last)

@@ -5,7 +5,7 @@ use Rattle.std.specs.List.Sorted.{IsNonDecreasingBy}
 use Rattle.value_terms.specs.declared.terms.Base.TheVariants.{Init}
 use Rattle.vocabulary.specs.Prelude.{Value, plain, Place, Tables, is_in, same_place, wanted}
 use Rattle.serial_exec.specs.declared.change.Change.{Change}
-use Rattle.serial_exec.specs.declared.histories.Histories.{Histories}
+use Rattle.serial_exec.specs.declared.place_lists.PlaceLists.{PlaceLists}
 use Rattle.serial_exec.specs.Changes.{before, after_changes}
 
 -- The place of each item in serial order, and the changes at each place.
@@ -13,7 +13,7 @@ pub record Kept : Type 0 where
   pub moments : List ℕ
   pub lists : List (Place × List Change)
 
-abbrev pub kept : List ℕ → Histories → Kept
+abbrev pub kept : List ℕ → PlaceLists Change → Kept
 kept moments h = record { moments = moments; lists = map (λ e. (e.0, e.1.items)) h.lists.entries }
 
 -- The changes that are kept of a place.

@@ -1,9 +1,7 @@
 pub mod Changes
 pub mod Histories
 pub mod Kept
-pub mod Marks
 pub mod OwnReqs
-pub mod Summed
 pub use Rattle.point_laws.specs.Cut
 pub use Rattle.semantics.specs.Points
 pub use Rattle.semantics.specs.Sequential

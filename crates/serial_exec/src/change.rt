@@ -8,7 +8,7 @@ use value_terms::{Base, Contribution};
 
 /// What an item does to the value at a place.
 #[derive(Clone, Copy)]
-pub(crate) enum Action {
+pub enum Action {
     /// It puts a base in place of what was there.
     Put(Base),
     /// It adds a contribution by an operator.
@@ -17,9 +17,10 @@ pub(crate) enum Action {
 
 /// A change of the value at a place.
 #[derive(Clone, Copy)]
-pub(crate) struct Change {
+pub struct Change {
     /// The place of its item in serial order.
     pub moment: usize,
+    /// What is done there.
     pub action: Action,
 }
 

@@ -5,12 +5,13 @@ ghost use Rattle.std.specs.List.Sorted.{IsStrictlyIncreasing};
 ghost use Rattle.vocabulary.specs.Prelude.{Place, points_in};
 ghost use Rattle.semantics.specs.SerialOrder.{serial};
 ghost use Rattle.serial_exec.specs.Changes.{Adds, covered, by_task, use_changes, uses_changes, item_changes, items_changes};
-ghost use Rattle.serial_exec.specs.Histories.{changes_at};
+ghost use Rattle.serial_exec.specs.Histories.{listed};
 ghost use Rattle.serial_exec.specs.OwnReqs.{AreOwn, reqs_at};
 
 use crate::change::{Action, Change, task_action};
-use crate::histories::Histories;
+use crate::histories::note_all;
 use crate::own_reqs::own_reqs;
+use crate::place_lists::PlaceLists;
 use cut_logs::CutLog;
 use number_lists::NumberLists;
 use point_set::PointSet;
@@ -21,7 +22,7 @@ use value_terms::Base;
 /// One change more at these fields of the points of a space.
 fn note_in_space<P: PointSet + Copy>(
     alloc: Global,
-    histories: &mut Histories,
+    histories: &mut PlaceLists<Change>,
     log: &CutLog<'_, '_, '_, P>,
     tree: u32,
     space: u32,
@@ -31,10 +32,10 @@ fn note_in_space<P: PointSet + Copy>(
     requires { IsStrictlyIncreasing fields.now }
     ensures { OnOk result (Adds change
         (covered tree (points_in log.now space) fields.now)
-        (changes_at histories.old) (changes_at histories.new)) }
+        (listed histories.old) (listed histories.new)) }
 {
     match log.set(space) {
-        Some(set) => histories.note_all(alloc, &set, tree, fields, change),
+        Some(set) => note_all(alloc, histories, &set, tree, fields, change),
         None => Ok(()),
     }
 }
@@ -42,14 +43,14 @@ fn note_in_space<P: PointSet + Copy>(
 /// What a task does by a requirement.
 fn note_req<P: PointSet + Copy>(
     alloc: Global,
-    histories: &mut Histories,
+    histories: &mut PlaceLists<Change>,
     log: &CutLog<'_, '_, '_, P>,
     moment: usize,
     task: u32,
     req: &Req,
 ) -> Result<(), AllocError>
     requires { IsStrictlyIncreasing req.now.fields }
-    ensures { OnOk result ((p : Place) → changes_at histories.new p ≡ changes_at histories.old p ++
+    ensures { OnOk result ((p : Place) → listed histories.new p ≡ listed histories.old p ++
         use_changes log.now moment (by_task task) req.now p) }
 {
     match task_action(task, req.number, req.access) {
@@ -65,13 +66,13 @@ fn note_req<P: PointSet + Copy>(
 /// What a task does by the requirement at a position.
 fn note_req_at<P: PointSet + Copy>(
     alloc: Global,
-    histories: &mut Histories,
+    histories: &mut PlaceLists<Change>,
     log: &CutLog<'_, '_, '_, P>,
     moment: usize,
     task: u32,
     k: usize,
 ) -> Result<(), AllocError>
-    ensures { OnOk result ((p : Place) → changes_at histories.new p ≡ changes_at histories.old p ++
+    ensures { OnOk result ((p : Place) → listed histories.new p ≡ listed histories.old p ++
         uses_changes log.now moment (by_task task)
         (reqs_at log.now.reqs (k ∷ [])) p) }
 {
@@ -84,13 +85,13 @@ fn note_req_at<P: PointSet + Copy>(
 /// What a task does by the requirements at some positions.
 fn note_reqs<P: PointSet + Copy>(
     alloc: Global,
-    histories: &mut Histories,
+    histories: &mut PlaceLists<Change>,
     log: &CutLog<'_, '_, '_, P>,
     moment: usize,
     task: u32,
     own: &[usize],
 ) -> Result<(), AllocError>
-    ensures { OnOk result ((p : Place) → changes_at histories.new p ≡ changes_at histories.old p ++
+    ensures { OnOk result ((p : Place) → listed histories.new p ≡ listed histories.old p ++
         uses_changes log.now moment (by_task task)
         (reqs_at log.now.reqs own.now) p) }
 {
@@ -103,14 +104,14 @@ fn note_reqs<P: PointSet + Copy>(
 /// What an item does.
 fn note_item<P: PointSet + Copy>(
     alloc: Global,
-    histories: &mut Histories,
+    histories: &mut PlaceLists<Change>,
     log: &CutLog<'_, '_, '_, P>,
     own: &NumberLists,
     moment: usize,
     item: usize,
 ) -> Result<(), AllocError>
     requires { AreOwn log.now.reqs log.now.reqs (length log.now.items) own.now }
-    ensures { OnOk result ((p : Place) → changes_at histories.new p ≡ changes_at histories.old p ++
+    ensures { OnOk result ((p : Place) → listed histories.new p ≡ listed histories.old p ++
         item_changes log.now moment item p) }
 {
     log.fill_fields_ascend();
@@ -139,12 +140,12 @@ fn note_item<P: PointSet + Copy>(
 pub(crate) fn histories_of<P: PointSet + Copy>(
     alloc: Global,
     log: &CutLog<'_, '_, '_, P>,
-) -> Result<Histories, AllocError>
-    ensures { IfOk result (λ h. (p : Place) → changes_at h p
+) -> Result<PlaceLists<Change>, AllocError>
+    ensures { IfOk result (λ h. (p : Place) → listed h p
         ≡ items_changes log.now 0 (serial log.now) p) }
 {
     let own = own_reqs(alloc, log.items().len(), log.reqs())?;
-    let mut histories = Histories::new(alloc);
+    let mut histories = PlaceLists::new(alloc);
     let order = log.serial();
     for moment in 0..order.len() {
         note_item(alloc, &mut histories, log, &own, moment, order[moment])?;

@@ -1,20 +1,17 @@
 //! What changes make of a value.
 
 ghost use Rattle.std.specs.Prelude.{◌≡◌, ◌+◌, ◌-◌, ◌<◌, ◌≤◌, ◌^◌, IfOk};
-ghost use Rattle.std.specs.List.{AllByRecursion};
 ghost use Rattle.value_terms.specs.declared.terms.Base.TheVariants as bases;
 ghost use Rattle.vocabulary.specs.Prelude.{plain, weight_of};
-ghost use Rattle.serial_exec.specs.Changes.{after_changes, acted_by, AreLast, IsAdded};
+ghost use Rattle.serial_exec.specs.Changes.{after_changes, acted_by};
 
 use crate::change::{Action, Change};
 use std::alloc::Global;
 use value_terms::{Base, Memory, Value};
 
-/// What was put last, and the changes since, each of which adds.
+/// What was put last, and the changes since.
 pub(crate) fn latest(changes: &[Change]) -> (Base, &[Change])
-    ensures same { after_changes changes.now (plain bases.Init) ≡ after_changes result.1.now (plain result.0) }
-    ensures adds { AllByRecursion IsAdded result.1.now }
-    ensures last { AreLast changes.now result.1.now }
+    ensures { after_changes changes.now (plain bases.Init) ≡ after_changes result.1.now (plain result.0) }
 {
     let mut from = changes.len();
     while from > 0 {

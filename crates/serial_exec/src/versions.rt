@@ -1,18 +1,14 @@
 //! The values of sequential execution.
 
-ghost use Rattle.std.specs.Prelude.{◌≡◌, ◌↔◌, ◌<◌, length, IfOk, IsTrue};
+ghost use Rattle.std.specs.Prelude.{◌≡◌, ◌<◌, length, IfOk};
 ghost use Rattle.std.specs.List.Sorted.{IsNonDecreasingBy, IsStrictlyIncreasing};
 ghost use Rattle.serial_exec.specs.Changes.{AreFirst, before};
 ghost use Rattle.point_laws.specs.Cut.{cut};
-ghost use Rattle.serial_exec.specs.Histories as says;
 ghost use Rattle.serial_exec.specs.Kept.{AreVersionsAt, AreVersionsOf, changes_before, changes_in, value_at};
-ghost use Rattle.serial_exec.specs.Marks.{AreMarksOf};
 
-use crate::agreeing::is_sum;
 use crate::change::Change;
 use crate::gathering::histories_of;
-use crate::histories::Histories;
-use crate::marks::{Mark, Marks};
+use crate::place_lists::PlaceLists;
 use crate::sums::{latest, sum_of};
 use cut_logs::CutLog;
 use logs::Log;
@@ -28,19 +24,17 @@ use value_terms::{Memory, Value};
 #[derive(Drop)]
 pub struct Versions {
     moments: Vec<usize>,
-    histories: Histories,
-    marks: Marks,
+    histories: PlaceLists<Change>,
 }
 
 impl Model for Versions {
     ghost use Rattle.serial_exec.specs.Kept.{Kept, kept, AreInOrder};
-    ghost use Rattle.serial_exec.specs.Marks.{AreMarked};
 
     ghost Value = { Kept };
 
     ghost view = { λ v. kept v.moments.items v.histories };
 
-    ghost invariant = { λ v. AreInOrder (kept v.moments.items v.histories) × AreMarked v.marks v.histories };
+    ghost invariant = { λ v. AreInOrder (kept v.moments.items v.histories) };
 }
 
 impl Versions {
@@ -53,12 +47,7 @@ impl Versions {
     {
         let moments = Vec::from_slice(alloc, log.serial_places())?;
         let histories = histories_of(alloc, log)?;
-        let marks = Marks::of(alloc, &histories)?;
-        Ok(Versions {
-            moments,
-            histories,
-            marks,
-        })
+        Ok(Versions { moments, histories })
     }
 
     /// The versions at all points.
@@ -97,29 +86,16 @@ impl Versions {
     fn changes_at(&self, place: &Place) -> &[Change]
         ensures { result.now ≡ changes_in self.now place.now }
     {
-        match self.histories.lists.get(place) {
-            Some(list) => list.as_slice(),
-            None => &[],
-        }
+        self.histories.at(place)
     }
 
-    /// The changes at a place by the items before an item.
-    fn changes_before(&self, item: usize, place: &Place) -> &[Change]
+    /// The changes at a place by the items before an item, in serial order, which are the first of all there.
+    pub fn changes_before(&self, item: usize, place: &Place) -> &[Change]
         requires { item < length self.now.moments }
         ensures before { result.now ≡ changes_before self.now item place.now }
         ensures first { AreFirst (changes_in self.now place.now) result.now }
     {
         changes_until(self.changes_at(place), self.moments[item])
-    }
-
-    /// The marks of the changes at a place.
-    fn marks_at(&self, place: &Place) -> &[Mark]
-        ensures { AreMarksOf result.now (changes_in self.now place.now) }
-    {
-        match self.marks.lists.get(place) {
-            Some(list) => list.as_slice(),
-            None => &[],
-        }
     }
 
     /// The value that a read of an item should see at a place: that of sequential execution just before the item.
@@ -129,16 +105,6 @@ impl Versions {
     {
         let (base, added) = latest(self.changes_before(item, place));
         sum_of(alloc, base, added)
-    }
-
-    /// Whether a value is the one that a read of an item should see at a place. It takes no memory and builds no value.
-    pub fn agrees(&self, item: usize, place: &Place, v: &Value) -> bool
-        requires { item < length self.now.moments }
-        ensures { IsTrue result ↔ (v.now ≡ value_at self.now item place.now) }
-    {
-        let changes = self.changes_before(item, place);
-        let (base, added) = latest(changes);
-        is_sum(v, base, added, self.marks_at(place), changes.len())
     }
 }
 

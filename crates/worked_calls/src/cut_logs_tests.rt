@@ -86,8 +86,8 @@ fn has_points<P: PointSet + Copy>(
     };
     point_count(&set) == points
         && move_counts(log) == (moves, moves)
-        && store.value(&cell(4)).is_some()
-        && store.value(&cell(1)).is_some() == is_whole
+        && store.number(&cell(4)).is_some()
+        && store.number(&cell(1)).is_some() == is_whole
 }
 
 /// Whether a log has all of its points, and one that is cut has those that are listed.

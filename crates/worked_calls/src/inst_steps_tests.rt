@@ -1,7 +1,8 @@
 //! What instances hold at the start of a run, and a view of that.
 
-ghost use Rattle.std.specs.Prelude.{◌≡◌, true, IsTrue};
+ghost use Rattle.std.specs.Prelude.{◌≡◌, ◌<◌, true, length, IsTrue};
 ghost use Rattle.std.specs.FinMap.{contains_key, insert};
+ghost use Rattle.shared_values.specs.Arenas.{value_at};
 ghost use Rattle.inst_steps.specs.Viewing.{HasPrivilege, viewed_cell};
 
 use crate::framed_logs::log_of;
@@ -13,7 +14,7 @@ use privilege::Priv;
 use semantics::Cell;
 use std::alloc::Global;
 use std::test::Fail;
-use value_terms::{Base, Value};
+use value_terms::Base;
 
 /// A task that reads and writes, and an instance of each kind.
 const RECORDS: &[u8] =
@@ -21,8 +22,10 @@ const RECORDS: &[u8] =
 
 /// The base of what a cell of an instance holds.
 fn base_at(store: &Store, inst: u32, point: u64, field: u32) -> Option<Base> {
-    let value = store.value(&Cell { inst, point, field })?;
-    Some(value.base())
+    match store.value(&Cell { inst, point, field }) {
+        Ok(Some(value)) => Some(value.base()),
+        _ => None,
+    }
 }
 
 /// Whether a requirement reads and writes, and a store has the cell to which a point and a field of it are mapped.
@@ -34,36 +37,39 @@ fn may_view<P: PointSet + Copy>(
     field: u32,
 ) -> bool
     ensures access { IsTrue result → HasPrivilege log.now req Priv.Rw }
-    ensures there { IsTrue result → contains_key store.now (viewed_cell log.now req point field) ≡ true }
+    ensures there { IsTrue result → contains_key store.now.cells (viewed_cell log.now req point field) ≡ true }
 {
     let inst = match log.inst_of(req, field) {
         Some(inst) => inst,
         None => 0,
     };
-    let is_there = store.value(&Cell { inst, point, field }).is_some();
+    let is_there = store.number(&Cell { inst, point, field }).is_some();
     match log.reqs().get(req) {
         Some(req) => req.access == Priv::Rw && is_there,
         None => false,
     }
 }
 
-/// Puts a value into a cell, by way of a view that reads and writes, and gives the base of what was there.
+/// Puts the value of a number into a cell, by way of a view that reads and writes, and gives the number of what was there.
 fn replace_by_view<P: PointSet + Copy>(
     store: &mut Store,
     log: &Log<'_, P>,
     req: usize,
     point: u64,
     field: u32,
-    v: Value,
-) -> Base
+    number: usize,
+) -> usize
     requires access { HasPrivilege log.now req Priv.Rw }
-    requires there { contains_key store.old (viewed_cell log.now req point field) ≡ true }
-    ensures { store.new ≡ insert store.old (viewed_cell log.now req point field) v }
+    requires there { contains_key store.old.cells (viewed_cell log.now req point field) ≡ true }
+    requires known { number < length store.old.values }
+    ensures cells { store.new.cells ≡ insert store.old.cells (viewed_cell log.now req point field)
+        (value_at store.old.values number) }
+    ensures before { result < length store.new.values }
 {
     let mut view = store.view_rw(log, req);
-    let base = view.get(point, field).base();
-    view.set(point, field, v);
-    base
+    let before = view.get(point, field);
+    view.set(point, field, number);
+    before
 }
 
 /// Whether a store holds at each of these cells, by instance, point and field, a value with this base, or has no such cell.
@@ -85,12 +91,18 @@ fn starts_on<P: PointSet + Copy>(alloc: Global, log: &Log<'_, P>) -> bool {
 }
 
 /// Whether a cell of a store is changed by way of a view, and no other.
-fn is_replaced<P: PointSet + Copy>(alloc: Global, log: &Log<'_, P>, store: &mut Store) -> bool {
+fn is_replaced<P: PointSet + Copy>(log: &Log<'_, P>, store: &mut Store) -> bool {
+    let Ok(number) = store.number_of(Base::Const(9)) else {
+        return false;
+    };
     if !may_view(store, log, 0, 1, 1) {
         return false;
     }
-    let before = replace_by_view(store, log, 0, 1, 1, Value::of(alloc, Base::Const(9)));
-    before == Base::Init
+    let before = replace_by_view(store, log, 0, 1, 1, number);
+    let Ok(before) = store.value_of(before) else {
+        return false;
+    };
+    before.base() == Base::Init
         && holds(
             store,
             &[(1, 1, 1, Some(Base::Const(9))), (1, 0, 1, Some(Base::Init))],
@@ -108,7 +120,7 @@ fn starts<P: PointSet + Copy>(alloc: Global, log: &Log<'_, P>) -> bool {
                     (2, 9, 1, Some(Base::Raw)),
                     (3, 9, 2, None),
                 ],
-            ) && is_replaced(alloc, log, &mut store)
+            ) && is_replaced(log, &mut store)
         }
         Err(_) => false,
     }

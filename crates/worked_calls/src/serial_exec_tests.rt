@@ -26,7 +26,7 @@ const ROWS: [Row<'static>; 5] = [
     (4, (2, 0, 1), (Base::Init, &[])),
 ];
 
-/// Asks for the value of a row, and whether it agrees.
+/// Asks for the value of a row.
 fn ask_row(rt: &impl Abort, alloc: Global, versions: &Versions, row: &Row<'_>) -> Result<(), Fail> {
     let (item, (tree, point, field), written) = row;
     if *item >= versions.len() {
@@ -42,10 +42,6 @@ fn ask_row(rt: &impl Abort, alloc: Global, versions: &Versions, row: &Row<'_>) -
         return Err("no memory".into());
     };
     assert!(rt; wanted.same(&value), "item {item}, point {point}");
-    assert!(rt;
-        versions.agrees(*item, &place, &value),
-        "item {item}, point {point}"
-    );
     Ok(())
 }
 

@@ -1,6 +1,6 @@
 use Rattle.std.proofs.Common.{◌<◌, ap, subst, length, get_or}
 use Rattle.semantics.specs.SerialOrder.{serial}
-use Rattle.serial_exec.specs.Histories.{changes_at}
+use Rattle.serial_exec.specs.Histories.{listed}
 use Rattle.serial_exec.proofs.Gathered.{items-more}
 use Rattle.serial_exec.proofs.gathering.histories_of.Goals as goal
 
@@ -10,7 +10,7 @@ loop-moment-preserved g c = λ p.
     let order = serial c.args.log.now in
     let same = c.serial-order.ensures in
     let k = c.loop-moment.moment in
-    items-more t order k (get_or c.serial-order.result.now k 0) p (changes_at c.loop-moment.histories p)
-    (changes_at c.note_item.new.histories p)
+    items-more t order k (get_or c.serial-order.result.now k 0) p (listed c.loop-moment.histories p)
+    (listed c.note_item.new.histories p)
     (subst (λ xs. k < length xs) same c.loop-moment-test.true) (ap (λ xs. get_or xs k 0) same)
     (c.loop-moment.invariant p) (c.in_ok-note_item.ensures p)

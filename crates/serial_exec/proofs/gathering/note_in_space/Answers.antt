@@ -1,17 +1,17 @@
 use Rattle.std.proofs.Common.{ℕ, List, sym, subst, OnOk}
 use Rattle.serial_exec.specs.Changes.{Adds, covered}
-use Rattle.serial_exec.specs.Histories.{changes_at}
+use Rattle.serial_exec.specs.Histories.{listed}
 use Rattle.serial_exec.proofs.Gathered.{nothing-covered}
 use Rattle.serial_exec.proofs.gathering.note_in_space.Goals as goal
 
 pub returns-in-Some : goal.returns-in-Some
 returns-in-Some g c =
     subst (λ (points : List ℕ). OnOk c.note_all.result
-    (Adds c.args.change (covered c.args.tree points c.args.fields.now) (changes_at c.args.histories.now)
-    (changes_at c.note_all.new.self)))
+    (Adds c.args.change (covered c.args.tree points c.args.fields.now) (listed c.args.histories.now)
+    (listed c.note_all.new.histories)))
     (sym c.in-Some.ensures) c.note_all.ensures
 
 pub returns-in-None : goal.returns-in-None
 returns-in-None g c = λ p.
     nothing-covered c.args.log.now c.args.space c.args.tree c.args.fields.now c.args.change
-    (changes_at c.args.histories.now p) p c.in-None.ensures
+    (listed c.args.histories.now p) p c.in-None.ensures

@@ -4,7 +4,7 @@ use Rattle.value_terms.specs.declared.terms.Base.TheVariants as bases
 use Rattle.serial_exec.specs.declared.change.Action.TheVariants.{Put}
 use Rattle.serial_exec.specs.declared.change.Change.{Change}
 use Rattle.serial_exec.specs.Changes.{acted_by}
-use Rattle.serial_exec.proofs.Keeping.{after-more}
+use Rattle.serial_exec.proofs.lemmas.OneByOne.{after-more}
 use Rattle.serial_exec.proofs.sums.sum_of.Goals as goal
 
 pub loop-change-preserved : goal.loop-change-preserved

@@ -14,8 +14,9 @@ loop-action-init g c =
       tt,
       subst (AllByRecursion (IsBy t)) (sym of) by,
       stands_in c.args.self.now.cut.now c.args.order.now c.args.place
-          (steps_in c.into_iter-action-iterator.result) c.args.store.now c.requires.place (ap steps_in of
+          (steps_in c.into_iter-action-iterator.result) c.args.store.now.cells c.requires.place (ap steps_in of
           ∙ c.actions_of-action-items.ensures.steps) c.requires.stands,
+      c.requires.wanted,
     )
 
 pub loop-action-preserved : goal.loop-action-preserved
@@ -26,10 +27,10 @@ loop-action-preserved g c =
     let left = left_in t order c.args.place node (steps_in c.next.new.self) in
     let by = subst (AllByRecursion (IsBy c.args.self.now.log.now)) c.in-Some.ensures.steps c.loop-action.invariant.2 in
     let before = subst (λ rest. Stands t (left_in t order c.args.place node
-    (steps_in rest)) c.loop-action.store) c.in-Some.ensures.steps c.loop-action.invariant.3 in
+    (steps_in rest)) c.loop-action.store.cells) c.in-Some.ensures.steps c.loop-action.invariant.3 in
     let after = stands_on t (record {
       node = node;
       move =
           c.in-Some.action.step;
-    }) left c.loop-action.store before c.in_ok-take.ensures.right in
-    (tt, tt, by.1, subst (Stands t left) (sym c.in_ok-take.ensures.moved) after)
+    }) left c.loop-action.store.cells before c.in_ok-take.ensures.right in
+    (tt, tt, by.1, subst (Stands t left) (sym c.in_ok-take.ensures.moved) after, c.in_ok-take.ensures.wanted)

@@ -8,7 +8,7 @@ use Rattle.serial_exec.proofs.versions.Versions.changes_before.Goals as goal
 pub changes_until-requires : goal.changes_until-requires
 changes_until-requires c =
     subst (λ cs. IsNonDecreasingBy (λ d. d.moment) cs) (ap (λ (k : Kept). changes_in k c.args.place.now) c.self.view_is
-    ∙ sym c.changes_at.ensures) (c.self.invariant.0 c.args.place.now)
+    ∙ sym c.changes_at.ensures) (c.self.invariant c.args.place.now)
 
 pub returns-clause-before : goal.returns-clause-before
 returns-clause-before c =

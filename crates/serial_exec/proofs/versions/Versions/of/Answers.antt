@@ -5,10 +5,8 @@ use Rattle.serial_exec.proofs.Keeping.{kept-in_order, versions-of}
 use Rattle.serial_exec.proofs.versions.Versions.of.Goals as goal
 
 pub invariant_of-result : goal.invariant_of-result
-invariant_of-result g c = (
-  kept-in_order c.args.log.now c.in_ok-moments.moments.items c.in_ok-histories.histories c.in_ok-histories.ensures,
-  c.in_ok-marks.ensures,
-)
+invariant_of-result g c =
+    kept-in_order c.args.log.now c.in_ok-moments.moments.items c.in_ok-histories.histories c.in_ok-histories.ensures
 
 pub returns : goal.returns
 returns g c =

@@ -1,0 +1,7 @@
+use Rattle.inst_steps.proofs.lemmas.StoreMaps.{grown_cells}
+use Rattle.inst_steps.proofs.store.Store.number_folded.Goals as goal
+
+pub returns-clause-cells : goal.returns-clause-cells
+returns-clause-cells c =
+    grown_cells c.self.inside.values c.self.inside.cells.entries c.args.self.now c.self.view_is c.self.invariant c.fold.new.self
+    c.fold.ensures.kept
