@@ -23,7 +23,7 @@ pub struct Arena {
     nodes: Vec<Node>,
     /// Where a node may stand. What it says is looked at before it is taken.
     table: HashMap<Key, usize>,
-    /// For each number one that is known to stand for an equal value: mostly itself.
+    /// For each number one that is known to stand for an equal value: a lesser one, or itself.
     alike: Vec<usize>,
 }
 
@@ -104,16 +104,21 @@ impl Arena {
         Ok(id)
     }
 
-    /// A number that is known to stand for an equal value.
+    /// The least number that is known to stand for an equal value. Each is noted with a lesser one or itself.
     fn known_alike(&self, id: usize) -> usize
         requires { id < length self.now }
         ensures known { result < length self.now }
         ensures same { value_at self.now result ≡ value_at self.now id }
     {
-        if id < self.alike.as_slice().len() {
-            return self.alike[id];
+        let mut at = id;
+        while at < self.alike.as_slice().len() {
+            let less = self.alike[at];
+            if less >= at {
+                return at;
+            }
+            at = less;
         }
-        id
+        at
     }
 
     /// Notes that a number stands for the same value as another.
@@ -124,6 +129,20 @@ impl Arena {
     {
         if id < self.alike.as_slice().len() {
             self.alike[id] = other;
+        }
+    }
+
+    /// Notes that two numbers stand for the same value: the larger with the less.
+    fn note_both(&mut self, a: usize, b: usize)
+        requires first { a < length self.old }
+        requires second { b < length self.old }
+        requires same { value_at self.old a ≡ value_at self.old b }
+        ensures { self.new ≡ self.old }
+    {
+        if a < b {
+            self.note_alike(b, a);
+        } else {
+            self.note_alike(a, b);
         }
     }
 
@@ -238,21 +257,6 @@ impl Arena {
         Ok(value)
     }
 
-    /// Whether two numbers are seen to stand for equal values, by number or by what was added to a common value.
-    fn seen_same(&self, alloc: Global, a: usize, b: usize) -> Result<bool, Memory>
-        requires first { a < length self.now }
-        requires second { b < length self.now }
-        ensures { IfOk result (λ same. same ≡ true → value_at self.now a ≡ value_at self.now b) }
-    {
-        let x = self.known_alike(a);
-        let y = self.known_alike(b);
-        if x == y {
-            return Ok(true);
-        }
-        let same = same_sums(alloc, &self.nodes, x, y)?;
-        Ok(same)
-    }
-
     /// Whether the two values, built anew, are equal.
     fn built_same(&self, alloc: Global, a: usize, b: usize) -> Result<bool, Memory>
         requires first { a < length self.now }
@@ -265,7 +269,20 @@ impl Arena {
         Ok(v.same(&w))
     }
 
-    /// Whether two numbers stand for equal values. Where they do, the second is noted as the first, and what is added to it later is added to that.
+    /// Whether two numbers stand for equal values: by what was added to a common one, or by the values, built anew.
+    fn found_same(&self, alloc: Global, a: usize, b: usize) -> Result<bool, Memory>
+        requires first { a < length self.now }
+        requires second { b < length self.now }
+        ensures { IfOk result (λ same. same
+            ≡ same_value (value_at self.now a) (value_at self.now b)) }
+    {
+        if same_sums(alloc, &self.nodes, a, b)? {
+            return Ok(true);
+        }
+        self.built_same(alloc, a, b)
+    }
+
+    /// Whether two numbers stand for equal values. Where they do, that is noted: it is found once, and what is added to either later is added to the same.
     pub fn same(&mut self, alloc: Global, a: usize, b: usize) -> Result<bool, Memory>
         requires first { a < length self.old }
         requires second { b < length self.old }
@@ -273,12 +290,15 @@ impl Arena {
             ≡ same_value (value_at self.old a) (value_at self.old b)) }
         ensures kept { self.new ≡ self.old }
     {
-        if self.seen_same(alloc, a, b)? {
-            let first = self.known_alike(a);
-            self.note_alike(b, first);
+        let x = self.known_alike(a);
+        let y = self.known_alike(b);
+        if x == y {
             return Ok(true);
         }
-        let same = self.built_same(alloc, a, b)?;
+        let same = self.found_same(alloc, x, y)?;
+        if same {
+            self.note_both(x, y);
+        }
         Ok(same)
     }
 }

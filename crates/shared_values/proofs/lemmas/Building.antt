@@ -1,5 +1,5 @@
 -- What the numbers stand for as nodes come.
-use Rattle.std.proofs.Common.{◌≡◌, ℕ, zero, suc, ◌+◌, ◌<◌, List, [], ◌∷◌, ◌++◌, length, get_or, set, ◌⊎◌, inl, inr, refl, ap, sym, subst, ◌∙◌, true, arith}
+use Rattle.std.proofs.Common.{◌≡◌, ℕ, zero, suc, ◌+◌, ◌<◌, List, [], ◌∷◌, ◌++◌, length, get_or, set, ◌⊎◌, inl, inr, refl, ap, sym, subst, ◌∙◌, Bool, true, arith}
 use Rattle.std.proofs.lemmas.Bool.{cases_lt}
 use Rattle.std.proofs.lemmas.List.{get_or_append_left}
 use Rattle.std.proofs.Math.Seq.{get_or-append_seam}
@@ -280,3 +280,12 @@ alike_known nodes now alike id d is h lt = subst (λ (v : List Value). (get_or a
 
 pub same_if_equal : (v w : Value) → v ≡ w → true ≡ same_value v w
 same_if_equal v w e = sym ((value_decides v w).1 e)
+
+pub equal_if_same : (v w : Value) (same : Bool) → same ≡ same_value v w → same ≡ true → v ≡ w
+equal_if_same v w same is told = (value_decides v w).0 (sym is ∙ told)
+
+-- What is seen in the nodes is so.
+pub same_seen : (nodes seen : List Node) (now : List Value) (a b : ℕ) → built [] nodes ≡ now → seen ≡ nodes
+    → value_at (built [] seen) a ≡ value_at (built [] seen) b → true ≡ same_value (value_at now a) (value_at now b)
+same_seen nodes seen now a b is same told =
+    same_if_equal _ _ (subst (λ (v : List Value). value_at v a ≡ value_at v b) (ap (built []) same ∙ is) told)
