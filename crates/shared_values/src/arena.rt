@@ -6,7 +6,7 @@ ghost use Rattle.shared_values.specs.Arenas.{value_at, made, built, Fits, AreFit
 ghost use Rattle.shared_values.specs.declared.node.Node.TheVariants as nodes;
 
 use crate::folding::{Folding, folding_of};
-use crate::node::{Key, Node, Step, is_same, key_of};
+use crate::node::{Fold, Key, Node, Step, is_same, key_of};
 use crate::suffix::same_sums;
 use crate::walk::{node_at, rebuilt, way_back};
 use std::alloc::{AllocError, Global};
@@ -47,6 +47,24 @@ fn stands_at(nodes: &[Node], id: usize, node: Node) -> bool
         → value_at (built [] nodes.now) id ≡ made (built [] nodes.now) node }
 {
     id < nodes.len() && is_same(node_at(nodes, id), node)
+}
+
+/// The number of what came of a fold, if a place tells of that fold.
+fn fold_at(nodes: &[Node], id: usize, op: u32, target: usize, source: usize) -> Option<usize>
+    requires { AreFit [] nodes.now }
+    ensures { IfSome result (λ new. (new < length (built [] nodes.now)) × (value_at (built [] nodes.now) new
+        ≡ fold_in (value_at (built [] nodes.now) target) op (value_at (built [] nodes.now) source))) }
+{
+    if id >= nodes.len() {
+        return None;
+    }
+    let Node::Folded(fold) = node_at(nodes, id) else {
+        return None;
+    };
+    if fold.op == op && fold.target == target && fold.source == source {
+        return Some(fold.result);
+    }
+    None
 }
 
 impl Arena {
@@ -215,8 +233,21 @@ impl Arena {
         Ok(at)
     }
 
-    /// The number of a value with another folded in by an operator. What is folded in is added entry by entry.
-    pub fn fold(
+    /// The number of what came of a fold that was made before.
+    fn found_fold(&self, op: u32, target: usize, source: usize) -> Option<usize>
+        ensures { IfSome result (λ id. (id < length self.now) × (value_at self.now id
+            ≡ fold_in (value_at self.now target) op (value_at self.now source))) }
+    {
+        let key = Key::Fold(op, target, source);
+        let id = match self.table.get(&key) {
+            Some(id) => *id,
+            None => return None,
+        };
+        fold_at(&self.nodes, id, op, target, source)
+    }
+
+    /// The number of a value with another folded in, entry by entry.
+    fn fold_anew(
         &mut self,
         alloc: Global,
         op: u32,
@@ -245,6 +276,37 @@ impl Arena {
                 Ok(new)
             }
         }
+    }
+
+    /// The number of a value with another folded in by an operator. Each fold is made once, and remembered.
+    pub fn fold(
+        &mut self,
+        alloc: Global,
+        op: u32,
+        target: usize,
+        source: usize,
+    ) -> Result<usize, Memory>
+        requires target { target < length self.old }
+        requires source { source < length self.old }
+        requires fits { weight_of (value_at self.old target)
+            + weight_of (value_at self.old source) < 2 ^ 64 }
+        ensures known { IfOk result (λ new. new < length self.new) }
+        ensures is { IfOk result (λ new. value_at self.new new
+            ≡ fold_in (value_at self.old target) op (value_at self.old source)) }
+        ensures kept { Keeps self.old self.new }
+    {
+        if let Some(id) = self.found_fold(op, target, source) {
+            return Ok(id);
+        }
+        let result = self.fold_anew(alloc, op, target, source)?;
+        let fold = Fold {
+            op,
+            target,
+            source,
+            result,
+        };
+        self.put(Node::Folded(fold))?;
+        Ok(result)
     }
 
     /// The value of a number.

@@ -32,6 +32,19 @@ pub struct Entry {
     pub n: u64,
 }
 
+/// A value that was folded into another, and what came of it.
+#[derive(Clone, Copy, PartialEq, Eq)]
+pub struct Fold {
+    /// The operator.
+    pub op: u32,
+    /// The number of the value that is folded into.
+    pub target: usize,
+    /// The number of the one that is folded in.
+    pub source: usize,
+    /// The number of what comes of it.
+    pub result: usize,
+}
+
 /// How a value was made.
 #[derive(Clone, Copy, PartialEq, Eq)]
 pub enum Node {
@@ -39,6 +52,8 @@ pub enum Node {
     Start(Base),
     /// A value with a contribution added.
     More(Step),
+    /// The result of a fold again, by which the fold is remembered.
+    Folded(Fold),
 }
 
 /// What a node is looked up by.
@@ -50,6 +65,7 @@ pub enum Key {
     Const(u32),
     Out(u32),
     More(Step),
+    Fold(u32, usize, usize),
 }
 
 /// The key of a node.
@@ -61,6 +77,7 @@ pub fn key_of(node: Node) -> Key {
         Node::Start(Base::Const(n)) => Key::Const(n),
         Node::Start(Base::Out(t)) => Key::Out(t),
         Node::More(step) => Key::More(step),
+        Node::Folded(fold) => Key::Fold(fold.op, fold.target, fold.source),
     }
 }
 

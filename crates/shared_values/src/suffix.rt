@@ -33,7 +33,7 @@ fn step_by(nodes: &[Node], op: u32, at: usize) -> Option<Step>
             }
             None
         }
-        Node::Start(_) => None,
+        Node::Start(_) | Node::Folded(_) => None,
     }
 }
 

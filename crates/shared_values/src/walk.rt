@@ -45,6 +45,9 @@ pub fn way_back(alloc: Global, nodes: &[Node], id: usize) -> Result<Way, AllocEr
                 steps.push(step)?;
                 at = step.before;
             }
+            Node::Folded(fold) => {
+                at = fold.result;
+            }
         }
     }
 }

@@ -1,14 +1,15 @@
 -- What the numbers stand for as nodes come.
-use Rattle.std.proofs.Common.{◌≡◌, ℕ, zero, suc, ◌+◌, ◌<◌, List, [], ◌∷◌, ◌++◌, length, get_or, set, ◌⊎◌, inl, inr, refl, ap, sym, subst, ◌∙◌, Bool, true, arith}
+use Rattle.std.proofs.Common.{◌≡◌, ℕ, zero, suc, ◌+◌, ◌<◌, List, [], ◌∷◌, ◌++◌, length, get_or, set, ◌⊎◌, inl, inr, refl, ap, ap₂, sym, subst, ◌∙◌, Bool, true, arith}
 use Rattle.std.proofs.lemmas.Bool.{cases_lt}
 use Rattle.std.proofs.lemmas.List.{get_or_append_left}
 use Rattle.std.proofs.Math.Seq.{get_or-append_seam}
-use Rattle.value_terms.specs.Values.{Value, plain, same_value}
+use Rattle.value_terms.specs.Values.{Value, plain, fold_in, same_value}
 use Rattle.value_terms.proofs.lemmas.Equality.{value_decides}
 use Rattle.value_terms.specs.declared.terms.Base.TheVariants.{Raw}
 use Rattle.shared_values.specs.declared.node.Step.{Step}
+use Rattle.shared_values.specs.declared.node.Fold.{Fold}
 use Rattle.shared_values.specs.declared.node.Node.{Node}
-use Rattle.shared_values.specs.declared.node.Node.TheVariants.{Start, More}
+use Rattle.shared_values.specs.declared.node.Node.TheVariants.{Start, More, Folded}
 use Rattle.shared_values.specs.Arenas.{value_at, stepped, made, built, Fits, AreFit, Keeps, IsNodeAt, IsNoted, IsHeldArena}
 
 length_more : (values : List Value) (v : Value) → length (values ++ v ∷ []) ≡ length values + 1
@@ -44,6 +45,7 @@ built_keeps values (m ∷ nodes) id lt =
 made_keeps : (values later : List Value) (n : Node) → Fits values n → Keeps values later → made later n ≡ made values n
 made_keeps values later (Start base) f k = refl
 made_keeps values later (More s) f k = ap (stepped s) (k.same s.before f.0)
+made_keeps values later (Folded g) f k = k.same g.result f.result
 
 pub keeps_built : (values : List Value) (nodes : List Node) → Keeps values (built values nodes)
 keeps_built values nodes =
@@ -68,12 +70,27 @@ keeps_trans a b c h g = record {
 fits_keeps : (values later : List Value) (n : Node) → Fits values n → Keeps values later → Fits later n
 fits_keeps values later (Start base) f k = tt
 fits_keeps values later (More s) f k = (omega (arith, f.0, k.longer), rw (k.same s.before f.0) f.1)
+fits_keeps values later (Folded g) f k = record {
+  target = let lt = f.target in omega (arith, lt, k.longer);
+  source = let lt = f.source in omega (arith, lt, k.longer);
+  result = let lt = f.result in omega (arith, lt, k.longer);
+  is = k.same g.result f.result ∙ f.is
+      ∙ ap₂ (λ w v. fold_in w g.op v) (sym (k.same g.target f.target)) (sym (k.same g.source f.source));
+}
 
 earlier_than : (values : List Value) (n : Node) → Fits values n → (s : Step) → n ≡ More s → s.before < length values
 earlier_than values (Start base) f s e = cc e
 earlier_than values (More t) f s e =
     let same : t ≡ s = cc e in
     subst (λ (u : Step). u.before < length values) same f.0
+earlier_than values (Folded g) f s e = cc e
+
+result_earlier_than : (values : List Value) (n : Node) → Fits values n → (f : Fold) → n ≡ Folded f → f.result < length values
+result_earlier_than values (Start base) h f e = cc e
+result_earlier_than values (More t) h f e = cc e
+result_earlier_than values (Folded g) h f e =
+    let same : g ≡ f = cc e in
+    subst (λ (u : Fold). u.result < length values) same h.result
 
 pub node_at : (values : List Value) (nodes : List Node) (k : ℕ) (d : Node) → AreFit values nodes → k < length nodes
     → IsNodeAt (built values nodes) (length values + k) (get_or nodes k d)
@@ -89,6 +106,7 @@ node_at values (n ∷ nodes) zero d h lt =
       is = there ∙ sym (made_keeps values (built next nodes) n h.0 kept);
       fits = fits_keeps values (built next nodes) n h.0 kept;
       earlier = earlier_than values n h.0;
+      result_earlier = result_earlier_than values n h.0;
     })
 node_at values (n ∷ nodes) (suc k) d h lt =
     let next = values ++ made values n ∷ [] in

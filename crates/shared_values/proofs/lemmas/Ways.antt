@@ -2,8 +2,9 @@
 use Rattle.std.proofs.Common.{◌≡◌, ℕ, ◌<◌, List, [], ◌∷◌, ◌++◌, refl, ap, sym, subst, ◌∙◌}
 use Rattle.value_terms.specs.Values.{Value, plain}
 use Rattle.value_terms.specs.declared.terms.Base.{Base}
+use Rattle.shared_values.specs.declared.node.Fold.{Fold}
 use Rattle.shared_values.specs.declared.node.Node.{Node}
-use Rattle.shared_values.specs.declared.node.Node.TheVariants.{Start, More}
+use Rattle.shared_values.specs.declared.node.Node.TheVariants.{Start, More, Folded}
 use Rattle.shared_values.specs.declared.node.Step.{Step}
 use Rattle.shared_values.specs.Arenas.{value_at, stepped, StepFits, after, StepsFit, IsNodeAt}
 
@@ -39,6 +40,14 @@ pub way_ends : (values : List Value) (at : ℕ) (n : Node) (base : Base) (steps 
 way_ends values at n base steps w h e is fit =
     let there : value_at values at ≡ plain base = (subst (λ (m : Node). IsNodeAt values at m) e h).is in
     subst (λ (u : Value). (after steps u ≡ w) × StepsFit steps u) there (is, fit)
+
+-- It goes on at the result of a fold.
+pub way_past : (values : List Value) (at : ℕ) (n : Node) (f : Fold) (steps : List Step) (w : Value) → IsNodeAt values at n → n ≡ Folded f
+    → after steps (value_at values at) ≡ w → StepsFit steps (value_at values at)
+    → (f.result < at) × ((after steps (value_at values f.result) ≡ w) × StepsFit steps (value_at values f.result))
+way_past values at n f steps w h e is fit =
+    let there : value_at values at ≡ value_at values f.result = (subst (λ (m : Node). IsNodeAt values at m) e h).is in
+    (h.result_earlier f e, subst (λ (u : Value). (after steps u ≡ w) × StepsFit steps u) there (is, fit))
 
 -- It goes on.
 pub record IsOn (values : List Value) (at : ℕ) (s : Step) (new : List Step) (w : Value) : Type 0 where
