@@ -2,18 +2,19 @@
 //!
 //! `Reach::before` says exactly whether a chain of waits leads from one node to another, at once;
 //! `first_not_before` and `before_some` ask it of many. A node's row of marks is joined from the rows of
-//! those that it waits for, and blocks that are none or all take no room. Begin with `reach.rt`; `rows.rt`
-//! and `joining.rt` make the rows.
+//! those that it waits for; blocks that are none or all take no room, and rows share blocks that are alike.
+//! Begin with `reach.rt`; `rows.rt` and `column.rt` keep the rows, `building.rt` and `joining.rt` make them.
 #![tactic(auto)]
 
 mod bits;
 mod block;
-mod fronts;
+mod building;
+mod column;
 mod joining;
 mod laws;
 mod mixed;
+mod pushing;
 mod reach;
-mod row;
 mod rows;
 mod search;
 mod unions;

@@ -4,34 +4,32 @@ ghost use Rattle.std.specs.Prelude.{◌≡◌, ℕ, ◌<◌, length, IfOk, All, 
 ghost use Rattle.std.specs.List.{list_any};
 ghost use Rattle.event_graph.specs.Orders.{IsOrderOf};
 
-use crate::fronts::fronts_of;
+use crate::building::rows_of;
 use crate::mixed::mixed_in;
-use crate::row::Row;
-use crate::rows::rows_of;
+use crate::rows::Rows;
 use crate::search::first_outside;
-use crate::unions::{marks_in, union_of};
+use crate::unions::in_rows;
 use crate::waits::places_at;
 use event_graph::{Graph, Order};
 use memory::Memory;
 use std::alloc::Global;
 use std::marker::Model;
 
-/// For each node its place in the replay order, and for each place the places of the nodes before its node. How many blocks at the front of a row are whole stands in a list of its own, which is all that most questions read.
+/// For each node its place in the replay order, and for each place the places of the nodes before its node.
 #[derive(Drop)]
 pub struct Reach {
     places: Vec<usize>,
-    rows: Vec<Row>,
-    fronts: Vec<usize>,
+    rows: Rows,
 }
 
 impl Model for Reach {
-    ghost use Rattle.reach_marks.specs.Reached.{Marks, AreFronts, AreSound, marks_of};
+    ghost use Rattle.reach_marks.specs.Reached.{Marks, AreSound, marks_of};
 
     ghost Value = { Marks };
 
-    ghost view = { λ r. marks_of r.places.items r.rows.items };
+    ghost view = { λ r. marks_of r.places.items r.rows };
 
-    ghost invariant = { λ r. AreSound r.places.items r.rows.items × AreFronts r.rows.items r.fronts.items };
+    ghost invariant = { λ r. AreSound r.places.items r.rows };
 }
 
 impl Reach {
@@ -46,12 +44,7 @@ impl Reach {
         let _linked = graph.len();
         let places = Vec::from_slice(alloc, order.places())?;
         let rows = rows_of(alloc, graph, order.as_slice(), places.as_slice())?;
-        let fronts = fronts_of(alloc, rows.as_slice())?;
-        Ok(Reach {
-            places,
-            rows,
-            fronts,
-        })
+        Ok(Reach { places, rows })
     }
 
     /// How many nodes there are.
@@ -69,8 +62,7 @@ impl Reach {
     {
         let a = self.places[a];
         let b = self.places[b];
-        let row = &self.rows[b];
-        a / 1024 < self.fronts[b] || row.has(a)
+        self.rows.has(b, a)
     }
 
     /// The least index in `group` whose node is not before node `b`.
@@ -79,8 +71,7 @@ impl Reach {
         requires b { b < length self.now.places }
         ensures { result ≡ position (λ a. not (before_in self.now a b)) group.now }
     {
-        let row = &self.rows[self.places[b]];
-        first_outside(row, self.places.as_slice(), group)
+        first_outside(&self.rows, self.places[b], self.places.as_slice(), group)
     }
 
     /// For each node of a group whether it is before some node of the group.
@@ -92,8 +83,7 @@ impl Reach {
             v.items ≡ map (λ a. list_any (before_in self.now a) group.now) group.now) }
     {
         let places = places_at(alloc, self.places.as_slice(), group)?;
-        let blocks = union_of(alloc, self.rows.as_slice(), places.as_slice())?;
-        let marks = marks_in(alloc, blocks.as_slice(), places.as_slice())?;
+        let marks = in_rows(alloc, &self.rows, places.as_slice())?;
         Ok(marks)
     }
 
@@ -101,6 +91,6 @@ impl Reach {
     pub fn mixed(&self) -> u64
         ensures { result ≡ mixed_pairs self.now }
     {
-        mixed_in(self.places.as_slice(), self.rows.as_slice())
+        mixed_in(self.places.as_slice(), &self.rows)
     }
 }
