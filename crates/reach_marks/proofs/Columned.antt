@@ -39,16 +39,6 @@ pub block_seen : (columns : List (List Block)) (n p k : ℕ) → p < n
     → get_or (get_or (rows_in columns n) p []) k Empty ≡ block_in k (get_or columns k []) p
 block_seen columns n p k lt = ap (λ (r : List Block). get_or r k Empty) (row_at_place columns n p lt) ∙ block_at columns p k
 
--- The same, with what the code reads.
-pub block_read : (columns : List (List Block)) (n p k : ℕ) (column : List Block) → AreColumns columns n → p < n → k ≤ p / 1024
-    → column ≡ get_or columns k column → get_or column (p - 1024 * k) Empty ≡ get_or (get_or (rows_in columns n) p []) k Empty
-block_read columns n p k column are lt le is =
-    let here : get_or columns k [] ≡ column = get_or_default columns k [] column (omega (arith, lt, le, are.each)) ∙ sym is in
-    sym (block_seen columns n p k lt ∙ in_column k (get_or columns k []) p le ∙ ap (λ (c : List Block). get_or c (p - 1024 * k) Empty) here)
-
-pub block_beyond : (columns : List (List Block)) (n p k : ℕ) → p < n → p / 1024 < k → get_or (get_or (rows_in columns n) p []) k Empty ≡ Empty
-block_beyond columns n p k lt past = block_seen columns n p k lt ∙ before_column k (get_or columns k []) p past
-
 -- Rows are the same where their blocks are.
 rows_same : (a b : List (List Block)) (n : ℕ) → ((k p : ℕ) → p < n → block_in k (get_or a k []) p ≡ block_in k (get_or b k []) p)
     → rows_in a n ≡ rows_in b n

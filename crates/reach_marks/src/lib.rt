@@ -3,7 +3,7 @@
 //! `Reach::before` says exactly whether a chain of waits leads from one node to another, at once;
 //! `first_not_before` and `before_some` ask it of many. A node's row of marks is joined from the rows of
 //! those that it waits for; blocks that are none or all take no room, and rows share blocks that are alike.
-//! Begin with `reach.rt`; `rows.rt` and `column.rt` keep the rows, `building.rt` and `joining.rt` make them.
+//! Begin with `reach.rt`; `rows.rt` keeps the rows, `building.rt` and `joining.rt` make them.
 #![tactic(auto)]
 
 mod bits;
@@ -17,6 +17,7 @@ mod pushing;
 mod reach;
 mod rows;
 mod search;
+mod tags;
 mod unions;
 mod waits;
 

@@ -1,13 +1,15 @@
-use Rattle.std.proofs.Common.{◌≡◌, ◌≤◌, ◌<◌, ℕ, ◌+◌, ◌*◌, [], get_or, length}
+use Rattle.std.proofs.Common.{◌≡◌, ◌≤◌, ◌<◌, ℕ, ◌+◌, ◌*◌, [], get_or, length, map}
 use Rattle.std.specs.List.{list_any}
-use Rattle.reach_marks.specs.Blocks.{reaches}
-use Rattle.reach_marks.specs.Columns.{AddsBlock, rows_in}
+use Rattle.reach_marks.specs.Blocks.{block_of, reaches}
+use Rattle.reach_marks.specs.Columns.{AddsBlock, AreTags, Grows, columns_in, rows_in}
 use Rattle.reach_marks.proofs.pushing.push_joined.Given as goal
 
 abbrev pub invariant-loop-k : goal.invariant-loop-k
 invariant-loop-k l = record {
   each : length l.columns.items ≡ length l.fn.columns.items;
-  done : (m : ℕ) → m < l.k → AddsBlock (get_or l.fn.columns.items m []) (get_or l.columns.items m [])
-      (λ i. list_any (λ w. reaches (rows_in l.fn.columns.items l.count) w (1024 * m + i)) l.waits);
+  grows : Grows l.fn.pool.items l.pool.items;
+  kept : (m : ℕ) → AreTags (get_or l.columns.items m []) l.pool.items;
+  done : (m : ℕ) → m < l.k → AddsBlock (map (block_of l.fn.pool.items) (get_or l.fn.columns.items m []))
+      (map (block_of l.pool.items) (get_or l.columns.items m [])) (λ i. list_any (λ w. reaches (rows_in (columns_in l.fn.pool.items l.fn.columns.items) l.count) w (1024 * m + i)) l.waits);
   left : (m : ℕ) → l.k ≤ m → get_or l.columns.items m [] ≡ get_or l.fn.columns.items m [];
 }

@@ -1,20 +1,27 @@
-use Rattle.std.proofs.Common.{◌≡◌, ◌∙◌, ◌%◌, ◌/◌, ap, sym, subst, false, List, [], get_or, length}
+use Rattle.std.proofs.Common.{◌≡◌, ◌∙◌, ◌+◌, ◌<◌, ◌/◌, ◌%◌, ℕ, List, [], get_or, length, ap, sym, subst}
 use Rattle.reach_marks.specs.declared.block.Block.{Block}
-use Rattle.reach_marks.specs.Blocks.{block_has, row_has}
-use Rattle.reach_marks.proofs.Columned.{block_read, block_beyond, known}
+use Rattle.reach_marks.specs.declared.block.Block.TheVariants.{Empty}
+use Rattle.reach_marks.specs.Blocks.{block_has, block_of}
+use Rattle.reach_marks.proofs.Tagged.{block_of_read, row_read, tags_read}
 use Rattle.reach_marks.proofs.rows.Rows.has.Goals as goal
 
-pub returns-then-p-k : goal.returns-then-p-k
-returns-then-p-k c =
-    let columns = c.self.inside.columns.items in
-    let n = length c.self.inside.fronts.items in
-    subst (λ (rs : List (List Block)). false ≡ row_has (get_or rs c.args.p []) c.args.place) c.self.view_is
-    (sym (ap (λ (x : Block). block_has x (c.args.place % 1024)) (block_beyond columns n c.args.p (c.args.place / 1024) (known columns n c.args.self.now c.args.p c.self.view_is c.requires) c.if-p-k.true)))
+pub tag_of-tag-requires-clause-row : goal.tag_of-tag-requires-clause-row
+tag_of-tag-requires-clause-row c = row_read c.self.inside.pool.items c.self.inside.columns.items c.as_slice.result.now (length c.self.inside.fronts.items)
+    c.args.self.now c.self.invariant.0 c.self.view_is c.as_slice.ensures.value c.args.p c.requires (c.args.place / 1024)
+
+pub has_tagged-requires-clause-tag : goal.has_tagged-requires-clause-tag
+has_tagged-requires-clause-tag c = subst (λ (ps : List (List ℕ)). c.tag_of-tag.result < length ps + 2) (sym c.as_slice-2.ensures.value)
+    (c.tag_of-tag.ensures.within (length c.self.inside.pool.items) (tags_read c.self.inside.pool.items c.self.inside.columns.items
+    c.as_slice.result.now (length c.self.inside.fronts.items) c.args.self.now c.self.invariant.0 c.self.view_is c.as_slice.ensures.value
+    c.args.p c.requires))
 
 pub returns : goal.returns
 returns c =
-    let columns = c.self.inside.columns.items in
-    let n = length c.self.inside.fronts.items in
-    subst (λ (rs : List (List Block)). c.has.result ≡ row_has (get_or rs c.args.p []) c.args.place) c.self.view_is
-    (c.has.ensures ∙ ap (λ (x : Block). block_has x (c.args.place % 1024)) (block_read columns n c.args.p (c.args.place / 1024) c.index-column.result.now c.self.invariant.0
-    (known columns n c.args.self.now c.args.p c.self.view_is c.requires) c.if-p-k.false c.index-column.ensures))
+    let pool = c.self.inside.pool.items in
+    let tag = c.tag_of-tag.result in
+    let is : block_of pool tag ≡ get_or (get_or c.args.self.now c.args.p []) (c.args.place / 1024) Empty =
+    block_of_read pool c.self.inside.columns.items c.as_slice.result.now (length c.self.inside.fronts.items) c.args.self.now
+    c.self.invariant.0 c.self.view_is c.as_slice.ensures.value c.args.p c.requires (c.args.place / 1024) tag (c.tag_of-tag.ensures.block pool) in
+    c.has_tagged.ensures
+    ∙ ap (λ (ps : List (List ℕ)). block_has (block_of ps tag) (c.args.place % 1024)) c.as_slice-2.ensures.value
+    ∙ ap (λ (x : Block). block_has x (c.args.place % 1024)) is

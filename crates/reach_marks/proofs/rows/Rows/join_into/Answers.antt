@@ -1,29 +1,28 @@
-use Rattle.std.proofs.Common.{◌≡◌, ◌||◌, ◌∙◌, ap, sym, subst, List, [], get_or, length}
-use Rattle.std.proofs.Math.Bool.{or-false}
+use Rattle.std.proofs.Common.{◌≡◌, ◌∙◌, ◌+◌, ◌<◌, ◌||◌, ℕ, List, [], get_or, length, ap, sym, subst}
 use Rattle.reach_marks.specs.declared.block.Block.{Block}
 use Rattle.reach_marks.specs.declared.block.Block.TheVariants.{Empty}
 use Rattle.reach_marks.specs.Bits1024.{has_bit}
-use Rattle.reach_marks.specs.Blocks.{block_has}
-use Rattle.reach_marks.proofs.Columned.{block_read, block_beyond, known}
+use Rattle.reach_marks.specs.Blocks.{block_has, block_of}
+use Rattle.reach_marks.proofs.Tagged.{block_of_read, row_read, tags_read}
 use Rattle.reach_marks.proofs.rows.Rows.join_into.Goals as goal
 
-pub returns-then-p-k : goal.returns-then-p-k
-returns-then-p-k c = λ i lt.
-    let columns = c.self.inside.columns.items in
-    let n = length c.self.inside.fronts.items in
-    let old = has_bit c.args.bits.now i in
-    subst (λ (rs : List (List Block)). old ≡ (old || block_has (get_or (get_or rs c.args.p []) c.args.k Empty) i)) c.self.view_is
-    (sym (ap (λ (x : Block). old || block_has x i)
-    (block_beyond columns n c.args.p c.args.k (known columns n c.args.self.now c.args.p c.self.view_is c.requires) c.if-p-k.true) ∙ or-false old))
+pub tag_of-tag-requires-clause-row : goal.tag_of-tag-requires-clause-row
+tag_of-tag-requires-clause-row c = row_read c.self.inside.pool.items c.self.inside.columns.items c.as_slice.result.now (length c.self.inside.fronts.items)
+    c.args.self.now c.self.invariant.0 c.self.view_is c.as_slice.ensures.value c.args.p c.requires (c.args.k)
+
+pub join_tagged-requires : goal.join_tagged-requires
+join_tagged-requires c = subst (λ (ps : List (List ℕ)). c.tag_of-tag.result < length ps + 2) (sym c.as_slice-2.ensures.value)
+    (c.tag_of-tag.ensures.within (length c.self.inside.pool.items) (tags_read c.self.inside.pool.items c.self.inside.columns.items
+    c.as_slice.result.now (length c.self.inside.fronts.items) c.args.self.now c.self.invariant.0 c.self.view_is c.as_slice.ensures.value
+    c.args.p c.requires))
 
 pub returns : goal.returns
 returns c = λ i lt.
-    let columns = c.self.inside.columns.items in
-    let n = length c.self.inside.fronts.items in
-    let old = has_bit c.args.bits.now i in
-    subst (λ (rs : List (List Block)). has_bit c.join_into.new.bits i ≡ (old || block_has (get_or (get_or rs c.args.p []) c.args.k Empty) i))
-    c.self.view_is
-    (c.join_into.ensures i lt ∙ ap (λ (x : Block). old || block_has x i)
-    (block_read columns n c.args.p c.args.k c.index-columns-k.result c.self.invariant.0
-    (known columns n c.args.self.now c.args.p c.self.view_is c.requires) c.if-p-k.false
-    (subst (λ (cs : List (List Block)). c.index-columns-k.result ≡ get_or cs c.args.k c.index-columns-k.result) c.as_slice-columns.ensures.value c.index-columns-k.is)))
+    let pool = c.self.inside.pool.items in
+    let tag = c.tag_of-tag.result in
+    let is : block_of pool tag ≡ get_or (get_or c.args.self.now c.args.p []) (c.args.k) Empty =
+    block_of_read pool c.self.inside.columns.items c.as_slice.result.now (length c.self.inside.fronts.items) c.args.self.now
+    c.self.invariant.0 c.self.view_is c.as_slice.ensures.value c.args.p c.requires (c.args.k) tag (c.tag_of-tag.ensures.block pool) in
+    c.join_tagged.ensures i lt
+    ∙ ap (λ (ps : List (List ℕ)). has_bit c.args.bits.now i || block_has (block_of ps tag) i) c.as_slice-2.ensures.value
+    ∙ ap (λ (x : Block). has_bit c.args.bits.now i || block_has x i) is

@@ -3,7 +3,7 @@ use Rattle.std.specs.List.{list_any}
 use Rattle.std.proofs.lemmas.List.Folds.{list_any_more}
 use Rattle.reach_marks.specs.Blocks.{block_of, reaches_in}
 use Rattle.reach_marks.proofs.Tagged.{tag_more}
-use Rattle.reach_marks.proofs.column.common_tag.Goals as goal
+use Rattle.reach_marks.proofs.tags.common_tag.Goals as goal
 
 pub loop-w-preserved : goal.loop-w-preserved
 loop-w-preserved c = record {

@@ -1,7 +1,7 @@
 use Rattle.std.proofs.Common.{◌≡◌, ℕ, ◌+◌, ◌<◌, List, take, map, All}
 use Rattle.std.specs.List.{list_any}
 use Rattle.reach_marks.specs.Blocks.{block_has, block_of, reaches_in}
-use Rattle.reach_marks.proofs.column.common_tag.Given as goal
+use Rattle.reach_marks.proofs.tags.common_tag.Given as goal
 
 abbrev pub invariant-loop-w : goal.invariant-loop-w
 invariant-loop-w l = record {
