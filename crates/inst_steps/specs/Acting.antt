@@ -42,7 +42,8 @@ IsOfTask t req task = option_map (λ (r : Req). id_of t r.item) (slice_get t.req
 abbrev pub HasNumber : Tables → ℕ → ℕ → Type 0
 HasNumber t req number = option_map (λ (r : Req). r.number) (slice_get t.reqs req) ≡ Some number
 
--- The requirement at a position is the one that a move names: one of its task, with its number where it has one.
+-- The requirement at a position is the one that a move names: one of its task, with its number where it has
+-- one.
 abbrev pub IsNamedBy : Tables → Move → ℕ → Type 0
 IsNamedBy t (moves.Read task number cell) req = IsOfTask t req task × HasNumber t req number
 IsNamedBy t (moves.Write task cell) req = IsOfTask t req task

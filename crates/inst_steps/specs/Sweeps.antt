@@ -10,7 +10,8 @@ use Rattle.inst_steps.specs.declared.act.Act.{Act}
 use Rattle.inst_steps.specs.declared.act.Action.{Action}
 use Rattle.inst_steps.specs.declared.act.Act.TheVariants as acts
 
--- The cell to which a point and a field of a requirement are mapped. The requirement is named by its item and number.
+-- The cell to which a point and a field of a requirement are mapped. The requirement is named by its item and
+-- number.
 abbrev pub cell_of : Tables → ℕ → ℕ → ℕ × ℕ → Cell
 cell_of t item number p =
     cell_in (unwrap_or (inst_mapped t.maps (record { item = item; number = number; field = p.1 })) 0) p

@@ -5,7 +5,8 @@ use Rattle.replay.specs.declared.moving.Unlike.{Unlike}
 use Rattle.replay.specs.declared.ends.ReplayEnd.{ReplayEnd}
 use Rattle.replay.specs.declared.ends.ReplayEnd.TheVariants.{Differ, Memory}
 
--- A differing read is the one that was looked for, and what it should have seen is reported. Memory may have run out at any time.
+-- A differing read is the one that was looked for, and what it should have seen is reported. Memory may have
+-- run out at any time.
 abbrev pub Tells : Tables → Option Seen → ReplayEnd → Type 0
 Tells t found (Differ task number point field got want) =
     (found ≡ Some (record { task = task; number = number; point = point; field = field; got = got }))

@@ -28,7 +28,8 @@ KeepsKinds t (moves.Copy from to) = reduces_in t to.inst ≡ false
 KeepsKinds t (moves.Fold op from to) = (reduces_in t from.inst ≡ true) × (reduces_in t to.inst ≡ false)
 KeepsKinds t _ = Unit {0}
 
--- A step is of instances of the right kinds, from one to another at one point and field, and a read is of the item that its node runs.
+-- A step is of instances of the right kinds, from one to another at one point and field, and a read is of the
+-- item that its node runs.
 pub record Fits (t : Tables) (x : Step) : Type 0 where
   pub cells : AreOfInsts t x.move
   pub kinds : KeepsKinds t x.move

@@ -9,14 +9,17 @@ use Rattle.inst_steps.specs.Places.{is_at_place}
 use Rattle.inst_steps.specs.Weighing.{weight_at}
 use Rattle.replay.specs.Fitting.{Fits}
 
--- The counts of a store stay in range over the steps that are left: at each point and field a reduction instance gets no more than one a step, and others no more than what such an instance has. (`taken` counts the steps that were taken there.)
+-- The counts of a store stay in range over the steps that are left: at each point and field a reduction
+-- instance gets no more than one a step, and others no more than what such an instance has. (`taken` counts
+-- the steps that were taken there.)
 pub record HasRoom (t : Tables) (left : List Step) (m : Contents) : Type 0 where
   pub taken : ℕ → ℕ → ℕ
   pub few : (point field : ℕ) → taken point field + length (filter (is_at_place point field) left) < 2 ^ 31
   pub light : (c : Cell) → weight_at m c ≤ taken c.point c.field * 2 ^ 31
   pub gathered : (c : Cell) → reduces_in t c.inst ≡ true → weight_at m c ≤ taken c.point c.field
 
--- A store is what a replay has made of it where these steps are left: the first differing read among them is the one that is shown.
+-- A store is what a replay has made of it where these steps are left: the first differing read among them is
+-- the one that is shown.
 pub record Stands (t : Tables) (left : List Step) (m : Contents) : Type 0 where
   pub fit : AllByRecursion (Fits t) left
   pub shown : first_difference t left (value_in m) ≡ shown_difference t

@@ -9,7 +9,8 @@ use Rattle.serial_exec.specs.Histories.{listed}
 use Rattle.serial_exec.specs.Kept.{Kept, changes_in}
 use Rattle.inst_steps.specs.Stores.{IsNumberOf}
 
--- Numbers stand for what the first changes make of the initial value: none of them, the first, the first two, and so on.
+-- Numbers stand for what the first changes make of the initial value: none of them, the first, the first two,
+-- and so on.
 abbrev pub AreNumbers : List Value → List Change → List ℕ → Type 0
 AreNumbers values cs ns = (i d : ℕ) → i < length ns
     → IsNumberOf values (after_changes (take i cs) (plain Init)) (slice_index_or ns i d)

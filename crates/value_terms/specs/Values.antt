@@ -37,7 +37,8 @@ unfoldable pub joined : Bag → Bag → Bag
 joined a [] = a
 joined a (e ∷ b) = joined (counted e.0 e.1 a) b
 
--- A value: a base, and the groups that were added to it, the oldest first. A group is an operator with the bag of what was added by it.
+-- A value: a base, and the groups that were added to it, the oldest first. A group is an operator with the
+-- bag of what was added by it.
 pub record Value : Type 0 where
   pub base : Base
   pub groups : List Group
@@ -63,7 +64,8 @@ is_raw _ = false
 abbrev pub group_of : ℕ → Bag → Group
 group_of op bag = record { op = op; bag = joined [] bag }
 
--- Groups with a bag more: its counts are added to the last group where that has the operator, and else a group is appended.
+-- Groups with a bag more: its counts are added to the last group where that has the operator, and else a
+-- group is appended.
 unfoldable pub extended : ℕ → Bag → List Group → List Group
 extended op bag [] = group_of op bag ∷ []
 extended op bag (g ∷ []) = if g.op == op then record g { bag = joined g.bag bag } ∷ []
@@ -95,7 +97,8 @@ abbrev pub with_groups : List Group → Value → Value
 with_groups [] v = v
 with_groups (g ∷ groups) v = with_groups groups (with_bag g.op g.bag v)
 
--- The value `w` with a base and groups folded in: only the identity, alone or with one group of the operator, does not make it raw.
+-- The value `w` with a base and groups folded in: only the identity, alone or with one group of the operator,
+-- does not make it raw.
 abbrev pub fold_parts : Value → ℕ → Base → List Group → Value
 fold_parts w op Ident [] = w
 fold_parts w op Ident (g ∷ []) = if g.op == op then add op g.bag w else plain Raw
@@ -125,7 +128,8 @@ NeighboursDiffer [] = Unit {0}
 NeighboursDiffer (g ∷ []) = Unit {0}
 NeighboursDiffer (g ∷ h ∷ groups) = (g.op ≢ h.op) × NeighboursDiffer (h ∷ groups)
 
--- A value is well formed: no raw value has groups, and its groups hold something, are in order and could not be fewer.
+-- A value is well formed: no raw value has groups, and its groups hold something, are in order and could not
+-- be fewer.
 pub record IsWellFormed (v : Value) : Type 0 where
   pub raw_is_plain : v.base ≡ Raw → v.groups ≡ []
   pub no_bag_is_empty : AllByRecursion (λ g. g.bag ≢ []) v.groups
@@ -160,7 +164,8 @@ IsSmallEntry e = (e.0.task < 2 ^ 32) × (e.0.req < 2 ^ 32)
 abbrev pub IsSmallGroup : Group → Type 0
 IsSmallGroup g = (g.op < 2 ^ 32) × AllByRecursion IsSmallEntry g.bag
 
--- A value that the program holds: well formed, its ids numbers of 32 bits, and all its counts together one of 64.
+-- A value that the program holds: well formed, its ids numbers of 32 bits, and all its counts together one of
+-- 64.
 pub record IsHeld (v : Value) : Type 0 where
   pub well_formed : IsWellFormed v
   pub small_base : IsSmallBase v.base

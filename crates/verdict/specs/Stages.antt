@@ -15,7 +15,8 @@ abbrev pub IsStop : (Finding → Type 0) → Stop → Type 0
 IsStop P (Found f) = P f × Good f
 IsStop P Memory = Unit {0}
 
--- What each stage of `check` can find, and nothing else: a fault of the tables, a cycle, a race, a read that differs.
+-- What each stage of `check` can find, and nothing else: a fault of the tables, a cycle, a race, a read that
+-- differs.
 abbrev pub FindsFault : Tables → Finding → Type 0
 FindsFault t (findings.Fault line code) = table_fault Check t ≡ Some (record { line = line; code = code })
 FindsFault t _ = ⊥
