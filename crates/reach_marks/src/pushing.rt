@@ -102,7 +102,8 @@ pub(crate) fn push_union(
     requires columns { AreColumns (columns_in pool.old.items columns.old.items) count }
     requires tags { (k : ℕ) → AreTags (slice_index_or columns.old.items k []) pool.old.items }
     requires each { length columns.old.items ≤ length blocks.now }
-    requires whole { (q : ℕ) → q / 1024 < front → q / 1024 < length blocks.now → bits_have blocks.now q ≡ true }
+    requires whole { (q : ℕ) → q / 1024 < front → q / 1024 < length blocks.now
+        → bits_have blocks.now q ≡ true }
     ensures { OnOk result (AddsTags pool.old.items pool.new.items columns.old.items columns.new.items
         (bits_have blocks.now)) }
 {

@@ -16,7 +16,8 @@ use std::alloc::AllocError;
 pub(crate) fn tag_at(tags: &[usize], k: usize, p: usize) -> usize
     requires { p < 1024 * k + length tags.now }
     ensures within { (n : ℕ) → All (λ t. t < n + 2) tags.now → result < n + 2 }
-    ensures block { (pool : List (List ℕ)) → block_of pool result ≡ block_in k (map (block_of pool) tags.now) p }
+    ensures block { (pool : List (List ℕ))
+        → block_of pool result ≡ block_in k (map (block_of pool) tags.now) p }
 {
     if p / 1024 < k {
         return 0;
@@ -42,7 +43,8 @@ pub(crate) fn has_tagged(pool: &[[u64; 16]], tag: usize, i: usize) -> bool
 #[inline]
 pub(crate) fn join_tagged(pool: &[[u64; 16]], tag: usize, bits: &mut [u64; 16])
     requires { tag < length pool.now + 2 }
-    ensures { (i : ℕ) → i < 1024 → has_bit bits.new i ≡ (has_bit bits.old i || block_has (block_of pool.now tag) i) }
+    ensures { (i : ℕ) → i < 1024
+        → has_bit bits.new i ≡ (has_bit bits.old i || block_has (block_of pool.now tag) i) }
 {
     match tag {
         0 => {}
@@ -170,7 +172,8 @@ pub(crate) fn tag_of_bits(
     ensures grows { OnOk result (Grows pool.old.items pool.new.items) }
     ensures exact { OnOk result (All (λ b. IsExact (Mixed b)) pool.new.items) }
     ensures within { IfOk result (λ t. t < length pool.new.items + 2) }
-    ensures places { IfOk result (λ t. (i : ℕ) → i < 1024 → block_has (block_of pool.new.items t) i ≡ has_bit bits i) }
+    ensures places { IfOk result (λ t. (i : ℕ) → i < 1024
+        → block_has (block_of pool.new.items t) i ≡ has_bit bits i) }
 {
     match tag_with(pool.as_slice(), tags, k, waits, &bits) {
         Some(tag) => Ok(tag),

@@ -36,7 +36,7 @@ fn join_row(blocks: &mut Vec<[u64; 16]>, rows: &Rows, p: usize, front: usize)
         → has_bit (slice_index_or blocks.new.items k []) i ≡ (has_bit (slice_index_or blocks.old.items k []) i
         || block_has (slice_index_or (slice_index_or rows.now p []) k Empty) i) }
 {
-    for k in front..blocks.len() {
+    for k in front..rows.blocks(p).min(blocks.len()) {
         rows.join_into(p, k, &mut blocks[k]);
     }
 }

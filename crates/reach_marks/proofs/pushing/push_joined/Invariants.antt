@@ -10,6 +10,7 @@ invariant-loop-k l = record {
   grows : Grows l.fn.pool.items l.pool.items;
   kept : (m : ℕ) → AreTags (get_or l.columns.items m []) l.pool.items;
   done : (m : ℕ) → m < l.k → AddsBlock (map (block_of l.fn.pool.items) (get_or l.fn.columns.items m []))
-      (map (block_of l.pool.items) (get_or l.columns.items m [])) (λ i. list_any (λ w. reaches (rows_in (columns_in l.fn.pool.items l.fn.columns.items) l.count) w (1024 * m + i)) l.waits);
+      (map (block_of l.pool.items) (get_or l.columns.items m []))
+      (λ i. list_any (λ w. reaches (rows_in (columns_in l.fn.pool.items l.fn.columns.items) l.count) w (1024 * m + i)) l.waits);
   left : (m : ℕ) → l.k ≤ m → get_or l.columns.items m [] ≡ get_or l.fn.columns.items m [];
 }
