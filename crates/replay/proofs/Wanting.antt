@@ -16,6 +16,8 @@ use Rattle.serial_exec.specs.Kept.{Kept, changes_in}
 use Rattle.serial_exec.proofs.lemmas.OneByOne.{after-more, after-light}
 use Rattle.inst_steps.specs.Stores.{IsNumberOf}
 use Rattle.replay.specs.Wanting.{AreNumbers, AreWanted}
+use Rattle.value_terms.specs.declared.terms.Base.{Base}
+use Rattle.serial_exec.specs.declared.change.Action.TheVariants.{Put}
 
 still_number : (old new : List Value) (v : Value) (n : ℕ) → Keeps old new → IsNumberOf old v n → IsNumberOf new v n
 still_number old new v n kept h = record {
@@ -128,3 +130,9 @@ differs_from old new got n v kept known is other e =
 -- At first nothing is kept.
 pub none_wanted : (values : List Value) (k : Kept) (w : PlaceLists ℕ) → ((p : Place) → listed w p ≡ []) → AreWanted values k w
 none_wanted values k w none p i d lt = let e = ap length (none p) in absurd (omega (arith, e, lt))
+
+-- What was put last is what changes make.
+pub put_last : (front : List Change) (c : Change) (base : Base) (v : Value) → c.action ≡ Put base
+    → after_changes (front ++ c ∷ []) v ≡ plain base
+put_last [] c base v is = ap (λ a. acted_by a v) is
+put_last (x ∷ front) c base v is = put_last front c base (acted_by x.action v) is

@@ -1,6 +1,6 @@
 //! What is wanted at a place, by number.
 
-ghost use Rattle.std.specs.Prelude.{◌≡◌, ◌-◌, ◌<◌, ◌≤◌, ◌^◌, take, length, IfOk, OnOk};
+ghost use Rattle.std.specs.Prelude.{◌≡◌, ◌-◌, ◌<◌, ◌≤◌, ◌^◌, take, length, IfOk, IfSome, OnOk};
 ghost use Rattle.value_terms.specs.declared.terms.Base.TheVariants as bases;
 ghost use Rattle.vocabulary.specs.Prelude.{plain, weight_of};
 ghost use Rattle.shared_values.specs.Arenas as numbered;
@@ -52,8 +52,21 @@ fn next_number(
     number_after(store, numbers[made - 1], &changes[made - 1])
 }
 
-/// The number of what a read of an item should see at a place. Each change at a place is taken once, however many reads ask.
-pub(crate) fn number_wanted(
+/// What was put last, if nothing was added since. Where nothing was changed it is the initial value.
+fn base_put(changes: &[Change]) -> Option<Base>
+    ensures { IfSome result (λ base. after_changes changes.now (plain bases.Init) ≡ plain base) }
+{
+    let Some((last, _)) = changes.split_last() else {
+        return Some(Base::Init);
+    };
+    match last.action {
+        Action::Put(base) => Some(base),
+        Action::Add { .. } => None,
+    }
+}
+
+/// The number of what a read of an item should see at a place, among those of what the changes there make one after the other. Each change is taken once, however many reads ask.
+fn number_listed(
     alloc: Global,
     wanted: &mut PlaceLists<usize>,
     store: &mut Store,
@@ -76,4 +89,27 @@ pub(crate) fn number_wanted(
         made = wanted.at(place).len();
     }
     Ok(wanted.at(place)[changes.len()])
+}
+
+/// The number of what a read of an item should see at a place. Nothing is kept of a place while nothing is added there.
+#[tactic(auto, using(crate::proofs::Wanting::still_wanted))]
+pub(crate) fn number_wanted(
+    alloc: Global,
+    wanted: &mut PlaceLists<usize>,
+    store: &mut Store,
+    versions: &Versions,
+    item: usize,
+    place: &Place,
+) -> Result<usize, Memory>
+    requires item { item < length versions.now.moments }
+    requires wanted { AreWanted store.old.values versions.now wanted.old }
+    ensures number { IfOk result (IsNumberOf store.new.values (value_at versions.now item place.now)) }
+    ensures wanted { OnOk result (AreWanted store.new.values versions.now wanted.new) }
+    ensures kept { Keeps store.old.values store.new.values }
+    ensures cells { store.new.cells ≡ store.old.cells }
+{
+    match base_put(versions.changes_before(item, place)) {
+        Some(base) => store.number_of(base),
+        None => number_listed(alloc, wanted, store, versions, item, place),
+    }
 }

@@ -2,7 +2,7 @@ use Rattle.std.proofs.Common.{◌≡◌, ◌+◌, ◌-◌, length}
 use Rattle.shared_values.specs.Arenas.{Keeps}
 use Rattle.serial_exec.specs.Histories.{listed}
 use Rattle.replay.specs.Wanting.{AreWanted}
-use Rattle.replay.proofs.wanted.number_wanted.Given as goal
+use Rattle.replay.proofs.wanted.number_listed.Given as goal
 
 abbrev pub invariant-loop-made : goal.invariant-loop-made
 invariant-loop-made l = record {

@@ -8,7 +8,7 @@ use Rattle.serial_exec.specs.Kept.{changes_in}
 use Rattle.inst_steps.specs.Stores.{IsNumberOf}
 use Rattle.replay.specs.Wanting.{AreNumbers}
 use Rattle.replay.proofs.Wanting.{of_first, at_first, wanted_more, longer}
-use Rattle.replay.proofs.wanted.number_wanted.Goals as goal
+use Rattle.replay.proofs.wanted.number_listed.Goals as goal
 
 few : (c : goal.After-at) → length (listed c.loop-made.wanted c.args.place.now) ≤ length c.changes_before-changes.result.now
 few c = let made = c.loop-made.invariant.made in let test = c.loop-made-test.true in omega (arith, made, test)
