@@ -7,6 +7,7 @@ use Rattle.semantics.specs.declared.tables.Op.TheVariants as operations
 use Rattle.semantics.specs.Rules.{reduces_in}
 use Rattle.inst_steps.specs.Celled.{AreOfInsts}
 use Rattle.inst_steps.specs.Places.{StaysAtPlace}
+use Rattle.replay.specs.declared.moving.Reading.{Reading}
 
 -- The item that an operation runs.
 abbrev pub item_run : Op → ℕ
@@ -16,6 +17,10 @@ item_run _ = 0
 -- The item that a node runs.
 abbrev pub item_at : Tables → ℕ → ℕ
 item_at t node = option_map_or (λ (n : LogNode). item_run n.op) (slice_get t.nodes node) 0
+
+-- The move that reads it.
+abbrev pub read_move : Reading → Move
+read_move r = moves.Read r.task r.number r.cell
 
 -- A read is of this item.
 abbrev pub IsOfItem : Tables → ℕ → Move → Type 0

@@ -10,7 +10,7 @@ ghost use Rattle.inst_steps.specs.Acting.{IsAllowed, IsBy};
 ghost use Rattle.inst_steps.specs.Celled.{AreOfInsts};
 ghost use Rattle.inst_steps.specs.Stores.{HasCells, IsLight, IsNumberOf, after_move, value_in};
 ghost use Rattle.replay.specs.Ends.{IsUnlike, Tells};
-ghost use Rattle.replay.specs.Fitting.{IsOfItem, item_at};
+ghost use Rattle.replay.specs.Fitting.{IsOfItem, item_at, read_move};
 ghost use Rattle.replay.specs.Versioned.{AreVersionsIn};
 ghost use Rattle.replay.specs.Wanting.{AreWanted};
 
@@ -31,6 +31,14 @@ use value_terms::{Base, Contribution, Memory, Value};
 pub(crate) struct Unlike {
     pub(crate) got: Value,
     pub(crate) want: Value,
+}
+
+/// What a task reads by its requirement of a number: a cell.
+#[derive(Clone, Copy)]
+pub(crate) struct Reading {
+    pub(crate) task: u32,
+    pub(crate) number: u32,
+    pub(crate) cell: Cell,
 }
 
 /// What a replay goes by: a log, the same cut to the points at which it is replayed, and what its items want there.
@@ -62,34 +70,6 @@ fn privilege_of<P: PointSet + Copy>(log: &Log<'_, P>, req: usize) -> Option<Priv
     }
 }
 
-/// The value of a number that a read of an item sees at a place and the one that it should see, where these differ. Values are made only for that.
-fn unlike_at(
-    alloc: Global,
-    store: &mut Store,
-    wanted: &mut PlaceLists<usize>,
-    versions: &Versions,
-    item: usize,
-    place: &Place,
-    got: usize,
-) -> Result<Option<Unlike>, Memory>
-    requires item { item < length versions.now.moments }
-    requires got { got < length store.old.values }
-    requires wanted { AreWanted store.old.values versions.now wanted.old }
-    ensures unlike { IfOk result (λ r. MatchOption r
-        (numbered.value_at store.old.values got ≡ value_at versions.now item place.now)
-        (IsUnlike (numbered.value_at store.old.values got) (value_at versions.now item place.now))) }
-    ensures wanted { OnOk result (AreWanted store.new.values versions.now wanted.new) }
-    ensures cells { store.new.cells ≡ store.old.cells }
-{
-    let number = number_wanted(alloc, wanted, store, versions, item, place)?;
-    if store.same(got, number)? {
-        return Ok(None);
-    }
-    let got = store.value_of(got)?;
-    let want = versions.want(alloc, item, place)?;
-    Ok(Some(Unlike { got, want }))
-}
-
 impl<'r, 'a, P: PointSet + Copy> Replay<'r, 'a, P> {
     /// The item that a node runs.
     pub(crate) fn item_at(&self, node: usize) -> usize
@@ -102,41 +82,67 @@ impl<'r, 'a, P: PointSet + Copy> Replay<'r, 'a, P> {
         }
     }
 
+    /// The value of a number that a read of an item sees at a place and the one that it should see, where these differ. Values are made only for that.
+    fn unlike_at(
+        &self,
+        store: &mut Store,
+        wanted: &mut PlaceLists<usize>,
+        item: usize,
+        place: &Place,
+        got: usize,
+    ) -> Result<Option<Unlike>, Memory>
+        requires item { item < length self.now.versions.now.moments }
+        requires got { got < length store.old.values }
+        requires wanted { AreWanted store.old.values self.now.versions.now wanted.old }
+        ensures unlike { IfOk result (λ r. MatchOption r
+            (numbered.value_at store.old.values got ≡ value_at self.now.versions.now item place.now)
+            (IsUnlike (numbered.value_at store.old.values got)
+            (value_at self.now.versions.now item place.now))) }
+        ensures wanted { OnOk result (AreWanted store.new.values self.now.versions.now wanted.new) }
+        ensures cells { store.new.cells ≡ store.old.cells }
+    {
+        let number = number_wanted(wanted, store, self.versions, item, place)?;
+        if store.same(got, number)? {
+            return Ok(None);
+        }
+        let got = store.value_of(got)?;
+        let want = self.versions.want(self.alloc, item, place)?;
+        Ok(Some(Unlike { got, want }))
+    }
+
     /// Judges the value of a number that an item reads from a cell.
     fn judge(
         &self,
         store: &mut Store,
         wanted: &mut PlaceLists<usize>,
         item: usize,
-        task: u32,
-        req: u32,
-        cell: &Cell,
+        reading: Reading,
         got: usize,
     ) -> Result<(), ReplayEnd>
-        requires item { IsOfItem self.now.cut.now item (Move.Read task req cell.now) }
-        requires inst { AreOfInsts self.now.cut.now (Move.Read task req cell.now) }
+        requires item { IsOfItem self.now.cut.now item (read_move reading) }
+        requires inst { AreOfInsts self.now.cut.now (read_move reading) }
         requires versions { AreVersionsIn self.now.cut.now self.now.versions.now }
         requires got { got < length store.old.values }
         requires wanted { AreWanted store.old.values self.now.versions.now wanted.old }
-        ensures right { OnOk result (difference self.now.cut.now (Move.Read task req cell.now)
+        ensures right { OnOk result (difference self.now.cut.now (read_move reading)
             (λ c. numbered.value_at store.old.values got) ≡ None) }
         ensures wanted { OnOk result (AreWanted store.new.values self.now.versions.now wanted.new) }
         ensures cells { store.new.cells ≡ store.old.cells }
         ensures end { IfErr result (Tells self.now.cut.now (difference self.now.cut.now
-            (Move.Read task req cell.now) (λ c. numbered.value_at store.old.values got))) }
+            (read_move reading) (λ c. numbered.value_at store.old.values got))) }
     {
         let place = Place {
-            tree: tree_of(self.cut, item, req),
-            point: cell.point,
-            field: cell.field,
+            tree: tree_of(self.cut, item, reading.number),
+            point: reading.cell.point,
+            field: reading.cell.field,
         };
-        match unlike_at(self.alloc, store, wanted, self.versions, item, &place, got)? {
+        match self.unlike_at(store, wanted, item, &place, got)? {
             None => Ok(()),
             Some(Unlike { got, want }) => Err(ReplayEnd::Differ {
-                task,
-                req,
-                point: cell.point,
-                field: cell.field,
+                task: reading.task,
+                req: reading.number,
+                point: reading.cell.point,
+                field: reading.cell.field,
                 got,
                 want,
             }),
@@ -144,19 +150,13 @@ impl<'r, 'a, P: PointSet + Copy> Replay<'r, 'a, P> {
     }
 
     /// The number of what a read sees, by the requirement at a position, in its view.
-    fn number_read(
-        &self,
-        store: &mut Store,
-        req: usize,
-        task: u32,
-        number: u32,
-        cell: &Cell,
-    ) -> usize
-        requires allowed { IsAllowed self.now.log.now (Move.Read task number cell.now) req }
-        requires cell { HasCells store.old.cells (Move.Read task number cell.now) }
-        ensures number { IsNumberOf store.new.values (value_in store.new.cells cell.now) result }
+    fn number_read(&self, store: &mut Store, req: usize, reading: Reading) -> usize
+        requires allowed { IsAllowed self.now.log.now (read_move reading) req }
+        requires cell { HasCells store.old.cells (read_move reading) }
+        ensures number { IsNumberOf store.new.values (value_in store.new.cells reading.cell) result }
         ensures same { store.new ≡ store.old }
     {
+        let cell = reading.cell;
         match privilege_of(self.log, req) {
             Some(Priv::Ro) => store.view_ro(self.log, req).get(cell.point, cell.field),
             Some(Priv::Rw) => store.view_rw(self.log, req).get(cell.point, cell.field),
@@ -171,25 +171,23 @@ impl<'r, 'a, P: PointSet + Copy> Replay<'r, 'a, P> {
         wanted: &mut PlaceLists<usize>,
         item: usize,
         req: usize,
-        task: u32,
-        number: u32,
-        cell: &Cell,
+        reading: Reading,
     ) -> Result<(), ReplayEnd>
-        requires allowed { IsAllowed self.now.log.now (Move.Read task number cell.now) req }
-        requires item { IsOfItem self.now.cut.now item (Move.Read task number cell.now) }
-        requires inst { AreOfInsts self.now.cut.now (Move.Read task number cell.now) }
+        requires allowed { IsAllowed self.now.log.now (read_move reading) req }
+        requires item { IsOfItem self.now.cut.now item (read_move reading) }
+        requires inst { AreOfInsts self.now.cut.now (read_move reading) }
         requires versions { AreVersionsIn self.now.cut.now self.now.versions.now }
-        requires cell { HasCells store.old.cells (Move.Read task number cell.now) }
+        requires cell { HasCells store.old.cells (read_move reading) }
         requires wanted { AreWanted store.old.values self.now.versions.now wanted.old }
         ensures right { OnOk result (difference self.now.cut.now
-            (Move.Read task number cell.now) (value_in store.old.cells) ≡ None) }
+            (read_move reading) (value_in store.old.cells) ≡ None) }
         ensures wanted { OnOk result (AreWanted store.new.values self.now.versions.now wanted.new) }
         ensures cells { store.new.cells ≡ store.old.cells }
         ensures end { IfErr result (Tells self.now.cut.now (difference self.now.cut.now
-            (Move.Read task number cell.now) (value_in store.old.cells))) }
+            (read_move reading) (value_in store.old.cells))) }
     {
-        let got = self.number_read(store, req, task, number, cell);
-        self.judge(store, wanted, item, task, number, cell, got)
+        let got = self.number_read(store, req, reading);
+        self.judge(store, wanted, item, reading, got)
     }
 
     /// Puts what a task writes by the requirement at a position into its view.
@@ -244,7 +242,7 @@ impl<'r, 'a, P: PointSet + Copy> Replay<'r, 'a, P> {
                 task,
                 req: number,
                 cell,
-            } => self.read(store, wanted, item, req, task, number, &cell),
+            } => self.read(store, wanted, item, req, Reading { task, number, cell }),
             Move::Write { task, cell } => {
                 self.write(store, req, task, &cell)?;
                 Ok(())

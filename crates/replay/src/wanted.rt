@@ -13,7 +13,6 @@ ghost use Rattle.replay.specs.Wanting.{AreNumbers, AreWanted};
 use inst_steps::Store;
 use semantics::Place;
 use serial_exec::{Action, Change, PlaceLists, Versions};
-use std::alloc::Global;
 use value_terms::{Base, Memory};
 
 /// The number of what a change makes of a value.
@@ -67,7 +66,6 @@ fn base_put(changes: &[Change]) -> Option<Base>
 
 /// The number of what a read of an item should see at a place, among those of what the changes there make one after the other. Each change is taken once, however many reads ask.
 fn number_listed(
-    alloc: Global,
     wanted: &mut PlaceLists<usize>,
     store: &mut Store,
     versions: &Versions,
@@ -85,7 +83,7 @@ fn number_listed(
     let mut made = wanted.at(place).len();
     while made <= changes.len() {
         let number = next_number(store, wanted.at(place), made, changes)?;
-        wanted.push(alloc, *place, number)?;
+        wanted.push(*place, number)?;
         made = wanted.at(place).len();
     }
     Ok(wanted.at(place)[changes.len()])
@@ -94,7 +92,6 @@ fn number_listed(
 /// The number of what a read of an item should see at a place. Nothing is kept of a place while nothing is added there.
 #[tactic(auto, using(crate::proofs::Wanting::still_wanted))]
 pub(crate) fn number_wanted(
-    alloc: Global,
     wanted: &mut PlaceLists<usize>,
     store: &mut Store,
     versions: &Versions,
@@ -110,6 +107,6 @@ pub(crate) fn number_wanted(
 {
     match base_put(versions.changes_before(item, place)) {
         Some(base) => store.number_of(base),
-        None => number_listed(alloc, wanted, store, versions, item, place),
+        None => number_listed(wanted, store, versions, item, place),
     }
 }

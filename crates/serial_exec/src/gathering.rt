@@ -21,7 +21,6 @@ use value_terms::Base;
 
 /// One change more at these fields of the points of a space.
 fn note_in_space<P: PointSet + Copy>(
-    alloc: Global,
     histories: &mut PlaceLists<Change>,
     log: &CutLog<'_, '_, '_, P>,
     tree: u32,
@@ -35,14 +34,13 @@ fn note_in_space<P: PointSet + Copy>(
         (listed histories.old) (listed histories.new)) }
 {
     match log.set(space) {
-        Some(set) => note_all(alloc, histories, &set, tree, fields, change),
+        Some(set) => note_all(histories, &set, tree, fields, change),
         None => Ok(()),
     }
 }
 
 /// What a task does by a requirement.
 fn note_req<P: PointSet + Copy>(
-    alloc: Global,
     histories: &mut PlaceLists<Change>,
     log: &CutLog<'_, '_, '_, P>,
     moment: usize,
@@ -57,7 +55,7 @@ fn note_req<P: PointSet + Copy>(
         Some(action) => {
             let change = Change { moment, action };
             let fields = req.fields.as_slice();
-            note_in_space(alloc, histories, log, req.tree, req.space, fields, change)
+            note_in_space(histories, log, req.tree, req.space, fields, change)
         }
         None => Ok(()),
     }
@@ -65,7 +63,6 @@ fn note_req<P: PointSet + Copy>(
 
 /// What a task does by the requirement at a position.
 fn note_req_at<P: PointSet + Copy>(
-    alloc: Global,
     histories: &mut PlaceLists<Change>,
     log: &CutLog<'_, '_, '_, P>,
     moment: usize,
@@ -77,14 +74,13 @@ fn note_req_at<P: PointSet + Copy>(
         (reqs_at log.now.reqs (k ∷ [])) p) }
 {
     match log.reqs().get(k) {
-        Some(req) => note_req(alloc, histories, log, moment, task, req),
+        Some(req) => note_req(histories, log, moment, task, req),
         None => Ok(()),
     }
 }
 
 /// What a task does by the requirements at some positions.
 fn note_reqs<P: PointSet + Copy>(
-    alloc: Global,
     histories: &mut PlaceLists<Change>,
     log: &CutLog<'_, '_, '_, P>,
     moment: usize,
@@ -96,14 +92,13 @@ fn note_reqs<P: PointSet + Copy>(
         (reqs_at log.now.reqs own.now) p) }
 {
     for k in own {
-        note_req_at(alloc, histories, log, moment, task, *k)?;
+        note_req_at(histories, log, moment, task, *k)?;
     }
     Ok(())
 }
 
 /// What an item does.
 fn note_item<P: PointSet + Copy>(
-    alloc: Global,
     histories: &mut PlaceLists<Change>,
     log: &CutLog<'_, '_, '_, P>,
     own: &NumberLists,
@@ -119,7 +114,7 @@ fn note_item<P: PointSet + Copy>(
         return Ok(());
     };
     match &found.body {
-        ItemBody::Task => note_reqs(alloc, histories, log, moment, found.id, own.list(item)),
+        ItemBody::Task => note_reqs(histories, log, moment, found.id, own.list(item)),
         ItemBody::Fill {
             tree,
             space,
@@ -131,7 +126,7 @@ fn note_item<P: PointSet + Copy>(
                 action: Action::Put(Base::Const(*n)),
             };
             let fields = fields.as_slice();
-            note_in_space(alloc, histories, log, *tree, *space, fields, change)
+            note_in_space(histories, log, *tree, *space, fields, change)
         }
     }
 }
@@ -148,7 +143,7 @@ pub(crate) fn histories_of<P: PointSet + Copy>(
     let mut histories = PlaceLists::new(alloc);
     let order = log.serial();
     for moment in 0..order.len() {
-        note_item(alloc, &mut histories, log, &own, moment, order[moment])?;
+        note_item(&mut histories, log, &own, moment, order[moment])?;
     }
     Ok(histories)
 }

@@ -9,11 +9,10 @@ use crate::change::Change;
 use crate::place_lists::PlaceLists;
 use point_set::{PointSet, points_in};
 use semantics::Place;
-use std::alloc::{AllocError, Global};
+use std::alloc::AllocError;
 
 /// One change more at a point and these fields.
 fn note_at_point(
-    alloc: Global,
     histories: &mut PlaceLists<Change>,
     tree: u32,
     point: u64,
@@ -30,14 +29,13 @@ fn note_at_point(
             point,
             field: *field,
         };
-        histories.push(alloc, place, change)?;
+        histories.push(place, change)?;
     }
     Ok(())
 }
 
 /// One change more at these fields of the points of a set.
 pub(crate) fn note_all<P: PointSet>(
-    alloc: Global,
     histories: &mut PlaceLists<Change>,
     set: &P,
     tree: u32,
@@ -49,7 +47,7 @@ pub(crate) fn note_all<P: PointSet>(
         (listed histories.old) (listed histories.new)) }
 {
     for point in points_in(set) {
-        note_at_point(alloc, histories, tree, point, fields, change)?;
+        note_at_point(histories, tree, point, fields, change)?;
     }
     Ok(())
 }

@@ -11,6 +11,7 @@ use std::collections::HashMap;
 /// For each place a list, empty until something is pushed there.
 #[derive(Drop)]
 pub struct PlaceLists<T> {
+    alloc: Global,
     pub(crate) lists: HashMap<Place, Vec<T>>,
 }
 
@@ -20,6 +21,7 @@ impl<T: Drop> PlaceLists<T> {
         ensures { (p : Place) → listed result p ≡ [] }
     {
         PlaceLists {
+            alloc,
             lists: HashMap::new(alloc),
         }
     }
@@ -35,7 +37,7 @@ impl<T: Drop> PlaceLists<T> {
     }
 
     /// One element more at a place.
-    pub fn push(&mut self, alloc: Global, place: Place, x: T) -> Result<(), AllocError>
+    pub fn push(&mut self, place: Place, x: T) -> Result<(), AllocError>
         ensures { OnOk result ((p : Place) → listed self.new p
             ≡ listed self.old p ++ (if same_place place p then x ∷ [] else [])) }
     {
@@ -43,7 +45,7 @@ impl<T: Drop> PlaceLists<T> {
             list.push(x)?;
             return Ok(());
         }
-        let mut list = Vec::with_capacity(alloc, 1)?;
+        let mut list = Vec::with_capacity(self.alloc, 1)?;
         list.push(x)?;
         self.lists.insert(place, list)?;
         Ok(())
