@@ -20,19 +20,28 @@ pub struct CellBits {
     words: Vec<u64>,
 }
 
-/// Sets the bits of the cells from one column up to another, from one row to another.
-fn set_block(words: &mut [u64], rows: usize, left: usize, end: usize, low: usize, high: usize)
-    requires columns { left ≤ end }
-    requires order { low ≤ high }
-    requires rows { high < rows }
-    requires within { end * rows ≤ 64 * length words.old }
-    requires few { end * rows < 2 ^ 32 }
+/// Cells from one column up to another, and from one row to another.
+#[derive(Clone, Copy)]
+struct Block {
+    left: usize,
+    end: usize,
+    low: usize,
+    high: usize,
+}
+
+/// Sets the bits of the cells of a block, in a grid of so many rows.
+fn set_block(words: &mut [u64], rows: usize, block: Block)
+    requires columns { block.left ≤ block.end }
+    requires order { block.low ≤ block.high }
+    requires rows { block.high < rows }
+    requires within { block.end * rows ≤ 64 * length words.old }
+    requires few { block.end * rows < 2 ^ 32 }
     ensures words { length words.new ≡ length words.old }
     ensures bits { (n : ℕ) → (has_bit words.new n ≡ true)
-        ↔ ((has_bit words.old n ≡ true) ⊎ IsInBlock rows left end low high n) }
+        ↔ ((has_bit words.old n ≡ true) ⊎ IsInBlock rows block.left block.end block.low block.high n) }
 {
-    for k in left..end {
-        set_between(words, k * rows + low, k * rows + high + 1);
+    for k in block.left..block.end {
+        set_between(words, k * rows + block.low, k * rows + block.high + 1);
     }
 }
 
@@ -54,7 +63,13 @@ fn set_rect(words: &mut [u64], grid: &Grid, rect: Rect) -> bool
     if rect.x0 > rect.x1 || rect.y0 > rect.y1 || left > right || low > high {
         return false;
     }
-    set_block(words, grid.rows(), left, right + 1, low, high);
+    let block = Block {
+        left,
+        end: right + 1,
+        low,
+        high,
+    };
+    set_block(words, grid.rows(), block);
     true
 }
 

@@ -6,7 +6,7 @@ use Rattle.cell_bits.proofs.cells.set_block.Goals as goal
 pub loop-k-preserved : goal.loop-k-preserved
 loop-k-preserved c = record {
   words = c.set_between.ensures.words ∙ c.loop-k.invariant.words;
-  bits = λ n. column_more c.args.rows c.args.left c.loop-k.k c.args.low c.args.high n (has_bit c.args.words.now n)
+  bits = λ n. column_more c.args.rows c.args.block.left c.loop-k.k c.args.block.low c.args.block.high n (has_bit c.args.words.now n)
       (has_bit c.loop-k.words n) (has_bit c.set_between.new.words n) (let low = c.loop-k.auto.k in omega (arith, low))
       (c.loop-k.invariant.bits n) (c.set_between.ensures.bits n);
 }
