@@ -2,7 +2,6 @@ pub mod Gathered
 pub mod Placed
 pub mod Ends
 pub use Rattle.point_laws.specs.Alike
-pub use Rattle.atoms.specs.Atoms
 pub use Rattle.point_laws.specs.Cut
 pub use Rattle.semantics.specs.Events
 pub use Rattle.semantics.specs.Faults

@@ -6,15 +6,14 @@ ghost use Rattle.semantics.specs.Faults.{unmapped_fault};
 ghost use Rattle.event_graph.specs.Orders.{IsOrderOf};
 ghost use Rattle.reach_marks.specs.Reached.{AreMarksOf};
 ghost use Rattle.point_laws.specs.Alike.{AreFirsts};
-ghost use Rattle.atoms.specs.Atoms.{first_points};
 ghost use Rattle.race_scan.specs.Ends.{IsEndOf, IsShownIn};
 
 use crate::node_touches::touches_of;
-use atoms::Atoms;
 use cell_races::{FoundRace, shown_race};
 use cut_logs::CutLog;
 use event_graph::{Graph, Order};
 use logs::Log;
+use point_kinds::FirstPoints;
 use reach_marks::Reach;
 use region_tree::ArenaSet;
 use semantics::Cell;
@@ -59,24 +58,24 @@ fn race_of<'a, P: ArenaSet<'a>>(
     Ok(clash)
 }
 
-/// Looks for the race of a log that is shown. Goes over the first point of each atom alone; the time is that of a sort of the accesses there.
+/// Looks for the race of a log that is shown. Goes over these points alone, among which is the first of each kind; the time is that of a sort of the accesses there.
 pub fn scan<'a, P: ArenaSet<'a>>(
     alloc: Global,
     log: &Log<'a, P>,
     graph: &Graph,
     order: &Order,
     reach: &Reach,
-    atoms: &Atoms,
+    firsts: &FirstPoints,
 ) -> Result<(), ScanEnd>
     requires mapped { unmapped_fault log.now ≡ None }
     requires graph { graph.now ≡ graph_of log.now.nodes }
     requires order { IsOrderOf graph.now order.now }
     requires reach { AreMarksOf graph.now reach.now }
-    requires atoms { AreFirsts log.now (first_points atoms.now) }
+    requires firsts { AreFirsts log.now firsts.now }
     ensures free { OnOk result (IsRaceFree log.now) }
     ensures race { IfErr result (IsEndOf log.now) }
 {
-    let log = CutLog::at(log, atoms.firsts());
+    let log = CutLog::at(log, firsts.as_slice());
     match race_of(alloc, &log, graph, order, reach)? {
         None => Ok(()),
         Some(FoundRace { a, b, cell }) => Err(ScanEnd::Race { a, b, cell }),

@@ -5,7 +5,6 @@ pub mod Standing
 pub mod Versioned
 pub mod Wanting
 pub use Rattle.point_laws.specs.Alike
-pub use Rattle.atoms.specs.Atoms
 pub use Rattle.semantics.specs.Events
 pub use Rattle.semantics.specs.Faults
 pub use Rattle.serial_exec.specs.Kept

@@ -6,7 +6,6 @@ ghost use Rattle.semantics.specs.Faults.{unmapped_fault};
 ghost use Rattle.semantics.specs.Counts.{read_count};
 ghost use Rattle.event_graph.specs.Orders.{IsOrderOf};
 ghost use Rattle.point_laws.specs.Alike.{AreFirsts};
-ghost use Rattle.atoms.specs.Atoms.{first_points};
 ghost use Rattle.cut_logs.specs.Cutting.{IsCutOf};
 ghost use Rattle.serial_exec.specs.Kept.{AreVersionsAt};
 ghost use Rattle.replay.specs.Ends.{IsEndOf};
@@ -17,11 +16,11 @@ ghost use Rattle.replay.specs.Wanting.{AreWanted};
 use crate::counting::count_reads;
 use crate::ends::{Reads, ReplayEnd};
 use crate::moving::Replay;
-use atoms::Atoms;
 use cut_logs::CutLog;
 use event_graph::Order;
 use inst_steps::{Store, actions_of};
 use logs::Log;
+use point_kinds::FirstPoints;
 use point_set::PointSet;
 use region_tree::ArenaSet;
 use serial_exec::{PlaceLists, Versions};
@@ -95,24 +94,24 @@ impl<'r, 'a, P: PointSet + Copy> Replay<'r, 'a, P> {
     }
 }
 
-/// Replays a log, and judges each read. Goes over the first point of each atom alone, and takes memory for what the instances hold there. Whatever the versions say elsewhere is of no account.
+/// Replays a log, and judges each read. Goes over these points alone, among which is the first of each kind, and takes memory for what the instances hold there. Whatever the versions say elsewhere is of no account.
 pub fn replay<'a, P: ArenaSet<'a>>(
     alloc: Global,
     log: &Log<'a, P>,
     order: &Order,
     versions: &Versions,
-    atoms: &Atoms,
+    firsts: &FirstPoints,
 ) -> Result<Reads, ReplayEnd>
     requires mapped { unmapped_fault log.now ≡ None }
     requires order { IsOrderOf (graph_of log.now.nodes) order.now }
-    requires versions { AreVersionsAt (first_points atoms.now) log.now versions.now }
-    requires atoms { AreFirsts log.now (first_points atoms.now) }
+    requires versions { AreVersionsAt firsts.now log.now versions.now }
+    requires firsts { AreFirsts log.now firsts.now }
     ensures right { OnOk result (shown_difference log.now ≡ None) }
     ensures count { IfOk result (λ reads. reads.count ≡ read_count log.now) }
     ensures end { IfErr result (IsEndOf log.now) }
 {
     log.is_declared();
-    let cut = CutLog::at(log, atoms.firsts());
+    let cut = CutLog::at(log, firsts.as_slice());
     let replay = Replay {
         alloc,
         log,

@@ -8,11 +8,11 @@ ghost use Rattle.serial_scan.specs.declared.claims.Claim.{Claim};
 ghost use Rattle.serial_scan.specs.Scanned.{AreClearBefore, IsAtFirst, NoneTurnedBefore};
 
 use crate::claims::{Claim, claims_of};
-use atoms::Atoms;
 use earliest_uses::EarliestUses;
 use listed_sets::Listed;
 use logs::Log;
 use memory::Memory;
+use point_kinds::FirstPoints;
 use point_set::PointSet;
 use std::alloc::{AllocError, Global};
 
@@ -93,9 +93,9 @@ fn first_unclear<'a, P: PointSet + Copy>(
 fn search_start<'a, P: PointSet + Copy>(alloc: Global, log: &Log<'a, P>) -> Result<usize, Memory>
     ensures { IfOk result (NoneTurnedBefore log.now) }
 {
-    let atoms = Atoms::build(alloc, log.rects())?;
+    let firsts = FirstPoints::of(alloc, log)?;
     let claims = claims_of(alloc, log)?;
-    let first = first_unclear(alloc, log, atoms.firsts(), &claims)?;
+    let first = first_unclear(alloc, log, firsts.as_slice(), &claims)?;
     Ok(first)
 }
 

@@ -16,11 +16,11 @@ use crate::runs::runs_of;
 use crate::scan::unordered_tasks;
 use crate::task_touches::touches_of_tasks;
 use crate::tasks::{count_task_pairs, task_places};
-use atoms::Atoms;
 use logs::Log;
 use memory::Memory;
 use order_laws::first_pair_is_shown;
 use pair_rows::Places;
+use point_kinds::FirstPoints;
 use point_set::PointSet;
 use reach_marks::Reach;
 use region_tree::ArenaSet;
@@ -128,9 +128,9 @@ pub fn task_order<'a, P: ArenaSet<'a>>(
     requires marks { AreMarksOf (graph_of log.now.nodes) reach.now }
     ensures { IfOk result (IsTaskOrder log.now) }
 {
-    let atoms = Atoms::build(alloc, log.rects())?;
+    let firsts = FirstPoints::of(alloc, log)?;
     let runs = runs_of(alloc, log)?;
-    let touches = touches_of_tasks(alloc, log, atoms.firsts())?;
+    let touches = touches_of_tasks(alloc, log, firsts.as_slice())?;
     let unordered = unordered_tasks(alloc, log, reach, &runs, &touches)?;
     let places = task_places(alloc, log, &touches)?;
     let schedule = Schedule {

@@ -1,6 +1,5 @@
 pub mod Stages
 pub use Rattle.point_laws.specs.Alike
-pub use Rattle.atoms.specs.Atoms
 pub use Rattle.semantics.specs.Counts
 pub use Rattle.point_laws.specs.Cut
 pub use Rattle.semantics.specs.Events

@@ -85,7 +85,7 @@ impl<'a, P: ArenaSet<'a>> Declared<'a, P> {
         ensures stop { IfErr result (IsStop (FindsCycle self.entry)) }
     {
         match sorted_parts(alloc, &self.log) {
-            Ok((sorting, atoms)) => Ok(Sorted::of(self.log, sorting, atoms)),
+            Ok((sorting, firsts)) => Ok(Sorted::of(self.log, sorting, firsts)),
             Err(stop) => {
                 self.log.let_go();
                 Err(stop)

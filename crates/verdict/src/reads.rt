@@ -8,15 +8,14 @@ ghost use Rattle.semantics.specs.Counts.{read_count};
 ghost use Rattle.replay.specs.Ends.{IsEndOf};
 ghost use Rattle.long_values.specs.LongOutcome.{CheckFindsLong, IsSoundLong};
 ghost use Rattle.point_laws.specs.Alike.{AreFirsts};
-ghost use Rattle.atoms.specs.Atoms.{first_points};
 ghost use Rattle.log_findings.specs.Findings.{table_fault};
 ghost use Rattle.log_findings.specs.Sorted.{AreSorted};
 ghost use Rattle.verdict.specs.Stages.{FindsDifference, IsStop};
 
 use crate::stop::Stop;
-use atoms::Atoms;
 use log_findings::{Sorting, differ_found};
 use logs::Log;
+use point_kinds::FirstPoints;
 use region_tree::ArenaSet;
 use replay::{Reads, ReplayEnd, replay};
 use serial_exec::Versions;
@@ -27,17 +26,17 @@ fn replayed<'a, P: ArenaSet<'a>>(
     alloc: Global,
     log: &Log<'a, P>,
     sorting: &Sorting,
-    atoms: &Atoms,
+    firsts: &FirstPoints,
 ) -> Result<Reads, ReplayEnd>
     requires faultless { table_fault Check log.now ≡ None }
     requires sorted { AreSorted (graph_of log.now.nodes) sorting.now }
-    requires firsts { AreFirsts log.now (first_points atoms.now) }
+    requires firsts { AreFirsts log.now firsts.now }
     ensures right { OnOk result (shown_difference log.now ≡ None) }
     ensures count { IfOk result (λ reads. reads.count ≡ read_count log.now) }
     ensures end { IfErr result (IsEndOf log.now) }
 {
-    match Versions::build_on(alloc, log, atoms.firsts()) {
-        Ok(versions) => replay(alloc, log, &sorting.order, &versions, atoms),
+    match Versions::build_on(alloc, log, firsts.as_slice()) {
+        Ok(versions) => replay(alloc, log, &sorting.order, &versions, firsts),
         Err(_) => Err(ReplayEnd::Memory),
     }
 }
@@ -47,11 +46,11 @@ pub(crate) fn judged_reads<'a, P: ArenaSet<'a>>(
     alloc: Global,
     log: &Log<'a, P>,
     sorting: &Sorting,
-    atoms: &Atoms,
+    firsts: &FirstPoints,
 ) -> Result<u64, Stop>
     requires faultless { table_fault Check log.now ≡ None }
     requires sorted { AreSorted (graph_of log.now.nodes) sorting.now }
-    requires firsts { AreFirsts log.now (first_points atoms.now) }
+    requires firsts { AreFirsts log.now firsts.now }
     requires free { IsRaceFree log.now }
     ensures sound { OnOk result (IsSound log.now) }
     ensures count { IfOk result (λ count. count ≡ read_count log.now) }
@@ -60,7 +59,7 @@ pub(crate) fn judged_reads<'a, P: ArenaSet<'a>>(
     ensures stop_long { IfErr result (IsStop (CheckFindsLong log.now)) }
 {
     log.is_declared();
-    match replayed(alloc, log, sorting, atoms) {
+    match replayed(alloc, log, sorting, firsts) {
         Ok(reads) => Ok(reads.count),
         Err(
             ReplayEnd::Differ {

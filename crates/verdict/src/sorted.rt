@@ -8,7 +8,6 @@ ghost use Rattle.findings.specs.Texts as texts;
 ghost use Rattle.outcomes.specs.Outcome.{IsSound, WhyFinds};
 ghost use Rattle.long_values.specs.LongOutcome.{CheckFindsLong, IsSoundLong};
 ghost use Rattle.point_laws.specs.Alike.{AreFirsts};
-ghost use Rattle.atoms.specs.Atoms.{first_points};
 ghost use Rattle.verdict.specs.declared.stop.Stop.{Stop};
 ghost use Rattle.log_findings.specs.Findings.{table_fault};
 ghost use Rattle.log_findings.specs.Sorted.{AreSorted};
@@ -18,11 +17,11 @@ ghost use Rattle.log_findings.specs.Faultless.{AreFaultless};
 use crate::clean::Clean;
 use crate::reads::judged_reads;
 use crate::stop::Stop;
-use atoms::Atoms;
 use findings::Finding;
 use log_findings::{Sorting, Unsorted, cycle_found, event_at, race_found, sort_log};
 use logs::Log;
 use memory::Memory;
+use point_kinds::FirstPoints;
 use point_set::PointSet;
 use race_scan::{ScanEnd, scan};
 use read_findings::read_finding;
@@ -36,7 +35,7 @@ use std::marker::Model;
 pub struct Sorted<'a, P: PointSet + Copy> {
     log: Log<'a, P>,
     sorting: Sorting,
-    atoms: Atoms,
+    firsts: FirstPoints,
 }
 
 impl<'a, P: PointSet + Copy> Model for Sorted<'a, P> {
@@ -44,8 +43,7 @@ impl<'a, P: PointSet + Copy> Model for Sorted<'a, P> {
     ghost use Rattle.semantics.specs.declared.command.Command.TheVariants.{Check};
     ghost use Rattle.vocabulary.specs.Prelude.{graph_of, Tables};
     ghost use Rattle.point_laws.specs.Alike.{AreFirsts};
-    ghost use Rattle.atoms.specs.Atoms.{first_points};
-    ghost use Rattle.log_findings.specs.Findings.{table_fault};
+        ghost use Rattle.log_findings.specs.Findings.{table_fault};
     ghost use Rattle.log_findings.specs.Sorted.{AreSorted};
 
     ghost Value = { Tables };
@@ -53,7 +51,7 @@ impl<'a, P: PointSet + Copy> Model for Sorted<'a, P> {
     ghost view = { λ s. s.log };
 
     ghost invariant = { λ s. (table_fault Check s.log ≡ None) × AreSorted (graph_of s.log.nodes) s.sorting
-        × AreFirsts s.log (first_points s.atoms) };
+        × AreFirsts s.log s.firsts };
 }
 
 /// The nodes of a log sorted, or the cycle that is shown.
@@ -70,33 +68,33 @@ fn sorting_of_log<'a, P: ArenaSet<'a>>(alloc: Global, log: &Log<'a, P>) -> Resul
     }
 }
 
-/// The runs of points of a log that no space divides.
-fn atoms_of<'a, P: ArenaSet<'a>>(alloc: Global, log: &Log<'a, P>) -> Result<Atoms, Stop>
-    ensures firsts { IfOk result (λ atoms. AreFirsts log.now (first_points atoms)) }
+/// The first points of a log, one of each kind.
+fn firsts_of<'a, P: ArenaSet<'a>>(alloc: Global, log: &Log<'a, P>) -> Result<FirstPoints, Stop>
+    ensures firsts { IfOk result (AreFirsts log.now) }
     ensures stop { IfErr result (λ stop. stop ≡ Stop.Memory) }
 {
-    match Atoms::build(alloc, log.rects()) {
-        Ok(atoms) => Ok(atoms),
+    match FirstPoints::of(alloc, log) {
+        Ok(firsts) => Ok(firsts),
         Err(_) => Err(Stop::Memory),
     }
 }
 
-/// The nodes of a log sorted, or the cycle that is shown, and the runs of its points that no space divides.
+/// The nodes of a log sorted, or the cycle that is shown, and its first points.
 pub(crate) fn sorted_parts<'a, P: ArenaSet<'a>>(
     alloc: Global,
     log: &Log<'a, P>,
-) -> Result<(Sorting, Atoms), Stop>
+) -> Result<(Sorting, FirstPoints), Stop>
     requires { table_fault Check log.now ≡ None }
     ensures sorted { IfOk result (λ parts. AreSorted (graph_of log.now.nodes) parts.0) }
-    ensures firsts { IfOk result (λ parts. AreFirsts log.now (first_points parts.1)) }
+    ensures firsts { IfOk result (λ parts. AreFirsts log.now parts.1) }
     ensures stop { IfErr result (IsStop (FindsCycle log.now)) }
 {
     let sorting = match sorting_of_log(alloc, log) {
         Ok(sorting) => sorting,
         Err(stop) => return Err(stop),
     };
-    match atoms_of(alloc, log) {
-        Ok(atoms) => Ok((sorting, atoms)),
+    match firsts_of(alloc, log) {
+        Ok(firsts) => Ok((sorting, firsts)),
         Err(stop) => {
             drop(sorting);
             Err(stop)
@@ -109,11 +107,11 @@ fn raced<'a, P: ArenaSet<'a>>(
     alloc: Global,
     log: &Log<'a, P>,
     sorting: &Sorting,
-    atoms: &Atoms,
+    firsts: &FirstPoints,
 ) -> Result<(), Stop>
     requires faultless { table_fault Check log.now ≡ None }
     requires sorted { AreSorted (graph_of log.now.nodes) sorting.now }
-    requires firsts { AreFirsts log.now (first_points atoms.now) }
+    requires firsts { AreFirsts log.now firsts.now }
     ensures free { OnOk result (IsRaceFree log.now) }
     ensures stop { IfErr result (IsStop (FindsRace log.now)) }
 {
@@ -123,7 +121,7 @@ fn raced<'a, P: ArenaSet<'a>>(
         &sorting.graph,
         &sorting.order,
         &sorting.reach,
-        atoms,
+        firsts,
     ) {
         Ok(()) => Ok(()),
         Err(ScanEnd::Race { a, b, cell }) => {
@@ -136,16 +134,16 @@ fn raced<'a, P: ArenaSet<'a>>(
 
 impl<'a, P: ArenaSet<'a>> Sorted<'a, P> {
     /// The log with its nodes sorted.
-    pub(crate) fn of(log: Log<'a, P>, sorting: Sorting, atoms: Atoms) -> Sorted<'a, P>
+    pub(crate) fn of(log: Log<'a, P>, sorting: Sorting, firsts: FirstPoints) -> Sorted<'a, P>
         requires faultless { table_fault Check log ≡ None }
         requires sorted { AreSorted (graph_of log.nodes) sorting }
-        requires firsts { AreFirsts log (first_points atoms) }
+        requires firsts { AreFirsts log firsts }
         ensures { result ≡ log.entry }
     {
         Sorted {
             log,
             sorting,
-            atoms,
+            firsts,
         }
     }
 
@@ -155,14 +153,14 @@ impl<'a, P: ArenaSet<'a>> Sorted<'a, P> {
         ensures faultless { table_fault Check self.entry ≡ None }
     {
         drop(self.sorting);
-        drop(self.atoms);
+        drop(self.firsts);
         self.log
     }
 
     /// Lets the log go.
     pub(crate) fn let_go(self) {
         drop(self.sorting);
-        drop(self.atoms);
+        drop(self.firsts);
         self.log.let_go();
     }
 
@@ -183,7 +181,7 @@ impl<'a, P: ArenaSet<'a>> Sorted<'a, P> {
         ensures sound_long { OnOk result (IsSoundLong self.now) }
         ensures stop_long { IfErr result (IsStop (CheckFindsLong self.now)) }
     {
-        judged_reads(alloc, &self.log, &self.sorting, &self.atoms)
+        judged_reads(alloc, &self.log, &self.sorting, &self.firsts)
     }
 
     /// What `why` finds: the links of the read that is asked for, or that there is none.
@@ -201,7 +199,7 @@ impl<'a, P: ArenaSet<'a>> Sorted<'a, P> {
         ensures free { OnOk result (IsRaceFree self.entry) }
         ensures stop { IfErr result (IsStop (FindsRace self.entry)) }
     {
-        match raced(alloc, &self.log, &self.sorting, &self.atoms) {
+        match raced(alloc, &self.log, &self.sorting, &self.firsts) {
             Ok(()) => Ok(Clean::of(self)),
             Err(stop) => {
                 self.let_go();

@@ -7,7 +7,7 @@ use Rattle.serial_scan.proofs.scan.search_start.Goals as goal
 pub returns : goal.returns
 returns g c =
     let t = c.args.log.now in
-    let firsts = c.firsts.result.now in
-    let are : AreFirsts t firsts = subst (AreFirsts t) (sym c.firsts.ensures.firsts) (c.in_ok-atoms.ensures.firsts t c.rects.ensures.rects c.rects.ensures.drawn) in
+    let firsts = c.as_slice.result.now in
+    let are : AreFirsts t firsts = subst (AreFirsts t) (sym c.as_slice.ensures.points) c.in_ok-firsts.ensures.firsts in
     none_turned t firsts c.in_ok-claims.claims.items c.in_ok-first.first are c.in_ok-claims.ensures.all
     (subst (λ cs. AreClearBefore t firsts cs c.in_ok-first.first) c.deref.ensures.value c.in_ok-first.ensures)

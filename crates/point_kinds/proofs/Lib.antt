@@ -1,0 +1,4 @@
+mod Giving
+mod Leading
+mod Telling
+mod Walking

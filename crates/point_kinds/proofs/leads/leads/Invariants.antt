@@ -1,0 +1,9 @@
+use Rattle.std.proofs.Common.{◌≡◌, length}
+use Rattle.point_kinds.proofs.Leading.{AreLeadsSoFar}
+use Rattle.point_kinds.proofs.leads.leads.Given as goal
+
+abbrev pub invariant-loop-k : goal.invariant-loop-k
+invariant-loop-k l = record {
+  each : length l.seen.items ≡ l.end;
+  so_far : AreLeadsSoFar l.k l.numbers l.points l.seen.items l.leads.items;
+}
