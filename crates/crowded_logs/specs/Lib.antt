@@ -1,0 +1,4 @@
+pub mod Noted
+pub mod Crowded
+pub use Rattle.semantics.specs.Faults
+pub use Rattle.semantics.specs.Rules
