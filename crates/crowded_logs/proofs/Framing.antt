@@ -1,15 +1,14 @@
 -- What is noted of a log's records tells the fault of its frame.
-use Rattle.std.proofs.Common.{◌≡◌, ℕ, ◌+◌, ◌-◌, ◌*◌, ◌≤◌, ◌<◌, ◌==◌, arith, Bool, true, false, not, cond, List, [], ◌∷◌, length, fold, find, Option, Some, None, option_map, is_some, refl, sym, ap, ◌∙◌, inl, inr}
+use Rattle.std.proofs.Common.{◌≡◌, ℕ, ◌+◌, ◌-◌, ◌≤◌, ◌<◌, ◌==◌, arith, Bool, true, false, not, cond, List, [], ◌∷◌, length, find, Option, Some, None, option_map, is_some, refl, sym, ap, ◌∙◌, inl, inr}
 use Rattle.std.specs.Option.{option_or, option_map_or}
 use Rattle.std.proofs.lemmas.Bool.{cases_Bool, ne_eqb}
-use Rattle.std.proofs.lemmas.Option.{none-some}
-use Rattle.vocabulary.specs.Prelude.{Code, Record, Lined, Fault}
+use Rattle.vocabulary.specs.Prelude.{Record, Lined, Fault}
 use Rattle.spy_grammar.specs.declared.code.Code.TheVariants as codes
 use Rattle.spy_grammar.specs.declared.record.Record.TheVariants.{End}
 use Rattle.semantics.specs.Faults.{at_line, opens, is_header, is_end, miscounts, first_with, header_fault, ended_fault, count_fault}
 use Rattle.crowded_logs.specs.declared.frame.EndLine.{EndLine}
 use Rattle.crowded_logs.specs.declared.frame.Frame.{Frame}
-use Rattle.crowded_logs.specs.Noted.{breaks_header, end_on, with_framed, with_all_framed, frame_of, no_frame, ended_noted, count_noted, frame_fault}
+use Rattle.crowded_logs.specs.Noted.{end_on, with_framed, with_all_framed, frame_of, no_frame, ended_noted, count_noted, frame_fault}
 
 or_or : {X : Type 0} (o p q : Option X) → option_or (option_or o p) q ≡ option_or o (option_or p q)
 or_or None p q = refl
@@ -106,7 +105,7 @@ ended_told lines f (l ∷ log) none nothing =
           let some = end_noted f l none true here in
           ap (λ b. cond b (first_with codes.Ended (λ r. true) log) (ended_fault lines log)) here
           ∙ sym (ap (λ b. cond b (option_map (at_line codes.Ended) all.after) (Some (at_line codes.Ended (lines + 1))))
-              (ap is_some (end_kept more log some) ∙ some)
+          (ap is_some (end_kept more log some) ∙ some)
           ∙ after_told more log some
           ∙ ap (λ o. option_or (option_map (at_line codes.Ended) o) (first_with codes.Ended (λ r. true) log)) (none_after f l none nothing))
       | inr other ↦

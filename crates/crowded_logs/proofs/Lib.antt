@@ -1,1 +1,4 @@
+mod Tests
+mod Answering
 mod Framing
+mod Crowding
