@@ -93,7 +93,8 @@ impl Frame {
     /// The frame of some records.
     pub fn of(records: &[Lined]) -> Frame
         requires { length records.now < 2 ^ 32 }
-        ensures { result ≡ frame_of records.now }
+        ensures noted { result ≡ frame_of records.now }
+        ensures count { result.count ≡ length records.now }
     {
         let mut frame = Frame::new();
         for l in records {

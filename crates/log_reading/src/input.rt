@@ -18,7 +18,7 @@ use spy_lines::{LineList, Lines};
 use std::alloc::Global;
 
 /// The lines of an input, over its bytes, or the fault of an input that is too long or ends within a line.
-pub(crate) fn lines_of<L: LogLine>(bytes: Vec<u8>) -> Result<LineList, SpellEnd>
+pub fn lines_of<L: LogLine>(bytes: Vec<u8>) -> Result<LineList, SpellEnd>
     ensures bytes { IfOk result (λ lines. with_ends lines ≡ bytes.items) }
     ensures lines { IfOk result (λ lines. All IsLine lines) }
     ensures short { OnOk result (length bytes.items ≤ MOST_BYTES) }

@@ -10,7 +10,7 @@ mod kept_records;
 mod log_line;
 mod reading;
 
-pub use input::{input_in, launch_input_in, nested_input_in};
+pub use input::{input_in, launch_input_in, lines_of, nested_input_in};
 pub use kept_records::kept_text;
 pub use log_line::LogLine;
-pub use reading::{Input, SpellEnd, read_records};
+pub use reading::{Input, SpellEnd, read_records, said_on};

@@ -52,7 +52,7 @@ fn end_of(line: u32, fault: LineFault) -> SpellEnd
 }
 
 /// What one line says, unless it is passed over.
-pub(crate) fn said_on<L: LogLine>(
+pub fn said_on<L: LogLine>(
     alloc: Global,
     line: u32,
     text: &[u8],

@@ -1,0 +1,3 @@
+mod Gathering
+mod Keeping
+mod Leading

@@ -1,0 +1,32 @@
+-- What an input spells, as far as it is kept.
+use Rattle.std.specs.Prelude.{◌≡◌, ℕ, ◌≤◌, All, List, length}
+use Rattle.vocabulary.specs.Prelude.{Good, AreLines, Lined}
+use Rattle.semantics.specs.declared.limits.TheConstants.{MOST_BYTES}
+use Rattle.crowded_logs.specs.Crowded.{IsKeptOf}
+use Rattle.crowded_logs.specs.Noted.{frame_of}
+use Rattle.log_reading.specs.Spelled.{Spells}
+use Rattle.log_reading.specs.declared.reading.Input.{Input}
+use Rattle.log_input.specs.declared.input.CrowdedInput.{CrowdedInput}
+use Rattle.log_input.specs.declared.input.LogInput.{LogInput}
+use Rattle.log_input.specs.declared.input.LogInput.TheVariants.{Whole, Crowded}
+
+-- The input spells just these records.
+pub record SpellsWhole (bytes : List ℕ) (input : Input Lined) : Type 0 where
+  pub spelled : Spells bytes input.lines input.records.items
+  pub good : All (λ (l : Lined). Good l.rec) input.records.items
+  pub lines : AreLines input.lines input.records.items
+
+-- The input spells a crowded log, of which this is kept.
+pub record SpellsCrowded (bytes : List ℕ) (input : CrowdedInput) : Type 0 where
+  pub log : List Lined
+  pub spelled : Spells bytes input.lines log
+  pub kept : IsKeptOf log input.kept.items
+  pub frame : input.frame ≡ frame_of log
+  pub good : All (λ (l : Lined). Good l.rec) input.kept.items
+  pub few_kept : length input.kept.items ≤ MOST_BYTES
+  pub few_lines : input.lines ≤ MOST_BYTES
+
+-- What an input spells.
+abbrev pub IsInput : List ℕ → LogInput → Type 0
+IsInput bytes (Whole input) = SpellsWhole bytes input
+IsInput bytes (Crowded input) = SpellsCrowded bytes input
