@@ -1,7 +1,7 @@
 -- One record more of a crowded log, kept or let go.
-use Rattle.std.proofs.Common.{◌≡◌, ℕ, ◌==◌, Bool, true, false, not, ◌&&◌, ◌||◌, List, [], ◌∷◌, ◌++◌, Option, Some, None, fold, refl, sym, ap, subst, ◌∙◌, append_assoc, eqb-true}
+use Rattle.std.proofs.Common.{◌≡◌, ℕ, ◌==◌, Bool, true, false, not, ◌&&◌, ◌||◌, List, [], ◌∷◌, ◌++◌, Option, Some, None, refl, sym, ap, subst, ◌∙◌, append_assoc, eqb-true}
 use Rattle.std.specs.Prelude.{unwrap_or}
-use Rattle.std.specs.List.{list_any, list_all, flat_map}
+use Rattle.std.specs.List.{list_any, list_all}
 use Rattle.std.specs.Option.{option_map, option_map_or}
 use Rattle.std.proofs.lemmas.List.Folds.{list_any-append}
 use Rattle.std.proofs.lemmas.List.Sums.{fold-append}
@@ -10,7 +10,7 @@ use Rattle.vocabulary.specs.Prelude.{Record, Lined, Node, is_in, records_of}
 use Rattle.spy_grammar.specs.declared.record.Record.TheVariants.{Run}
 use Rattle.semantics.specs.Rules.{node_of, completes, runs_task, items_listed, items_declared}
 use Rattle.crowded_logs.specs.declared.frame.Frame.{Frame}
-use Rattle.crowded_logs.specs.Crowded.{waits_on, declares_task, lists_items, ids_listed, has_unlisted, Answer}
+use Rattle.crowded_logs.specs.Crowded.{lists_items, ids_listed, has_unlisted, Answer}
 use Rattle.crowded_logs.specs.Noted.{frame_of, no_frame, with_framed}
 use Rattle.log_input.specs.declared.asked.Asked.{Asked}
 use Rattle.log_input.specs.declared.answered.Answered.{Answered}

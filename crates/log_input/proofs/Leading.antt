@@ -37,7 +37,7 @@ lead_more number lines log after next text rest None says is lead more h =
 lead_more number lines log after next text rest (Some l) says is lead more h =
     let one = on_line next says.0 in
     let same : log ++ one ∷ more ≡ after ++ more =
-        sym (ap (λ ls. ls ++ more) (is ∙ ap (λ (k : Lined). log ++ k ∷ []) says.3) ∙ append_assoc log (one ∷ []) more) in
+    sym (ap (λ ls. ls ++ more) (is ∙ ap (λ (k : Lined). log ++ k ∷ []) says.3) ∙ append_assoc log (one ∷ []) more) in
     subst (Hold number lines) same (lead (one ∷ more) (inr (says.0, more, says.1, says.2, refl, h)))
 
 pub good_if : (line : ℕ) (text : List ℕ) (said : Option Lined) → SaysBy Good spelling on_line line text said → IsGoodIf said

@@ -1,3 +1,4 @@
 mod Gathering
 mod Keeping
 mod Leading
+mod Spelling

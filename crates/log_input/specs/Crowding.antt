@@ -1,5 +1,5 @@
 -- A crowded log, as far as its records are read.
-use Rattle.std.specs.Prelude.{◌≡◌, ℕ, ◌≤◌, List, ◌++◌, length}
+use Rattle.std.specs.Prelude.{◌≡◌, List, ◌++◌}
 use Rattle.vocabulary.specs.Prelude.{Lined, records_of}
 use Rattle.crowded_logs.specs.Crowded.{Answer}
 use Rattle.crowded_logs.specs.Noted.{frame_of}

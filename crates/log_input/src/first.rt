@@ -53,6 +53,7 @@ pub(crate) fn first_records(alloc: Global, lines: &mut KeptLines) -> Result<Firs
     ensures lead { IfOk result (λ first. Lead 1 lines.old.rest first.records.items first.next lines.new.rest) }
     ensures clean { IfOk result (λ first. lines_fault 1 lines.old.rest ≡ lines_fault first.next lines.new.rest) }
     ensures count { IfOk result (λ first. first.next + length lines.new.rest ≡ length lines.old.rest + 1) }
+    ensures before { IfOk result (λ first. length first.records.items < first.next) }
     ensures whole { IfOk result (λ first. length first.records.items < crowd_count → lines.new.rest ≡ []) }
     ensures few { IfOk result (λ first. length first.records.items ≤ crowd_count) }
     ensures good { IfOk result (λ first. All (λ l. Good l.rec) first.records.items) }

@@ -4,6 +4,7 @@ ghost use Rattle.std.specs.Prelude.{◌≡◌, ◌≤◌, ◌+◌, ◌<◌, ◌^
 ghost use Rattle.vocabulary.specs.Prelude.{Good, line_at};
 ghost use Rattle.semantics.specs.TextFaults.{lines_fault};
 ghost use Rattle.log_reading.specs.Spelled.{EndsBy, HasFault, HasFaultOfLines};
+ghost use Rattle.semantics.specs.declared.limits.TheConstants.{MOST_BYTES};
 ghost use Rattle.crowded_logs.specs.Crowded.{crowd_count};
 ghost use Rattle.log_input.specs.Lines.{AreRead, IsCrowdOf};
 ghost use Rattle.log_input.specs.Inputs.{IsInput};
@@ -48,7 +49,11 @@ fn kept_input(crowding: Crowding, lines: u32) -> CrowdedInput
 }
 
 /// What is kept of a log whose first records make it crowded. The lines after them are left.
-fn crowded_input(alloc: Global, first: First, mut lines: KeptLines) -> Result<CrowdedInput, SpellEnd>
+fn crowded_input(
+    alloc: Global,
+    first: First,
+    mut lines: KeptLines,
+) -> Result<CrowdedInput, SpellEnd>
     requires many { length first.records.items ≡ crowd_count }
     requires good { All (λ l. Good l.rec) first.records.items }
     requires few { first.next + length lines.rest ≤ 2 ^ 26 + 1 }
@@ -64,8 +69,8 @@ fn crowded_input(alloc: Global, first: First, mut lines: KeptLines) -> Result<Cr
 
 /// What lines say.
 fn lines_read(alloc: Global, list: LineList) -> Result<LogInput, SpellEnd>
-    requires { length list ≤ 2 ^ 26 }
     ensures read { IfOk result (AreRead list) }
+    ensures few { OnOk result (length list ≤ MOST_BYTES) }
     ensures clean { OnOk result (lines_fault 1 list ≡ None) }
     ensures fault { EndsBy (HasFaultOfLines line_at list) result }
 {

@@ -52,11 +52,7 @@ fn end_of(line: u32, fault: LineFault) -> SpellEnd
 }
 
 /// What one line says, unless it is passed over.
-pub fn said_on<L: LogLine>(
-    alloc: Global,
-    line: u32,
-    text: &[u8],
-) -> Result<Option<L>, SpellEnd>
+pub fn said_on<L: LogLine>(alloc: Global, line: u32, text: &[u8]) -> Result<Option<L>, SpellEnd>
     ensures said { IfOk result (SaysBy L.good L.spelled L.on line text.now) }
     ensures clean { OnOk result (line_fault line (L.read text.now) ≡ None) }
     ensures fault { EndsBy (HasFaultOfLine L.read line text.now) result }

@@ -1,4 +1,4 @@
-use Rattle.std.proofs.Common.{◌≡◌, ◌∷◌, ◌+◌, ◌<◌, ◌≤◌, List, ℕ, arith, Err, ap, sym, subst, ◌∙◌, length, drop, nat_lt}
+use Rattle.std.proofs.Common.{◌+◌, arith, Err, ap, sym, subst, ◌∙◌, length, drop, nat_lt}
 use Rattle.std.specs.Option.{option_map}
 use Rattle.std.proofs.lemmas.Bool.{lt-ltb, ltb-true}
 use Rattle.semantics.specs.TextFaults.{lines_fault}
@@ -31,11 +31,21 @@ loop-text-preserved c =
       fault = c.loop-text.invariant.fault ∙ fault_behind n before.rest text rest wanted.1 c.in_ok-said.ensures.clean ∙ ap (lines_fault (n + 1)) (sym passed);
       count = omega (arith, c.loop-text.invariant.count, ap length wanted.1, ap length passed);
       few =
-          omega (arith, c.len.ensures, ltb-true c.len.result crowd_count wanted.0,
-          said_few c.loop-text.records.items c.in_ok-said.said c.add_said.new.records.items c.in_ok-add_said.ensures.said);
+          omega (
+            arith,
+            c.len.ensures,
+            ltb-true c.len.result crowd_count wanted.0,
+            said_few c.loop-text.records.items c.in_ok-said.said c.add_said.new.records.items c.in_ok-add_said.ensures.said,
+          );
       good =
           said_good c.loop-text.records.items c.in_ok-said.said c.add_said.new.records.items c.in_ok-add_said.ensures.said
           (good_if n text c.in_ok-said.said c.in_ok-said.ensures.said) c.loop-text.invariant.good;
+      before =
+          omega (
+            arith,
+            c.loop-text.invariant.before,
+            said_few c.loop-text.records.items c.in_ok-said.said c.add_said.new.records.items c.in_ok-add_said.ensures.said,
+          );
       short = omega (arith, c.loop-text.invariant.short, ap length wanted.1, ap length passed);
     }
 

@@ -1,4 +1,4 @@
-use Rattle.std.proofs.Common.{◌≡◌, ◌+◌, ◌≤◌, ◌^◌, All, length}
+use Rattle.std.proofs.Common.{◌≡◌, ◌+◌, ◌<◌, ◌≤◌, ◌^◌, All, length}
 use Rattle.vocabulary.specs.Prelude.{Good, Lined}
 use Rattle.semantics.specs.TextFaults.{lines_fault}
 use Rattle.crowded_logs.specs.Crowded.{crowd_count}
@@ -12,6 +12,7 @@ invariant-loop-text l = record {
   count : l.next + length l.lines.rest ≡ length l.fn.lines.rest + 1;
   few : length l.records.items ≤ crowd_count;
   good : All (λ (k : Lined). Good k.rec) l.records.items;
+  before : length l.records.items < l.next;
   short : l.next + length l.lines.rest ≤ 2 ^ 26 + 1;
 }
 

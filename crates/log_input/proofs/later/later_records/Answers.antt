@@ -1,4 +1,4 @@
-use Rattle.std.proofs.Common.{◌≡◌, [], ◌∷◌, ◌+◌, ◌<◌, ◌≤◌, List, ℕ, Err, arith, ap, refl, sym, subst, ◌∙◌, length, drop}
+use Rattle.std.proofs.Common.{◌≡◌, [], ◌+◌, Err, arith, ap, refl, sym, subst, ◌∙◌, length, drop}
 use Rattle.std.specs.Option.{option_map}
 use Rattle.std.proofs.lemmas.List.{append-nil}
 use Rattle.vocabulary.specs.Prelude.{Hold}

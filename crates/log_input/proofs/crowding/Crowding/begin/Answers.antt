@@ -1,4 +1,4 @@
-use Rattle.std.proofs.Common.{◌≡◌, List, [], refl, sym, ap, subst, ◌∙◌}
+use Rattle.std.proofs.Common.{[], sym, ap, subst, ◌∙◌}
 use Rattle.std.proofs.lemmas.List.{append-nil}
 use Rattle.vocabulary.specs.Prelude.{records_of}
 use Rattle.crowded_logs.specs.Noted.{frame_of}
@@ -14,4 +14,3 @@ returns-clause-crowding c = record {
   answer = record { part = λ p e. e; events = λ n asks e. e; tasks = λ n asks e. e; lists = λ e. e; items = λ e. e };
   frame_is = c.of-frame.ensures.noted ∙ ap frame_of (c.deref-2.ensures.value ∙ sym (append-nil c.args.first.items));
 }
-

@@ -1,4 +1,4 @@
-use Rattle.std.proofs.Common.{◌≡◌, List, [], ◌∷◌, ◌++◌, All, refl, sym, ap, subst, ◌∙◌}
+use Rattle.std.proofs.Common.{All, refl, sym, ap, subst, ◌∙◌}
 use Rattle.std.proofs.lemmas.List.Elements.{All-push}
 use Rattle.vocabulary.specs.Prelude.{Good, Lined}
 use Rattle.log_input.proofs.Keeping.{crowding_kept, crowding_passed}
