@@ -1,4 +1,5 @@
-mod Tests
+pub mod lemmas
 mod Answering
-mod Framing
 mod Crowding
+mod Framing
+mod Tests

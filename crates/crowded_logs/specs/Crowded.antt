@@ -5,6 +5,8 @@ use Rattle.std.specs.Option.{option_map_or}
 use Rattle.vocabulary.specs.Prelude.{Record, Lined, Node, records_of, is_in, is_within}
 use Rattle.spy_grammar.specs.declared.record.Record.TheVariants.{Task}
 use Rattle.semantics.specs.declared.limits.TheConstants.{MOST_RECORDS}
+use Rattle.crowded_logs.specs.declared.frame.Frame.{Frame}
+use Rattle.crowded_logs.specs.Noted.{frame_of}
 use Rattle.semantics.specs.Rules.{node_of, completes, runs_task, items_listed, items_declared}
 
 -- So many records of a log make it crowded: of the first of them, which is the header, all but two keep the
@@ -57,3 +59,8 @@ pub record IsKeptOf (log kept : List Lined) : Type 0 where
   pub kept_is : kept ≡ first ++ kept_later
   pub many : length first ≡ crowd_count
   pub answer : Answer (records_of first) (records_of later) (records_of kept_later)
+
+-- What is kept of a crowded log, and what is noted of its frame.
+pub record IsToldBy (log kept : List Lined) (frame : Frame) : Type 0 where
+  pub is_kept : IsKeptOf log kept
+  pub frame_is : frame ≡ frame_of log

@@ -42,7 +42,7 @@ fn walked<'a, P: ArenaRects<'a>>(
 /// Adds the records of a log to a draft in which nothing is declared, and judges their forest; or the fault of the first that breaks a rule.
 ///
 /// Where the walk ends at a record that breaks a rule, a subspace before it may still be refused by the forest.
-fn grow<'a, P: ArenaRects<'a>>(
+pub(crate) fn grow<'a, P: ArenaRects<'a>>(
     draft: &mut Draft<P>,
     alloc: Global,
     bump: &'a Bump,

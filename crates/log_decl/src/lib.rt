@@ -7,6 +7,7 @@
 #![tactic(auto)]
 
 mod broken;
+mod crowded;
 mod decl_end;
 mod declaring;
 mod frame;
@@ -15,6 +16,7 @@ mod regions;
 mod sizes;
 mod walk;
 
+pub use crowded::crowded_fault;
 pub use decl_end::DeclEnd;
 pub use logs::Log;
 pub use records::{are_log_records, declare};

@@ -31,8 +31,7 @@ module _ (bytes : List ℕ) (list : List (List ℕ)) (whole : with_ends list ≡
   read_spells (Crowded input) few read = record {
     log = read.log;
     spelled = spells input.lines read.log read.count read.hold;
-    kept = read.kept;
-    frame = read.frame;
+    told = record { is_kept = read.kept; frame_is = read.frame };
     good = read.good;
     few_kept = omega (arith, few, read.few);
     few_lines = omega (arith, few, read.count);
