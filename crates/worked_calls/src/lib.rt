@@ -19,6 +19,8 @@ mod inst_steps_tests;
 #[cfg(test)]
 mod interference_tests;
 #[cfg(test)]
+mod point_kinds_tests;
+#[cfg(test)]
 mod provenance_tests;
 #[cfg(test)]
 mod region_tree_tests;

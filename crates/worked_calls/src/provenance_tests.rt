@@ -7,10 +7,10 @@ ghost use Rattle.event_graph.specs.Orders.{IsOrderOf};
 
 use crate::framed_logs::log_of;
 use crate::graph_tests::graph_of;
-use atoms::Atoms;
 use bumpalo::Bump;
 use event_graph::{Order, nodes_in};
 use log_decl::Log;
+use point_kinds::FirstPoints;
 use provenance::{TraceEnd, trace};
 use race_scan::scan;
 use reach_marks::Reach;
@@ -166,13 +166,13 @@ fn ask<'a, P: ArenaSet<'a>>(
     let Ok(order) = graph.order(alloc) else {
         return Err("a cycle".into());
     };
-    let (Ok(reach), Ok(atoms)) = (
+    let (Ok(reach), Ok(firsts)) = (
         Reach::build(alloc, &graph, &order),
-        Atoms::build(alloc, log.rects()),
+        FirstPoints::of(alloc, log),
     ) else {
         return Err("no memory".into());
     };
-    match scan(alloc, log, &graph, &order, &reach, &atoms) {
+    match scan(alloc, log, &graph, &order, &reach, &firsts) {
         Ok(()) => is_found(traced(alloc, log, &order, read), found),
         Err(_) => Err("a race".into()),
     }

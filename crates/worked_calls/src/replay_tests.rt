@@ -5,16 +5,15 @@ ghost use Rattle.vocabulary.specs.Prelude.{graph_of};
 ghost use Rattle.semantics.specs.Faults.{unmapped_fault};
 ghost use Rattle.event_graph.specs.Orders.{IsOrderOf};
 ghost use Rattle.point_laws.specs.Alike.{AreFirsts};
-ghost use Rattle.atoms.specs.Atoms.{first_points};
 ghost use Rattle.serial_exec.specs.Kept.{AreVersionsAt};
 
 use crate::framed_logs::log_of;
 use crate::graph_tests::graph_of;
 use crate::values::{Written, value_of};
-use atoms::Atoms;
 use bumpalo::Bump;
 use event_graph::{Order, nodes_in};
 use log_decl::Log;
+use point_kinds::FirstPoints;
 use race_scan::{ScanEnd, scan};
 use reach_marks::Reach;
 use region_tree::ArenaSet;
@@ -56,15 +55,15 @@ const CASES: [(&[u8], Found<'static>); 3] = [
     ),
 ];
 
-/// What a log wants at the first points of its atoms.
+/// What a log wants at its first points.
 fn versions_on<'a, P: ArenaSet<'a>>(
     alloc: Global,
     log: &Log<'a, P>,
-    atoms: &Atoms,
+    firsts: &FirstPoints,
 ) -> Result<Versions, Memory>
-    ensures { IfOk result (AreVersionsAt (first_points atoms.now) log.now) }
+    ensures { IfOk result (AreVersionsAt firsts.now log.now) }
 {
-    let points = atoms.firsts();
+    let points = firsts.as_slice();
     let versions = Versions::build_on(alloc, log, points)?;
     Ok(versions)
 }
@@ -73,45 +72,45 @@ fn versions_on<'a, P: ArenaSet<'a>>(
 fn versions_of<'a, P: ArenaSet<'a>>(
     alloc: Global,
     log: &Log<'a, P>,
-    atoms: &Atoms,
+    firsts: &FirstPoints,
 ) -> Result<Versions, Memory>
-    ensures { IfOk result (AreVersionsAt (first_points atoms.now) log.now) }
+    ensures { IfOk result (AreVersionsAt firsts.now log.now) }
 {
-    let _points = atoms.firsts();
+    let _points = firsts.as_slice();
     let versions = Versions::build(alloc, log)?;
     Ok(versions)
 }
 
-/// What a log wants at the first points of its atoms, or at all points.
+/// What a log wants at its first points, or at all points.
 fn versions_by<'a, P: ArenaSet<'a>>(
     alloc: Global,
     log: &Log<'a, P>,
-    atoms: &Atoms,
+    firsts: &FirstPoints,
     by_all: bool,
 ) -> Result<Versions, Memory>
-    ensures { IfOk result (AreVersionsAt (first_points atoms.now) log.now) }
+    ensures { IfOk result (AreVersionsAt firsts.now log.now) }
 {
     if by_all {
-        versions_of(alloc, log, atoms)
+        versions_of(alloc, log, firsts)
     } else {
-        versions_on(alloc, log, atoms)
+        versions_on(alloc, log, firsts)
     }
 }
 
-/// Replays a log in its order, at the first points of its atoms, by what it wants there or at all points.
+/// Replays a log in its order, at its first points, by what it wants there or at all points.
 fn replay_by<'a, P: ArenaSet<'a>>(
     alloc: Global,
     log: &Log<'a, P>,
     order: &Order,
-    atoms: &Atoms,
+    firsts: &FirstPoints,
     by_all: bool,
 ) -> Result<Result<Reads, ReplayEnd>, Memory>
     requires mapped { unmapped_fault log.now ≡ None }
     requires order { IsOrderOf (graph_of log.now.nodes) order.now }
-    requires atoms { AreFirsts log.now (first_points atoms.now) }
+    requires firsts { AreFirsts log.now firsts.now }
 {
-    let versions = versions_by(alloc, log, atoms, by_all)?;
-    Ok(replay(alloc, log, order, &versions, atoms))
+    let versions = versions_by(alloc, log, firsts, by_all)?;
+    Ok(replay(alloc, log, order, &versions, firsts))
 }
 
 /// Whether a replay ended as a case says.
@@ -153,17 +152,17 @@ fn ask<'a, P: ArenaSet<'a>>(
     let Ok(order) = graph.order(alloc) else {
         return Err("a cycle".into());
     };
-    let (Ok(reach), Ok(atoms)) = (
+    let (Ok(reach), Ok(firsts)) = (
         Reach::build(alloc, &graph, &order),
-        Atoms::build(alloc, log.rects()),
+        FirstPoints::of(alloc, log),
     ) else {
         return Err("no memory".into());
     };
-    match scan(alloc, log, &graph, &order, &reach, &atoms) {
+    match scan(alloc, log, &graph, &order, &reach, &firsts) {
         Ok(()) => {
             let (Ok(first), Ok(all)) = (
-                replay_by(alloc, log, &order, &atoms, false),
-                replay_by(alloc, log, &order, &atoms, true),
+                replay_by(alloc, log, &order, &firsts, false),
+                replay_by(alloc, log, &order, &firsts, true),
             ) else {
                 return Err("no memory".into());
             };
