@@ -1,13 +1,12 @@
 -- What a set and an ascending list have in common.
-use Rattle.std.proofs.Common.{◌≡◌, ℕ, zero, suc, ◌+◌, ◌-◌, ◌<◌, ◌≤◌, ◌^◌, min, inl, inr, ◌⊎◌, ◌↔◌, Bool, true, false, List, [], ◌∷◌, ◌++◌, map, filter, length, get_or, Option, Some, None, All, Contains, IsTrue, refl, sym, ap, ap₂, subst, arith}
-use Rattle.std.specs.List.{range_with_len}
+use Rattle.std.proofs.Common.{◌≡◌, ℕ, ◌<◌, ◌≤◌, ◌^◌, min, inl, inr, ◌⊎◌, ◌↔◌, Bool, true, false, List, [], ◌∷◌, filter, Option, Some, None, All, Contains, IsTrue, refl, sym, ap₂, subst, arith}
 use Rattle.std.specs.List.Sorted.{IsStrictlyIncreasing}
 use Rattle.std.proofs.lemmas.Bool.{cases_lt, true≢false, false_from_ne_true}
 use Rattle.std.proofs.lemmas.List.Elements.{All-filter}
 use Rattle.std.proofs.lemmas.List.Kept.{IsStrictlyIncreasing-filter}
 use Rattle.vocabulary.specs.Prelude.{is_in}
 use Rattle.point_set.specs.Least.{IsLeast, IsLeastFrom, IsLeastGap}
-use Rattle.point_set.proofs.lemmas.Ahead.{in_or_not, spread}
+use Rattle.point_set.proofs.lemmas.Ahead.{in_or_not}
 use Rattle.log_laws.proofs.lemmas.Members.{Member, member_of, contains_of, member_filter, filter_member, is_in_of, member_in}
 use Rattle.log_laws.proofs.lemmas.Apart.{Rise}
 use Rattle.point_laws.specs.Cut.{kept}

@@ -7,23 +7,23 @@ ghost use Rattle.vocabulary.specs.Prelude.{is_in};
 
 use point_set::{PointList, PointSet, next_from};
 
-/// The least common point from `low` on. Each step passes over a gap of the set or of the list.
+/// The least common point from `low` on. Each step passes over a gap of the list or of the set. Where the next listed point is common, it is found by one search in each.
 pub(crate) fn next_common<P: PointSet>(set: &P, listed: &[u64], low: u64) -> Option<u64>
     requires { IsStrictlyIncreasing listed.now }
     ensures { IsLeast (λ q. Contains (P.points set.now) q × Contains listed.now q × (low ≤ q)) result }
 {
     let mut from = low;
     loop {
-        let Some(ours) = set.next_from(from) else {
+        let Some(theirs) = next_from(listed, from) else {
             return None;
         };
-        let Some(theirs) = next_from(listed, ours) else {
+        let Some(ours) = set.next_from(theirs) else {
             return None;
         };
-        if theirs == ours {
-            return Some(ours);
+        if ours == theirs {
+            return Some(theirs);
         }
-        from = theirs;
+        from = ours;
     }
 }
 
