@@ -14,6 +14,6 @@ fn first_points_of_a_log(rt: HostRuntime) -> Result<(), Fail> {
     let found = FirstPoints::of(alloc, &log);
     log.let_go();
     let firsts = found.ok().ok_or("no memory")?;
-    assert_eq!(rt; firsts.as_slice(), [0, 4, 5, 7, 20, 22]);
+    assert_eq!(rt; firsts.as_slice(), [0u64, 4, 5, 7, 20, 22].as_slice());
     Ok(())
 }
