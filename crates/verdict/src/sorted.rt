@@ -43,7 +43,7 @@ impl<'a, P: PointSet + Copy> Model for Sorted<'a, P> {
     ghost use Rattle.semantics.specs.declared.command.Command.TheVariants.{Check};
     ghost use Rattle.vocabulary.specs.Prelude.{graph_of, Tables};
     ghost use Rattle.point_laws.specs.Alike.{AreFirsts};
-        ghost use Rattle.log_findings.specs.Findings.{table_fault};
+    ghost use Rattle.log_findings.specs.Findings.{table_fault};
     ghost use Rattle.log_findings.specs.Sorted.{AreSorted};
 
     ghost Value = { Tables };
