@@ -57,6 +57,42 @@ fn logs_that_ask_much(rt: HostRuntime) -> Result<(), Fail> {
     Ok(())
 }
 
+/// These lines, as many merges as a log may have records, and the other lines.
+fn crowded(alloc: Global, before: &[u8], after: &[u8]) -> Result<Vec<u8>, Fail> {
+    let mut lines = before.to_vec(alloc)?;
+    lines.extend_from_slice(&merges(alloc, 131_072)?)?;
+    lines.extend_from_slice(after)?;
+    Ok(lines)
+}
+
+/// Logs with too many records, whose first records ask of those that come after all that the limit allows.
+#[rattlefmt::skip]
+#[test]
+fn logs_with_too_many_records(rt: HostRuntime) -> Result<(), Fail> {
+    let alloc = rt.alloc();
+    let rows: [(&[u8], &[u8], &[u8]); 11] = [
+        (b"merge 200000 200001\n", b"merge 200001 -\nmerge 200002 -\n", b"fault 131074 too-many-records\n"),
+        (b"merge 200000 200003\n", b"merge 200001 -\nmerge 200002 -\n", b"fault 2 undefined-event\n"),
+        (b"task 1\n", b"run 1 200001 -\nmerge 200002 -\n", b"fault 131074 too-many-records\n"),
+        (b"task 1\n", b"merge 200001 -\nmerge 200002 -\n", b"fault 2 no-run\n"),
+        (b"task 1\nrun 1 200000 -\nserial 1\n", b"serial 1\n", b"fault 131074 too-many-records\n"),
+        (b"task 1\nrun 1 200000 -\nserial 1\n", b"task 2\nrun 2 200001 -\nserial 2\n", b"fault 131074 too-many-records\n"),
+        (b"task 1\nrun 1 200000 -\nserial 1\n", b"task 2\nrun 2 200001 -\n", b"fault 4 serial\n"),
+        (b"task 1\nrun 1 200000 -\nserial 1\n", b"merge 200001 -\n", b"fault 131074 too-many-records\n"),
+        (b"merge 200000 -\n", b"merge 200001 -\nlegion-spy 1\nlegion-spy 1\n", b"fault 131076 header\n"),
+        (b"merge 200000 -\n", b"merge 200001 -\nend 131074\nmerge 200002 -\n", b"fault 131077 ended\n"),
+        (b"merge 200000 -\n", b"merge 200001 -\nmerge x -\n", b"fault 131076 form\n"),
+    ];
+    for (before, after, report) in rows {
+        let lines = crowded(alloc, before, after)?;
+        let (_, said) = answer(alloc, "check", &framed(alloc, &lines)?)?;
+        assert_eq!(rt; said.as_slice(), report);
+        let (_, listed) = answer(alloc, "deps", &framed(alloc, &lines)?)?;
+        assert_eq!(rt; listed.as_slice(), report);
+    }
+    Ok(())
+}
+
 /// Each front of a log without the whole line of `end`: it ends within a line, or is empty, or has no `end`.
 #[test]
 fn logs_that_are_cut_off(rt: HostRuntime) -> Result<(), Fail> {
