@@ -5,3 +5,4 @@ mod Ending
 mod Expanding
 mod Printed
 mod Reports
+mod CrowdedFaults

@@ -8,6 +8,7 @@
 
 mod answering;
 mod checking;
+mod crowded;
 mod demo;
 mod judging;
 mod launching;

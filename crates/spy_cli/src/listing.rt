@@ -9,14 +9,18 @@ ghost use Rattle.semantics.specs.declared.limits.TheConstants.{MOST_BYTES};
 ghost use Rattle.findings.specs.declared.finding.Finding.TheVariants as findings;
 ghost use Rattle.findings.specs.Texts as reports;
 ghost use Rattle.outcomes.specs.Outcome.{IsFound, IsOutcome};
+ghost use Rattle.log_input.specs.Inputs.{IsInput, SpellsCrowded};
 ghost use Rattle.spy_cli.specs.Answers.{IsDecided, IsRead};
 ghost use Rattle.spy_cli.specs.Endings.{IsEnding, IsTold, IsToldInPart};
 
 use crate::answering::input_of;
+use crate::crowded::input_fault;
 use crate::status::Status;
 use crate::writing::{fault_written, written};
 use findings::cannot_read_text;
-use log_reading::{SpellEnd, input_in};
+use log_input::{CrowdedInput, LogInput, log_input};
+use log_reading::SpellEnd;
+use memory::Memory;
 use semantics::Command;
 use spy_args::Request;
 use spy_grammar::{Code, Lined};
@@ -51,6 +55,34 @@ fn records_listed<K: Sink>(alloc: Global, records: &Vec<Lined>, lines: u32, sink
     }
 }
 
+/// Writes what is found in an input whose log is crowded.
+fn crowded_listed<K: Sink>(alloc: Global, input: &CrowdedInput, sink: &mut K) -> Status
+    requires { (bytes : List ℕ) × SpellsCrowded bytes input.now }
+    ensures ends { (bytes : List ℕ) → SpellsCrowded bytes input.now → IsEnding (IsOutcome Deps bytes) result
+        (K.held sink.old) (K.held sink.new) (K.faults sink.old) (K.faults sink.new) }
+    ensures stopped { K.ended sink.old ≡ 0 → K.ended sink.new ≤ 1 }
+    ensures memory { result ≡ Status.Memory → sink.new ≡ sink.old }
+{
+    match input_fault(alloc, input) {
+        Ok(fault) => fault_written(alloc, fault.line, fault.code, sink),
+        Err(Memory) => Status::Memory,
+    }
+}
+
+/// Writes what is found in an input that is read.
+fn log_listed<K: Sink>(alloc: Global, input: &LogInput, sink: &mut K) -> Status
+    requires { (bytes : List ℕ) × IsInput bytes input.now }
+    ensures ends { (bytes : List ℕ) → IsInput bytes input.now → IsEnding (IsOutcome Deps bytes) result
+        (K.held sink.old) (K.held sink.new) (K.faults sink.old) (K.faults sink.new) }
+    ensures stopped { K.ended sink.old ≡ 0 → K.ended sink.new ≤ 1 }
+    ensures memory { result ≡ Status.Memory → sink.new ≡ sink.old }
+{
+    match input {
+        LogInput::Whole(input) => records_listed(alloc, &input.records, input.lines, sink),
+        LogInput::Crowded(input) => crowded_listed(alloc, input, sink),
+    }
+}
+
 /// Writes what is found in an input: the fault of its bytes and lines, or what is found in its records.
 fn input_listed<K: Sink>(alloc: Global, bytes: Vec<u8>, sink: &mut K) -> Status
     ensures ends { IsEnding (IsOutcome Deps bytes.items) result
@@ -58,8 +90,8 @@ fn input_listed<K: Sink>(alloc: Global, bytes: Vec<u8>, sink: &mut K) -> Status
     ensures stopped { K.ended sink.old ≡ 0 → K.ended sink.new ≤ 1 }
     ensures memory { result ≡ Status.Memory → sink.new ≡ sink.old }
 {
-    match input_in(alloc, bytes) {
-        Ok(input) => records_listed(alloc, &input.records, input.lines, sink),
+    match log_input(alloc, bytes) {
+        Ok(input) => log_listed(alloc, &input, sink),
         Err(SpellEnd::Fault { line, code }) => fault_written(alloc, line, code, sink),
         Err(SpellEnd::Memory) => Status::Memory,
     }

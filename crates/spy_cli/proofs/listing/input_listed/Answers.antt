@@ -1,24 +1,15 @@
-use Rattle.std.proofs.Common.{◌≡◌, Err, ap, inl, inr, subst}
+use Rattle.std.proofs.Common.{◌≡◌, Err, ap, inl}
 use Rattle.findings.specs.declared.finding.Finding.TheVariants.{Fault}
 use Rattle.semantics.specs.declared.command.Command.TheVariants.{Deps}
-use Rattle.outcomes.specs.Outcome.{IsFound, IsOutcome}
+use Rattle.outcomes.specs.Outcome.{IsOutcome}
 use Rattle.spy_cli.proofs.Ending.{ending_memory, ending_so}
 use Rattle.spy_cli.proofs.listing.input_listed.Goals as goal
 
+pub log_listed-requires : goal.log_listed-requires
+log_listed-requires g c = (c.args.bytes.items, c.in-Ok.ensures.input)
+
 pub returns-in-Ok-clause-ends : goal.returns-in-Ok-clause-ends
-returns-in-Ok-clause-ends g c =
-    let input = c.in-Ok.input in
-    let spelled = c.in-Ok.ensures.spelled in
-    ending_so (IsFound Deps input.lines input.records.items) (IsOutcome Deps c.args.bytes.items) c.records_listed.result
-    (g.K.Sink.held c.args.sink.now) (g.K.Sink.held c.records_listed.new.sink)
-    (g.K.Sink.faults c.args.sink.now) (g.K.Sink.faults c.records_listed.new.sink)
-    (λ f found. inr (record {
-      spelled = spelled.clean;
-      log = input.records.items;
-      reads = spelled.reads;
-      found = subst (λ n. IsFound Deps n input.records.items f) spelled.count found;
-    }))
-    c.records_listed.ensures.ends
+returns-in-Ok-clause-ends g c = c.log_listed.ensures.ends c.args.bytes.items c.in-Ok.ensures.input
 
 pub returns-in-Err-Fault-clause-ends : goal.returns-in-Err-Fault-clause-ends
 returns-in-Err-Fault-clause-ends g c =
