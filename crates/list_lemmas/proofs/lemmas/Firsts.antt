@@ -18,6 +18,14 @@ pub or_none : {X : Type 0} (o : Option X) → option_or o None ≡ o
 or_none None = refl
 or_none (Some x) = refl
 
+pub or_assoc : {X : Type 0} (o p q : Option X) → option_or (option_or o p) q ≡ option_or o (option_or p q)
+or_assoc None p q = refl
+or_assoc (Some x) p q = refl
+
+pub or_alike : {X : Type 0} (o p q : Option X) → (o ≡ None → p ≡ q) → option_or o p ≡ option_or o q
+or_alike None p q h = h refl
+or_alike (Some x) p q h = refl
+
 pub position_from-map : {X K : Type 0} (f : X → K) (p : K → Bool) (k : ℕ) (xs : List X)
     → position_from p k (map f xs) ≡ position_from (λ x. p (f x)) k xs
 position_from-map f p k [] = refl

@@ -1,12 +1,14 @@
 -- A relation that is the same both ways, between any two elements of a list.
-use Rattle.std.proofs.Common.{◌≡◌, ◌≢◌, ℕ, ◌+◌, ◌-◌, ◌<◌, ◌⊎◌, List, [], ◌∷◌, ◌++◌, AllPairs, Contains, length, get_or, set, inl, inr, refl, sym, subst, ap, ◌∙◌, arith}
+use Rattle.std.proofs.Common.{◌≡◌, ◌≢◌, ℕ, suc, ◌+◌, ◌-◌, ◌<◌, ◌⊎◌, List, [], ◌∷◌, ◌++◌, map, flat_map, filter, Bool, AllPairs, Contains, length, get_or, set, inl, inr, refl, sym, subst, ap, ◌∙◌, arith}
 use Rattle.std.specs.List.{swap}
 use Rattle.std.specs.List.Sorted.{IsPermutation, SwapsInRange, apply_swaps}
 use Rattle.std.proofs.lemmas.Bool.{cases_eq, cases_lt}
 use Rattle.std.proofs.lemmas.Grind.{get_or-set_at}
 use Rattle.std.proofs.lemmas.List.{get_or-set_other, length-set, length-append, get_or_append_left, get_or-append-add, get_or-append_right}
-use Rattle.std.proofs.lemmas.List.Elements.{Contains-get_or}
+use Rattle.std.proofs.lemmas.List.Elements.{Contains-get_or, Contains-append_right}
 use Rattle.std.proofs.lemmas.List.Edits.{length-swap, swap_is}
+use Rattle.std.proofs.lemmas.List.Kept.{AllPairs-cons, AllPairs-filter}
+use Rattle.list_lemmas.proofs.lemmas.Contained.{Contains-nil, Contains-here, Contains-later, Contains-cases, only, member_flat, member_map}
 
 -- the relation is the same both ways
 abbrev pub IsEven : {X : Type 0} → (X → X → Type 0) → Type 0
@@ -101,3 +103,96 @@ AllPairs-append R xs ys left right both i j d lt within = elim (cases_lt j (leng
             (right (i - length xs) (j - length xs) d (omega (arith, lt, also)) in_j)
       ]
 ]
+
+-- ---- a relation of each element to each later one, element by element
+
+pub AllPairs-nil : {X : Type 0} (R : X → X → Type 0) → AllPairs R []
+AllPairs-nil R i j d lt within = absurd (omega (arith, within))
+
+pub AllPairs-first : {X : Type 0} (R : X → X → Type 0) (x : X) (xs : List X) → AllPairs R (x ∷ xs) → (y : X) → Contains xs y → R x y
+AllPairs-first R x xs h y m = subst (R x) m.2 (h 0 (suc m.0) y (omega arith) (omega (arith, m.1)))
+
+pub AllPairs-rest : {X : Type 0} (R : X → X → Type 0) (x : X) (xs : List X) → AllPairs R (x ∷ xs) → AllPairs R xs
+AllPairs-rest R x xs h i j d lt within = h (suc i) (suc j) d (omega (arith, lt)) (omega (arith, within))
+
+pub AllPairs-put : {X : Type 0} (R : X → X → Type 0) (x : X) (xs : List X) → ((y : X) → Contains xs y → R x y) → AllPairs R xs
+    → AllPairs R (x ∷ xs)
+AllPairs-put R x xs first rest = AllPairs-cons R x xs (λ k d lt. first (get_or xs k d) (Contains-get_or xs k d lt)) rest
+
+pub AllPairs-where : {X : Type 0} (R : X → X → Type 0) (xs : List X) → ((x y : X) → Contains xs x → Contains xs y → R x y) → AllPairs R xs
+AllPairs-where R xs h i j d lt within =
+    h (get_or xs i d) (get_or xs j d) (Contains-get_or xs i d (omega (arith, lt, within))) (Contains-get_or xs j d within)
+
+pub AllPairs-so : {X : Type 0} (R S : X → X → Type 0) (xs : List X) → ((x y : X) → Contains xs x → Contains xs y → R x y → S x y)
+    → AllPairs R xs → AllPairs S xs
+AllPairs-so R S xs so h i j d lt within = so (get_or xs i d) (get_or xs j d) (Contains-get_or xs i d (omega (arith, lt, within)))
+    (Contains-get_or xs j d within) (h i j d lt within)
+
+pub AllPairs-map : {X Y : Type 0} (R : Y → Y → Type 0) (f : X → Y) (xs : List X) → AllPairs (λ x y. R (f x) (f y)) xs
+    → AllPairs R (map f xs)
+AllPairs-map R f [] h = AllPairs-nil R
+AllPairs-map R f (x ∷ xs) h = AllPairs-put R (f x) (map f xs)
+    (λ y m. let r = member_map f xs y m in subst (R (f x)) (sym r.2) (AllPairs-first (λ x y. R (f x) (f y)) x xs h r.0 r.1))
+    (AllPairs-map R f xs (AllPairs-rest (λ x y. R (f x) (f y)) x xs h))
+
+pub AllPairs-push : {X : Type 0} (R : X → X → Type 0) (xs : List X) (y : X) → AllPairs R xs → ((x : X) → Contains xs x → R x y)
+    → AllPairs R (xs ++ y ∷ [])
+AllPairs-push R xs y h new = AllPairs-append R xs (y ∷ []) h (AllPairs-put R y [] (λ z m. absurd (Contains-nil m)) (AllPairs-nil R))
+    (λ x z m n. subst (R x) (sym (only n)) (new x m))
+
+-- Two elements are one, or one of them is the earlier.
+pub AllPairs-cases : {X : Type 0} (R : X → X → Type 0) (xs : List X) → AllPairs R xs → (x y : X) → Contains xs x → Contains xs y → (x ≡ y)
+    ⊎ (R x y ⊎ R y x)
+AllPairs-cases R [] h x y m n = absurd (Contains-nil m)
+AllPairs-cases R (z ∷ xs) h x y m n = elim (Contains-cases xs m) [
+  | inl a ↦ elim (Contains-cases xs n) [
+    | inl b ↦ inl (a ∙ sym b)
+    | inr n' ↦ inr (inl (subst (λ z. R z y) (sym a) (AllPairs-first R z xs h y n')))
+  ]
+  | inr m' ↦ elim (Contains-cases xs n) [
+    | inl b ↦ inr (inr (subst (λ z. R z x) (sym b) (AllPairs-first R z xs h x m')))
+    | inr n' ↦ AllPairs-cases R xs (AllPairs-rest R z xs h) x y m' n'
+  ]
+]
+
+pub AllPairs-flat : {X Y : Type 0} (R : Y → Y → Type 0) (f : X → List Y) (xs : List X) → ((x : X) → Contains xs x → AllPairs R (f x))
+    → AllPairs (λ x y. (a b : Y) → Contains (f x) a → Contains (f y) b → R a b) xs → AllPairs R (flat_map f xs)
+AllPairs-flat R f [] each h = AllPairs-nil R
+AllPairs-flat {X} {Y} R f (x ∷ xs) each h =
+    let S : X → X → Type 0 = λ x y. (a b : Y) → Contains (f x) a → Contains (f y) b → R a b in
+    AllPairs-append R (f x) (flat_map f xs) (each x (Contains-here xs))
+    (AllPairs-flat R f xs (λ y m. each y (Contains-later xs m)) (AllPairs-rest S x xs h))
+    (λ a b m n. let r = member_flat f xs b n in AllPairs-first S x xs h r.0 r.1 a b m r.2)
+
+-- Both parts of a list, and what is between them.
+pub AllPairs-parts : {X : Type 0} (R : X → X → Type 0) (xs ys : List X) → AllPairs R (xs ++ ys) → AllPairs R xs × AllPairs R ys
+    × ((x y : X) → Contains xs x → Contains ys y → R x y)
+AllPairs-parts R [] ys h = (AllPairs-nil R, h, λ x y m n. absurd (Contains-nil m))
+AllPairs-parts R (x ∷ xs) ys h =
+    let r = AllPairs-parts R xs ys (AllPairs-rest R x (xs ++ ys) h) in (
+      AllPairs-left R (x ∷ xs) ys h,
+      r.1,
+      λ z y m n. elim (Contains-cases xs m) [
+        | inl e ↦ rw e (AllPairs-first R x (xs ++ ys) h y (Contains-append_right xs ys y n))
+        | inr later ↦ r.2 z y later n
+      ],
+    )
+
+-- ---- lists in which nothing stands twice
+
+abbrev pub Apart : {X : Type 0} → List X → Type 0
+Apart xs = AllPairs (λ x y. x ≢ y) xs
+
+pub apart_map : {X Y : Type 0} (f : X → Y) (xs : List X) → ((x y : X) → f x ≡ f y → x ≡ y) → Apart xs → Apart (map f xs)
+apart_map f xs one h = AllPairs-map (λ x y. x ≢ y) f xs (AllPairs-so (λ x y. x ≢ y) (λ x y. f x ≢ f y) xs (λ x y _ _ d e. d (one x y e)) h)
+
+pub apart_filter : {X : Type 0} (p : X → Bool) (xs : List X) → Apart xs → Apart (filter p xs)
+apart_filter p xs h = AllPairs-filter (λ x y. x ≢ y) p xs h
+
+-- Lists made of different elements have nothing in common.
+pub apart_flat : {X Y : Type 0} (f : X → List Y) (xs : List X) → ((x : X) → Contains xs x → Apart (f x))
+    → ((x y : X) (z : Y) → Contains xs x → Contains xs y → Contains (f x) z → Contains (f y) z → x ≡ y)
+    → Apart xs → Apart (flat_map f xs)
+apart_flat {X} {Y} f xs each one h = AllPairs-flat (λ x y. x ≢ y) f xs each
+    (AllPairs-so (λ x y. x ≢ y) (λ x y. (a b : Y) → Contains (f x) a → Contains (f y) b → a ≢ b) xs
+    (λ x y m n d a b i j e. d (one x y a m n i (subst (Contains (f y)) (sym e) j))) h)

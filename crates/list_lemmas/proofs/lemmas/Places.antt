@@ -1,5 +1,5 @@
 -- Places of rows, and the rows at them.
-use Rattle.std.proofs.Common.{◌≡◌, ℕ, suc, ◌+◌, Bool, ◌||◌, List, [], ◌∷◌, ◌++◌, map, Option, Some, None, is_some, length, cond, refl, sym, ap, inl, inr, arith, find, All, subst, Bor, IfSome}
+use Rattle.std.proofs.Common.{◌≡◌, ℕ, suc, ◌+◌, Bool, ◌&&◌, ◌||◌, List, [], ◌∷◌, ◌++◌, map, Option, Some, None, is_some, length, cond, refl, sym, ap, ap₂, filter, inl, inr, arith, find, All, subst, Bor, IfSome}
 use Rattle.std.specs.List.{list_any, position_from}
 use Rattle.std.specs.Option.{option_or, option_map, option_copied}
 use Rattle.std.proofs.lemmas.Bool.{cases_Bool}
@@ -43,3 +43,16 @@ pub all_found_behind : {X : Type 0} (P : X → Type 0) (p : X → Bool) (xs : Li
     → option_copied o ≡ find p xs → IfSome o (λ r. P r.now)
 all_found_behind P p xs None all e = tt
 all_found_behind P p xs (Some r) all e = all_found P p xs r.now all (sym e)
+
+-- Tests that are the same at each element find the same.
+pub find_same : {X : Type 0} (p q : X → Bool) (xs : List X) → ((x : X) → p x ≡ q x) → find p xs ≡ find q xs
+find_same p q [] h = refl
+find_same {X} p q (x ∷ xs) h = ap₂ (λ (b : Bool) (o : Option X). cond b (Some x) o) (h x) (find_same p q xs h)
+
+pub find_filter : {X : Type 0} (s p : X → Bool) (xs : List X) → find p (filter s xs) ≡ find (λ x. s x && p x) xs
+find_filter s p [] = refl
+find_filter s p (x ∷ xs) =
+    elim (cases_Bool (s x)) [
+      | inl kept ↦ rw kept (ap (λ o. cond (p x) (Some x) o) (find_filter s p xs))
+      | inr left ↦ rw left (find_filter s p xs)
+    ]
