@@ -1,12 +1,14 @@
 -- Lists in which an element is left out, mapped and filtered lists, and how many different numbers there are below a bound.
-use Rattle.std.proofs.Common.{take, drop, ◌+◌, take-append-drop, ◌≡◌, ℕ, ◌<◌, ◌≤◌, List, [], ◌∷◌, ◌++◌, AllPairs, Contains, length, get_or, inl, inr, sym, subst, arith, eqb, ◌↔◌, ◌⊎◌, Bool, false, map, flat_map, filter, refl, ap, ◌∙◌}
-use Rattle.std.specs.List.{list_all}
-use Rattle.std.proofs.lemmas.Bool.{and_cases, eqb-true, cases_Bool}
-use Rattle.std.proofs.lemmas.Bool.Decides.{Decides-eqb}
+use Rattle.std.proofs.Common.{take, drop, ◌+◌, take-append-drop, ◌≡◌, ℕ, ◌<◌, ◌≤◌, List, [], ◌∷◌, ◌++◌, AllPairs, Contains, length, get_or, inl, inr, sym, subst, arith, eqb, ◌↔◌, ◌⊎◌, Bool, false, map, flat_map, filter, refl, ap, ◌∙◌, not, nat_lt, Some, None, position, unwrap_or}
+use Rattle.std.specs.List.{list_all, position_or_len}
+use Rattle.std.proofs.lemmas.Bool.{and_cases, eqb-true, cases_Bool, cond_both}
+use Rattle.std.proofs.lemmas.Bool.Decides.{Decides-eqb, nat_tests}
 use Rattle.std.proofs.lemmas.List.{drop_more, take_more, map-append}
 use Rattle.std.proofs.lemmas.List.Elements.{Contains-append_left, Contains-append_right, Contains-append_cases, filter-append}
 use Rattle.std.proofs.lemmas.Map.Made.{IsDistinct-from_AllPairs}
 use Rattle.std.proofs.lemmas.Map.Steps.{length-le_from_distinct_below}
+use Rattle.std.proofs.lemmas.List.Filters.{length-filter_both}
+use Rattle.std.proofs.lemmas.List.Sums.{prefix_len-le-length}
 use Rattle.list_lemmas.proofs.lemmas.Contained.{Contains-here, Contains-later, Contains-cases, any_found}
 use Rattle.list_lemmas.proofs.lemmas.Pairs.{Apart, AllPairs-first, AllPairs-parts}
 
@@ -81,3 +83,12 @@ filter_flat p f (x ∷ xs) = filter-append p (f x) (flat_map f xs) ∙ ap (λ ys
 -- The elements before a place, and the one that stands there.
 pub take_with : {X : Type 0} (xs : List X) (i : ℕ) (x : X) → i < length xs → x ≡ get_or xs i x → take (i + 1) xs ≡ take i xs ++ x ∷ []
 take_with xs i x lt is = take_more xs i x lt ∙ ap (λ y. take i xs ++ y ∷ []) (sym is)
+
+pub filter_short : {X : Type 0} (p : X → Bool) (xs : List X) → length (filter p xs) ≤ length xs
+filter_short p xs = omega (arith, length-filter_both p (λ x. not (p x)) (λ x. refl) xs)
+
+-- The first place that passes, or the length of the list.
+pub place_len : {X : Type 0} (p : X → Bool) (xs : List X) → unwrap_or (position p xs) (length xs) ≡ position_or_len p xs
+place_len p xs = cond_both (nat_lt (position_or_len p xs) (length xs)) (Some (position_or_len p xs)) None
+    (λ o. unwrap_or o (length xs) ≡ position_or_len p xs)
+    (λ _. refl) (λ e. grind (arith, nat_tests, prefix_len-le-length (λ x. not (p x)) xs))
