@@ -183,6 +183,15 @@ AllPairs-parts R (x ∷ xs) ys h =
 abbrev pub Apart : {X : Type 0} → List X → Type 0
 Apart xs = AllPairs (λ x y. x ≢ y) xs
 
+pub apart_none : {X : Type 0} → Apart {X = X} []
+apart_none {X} = AllPairs-nil {X = X} (λ x y. x ≢ y)
+
+pub apart_put : {X : Type 0} (x : X) (xs : List X) → ((y : X) → Contains xs y → x ≢ y) → Apart xs → Apart (x ∷ xs)
+apart_put x xs first rest = AllPairs-put (λ x y. x ≢ y) x xs first rest
+
+pub apart_one : {X : Type 0} (x : X) → Apart (x ∷ [])
+apart_one x = apart_put x [] (λ y none. absurd (Contains-nil none)) apart_none
+
 pub apart_map : {X Y : Type 0} (f : X → Y) (xs : List X) → ((x y : X) → f x ≡ f y → x ≡ y) → Apart xs → Apart (map f xs)
 apart_map f xs one h = AllPairs-map (λ x y. x ≢ y) f xs (AllPairs-so (λ x y. x ≢ y) (λ x y. f x ≢ f y) xs (λ x y _ _ d e. d (one x y e)) h)
 
