@@ -1,7 +1,7 @@
 //! One record more.
 
-ghost use Rattle.std.specs.Prelude.{◌≡◌, ◌<◌, ◌≤◌, ◌+◌, ◌-◌, ◌^◌, ◌++◌, ◌∷◌, [], length, map, OnOk, IfOk, OnErr};
-ghost use Rattle.vocabulary.specs.Prelude.{with_node, with_record, with_space, privilege_of, coherence_of, rect_of, strip};
+ghost use Rattle.std.specs.Prelude.{◌≡◌, ◌<◌, ◌≤◌, ◌+◌, ◌-◌, ◌^◌, length, map, OnOk, IfOk, OnErr};
+ghost use Rattle.vocabulary.specs.Prelude.{with_record, with_space, privilege_of, coherence_of, rect_of, strip};
 ghost use Rattle.log_tables.specs.Views as views;
 ghost use Rattle.log_tables.specs.Views.{Ascends, IsOfSpaces, IsOfRegions, IsOfItems, IsOfNodes};
 ghost use Rattle.spy_grammar.specs.declared.record.Record.TheVariants as records;
@@ -16,7 +16,7 @@ use point_set::Rect;
 use privilege::{Coherence, Priv};
 use semantics::{Inst, ItemBody, Op, Part, Req, Sub};
 use spy_grammar::Record;
-use spy_words::{InstKind, Nums, PrivWord, Quad};
+use spy_words::{Nums, PrivWord, Quad};
 use std::alloc::{AllocError, Global};
 
 /// A list of the same numbers.
@@ -250,110 +250,6 @@ impl<'a, P: ArenaRects<'a>> Draft<P> {
         Ok(())
     }
 
-    /// One requirement of a task more.
-    fn add_req_of(
-        &mut self,
-        line: u32,
-        task: u32,
-        tree: u32,
-        space: u32,
-        fields: Nums,
-        access: PrivWord,
-        atomic: bool,
-    ) -> Result<(), AllocError>
-        requires few { length self.old.reqs < 2 ^ 32 - 1 }
-        requires ascend { IsStrictlyIncreasing fields }
-        ensures ok { OnOk result (self.new ≡ with_record self.old line
-            (records.Req task tree space fields access atomic)) }
-        ensures err { OnErr result (self.new ≡ self.old) }
-    {
-        let item = self.place(task);
-        let number = self.req_count(item) as u32 + 1;
-        self.add_req(Req {
-            item,
-            number,
-            line,
-            tree,
-            space,
-            fields,
-            access: priv_of(access),
-            coherence: coherence_word(atomic),
-        })
-    }
-
-    /// One fill more.
-    fn add_fill_of(
-        &mut self,
-        alloc: Global,
-        line: u32,
-        id: u32,
-        tree: u32,
-        space: u32,
-        fields: &Nums,
-        n: u32,
-    ) -> Result<(), AllocError>
-        requires { IsStrictlyIncreasing fields.now }
-        ensures ok { OnOk result (self.new ≡ with_record self.old line (records.Fill id tree space fields.now n)) }
-        ensures err { OnErr result (self.new ≡ self.old) }
-    {
-        let fields = copied(alloc, fields)?;
-        self.add_item(
-            id,
-            line,
-            ItemBody::Fill {
-                tree,
-                space,
-                fields,
-                n,
-            },
-        )
-    }
-
-    /// One instance more.
-    fn add_inst_of(
-        &mut self,
-        alloc: Global,
-        id: u32,
-        tree: u32,
-        space: u32,
-        fields: &Nums,
-        kind: InstKind,
-    ) -> Result<(), AllocError>
-        requires { IsStrictlyIncreasing fields.now }
-        ensures ok { OnOk result (self.new ≡ record self.old {
-          insts = self.old.insts
-              ++ record { id = id; tree = tree; space = space; fields = fields.now; kind = kind } ∷ [];
-        }) }
-        ensures err { OnErr result (self.new ≡ self.old) }
-    {
-        let fields = copied(alloc, fields)?;
-        self.add_inst(Inst {
-            id,
-            tree,
-            space,
-            fields,
-            kind,
-        })
-    }
-
-    /// One map more.
-    fn add_map_of(
-        &mut self,
-        alloc: Global,
-        line: u32,
-        task: u32,
-        req: u32,
-        fields: &Nums,
-        inst: u32,
-    ) -> Result<(), AllocError>
-        ensures ok { OnOk result (self.new ≡ with_record self.old line (records.Map task req fields.now inst)) }
-        ensures err { OnErr result (self.new ≡ self.old) }
-    {
-        let item = self.place(task);
-        let fields = copied(alloc, fields)?;
-        self.add_map(item, req, fields, inst)
-    }
-
     /// What a record on items declares.
     fn add_of_items(&mut self, alloc: Global, line: u32, rec: &Record) -> Result<(), Memory>
         requires ascends { Ascends rec.now }
@@ -372,8 +268,18 @@ impl<'a, P: ArenaRects<'a>> Draft<P> {
                 access,
                 atomic,
             } => {
-                let fields = copied(alloc, fields)?;
-                self.add_req_of(line, *task, *tree, *space, fields, *access, *atomic)?;
+                let item = self.place(*task);
+                let number = self.req_count(item) as u32 + 1;
+                self.add_req(Req {
+                    item,
+                    number,
+                    line,
+                    tree: *tree,
+                    space: *space,
+                    fields: copied(alloc, fields)?,
+                    access: priv_of(*access),
+                    coherence: coherence_word(*atomic),
+                })?;
             }
             Record::Fill {
                 id,
@@ -382,7 +288,13 @@ impl<'a, P: ArenaRects<'a>> Draft<P> {
                 fields,
                 n,
             } => {
-                self.add_fill_of(alloc, line, *id, *tree, *space, fields, *n)?;
+                let body = ItemBody::Fill {
+                    tree: *tree,
+                    space: *space,
+                    fields: copied(alloc, fields)?,
+                    n: *n,
+                };
+                self.add_item(*id, line, body)?;
             }
             Record::Serial { items } => {
                 let ids = copied(alloc, items)?;
@@ -395,7 +307,13 @@ impl<'a, P: ArenaRects<'a>> Draft<P> {
                 fields,
                 kind,
             } => {
-                self.add_inst_of(alloc, *id, *tree, *space, fields, *kind)?;
+                self.add_inst(Inst {
+                    id: *id,
+                    tree: *tree,
+                    space: *space,
+                    fields: copied(alloc, fields)?,
+                    kind: *kind,
+                })?;
             }
             Record::Map {
                 task,
@@ -403,27 +321,13 @@ impl<'a, P: ArenaRects<'a>> Draft<P> {
                 fields,
                 inst,
             } => {
-                self.add_map_of(alloc, line, *task, *req, fields, *inst)?;
+                let item = self.place(*task);
+                let fields = copied(alloc, fields)?;
+                self.add_map(item, *req, fields, *inst)?;
             }
             _ => {}
         }
         Ok(())
-    }
-
-    /// One node more, whose events are copied.
-    fn add_node_of(
-        &mut self,
-        alloc: Global,
-        line: u32,
-        done: u32,
-        waits: &Nums,
-        op: Op,
-    ) -> Result<(), AllocError>
-        ensures ok { OnOk result (self.new ≡ with_node self.old line done waits.now op) }
-        ensures err { OnErr result (self.new ≡ self.old) }
-    {
-        let waits = copied(alloc, waits)?;
-        self.add_node(line, done, waits, op)
     }
 
     /// What a record on nodes declares.
@@ -435,17 +339,20 @@ impl<'a, P: ArenaRects<'a>> Draft<P> {
         match rec {
             Record::Run { task, done, waits } => {
                 let item = self.place(*task);
-                self.add_node_of(alloc, line, *done, waits, Op::Run { item })?;
+                let waits = copied(alloc, waits)?;
+                self.add_node(line, *done, waits, Op::Run { item })?;
             }
             Record::Copy { done, waits, .. }
             | Record::Put { done, waits, .. }
             | Record::Reset { done, waits, .. }
             | Record::Fold { done, waits, .. } => {
                 let op = op_on_data(alloc, rec)?;
-                self.add_node_of(alloc, line, *done, waits, op)?;
+                let waits = copied(alloc, waits)?;
+                self.add_node(line, *done, waits, op)?;
             }
             Record::Merge { done, waits } => {
-                self.add_node_of(alloc, line, *done, waits, Op::Merge)?;
+                let waits = copied(alloc, waits)?;
+                self.add_node(line, *done, waits, Op::Merge)?;
             }
             _ => {}
         }
