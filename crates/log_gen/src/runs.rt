@@ -10,49 +10,38 @@ use crate::waits::{left_waits, right_waits, stencil_waits, update_waits};
 use spy_grammar::{PrivWord, Record};
 use std::alloc::{AllocError, Global};
 
-/// Adds a requirement of a task on a field of a space.
-fn push_req(
+/// A requirement of a task on a field of a space.
+fn requirement(
     alloc: Global,
-    records: &mut Vec<Record>,
     task: u32,
     space: u32,
     field: u32,
     access: PrivWord,
-) -> Result<(), AllocError>
-    ensures { OnOk result (records.new.items
-        ≡ records.old.items ++ rows.Req task 1 space (field ∷ []) access false ∷ []) }
+) -> Result<Record, AllocError>
+    ensures { IfOk result (λ rec. rec ≡ rows.Req task 1 space (field ∷ []) access false) }
 {
     let fields = numbers(alloc, &[field])?;
-    records.push(Record::Req {
+    Ok(Record::Req {
         task,
         tree: 1,
         space,
         fields,
         access,
         atomic: false,
-    })?;
-    Ok(())
+    })
 }
 
-/// Adds the mapping of a requirement of a task, which has one field, to an instance.
-fn push_map(
-    alloc: Global,
-    records: &mut Vec<Record>,
-    task: u32,
-    req: u32,
-    field: u32,
-    inst: u32,
-) -> Result<(), AllocError>
-    ensures { OnOk result (records.new.items ≡ records.old.items ++ rows.Map task req (field ∷ []) inst ∷ []) }
+/// The mapping of a requirement of a task, which has one field, to an instance.
+fn mapping(alloc: Global, task: u32, req: u32, field: u32, inst: u32) -> Result<Record, AllocError>
+    ensures { IfOk result (λ rec. rec ≡ rows.Map task req (field ∷ []) inst) }
 {
     let fields = numbers(alloc, &[field])?;
-    records.push(Record::Map {
+    Ok(Record::Map {
         task,
         req,
         fields,
         inst,
-    })?;
-    Ok(())
+    })
 }
 
 /// Adds the stencil task of a step at a piece.
@@ -70,10 +59,10 @@ fn push_stencil_run(
 {
     let task = first_task(n, s) + i;
     records.push(Record::Task { id: task })?;
-    push_req(alloc, records, task, 2 + n + i, 1, PrivWord::Ro)?;
-    push_req(alloc, records, task, 2 + i, 2, PrivWord::Wd)?;
-    push_map(alloc, records, task, 1, 1, i + 1)?;
-    push_map(alloc, records, task, 2, 2, i + 1)?;
+    records.push(requirement(alloc, task, 2 + n + i, 1, PrivWord::Ro)?)?;
+    records.push(requirement(alloc, task, 2 + i, 2, PrivWord::Wd)?)?;
+    records.push(mapping(alloc, task, 1, 1, i + 1)?)?;
+    records.push(mapping(alloc, task, 2, 2, i + 1)?)?;
     let waits = stencil_waits(alloc, n, s, i)?;
     records.push(Record::Run {
         task,
@@ -116,10 +105,10 @@ fn push_update_run(
 {
     let task = first_task(n, s) + n + i;
     records.push(Record::Task { id: task })?;
-    push_req(alloc, records, task, 2 + i, 2, PrivWord::Ro)?;
-    push_req(alloc, records, task, 2 + i, 1, PrivWord::Rw)?;
-    push_map(alloc, records, task, 1, 2, i + 1)?;
-    push_map(alloc, records, task, 2, 1, i + 1)?;
+    records.push(requirement(alloc, task, 2 + i, 2, PrivWord::Ro)?)?;
+    records.push(requirement(alloc, task, 2 + i, 1, PrivWord::Rw)?)?;
+    records.push(mapping(alloc, task, 1, 2, i + 1)?)?;
+    records.push(mapping(alloc, task, 2, 1, i + 1)?)?;
     let waits = update_waits(alloc, n, s, i)?;
     records.push(Record::Run {
         task,
