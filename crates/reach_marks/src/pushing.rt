@@ -11,6 +11,13 @@ use crate::column::Column;
 use crate::tags::{joined_tag, tag_of_bits};
 use std::alloc::AllocError;
 
+/// The bits of a row, block by block. So many blocks at the front are whole.
+#[derive(Clone, Copy)]
+pub(crate) struct RowBits<'b> {
+    pub(crate) blocks: &'b [[u64; 16]],
+    pub(crate) front: usize,
+}
+
 /// Adds the tag of a whole block.
 #[inline]
 fn push_whole(pool: &mut Vec<[u64; 16]>, column: &mut Column) -> Result<(), AllocError>
@@ -45,24 +52,19 @@ fn push_joined_tag(
     Ok(())
 }
 
-/// Adds the tag of a block with these bits, which is whole if it is before `front`.
+/// Adds the tag of a block with these bits.
 #[inline]
 fn push_bits_tag(
     pool: &mut Vec<[u64; 16]>,
     column: &mut Column,
     k: usize,
-    front: usize,
     bits: &[u64; 16],
     rows: &[usize],
 ) -> Result<(), AllocError>
     requires tags { AreTags column.old pool.old.items }
     requires known { All (λ w. w < 1024 * k + length column.old) rows.now }
-    requires whole { k < front → (i : ℕ) → i < 1024 → has_bit bits.now i ≡ true }
     ensures { OnOk result (AddsTag pool.old.items pool.new.items column.old column.new (has_bit bits.now)) }
 {
-    if k < front {
-        return push_whole(pool, column);
-    }
     let tag = tag_of_bits(pool, column.as_slice(), k, rows, *bits)?;
     column.push(tag)?;
     Ok(())
@@ -90,33 +92,29 @@ pub(crate) fn push_joined(
     Ok(())
 }
 
-/// Adds the blocks with these bits, each of which may be that of the row before. So many at the front are whole.
+/// Adds the blocks of a row, each of which may be that of the row before.
 pub(crate) fn push_union(
     pool: &mut Vec<[u64; 16]>,
     columns: &mut Vec<Column>,
     count: usize,
-    front: usize,
-    blocks: &[[u64; 16]],
+    row: &RowBits<'_>,
 ) -> Result<(), AllocError>
     requires some { 0 < count }
     requires columns { AreColumns (columns_in pool.old.items columns.old.items) count }
     requires tags { (k : ℕ) → AreTags (slice_index_or columns.old.items k []) pool.old.items }
-    requires each { length columns.old.items ≤ length blocks.now }
-    requires whole { (q : ℕ) → q / 1024 < front → q / 1024 < length blocks.now
-        → bits_have blocks.now q ≡ true }
+    requires each { length columns.old.items ≤ length row.now.blocks.now }
+    requires whole { (q : ℕ) → q / 1024 < row.now.front → q / 1024 < length row.now.blocks.now
+        → bits_have row.now.blocks.now q ≡ true }
     ensures { OnOk result (AddsTags pool.old.items pool.new.items columns.old.items columns.new.items
-        (bits_have blocks.now)) }
+        (bits_have row.now.blocks.now)) }
 {
     let before = [count - 1];
     for k in 0..columns.len() {
-        push_bits_tag(
-            pool,
-            &mut columns[k],
-            k,
-            front,
-            &blocks[k],
-            before.as_slice(),
-        )?;
+        if k < row.front {
+            push_whole(pool, &mut columns[k])?;
+        } else {
+            push_bits_tag(pool, &mut columns[k], k, &row.blocks[k], before.as_slice())?;
+        }
     }
     Ok(())
 }

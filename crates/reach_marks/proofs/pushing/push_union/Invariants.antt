@@ -10,6 +10,6 @@ invariant-loop-k l = record {
   grows : Grows l.fn.pool.items l.pool.items;
   kept : (m : ℕ) → AreTags (get_or l.columns.items m []) l.pool.items;
   done : (m : ℕ) → m < l.k → AddsBlock (map (block_of l.fn.pool.items) (get_or l.fn.columns.items m []))
-      (map (block_of l.pool.items) (get_or l.columns.items m [])) (λ i. bits_have l.blocks (1024 * m + i));
+      (map (block_of l.pool.items) (get_or l.columns.items m [])) (λ i. bits_have l.row.blocks.now (1024 * m + i));
   left : (m : ℕ) → l.k ≤ m → get_or l.columns.items m [] ≡ get_or l.fn.columns.items m [];
 }

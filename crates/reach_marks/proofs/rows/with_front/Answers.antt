@@ -8,9 +8,9 @@ use Rattle.reach_marks.proofs.rows.with_front.Goals as goal
 
 pub invariant_of-result : goal.invariant_of-result
 invariant_of-result c =
-    let columns = c.args.columns.items in
-    let pool = c.args.pool.items in
-    let fronts = c.args.fronts.items in
+    let columns = c.args.rows.columns.items in
+    let pool = c.args.rows.pool.items in
+    let fronts = c.args.rows.fronts.items in
     let n = length fronts in
     let front = c.whole_front-front.result in
     let count : c.len-count.result ≡ n = omega arith in
@@ -26,5 +26,5 @@ invariant_of-result c =
     )
 
 pub returns : goal.returns
-returns c = rw (c.in_ok-push.ensures.items, length_push c.args.fronts.items c.whole_front-front.result)
-    (c.in_ok-open_column.ensures.same c.args.pool.items (length c.args.fronts.items + 1))
+returns c = rw (c.in_ok-push.ensures.items, length_push c.args.rows.fronts.items c.whole_front-front.result)
+    (c.in_ok-open_column.ensures.same c.args.rows.pool.items (length c.args.rows.fronts.items + 1))

@@ -39,11 +39,12 @@ with_front-requires-clause-whole c =
     let new = columns_in c.push_union.new.pool.items c.push_union.new.columns.items in
     let n = length c.self.inside.fronts.items in
     let waits = c.args.waits.now in
-    whole_at old new n (bits_have c.args.blocks.now) c.self.invariant.0.whole c.in_ok-push_union.ensures.adds
+    let row = c.args.row.now in
+    whole_at old new n (bits_have row.blocks.now) c.self.invariant.0.whole c.in_ok-push_union.ensures.adds
     (λ (q : ℕ). list_any (λ w. reaches (rows_in old n) w q) waits)
-    (right old n c.args.self waits c.args.blocks.now c.self.invariant.0.whole c.self.view_is c.requires.each c.requires.bits)
-    (none_past old n c.args.self waits c.self.view_is c.requires.waits c.requires.within) c.args.front
-    (subst (λ (rs : List (List Block)). (q : ℕ) → q / 1024 < c.args.front → list_any (λ w. reaches rs w q) waits ≡ true)
+    (right old n c.args.self waits row.blocks.now c.self.invariant.0.whole c.self.view_is c.requires.each c.requires.bits)
+    (none_past old n c.args.self waits c.self.view_is c.requires.waits c.requires.within) row.front
+    (subst (λ (rs : List (List Block)). (q : ℕ) → q / 1024 < row.front → list_any (λ w. reaches rs w q) waits ≡ true)
     (sym c.self.view_is) c.requires.whole)
 
 pub returns : goal.returns
@@ -52,7 +53,8 @@ returns c =
     let new = columns_in c.push_union.new.pool.items c.push_union.new.columns.items in
     let n = length c.self.inside.fronts.items in
     let waits = c.args.waits.now in
+    let row = c.args.row.now in
     rw (c.in_ok-rows.ensures, ← c.self.view_is)
-    (row_added old new n (bits_have c.args.blocks.now) c.self.invariant.0.whole c.in_ok-push_union.ensures.adds waits
-    (right old n c.args.self waits c.args.blocks.now c.self.invariant.0.whole c.self.view_is c.requires.each c.requires.bits)
+    (row_added old new n (bits_have row.blocks.now) c.self.invariant.0.whole c.in_ok-push_union.ensures.adds waits
+    (right old n c.args.self waits row.blocks.now c.self.invariant.0.whole c.self.view_is c.requires.each c.requires.bits)
     (none_past old n c.args.self waits c.self.view_is c.requires.waits c.requires.within))
