@@ -10,10 +10,6 @@ use Rattle.log_tables.specs.Mapped.{names_field}
 abbrev pub tree_of_req : Tables → ℕ → ℕ → Option ℕ
 tree_of_req t task number = option_map (λ (r : Req). r.tree) (named_req t task number)
 
--- The points of a requirement of a task: none where the task does not have it.
-abbrev pub points_of_req : Tables → ℕ → ℕ → List ℕ
-points_of_req t task number = option_map_or (λ (r : Req). points_in t r.space) (named_req t task number) []
-
 -- The fields of a requirement of a task: none where the task does not have it.
 abbrev pub fields_of_req : Tables → ℕ → ℕ → List ℕ
 fields_of_req t task number = option_map_or (λ (r : Req). r.fields) (named_req t task number) []

@@ -9,7 +9,7 @@ use Rattle.vocabulary.specs.Prelude.{Priv, agree, Req, Record, Tables, place_of,
 use Rattle.spy_grammar.specs.declared.record.Record.TheVariants as records
 use Rattle.log_rules.specs.declared.claims.OwnPlace.{OwnPlace}
 use Rattle.log_rules.specs.declared.claims.Claims.{Claims}
-use Rattle.log_rules.specs.declared.own.Asked.{Asked}
+use Rattle.log_rules.specs.declared.claims.Asked.{Asked}
 
 -- Whether a requirement of this item, tree, points, fields and privilege is at a place and does not agree
 -- with a privilege there.

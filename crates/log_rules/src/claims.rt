@@ -20,6 +20,16 @@ pub(crate) struct OwnPlace {
     pub field: u32,
 }
 
+/// What a requirement asks for: these fields of a space in a tree, for an item, with a privilege.
+#[derive(Clone, Copy)]
+pub(crate) struct Asked<'a> {
+    pub item: usize,
+    pub tree: u32,
+    pub space: u32,
+    pub fields: &'a [u32],
+    pub access: Priv,
+}
+
 /// What is claimed at each place: a privilege that agrees with exactly those that all requirements there agree with, or none where no privilege does.
 #[derive(Drop)]
 pub(crate) struct Claims {
@@ -64,42 +74,32 @@ impl Claims {
         }
     }
 
-    /// Whether a privilege clashes at a point and some of these fields.
-    fn clashes_at_point(
-        &self,
-        item: usize,
-        tree: u32,
-        point: u64,
-        fields: &[u32],
-        access: Priv,
-    ) -> bool
-        ensures { result ≡ clashes_row self.now item tree fields.now access point }
+    /// Whether what is asked for clashes at a point.
+    fn clashes_at_point(&self, point: u64, asked: &Asked<'_>) -> bool
+        ensures { result ≡ clashes_row self.now asked.now.item asked.now.tree asked.now.fields.now
+            asked.now.access point }
     {
-        fields.iter().any(|field| {
+        asked.fields.iter().any(|field| {
             self.clashes(
                 OwnPlace {
-                    item,
-                    tree,
+                    item: asked.item,
+                    tree: asked.tree,
                     point,
                     field: *field,
                 },
-                access,
+                asked.access,
             )
         })
     }
 
-    /// Whether a privilege clashes at some of these points and fields.
-    pub fn clashes_any(
-        &self,
-        item: usize,
-        tree: u32,
-        points: &[u64],
-        fields: &[u32],
-        access: Priv,
-    ) -> bool
-        ensures { result ≡ list_any (clashes_row self.now item tree fields.now access) points.now }
+    /// Whether what is asked for clashes at some of these points of its space.
+    pub fn clashes_any(&self, points: &[u64], asked: &Asked<'_>) -> bool
+        ensures { result ≡ list_any (clashes_row self.now asked.now.item asked.now.tree asked.now.fields.now
+            asked.now.access) points.now }
     {
-        points.iter().any(|point| self.clashes_at_point(item, tree, *point, fields, access))
+        points
+            .iter()
+            .any(|point| self.clashes_at_point(*point, asked))
     }
 
     /// One requirement more at a place.
@@ -112,42 +112,30 @@ impl Claims {
         Ok(())
     }
 
-    /// One requirement more at a point and these fields.
-    fn claim_at_point(
-        &mut self,
-        item: usize,
-        tree: u32,
-        point: u64,
-        fields: &[u32],
-        access: Priv,
-    ) -> Result<(), AllocError>
-        ensures { OnOk result (Adds self.old self.new (claims_at item tree (point ∷ []) fields.now access)) }
+    /// One requirement more at a point.
+    fn claim_at_point(&mut self, point: u64, asked: &Asked<'_>) -> Result<(), AllocError>
+        ensures { OnOk result (Adds self.old self.new (claims_at asked.now.item asked.now.tree
+            (point ∷ []) asked.now.fields.now asked.now.access)) }
     {
-        for field in fields {
+        for field in asked.fields {
             let place = OwnPlace {
-                item,
-                tree,
+                item: asked.item,
+                tree: asked.tree,
                 point,
                 field: *field,
             };
-            self.claim(place, access)?;
+            self.claim(place, asked.access)?;
         }
         Ok(())
     }
 
-    /// One requirement more at these points and fields.
-    pub fn claim_all(
-        &mut self,
-        item: usize,
-        tree: u32,
-        points: &[u64],
-        fields: &[u32],
-        access: Priv,
-    ) -> Result<(), AllocError>
-        ensures { OnOk result (Adds self.old self.new (claims_at item tree points.now fields.now access)) }
+    /// One requirement more at these points of its space.
+    pub fn claim_all(&mut self, points: &[u64], asked: &Asked<'_>) -> Result<(), AllocError>
+        ensures { OnOk result (Adds self.old self.new (claims_at asked.now.item asked.now.tree
+            points.now asked.now.fields.now asked.now.access)) }
     {
         for point in points {
-            self.claim_at_point(item, tree, *point, fields, access)?;
+            self.claim_at_point(*point, asked)?;
         }
         Ok(())
     }

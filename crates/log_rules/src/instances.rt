@@ -1,10 +1,10 @@
 //! Instances: of which tree and kind they are, and what they cover.
 
-ghost use Rattle.std.specs.Prelude.{◌≡◌, ◌||◌, false, [], ◌∷◌, not};
+ghost use Rattle.std.specs.Prelude.{◌≡◌, false, [], not};
 ghost use Rattle.std.specs.List.{list_any};
 ghost use Rattle.std.specs.Option.{option_map_or};
 ghost use Rattle.log_rules.specs.Tallied.{IfKept, IfTally};
-ghost use Rattle.log_rules.specs.Instances.{tree_of_req, points_of_req, root_points, fits_inst, is_mapped, is_any_mapped};
+ghost use Rattle.log_rules.specs.Instances.{tree_of_req, root_points, fits_inst, is_mapped, is_any_mapped};
 ghost use Rattle.vocabulary.specs.Prelude.{points_in, is_within};
 ghost use Rattle.semantics.specs.Rules.{is_of_wrong_tree, is_of_wrong_kind, is_not_covered, is_mapped_again, is_reduction, reduces_in, tree_of_inst, is_of_tree, fits, lacks, named_req};
 
@@ -160,21 +160,6 @@ fn lacks<P: PointSet>(draft: &Draft<P>, tally: &Tally, space: u32, fields: &Nums
     }
 }
 
-/// Whether one of two instances lacks a point of a space, or one of these fields.
-fn any_lacks<P: PointSet>(
-    draft: &Draft<P>,
-    tally: &Tally,
-    space: u32,
-    fields: &Nums,
-    src: u32,
-    dst: u32,
-) -> bool
-    ensures { IfKept draft.now tally.now (result
-        ≡ list_any (lacks draft.now (points_in draft.now space) fields.now) (src ∷ dst ∷ [])) }
-{
-    lacks(draft, tally, space, fields, src) || lacks(draft, tally, space, fields, dst)
-}
-
 /// Whether an instance lacks one of these fields.
 fn lacks_field<P: PointSet>(draft: &Draft<P>, fields: &Nums, id: u32) -> bool
     ensures { result ≡ lacks draft.now [] fields.now id }
@@ -182,24 +167,6 @@ fn lacks_field<P: PointSet>(draft: &Draft<P>, fields: &Nums, id: u32) -> bool
     match draft.inst(id) {
         Some(inst) => !is_within(fields.as_slice(), inst.fields.as_slice()),
         None => true,
-    }
-}
-
-/// Whether an instance lacks a point of a requirement, or one of these fields.
-fn lacks_of_req<P: PointSet>(
-    draft: &Draft<P>,
-    tally: &Tally,
-    task: u32,
-    number: u32,
-    fields: &Nums,
-    inst: u32,
-) -> bool
-    ensures { IfKept draft.now tally.now (result
-        ≡ lacks draft.now (points_of_req draft.now task number) fields.now inst) }
-{
-    match named_req(draft, task, number) {
-        Some(req) => lacks(draft, tally, req.space, fields, inst),
-        None => lacks_field(draft, fields, inst),
     }
 }
 
@@ -225,7 +192,10 @@ pub fn is_not_covered<P: PointSet>(draft: &Draft<P>, tally: &Tally, rec: &Record
             req,
             fields,
             inst,
-        } => lacks_of_req(draft, tally, *task, *req, fields, *inst),
+        } => match named_req(draft, *task, *req) {
+            Some(req) => lacks(draft, tally, req.space, fields, *inst),
+            None => lacks_field(draft, fields, *inst),
+        },
         Record::Copy {
             src,
             dst,
@@ -239,7 +209,9 @@ pub fn is_not_covered<P: PointSet>(draft: &Draft<P>, tally: &Tally, rec: &Record
             space,
             fields,
             ..
-        } => any_lacks(draft, tally, *space, fields, *src, *dst),
+        } => {
+            lacks(draft, tally, *space, fields, *src) || lacks(draft, tally, *space, fields, *dst)
+        }
         Record::Put {
             inst,
             space,

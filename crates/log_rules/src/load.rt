@@ -109,28 +109,27 @@ impl Loads {
         }
     }
 
-    /// One requirement more at the points of a space that are counted, and these fields.
+    /// One requirement more at the points of its space that are counted.
     fn add_space<P: PointSet>(
         &mut self,
         alloc: Global,
         log: &Counted<'_, P>,
-        tree: u32,
-        space: u32,
-        fields: &[u32],
+        req: &Req,
     ) -> Result<(), Memory>
-        requires { IsStrictlyIncreasing fields.now }
+        requires { IsStrictlyIncreasing req.now.fields }
         ensures { OnOk result (CountsBy log.now.draft.now log.now.corners
-            → CountsAt self.old self.new (is_held tree (points_counted log.now.draft.now space) fields.now)) }
+            → CountsAt self.old self.new (is_held req.now.tree (points_counted log.now.draft.now req.now.space)
+            req.now.fields)) }
     {
-        let Some(set) = log.draft.set(space) else {
+        let Some(set) = log.draft.set(req.space) else {
             return Ok(());
         };
         match log.corners {
             Some(corners) => {
                 let points = corners.points_in(alloc, set)?;
-                self.add_listed(tree, points.as_slice(), fields)?;
+                self.add_listed(req.tree, points.as_slice(), req.fields.as_slice())?;
             }
-            None => self.add_all(tree, set, fields)?,
+            None => self.add_all(req.tree, set, req.fields.as_slice())?,
         }
         Ok(())
     }
@@ -147,7 +146,7 @@ impl Loads {
             → CountsAt self.old self.new (λ k. reduces req.now.access && counts_at log.now.draft.now k req.now)) }
     {
         if reduces(req.access) {
-            self.add_space(alloc, log, req.tree, req.space, req.fields.as_slice())
+            self.add_space(alloc, log, req)
         } else {
             Ok(())
         }

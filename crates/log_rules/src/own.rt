@@ -12,25 +12,16 @@ ghost use Rattle.log_tables.specs.Views.{Ascends};
 ghost use Rattle.log_rules.specs.Own.{AreNumbered, claim_points, clashes_with, clashes_asked, first_clashes, clashes_row};
 ghost use Rattle.log_rules.specs.Tallied.{AreKept, IfKept, IfTally};
 
+use crate::claims::Asked;
 use crate::fields::meets;
 use crate::tally::{Tally, claims_many};
 use log_tables::{Draft, priv_of};
 use memory::Memory;
 use point_set::PointSet;
-use privilege::{Priv, agree};
+use privilege::agree;
 use semantics::Req;
 use spy_grammar::Record;
 use std::alloc::Global;
-
-/// What a requirement asks for: these fields of a space in a tree, for an item, with a privilege.
-#[derive(Clone, Copy)]
-struct Asked<'a> {
-    item: usize,
-    tree: u32,
-    space: u32,
-    fields: &'a [u32],
-    access: Priv,
-}
 
 /// Whether a requirement is of the item, and shares a place with what is asked for, where the two privileges do not agree.
 fn clashes_with<P: PointSet>(draft: &Draft<P>, tally: &Tally, req: &Req, asked: &Asked<'_>) -> bool
@@ -88,15 +79,7 @@ fn clashes_with_claims<P: PointSet>(
         (claim_points all (points_in draft.now asked.now.space))) }
 {
     let points = tally.places.points_in(alloc, draft, asked.space)?;
-    Ok(
-        tally.claims.clashes_any(
-            asked.item,
-            asked.tree,
-            points.as_slice(),
-            asked.fields,
-            asked.access,
-        ),
-    )
+    Ok(tally.claims.clashes_any(points.as_slice(), asked))
 }
 
 /// Whether some requirement of the item clashes so: the first, or a later one, whose places are claimed.

@@ -16,7 +16,7 @@ ghost use Rattle.log_rules.specs.Listing.{AddsAll, ids_listed};
 ghost use Rattle.log_rules.specs.Tallied.{AreAtEnd, IfTally, IsTally, Keeps, MayCount, rects_in};
 
 use crate::claim_points::ClaimPoints;
-use crate::claims::Claims;
+use crate::claims::{Asked, Claims};
 use crate::counts::{cells_asked, points_asked, size_asked};
 use crate::names::named_req;
 use crate::serial::note_all;
@@ -72,17 +72,23 @@ fn claimed_with<P: PointSet>(draft: &Draft<P>, tally: &Tally, rec: &Record) -> u
     raised(tally.claimed, tally.places.asked(draft, rec))
 }
 
+/// What a log declares so far, and at which points its requirements claim places.
+#[derive(Clone, Copy)]
+struct ClaimedLog<'w, P: PointSet> {
+    draft: &'w Draft<P>,
+    places: &'w ClaimPoints,
+}
+
 /// Claims the places of a record, if it is a requirement, and not the first of its task. Later ones are held against the first itself, so that a task with one requirement claims nothing. Nothing is claimed where the requirements ask for too many places.
 fn note_claims<P: PointSet>(
     alloc: Global,
     claims: &mut Claims,
-    places: &ClaimPoints,
+    log: &ClaimedLog<'_, P>,
     sum: u128,
-    draft: &Draft<P>,
     rec: &Record,
 ) -> Result<(), Memory>
-    ensures { OnOk result ((all : Option (List Rect)) → places.now.grid ≡ option_map grid_of all
-        → sum ≤ MOST_ACCESSES → AddsAt all claims.old claims.new (claimed draft.now rec.now)) }
+    ensures { OnOk result ((all : Option (List Rect)) → log.now.places.now.grid ≡ option_map grid_of all
+        → sum ≤ MOST_ACCESSES → AddsAt all claims.old claims.new (claimed log.now.draft.now rec.now)) }
 {
     if sum > MOST_ACCESSES {
         return Ok(());
@@ -96,17 +102,20 @@ fn note_claims<P: PointSet>(
             access,
             ..
         } => {
-            let item = draft.place(*task);
-            if draft.req_count(item) == 0 {
+            let item = log.draft.place(*task);
+            if log.draft.req_count(item) == 0 {
                 return Ok(());
             }
-            let points = places.points_in(alloc, draft, *space)?;
+            let points = log.places.points_in(alloc, log.draft, *space)?;
             claims.claim_all(
-                item,
-                *tree,
                 points.as_slice(),
-                fields.as_slice(),
-                priv_of(*access),
+                &Asked {
+                    item,
+                    tree: *tree,
+                    space: *space,
+                    fields: fields.as_slice(),
+                    access: priv_of(*access),
+                },
             )?;
             Ok(())
         }
@@ -294,7 +303,11 @@ impl Tally {
         tally.accesses = raised(tally.accesses, accesses_asked(draft, rec));
         note_listed(&mut tally.listed, rec)?;
         let claimed = claimed_with(draft, &tally, rec);
-        note_claims(alloc, &mut tally.claims, &tally.places, claimed, draft, rec)?;
+        let log = ClaimedLog {
+            draft,
+            places: &tally.places,
+        };
+        note_claims(alloc, &mut tally.claims, &log, claimed, rec)?;
         tally.pairs.note(alloc, &tally.places, draft, rec)?;
         tally.places.note(alloc, rec)?;
         tally.claimed = claimed;

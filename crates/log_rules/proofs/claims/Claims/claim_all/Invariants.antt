@@ -7,4 +7,4 @@ use Rattle.log_rules.proofs.claims.Claims.claim_all.Given as goal
 abbrev pub invariant-loop-point : goal.invariant-loop-point
 invariant-loop-point l =
     (k : OwnPlace) (a : Priv) → clashes_in l.self k a
-    ≡ (clashes_in l.initial.self k a || claims_at l.item l.tree (take l.point-index l.points) l.fields l.access k a)
+    ≡ (clashes_in l.initial.self k a || claims_at l.asked.item l.asked.tree (take l.point-index l.points) l.asked.fields.now l.asked.access k a)

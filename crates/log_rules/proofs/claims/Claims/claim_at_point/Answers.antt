@@ -5,7 +5,8 @@ use Rattle.log_rules.proofs.claims.Claims.claim_at_point.Goals as goal
 
 pub loop-field-preserved : goal.loop-field-preserved
 loop-field-preserved c = λ k a.
-    let field = get_or c.args.fields.now c.loop-field.field-index 0 in
+    let asked = c.args.asked.now in
+    let field = get_or asked.fields.now c.loop-field.field-index 0 in
     claims_at-field (clashes_in c.args.self.now k a) (clashes_in c.loop-field.self k a) (clashes_in c.claim.new.self k a)
-    c.args.item c.args.tree c.args.point field c.args.fields.now c.loop-field.field-index c.args.access k a
+    asked.item asked.tree c.args.point field asked.fields.now c.loop-field.field-index asked.access k a
     c.loop-field-test.true refl (c.loop-field.invariant k a) (c.in_ok-claim.ensures k a)

@@ -7,4 +7,4 @@ use Rattle.log_rules.proofs.claims.Claims.claim_at_point.Given as goal
 abbrev pub invariant-loop-field : goal.invariant-loop-field
 invariant-loop-field l =
     (k : OwnPlace) (a : Priv) → clashes_in l.self k a
-    ≡ (clashes_in l.initial.self k a || claims_at l.item l.tree (l.point ∷ []) (take l.field-index l.fields) l.access k a)
+    ≡ (clashes_in l.initial.self k a || claims_at l.asked.item l.asked.tree (l.point ∷ []) (take l.field-index l.asked.fields.now) l.asked.access k a)
