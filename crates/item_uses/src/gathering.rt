@@ -10,7 +10,7 @@ ghost use Rattle.item_uses.specs.Usages.{usage, usage_of, usages};
 ghost use Rattle.item_uses.specs.Gathered.{own_usages, with_usage};
 
 use crate::item::ItemUses;
-use crate::usage::Use;
+use crate::usage::{Asked, Use};
 use bumpalo::Bump;
 use log_tables::Draft;
 use point_set::PointSet;
@@ -18,29 +18,19 @@ use privilege::{Coherence, Priv};
 use semantics::{Item, ItemBody, Req};
 use std::alloc::{AllocError, Global};
 
-/// A requirement, with its fields in the arena.
+/// What is asked for, with its fields in the arena.
 fn placed_use<'a, P: PointSet + Copy>(
     bump: &'a Bump,
     draft: &Draft<P>,
-    tree: u32,
-    space: u32,
-    fields: &[u32],
-    access: Priv,
-    coherence: Coherence,
+    asked: &Asked<'_>,
 ) -> Result<Use<'a, P>, AllocError>
-    requires { IsStrictlyIncreasing fields.now }
-    ensures { IfOk result (λ one.
-        one ≡ usage tree space (points_in draft.now space) fields.now access coherence) }
+    requires { IsStrictlyIncreasing asked.now.fields.now }
+    ensures { IfOk result (λ one. one ≡ usage asked.now.tree asked.now.space
+        (points_in draft.now asked.now.space) asked.now.fields.now asked.now.access asked.now.coherence) }
 {
-    let fields = bump.try_alloc_slice_copy(fields)?;
-    Ok(Use::new(
-        tree,
-        space,
-        draft.set(space).copied(),
-        fields,
-        access,
-        coherence,
-    ))
+    let fields = bump.try_alloc_slice_copy(asked.fields)?;
+    let placed = Asked { fields, ..*asked };
+    Ok(Use::new(&placed, draft.set(asked.space).copied()))
 }
 
 /// What an item asks for by itself.
@@ -61,15 +51,14 @@ fn own_uses<'a, P: PointSet + Copy>(
         ..
     } = &item.body
     {
-        let one = placed_use(
-            bump,
-            draft,
-            *tree,
-            *space,
-            fields.as_slice(),
-            Priv::Wd,
-            Coherence::Exclusive,
-        )?;
+        let asked = Asked {
+            tree: *tree,
+            space: *space,
+            fields: fields.as_slice(),
+            access: Priv::Wd,
+            coherence: Coherence::Exclusive,
+        };
+        let one = placed_use(bump, draft, &asked)?;
         uses.push(one)?;
     }
     Ok(uses)
@@ -118,15 +107,14 @@ fn add_req<'a, P: PointSet + Copy>(
     if !is_task_at(draft.items(), req.item) {
         return Ok(());
     }
-    let one = placed_use(
-        bump,
-        draft,
-        req.tree,
-        req.space,
-        req.fields.as_slice(),
-        req.access,
-        req.coherence,
-    )?;
+    let asked = Asked {
+        tree: req.tree,
+        space: req.space,
+        fields: req.fields.as_slice(),
+        access: req.access,
+        coherence: req.coherence,
+    };
+    let one = placed_use(bump, draft, &asked)?;
     items[req.item].push(one)
 }
 

@@ -20,6 +20,16 @@ use semantics::Place;
 use std::hash::{DefaultHasher, Hash, Hasher};
 use std::marker::Model;
 
+/// What a requirement or a fill asks for: these fields of a space in a tree, with a privilege and a coherence.
+#[derive(Clone, Copy)]
+pub(crate) struct Asked<'a> {
+    pub(crate) tree: u32,
+    pub(crate) space: u32,
+    pub(crate) fields: &'a [u32],
+    pub(crate) access: Priv,
+    pub(crate) coherence: Coherence,
+}
+
 /// A requirement with its points, or a fill, which writes, is exclusive, and sees nothing of the old contents.
 #[derive(Drop)]
 pub struct Use<'a, P: PointSet + Copy> {
@@ -111,35 +121,29 @@ fn access_number(access: Priv) -> u64 {
 }
 
 impl<'a, P: PointSet + Copy> Use<'a, P> {
-    /// The requirement of these fields at the points of this set, those of the space, or at no point.
-    pub fn new(
-        tree: u32,
-        space: u32,
-        set: Option<P>,
-        fields: &'a [u32],
-        access: Priv,
-        coherence: Coherence,
-    ) -> Use<'a, P>
-        requires { IsStrictlyIncreasing fields.now }
-        ensures { result ≡ usage tree space (option_map_or P.points set []) fields.now access coherence }
+    /// What is asked for at the points of this set, those of the space, or at no point.
+    pub(crate) fn new(asked: &Asked<'a>, set: Option<P>) -> Use<'a, P>
+        requires { IsStrictlyIncreasing asked.now.fields.now }
+        ensures { result ≡ usage asked.now.tree asked.now.space (option_map_or P.points set [])
+            asked.now.fields.now asked.now.access asked.now.coherence }
     {
         let (first_point, last_point) = ends_of(&set);
         let span = Span {
-            first_tree: tree,
-            last_tree: tree,
+            first_tree: asked.tree,
+            last_tree: asked.tree,
             first_point,
             last_point,
-            first_field: first_field(fields),
-            last_field: last_field(fields),
-            accesses: Accesses::of(access),
+            first_field: first_field(asked.fields),
+            last_field: last_field(asked.fields),
+            accesses: Accesses::of(asked.access),
         };
         Use {
-            tree,
-            space,
+            tree: asked.tree,
+            space: asked.space,
             set,
-            fields,
-            access,
-            coherence,
+            fields: asked.fields,
+            access: asked.access,
+            coherence: asked.coherence,
             span,
         }
     }
