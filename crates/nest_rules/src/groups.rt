@@ -11,7 +11,6 @@ use indexmap::IndexMap;
 use log_tables::{Rows, priv_of};
 use semantics::{Group, GroupMember, GroupReq, MOST_RECORDS};
 use spy_grammar::NRecord;
-use spy_words::{Nums, PrivWord};
 use std::alloc::{AllocError, Global};
 use std::marker::Model;
 
@@ -156,30 +155,6 @@ impl Groups {
         Ok(())
     }
 
-    fn add_privilege(
-        &mut self,
-        group: u32,
-        tree: u32,
-        space: u32,
-        fields: Nums,
-        access: PrivWord,
-    ) -> Result<(), AllocError>
-        requires ascend { IsStrictlyIncreasing fields }
-        requires few { length self.old.privileges < 2 ^ 32 - 1 }
-        ensures { OnOk result (self.new ≡ with_nested self.old (nested.Greq group tree space fields access)) }
-    {
-        let count = self.count(group) + 1;
-        let privilege = GroupReq {
-            group,
-            number: count as u32,
-            tree,
-            space,
-            fields,
-            access: priv_of(access),
-        };
-        self.push_privilege(privilege, count)
-    }
-
     /// One record more.
     pub(crate) fn add(&mut self, rec: NRecord) -> Result<(), AllocError>
         requires good { GoodNested rec }
@@ -195,7 +170,18 @@ impl Groups {
                 space,
                 fields,
                 access,
-            } => self.add_privilege(group, tree, space, fields, access),
+            } => {
+                let count = self.count(group) + 1;
+                let privilege = GroupReq {
+                    group,
+                    number: count as u32,
+                    tree,
+                    space,
+                    fields,
+                    access: priv_of(access),
+                };
+                self.push_privilege(privilege, count)
+            }
             NRecord::Member { task, group } => self.add_member(task, group),
         }
     }
