@@ -14,6 +14,17 @@ use point_set::PointSet;
 use privilege::{Priv, agree, contains};
 use std::marker::Model;
 
+/// What a requirement asks for, or a privilege allows: these fields of a space in a tree, with a privilege.
+#[derive(Clone, Copy)]
+pub struct Asked<'a> {
+    /// Its number among others.
+    pub number: u32,
+    pub tree: u32,
+    pub space: u32,
+    pub fields: &'a [u32],
+    pub access: Priv,
+}
+
 /// Some fields of the points of a space of a tree, and what is asked for, or allowed, there.
 #[derive(Drop)]
 pub struct Claim<'a, P: PointSet + Copy> {
@@ -119,25 +130,19 @@ fn serves_each<P: PointSet + Copy>(one: &Claim<'_, P>, asked: &Claim<'_, P>, fie
 }
 
 impl<'a, P: PointSet + Copy> Claim<'a, P> {
-    /// These fields of the points of this set, that of a space, or of no point, with this privilege.
-    pub fn new(
-        number: u32,
-        tree: u32,
-        space: u32,
-        set: Option<P>,
-        fields: &'a [u32],
-        access: Priv,
-    ) -> Claim<'a, P>
-        requires { IsStrictlyIncreasing fields.now }
-        ensures { result ≡ claimed number tree space (option_map_or P.points set []) fields.now access }
+    /// What is asked for at the points of this set, that of its space, or at no point.
+    pub fn new(asked: &Asked<'a>, set: Option<P>) -> Claim<'a, P>
+        requires { IsStrictlyIncreasing asked.now.fields.now }
+        ensures { result ≡ claimed asked.now.number asked.now.tree asked.now.space
+            (option_map_or P.points set []) asked.now.fields.now asked.now.access }
     {
         Claim {
-            number,
-            tree,
-            space,
+            number: asked.number,
+            tree: asked.tree,
+            space: asked.space,
             set,
-            fields,
-            access,
+            fields: asked.fields,
+            access: asked.access,
         }
     }
 

@@ -6,7 +6,7 @@ ghost use Rattle.std.specs.List.Sorted.{IsStrictlyIncreasing};
 ghost use Rattle.nested.specs.Rows.{claim_of, own_rows_by, with_own};
 
 use crate::row::Row;
-use licences::Claim;
+use licences::{Asked, Claim};
 use log_tables::Draft;
 use point_set::PointSet;
 use semantics::Req;
@@ -18,14 +18,14 @@ fn req_claim<'l, P: PointSet + Copy>(draft: &Draft<P>, req: &'l Req) -> Claim<'l
     ensures { result ≡ claim_of draft.now req.now }
 {
     let set = draft.set(req.space).copied();
-    Claim::new(
-        req.number,
-        req.tree,
-        req.space,
-        set,
-        req.fields.as_slice(),
-        req.access,
-    )
+    let asked = Asked {
+        number: req.number,
+        tree: req.tree,
+        space: req.space,
+        fields: req.fields.as_slice(),
+        access: req.access,
+    };
+    Claim::new(&asked, set)
 }
 
 /// So many rows without a claim.

@@ -9,7 +9,7 @@ ghost use Rattle.nested.specs.Rows.{AreNamed, claim_of, row_among, row_in, rows_
 
 use crate::row::Row;
 use bumpalo::Bump;
-use licences::Claim;
+use licences::{Asked, Claim};
 use log_tables::Draft;
 use nest_rules::Groups;
 use point_set::PointSet;
@@ -27,14 +27,14 @@ fn privilege_claim<'a, P: PointSet + Copy>(
 {
     let fields = bump.try_alloc_slice_copy(privilege.fields.as_slice())?;
     let set = draft.set(privilege.space).copied();
-    Ok(Claim::new(
-        privilege.number,
-        privilege.tree,
-        privilege.space,
-        set,
+    let asked = Asked {
+        number: privilege.number,
+        tree: privilege.tree,
+        space: privilege.space,
         fields,
-        privilege.access,
-    ))
+        access: privilege.access,
+    };
+    Ok(Claim::new(&asked, set))
 }
 
 /// The privileges of one group.
