@@ -19,22 +19,28 @@ use semantics::{ItemBody, Req};
 use std::alloc::{AllocError, Global};
 use value_terms::Base;
 
-/// One change more at these fields of the points of a space.
-fn note_in_space<P: PointSet + Copy>(
-    histories: &mut PlaceLists<Change>,
-    log: &CutLog<'_, '_, '_, P>,
+/// Some fields of the points of a space in a tree.
+#[derive(Clone, Copy)]
+struct Region<'r> {
     tree: u32,
     space: u32,
-    fields: &[u32],
+    fields: &'r [u32],
+}
+
+/// One change more in a region.
+fn note_in_region<P: PointSet + Copy>(
+    histories: &mut PlaceLists<Change>,
+    log: &CutLog<'_, '_, '_, P>,
+    region: &Region<'_>,
     change: Change,
 ) -> Result<(), AllocError>
-    requires { IsStrictlyIncreasing fields.now }
+    requires { IsStrictlyIncreasing region.now.fields.now }
     ensures { OnOk result (Adds change
-        (covered tree (points_in log.now space) fields.now)
+        (covered region.now.tree (points_in log.now region.now.space) region.now.fields.now)
         (listed histories.old) (listed histories.new)) }
 {
-    match log.set(space) {
-        Some(set) => note_all(histories, &set, tree, fields, change),
+    match log.set(region.space) {
+        Some(set) => note_all(histories, &set, region.tree, region.fields, change),
         None => Ok(()),
     }
 }
@@ -55,7 +61,12 @@ fn note_req<P: PointSet + Copy>(
         Some(action) => {
             let change = Change { moment, action };
             let fields = req.fields.as_slice();
-            note_in_space(histories, log, req.tree, req.space, fields, change)
+            let region = Region {
+                tree: req.tree,
+                space: req.space,
+                fields,
+            };
+            note_in_region(histories, log, &region, change)
         }
         None => Ok(()),
     }
@@ -126,7 +137,12 @@ fn note_item<P: PointSet + Copy>(
                 action: Action::Put(Base::Const(*n)),
             };
             let fields = fields.as_slice();
-            note_in_space(histories, log, *tree, *space, fields, change)
+            let region = Region {
+                tree: *tree,
+                space: *space,
+                fields,
+            };
+            note_in_region(histories, log, &region, change)
         }
     }
 }

@@ -15,8 +15,8 @@ returns-in_default g c = λ p.
     no-item c.args.log.now c.args.moment c.args.item p (listed c.args.histories.now p)
     (item-past c.items.result.now c.args.log.now.items c.args.item c.items.ensures c.in_default.ensures.lookup.3)
 
-pub note_in_space-requires : goal.note_in_space-requires
-note_in_space-requires g c =
+pub note_in_region-requires : goal.note_in_region-requires
+note_in_region-requires g c =
     let all = subst (λ xs. All (λ i. IsStrictlyIncreasing (body_fields i.body)) xs) (sym c.items.ensures) c.fill_fields_ascend.ensures in
     subst IsStrictlyIncreasing (sym c.as_slice-fields.ensures)
     (fill-fields c.items.result.now c.args.item c.in-Some.found.now c.in-Fill.tree c.in-Fill.space c.in-Fill.fields c.in-Fill.n all c.in-Some.ensures.lookup.3.0 c.in-Some.ensures.lookup.1 c.in-Fill.is)
@@ -38,11 +38,11 @@ pub returns-in-Fill : goal.returns-in-Fill
 returns-in-Fill g c =
     let t = c.args.log.now in
     let lt = c.in-Some.ensures.lookup.3.0 in
-    on_ok c.note_in_space.result (λ h p. h p
+    on_ok c.note_in_region.result (λ h p. h p
     ∙ ap (λ fields. listed c.args.histories.now p
     ++ cond (covered c.in-Fill.tree (points_in t c.in-Fill.space) fields p)
     (record { moment = c.args.moment; action = Put (Const c.in-Fill.n) } ∷ []) []) c.as_slice-fields.ensures
     ∙ ap (λ xs. listed c.args.histories.now p ++ xs)
     (fill-item t c.args.moment c.args.item p c.in-Some.found.now c.in-Fill.tree c.in-Fill.space c.in-Fill.fields c.in-Fill.n
     (item-here c.items.result.now t.items c.args.item c.in-Some.found.now c.items.ensures lt c.in-Some.ensures.lookup.1)
-    c.in-Fill.is)) c.note_in_space.ensures
+    c.in-Fill.is)) c.note_in_region.ensures
