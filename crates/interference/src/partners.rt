@@ -134,6 +134,14 @@ pub(crate) fn alike_end(
     representatives.len()
 }
 
+/// Items in a row, from one to before another, and bounds on what each of them asks for.
+#[derive(Clone, Copy)]
+struct Block<'s> {
+    bounds: &'s Span,
+    from: usize,
+    to: usize,
+}
+
 /// The first pair of an item with those from one to before another.
 fn partner<'a, P: PointSet + Copy>(
     search: &Search<'_, 'a, P>,
@@ -164,24 +172,23 @@ fn partner<'a, P: PointSet + Copy>(
 fn partner_in_block<'a, P: PointSet + Copy>(
     search: &Search<'_, 'a, P>,
     memory: &mut Recent,
-    block: &Span,
     a: usize,
-    from: usize,
-    to: usize,
+    block: &Block<'_>,
 ) -> Option<Pair>
     requires search { IsSearch search.now }
     requires memory { AreRight search.now.items.now memory.old.answers }
     requires place { a < length search.now.items.now }
-    requires order { a ≤ from }
-    requires end { (from ≤ to) × (to ≤ length search.now.items.now) }
-    requires block { (i : ℕ) → from ≤ i → i < to → Bounds block.now (usages_at search.now.items.now i) }
-    ensures none { IfNone result (row (asked_of search.now.asked) search.now.items.now a from
-        ≡ row (asked_of search.now.asked) search.now.items.now a to) }
-    ensures some { IfSome result (StartsRow (asked_of search.now.asked) search.now.items.now a from) }
+    requires order { a ≤ block.now.from }
+    requires end { (block.now.from ≤ block.now.to) × (block.now.to ≤ length search.now.items.now) }
+    requires block { (i : ℕ) → block.now.from ≤ i → i < block.now.to
+        → Bounds block.now.bounds.now (usages_at search.now.items.now i) }
+    ensures none { IfNone result (row (asked_of search.now.asked) search.now.items.now a block.now.from
+        ≡ row (asked_of search.now.asked) search.now.items.now a block.now.to) }
+    ensures some { IfSome result (StartsRow (asked_of search.now.asked) search.now.items.now a block.now.from) }
     ensures memory { AreRight search.now.items.now memory.new.answers }
 {
-    if search.items[a].may_interfere(block) {
-        partner(search, memory, a, from, to)
+    if search.items[a].may_interfere(block.bounds) {
+        partner(search, memory, a, block.from, block.to)
     } else {
         None
     }
@@ -208,7 +215,12 @@ pub(crate) fn next_partner<'a, P: PointSet + Copy>(
             return None;
         }
         let end = (64 * k).saturating_add(64).min(search.items.len());
-        if let Some(pair) = partner_in_block(search, memory, &search.blocks[k], a, start, end) {
+        let block = Block {
+            bounds: &search.blocks[k],
+            from: start,
+            to: end,
+        };
+        if let Some(pair) = partner_in_block(search, memory, a, &block) {
             return Some(pair);
         }
         start = end;

@@ -9,6 +9,6 @@ use Rattle.interference.proofs.partners.partner_in_block.Goals as goal
 pub returns-else-may_interfere-clause-none : goal.returns-else-may_interfere-clause-none
 returns-else-may_interfere-clause-none g c =
     let here = get_or_default c.args.search.now.items.now c.args.a c.index-search-a.result [] c.requires.place in
-    row_to (asked_of c.args.search.now.asked) c.args.search.now.items.now c.args.a c.args.from c.args.to c.requires.end.0 c.requires.end.1
+    row_to (asked_of c.args.search.now.asked) c.args.search.now.items.now c.args.a c.args.block.now.from c.args.block.now.to c.requires.end.0 c.requires.end.1
     (λ i low high. ap (λ us. kind_between us (usages_at c.args.search.now.items.now i)) (sym here)
     ∙ c.may_interfere.ensures c.if-may_interfere.false (usages_at c.args.search.now.items.now i) (c.requires.block i low high))
