@@ -6,7 +6,7 @@ ghost use Rattle.findings.specs.declared.finding.Finding.TheVariants as findings
 ghost use Rattle.findings.specs.Texts.{Good, IsInRange, small};
 
 use findings::{DepList, EventList, Finding, PairList, lines_fit};
-use semantics::{Cell, Place};
+use semantics::{Ask, Cell, Place};
 use spy_grammar::Code;
 use value_terms::Value;
 
@@ -62,17 +62,17 @@ pub fn race_found(a: u32, b: u32, cell: Cell) -> Finding
 }
 
 /// A read of a requirement of a task, and the value that it got and the one that it should have got.
-pub fn differ_found(task: u32, req: u32, point: u64, field: u32, got: Value, want: Value) -> Finding
-    ensures finding { result ≡ findings.Differ task req point field got want }
+pub fn differ_found(read: Ask, got: Value, want: Value) -> Finding
+    ensures finding { result ≡ findings.Differ read.task read.req read.point read.field got want }
     ensures good { Good result }
 {
     got.rules();
     want.rules();
     Finding::Differ {
-        task,
-        req,
-        point,
-        field,
+        task: read.task,
+        req: read.req,
+        point: read.point,
+        field: read.field,
         got,
         want,
     }

@@ -18,6 +18,7 @@ use logs::Log;
 use point_kinds::FirstPoints;
 use region_tree::ArenaSet;
 use replay::{Reads, ReplayEnd, replay};
+use semantics::Ask;
 use serial_exec::Versions;
 use std::alloc::Global;
 
@@ -70,7 +71,15 @@ pub(crate) fn judged_reads<'a, P: ArenaSet<'a>>(
                 got,
                 want,
             },
-        ) => Err(Stop::Found(differ_found(task, req, point, field, got, want))),
+        ) => {
+            let read = Ask {
+                task,
+                req,
+                point,
+                field,
+            };
+            Err(Stop::Found(differ_found(read, got, want)))
+        }
         Err(ReplayEnd::Memory) => Err(Stop::Memory),
     }
 }
