@@ -8,4 +8,4 @@
 mod node_touches;
 mod shown;
 
-pub use shown::{ScanEnd, scan};
+pub use shown::{ScanEnd, SortedNodes, scan};

@@ -19,6 +19,14 @@ use region_tree::ArenaSet;
 use semantics::Cell;
 use std::alloc::{AllocError, Global};
 
+/// The graph of the nodes of a log, their order, and which are before which.
+#[derive(Clone, Copy)]
+pub struct SortedNodes<'g> {
+    pub graph: &'g Graph,
+    pub order: &'g Order,
+    pub reach: &'g Reach,
+}
+
 /// Why a scan finds no log free of races.
 #[derive(Clone, Copy)]
 pub enum ScanEnd {
@@ -62,21 +70,19 @@ fn race_of<'a, P: ArenaSet<'a>>(
 pub fn scan<'a, P: ArenaSet<'a>>(
     alloc: Global,
     log: &Log<'a, P>,
-    graph: &Graph,
-    order: &Order,
-    reach: &Reach,
+    sorted: &SortedNodes<'_>,
     firsts: &FirstPoints,
 ) -> Result<(), ScanEnd>
     requires mapped { unmapped_fault log.now ≡ None }
-    requires graph { graph.now ≡ graph_of log.now.nodes }
-    requires order { IsOrderOf graph.now order.now }
-    requires reach { AreMarksOf graph.now reach.now }
+    requires graph { sorted.now.graph.now ≡ graph_of log.now.nodes }
+    requires order { IsOrderOf sorted.now.graph.now sorted.now.order.now }
+    requires reach { AreMarksOf sorted.now.graph.now sorted.now.reach.now }
     requires firsts { AreFirsts log.now firsts.now }
     ensures free { OnOk result (IsRaceFree log.now) }
     ensures race { IfErr result (IsEndOf log.now) }
 {
     let log = CutLog::at(log, firsts.as_slice());
-    match race_of(alloc, &log, graph, order, reach)? {
+    match race_of(alloc, &log, sorted.graph, sorted.order, sorted.reach)? {
         None => Ok(()),
         Some(FoundRace { a, b, cell }) => Err(ScanEnd::Race { a, b, cell }),
     }

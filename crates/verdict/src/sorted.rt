@@ -23,7 +23,7 @@ use logs::Log;
 use memory::Memory;
 use point_kinds::FirstPoints;
 use point_set::PointSet;
-use race_scan::{ScanEnd, scan};
+use race_scan::{ScanEnd, SortedNodes, scan};
 use read_findings::read_finding;
 use region_tree::ArenaSet;
 use semantics::Ask;
@@ -115,14 +115,12 @@ fn raced<'a, P: ArenaSet<'a>>(
     ensures free { OnOk result (IsRaceFree log.now) }
     ensures stop { IfErr result (IsStop (FindsRace log.now)) }
 {
-    match scan(
-        alloc,
-        log,
-        &sorting.graph,
-        &sorting.order,
-        &sorting.reach,
-        firsts,
-    ) {
+    let sorted = SortedNodes {
+        graph: &sorting.graph,
+        order: &sorting.order,
+        reach: &sorting.reach,
+    };
+    match scan(alloc, log, &sorted, firsts) {
         Ok(()) => Ok(()),
         Err(ScanEnd::Race { a, b, cell }) => {
             let found = race_found(event_at(log, a), event_at(log, b), cell);

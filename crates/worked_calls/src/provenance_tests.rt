@@ -12,7 +12,7 @@ use event_graph::{Order, nodes_in};
 use log_decl::Log;
 use point_kinds::FirstPoints;
 use provenance::{TraceEnd, trace};
-use race_scan::scan;
+use race_scan::{SortedNodes, scan};
 use reach_marks::Reach;
 use region_tree::ArenaSet;
 use semantics::{Ask, Link, LinkKind};
@@ -172,7 +172,12 @@ fn ask<'a, P: ArenaSet<'a>>(
     ) else {
         return Err("no memory".into());
     };
-    match scan(alloc, log, &graph, &order, &reach, &firsts) {
+    let sorted = SortedNodes {
+        graph: &graph,
+        order: &order,
+        reach: &reach,
+    };
+    match scan(alloc, log, &sorted, &firsts) {
         Ok(()) => is_found(traced(alloc, log, &order, read), found),
         Err(_) => Err("a race".into()),
     }

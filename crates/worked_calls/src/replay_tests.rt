@@ -14,7 +14,7 @@ use bumpalo::Bump;
 use event_graph::{Order, nodes_in};
 use log_decl::Log;
 use point_kinds::FirstPoints;
-use race_scan::{ScanEnd, scan};
+use race_scan::{ScanEnd, SortedNodes, scan};
 use reach_marks::Reach;
 use region_tree::ArenaSet;
 use replay::{Reads, ReplayEnd, replay};
@@ -158,7 +158,12 @@ fn ask<'a, P: ArenaSet<'a>>(
     ) else {
         return Err("no memory".into());
     };
-    match scan(alloc, log, &graph, &order, &reach, &firsts) {
+    let sorted = SortedNodes {
+        graph: &graph,
+        order: &order,
+        reach: &reach,
+    };
+    match scan(alloc, log, &sorted, &firsts) {
         Ok(()) => {
             let (Ok(first), Ok(all)) = (
                 replay_by(alloc, log, &order, &firsts, false),
