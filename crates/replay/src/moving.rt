@@ -36,9 +36,25 @@ pub(crate) struct Unlike {
 /// What a task reads by its requirement of a number: a cell.
 #[derive(Clone, Copy)]
 pub(crate) struct Reading {
+    /// The position of the task among the items.
+    pub(crate) item: usize,
     pub(crate) task: u32,
     pub(crate) number: u32,
     pub(crate) cell: Cell,
+}
+
+/// A place, and the position of an item that reads there.
+#[derive(Clone, Copy)]
+struct ItemPlace {
+    item: usize,
+    place: Place,
+}
+
+/// An item, and the position of a requirement of it.
+#[derive(Clone, Copy)]
+struct OwnReq {
+    item: usize,
+    req: usize,
 }
 
 /// What a replay goes by: a log, the same cut to the points at which it is replayed, and what its items want there.
@@ -87,26 +103,26 @@ impl<'r, 'a, P: PointSet + Copy> Replay<'r, 'a, P> {
         &self,
         store: &mut Store,
         wanted: &mut PlaceLists<usize>,
-        item: usize,
-        place: &Place,
+        at: &ItemPlace,
         got: usize,
     ) -> Result<Option<Unlike>, Memory>
-        requires item { item < length self.now.versions.now.moments }
+        requires item { at.now.item < length self.now.versions.now.moments }
         requires got { got < length store.old.values }
         requires wanted { AreWanted store.old.values self.now.versions.now wanted.old }
         ensures unlike { IfOk result (λ r. MatchOption r
-            (numbered.value_at store.old.values got ≡ value_at self.now.versions.now item place.now)
+            (numbered.value_at store.old.values got
+            ≡ value_at self.now.versions.now at.now.item at.now.place)
             (IsUnlike (numbered.value_at store.old.values got)
-            (value_at self.now.versions.now item place.now))) }
+            (value_at self.now.versions.now at.now.item at.now.place))) }
         ensures wanted { OnOk result (AreWanted store.new.values self.now.versions.now wanted.new) }
         ensures cells { store.new.cells ≡ store.old.cells }
     {
-        let number = number_wanted(wanted, store, self.versions, item, place)?;
+        let number = number_wanted(wanted, store, self.versions, at.item, &at.place)?;
         if store.same(got, number)? {
             return Ok(None);
         }
         let got = store.value_of(got)?;
-        let want = self.versions.want(self.alloc, item, place)?;
+        let want = self.versions.want(self.alloc, at.item, &at.place)?;
         Ok(Some(Unlike { got, want }))
     }
 
@@ -115,11 +131,10 @@ impl<'r, 'a, P: PointSet + Copy> Replay<'r, 'a, P> {
         &self,
         store: &mut Store,
         wanted: &mut PlaceLists<usize>,
-        item: usize,
         reading: Reading,
         got: usize,
     ) -> Result<(), ReplayEnd>
-        requires item { IsOfItem self.now.cut.now item (read_move reading) }
+        requires item { IsOfItem self.now.cut.now reading.item (read_move reading) }
         requires inst { AreOfInsts self.now.cut.now (read_move reading) }
         requires versions { AreVersionsIn self.now.cut.now self.now.versions.now }
         requires got { got < length store.old.values }
@@ -131,12 +146,15 @@ impl<'r, 'a, P: PointSet + Copy> Replay<'r, 'a, P> {
         ensures end { IfErr result (Tells self.now.cut.now (difference self.now.cut.now
             (read_move reading) (λ c. numbered.value_at store.old.values got))) }
     {
-        let place = Place {
-            tree: tree_of(self.cut, item, reading.number),
-            point: reading.cell.point,
-            field: reading.cell.field,
+        let at = ItemPlace {
+            item: reading.item,
+            place: Place {
+                tree: tree_of(self.cut, reading.item, reading.number),
+                point: reading.cell.point,
+                field: reading.cell.field,
+            },
         };
-        match self.unlike_at(store, wanted, item, &place, got)? {
+        match self.unlike_at(store, wanted, &at, got)? {
             None => Ok(()),
             Some(Unlike { got, want }) => Err(ReplayEnd::Differ {
                 task: reading.task,
@@ -169,12 +187,11 @@ impl<'r, 'a, P: PointSet + Copy> Replay<'r, 'a, P> {
         &self,
         store: &mut Store,
         wanted: &mut PlaceLists<usize>,
-        item: usize,
         req: usize,
         reading: Reading,
     ) -> Result<(), ReplayEnd>
         requires allowed { IsAllowed self.now.log.now (read_move reading) req }
-        requires item { IsOfItem self.now.cut.now item (read_move reading) }
+        requires item { IsOfItem self.now.cut.now reading.item (read_move reading) }
         requires inst { AreOfInsts self.now.cut.now (read_move reading) }
         requires versions { AreVersionsIn self.now.cut.now self.now.versions.now }
         requires cell { HasCells store.old.cells (read_move reading) }
@@ -187,7 +204,7 @@ impl<'r, 'a, P: PointSet + Copy> Replay<'r, 'a, P> {
             (read_move reading) (value_in store.old.cells))) }
     {
         let got = self.number_read(store, req, reading);
-        self.judge(store, wanted, item, reading, got)
+        self.judge(store, wanted, reading, got)
     }
 
     /// Puts what a task writes by the requirement at a position into its view.
@@ -219,12 +236,11 @@ impl<'r, 'a, P: PointSet + Copy> Replay<'r, 'a, P> {
         &self,
         store: &mut Store,
         wanted: &mut PlaceLists<usize>,
-        item: usize,
-        req: usize,
+        own: OwnReq,
         step: &Move,
     ) -> Result<(), ReplayEnd>
-        requires allowed { IsAllowed self.now.log.now step.now req }
-        requires item { IsOfItem self.now.cut.now item step.now }
+        requires allowed { IsAllowed self.now.log.now step.now own.req }
+        requires item { IsOfItem self.now.cut.now own.item step.now }
         requires insts { AreOfInsts self.now.cut.now step.now }
         requires versions { AreVersionsIn self.now.cut.now self.now.versions.now }
         requires cells { HasCells store.old.cells step.now }
@@ -242,9 +258,17 @@ impl<'r, 'a, P: PointSet + Copy> Replay<'r, 'a, P> {
                 task,
                 req: number,
                 cell,
-            } => self.read(store, wanted, item, req, Reading { task, number, cell }),
+            } => {
+                let reading = Reading {
+                    item: own.item,
+                    task,
+                    number,
+                    cell,
+                };
+                self.read(store, wanted, own.req, reading)
+            }
             Move::Write { task, cell } => {
-                self.write(store, req, task, &cell)?;
+                self.write(store, own.req, task, &cell)?;
                 Ok(())
             }
             Move::Reduce {
@@ -253,7 +277,7 @@ impl<'r, 'a, P: PointSet + Copy> Replay<'r, 'a, P> {
                 cell,
                 ..
             } => {
-                let mut view = store.view_red(self.log, req);
+                let mut view = store.view_red(self.log, own.req);
                 view.fold_in(cell.point, cell.field, Contribution { task, req: number })?;
                 Ok(())
             }
@@ -285,7 +309,7 @@ impl<'r, 'a, P: PointSet + Copy> Replay<'r, 'a, P> {
             (difference self.now.cut.now action.now.step (value_in store.old.cells))) }
     {
         match action.req {
-            Some(req) => self.take_by(store, wanted, item, req, &action.step),
+            Some(req) => self.take_by(store, wanted, OwnReq { item, req }, &action.step),
             None => {
                 store.apply(&action.step)?;
                 Ok(())
