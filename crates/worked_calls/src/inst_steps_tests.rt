@@ -28,23 +28,31 @@ fn base_at(store: &Store, inst: u32, point: u64, field: u32) -> Option<Base> {
     }
 }
 
-/// Whether a requirement reads and writes, and a store has the cell to which a point and a field of it are mapped.
-fn may_view<P: PointSet + Copy>(
-    store: &Store,
-    log: &Log<'_, P>,
+/// A point and a field of the requirement at a position.
+#[derive(Clone, Copy)]
+struct Viewed {
     req: usize,
     point: u64,
     field: u32,
-) -> bool
-    ensures access { IsTrue result → HasPrivilege log.now req Priv.Rw }
-    ensures there { IsTrue result → contains_key store.now.cells (viewed_cell log.now req point field) ≡ true }
+}
+
+/// Whether a requirement reads and writes, and a store has the cell to which a point and a field of it are mapped.
+fn may_view<P: PointSet + Copy>(store: &Store, log: &Log<'_, P>, viewed: Viewed) -> bool
+    ensures access { IsTrue result → HasPrivilege log.now viewed.req Priv.Rw }
+    ensures there { IsTrue result → contains_key store.now.cells
+        (viewed_cell log.now viewed.req viewed.point viewed.field) ≡ true }
 {
-    let inst = match log.inst_of(req, field) {
+    let inst = match log.inst_of(viewed.req, viewed.field) {
         Some(inst) => inst,
         None => 0,
     };
-    let is_there = store.number(&Cell { inst, point, field }).is_some();
-    match log.reqs().get(req) {
+    let cell = Cell {
+        inst,
+        point: viewed.point,
+        field: viewed.field,
+    };
+    let is_there = store.number(&cell).is_some();
+    match log.reqs().get(viewed.req) {
         Some(req) => req.access == Priv::Rw && is_there,
         None => false,
     }
@@ -54,21 +62,21 @@ fn may_view<P: PointSet + Copy>(
 fn replace_by_view<P: PointSet + Copy>(
     store: &mut Store,
     log: &Log<'_, P>,
-    req: usize,
-    point: u64,
-    field: u32,
+    viewed: Viewed,
     number: usize,
 ) -> usize
-    requires access { HasPrivilege log.now req Priv.Rw }
-    requires there { contains_key store.old.cells (viewed_cell log.now req point field) ≡ true }
+    requires access { HasPrivilege log.now viewed.req Priv.Rw }
+    requires there { contains_key store.old.cells
+        (viewed_cell log.now viewed.req viewed.point viewed.field) ≡ true }
     requires known { number < length store.old.values }
-    ensures cells { store.new.cells ≡ insert store.old.cells (viewed_cell log.now req point field)
+    ensures cells { store.new.cells ≡ insert store.old.cells
+        (viewed_cell log.now viewed.req viewed.point viewed.field)
         (value_at store.old.values number) }
     ensures before { result < length store.new.values }
 {
-    let mut view = store.view_rw(log, req);
-    let before = view.get(point, field);
-    view.set(point, field, number);
+    let mut view = store.view_rw(log, viewed.req);
+    let before = view.get(viewed.point, viewed.field);
+    view.set(viewed.point, viewed.field, number);
     before
 }
 
@@ -95,10 +103,15 @@ fn is_replaced<P: PointSet + Copy>(log: &Log<'_, P>, store: &mut Store) -> bool 
     let Ok(number) = store.number_of(Base::Const(9)) else {
         return false;
     };
-    if !may_view(store, log, 0, 1, 1) {
+    let viewed = Viewed {
+        req: 0,
+        point: 1,
+        field: 1,
+    };
+    if !may_view(store, log, viewed) {
         return false;
     }
-    let before = replace_by_view(store, log, 0, 1, 1, number);
+    let before = replace_by_view(store, log, viewed, number);
     let Ok(before) = store.value_of(before) else {
         return false;
     };
