@@ -11,7 +11,7 @@ use Rattle.covered_cells.specs.Covered.{cell_at, cells_of}
 use Rattle.covered_cells.proofs.lemmas.Listed.{listed_where_some}
 use Rattle.vocabulary.specs.Prelude.{Space, Tables, is_in}
 use Rattle.log_laws.specs.Drawn.{AreDrawn}
-use Rattle.log_laws.proofs.lemmas.Members.{contains_of, map_member, member_of}
+use Rattle.list_lemmas.proofs.lemmas.Contained.{map_member}
 use Rattle.point_laws.specs.Alike.{AreAlike, AreFirsts}
 use Rattle.atoms.proofs.Points.{InCell, column_is, contains_from, has_point, is_in_from, moved, of_point, row_is}
 
@@ -77,7 +77,7 @@ pub first_least : (rects : List Rect) (k l p : ℕ) → InCell rects k l p
 first_least rects k l p h = omega (arith, h.column.1, h.row.1)
 
 pub in_map : {X Y : Type 0} (f : X → Y) (xs : List X) (x : X) → Contains xs x → Contains (map f xs) (f x)
-in_map f xs x c = contains_of (map f xs) (f x) (map_member f xs x (member_of xs x c))
+in_map f xs x c = (map_member f xs x c)
 
 -- So the first points of the cells are those of all declared points.
 pub are_firsts : (t : Tables) (firsts : List ℕ) → AreDrawn t → firsts ≡ map (λ (c : GridCell). c.first) (cells_of t.rects) → AreFirsts t firsts

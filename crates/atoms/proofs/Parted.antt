@@ -15,7 +15,7 @@ use Rattle.covered_cells.specs.Covered.{cell_at, cells_of}
 use Rattle.covered_cells.proofs.lemmas.Listed.{listed, listed_where_some}
 use Rattle.vocabulary.specs.Prelude.{Tables}
 use Rattle.log_laws.specs.Drawn.{AreDrawn}
-use Rattle.log_laws.proofs.lemmas.Members.{contains_of, member_map, member_of}
+use Rattle.list_lemmas.proofs.lemmas.Contained.{member_map}
 use Rattle.atoms.specs.Atoms.{AreAtomsOf, HasPoint, IsDeclared, atoms_of, cell_rect}
 use Rattle.atoms.proofs.Points.{InCell, column_of, is_in_from}
 use Rattle.atoms.proofs.Alike.{alike_in_cell, cell_of, in_map}
@@ -62,8 +62,8 @@ pub record Atom (rects : List Rect) (r : Rect) : Type 0 where
 
 pub atom_at : (rects : List Rect) (r : Rect) → Contains (atoms_of rects) r → Atom rects r
 atom_at rects r c =
-    let m = member_map (cell_rect (grid_of rects)) (cells_of rects) r (member_of (atoms_of rects) r c) in
-    record { cell = m.0; listed = contains_of (cells_of rects) m.0 m.1; is = m.2 }
+    let m = member_map (cell_rect (grid_of rects)) (cells_of rects) r c in
+    record { cell = m.0; listed = m.1; is = m.2 }
 
 pub in_atom : (rects : List Rect) (r : Rect) (p : ℕ) → (a : Atom rects r) → HasPoint r p → InCell rects a.cell.column a.cell.row p
 in_atom rects r p a h = of_rect rects a.cell p (placed rects a.cell a.listed) (subst (λ (s : Rect). HasPoint s p) a.is h)

@@ -7,7 +7,7 @@ use Rattle.point_set.proofs.lemmas.Columns.{of_has, to_has}
 use Rattle.grid.specs.Cuts.{IsInSpan, grid_of}
 use Rattle.grid.proofs.lemmas.Cutting.{undivided}
 use Rattle.vocabulary.specs.Prelude.{is_in}
-use Rattle.log_laws.proofs.lemmas.Members.{contains_of, is_in_of, member_in, member_of}
+use Rattle.log_laws.proofs.lemmas.Members.{is_in_of, member_in}
 
 pub column_of : (p : ℕ) → p ≡ p / 2 ^ 32 * 2 ^ 32 + p % 2 ^ 32
 column_of p = omega arith
@@ -49,7 +49,7 @@ moved rects parts k l p q listed here there h =
     record { place = h.place; within = h.within; holds = same.0 h.holds }
 
 pub is_in_from : (ns : List ℕ) (n : ℕ) → Contains ns n → is_in ns n ≡ true
-is_in_from ns n c = is_in_of ns n (member_of ns n c)
+is_in_from ns n c = is_in_of ns n c
 
 pub contains_from : (ns : List ℕ) (n : ℕ) → is_in ns n ≡ true → Contains ns n
-contains_from ns n e = contains_of ns n (member_in ns n e)
+contains_from ns n e = (member_in ns n e)

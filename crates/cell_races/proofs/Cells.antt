@@ -1,5 +1,5 @@
 -- What is done at one cell, among all touches in order.
-use Rattle.std.proofs.Common.{◌≡◌, ℕ, ◌&&◌, ◌<◌, ◌≤◌, ◌⊎◌, inl, inr, Bool, true, false, nat_lt, List, [], ◌∷◌, ◌++◌, Some, None, All, refl, sym, ap, ◌∙◌, subst, arith, map, length, slice_index}
+use Rattle.std.proofs.Common.{◌≡◌, ℕ, ◌&&◌, ◌<◌, ◌≤◌, ◌⊎◌, inl, inr, Bool, true, false, nat_lt, List, [], ◌∷◌, ◌++◌, Some, None, All, refl, sym, ap, ◌∙◌, subst, arith, map, length, slice_index, Contains, AllPairs}
 use Rattle.std.proofs.lemmas.Bool.{or_parts, ltb-false}
 use Rattle.std.proofs.lemmas.Bool.Decides.{nat_tests}
 use Rattle.std.proofs.lemmas.List.{append-nil}
@@ -11,12 +11,13 @@ use Rattle.cell_races.specs.Touches.{key, comes_before}
 use Rattle.cell_races.specs.Visits.{visit_of, visits_of}
 use Rattle.cell_races.specs.Races.{race_in}
 use Rattle.cell_races.specs.Clashes.{Clash, IsFree, IsShown}
-use Rattle.log_laws.proofs.lemmas.Members.{member_right, map_member, member_map, Member, member_of, contains_of, member_append, member_left}
-use Rattle.cell_races.proofs.Members.{all_at}
-use Rattle.cell_races.proofs.Ordered.{Ordered, ordered_append, ordered_map}
+use Rattle.std.proofs.lemmas.List.Elements.{Contains-append_right, Contains-append_cases, Contains-append_left, All-contains}
+use Rattle.list_lemmas.proofs.lemmas.Pairs.{AllPairs-parts, AllPairs-first}
+use Rattle.list_lemmas.proofs.lemmas.Contained.{map_member, member_map, Contains-nil, Contains-cases, Contains-here}
 use Rattle.cell_races.proofs.Merging.{Climbs}
 use Rattle.cell_races.proofs.Sorting.{same_itself}
 use Rattle.cell_races.proofs.ShownAt.{RaceOf, none_at, shown_at}
+use Rattle.cell_races.proofs.Members.{pairs_map}
 
 -- ---- cells in order
 
@@ -48,42 +49,45 @@ abbrev pub NotAfter : Touch → Touch → Type 0
 NotAfter x y = comes_before y x ≡ false
 
 pub record IsCellOf (c : Cell) (front here back : List Touch) : Type 0 where
-  pub at : (x : Touch) → Member here x → x.cell ≡ c
-  pub not_front : (x : Touch) → Member front x → x.cell ≡ c → ⊥
-  pub not_back : (x : Touch) → Member back x → x.cell ≡ c → ⊥
-  pub far : (x y : Touch) → Member front x → Member back y → x.cell ≡ y.cell → ⊥
-  pub least : (x : Touch) → Member here x ⊎ Member back x → comes_first (key x.cell) (key c) ≡ false
+  pub at : (x : Touch) → Contains here x → x.cell ≡ c
+  pub not_front : (x : Touch) → Contains front x → x.cell ≡ c → ⊥
+  pub not_back : (x : Touch) → Contains back x → x.cell ≡ c → ⊥
+  pub far : (x y : Touch) → Contains front x → Contains back y → x.cell ≡ y.cell → ⊥
+  pub least : (x : Touch) → Contains here x ⊎ Contains back x → comes_first (key x.cell) (key c) ≡ false
 
 -- What follows is at other cells than what came before.
 abbrev pub IsApart : List Touch → List Touch → Type 0
-IsApart front back = (x y : Touch) → Member front x → Member back y → x.cell ≡ y.cell → ⊥
+IsApart front back = (x y : Touch) → Contains front x → Contains back y → x.cell ≡ y.cell → ⊥
 
 -- The list does not begin at a cell.
 abbrev pub BeginsElsewhere : Cell → List Touch → Type 0
 BeginsElsewhere c [] = Unit {0}
 BeginsElsewhere c (x ∷ xs) = x.cell ≡ c → ⊥
 
-gone : (r : Touch) (back : List Touch) → ((y : Touch) → Member back y → NotAfter r y) → Ordered NotAfter back → BeginsElsewhere r.cell back
-    → (y : Touch) → Member back y → y.cell ≡ r.cell → ⊥
-gone r [] after o begins y m at = absurd m
-gone r (e ∷ back) after o begins y (inl here) at = begins (ap (λ (x : Touch). x.cell) (sym here) ∙ at)
-gone r (e ∷ back) after o begins y (inr later) at =
-    begins (neither_first e.cell r.cell (or_parts _ (same_cell e.cell r.cell && nat_lt e.place r.place) (after e (inl refl))).0
-    (subst (λ c. comes_first (key c) (key e.cell) ≡ false) at
-    (or_parts _ (same_cell y.cell e.cell && nat_lt y.place e.place) (o.0 y later)).0))
+gone : (r : Touch) (back : List Touch) → ((y : Touch) → Contains back y → NotAfter r y) → AllPairs NotAfter back → BeginsElsewhere r.cell back
+    → (y : Touch) → Contains back y → y.cell ≡ r.cell → ⊥
+gone r [] after o begins y m at = absurd (Contains-nil m)
+gone r (e ∷ back) after o begins y m at = elim (Contains-cases back m) [
+  | inl here ↦ begins (ap (λ (x : Touch). x.cell) (sym here) ∙ at)
+  | inr later ↦
+      let not_after = AllPairs-first NotAfter e back o y later in
+      begins (neither_first e.cell r.cell (or_parts _ (same_cell e.cell r.cell && nat_lt e.place r.place) (after e (Contains-here back))).0
+      (subst (λ c. comes_first (key c) (key e.cell) ≡ false) at
+      (or_parts _ (same_cell y.cell e.cell && nat_lt y.place e.place) not_after).0))
+]
 
-pub cell_of : (front : List Touch) (r : Touch) (here back : List Touch) → Ordered NotAfter (front ++ ((r ∷ here) ++ back))
+pub cell_of : (front : List Touch) (r : Touch) (here back : List Touch) → AllPairs NotAfter (front ++ ((r ∷ here) ++ back))
     → IsApart front ((r ∷ here) ++ back)
-    → ((x : Touch) → Member (r ∷ here) x → x.cell ≡ r.cell) → BeginsElsewhere r.cell back → IsCellOf r.cell front (r ∷ here) back
+    → ((x : Touch) → Contains (r ∷ here) x → x.cell ≡ r.cell) → BeginsElsewhere r.cell back → IsCellOf r.cell front (r ∷ here) back
 cell_of front r here back o apart at begins =
-    let rest = (ordered_append NotAfter front ((r ∷ here) ++ back) o).1 in
-    let parts = ordered_append NotAfter (r ∷ here) back rest in
-    let after : (y : Touch) → Member back y → NotAfter r y = λ y m. parts.2 r y (inl refl) m in
+    let rest = (AllPairs-parts NotAfter front ((r ∷ here) ++ back) o).1 in
+    let parts = AllPairs-parts NotAfter (r ∷ here) back rest in
+    let after : (y : Touch) → Contains back y → NotAfter r y = λ y m. parts.2 r y (Contains-here here) m in
     record {
       at = at;
-      not_front = λ x m e. apart x r m (inl refl) e;
+      not_front = λ x m e. apart x r m (Contains-here (here ++ back)) e;
       not_back = gone r back after parts.1 begins;
-      far = λ x y m n e. apart x y m (member_right (r ∷ here) back y n) e;
+      far = λ x y m n e. apart x y m (Contains-append_right (r ∷ here) back y n) e;
       least = λ x m. elim m [
         | inl in_here ↦ rw (at x in_here) (not_itself r.cell)
         | inr in_back ↦ (or_parts _ (same_cell x.cell r.cell && nat_lt x.place r.place) (after x in_back)).0
@@ -91,17 +95,17 @@ cell_of front r here back o apart at begins =
     }
 
 module _ (before : ℕ → ℕ → Bool) (order : List ℕ) where
-  side : (front here back : List Touch) (x : Touch) → Member (front ++ (here ++ back)) x → Member front x ⊎ (Member here x ⊎ Member back x)
-  side front here back x m = elim (member_append front (here ++ back) x m) [ inl f ↦ inl f | inr r ↦ inr (member_append here back x r) ]
+  side : (front here back : List Touch) (x : Touch) → Contains (front ++ (here ++ back)) x → Contains front x ⊎ (Contains here x ⊎ Contains back x)
+  side front here back x m = elim (Contains-append_cases front (here ++ back) x m) [ inl f ↦ inl f | inr r ↦ inr (Contains-append_cases here back x r) ]
 
-  clash_among : (some all : List Touch) (a b : ℕ) (cell : Cell) (k : Clash before order all a b cell) → Member some k.one
-      → Member some k.other → Clash before order some a b cell
+  clash_among : (some all : List Touch) (a b : ℕ) (cell : Cell) (k : Clash before order all a b cell) → Contains some k.one
+      → Contains some k.other → Clash before order some a b cell
   clash_among some all a b cell k m n = record {
     differ = k.differ;
     one = k.one;
     other = k.other;
-    one_in = contains_of some k.one m;
-    other_in = contains_of some k.other n;
+    one_in = m;
+    other_in = n;
     one_at = k.one_at;
     other_at = k.other_at;
     one_by = k.one_by;
@@ -113,29 +117,29 @@ module _ (before : ℕ → ℕ → Bool) (order : List ℕ) where
 
   -- A clash stands in one of the three parts.
   clash_in : (c : Cell) (front here back : List Touch) → IsCellOf c front here back → IsFree before order front
-      → (a b : ℕ) (cell : Cell) → (k : Clash before order (front ++ (here ++ back)) a b cell) → (Member here k.one × Member here k.other)
-      ⊎ (Member back k.one × Member back k.other)
+      → (a b : ℕ) (cell : Cell) → (k : Clash before order (front ++ (here ++ back)) a b cell) → (Contains here k.one × Contains here k.other)
+      ⊎ (Contains back k.one × Contains back k.other)
   clash_in c front here back h free a b cell k =
       let same = k.one_at ∙ sym k.other_at in
-      elim (side front here back k.one (member_of _ k.one k.one_in)) [
-        | inl one_front ↦ elim (side front here back k.other (member_of _ k.other k.other_in)) [
+      elim (side front here back k.one k.one_in) [
+        | inl one_front ↦ elim (side front here back k.other k.other_in) [
           | inl other_front ↦ absurd (free a b cell (clash_among front (front ++ (here ++ back)) a b cell k one_front other_front))
           | inr (inl other_here) ↦ absurd (h.not_front k.one one_front (same ∙ h.at k.other other_here))
           | inr (inr other_back) ↦ absurd (h.far k.one k.other one_front other_back same)
         ]
-        | inr (inl one_here) ↦ elim (side front here back k.other (member_of _ k.other k.other_in)) [
+        | inr (inl one_here) ↦ elim (side front here back k.other k.other_in) [
           | inl other_front ↦ absurd (h.not_front k.other other_front (sym same ∙ h.at k.one one_here))
           | inr (inl other_here) ↦ inl (one_here, other_here)
           | inr (inr other_back) ↦ absurd (h.not_back k.other other_back (sym same ∙ h.at k.one one_here))
         ]
-        | inr (inr one_back) ↦ elim (side front here back k.other (member_of _ k.other k.other_in)) [
+        | inr (inr one_back) ↦ elim (side front here back k.other k.other_in) [
           | inl other_front ↦ absurd (h.far k.other k.one other_front one_back (sym same))
           | inr (inl other_here) ↦ absurd (h.not_back k.one one_back (same ∙ h.at k.other other_here))
           | inr (inr other_back) ↦ inr (one_back, other_back)
         ]
       ]
 
-  race_of : (here all : List Touch) (a b : ℕ) (cell : Cell) (k : Clash before order all a b cell) → Member here k.one → Member here k.other
+  race_of : (here all : List Touch) (a b : ℕ) (cell : Cell) (k : Clash before order all a b cell) → Contains here k.one → Contains here k.other
       → RaceOf before (map (visit_of order) here) a b
   race_of here all a b cell k m n = record {
     one = visit_of order k.one;
@@ -152,7 +156,7 @@ module _ (before : ℕ → ℕ → Bool) (order : List ℕ) where
     );
   }
 
-  clash_of : (c : Cell) (here all : List Touch) → ((x : Touch) → Member here x → x.cell ≡ c) → ((x : Touch) → Member here x → Member all x)
+  clash_of : (c : Cell) (here all : List Touch) → ((x : Touch) → Contains here x → x.cell ≡ c) → ((x : Touch) → Contains here x → Contains all x)
       → (a b : ℕ) → RaceOf before (map (visit_of order) here) a b → Clash before order all a b c
   clash_of c here all at within a b r =
       let one = member_map (visit_of order) here r.one r.one_in in
@@ -163,8 +167,8 @@ module _ (before : ℕ → ℕ → Bool) (order : List ℕ) where
         differ = λ e. r.races.0 (r.one_by ∙ (e ∙ sym r.other_by));
         one = one.0;
         other = other.0;
-        one_in = contains_of all one.0 (within one.0 one.1);
-        other_in = contains_of all other.0 (within other.0 other.1);
+        one_in = (within one.0 one.1);
+        other_in = (within other.0 other.1);
         one_at = at one.0 one.1;
         other_at = at other.0 other.1;
         one_by = one_by;
@@ -181,26 +185,26 @@ module _ (before : ℕ → ℕ → Bool) (order : List ℕ) where
       let all = subst (λ zs. Clash before order (front ++ zs) a b cell) (sym (append-nil here)) k in
       elim (clash_in c front here [] h free a b cell all) [
         | inl both ↦ none_at before (map (visit_of order) here) e a b (race_of here _ a b cell all both.0 both.1)
-        | inr none ↦ absurd none.0
+        | inr none ↦ absurd (Contains-nil none.0)
       ]
 
   module _ (rank : ℕ → ℕ) (later : (a b : ℕ) → before a b ≡ true → rank a < rank b) (placed : (p : ℕ) → p < length order
       → rank (slice_index order p) ≡ p) where
-    climbs : (c : Cell) (here : List Touch) → ((x : Touch) → Member here x → x.cell ≡ c) → All (λ (x : Touch). x.place < length order) here
-        → Ordered NotAfter here → Ordered (Climbs rank) (map (visit_of order) here)
-    climbs c here at within o = ordered_map (visit_of order) NotAfter (Climbs rank) here (λ x y m n not_after.
-        let first = placed x.place (all_at (λ (z : Touch). z.place < length order) here x within m) in
-        let second = placed y.place (all_at (λ (z : Touch). z.place < length order) here y within n) in
+    climbs : (c : Cell) (here : List Touch) → ((x : Touch) → Contains here x → x.cell ≡ c) → All (λ (x : Touch). x.place < length order) here
+        → AllPairs NotAfter here → AllPairs (Climbs rank) (map (visit_of order) here)
+    climbs c here at within o = pairs_map (visit_of order) NotAfter (Climbs rank) here (λ x y m n not_after.
+        let first = placed x.place (All-contains (λ (z : Touch). z.place < length order) here x within m) in
+        let second = placed y.place (All-contains (λ (z : Touch). z.place < length order) here y within n) in
         (rw (first, second) (place_after x y (at x m ∙ sym (at y n)) not_after), λ e. ap (slice_index order) (sym first ∙ (e ∙ second)))) o
 
     pub shown_of : (c : Cell) (front here back : List Touch) → IsCellOf c front here back → IsFree before order front
-        → All (λ (x : Touch). x.place < length order) here → Ordered NotAfter here
+        → All (λ (x : Touch). x.place < length order) here → AllPairs NotAfter here
         → (a b : ℕ) → race_in before (visits_of order here) ≡ Some (a, b)
         → IsShown before rank order (front ++ (here ++ back)) (record { a = a; b = b; cell = c })
     shown_of c front here back h free within o a b e =
         let s = shown_at before rank later (map (visit_of order) here) (climbs c here h.at within o) a b e in
-        let inside : (x : Touch) → Member here x → Member (front ++ (here ++ back)) x =
-        λ x m. member_right front (here ++ back) x (member_left here back x m) in
+        let inside : (x : Touch) → Contains here x → Contains (front ++ (here ++ back)) x =
+        λ x m. Contains-append_right front (here ++ back) x (Contains-append_left here back x m) in
         record {
           clash = clash_of c here (front ++ (here ++ back)) h.at inside a b s.race;
           in_order = s.in_order;

@@ -1,16 +1,16 @@
 -- The touches of one cell, as a part of all touches.
-use Rattle.std.proofs.Common.{◌≡◌, ℕ, suc, ◌+◌, ◌-◌, ◌<◌, ◌≤◌, inl, inr, List, [], ◌∷◌, ◌++◌, Some, None, All, refl, sym, ap, ◌∙◌, subst, arith, take, drop, get_or, length, append_assoc, slice_index, min, Bool, true}
+use Rattle.std.proofs.Common.{◌≡◌, ℕ, suc, ◌+◌, ◌-◌, ◌<◌, ◌≤◌, inl, inr, List, [], ◌∷◌, ◌++◌, Some, None, All, refl, sym, ap, ◌∙◌, subst, arith, take, drop, get_or, length, append_assoc, slice_index, min, Bool, true, Contains, AllPairs}
 use Rattle.std.proofs.lemmas.Bool.{cases_lt}
 use Rattle.std.proofs.lemmas.List.{take-append-drop, drop-drop, drop_more, drop_all, take_at, length-take, length-drop, length-append, get_or-take, get_or-drop, get_or_default}
-use Rattle.std.proofs.lemmas.List.Elements.{All-take}
+use Rattle.std.proofs.lemmas.List.Elements.{All-take, Contains-append_cases}
 use Rattle.std.proofs.lemmas.List.Elements.{All-drop}
+use Rattle.list_lemmas.proofs.lemmas.Contained.{Contains-nil}
+use Rattle.list_lemmas.proofs.lemmas.Pairs.{AllPairs-parts}
 use Rattle.cell_races.specs.declared.touches.Touch.{Touch}
 use Rattle.cell_races.specs.Touches.{AreInOrder}
 use Rattle.cell_races.specs.Visits.{visits_of}
 use Rattle.cell_races.specs.Races.{race_in}
 use Rattle.cell_races.specs.Clashes.{IsFree, IsShown}
-use Rattle.log_laws.proofs.lemmas.Members.{Member, contains_of, member_append}
-use Rattle.cell_races.proofs.Ordered.{Ordered, ordered_of, ordered_append}
 use Rattle.cell_races.proofs.Cells.{IsCellOf, IsApart, BeginsElsewhere, NotAfter, cell_of, free_more, shown_of}
 
 module _ (touches : List Touch) (from end : ℕ) (behind : from < end) (within : end ≤ length touches) where
@@ -55,9 +55,9 @@ module _ (touches : List Touch) (from end : ℕ) (behind : from < end) (within :
     same_first : (e : Touch) → get_or touches from e ≡ first
     same_first e = get_or_default touches from e d (omega (arith, behind, within))
 
-    pub at : (x : Touch) → Member run x → x.cell ≡ first.cell
+    pub at : (x : Touch) → Contains run x → x.cell ≡ first.cell
     at x m =
-        let c = contains_of run x m in
+        let c = m in
         let n : c.0 < end - from = subst (λ n. c.0 < n) (length-take (end - from) (drop from touches) ∙ short) c.1 in
         let is : get_or touches (from + c.0) x ≡ x =
         sym (get_or-take (end - from) (drop from touches) c.0 x n ∙ get_or-drop from touches c.0 x) ∙ c.2 in
@@ -73,36 +73,33 @@ module _ (touches : List Touch) (from end : ℕ) (behind : from < end) (within :
       | inr none ↦ rw (drop_all end touches none) tt
     ]
 
-    ordered : Ordered NotAfter touches
-    ordered = ordered_of NotAfter touches in_order
-
     is_cell : IsCellOf first.cell (take from touches) run (drop end touches)
     is_cell = rw (head d) (cell_of (take from touches) first rest (drop end touches)
-        (subst (λ zs. Ordered NotAfter (take from touches ++ (zs ++ drop end touches))) (head d)
-        (subst (Ordered NotAfter) whole ordered))
+        (subst (λ zs. AllPairs NotAfter (take from touches ++ (zs ++ drop end touches))) (head d)
+        (subst (AllPairs NotAfter) whole in_order))
         (subst (λ zs. IsApart (take from touches) (zs ++ drop end touches)) (head d)
         (subst (IsApart (take from touches)) drop_parts apart))
-        (subst (λ zs. (x : Touch) → Member zs x → x.cell ≡ first.cell) (head d) at)
+        (subst (λ zs. (x : Touch) → Contains zs x → x.cell ≡ first.cell) (head d) at)
         begins)
 
     pub apart_more : IsApart (take end touches) (drop end touches)
-    apart_more x y m n e = elim (member_append (take from touches) run x (subst (λ zs. Member zs x) take_end m)) [
+    apart_more x y m n e = elim (Contains-append_cases (take from touches) run x (subst (λ zs. Contains zs x) take_end m)) [
       | inl front ↦ is_cell.far x y front n e
       | inr here ↦ is_cell.not_back y n (sym e ∙ is_cell.at x here)
     ]
 
-    pub run_in_order : Ordered NotAfter run
-    run_in_order = (ordered_append NotAfter run (drop end touches)
-        (ordered_append NotAfter (take from touches) (run ++ drop end touches) (subst (Ordered NotAfter) whole ordered)).1).0
+    pub run_in_order : AllPairs NotAfter run
+    run_in_order = (AllPairs-parts NotAfter run (drop end touches)
+        (AllPairs-parts NotAfter (take from touches) (run ++ drop end touches) (subst (AllPairs NotAfter) whole in_order)).1).0
 
     module _ (before : ℕ → ℕ → Bool) (order : List ℕ) (free : IsFree before order (take from touches)) where
       pub none_more : race_in before (visits_of order run) ≡ None → IsFree before order (take end touches)
       none_more e = rw take_end (free_more before order first.cell (take from touches) run (record {
         at = is_cell.at;
         not_front = is_cell.not_front;
-        not_back = λ x m. absurd m;
-        far = λ x y m n. absurd n;
-        least = λ x m. elim m [ inl here ↦ is_cell.least x (inl here) | inr none ↦ absurd none ];
+        not_back = λ x m. absurd (Contains-nil m);
+        far = λ x y m n. absurd (Contains-nil n);
+        least = λ x m. elim m [ inl here ↦ is_cell.least x (inl here) | inr none ↦ absurd (Contains-nil none) ];
       }) free e)
 
       pub shown_here : (rank : ℕ → ℕ) → ((a b : ℕ) → before a b ≡ true → rank a < rank b)
@@ -114,10 +111,10 @@ module _ (touches : List Touch) (from end : ℕ) (behind : from < end) (within :
           (shown_of before order rank later placed first.cell (take from touches) run (drop end touches) is_cell free
           (All-take (λ (x : Touch). x.place < length order) (end - from) (drop from touches)
           (All-drop (λ (x : Touch). x.place < length order) from touches placed_in))
-          (ordered_append NotAfter run (drop end touches)
-          (ordered_append NotAfter (take from touches) (run ++ drop end touches) (subst (Ordered NotAfter) whole ordered)).1).0
+          (AllPairs-parts NotAfter run (drop end touches)
+          (AllPairs-parts NotAfter (take from touches) (run ++ drop end touches) (subst (AllPairs NotAfter) whole in_order)).1).0
           a b e)
 
 -- No touch is passed over yet, and none is left.
 pub apart_none : (touches : List Touch) → IsApart [] touches
-apart_none touches x y m n e = absurd m
+apart_none touches x y m n e = absurd (Contains-nil m)

@@ -1,8 +1,10 @@
 -- The touches of a cell that are taken into groups, and those whose places are noted.
-use Rattle.std.proofs.Common.{◌≡◌, ℕ, zero, suc, ◌<◌, ◌⊎◌, inl, inr, Bool, true, false, not, List, [], ◌∷◌, ◌++◌, None, Contains, refl, sym, ap, ◌∙◌, subst, map, length, set, replicate, if◌then◌else◌}
+use Rattle.std.proofs.Common.{◌≡◌, ℕ, zero, suc, ◌<◌, ◌⊎◌, inl, inr, Bool, true, false, not, List, [], ◌∷◌, ◌++◌, None, Contains, refl, sym, ap, ◌∙◌, subst, map, length, set, replicate, if◌then◌else◌, AllPairs}
 use Rattle.std.proofs.lemmas.Bool.{cases_Bool, cases_eq, true≢false, and_parts, not-true}
 use Rattle.std.proofs.lemmas.List.{map-append, get_or-set_same, get_or-set_other, length-set, length-replicate}
-use Rattle.log_laws.proofs.lemmas.Members.{Member, member_of, contains_of, member_append, member_left, member_right, member_map, any_found, only}
+use Rattle.std.proofs.lemmas.List.Elements.{Contains-append_cases, Contains-append_left, Contains-append_right, Contains-push}
+use Rattle.list_lemmas.proofs.lemmas.Pairs.{AllPairs-parts, AllPairs-push}
+use Rattle.list_lemmas.proofs.lemmas.Contained.{member_map, any_found, only, Contains-here, Contains-nil}
 use Rattle.cell_races.specs.declared.access.Visit.{Visit}
 use Rattle.cell_races.specs.declared.touches.Touch.{Touch}
 use Rattle.cell_races.specs.Accesses.{conflicts}
@@ -10,7 +12,6 @@ use Rattle.cell_races.specs.Groups.{Groups, no_groups, with_visit, fails_at}
 use Rattle.cell_races.specs.Races.{is_unordered, race_in, IsTransitive}
 use Rattle.cell_races.specs.Turns.{is_noted, IsUnorderedAt, NotesMore, AreNoted}
 use Rattle.cell_races.specs.Visits.{visit_of}
-use Rattle.cell_races.proofs.Ordered.{Ordered}
 use Rattle.cell_races.proofs.Cells.{IsApart, NotAfter, place_after}
 use Rattle.cell_races.proofs.Firsts.{race_push}
 use Rattle.cell_races.proofs.Stands.{Stands, stands_none, stands_more, tells}
@@ -32,40 +33,24 @@ noted_of noted place k e = elim (cases_eq k place) [
   | inr other ↦ inr (sym (get_or-set_other noted place k true false other) ∙ e)
 ]
 
-ordered_push : {X : Type 0} (R : X → X → Type 0) (xs : List X) (x : X) → Ordered R xs → ((y : X) → Member xs y → R y x)
-    → Ordered R (xs ++ x ∷ [])
-ordered_push R [] x o h = (λ y m. absurd m, tt)
-ordered_push R (z ∷ xs) x o h = (
-  λ y m. elim (member_append xs (x ∷ []) y m) [
-    | inl old ↦ o.0 y old
-    | inr new ↦ subst (R z) (sym (only new)) (h z (inl refl))
-  ],
-  ordered_push R xs x o.1 (λ y m. h y (inr m)),
-)
-
-ordered_front : {X : Type 0} (R : X → X → Type 0) (xs : List X) (x : X) → Ordered R (xs ++ x ∷ [])
-    → Ordered R xs × ((y : X) → Member xs y → R y x)
-ordered_front R [] x o = (tt, λ y m. absurd m)
-ordered_front R (z ∷ xs) x o =
-    let r = ordered_front R xs x o.1 in (
-      (λ y m. o.0 y (member_left xs (x ∷ []) y m), r.0),
-      λ y m. elim m [ inl is ↦ subst (λ w. R w x) (sym is) (o.0 x (member_right xs (x ∷ []) x (inl refl))) | inr l ↦ r.1 y l ],
-    )
+pairs_front : {X : Type 0} (R : X → X → Type 0) (xs : List X) (x : X) → AllPairs R (xs ++ x ∷ [])
+    → AllPairs R xs × ((y : X) → Contains xs y → R y x)
+pairs_front R xs x h = let parts = AllPairs-parts R xs (x ∷ []) h in (parts.0, λ y m. parts.2 y x m (Contains-here []))
 
 -- ---- the touches of one cell
 
 -- What is known where some touches of a cell are sifted.
 pub record IsSifted (before : ℕ → ℕ → Bool) (order : List ℕ) (seen : List Touch) (g : Groups) (old new : List Bool) : Type 0 where
   pub taken : List Touch
-  pub of_seen : (x : Touch) → Member taken x → Member seen x
-  pub in_order : Ordered NotAfter seen → Ordered NotAfter taken
+  pub of_seen : (x : Touch) → Contains taken x → Contains seen x
+  pub in_order : AllPairs NotAfter seen → AllPairs NotAfter taken
   pub calm : race_in before (map (visit_of order) taken) ≡ None
   pub stands : Stands before (map (visit_of order) taken) g
-  pub whole : (x : Touch) → Member seen x → Member taken x ⊎ (is_noted new x.place ≡ true)
+  pub whole : (x : Touch) → Contains seen x → Contains taken x ⊎ (is_noted new x.place ≡ true)
   pub each : length new ≡ length old
   pub kept : (k : ℕ) → is_noted old k ≡ true → is_noted new k ≡ true
   pub sound : (k : ℕ) → is_noted new k ≡ true → (is_noted old k ≡ true)
-      ⊎ (Ordered NotAfter seen → ((x y : Touch) → Member seen x → Member seen y → x.cell ≡ y.cell) → IsUnorderedAt before order seen k)
+      ⊎ (AllPairs NotAfter seen → ((x y : Touch) → Contains seen x → Contains seen y → x.cell ≡ y.cell) → IsUnorderedAt before order seen k)
 
 pub sifted_none : (before : ℕ → ℕ → Bool) (order : List ℕ) (noted : List Bool) → IsSifted before order [] no_groups noted noted
 sifted_none before order noted = record {
@@ -74,7 +59,7 @@ sifted_none before order noted = record {
   in_order = λ o. o;
   calm = refl;
   stands = stands_none before;
-  whole = λ x m. absurd m;
+  whole = λ x m. absurd (Contains-nil m);
   each = refl;
   kept = λ k e. e;
   sound = λ k e. inl e;
@@ -88,22 +73,22 @@ module _ (before : ℕ → ℕ → Bool) (goes : IsTransitive before) (order : L
   abbrev more : List Touch
   more = seen ++ x ∷ []
 
-  old_in : (y : Touch) → Member seen y → Member more y
-  old_in y m = member_left seen (x ∷ []) y m
+  old_in : (y : Touch) → Contains seen y → Contains more y
+  old_in y m = Contains-append_left seen (x ∷ []) y m
 
-  x_in : Member more x
-  x_in = member_right seen (x ∷ []) x (inl refl)
+  x_in : Contains more x
+  x_in = Contains-push seen x
 
-  wider : (k : ℕ) → (Ordered NotAfter seen → ((x y : Touch) → Member seen x → Member seen y → x.cell ≡ y.cell)
+  wider : (k : ℕ) → (AllPairs NotAfter seen → ((x y : Touch) → Contains seen x → Contains seen y → x.cell ≡ y.cell)
       → IsUnorderedAt before order seen k)
-      → Ordered NotAfter more → ((x y : Touch) → Member more x → Member more y → x.cell ≡ y.cell) → IsUnorderedAt before order more k
+      → AllPairs NotAfter more → ((x y : Touch) → Contains more x → Contains more y → x.cell ≡ y.cell) → IsUnorderedAt before order more k
   wider k f o one =
-      let l = f (ordered_front NotAfter seen x o).0 (λ a b m n. one a b (old_in a m) (old_in b n)) in
+      let l = f (pairs_front NotAfter seen x o).0 (λ a b m n. one a b (old_in a m) (old_in b n)) in
       record {
         x = l.x;
         y = l.y;
-        x_in = contains_of more l.x (old_in l.x (member_of seen l.x l.x_in));
-        y_in = contains_of more l.y (old_in l.y (member_of seen l.y l.y_in));
+        x_in = (old_in l.x l.x_in);
+        y_in = (old_in l.y l.y_in);
         same = l.same;
         at_place = l.at_place;
         conflict = l.conflict;
@@ -116,10 +101,10 @@ module _ (before : ℕ → ℕ → Bool) (goes : IsTransitive before) (order : L
   sifted_noted lt fails = record {
     taken = h.taken;
     of_seen = λ y m. old_in y (h.of_seen y m);
-    in_order = λ o. h.in_order (ordered_front NotAfter seen x o).0;
+    in_order = λ o. h.in_order (pairs_front NotAfter seen x o).0;
     calm = h.calm;
     stands = h.stands;
-    whole = λ y m. elim (member_append seen (x ∷ []) y m) [
+    whole = λ y m. elim (Contains-append_cases seen (x ∷ []) y m) [
       | inl before_it ↦ elim (h.whole y before_it) [ inl t ↦ inl t | inr n ↦ inr (noted_at mid x.place y.place lt (inr n)) ]
       | inr it ↦ inr (noted_at mid x.place y.place lt (inl (ap (λ (z : Touch). z.place) (only it))))
     ];
@@ -135,12 +120,12 @@ module _ (before : ℕ → ℕ → Bool) (goes : IsTransitive before) (order : L
           record {
             x = y.0;
             y = x;
-            x_in = contains_of more y.0 (old_in y.0 y_in);
-            y_in = contains_of more x x_in;
+            x_in = (old_in y.0 y_in);
+            y_in = x_in;
             same = same;
             at_place = sym is;
             conflict = ap (λ (u : Visit). conflicts u.access v.access) (sym y.2) ∙ l.0;
-            not_later = place_after y.0 x same ((ordered_front NotAfter seen x o).1 y.0 y_in);
+            not_later = place_after y.0 x same ((pairs_front NotAfter seen x o).1 y.0 y_in);
             not_before = ap (λ (u : Visit). before u.node v.node) (sym y.2) ∙ not-true (before w.0.node v.node) l.1;
           })
       | inr old_note ↦ elim (h.sound k old_note) [ inl first ↦ inl first | inr f ↦ inr (wider k f) ]
@@ -155,17 +140,17 @@ module _ (before : ℕ → ℕ → Bool) (goes : IsTransitive before) (order : L
       let seam = map-append (visit_of order) h.taken (x ∷ []) in
       record {
         taken = h.taken ++ x ∷ [];
-        of_seen = λ y m. elim (member_append h.taken (x ∷ []) y m) [
+        of_seen = λ y m. elim (Contains-append_cases h.taken (x ∷ []) y m) [
           | inl before_it ↦ old_in y (h.of_seen y before_it)
-          | inr it ↦ subst (Member more) (sym (only it)) x_in
+          | inr it ↦ subst (Contains more) (sym (only it)) x_in
         ];
-        in_order = λ o. let f = ordered_front NotAfter seen x o in
-            ordered_push NotAfter h.taken x (h.in_order f.0) (λ y m. f.1 y (h.of_seen y m));
+        in_order = λ o. let f = pairs_front NotAfter seen x o in
+            AllPairs-push NotAfter h.taken x (h.in_order f.0) (λ y m. f.1 y (h.of_seen y m));
         calm = ap (race_in before) seam ∙ race_push before visits v h.calm none;
         stands = subst (λ vs. Stands before vs (with_visit g v)) (sym seam) (stands_more goes h.stands v calm);
-        whole = λ y m. elim (member_append seen (x ∷ []) y m) [
-          | inl before_it ↦ elim (h.whole y before_it) [ inl t ↦ inl (member_left h.taken (x ∷ []) y t) | inr n ↦ inr n ]
-          | inr it ↦ inl (member_right h.taken (x ∷ []) y it)
+        whole = λ y m. elim (Contains-append_cases seen (x ∷ []) y m) [
+          | inl before_it ↦ elim (h.whole y before_it) [ inl t ↦ inl (Contains-append_left h.taken (x ∷ []) y t) | inr n ↦ inr n ]
+          | inr it ↦ inl (Contains-append_right h.taken (x ∷ []) y it)
         ];
         each = h.each;
         kept = h.kept;
@@ -191,14 +176,14 @@ module _ (before : ℕ → ℕ → Bool) (goes : IsTransitive before) (order : L
       by_false a b e = rw e refl
 
 pub sifted_all : (before : ℕ → ℕ → Bool) (order : List ℕ) (touches : List Touch) (g : Groups) (old new : List Bool)
-    → IsSifted before order touches g old new → Ordered NotAfter touches
-    → ((x y : Touch) → Member touches x → Member touches y → x.cell ≡ y.cell) → NotesMore before order touches old new
+    → IsSifted before order touches g old new → AllPairs NotAfter touches
+    → ((x y : Touch) → Contains touches x → Contains touches y → x.cell ≡ y.cell) → NotesMore before order touches old new
 sifted_all before order touches g old new h o one = record {
   each = h.each;
   kept = h.kept;
   sound = λ k e. elim (h.sound k e) [ inl first ↦ inl first | inr f ↦ inr (f o one) ];
-  turn = λ x y xm ym same lt c x_free y_free. elim (h.whole x (member_of touches x xm)) [
-    | inl x_taken ↦ elim (h.whole y (member_of touches y ym)) [
+  turn = λ x y xm ym same lt c x_free y_free. elim (h.whole x xm) [
+    | inl x_taken ↦ elim (h.whole y ym) [
       | inl y_taken ↦ run_in_turn before order h.taken (h.in_order o) h.calm x y x_taken y_taken same lt c
       | inr y_noted ↦ absurd (true≢false (sym y_noted ∙ y_free))
     ]
@@ -234,9 +219,9 @@ pub notes_both : (before : ℕ → ℕ → Bool) (order : List ℕ) (front run :
     → NotesMore before order front old mid → NotesMore before order run mid new → NotesMore before order (front ++ run) old new
 notes_both before order front run old mid new far h g =
     let left : (x : Touch) → Contains front x → Contains (front ++ run) x =
-    λ x m. contains_of (front ++ run) x (member_left front run x (member_of front x m)) in
+    λ x m. (Contains-append_left front run x m) in
     let right : (x : Touch) → Contains run x → Contains (front ++ run) x =
-    λ x m. contains_of (front ++ run) x (member_right front run x (member_of run x m)) in
+    λ x m. (Contains-append_right front run x m) in
     record {
       each = g.each ∙ h.each;
       kept = λ k e. g.kept k (h.kept k e);
@@ -248,15 +233,15 @@ notes_both before order front run old mid new far h g =
         ]
         | inr l ↦ inr (unordered_in before order run (front ++ run) k right l)
       ];
-      turn = λ x y xm ym same lt c x_free y_free. elim (member_append front run x (member_of (front ++ run) x xm)) [
-        | inl x_front ↦ elim (member_append front run y (member_of (front ++ run) y ym)) [
-          | inl y_front ↦ h.turn x y (contains_of front x x_front) (contains_of front y y_front) same lt c
+      turn = λ x y xm ym same lt c x_free y_free. elim (Contains-append_cases front run x xm) [
+        | inl x_front ↦ elim (Contains-append_cases front run y ym) [
+          | inl y_front ↦ h.turn x y x_front y_front same lt c
               (notes_kept g x.place x_free) (notes_kept g y.place y_free)
           | inr y_run ↦ absurd (far x y x_front y_run same)
         ]
-        | inr x_run ↦ elim (member_append front run y (member_of (front ++ run) y ym)) [
+        | inr x_run ↦ elim (Contains-append_cases front run y ym) [
           | inl y_front ↦ absurd (far y x y_front x_run (sym same))
-          | inr y_run ↦ g.turn x y (contains_of run x x_run) (contains_of run y y_run) same lt c x_free y_free
+          | inr y_run ↦ g.turn x y x_run y_run same lt c x_free y_free
         ]
       ];
     }
@@ -266,7 +251,7 @@ notes_none before order noted = record {
   each = refl;
   kept = λ k e. e;
   sound = λ k e. inl e;
-  turn = λ x y xm. absurd (member_of [] x xm);
+  turn = λ x y xm. absurd (Contains-nil xm);
 }
 
 none_noted : (n k : ℕ) → is_noted (replicate n false) k ≡ false

@@ -1,18 +1,17 @@
 -- Whether what conflicts at a cell is in turn, cell by cell.
-use Rattle.std.proofs.Common.{◌≡◌, ℕ, ◌<◌, inl, inr, Bool, true, false, not, List, [], ◌∷◌, ◌++◌, None, All, refl, sym, ap, ◌∙◌, subst, arith, map, find, length, slice_index}
+use Rattle.std.proofs.Common.{◌≡◌, ℕ, ◌<◌, inl, inr, Bool, true, false, not, List, [], ◌∷◌, ◌++◌, None, All, refl, sym, ap, ◌∙◌, subst, arith, map, find, length, slice_index, Contains, AllPairs}
 use Rattle.std.proofs.lemmas.Bool.{cases_Bool, true≢false, and_from}
-use Rattle.log_laws.proofs.lemmas.Members.{Member, member_left, member_right, member_map, none_or_some, none_found}
-use Rattle.log_laws.proofs.lemmas.Apart.{PairsBy}
-use Rattle.log_laws.proofs.lemmas.Apart as apart
+use Rattle.std.proofs.lemmas.List.Elements.{Contains-append_left, Contains-append_right, All-contains, Contains-push}
+use Rattle.list_lemmas.proofs.lemmas.Pairs.{AllPairs-nil, AllPairs-put, AllPairs-cases}
+use Rattle.list_lemmas.proofs.lemmas.Contained.{member_map, none_found, all_contained, Contains-nil, Contains-cases}
+use Rattle.list_lemmas.proofs.lemmas.Firsts.{cases_option}
 use Rattle.cell_races.specs.declared.access.Visit.{Visit}
 use Rattle.cell_races.specs.declared.touches.Touch.{Touch}
 use Rattle.cell_races.specs.Accesses.{conflicts}
 use Rattle.cell_races.specs.Races.{is_unordered, race_from, race_in}
 use Rattle.reach_marks.specs.Reached.{Marks}
 use Rattle.cell_races.specs.Turns.{IsMarked}
-use Rattle.cell_races.proofs.Members.{all_of, all_at}
 use Rattle.cell_races.specs.Visits.{visit_of}
-use Rattle.cell_races.proofs.Ordered.{Ordered}
 use Rattle.cell_races.proofs.Cells.{NotAfter, place_after}
 
 module _ (before : ℕ → ℕ → Bool) (order : List ℕ) where
@@ -20,7 +19,7 @@ module _ (before : ℕ → ℕ → Bool) (order : List ℕ) where
 
   passes : (behind : List Visit) (b : Visit) (bs : List Visit) → race_from before behind (b ∷ bs) ≡ None
       → (find (is_unordered before b) behind ≡ None) × (race_from before (behind ++ b ∷ []) bs ≡ None)
-  passes behind b bs e = elim (none_or_some (find (is_unordered before b) behind)) [
+  passes behind b bs e = elim (cases_option (find (is_unordered before b) behind)) [
     | inl none ↦ (none, rw none at e)
     | inr some ↦ let bad = rw some.1 at e in absurd cc
   ]
@@ -33,39 +32,32 @@ module _ (before : ℕ → ℕ → Bool) (order : List ℕ) where
   visits xs = map (visit_of order) xs
 
   tied_behind : (behind : List Visit) (ys : List Touch) → race_from before behind (visits ys) ≡ None → (v : Visit) (y : Touch)
-      → Member behind v → Member ys y → is_unordered before (visit_of order y) v ≡ false
-  tied_behind behind [] e v y m n = absurd n
-  tied_behind behind (z ∷ ys) e v y m (inl is) = none_found (is_unordered before (visit_of order y)) behind v
-      (subst (λ u. find (is_unordered before (visit_of order u)) behind ≡ None) (sym is)
-      (passes behind (visit_of order z) (visits ys) e).0) m
-  tied_behind behind (z ∷ ys) e v y m (inr n) = tied_behind (behind ++ visit_of order z ∷ []) ys
-      (passes behind (visit_of order z) (visits ys) e).1 v y (member_left behind (visit_of order z ∷ []) v m) n
+      → Contains behind v → Contains ys y → is_unordered before (visit_of order y) v ≡ false
+  tied_behind behind [] e v y m n = absurd (Contains-nil n)
+  tied_behind behind (z ∷ ys) e v y m n = elim (Contains-cases ys n) [
+    | inl is ↦ none_found (is_unordered before (visit_of order y)) behind v
+        (subst (λ u. find (is_unordered before (visit_of order u)) behind ≡ None) (sym is)
+        (passes behind (visit_of order z) (visits ys) e).0) m
+    | inr later ↦ tied_behind (behind ++ visit_of order z ∷ []) ys
+        (passes behind (visit_of order z) (visits ys) e).1 v y (Contains-append_left behind (visit_of order z ∷ []) v m) later
+  ]
 
-  pub tied_of : (behind : List Visit) (ys : List Touch) → race_from before behind (visits ys) ≡ None → PairsBy Tied ys
-  tied_of behind [] e = tt
+  pub tied_of : (behind : List Visit) (ys : List Touch) → race_from before behind (visits ys) ≡ None → AllPairs Tied ys
+  tied_of behind [] e = AllPairs-nil Tied
   tied_of behind (z ∷ ys) e =
-      let r = (passes behind (visit_of order z) (visits ys) e).1 in (
-        λ y m. tied_behind (behind ++ visit_of order z ∷ []) ys r (visit_of order z) y
-            (member_right behind (visit_of order z ∷ []) (visit_of order z) (inl refl)) m,
-        tied_of (behind ++ visit_of order z ∷ []) ys r,
-      )
+      let r = (passes behind (visit_of order z) (visits ys) e).1 in
+      AllPairs-put Tied z ys (λ y m. tied_behind (behind ++ visit_of order z ∷ []) ys r (visit_of order z) y
+      (Contains-push behind (visit_of order z)) m) (tied_of (behind ++ visit_of order z ∷ []) ys r)
 
   -- ---- in turn
 
-  both : {X : Type 0} (R S : X → X → Type 0) (xs : List X) → PairsBy R xs → PairsBy S xs → PairsBy (λ x y. R x y × S x y) xs
-  both R S [] r s = tt
-  both R S (x ∷ xs) r s = ((λ y m. (r.0 y m, s.0 y m)), both R S xs r.1 s.1)
-
-  pub pairs_in : (xs : List Touch) → Ordered NotAfter xs → PairsBy NotAfter xs
-  pairs_in [] o = tt
-  pairs_in (x ∷ xs) o = (o.0, pairs_in xs o.1)
-
-  pub run_in_turn : (xs : List Touch) → Ordered NotAfter xs → race_in before (visits xs) ≡ None → (x y : Touch) → Member xs x
-      → Member xs y → x.cell ≡ y.cell → x.place < y.place → conflicts x.access y.access ≡ true
+  pub run_in_turn : (xs : List Touch) → AllPairs NotAfter xs → race_in before (visits xs) ≡ None → (x y : Touch) → Contains xs x
+      → Contains xs y → x.cell ≡ y.cell → x.place < y.place → conflicts x.access y.access ≡ true
       → before (slice_index order x.place) (slice_index order y.place) ≡ true
   run_in_turn xs o e x y m n same lt c =
-      let pairs = both Tied NotAfter xs (tied_of [] xs e) (pairs_in xs o) in
-      elim (apart.pairs_of (λ x y. Tied x y × NotAfter x y) xs pairs x y m n) [
+      let tied = tied_of [] xs e in
+      let both : AllPairs (λ x y. Tied x y × NotAfter x y) xs = λ i j d lt within. (tied i j d lt within, o i j d lt within) in
+      elim (AllPairs-cases (λ x y. Tied x y × NotAfter x y) xs both x y m n) [
         | inl is ↦ let place : x.place ≡ y.place = ap (λ (z : Touch). z.place) is in absurd (omega (arith, lt, place))
         | inr (inl r) ↦ elim (cases_Bool (before (slice_index order x.place) (slice_index order y.place))) [
           | inl so ↦ so
@@ -79,7 +71,7 @@ module _ (before : ℕ → ℕ → Bool) (order : List ℕ) where
 
 pub marked_visits : (order : List ℕ) (marks : Marks) (xs : List Touch) → All (IsMarked order marks) xs
     → All (λ (v : Visit). v.node < length marks.places) (map (visit_of order) xs)
-marked_visits order marks xs all = all_of (λ (v : Visit). v.node < length marks.places) (map (visit_of order) xs) (λ v m.
+marked_visits order marks xs all = all_contained (λ (v : Visit). v.node < length marks.places) (map (visit_of order) xs) (λ v m.
     let x = member_map (visit_of order) xs v m in
-    let h = all_at (IsMarked order marks) xs x.0 all x.1 in
+    let h = All-contains (IsMarked order marks) xs x.0 all x.1 in
     subst (λ (v : Visit). v.node < length marks.places) (sym x.2) h.marked)

@@ -4,9 +4,8 @@ use Rattle.std.proofs.lemmas.Bool.{eq-eqb, ne_eqb, eqb-true}
 use Rattle.std.specs.List.{position_from}
 use Rattle.std.proofs.lemmas.List.{get_or_default}
 use Rattle.std.proofs.lemmas.Option.{same_Some, slice_get-get_or, slice_get_within, get_or_from_slice_get}
-use Rattle.log_laws.proofs.lemmas.Members.{none_or_some, contains_of}
-use Rattle.log_laws.proofs.lemmas.Apart.{pairs_from}
-use Rattle.log_laws.proofs.lemmas.Lists.{few}
+use Rattle.list_lemmas.proofs.lemmas.Firsts.{cases_option}
+use Rattle.list_lemmas.proofs.lemmas.Parts.{few}
 use Rattle.event_graph.specs.Inverse.{AreInverse}
 use Rattle.event_graph.proofs.lemmas.Placed.{stands, finds}
 
@@ -30,9 +29,9 @@ module _ (count : ℕ) (nodes places : List ℕ) (within : All (λ n. n < count)
 
   as_many : length places ≡ length nodes
   as_many =
-      let one = few nodes count (pairs_from _ nodes apart) (λ n m. let c = contains_of nodes n m in
+      let one = few nodes count apart (λ n m. let c = m in
       subst (λ k. k < count) c.2 (within c.0 n c.1)) in
-      let other = few places (length nodes) (pairs_from _ places places_apart) (λ p m. let c = contains_of places p m in
+      let other = few places (length nodes) places_apart (λ p m. let c = m in
       let at = place_of c.0 (omega (arith, c.1, each)) in
       subst (λ k. k < length nodes) (get_or_default places c.0 0 p c.1 ∙ c.2) at.0) in
       omega (arith, one, other, each)
@@ -55,8 +54,8 @@ module _ (count : ℕ) (nodes places : List ℕ) (within : All (λ n. n < count)
 
 -- A list's places, looked up in one step.
 pub found_place : (nodes places : List ℕ) → AreInverse nodes places → (n : ℕ) → slice_get places n ≡ position_from (λ m. m == n) 0 nodes
-found_place nodes places h n = elim (none_or_some (slice_get places n)) [
-  | inl none ↦ none ∙ sym (elim (none_or_some (position_from (λ m. m == n) 0 nodes)) [
+found_place nodes places h n = elim (cases_option (slice_get places n)) [
+  | inl none ↦ none ∙ sym (elim (cases_option (position_from (λ m. m == n) 0 nodes)) [
     | inl same ↦ same
     | inr some ↦
         let r = stands (λ m. m == n) 0 nodes some.0 some.1 in

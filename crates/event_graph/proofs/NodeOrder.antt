@@ -5,8 +5,9 @@ use Rattle.std.proofs.lemmas.Bool.{eq-eqb, false_from_ne_true}
 use Rattle.std.proofs.lemmas.Option.{slice_get_past}
 use Rattle.vocabulary.specs.Prelude.{Node, is_in}
 use Rattle.semantics.specs.ReplayOrder.{after_rounds, has_event, is_ready, replay_order, waits_at}
-use Rattle.log_laws.proofs.lemmas.Members.{any_at, is_in_of, member_in}
-use Rattle.log_laws.proofs.lemmas.Apart.{number_in, number_within, range-more}
+use Rattle.log_laws.proofs.lemmas.Members.{is_in_of, member_in}
+use Rattle.list_lemmas.proofs.lemmas.Contained.{any_at}
+use Rattle.list_lemmas.proofs.lemmas.Ranges.{number_in, number_within, range-more}
 use Rattle.event_graph.specs.EventPlaces.{ArePlaces, IsBehind, WaitBack}
 use Rattle.event_graph.proofs.Taking.{find_least, round_next}
 

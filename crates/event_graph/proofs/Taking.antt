@@ -1,5 +1,5 @@
 -- How the nodes that wait, the queue and the replay order go together.
-use Rattle.std.proofs.Common.{AllPairs, map, add-one, ◌≡◌, ◌≢◌, ℕ, zero, suc, ◌+◌, ◌<◌, ◌≤◌, ◌==◌, ◌&&◌, ◌||◌, not, Bool, true, false, List, [], ◌∷◌, ◌++◌, length, get_or, arith, refl, sym, ap, ◌∙◌, subst, if◌then◌else◌, inl, inr, ◌↔◌, find, Some, None, slice_get}
+use Rattle.std.proofs.Common.{AllPairs, map, add-one, ◌≡◌, ◌≢◌, ℕ, zero, suc, ◌+◌, ◌<◌, ◌≤◌, ◌==◌, ◌&&◌, ◌||◌, not, Bool, true, false, List, [], ◌∷◌, ◌++◌, length, get_or, arith, refl, sym, ap, ◌∙◌, subst, if◌then◌else◌, inl, inr, ◌↔◌, find, Some, None, slice_get, Contains}
 use Rattle.std.specs.List.{list_all, range_with_len}
 use Rattle.std.proofs.lemmas.Bool.{true≢false, false_from_ne_true, and_parts, or_cases, cases_eq, not-true, or_parts, or_right, eqb-true}
 use Rattle.std.proofs.lemmas.Bool.Decides.{nat_tests}
@@ -9,8 +9,11 @@ use Rattle.std.proofs.lemmas.Option.{gets, slice_get_cases, slice_get_within, sl
 use Rattle.std.proofs.Math.Bool.{or-false}
 use Rattle.vocabulary.specs.Prelude.{is_in, Node}
 use Rattle.semantics.specs.ReplayOrder.{positions, waits_at, has_event, is_ready, after_rounds}
-use Rattle.log_laws.proofs.lemmas.Members.{Member, none_or_some, is_in_of, member_in, found_at, any_found, member_append, only}
-use Rattle.log_laws.proofs.lemmas.Apart.{number_within}
+use Rattle.log_laws.proofs.lemmas.Members.{is_in_of, member_in}
+use Rattle.std.proofs.lemmas.List.Elements.{Contains-append_cases}
+use Rattle.list_lemmas.proofs.lemmas.Contained.{found_at, any_found, only, Contains-nil}
+use Rattle.list_lemmas.proofs.lemmas.Firsts.{cases_option}
+use Rattle.list_lemmas.proofs.lemmas.Ranges.{number_within}
 use Rattle.log_laws.proofs.lemmas.Rounds.{is_met}
 use Rattle.event_graph.specs.WaitCounts.{times, AreWaiters}
 
@@ -36,7 +39,7 @@ pub find_least : (nodes : List Node) (p : ℕ → Bool) (k : ℕ) → k < length
 find_least nodes p k lt passes below = find_number p 0 (length nodes) k (omega arith) (omega (arith, lt)) passes (λ j _ h. below j h)
 
 pub find_nothing : (nodes : List Node) (p : ℕ → Bool) → ((k : ℕ) → k < length nodes → p k ≡ false) → find p (positions nodes) ≡ None
-find_nothing nodes p none = elim (none_or_some (find p (positions nodes))) [
+find_nothing nodes p none = elim (cases_option (find p (positions nodes))) [
   | inl e ↦ e
   | inr some ↦ let r = found_at p (positions nodes) some.0 some.1 in
       absurd (true≢false (sym r.1 ∙ none some.0 (number_within (length nodes) some.0 r.0)))
@@ -60,7 +63,7 @@ pub fresh : (nodes : List Node) → AllPairs (λ (m : Node) (n : Node). m.done �
 fresh nodes apart taken k n at out = false_from_ne_true (is_met nodes taken n.done) (λ met.
     let found = any_found (has_event nodes n.done) taken met in
     let same : found.0 ≡ k = one_place found.0 found.2 in
-    true≢false (sym (is_in_of taken k (subst (Member taken) same found.1)) ∙ out))
+    true≢false (sym (is_in_of taken k (subst (Contains taken) same found.1)) ∙ out))
   where
     one_place : (i : ℕ) → has_event nodes n.done i ≡ true → i ≡ k
     one_place i has = grind (arith, nat_tests, gets, slice_get_cases nodes i, apart i k n, apart k i n)
@@ -104,7 +107,7 @@ ready_of nodes taken k out none = rw out (unmet_none nodes taken (waits_at nodes
 
 -- A node that waits is a node.
 waits_within : (nodes : List Node) (taken : List ℕ) (k : ℕ) → unmet nodes taken (waits_at nodes k) ≢ 0 → k < length nodes
-waits_within nodes taken k some = elim (none_or_some (slice_get nodes k)) [
+waits_within nodes taken k some = elim (cases_option (slice_get nodes k)) [
   | inl none ↦ absurd (some (rw none refl))
   | inr n ↦ slice_get_within nodes k n.0 n.1
 ]
@@ -113,7 +116,7 @@ waits_within nodes taken k some = elim (none_or_some (slice_get nodes k)) [
 pub record IsQueue (nodes : List Node) (taken pending : List ℕ) (ready : ℕ → Bool) : Type 0 where
   pub counts : (k : ℕ) → get_or pending k 0 ≡ unmet nodes taken (waits_at nodes k)
   pub queued : (k : ℕ) → (ready k ≡ true) ↔ ((k < length nodes) × (is_ready nodes taken k ≡ true))
-  pub met : (k : ℕ) → Member taken k → unmet nodes taken (waits_at nodes k) ≡ 0
+  pub met : (k : ℕ) → Contains taken k → unmet nodes taken (waits_at nodes k) ≡ 0
 
 module _ {nodes : List Node} (apart : AllPairs (λ (m : Node) (n : Node). m.done ≢ n.done) nodes) {waiters : List (List ℕ)}
     (w : AreWaiters nodes waiters) {taken pending : List ℕ} {ready : ℕ → Bool} (h : IsQueue nodes taken pending ready) (k : ℕ)
@@ -141,8 +144,8 @@ module _ {nodes : List Node} (apart : AllPairs (λ (m : Node) (n : Node). m.done
     counts_next : (q : ℕ) → get_or after q 0 ≡ unmet nodes (taken ++ k ∷ []) (waits_at nodes q)
     counts_next q = omega (arith, counts q, left q, h.counts q)
 
-    met_next : (q : ℕ) → Member (taken ++ k ∷ []) q → unmet nodes (taken ++ k ∷ []) (waits_at nodes q) ≡ 0
-    met_next q m = elim (member_append taken (k ∷ []) q m) [
+    met_next : (q : ℕ) → Contains (taken ++ k ∷ []) q → unmet nodes (taken ++ k ∷ []) (waits_at nodes q) ≡ 0
+    met_next q m = elim (Contains-append_cases taken (k ∷ []) q m) [
       | inl old ↦ omega (arith, left q, h.met q old)
       | inr new ↦ let none : unmet nodes taken (waits_at nodes q) ≡ 0 =
           subst (λ j. unmet nodes taken (waits_at nodes j) ≡ 0) (sym (only new)) k_parts.1 in omega (arith, left q, none)
@@ -216,7 +219,7 @@ queue_first nodes pending ready counts long queued = record {
           ∙ (sym (unmet_at_first nodes (waits_at nodes q)) ∙ (ready_parts nodes [] q r.1).1),
     ),
   );
-  met = λ k m. absurd m;
+  met = λ k m. absurd (Contains-nil m);
 }
 
 pub counts_of : (nodes : List Node) (k : ℕ) → get_or (map (λ (n : Node). length n.waits) nodes) k 0 ≡ length (waits_at nodes k)

@@ -5,7 +5,7 @@ use Rattle.std.proofs.lemmas.List.Elements.{Contains-get_or}
 use Rattle.std.proofs.lemmas.Option.{same_Some, slice_get-get_or, slice_get_within, get_or_from_slice_get}
 use Rattle.vocabulary.specs.Prelude.{Node, AreLinked, WaitsOn}
 use Rattle.semantics.specs.ReplayOrder.{waits_at}
-use Rattle.log_laws.proofs.lemmas.Members.{none_or_some}
+use Rattle.list_lemmas.proofs.lemmas.Firsts.{cases_option}
 use Rattle.event_graph.specs.EventPlaces.{IsIndexed}
 use Rattle.event_graph.specs.Orders.{IsWait}
 use Rattle.event_graph.proofs.lemmas.Placed.{node_at}
@@ -22,7 +22,7 @@ module _ (nodes : List Node) (place : ℕ → Option ℕ) (h : IsIndexed nodes p
     apart = h.apart;
     linked = λ n event (k, lt, at) (w, less, it).
         let known : All (λ e. is_some (place e) ≡ true) n.waits = rw (slice_get-get_or nodes k n lt, at) at (h.waits k) in
-        elim (none_or_some (place event)) [
+        elim (cases_option (place event)) [
           | inl none ↦ let bad = sym (ap (λ (o : Option ℕ). is_some o) (ap place it ∙ none)) ∙ known w event less in absurd cc
           | inr some ↦ let m = node_at nodes some.0 event (h.places.found event some.0 some.1) in
               (m.0, (some.0, slice_get_within nodes some.0 m.0 m.1, get_or_from_slice_get nodes some.0 m.0 m.0 m.1), m.2)
@@ -64,7 +64,7 @@ module _ (nodes : List Node) (place : ℕ → Option ℕ) (h : IsIndexed nodes p
 
 -- A position that is no node's waits on nothing.
 pub no_waits : (nodes : List Node) (k : ℕ) → length nodes ≤ k → waits_at nodes k ≡ []
-no_waits nodes k past = elim (none_or_some (slice_get nodes k)) [
+no_waits nodes k past = elim (cases_option (slice_get nodes k)) [
   | inl none ↦ rw none refl
   | inr some ↦ absurd (omega (arith, past, slice_get_within nodes k some.0 some.1))
 ]

@@ -6,7 +6,7 @@ use Rattle.std.proofs.lemmas.Bool.{true≢false, cases_Bool, eq-eqb, ne_eqb, cas
 use Rattle.std.proofs.lemmas.Option.{same_Some}
 use Rattle.vocabulary.specs.Prelude.{is_in, Node}
 use Rattle.semantics.specs.ReplayOrder.{positions, waits_at, done_at, has_event, replay_order, is_stuck, stuck_wait, walk, up_to, cycle_from, from_least, shown_cycle}
-use Rattle.log_laws.proofs.lemmas.Members.{none_or_some, member_of}
+use Rattle.list_lemmas.proofs.lemmas.Firsts.{cases_option}
 use Rattle.log_laws.proofs.lemmas.Rounds.{replay, taken_within}
 use Rattle.std.proofs.lemmas.List.Elements.{Contains-get_or}
 use Rattle.std.proofs.Math.Bool.{or_comm}
@@ -17,14 +17,14 @@ use Rattle.event_graph.proofs.Taking.{find_least, find_nothing}
 -- Whether a node has an event is read off the place of the event.
 not_there : (nodes : List Node) (place : ℕ → Option ℕ) → ArePlaces nodes place → (j e : ℕ) → (done_at nodes j ≡ Some e → ⊥)
     → is_place j (place e) ≡ false
-not_there nodes place are j e bad = elim (none_or_some (place e)) [
+not_there nodes place are j e bad = elim (cases_option (place e)) [
   | inl none ↦ ap (is_place j) none
   | inr some ↦ ap (is_place j) some.1 ∙ ne_eqb some.0 j
       (λ same. bad (subst (λ q. done_at nodes q ≡ Some e) same (are.found e some.0 some.1)))
 ]
 
 event_place : (nodes : List Node) (place : ℕ → Option ℕ) → ArePlaces nodes place → (j e : ℕ) → has_event nodes e j ≡ is_place j (place e)
-event_place nodes place are j e = elim (none_or_some (done_at nodes j)) [
+event_place nodes place are j e = elim (cases_option (done_at nodes j)) [
   | inl none ↦ ap (λ o. unwrap_or (option_map (λ d. d == e) o) false) none
       ∙ sym (not_there nodes place are j e (λ at. let bad = sym none ∙ at in absurd cc))
   | inr some ↦ ap (λ o. unwrap_or (option_map (λ d. d == e) o) false) some.1 ∙ elim (cases_eq some.0 e) [
@@ -126,4 +126,4 @@ marked_more marks more count ks k h each is = record {
 
 pub order_within : (nodes : List Node) → All (λ k. k < length nodes) (replay_order nodes)
 order_within nodes i d lt = taken_within (replay nodes).taken (get_or (replay_order nodes) i d)
-    (member_of (replay_order nodes) (get_or (replay_order nodes) i d) (Contains-get_or (replay_order nodes) i d lt))
+    (Contains-get_or (replay_order nodes) i d lt)

@@ -4,7 +4,7 @@ use Rattle.std.specs.List.{list_any}
 use Rattle.std.proofs.lemmas.Bool.{and_cases, ltb-true, not-false}
 use Rattle.std.proofs.lemmas.List.Elements.{All-contains, All-contains_itself}
 use Rattle.std.proofs.lemmas.List.Folds.{list_any_none}
-use Rattle.log_laws.proofs.lemmas.Members.{map_member, member_of, none_at}
+use Rattle.list_lemmas.proofs.lemmas.Contained.{map_member, none_at}
 use Rattle.log_tables.specs.Regions.{space_points}
 use Rattle.vocabulary.specs.Prelude.{Priv, agree, meets}
 use Rattle.licences.specs.Claims.{Claimed, conflict}
@@ -92,9 +92,9 @@ no_clash g cs ds a b ours theirs none =
           let places = subst (λ ps. list_any (marked b.near) ps ≡ false) ours.placed.at apart in
           let near = subst (λ row. list_any (marked row) (map (site_place g.sites) cs) ≡ false) (theirs.near
           ∙ ap (near_row (table_in g)) theirs.placed.at) places in
-          far g c ds d (member_of ds d in_d) (All-contains
+          far g c ds d in_d (All-contains
           (λ (c : Claimed). c.points ≡ space_points g.regions c.space) cs c ours.placed.points of)
           (All-contains (λ (c : Claimed). c.points ≡ space_points g.regions c.space) ds d theirs.placed.points in_d)
           (none_at (marked (near_row (table_in g) (map (site_place g.sites) ds))) (map (site_place g.sites) cs) (site_place g.sites c) near
-          (map_member (site_place g.sites) cs c (member_of cs c of)))))
+          (map_member (site_place g.sites) cs c of))))
     ]

@@ -9,7 +9,7 @@ use Rattle.point_set.specs.Least.{IsLeastCommon}
 use Rattle.log_tables.specs.Regions.{Regions, space_of, space_points}
 use Rattle.log_tables.proofs.lemmas.Members.{has_in, in_has}
 use Rattle.vocabulary.specs.Prelude.{Space, is_in, meets}
-use Rattle.log_laws.proofs.lemmas.Members.{Member, map_member, none_at}
+use Rattle.list_lemmas.proofs.lemmas.Contained.{map_member, none_at}
 use Rattle.licences.specs.Claims.{Claimed}
 use Rattle.group_pairs.specs.declared.sites.Site.{Site}
 use Rattle.group_pairs.specs.Sites.{marked, near_row, shared_row, sharing, site_place}
@@ -55,7 +55,7 @@ met g c d (Some i) (Some j) shared a b e =
     ∙ row_at g s.site d j z ∙ sharing_is g c d i j s z a.0 b.0
 
 -- Where no site of the one is near to one of the other, no points meet.
-pub far : (g : Grounded) (c : Claimed) (ds : List Claimed) (d : Claimed) → Member ds d → c.points ≡ space_points g.regions c.space
+pub far : (g : Grounded) (c : Claimed) (ds : List Claimed) (d : Claimed) → Contains ds d → c.points ≡ space_points g.regions c.space
     → d.points ≡ space_points g.regions d.space
     → marked (near_row (table_in g) (map (site_place g.sites) ds)) (site_place g.sites c) ≡ false → meets c.points d.points ≡ false
 far g c ds d of ours theirs none = at_place (site_place g.sites c) refl none

@@ -1,5 +1,5 @@
 -- The requirements that actions name allow their moves, and are those that the moves name.
-use Rattle.std.proofs.Common.{◌≡◌, ℕ, ◌+◌, ◌==◌, ◌&&◌, inl, inr, List, [], ◌∷◌, map, Option, Some, None, option_map, unwrap_or, slice_get, refl, sym, ap, ap₂, ◌∙◌, subst}
+use Rattle.std.proofs.Common.{◌≡◌, ℕ, ◌+◌, ◌==◌, ◌&&◌, inl, inr, List, [], ◌∷◌, map, Option, Some, None, option_map, unwrap_or, slice_get, refl, sym, ap, ap₂, ◌∙◌, subst, Contains}
 use Rattle.std.specs.Prelude.{IfSome}
 use Rattle.std.specs.List.{AllByRecursion}
 use Rattle.std.specs.Option.{option_and_then}
@@ -9,8 +9,10 @@ use Rattle.std.proofs.lemmas.Option.{none-some, slice_get-get_or}
 use Rattle.vocabulary.specs.Prelude.{Priv, Req, Op, Tables, points_in, reqs_of, grid, req_at, cell_in, id_of, mapped}
 use Rattle.privilege.specs.declared.kinds.Priv.TheVariants as privileges
 use Rattle.semantics.specs.declared.tables.Op.TheVariants as operations
-use Rattle.log_laws.proofs.lemmas.Members.{Member, Each, contains_of, found_at, member_append, member_filter, member_flat, member_map, none_or_some, only}
-use Rattle.list_lemmas.proofs.lemmas.Firsts.{find_by_place}
+use Rattle.std.proofs.lemmas.List.Elements.{Contains-append_cases, recursion_from_All}
+use Rattle.list_lemmas.proofs.lemmas.Contained.{found_at, member_flat, member_map, only, Contains-here, Contains-later, all_contained, Contains-nil}
+use Rattle.list_lemmas.proofs.lemmas.Filtered.{of_filter}
+use Rattle.list_lemmas.proofs.lemmas.Firsts.{find_by_place, cases_option}
 use Rattle.inst_steps.specs.declared.act.Act.{Act}
 use Rattle.inst_steps.specs.declared.act.Act.TheVariants as acts
 use Rattle.inst_steps.specs.declared.act.Action.{Action}
@@ -18,10 +20,6 @@ use Rattle.inst_steps.specs.Acting.{IsBy, IsMappedTo, IsOfTask, IsOwn, HasNumber
 use Rattle.inst_steps.specs.Stepping.{AreNumbered, rest_actions}
 use Rattle.inst_steps.specs.Sweeps.{Pass, action_at, actions_of_pass, cell_of, changing, own_place, pass_for, passes_of, reading}
 use Rattle.inst_steps.specs.Viewing.{HasPrivilege}
-
-all_of : {X : Type 0} (P : X → Type 0) (xs : List X) → Each P xs → AllByRecursion P xs
-all_of P [] h = tt
-all_of P (x ∷ xs) h = (h x (inl refl), all_of P xs (λ y m. h y (inr m)))
 
 module _ (t : Tables) where
   -- An action is by the requirement that its move names, which allows it.
@@ -50,7 +48,7 @@ module _ (t : Tables) where
   own r found =
       let test = λ (q : Req). (q.item == r.item) && (q.number == r.number) in
       let same = find_by_place test t.reqs (own_place t r) (position_from-zero test t.reqs) ∙ found in
-      elim (none_or_some (own_place t r)) [
+      elim (cases_option (own_place t r)) [
         | inl none ↦ absurd (none-some r (sym (ap (option_and_then (slice_get t.reqs)) none) ∙ same))
         | inr some ↦ (some.0, some.1, sym (ap (option_and_then (slice_get t.reqs)) some.1) ∙ same)
       ]
@@ -91,24 +89,24 @@ module _ (t : Tables) where
   -- ---- the sweeps of an operation
 
   module _ (numbered : AreNumbered t) where
-    found : (item : ℕ) (r : Req) → Member (reqs_of t item) r → req_at t r.item r.number ≡ Some r
+    found : (item : ℕ) (r : Req) → Contains (reqs_of t item) r → req_at t r.item r.number ≡ Some r
     found item r m =
-        let c = contains_of (reqs_of t item) r m in
+        let c = m in
         let here : slice_get (reqs_of t item) c.0 ≡ Some r = slice_get-get_or (reqs_of t item) c.0 r c.1 ∙ ap (λ x. Some x) c.2 in
         let at = numbered.found item c.0 c.1 ∙ here in
         let both = and_parts (r.item == item) (r.number == c.0 + 1)
         (found_at (λ (q : Req). (q.item == item) && (q.number == c.0 + 1)) t.reqs r at).1 in
         ap₂ (λ i n. req_at t i n) (eqb-true r.item item both.0) (eqb-true r.number (c.0 + 1) both.1) ∙ at
 
-    task_of : (item : ℕ) (r : Req) → Member (reqs_of t item) r → id_of t r.item ≡ id_of t item
-    task_of item r m = ap (id_of t) (eqb-true r.item item (member_filter (λ (r : Req). r.item == item) t.reqs r m).1)
+    task_of : (item : ℕ) (r : Req) → Contains (reqs_of t item) r → id_of t r.item ≡ id_of t item
+    task_of item r m = ap (id_of t) (eqb-true r.item item (of_filter (λ (r : Req). r.item == item) t.reqs r m).1)
 
-    sweep_suits : (op : Op) (o : Option Pass) → Member (passes_of t op) o → IfSome o (λ (p : Pass). Suits p.act)
+    sweep_suits : (op : Op) (o : Option Pass) → Contains (passes_of t op) o → IfSome o (λ (p : Pass). Suits p.act)
     sweep_suits (operations.Run item) o m =
         let task = id_of t item in
         let reads : Req → Option Pass = λ r. pass_for r (reading t task r) in
         let changes : Req → Option Pass = λ r. pass_for r (changing t task r) in
-        elim (member_append (map reads (reqs_of t item)) (map changes (reqs_of t item)) o m) [
+        elim (Contains-append_cases (map reads (reqs_of t item)) (map changes (reqs_of t item)) o m) [
           | inl a ↦
               let r = member_map reads (reqs_of t item) o a in
               subst (λ o. IfSome o (λ (p : Pass). Suits p.act)) (sym r.2)
@@ -124,18 +122,20 @@ module _ (t : Tables) where
     sweep_suits (operations.Reset inst space fields) o m = subst (λ o. IfSome o (λ (p : Pass). Suits p.act)) (sym (only m)) (λ p. (tt, tt))
     sweep_suits (operations.Fold src dst space fields) o m =
         subst (λ o. IfSome o (λ (p : Pass). Suits p.act)) (sym (only m)) (λ p. (tt, tt))
-    sweep_suits operations.Merge o m = absurd m
+    sweep_suits operations.Merge o m = absurd (Contains-nil m)
 
-    one_by : (o : Option Pass) → IfSome o (λ (p : Pass). Suits p.act) → (a : Action) → Member (actions_of_pass t o) a → IsFit a
-    one_by None h a m = absurd m
+    one_by : (o : Option Pass) → IfSome o (λ (p : Pass). Suits p.act) → (a : Action) → Contains (actions_of_pass t o) a → IsFit a
+    one_by None h a m = absurd (Contains-nil m)
     one_by (Some p) h a m = let q = member_map (action_at t p.act) (grid (points_in t p.space) p.fields) a m in
         subst IsFit (sym q.2) (h q.0)
 
-    each_fit : (op : Op) (a : Action) → Member (rest_actions t op 0) a → IsFit a
+    each_fit : (op : Op) (a : Action) → Contains (rest_actions t op 0) a → IsFit a
     each_fit op a m = let o = member_flat (actions_of_pass t) (passes_of t op) a m in one_by o.0 (sweep_suits op o.0 o.1) a o.2
 
     pub all_by : (op : Op) → AllByRecursion (IsBy t) (rest_actions t op 0)
-    all_by op = all_of (IsBy t) (rest_actions t op 0) (λ a m. (each_fit op a m).0)
+    all_by op = recursion_from_All (IsBy t) (rest_actions t op 0)
+        (all_contained (IsBy t) (rest_actions t op 0) (λ a m. (each_fit op a m).0))
 
     pub all_own : (op : Op) → AllByRecursion (IsOwn t) (rest_actions t op 0)
-    all_own op = all_of (IsOwn t) (rest_actions t op 0) (λ a m. (each_fit op a m).1)
+    all_own op = recursion_from_All (IsOwn t) (rest_actions t op 0)
+        (all_contained (IsOwn t) (rest_actions t op 0) (λ a m. (each_fit op a m).1))

@@ -11,7 +11,7 @@ use Rattle.spy_grammar.specs.declared.record.Record.TheVariants as records
 use Rattle.semantics.specs.Faults.{is_end}
 use Rattle.semantics.specs.Rules as rules
 use Rattle.log_laws.proofs.lemmas.Admitted.{Unbroken, rule_kept, by_records, no_broken_rule}
-use Rattle.log_laws.proofs.lemmas.Apart.{range-more}
+use Rattle.list_lemmas.proofs.lemmas.Ranges.{range-more}
 use Rattle.logs.specs.Faultless.{AreDeclared}
 use Rattle.cut_logs.specs.Cutting.{IsCutOf}
 use Rattle.inst_steps.specs.Stepping.{AreNumbered}

@@ -8,7 +8,7 @@ use Rattle.std.proofs.lemmas.List.Folds.{list_any-append}
 use Rattle.std.proofs.Math.Bool.{and-false, or-false}
 use Rattle.vocabulary.specs.Prelude.{InstKind, Base, Value, plain, Cell, Inst, Tables, is_in, points_in, inst_at, is_home, start}
 use Rattle.value_terms.specs.declared.terms.Base.TheVariants.{Raw, Init}
-use Rattle.log_laws.proofs.lemmas.Members.{find_none}
+use Rattle.list_lemmas.proofs.lemmas.Contained.{find_none}
 use Rattle.log_tables.proofs.lemmas.Members.{eq_turned}
 use Rattle.inst_steps.specs.Stores.{Contents, HoldsMore, IsStart, base_of, is_at_point, is_at_points, is_of, is_of_some}
 use Rattle.inst_steps.proofs.lemmas.StoreMaps.{get_put}

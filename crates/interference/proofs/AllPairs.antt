@@ -1,11 +1,11 @@
 -- The rows of what items ask for are the pairs of the log.
-use Rattle.std.proofs.Common.{◌≡◌, ℕ, ◌+◌, ◌-◌, ◌<◌, inl, inr, not, List, [], ◌∷◌, ◌++◌, length, refl, sym, ap, ◌∙◌, arith, map, filter, flat_map, unwrap_or, None}
+use Rattle.std.proofs.Common.{◌≡◌, ℕ, ◌+◌, ◌-◌, ◌<◌, inl, inr, not, List, [], ◌∷◌, ◌++◌, length, refl, sym, ap, ◌∙◌, arith, map, filter, flat_map, unwrap_or, None, Contains}
 use Rattle.std.specs.List.{range_with_len}
 use Rattle.std.proofs.lemmas.Bool.{cases_Bool}
+use Rattle.list_lemmas.proofs.lemmas.Contained.{Contains-here, Contains-later}
 use Rattle.vocabulary.specs.Prelude.{Tables, is_free, item_kind, least_place}
-use Rattle.log_laws.proofs.lemmas.Members.{Member}
-use Rattle.log_laws.proofs.lemmas.Lists.{map_flat}
-use Rattle.log_laws.proofs.lemmas.Apart.{number_between}
+use Rattle.list_lemmas.proofs.lemmas.Parts.{map_flat}
+use Rattle.list_lemmas.proofs.lemmas.Ranges.{number_between}
 use Rattle.item_uses.specs.Usages.{Usage, usages_of, usages, usages_at}
 use Rattle.item_uses.specs.Sharing.{kind_between, place_between}
 use Rattle.item_uses.proofs.lemmas.ItemKinds.{kind_is}
@@ -35,14 +35,14 @@ meeting_is t a b la lb =
     }) (kind_at_two t a b la lb)
     ∙ ap (λ o. record { a = a; b = b; kind = item_kind t a b; place = unwrap_or o no_place }) (place_at_two t a b la lb)
 
-row_is : (t : Tables) (a : ℕ) → a < length t.items → (ns : List ℕ) → ((b : ℕ) → Member ns b → b < length t.items)
+row_is : (t : Tables) (a : ℕ) → a < length t.items → (ns : List ℕ) → ((b : ℕ) → Contains ns b → b < length t.items)
     → map (meeting (usages t) a) (filter (λ b. not (is_free (kind_between (usages_at (usages t) a) (usages_at (usages t) b)))) ns)
     ≡ map (pair_of t) (map (λ b. (a, b)) (filter (λ b. not (is_free (item_kind t a b))) ns))
 row_is t a la [] within = refl
 row_is t a la (b ∷ ns) within =
-    let lb = within b (inl refl) in
+    let lb = within b (Contains-here ns) in
     let k = kind_at_two t a b la lb in
-    let rest = row_is t a la ns (λ c m. within c (inr m)) in
+    let rest = row_is t a la ns (λ c m. within c (Contains-later ns m)) in
     elim (cases_Bool (is_free (item_kind t a b))) [
       | inl free ↦ rw (ap is_free k ∙ free, free) rest
       | inr not_free ↦ rw (ap is_free k ∙ not_free, not_free)
@@ -51,9 +51,10 @@ row_is t a la (b ∷ ns) within =
           ∙ ap (λ ps. pair_of t (a, b) ∷ ps) rest)
     ]
 
-flat_same : {X Y : Type 0} (f g : X → List Y) (xs : List X) → ((x : X) → Member xs x → f x ≡ g x) → flat_map f xs ≡ flat_map g xs
+flat_same : {X Y : Type 0} (f g : X → List Y) (xs : List X) → ((x : X) → Contains xs x → f x ≡ g x) → flat_map f xs ≡ flat_map g xs
 flat_same f g [] h = refl
-flat_same f g (x ∷ xs) h = ap (λ ys. ys ++ flat_map f xs) (h x (inl refl)) ∙ ap (λ ys. g x ++ ys) (flat_same f g xs (λ y m. h y (inr m)))
+flat_same f g (x ∷ xs) h = ap (λ ys. ys ++ flat_map f xs) (h x (Contains-here xs))
+    ∙ ap (λ ys. g x ++ ys) (flat_same f g xs (λ y m. h y (Contains-later xs m)))
 
 rows_are : (t : Tables) → rows None (usages t) 0 ≡ all_pairs t
 rows_are t =

@@ -1,13 +1,14 @@
 -- Pairs that a search may pass over, since none of them is turned.
-use Rattle.std.proofs.Common.{◌≡◌, ℕ, zero, suc, ◌+◌, ◌-◌, ◌<◌, ◌≤◌, inl, inr, Bool, true, false, nat_lt, ◌&&◌, not, List, [], ◌∷◌, ◌++◌, length, refl, sym, ap, ◌∙◌, arith, get_or, find, filter, map, Option, Some, None, option_map}
+use Rattle.std.proofs.Common.{◌≡◌, ℕ, zero, suc, ◌+◌, ◌-◌, ◌<◌, ◌≤◌, inl, inr, Bool, true, nat_lt, ◌&&◌, not, List, [], ◌∷◌, ◌++◌, length, refl, sym, ap, ◌∙◌, arith, get_or, find, filter, Option, Some, None, option_map}
 use Rattle.std.specs.List.{range_with_len}
-use Rattle.std.proofs.lemmas.Bool.{cases_Bool, and_parts, and_right, le-ltb, false_from_ne_true, ltb-true}
+use Rattle.std.proofs.lemmas.Bool.{cases_Bool, and_parts, false_from_ne_true, ltb-true}
 use Rattle.privilege.specs.declared.kinds.Kind.TheVariants.{Before}
 use Rattle.vocabulary.specs.Prelude.{Kind, Tables, is_before, is_free, item_kind}
 use Rattle.semantics.specs.Kinds as kinds
 use Rattle.semantics.specs.SerialOrder.{serial, serial_place, turned_pair}
-use Rattle.log_laws.proofs.lemmas.Members.{Member, member_map, member_filter}
-use Rattle.log_laws.proofs.lemmas.Apart.{number_between}
+use Rattle.list_lemmas.proofs.lemmas.Contained.{member_map}
+use Rattle.list_lemmas.proofs.lemmas.Filtered.{of_filter}
+use Rattle.list_lemmas.proofs.lemmas.Ranges.{number_between}
 use Rattle.logs.specs.Listing.{ArePlacesIn}
 use Rattle.item_uses.specs.Usages.{Usage, usages, usages_at}
 use Rattle.item_uses.specs.Sharing.{kind_between}
@@ -46,7 +47,7 @@ module _ (t : Tables) (places : List ℕ) (are : ArePlacesIn (serial t) (length 
       let later = range_with_len (a + 1) (length us - (a + 1)) in
       find_none comes_before (row (Some places) us a (a + 1)) (λ p m.
       let of = member_map (meeting us a) (filter met later) p m in
-      let f = member_filter met later of.0 of.1 in
+      let f = of_filter met later of.0 of.1 in
       let n = number_between (a + 1) (length us - (a + 1)) of.0 f.0 in
       let long = usages_length t in
       let there : of.0 < length t.items = omega (arith, n.0, n.1, long) in

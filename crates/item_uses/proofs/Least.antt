@@ -1,8 +1,9 @@
 -- The least of some places.
-use Rattle.std.proofs.Common.{◌≡◌, ◌≤◌, inl, inr, Bool, true, false, List, [], ◌∷◌, ◌++◌, ap, arith, Option, Some, None, refl}
+use Rattle.std.proofs.Common.{◌≡◌, ◌≤◌, inl, inr, Bool, true, false, List, [], ◌∷◌, ◌++◌, ap, arith, Option, Some, None, refl, Contains}
 use Rattle.std.proofs.lemmas.Bool.Decides.{nat_tests}
 use Rattle.vocabulary.specs.Prelude.{Place, least_of, lesser, comes_first}
-use Rattle.log_laws.proofs.lemmas.Members.{Member, member_append, member_left, member_right}
+use Rattle.std.proofs.lemmas.List.Elements.{Contains-append_cases, Contains-append_left, Contains-append_right}
+use Rattle.list_lemmas.proofs.lemmas.Contained.{Contains-nil, Contains-here, Contains-later, Contains-cases, only}
 use Rattle.item_uses.specs.Sharing.{lesser_place}
 
 abbrev pub first : Place → Place → Bool
@@ -26,26 +27,43 @@ not_behind p q a b c = grind (arith, nat_tests)
 
 -- The least of some places.
 abbrev pub IsLeastPlace : List Place → Option Place → Type 0
-IsLeastPlace ps (Some p) = Member ps p × ((q : Place) → Member ps q → first q p ≡ false)
-IsLeastPlace ps None = (q : Place) → Member ps q → ⊥
+IsLeastPlace ps (Some p) = Contains ps p × ((q : Place) → Contains ps q → first q p ≡ false)
+IsLeastPlace ps None = (q : Place) → Contains ps q → ⊥
 
 pub place_is_least : (ps : List Place) → IsLeastPlace ps (least_of ps)
-place_is_least [] = λ q m. m
+place_is_least [] = λ q m. Contains-nil m
 place_is_least (p ∷ ps) = more p (least_of ps) ps (place_is_least ps)
   where
     pick : (p q : Place) (ps : List Place) → IsLeastPlace ps (Some q) → (b : Bool) → first q p ≡ b
         → IsLeastPlace (p ∷ ps) (Some (lesser p (Some q)))
-    pick p q ps h true e = rw e (inr h.0, λ r m. elim m [ inl is ↦ rw is (first_one_way q p e) | inr later ↦ h.1 r later ])
-    pick p q ps h false e =
-        rw e (inl refl, λ r m. elim m [ inl is ↦ rw is (first_itself p) | inr later ↦ first_chain p q r e (h.1 r later) ])
+    pick p q ps h true e = rw e (
+      Contains-later ps h.0,
+      λ r m. elim (Contains-cases ps m) [
+        | inl is ↦ rw is (first_one_way q p e)
+        | inr later ↦ h.1 r later
+      ],
+    )
+    pick p q ps h false e = rw e (
+      Contains-here ps,
+      λ r m. elim (Contains-cases ps m) [
+        | inl is ↦ rw is (first_itself p)
+        | inr later ↦ first_chain p q r e (h.1 r later)
+      ],
+    )
 
     more : (p : Place) (o : Option Place) (ps : List Place) → IsLeastPlace ps o → IsLeastPlace (p ∷ ps) (Some (lesser p o))
-    more p None ps h = (inl refl, λ r m. elim m [ inl is ↦ rw is (first_itself p) | inr later ↦ absurd (h r later) ])
+    more p None ps h = (
+      Contains-here ps,
+      λ r m. elim (Contains-cases ps m) [
+        | inl is ↦ rw is (first_itself p)
+        | inr later ↦ absurd (h r later)
+      ],
+    )
     more p (Some q) ps h = pick p q ps h (first q p) refl
 
 -- Two lists have one least place where each place of the one is in the other, and none of the other is before all of the one.
-pub least_same : (ps qs : List Place) → ((q : Place) → Member qs q → Member ps q)
-    → ((p : Place) → Member ps p → (q : Place) × Member qs q × (first p q ≡ false)) → least_of ps ≡ least_of qs
+pub least_same : (ps qs : List Place) → ((q : Place) → Contains qs q → Contains ps q)
+    → ((p : Place) → Contains ps p → (q : Place) × Contains qs q × (first p q ≡ false)) → least_of ps ≡ least_of qs
 least_same ps qs within below = same (least_of ps) (least_of qs) (place_is_least ps) (place_is_least qs)
   where
     same : (o r : Option Place) → IsLeastPlace ps o → IsLeastPlace qs r → o ≡ r
@@ -60,19 +78,20 @@ pub least_append : (ps qs : List Place) → least_of (ps ++ qs) ≡ lesser_place
 least_append ps qs = joined (least_of ps) (least_of qs) (place_is_least ps) (place_is_least qs)
   where
     joined : (o r : Option Place) → IsLeastPlace ps o → IsLeastPlace qs r → least_of (ps ++ qs) ≡ lesser_place o r
-    joined None None h k = least_same (ps ++ qs) [] (λ q m. absurd m)
-        (λ p m. absurd (elim (member_append ps qs p m) [ inl l ↦ h p l | inr r ↦ k p r ]))
+    joined None None h k = least_same (ps ++ qs) [] (λ q m. absurd (Contains-nil m))
+        (λ p m. absurd (elim (Contains-append_cases ps qs p m) [ inl l ↦ h p l | inr r ↦ k p r ]))
     joined None (Some q) h k = least_same (ps ++ qs) (q ∷ [])
-        (λ p m. elim m [ inl is ↦ rw is (member_right ps qs q k.0) | inr none ↦ absurd none ])
-        (λ p m. elim (member_append ps qs p m) [ inl l ↦ absurd (h p l) | inr r ↦ (q, inl refl, k.1 p r) ])
+        (λ p m. rw (only m) (Contains-append_right ps qs q k.0))
+        (λ p m. elim (Contains-append_cases ps qs p m) [ inl l ↦ absurd (h p l) | inr r ↦ (q, Contains-here [], k.1 p r) ])
     joined (Some p) None h k = least_same (ps ++ qs) (p ∷ [])
-        (λ x m. elim m [ inl is ↦ rw is (member_left ps qs p h.0) | inr none ↦ absurd none ])
-        (λ x m. elim (member_append ps qs x m) [ inl l ↦ (p, inl refl, h.1 x l) | inr r ↦ absurd (k x r) ])
+        (λ x m. rw (only m) (Contains-append_left ps qs p h.0))
+        (λ x m. elim (Contains-append_cases ps qs x m) [ inl l ↦ (p, Contains-here [], h.1 x l) | inr r ↦ absurd (k x r) ])
     joined (Some p) (Some q) h k = least_same (ps ++ qs) (p ∷ q ∷ [])
-        (λ x m. elim m [
-          | inl is ↦ rw is (member_left ps qs p h.0)
-          | inr (inl is) ↦ rw is (member_right ps qs q k.0)
-          | inr (inr none) ↦
-              absurd none
+        (λ x m. elim (Contains-cases (q ∷ []) m) [
+          | inl is ↦ rw is (Contains-append_left ps qs p h.0)
+          | inr last ↦ rw (only last) (Contains-append_right ps qs q k.0)
         ])
-        (λ x m. elim (member_append ps qs x m) [ inl l ↦ (p, inl refl, h.1 x l) | inr r ↦ (q, inr (inl refl), k.1 x r) ])
+        (λ x m. elim (Contains-append_cases ps qs x m) [
+          | inl l ↦ (p, Contains-here (q ∷ []), h.1 x l)
+          | inr r ↦ (q, Contains-later (q ∷ []) (Contains-here []), k.1 x r)
+        ])

@@ -1,8 +1,8 @@
 -- The strongest of some kinds.
-use Rattle.std.proofs.Common.{◌≡◌, inl, inr, List, [], ◌∷◌, ◌++◌, refl, sym, ap, ◌∙◌, subst}
+use Rattle.std.proofs.Common.{◌≡◌, inl, inr, List, [], ◌∷◌, ◌++◌, refl, sym, ap, ◌∙◌, subst, Contains}
+use Rattle.list_lemmas.proofs.lemmas.Contained.{Contains-nil, Contains-here, Contains-later, Contains-cases}
 use Rattle.vocabulary.specs.Prelude.{Kind, stronger, strongest}
 use Rattle.privilege.specs.declared.kinds.Kind.TheVariants.{Free, Turn, Before}
-use Rattle.log_laws.proofs.lemmas.Members.{Member}
 
 abbrev pub AtMost : Kind → Kind → Type 0
 AtMost j k = stronger j k ≡ k
@@ -41,18 +41,21 @@ at_most_trans j k l p q = ap (stronger j) (sym q) ∙ sym (associates j k l) ∙
 pub at_most_both : (j k : Kind) → AtMost j k → AtMost k j → j ≡ k
 at_most_both j k p q = sym q ∙ commutes k j ∙ p
 
-pub below_strongest : (ks : List Kind) (k : Kind) → Member ks k → AtMost k (strongest ks)
-below_strongest [] k m = absurd m
-below_strongest (j ∷ ks) k (inl e) = subst (λ i. AtMost i (stronger j (strongest ks))) (sym e) (left_at_most j (strongest ks))
-below_strongest (j ∷ ks) k (inr m) = at_most_trans k (strongest ks) (stronger j (strongest ks)) (below_strongest ks k m)
-    (subst (AtMost (strongest ks)) (commutes (strongest ks) j) (left_at_most (strongest ks) j))
+pub below_strongest : (ks : List Kind) (k : Kind) → Contains ks k → AtMost k (strongest ks)
+below_strongest [] k m = absurd (Contains-nil m)
+below_strongest (j ∷ ks) k m = elim (Contains-cases ks m) [
+  | inl is ↦ subst (λ i. AtMost i (stronger j (strongest ks))) (sym is) (left_at_most j (strongest ks))
+  | inr later ↦ at_most_trans k (strongest ks) (stronger j (strongest ks)) (below_strongest ks k later)
+      (subst (AtMost (strongest ks)) (commutes (strongest ks) j) (left_at_most (strongest ks) j))
+]
 
-pub strongest_below : (ks : List Kind) (k : Kind) → ((j : Kind) → Member ks j → AtMost j k) → AtMost (strongest ks) k
+pub strongest_below : (ks : List Kind) (k : Kind) → ((j : Kind) → Contains ks j → AtMost j k) → AtMost (strongest ks) k
 strongest_below [] k h = refl
-strongest_below (j ∷ ks) k h = associates j (strongest ks) k ∙ ap (stronger j) (strongest_below ks k (λ i m. h i (inr m))) ∙ h j (inl refl)
+strongest_below (j ∷ ks) k h = associates j (strongest ks) k
+    ∙ ap (stronger j) (strongest_below ks k (λ i m. h i (Contains-later ks m))) ∙ h j (Contains-here ks)
 
-pub strongest_same : (js ks : List Kind) → ((j : Kind) → Member js j → AtMost j (strongest ks))
-    → ((k : Kind) → Member ks k → AtMost k (strongest js)) → strongest js ≡ strongest ks
+pub strongest_same : (js ks : List Kind) → ((j : Kind) → Contains js j → AtMost j (strongest ks))
+    → ((k : Kind) → Contains ks k → AtMost k (strongest js)) → strongest js ≡ strongest ks
 strongest_same js ks one other = at_most_both (strongest js) (strongest ks) (strongest_below js (strongest ks) one)
     (strongest_below ks (strongest js) other)
 

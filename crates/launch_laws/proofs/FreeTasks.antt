@@ -1,5 +1,5 @@
 -- Two tasks of one launch do not interfere.
-use Rattle.std.proofs.Common.{◌≡◌, ◌≢◌, ℕ, ◌+◌, ◌==◌, ◌&&◌, true, false, inl, inr, List, [], ◌∷◌, ◌++◌, refl, sym, ap, ◌∙◌, subst, Some, None, slice_get, length, append_assoc}
+use Rattle.std.proofs.Common.{◌≡◌, ◌≢◌, ℕ, ◌+◌, ◌==◌, ◌&&◌, true, false, inl, inr, List, [], ◌∷◌, ◌++◌, refl, sym, ap, ◌∙◌, subst, Some, None, slice_get, length, append_assoc, Contains}
 use Rattle.std.proofs.lemmas.Bool.{and_parts, eq-eqb, eqb-true, ne_eqb}
 use Rattle.std.proofs.lemmas.Option.{same_Some, slice_get_within}
 use Rattle.vocabulary.specs.Prelude.{Priv, Coherence, agree, kind_of, Record, LLined, Place, Item, Req, lined, records_of, Tables, tables_of, place_of, privilege_of, coherence_of, is_in, points_in, covers, item_kind, reqs_of, uses_of}
@@ -9,9 +9,13 @@ use Rattle.spy_grammar.specs.declared.record.Record.TheVariants as records
 use Rattle.semantics.specs.declared.tables.ItemBody.TheVariants as bodies
 use Rattle.semantics.specs.Faults.{records_fault, declaration_fault, header_fault, ended_fault, count_fault}
 use Rattle.semantics.specs.Launches.{TaskLaunch, not_expanded, expanded, launch_records, written_log, is_launched, clash, framed, launches_fault, launch_fault}
-use Rattle.log_laws.proofs.lemmas.Members.{Member, both_none, member_at, member_right, member_filter, member_in, meets_of}
-use Rattle.log_laws.proofs.lemmas.Apart.{pairs_of}
-use Rattle.log_laws.proofs.lemmas.Lists.{split_at}
+use Rattle.log_laws.proofs.lemmas.Members.{member_in, meets_of}
+use Rattle.std.proofs.lemmas.List.Elements.{Contains-append_right}
+use Rattle.list_lemmas.proofs.lemmas.Contained.{both_none, Contains-here}
+use Rattle.list_lemmas.proofs.lemmas.Filtered.{of_filter}
+use Rattle.list_lemmas.proofs.lemmas.Firsts.{contains_at}
+use Rattle.list_lemmas.proofs.lemmas.Pairs.{AllPairs-cases}
+use Rattle.list_lemmas.proofs.lemmas.Parts.{split_at}
 use Rattle.log_laws.proofs.lemmas.Numbered.{records_numbered}
 use Rattle.log_laws.proofs.lemmas.Admitted.{no_broken_rule}
 use Rattle.log_laws.proofs.lemmas.Listed.{are_listed}
@@ -38,8 +42,8 @@ same_kind p a q b c e d f one two three four = rw (one, two, three, four) refl
 -- What it means that a requirement covers a place.
 record Covers (t : Tables) (p : Place) (r : Req) : Type 0 where
   tree : r.tree ≡ p.tree
-  point : Member (points_in t r.space) p.point
-  field : Member r.fields p.field
+  point : Contains (points_in t r.space) p.point
+  field : Contains r.fields p.field
 
 covers_so : (t : Tables) (p : Place) (r : Req) → covers t p r ≡ true → Covers t p r
 covers_so t p r e =
@@ -53,17 +57,22 @@ covers_so t p r e =
     }
 
 -- A task that is written is an item.
-task_declared : (written : List Record) (id : ℕ) → Member written (records.Task id) → (j : Item)
-    × Member (tables_of (lined written)).items j × (j.id ≡ id) × (j.body ≡ bodies.Task)
+task_declared : (written : List Record) (id : ℕ) → Contains written (records.Task id) → (j : Item)
+    × Contains (tables_of (lined written)).items j × (j.id ≡ id) × (j.body ≡ bodies.Task)
 task_declared written id m =
     let cut = split_at written (records.Task id) m in
     let before : Tables = tables_of (lined cut.0) in
     let j : Item = record { id = id; line = 1 + length cut.0; body = bodies.Task } in
-    let here : Member (tables_of (lined (cut.0 ++ records.Task id ∷ []))).items j =
-    subst (λ (t : Tables). Member t.items j) (sym (tables_more cut.0 (records.Task id ∷ [])))
-    (member_right before.items (j ∷ []) j (inl refl)) in
-    let there = stays (λ t. Member t.items j) (item_stays j) (cut.0 ++ records.Task id ∷ []) cut.1 here in
-    (j, subst (λ ws. Member (tables_of (lined ws)).items j) (append_assoc cut.0 (records.Task id ∷ []) cut.1 ∙ sym cut.2) there, refl, refl)
+    let here : Contains (tables_of (lined (cut.0 ++ records.Task id ∷ []))).items j =
+    subst (λ (t : Tables). Contains t.items j) (sym (tables_more cut.0 (records.Task id ∷ [])))
+    (Contains-append_right before.items (j ∷ []) j (Contains-here [])) in
+    let there = stays (λ t. Contains t.items j) (item_stays j) (cut.0 ++ records.Task id ∷ []) cut.1 here in (
+      j,
+      subst (λ ws. Contains (tables_of (lined ws)).items j)
+          (append_assoc cut.0 (records.Task id ∷ []) cut.1 ∙ sym cut.2) there,
+      refl,
+      refl,
+    )
 
 no_launch_fault : (lines : ℕ) (log : List LLined) → launch_fault lines log ≡ None → launches_fault not_expanded log ≡ None
 unfolding launch_fault
@@ -73,7 +82,7 @@ no_launch_fault lines log e =
     (both_none (count_fault (framed log)) _ ended.1).1
 
 module _ (lines count : ℕ) (log : List LLined) (no_fault : launch_fault lines log ≡ None)
-    (declared : declaration_fault count (lined (written_log log)) ≡ None) (l : TaskLaunch) (of : Member (launches_of log) l) where
+    (declared : declaration_fault count (lined (written_log log)) ≡ None) (l : TaskLaunch) (of : Contains (launches_of log) l) where
   abbrev t : Tables
   t = launch_tables log
 
@@ -97,21 +106,23 @@ module _ (lines count : ℕ) (log : List LLined) (no_fault : launch_fault lines 
   is_task_body : (a : ℕ) (i : Item) → slice_get t.items a ≡ Some i → is_launched l i.id ≡ true → i.body ≡ bodies.Task
   is_task_body a i at launched =
       let j = task_declared written i.id (holds.made l of i.id launched) in
-      elim (pairs_of (λ (i j : Item). i.id ≢ j.id) t.items (are_listed (lined written) no_rule).ids i j.0 (member_at t.items a i at) j.1) [
+      elim (AllPairs-cases (λ (i j : Item). i.id ≢ j.id) t.items (are_listed (lined written) no_rule).ids i j.0
+      (contains_at t.items a i at) j.1) [
         | inl is ↦ ap (λ (i : Item). i.body) is ∙ j.3
         | inr (inl differ) ↦ absurd (differ (sym j.2))
         | inr (inr differ) ↦ absurd (differ j.2)
       ]
 
-  use_is_req : (a : ℕ) (i : Item) → slice_get t.items a ≡ Some i → i.body ≡ bodies.Task → (q : Req) → Member (uses_of t a) q
-      → Member t.reqs q × (q.item ≡ a)
+  use_is_req : (a : ℕ) (i : Item) → slice_get t.items a ≡ Some i → i.body ≡ bodies.Task → (q : Req) → Contains (uses_of t a) q
+      → Contains t.reqs q × (q.item ≡ a)
   use_is_req a i at body q m =
-      let here : Member (reqs_of t a) q = rw (at, body) at m in
-      let both = member_filter (λ (r : Req). r.item == a) t.reqs q here in
+      let here : Contains (reqs_of t a) q = rw (at, body) at m in
+      let both = of_filter (λ (r : Req). r.item == a) t.reqs q here in
       (both.0, eqb-true q.item a both.1)
 
   -- The record of a requirement of an item names the id of the item.
-  author : (a : ℕ) (i : Item) → slice_get t.items a ≡ Some i → (q : Req) → Member t.reqs q → q.item ≡ a → (w : HasAuthor written t.items q)
+  author : (a : ℕ) (i : Item) → slice_get t.items a ≡ Some i → (q : Req) → Contains t.reqs q → q.item ≡ a
+      → (w : HasAuthor written t.items q)
       × (w.task ≡ i.id)
   author a i at q m is =
       let w : HasAuthor written t.items q = subst (λ ws. HasAuthor ws t.items q) numbered (all_have_authors (lined written) no_rule q m) in
@@ -142,15 +153,16 @@ module _ (lines count : ℕ) (log : List LLined) (no_fault : launch_fault lines 
       → is_launched l v.task ≡ true → is_launched l w.task ≡ true
       → (p : Place) → Covers t p q → Covers t p r → kind_of q.access q.coherence r.access r.coherence ≡ Free
   free_written q r v w differ one two p c d =
-      elim (pairs_of _ written (holds.apart l of) (record_of written t.items q v) (record_of written t.items r w) v.of_log w.of_log) [
+      elim (AllPairs-cases (λ x y. clash t l y x ≡ false) written (holds.apart l of) (record_of written t.items q v)
+      (record_of written t.items r w) v.of_log w.of_log) [
         | inl same ↦ absurd (differ (ap (λ (p : ℕ × ℕ). p.0) (same_Some (v.task, q.space) (w.task, r.space) (ap asked_by same))))
         | inr (inl later) ↦ free_back r.access q.access r.coherence q.coherence
             (free_apart r q w v (λ e. differ (sym e)) two one p d c later)
         | inr (inr later) ↦ free_apart q r v w differ one two p c d later
       ]
 
-  free_uses : (a b : ℕ) → IsTaskOf t l a → IsTaskOf t l b → a ≢ b → (p : Place) (q r : Req) → Member (uses_of t a) q
-      → Member (uses_of t b) r → covers t p q ≡ true → covers t p r ≡ true
+  free_uses : (a b : ℕ) → IsTaskOf t l a → IsTaskOf t l b → a ≢ b → (p : Place) (q r : Req) → Contains (uses_of t a) q
+      → Contains (uses_of t b) r → covers t p q ≡ true → covers t p r ≡ true
       → kind_of q.access q.coherence r.access r.coherence ≡ Free
   free_uses a b x y differ p q r m n c d =
       let q_in = use_is_req a x.task x.at (is_task_body a x.task x.at x.launched) q m in

@@ -1,5 +1,5 @@
 -- What is declared stays declared as a log goes on, and where a record of the log stands.
-use Rattle.std.proofs.Common.{◌≡◌, ℕ, zero, suc, ◌+◌, ◌==◌, Bool, true, inl, inr, List, [], ◌∷◌, ◌++◌, map, refl, sym, ap, ◌∙◌, subst, arith, Some, None, slice_get, fold, length, append_assoc, append-nil}
+use Rattle.std.proofs.Common.{◌≡◌, ℕ, zero, suc, ◌+◌, ◌==◌, Bool, true, inl, inr, List, [], ◌∷◌, ◌++◌, map, refl, sym, ap, ◌∙◌, subst, arith, Some, None, slice_get, fold, length, append_assoc, append-nil, Contains}
 use Rattle.std.specs.List.{list_any, position_or_len}
 use Rattle.std.specs.Option.{option_map_or}
 use Rattle.std.proofs.lemmas.Bool.{cases_Bool}
@@ -9,8 +9,9 @@ use Rattle.vocabulary.specs.Prelude.{Rect, Record, Lined, Item, lined, lined_fro
 use Rattle.spy_grammar.specs.declared.record.Record.TheVariants as records
 use Rattle.semantics.specs.Rules.{is_declared, space_id, item_id}
 use Rattle.semantics.specs.Faults.{records_fault}
-use Rattle.log_laws.proofs.lemmas.Members.{Member, member_left, find_any, find_still}
-use Rattle.log_laws.proofs.lemmas.Lists.{place_len}
+use Rattle.std.proofs.lemmas.List.Elements.{Contains-append_left}
+use Rattle.list_lemmas.proofs.lemmas.Contained.{find_any, find_still}
+use Rattle.list_lemmas.proofs.lemmas.Parts.{place_len}
 use Rattle.log_laws.proofs.lemmas.Admitted.{Unbroken, unbroken}
 
 -- ---- the tables of a log that goes on
@@ -40,9 +41,9 @@ stays P step xs ys h = subst P (sym (tables_more xs ys)) (stays_so P step (table
 -- ---- what stays
 
 -- An item.
-pub item_stays : (i : Item) (t : Tables) (line : ℕ) (r : Record) → Member t.items i → Member (with_record t line r).items i
-item_stays i t line (records.Task id) m = member_left t.items _ i m
-item_stays i t line (records.Fill id tree space fields n) m = member_left t.items _ i m
+pub item_stays : (i : Item) (t : Tables) (line : ℕ) (r : Record) → Contains t.items i → Contains (with_record t line r).items i
+item_stays i t line (records.Task id) m = Contains-append_left t.items _ i m
+item_stays i t line (records.Fill id tree space fields n) m = Contains-append_left t.items _ i m
 item_stays i t line _ m = m
 
 -- An item at its position.

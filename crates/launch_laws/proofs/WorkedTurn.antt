@@ -1,18 +1,18 @@
 -- The two orders of the tasks of the worked launch.
 use Rattle.std.proofs.Common.{◌≢◌, ℕ, inl, inr, [], ◌∷◌, refl, sym, ◌∙◌, subst, AllPairs, Contains}
+use Rattle.list_lemmas.proofs.lemmas.Pairs.{apart_put, apart_one}
 use Rattle.semantics.specs.declared.tables.ItemBody.TheVariants.{Task}
-use Rattle.log_laws.proofs.lemmas.Members.{member_of, contains_of, only}
-use Rattle.log_laws.proofs.lemmas.Apart.{all_pairs}
+use Rattle.list_lemmas.proofs.lemmas.Contained.{only, Contains-cases, Contains-first, Contains-later}
 use Rattle.launch_laws.specs.LaunchOrders.{AgreeButFor, IsTaskOf, launch_tables}
 use Rattle.launch_laws.specs.WorkedLaunches.{apart_halves, launch_of_halves}
 
 two_apart : (a b : ℕ) → a ≢ b → AllPairs (λ m n. m ≢ n) (a ∷ b ∷ [])
-two_apart a b differ = all_pairs (λ m n. m ≢ n) (a ∷ b ∷ []) (λ n m is. differ (is ∙ only m), (λ n m. absurd m, tt))
+two_apart a b differ = apart_put a (b ∷ []) (λ n m is. differ (is ∙ only m)) (apart_one b)
 
 other_way : (a b n : ℕ) → Contains (a ∷ b ∷ []) n → Contains (b ∷ a ∷ []) n
-other_way a b n m = elim (member_of (a ∷ b ∷ []) n m) [
-  | inl is ↦ contains_of (b ∷ a ∷ []) n (inr (inl is))
-  | inr last ↦ contains_of (b ∷ a ∷ []) n (inl (only last))
+other_way a b n m = elim (Contains-cases (b ∷ []) m) [
+  | inl is ↦ Contains-later (a ∷ []) (Contains-first [] is)
+  | inr last ↦ Contains-first (a ∷ []) (only last)
 ]
 
 first_task : IsTaskOf (launch_tables apart_halves) launch_of_halves 0
@@ -32,7 +32,7 @@ halves_turned = record {
   once = two_apart 0 1 (λ is. cc);
   other_once = two_apart 1 0 (λ is. cc);
   same = λ item. (other_way 0 1 item, other_way 1 0 item);
-  tasks = λ item m. elim (member_of (0 ∷ 1 ∷ []) item m) [
+  tasks = λ item m. elim (Contains-cases (1 ∷ []) m) [
     | inl is ↦ subst (IsTaskOf (launch_tables apart_halves) launch_of_halves) (sym is) first_task
     | inr last ↦ subst (IsTaskOf (launch_tables apart_halves) launch_of_halves) (sym (only last)) second_task
   ];

@@ -7,7 +7,8 @@ use Rattle.std.proofs.lemmas.Bool.Decides.{nat_tests}
 use Rattle.std.proofs.lemmas.List.{take_more, drop_more, drop_all}
 use Rattle.std.proofs.lemmas.List.Elements.{All-contains, Contains-append_left, Contains-push, Contains-push_cases}
 use Rattle.vocabulary.specs.Prelude.{Place, grid, least_of, lesser}
-use Rattle.log_laws.proofs.lemmas.Members.{Member, all_at, member_of, contains_of, member_map, map_member, member_filter, filter_member}
+use Rattle.list_lemmas.proofs.lemmas.Contained.{all_at, member_map, map_member, Contains-nil, Contains-here, Contains-later, Contains-cases}
+use Rattle.list_lemmas.proofs.lemmas.Filtered.{of_filter, in_filter}
 use Rattle.log_laws.proofs.lemmas.Apart.{member_grid, grid_member}
 use Rattle.licences.specs.Claims.{AreOfSpaces, Claimed, allows, places, refused, first_refused, lesser_place}
 use Rattle.licences.proofs.Reaching.{served_at}
@@ -32,27 +33,44 @@ at_field c f x y le = grind (arith, nat_tests)
 -- ---- the least of some places
 
 abbrev IsLeastPlace : List Place → Option Place → Type 0
-IsLeastPlace ps (Some p) = Member ps p × ((q : Place) → Member ps q → is_before q p ≡ false)
-IsLeastPlace ps None = (q : Place) → Member ps q → ⊥
+IsLeastPlace ps (Some p) = Contains ps p × ((q : Place) → Contains ps q → is_before q p ≡ false)
+IsLeastPlace ps None = (q : Place) → Contains ps q → ⊥
 
 place_is_least : (ps : List Place) → IsLeastPlace ps (least_of ps)
-place_is_least [] = λ q m. m
+place_is_least [] = λ q m. Contains-nil m
 place_is_least (p ∷ ps) = more p (least_of ps) ps (place_is_least ps)
   where
     pick : (p q : Place) (ps : List Place) → IsLeastPlace ps (Some q) → (b : Bool) → is_before q p ≡ b
         → IsLeastPlace (p ∷ ps) (Some (lesser p (Some q)))
-    pick p q ps h true e = rw e (inr h.0, λ r m. elim m [ inl is ↦ rw is (before_one_way q p e) | inr later ↦ h.1 r later ])
-    pick p q ps h false e =
-        rw e (inl refl, λ r m. elim m [ inl is ↦ rw is (before_itself p) | inr later ↦ before_chain p q r e (h.1 r later) ])
+    pick p q ps h true e = rw e (
+      Contains-later ps h.0,
+      λ r m. elim (Contains-cases ps m) [
+        | inl is ↦ rw is (before_one_way q p e)
+        | inr later ↦ h.1 r later
+      ],
+    )
+    pick p q ps h false e = rw e (
+      Contains-here ps,
+      λ r m. elim (Contains-cases ps m) [
+        | inl is ↦ rw is (before_itself p)
+        | inr later ↦ before_chain p q r e (h.1 r later)
+      ],
+    )
 
     more : (p : Place) (o : Option Place) (ps : List Place) → IsLeastPlace ps o → IsLeastPlace (p ∷ ps) (Some (lesser p o))
-    more p None ps h = (inl refl, λ r m. elim m [ inl is ↦ rw is (before_itself p) | inr later ↦ absurd (h r later) ])
+    more p None ps h = (
+      Contains-here ps,
+      λ r m. elim (Contains-cases ps m) [
+        | inl is ↦ rw is (before_itself p)
+        | inr later ↦ absurd (h r later)
+      ],
+    )
     more p (Some q) ps h = pick p q ps h (is_before q p) refl
 
 -- ---- one field more
 
 none_among : (cs : List Claimed) (c : Claimed) → IsLeastAmong cs c [] None
-none_among cs c = record { some = tt; least = λ field point of no_point. absurd (member_of [] field of) }
+none_among cs c = record { some = tt; least = λ field point of no_point. absurd (Contains-nil of) }
 
 later_field : (cs : List Claimed) (c : Claimed) (fs : List ℕ) (f : ℕ) (best next : Option Place) → IsLeastAmong cs c fs best
     → IsLeastAt cs c f next → IsLeastAmong cs c (fs ++ f ∷ []) (lesser_place best next)
@@ -135,24 +153,24 @@ abbrev refused_places : List Claimed → Claimed → List Place
 refused_places cs c = filter (λ p. not (allows cs p c.access)) (places c)
 
 place_refused : (cs : List Claimed) (c : Claimed) (field point : ℕ) → Contains c.fields field → IsRefusedAt cs c field point
-    → Member (refused_places cs c) (at c field point)
+    → Contains (refused_places cs c) (at c field point)
 place_refused cs c field point of no_point =
-    filter_member (λ p. not (allows cs p c.access)) (places c) (at c field point)
+    in_filter (λ p. not (allows cs p c.access)) (places c) (at c field point)
     (map_member (λ (p : ℕ × ℕ). at c p.1 p.0) (grid c.points c.fields) (point, field)
-    (grid_member c.points c.fields point field (member_of c.points point no_point.0) (member_of c.fields field of)))
+    (grid_member c.points c.fields point field no_point.0 of))
     (ap not no_point.1)
 
-refused_place : (cs : List Claimed) (c : Claimed) (p : Place) → Member (refused_places cs c) p → (p ≡ at c p.field p.point)
+refused_place : (cs : List Claimed) (c : Claimed) (p : Place) → Contains (refused_places cs c) p → (p ≡ at c p.field p.point)
     × Contains c.fields p.field × IsRefusedAt cs c p.field p.point
 refused_place cs c p m =
-    let parts = member_filter (λ p. not (allows cs p c.access)) (places c) p m in
+    let parts = of_filter (λ p. not (allows cs p c.access)) (places c) p m in
     let pair = member_map (λ (p : ℕ × ℕ). at c p.1 p.0) (grid c.points c.fields) p parts.0 in
     let on = member_grid c.points c.fields pair.0 pair.1 in
     let same : p ≡ at c p.field p.point = rw pair.2 refl in (
       same,
-      contains_of c.fields p.field (subst (λ (q : Place). Member c.fields q.field) (sym pair.2) on.1),
+      subst (λ (q : Place). Contains c.fields q.field) (sym pair.2) on.1,
       (
-        contains_of c.points p.point (subst (λ (q : Place). Member c.points q.point) (sym pair.2) on.0),
+        subst (λ (q : Place). Contains c.points q.point) (sym pair.2) on.0,
         subst (λ q. allows cs q c.access ≡ false) same (not-true _ parts.1),
       ),
     )
@@ -190,7 +208,7 @@ allowed_at_once cs c spaces any =
     least_told cs c None (record {
       some = tt;
       least = λ field point of no_point.
-          let served : serves one c field ≡ true = all_at (serves one c) c.fields field parts.1 (member_of c.fields field of) in
+          let served : serves one c field ≡ true = all_at (serves one c) c.fields field parts.1 of in
           absurd (false≢true (sym no_point.1 ∙ served_at cs one c field point (found.0, found.2, found.3) served
           (subst (λ xs. Contains xs point) (sym same) no_point.0)));
     })

@@ -3,12 +3,13 @@ use Rattle.std.proofs.Common.{◌≡◌, ℕ, ◌+◌, ◌<◌, ◌≤◌, Bool,
 use Rattle.std.specs.List.Sorted.{IsStrictlyIncreasing}
 use Rattle.std.proofs.lemmas.Grind.{common_steps}
 use Rattle.std.proofs.lemmas.List.{append-nil, get_or_default}
-use Rattle.std.proofs.lemmas.List.Elements.{filter_more}
+use Rattle.std.proofs.lemmas.List.Elements.{filter_more, Contains-append_right}
 use Rattle.std.proofs.lemmas.List.Filters.{length-filter_more}
 use Rattle.std.proofs.lemmas.List.Sums.{length-filter, count_by-le-length}
+use Rattle.list_lemmas.proofs.lemmas.Contained.{Contains-here}
 use Rattle.point_set.specs.Least.{IsGreatestOf}
 use Rattle.point_set.proofs.lemmas.Ahead.{spread}
-use Rattle.log_laws.proofs.lemmas.Members.{member_of, contains_of, member_filter, member_right}
+use Rattle.list_lemmas.proofs.lemmas.Filtered.{of_filter}
 
 -- What is not below the last of the numbers so far is none of them.
 so_far : (xs : List ℕ) (i q : ℕ) → IsStrictlyIncreasing xs → i < length xs → Contains (take (i + 1) xs) q → q ≤ get_or xs i 0
@@ -31,9 +32,8 @@ module _ (p : ℕ → Bool) (xs : List ℕ) (i : ℕ) (lt : i < length xs) where
   pub last_more : IsStrictlyIncreasing xs → p (get_or xs i 0) ≡ true → IsGreatestOf (filter p (take (i + 1) xs)) (Some (get_or xs i 0))
   last_more up e = (
     subst (λ ys. Contains ys (get_or xs i 0)) (sym (one_more e))
-        (contains_of _ _ (member_right (filter p (take i xs)) (get_or xs i 0 ∷ []) (get_or xs i 0) (inl refl))),
-    λ q c. so_far xs i q up lt (contains_of (take (i + 1) xs) q
-        (member_filter p (take (i + 1) xs) q (member_of (filter p (take (i + 1) xs)) q c)).0),
+        (Contains-append_right (filter p (take i xs)) (get_or xs i 0 ∷ []) (get_or xs i 0) (Contains-here [])),
+    λ q c. so_far xs i q up lt (of_filter p (take (i + 1) xs) q c).0,
   )
 
   pub last_still : (last : Option ℕ) → p (get_or xs i 0) ≡ false → IsGreatestOf (filter p (take i xs)) last

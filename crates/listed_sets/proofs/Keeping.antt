@@ -3,15 +3,17 @@ use Rattle.std.proofs.Common.{◌≡◌, ℕ, ◌<◌, ◌≤◌, ◌^◌, min, 
 use Rattle.std.specs.List.Sorted.{IsStrictlyIncreasing}
 use Rattle.std.proofs.lemmas.Bool.{cases_lt, true≢false, false_from_ne_true}
 use Rattle.std.proofs.lemmas.List.Elements.{All-filter}
-use Rattle.std.proofs.lemmas.List.Kept.{IsStrictlyIncreasing-filter}
+use Rattle.std.proofs.lemmas.List.Kept.{IsStrictlyIncreasing-filter, AllPairs-from_increasing}
+use Rattle.list_lemmas.proofs.lemmas.Pairs.{AllPairs-first, AllPairs-rest}
+use Rattle.list_lemmas.proofs.lemmas.Contained.{Contains-here, Contains-nil, Contains-later, Contains-cases}
 use Rattle.vocabulary.specs.Prelude.{is_in}
 use Rattle.point_set.specs.Least.{IsLeast, IsLeastFrom, IsLeastGap}
 use Rattle.point_set.proofs.lemmas.Ahead.{in_or_not}
-use Rattle.log_laws.proofs.lemmas.Members.{Member, member_of, contains_of, member_filter, filter_member, is_in_of, member_in}
-use Rattle.log_laws.proofs.lemmas.Apart.{Rise}
+use Rattle.log_laws.proofs.lemmas.Members.{is_in_of, member_in}
+use Rattle.list_lemmas.proofs.lemmas.Filtered.{of_filter, in_filter}
+use Rattle.list_lemmas.proofs.lemmas.Ranges.{Rise}
 use Rattle.point_laws.specs.Cut.{kept}
 use Rattle.point_laws.proofs.lemmas.Cuts.{in_both, in_kept}
-use Rattle.listed_sets.proofs.lemmas.Rising.{rise}
 
 -- The least common number is the least of those that are kept.
 pub kept_least : (listed xs : List ℕ) (low : ℕ) (o : Option ℕ) → IsLeast (λ q. Contains xs q × Contains listed q × (low ≤ q)) o
@@ -35,43 +37,45 @@ kept_bounded None xs low = low
 -- ---- gathered along the list
 
 pub same_test : (xs : List ℕ) (q : ℕ) (r : Bool) → IsTrue r ↔ Contains xs q → is_in xs q ≡ r
-same_test xs q true h = is_in_of xs q (member_of xs q (h.0 refl))
-same_test xs q false h = false_from_ne_true (is_in xs q) (λ e. true≢false (sym (h.1 (contains_of xs q (member_in xs q e)))))
+same_test xs q true h = is_in_of xs q (h.0 refl)
+same_test xs q false h = false_from_ne_true (is_in xs q) (λ e. true≢false (sym (h.1 (member_in xs q e))))
 
 -- Numbers that rise are those that they are.
-same_numbers : (xs ys : List ℕ) → Rise xs → Rise ys → ((q : ℕ) → Member xs q → Member ys q) → ((q : ℕ) → Member ys q → Member xs q)
+same_numbers : (xs ys : List ℕ) → Rise xs → Rise ys → ((q : ℕ) → Contains xs q → Contains ys q) → ((q : ℕ) → Contains ys q → Contains xs q)
     → xs ≡ ys
 same_numbers [] [] a b on back = refl
-same_numbers [] (y ∷ ys) a b on back = absurd (back y (inl refl))
-same_numbers (x ∷ xs) [] a b on back = absurd (on x (inl refl))
+same_numbers [] (y ∷ ys) a b on back = absurd (Contains-nil (back y (Contains-here ys)))
+same_numbers (x ∷ xs) [] a b on back = absurd (Contains-nil (on x (Contains-here xs)))
 same_numbers (x ∷ xs) (y ∷ ys) a b on back =
-    let e : x ≡ y = first x y xs ys a.0 b.0 (on x (inl refl)) (back y (inl refl)) in
-    ap₂ (λ z zs. z ∷ zs) e (same_numbers xs ys a.1 b.1
-    (λ q m. later y q ys (let lt = a.0 q m in omega (arith, lt, e)) (on q (inr m)))
-    (λ q m. later x q xs (let lt = b.0 q m in omega (arith, lt, e)) (back q (inr m))))
+    let above = AllPairs-first (λ x y. x < y) x xs a in
+    let beyond = AllPairs-first (λ x y. x < y) y ys b in
+    let e : x ≡ y = first x y xs ys above beyond (on x (Contains-here xs)) (back y (Contains-here ys)) in
+    ap₂ (λ z zs. z ∷ zs) e (same_numbers xs ys (AllPairs-rest (λ x y. x < y) x xs a) (AllPairs-rest (λ x y. x < y) y ys b)
+    (λ q m. later y q ys (let lt = above q m in omega (arith, lt, e)) (on q (Contains-later xs m)))
+    (λ q m. later x q xs (let lt = beyond q m in omega (arith, lt, e)) (back q (Contains-later ys m))))
   where
-    later : (y q : ℕ) (ys : List ℕ) → y < q → Member (y ∷ ys) q → Member ys q
-    later y q ys lt (inl is) = absurd (omega (arith, lt, is))
-    later y q ys lt (inr m) = m
+    later : (y q : ℕ) (ys : List ℕ) → y < q → Contains (y ∷ ys) q → Contains ys q
+    later y q ys lt m = elim (Contains-cases ys m) [ inl is ↦ absurd (omega (arith, lt, is)) | inr rest ↦ rest ]
 
-    first : (x y : ℕ) (xs ys : List ℕ) → ((q : ℕ) → Member xs q → x < q) → ((q : ℕ) → Member ys q → y < q) → Member (y ∷ ys) x
-        → Member (x ∷ xs) y → x ≡ y
-    first x y xs ys a b (inl is) m = is
-    first x y xs ys a b (inr m) (inl is) = sym is
-    first x y xs ys a b (inr m) (inr n) = let p = b x m in let q = a y n in absurd (omega (arith, p, q))
+    first : (x y : ℕ) (xs ys : List ℕ) → ((q : ℕ) → Contains xs q → x < q) → ((q : ℕ) → Contains ys q → y < q) → Contains (y ∷ ys) x
+        → Contains (x ∷ xs) y → x ≡ y
+    first x y xs ys a b m n = elim (Contains-cases ys m) [
+      | inl is ↦ is
+      | inr far ↦ elim (Contains-cases xs n) [ inl is ↦ sym is | inr beyond ↦ absurd (omega (arith, b x far, a y beyond)) ]
+    ]
 
 pub turned : (listed xs : List ℕ) → IsStrictlyIncreasing listed → IsStrictlyIncreasing xs
     → filter (is_in xs) listed ≡ filter (is_in listed) xs
 turned listed xs up rises =
     same_numbers (filter (is_in xs) listed) (filter (is_in listed) xs)
-    (rise (filter (is_in xs) listed) (IsStrictlyIncreasing-filter (is_in xs) listed up))
-    (rise (filter (is_in listed) xs) (IsStrictlyIncreasing-filter (is_in listed) xs rises))
+    (AllPairs-from_increasing (filter (is_in xs) listed) (IsStrictlyIncreasing-filter (is_in xs) listed up))
+    (AllPairs-from_increasing (filter (is_in listed) xs) (IsStrictlyIncreasing-filter (is_in listed) xs rises))
     (in_other listed xs) (in_other xs listed)
   where
-    in_other : (xs ys : List ℕ) (q : ℕ) → Member (filter (is_in ys) xs) q → Member (filter (is_in xs) ys) q
+    in_other : (xs ys : List ℕ) (q : ℕ) → Contains (filter (is_in ys) xs) q → Contains (filter (is_in xs) ys) q
     in_other xs ys q m =
-        let both = member_filter (is_in ys) xs q m in
-        filter_member (is_in xs) ys q (member_in ys q both.1) (is_in_of xs q both.0)
+        let both = of_filter (is_in ys) xs q m in
+        in_filter (is_in xs) ys q (member_in ys q both.1) (is_in_of xs q both.0)
 
 -- ---- gaps
 

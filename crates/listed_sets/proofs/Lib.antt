@@ -1,3 +1,2 @@
-pub mod lemmas
 mod Along
 mod Keeping

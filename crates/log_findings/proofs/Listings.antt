@@ -1,5 +1,5 @@
 -- The dependences of a log, one after another.
-use Rattle.std.proofs.Common.{◌≡◌, ℕ, ◌+◌, inl, inr, Bool, not, List, [], ◌∷◌, ◌++◌, length, map, refl, sym, ap, ◌∙◌, subst, arith, Contains, Some, suc, count_by}
+use Rattle.std.proofs.Common.{◌≡◌, ℕ, ◌+◌, Bool, not, List, [], ◌∷◌, ◌++◌, length, map, refl, sym, ap, ◌∙◌, subst, arith, Contains, Some, suc, count_by}
 use Rattle.std.specs.List.{filter_map, cons_option}
 use Rattle.std.specs.Prelude.{option_map}
 use Rattle.std.proofs.lemmas.List.Sums.{length-filter}
@@ -11,18 +11,18 @@ use Rattle.outcomes.specs.Outcome.{dependence_at, dependences}
 use Rattle.findings.specs.declared.finding.Dep.{Dep}
 use Rattle.interference.specs.declared.pair.Pair.{Pair}
 use Rattle.interference.specs.Pairing.{pair_of, all_pairs}
-use Rattle.log_laws.proofs.lemmas.Members.{Member, map_member, contains_of}
+use Rattle.list_lemmas.proofs.lemmas.Contained.{map_member, Contains-here, Contains-later}
 use Rattle.log_findings.specs.Listing.{dependence_of}
 
 module _ (t : Tables) (place : (p : Pair) → Contains (all_pairs t) p → least_place t p.a p.b ≡ Some p.place) where
-  listed_from : (ps : List (ℕ × ℕ)) → ((p : ℕ × ℕ) → Member ps p → Member (kinds.pairs t) p)
+  listed_from : (ps : List (ℕ × ℕ)) → ((p : ℕ × ℕ) → Contains ps p → Contains (kinds.pairs t) p)
       → map (dependence_of t) (map (pair_of t) ps) ≡ filter_map (λ (p : ℕ × ℕ). option_map (dependence_at t p) (least_place t p.0 p.1)) ps
   listed_from [] within = refl
   listed_from (p ∷ ps) within =
       let here : Contains (all_pairs t) (pair_of t p) =
-      contains_of (all_pairs t) (pair_of t p) (map_member (pair_of t) (kinds.pairs t) p (within p (inl refl))) in
+      map_member (pair_of t) (kinds.pairs t) p (within p (Contains-here ps)) in
       let first : least_place t p.0 p.1 ≡ Some (pair_of t p).place = place (pair_of t p) here in
-      ap (λ ds. dependence_of t (pair_of t p) ∷ ds) (listed_from ps (λ q m. within q (inr m)))
+      ap (λ ds. dependence_of t (pair_of t p) ∷ ds) (listed_from ps (λ q m. within q (Contains-later ps m)))
       ∙ sym (ap (λ o. cons_option (option_map (dependence_at t p) o)
       (filter_map (λ (q : ℕ × ℕ). option_map (dependence_at t q) (least_place t q.0 q.1)) ps)) first)
 

@@ -1,5 +1,5 @@
 -- In the tables of an admitted log no space has a point twice, no requirement or operation a field twice, and no two nodes have one event.
-use Rattle.std.proofs.Common.{◌≡◌, ◌≢◌, refl, ap, ℕ, inl, inr, false, ◌==◌, List, [], ◌∷◌, ◌++◌, sym, ◌∙◌, subst, find, true≢false, eq-eqb}
+use Rattle.std.proofs.Common.{◌≡◌, ◌≢◌, refl, ap, ℕ, inl, inr, false, ◌==◌, List, [], ◌∷◌, ◌++◌, sym, ◌∙◌, subst, find, true≢false, eq-eqb, AllPairs, Contains}
 use Rattle.std.specs.Prelude.{IfSome}
 use Rattle.std.specs.List.{AllByRecursion, list_any}
 use Rattle.std.proofs.lemmas.List.{map-append}
@@ -8,8 +8,10 @@ use Rattle.vocabulary.specs.Prelude.{Rect, Record, Lined, Good, Req, LogNode, Op
 use Rattle.spy_grammar.specs.declared.record.Record.TheVariants as records
 use Rattle.semantics.specs.DataOps.{DataOp, data_of}
 use Rattle.semantics.specs.Rules.{repeats_event}
-use Rattle.log_laws.proofs.lemmas.Members.{Each, each_more, member_map, none_at, found_at, none_or_some}
-use Rattle.log_laws.proofs.lemmas.Apart.{Apart, PairsBy, pairs_more, points_apart, plane_apart, fields_apart}
+use Rattle.list_lemmas.proofs.lemmas.Contained.{each_more, member_map, none_at, found_at, Contains-nil}
+use Rattle.list_lemmas.proofs.lemmas.Firsts.{cases_option}
+use Rattle.list_lemmas.proofs.lemmas.Pairs.{Apart, AllPairs-push, AllPairs-nil, apart_none}
+use Rattle.log_laws.proofs.lemmas.Apart.{points_apart, plane_apart, fields_apart}
 use Rattle.log_laws.proofs.lemmas.Admitted.{IsFaultless, by_records, rule_kept}
 
 -- An operation has no field twice.
@@ -17,10 +19,10 @@ abbrev pub HasFieldsApart : Op → Type 0
 HasFieldsApart op = IfSome (data_of op) (λ (d : DataOp). Apart d.fields)
 
 pub record AreStrict (t : Tables) : Type 0 where
-  pub spaces : Each (λ (s : Space). Apart s.points) t.spaces
-  pub fields : Each (λ (r : Req). Apart r.fields) t.reqs
-  pub operations : Each (λ (n : LogNode). HasFieldsApart n.op) t.nodes
-  pub events : PairsBy (λ (m : Node) n. m.done ≢ n.done) (graph_of t.nodes)
+  pub spaces : (s : Space) → Contains t.spaces s → Apart s.points
+  pub fields : (r : Req) → Contains t.reqs r → Apart r.fields
+  pub operations : (n : LogNode) → Contains t.nodes n → HasFieldsApart n.op
+  pub events : AllPairs (λ (m : Node) n. m.done ≢ n.done) (graph_of t.nodes)
 
 with_node : (t : Tables) (n : LogNode) → list_any (λ (m : LogNode). n.done == m.done) t.nodes ≡ false → HasFieldsApart n.op → AreStrict t
     → AreStrict (record t { nodes = t.nodes ++ n ∷ [] })
@@ -28,8 +30,8 @@ with_node t n e fields h = record {
   spaces = h.spaces;
   fields = h.fields;
   operations = each_more (λ (n : LogNode). HasFieldsApart n.op) t.nodes n h.operations fields;
-  events = subst (PairsBy (λ (m : Node) n. m.done ≢ n.done)) (sym (map-append _ t.nodes (n ∷ [])))
-      (pairs_more (λ (m : Node) n. m.done ≢ n.done) (graph_of t.nodes) _ h.events (λ m is same.
+  events = subst (AllPairs (λ (m : Node) n. m.done ≢ n.done)) (sym (map-append _ t.nodes (n ∷ [])))
+      (AllPairs-push (λ (m : Node) n. m.done ≢ n.done) (graph_of t.nodes) _ h.events (λ m is same.
       let r = member_map _ t.nodes m is in
       true≢false (sym (eq-eqb n.done r.0.done (sym same ∙ ap (λ (m : Node). m.done) r.2))
       ∙ none_at (λ (m : LogNode). n.done == m.done) t.nodes r.0 e r.1)));
@@ -62,11 +64,11 @@ pub strict : (command : Command) (log : List Lined) → AllByRecursion Good (rec
     → AreStrict (tables_of log)
 strict command log good f = by_records Good AreStrict (records_of log)
     (λ earlier l u g h. with_good (tables_of earlier) l.line l.rec g (rule_kept codes.RepeatedEvent refl u) h)
-    [] log good f.records (record { spaces = λ s m. absurd m; fields = λ r m. absurd m; operations = λ n m. absurd m; events = tt })
+    [] log good f.records (record { spaces = λ s m. absurd (Contains-nil m); fields = λ r m. absurd (Contains-nil m); operations = λ n m. absurd (Contains-nil m); events = AllPairs-nil (λ (m : Node) n. m.done ≢ n.done) })
 
 -- The points of a space, declared or not, are apart.
 pub points_in_apart : (t : Tables) (id : ℕ) → AreStrict t → Apart (points_in t id)
-points_in_apart t id h = elim (none_or_some (find (λ (s : Space). s.id == id) t.spaces)) [
-  | inl none ↦ rw none tt
+points_in_apart t id h = elim (cases_option (find (λ (s : Space). s.id == id) t.spaces)) [
+  | inl none ↦ rw none apart_none
   | inr some ↦ rw some.1 (h.spaces some.0 (found_at (λ (s : Space). s.id == id) t.spaces some.0 some.1).0)
 ]

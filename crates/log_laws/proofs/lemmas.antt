@@ -2,7 +2,6 @@
 pub mod Members
 pub mod Apart
 pub mod Drawn
-pub mod Lists
 pub mod Rounds
 pub mod Cycles
 pub mod Sane

@@ -1,7 +1,7 @@
 -- Numbers upward, one more.
 use Rattle.std.proofs.Common.{◌≡◌, ℕ, suc, ◌+◌, [], ◌∷◌, ◌++◌, ap, ◌∙◌, arith}
 use Rattle.std.specs.List.{range_with_len}
-use Rattle.log_laws.proofs.lemmas.Apart.{range-more}
+use Rattle.list_lemmas.proofs.lemmas.Ranges.{range-more}
 
 pub numbers_more : (n : ℕ) → range_with_len 0 (n + 1) ≡ range_with_len 0 n ++ n ∷ []
 numbers_more n =

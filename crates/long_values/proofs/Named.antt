@@ -1,5 +1,5 @@
 -- In the tables of an admitted log each id names one item, each item stands once in serial order, and each task is run once.
-use Rattle.std.proofs.Common.{◌≡◌, ◌≢◌, ℕ, zero, suc, ◌<◌, inl, inr, true, false, ◌&&◌, ◌==◌, nat_lt, List, [], ◌∷◌, ◌++◌, Some, length, get_or, position, unwrap_or, slice_get, refl, sym, ap, ◌∙◌, arith, AllPairs}
+use Rattle.std.proofs.Common.{◌≡◌, ◌≢◌, ℕ, zero, suc, ◌<◌, inl, inr, true, false, ◌&&◌, ◌==◌, nat_lt, List, [], ◌∷◌, ◌++◌, Some, length, get_or, position, unwrap_or, slice_get, refl, sym, ap, ◌∙◌, arith, AllPairs, Contains}
 use Rattle.std.specs.List.{list_any, list_all}
 use Rattle.std.specs.Option.{option_map_or}
 use Rattle.std.proofs.lemmas.Bool.{and_parts, ltb-true, eqb-true, eq-eqb, true≢false, false_from_ne_true, cases_eq, cases_Bool}
@@ -14,10 +14,11 @@ use Rattle.spy_grammar.specs.declared.record.Record.TheVariants as records
 use Rattle.semantics.specs.declared.tables.Op.TheVariants as operations
 use Rattle.semantics.specs.SerialOrder.{serial}
 use Rattle.semantics.specs.Rules.{is_declared, is_task, names, task_id, is_run_again, runs_item}
-use Rattle.log_laws.proofs.lemmas.Members.{Member, Each, each_more, none_at, any_at, any_found, find_any, member_at, found_at}
-use Rattle.log_laws.proofs.lemmas.Apart.{PairsBy, all_pairs, pairs_more}
+use Rattle.list_lemmas.proofs.lemmas.Contained.{each_more, none_at, any_at, any_found, find_any, found_at, Contains-nil}
+use Rattle.list_lemmas.proofs.lemmas.Firsts.{contains_at}
+use Rattle.list_lemmas.proofs.lemmas.Pairs.{AllPairs-push, AllPairs-nil}
+use Rattle.list_lemmas.proofs.lemmas.Parts.{place_len}
 use Rattle.log_laws.proofs.lemmas.Admitted.{Unbroken, rule_kept, IsFaultless, by_records, keeps_of}
-use Rattle.log_laws.proofs.lemmas.Lists.{place_len}
 use Rattle.log_laws.proofs.lemmas.SerialOrder.{items_placed, serial_has_each}
 use Rattle.long_values.proofs.LiftSequential.{AreNamed}
 use Rattle.long_values.proofs.LiftExecution.{AreRunOnce}
@@ -52,10 +53,14 @@ place_declared items id e =
 
 -- ---- what stays with each record
 
+-- Two nodes do not run one item.
+abbrev RunApart : LogNode → LogNode → Type 0
+RunApart m n = (item : ℕ) → m.op ≡ operations.Run item → n.op ≡ operations.Run item → ⊥
+
 -- No two nodes run one item, and each that runs an item runs one that there is.
 record AreRuns (t : Tables) : Type 0 where
-  runs : PairsBy (λ (m n : LogNode). (item : ℕ) → m.op ≡ operations.Run item → n.op ≡ operations.Run item → ⊥) t.nodes
-  items : Each (λ (n : LogNode). (item : ℕ) → n.op ≡ operations.Run item → (i : Item) × (slice_get t.items item ≡ Some i)) t.nodes
+  runs : AllPairs RunApart t.nodes
+  items : (n : LogNode) → Contains t.nodes n → (item : ℕ) → n.op ≡ operations.Run item → (i : Item) × (slice_get t.items item ≡ Some i)
 
 -- The rules that matter here.
 record Keeps (t : Tables) (r : Record) : Type 0 where
@@ -74,12 +79,12 @@ with_item t i h = record {
   items = λ n m item e. let r = h.items n m item e in (r.0, still_at t.items (i ∷ []) item r.0 r.1);
 }
 
-with_node : (t : Tables) (n : LogNode) → ((m : LogNode) → Member t.nodes m → (item : ℕ) → m.op ≡ operations.Run item
+with_node : (t : Tables) (n : LogNode) → ((m : LogNode) → Contains t.nodes m → (item : ℕ) → m.op ≡ operations.Run item
     → n.op ≡ operations.Run item → ⊥)
     → ((item : ℕ) → n.op ≡ operations.Run item → (i : Item) × (slice_get t.items item ≡ Some i)) → AreRuns t
     → AreRuns (record t { nodes = t.nodes ++ n ∷ [] })
 with_node t n once there h = record {
-  runs = pairs_more _ t.nodes n h.runs once;
+  runs = AllPairs-push RunApart t.nodes n h.runs once;
   items = each_more (λ (n : LogNode). (item : ℕ) → n.op ≡ operations.Run item → (i : Item)
       × (slice_get t.items item ≡ Some i)) t.nodes n h.items there;
 }
@@ -115,7 +120,7 @@ with_kept t line _ k h = record { runs = h.runs; items = h.items }
 runs_of : (command : Command) (log : List Lined) → IsFaultless command log → AreRuns (tables_of log)
 runs_of command log f = by_records (λ r. Unit {0}) AreRuns (records_of log)
     (λ earlier l u _. with_kept (tables_of earlier) l.line l.rec (keeps (records_of log) earlier l.rec u))
-    [] log (recursion_from_All _ (records_of log) (λ k d lt. tt)) f.records (record { runs = tt; items = λ n m. absurd m })
+    [] log (recursion_from_All _ (records_of log) (λ k d lt. tt)) f.records (record { runs = AllPairs-nil RunApart; items = λ n m. absurd (Contains-nil m) })
 
 -- ---- what follows
 
@@ -125,12 +130,12 @@ named command log f = record {
   ids = λ item i at. ap (λ o. place_of (tables_of log).items (option_map_or (λ (i : Item). i.id) o 0)) (sym at)
       ∙ items_placed log f.records item (slice_get_within (tables_of log).items item i at);
   places = λ n item at. place_found (λ i. i) (serial (tables_of log)) n item
-      (all_pairs (λ a b. a ≢ b) (serial (tables_of log)) (serial_has_each log f.records).0) at;
+      (serial_has_each log f.records).0 at;
 }
 
 once_of : (t : Tables) → AreRuns t → AreRunOnce t
 once_of t h = record {
-  items = λ k item n at e. h.items n (member_at t.nodes k n at) item e;
+  items = λ k item n at e. h.items n (contains_at t.nodes k n at) item e;
   once = λ k l item m n a b e f. elim (cases_eq k l) [
     | inl same ↦ same
     | inr differ ↦ elim (cases_Bool (nat_lt k l)) [
@@ -143,7 +148,7 @@ once_of t h = record {
   where
     apart_runs : (k l : ℕ) (m n : LogNode) → slice_get t.nodes k ≡ Some m → slice_get t.nodes l ≡ Some n → k < l → (item : ℕ)
         → m.op ≡ operations.Run item → n.op ≡ operations.Run item → ⊥
-    apart_runs k l m n a b lt item e f = all_pairs _ t.nodes h.runs k l m lt (slice_get_within t.nodes l n b) item
+    apart_runs k l m n a b lt item e f = h.runs k l m lt (slice_get_within t.nodes l n b) item
         (ap (λ (n : LogNode). n.op) (get_or_from_slice_get t.nodes k m m a) ∙ e)
         (ap (λ (n : LogNode). n.op) (get_or_from_slice_get t.nodes l n m b) ∙ f)
 

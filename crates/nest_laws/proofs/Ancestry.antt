@@ -1,5 +1,5 @@
 -- The groups above a group, in a nested log of which no fault is shown.
-use Rattle.std.proofs.Common.{◌≡◌, ℕ, zero, suc, ◌==◌, true, false, inl, inr, List, [], ◌∷◌, ◌++◌, find, length, refl, sym, ap, ◌∙◌, subst, Option, Some, None}
+use Rattle.std.proofs.Common.{◌≡◌, ℕ, zero, suc, ◌==◌, true, false, inl, inr, List, [], ◌∷◌, ◌++◌, find, length, refl, sym, ap, ◌∙◌, subst, Option, Some, None, Contains}
 use Rattle.std.specs.Prelude.{option_and_then}
 use Rattle.std.specs.List.{list_all}
 use Rattle.std.specs.Option.{option_map_or}
@@ -12,8 +12,10 @@ use Rattle.spy_grammar.specs.declared.nested.NRecord.TheVariants as nested
 use Rattle.vocabulary.specs.Prelude.{Tables}
 use Rattle.semantics.specs.declared.groups.Group.{Group}
 use Rattle.semantics.specs.Nesting.{Nesting, with_nested, nesting_of, nested_fault, is_group, parent_of, group_above, from_group, ancestors, is_ancestor, named_groups}
-use Rattle.log_laws.proofs.lemmas.Members.{Member, none_or_some, member_in, all_at, find_any, find_still, find_none}
+use Rattle.log_laws.proofs.lemmas.Members.{member_in}
 use Rattle.nest_laws.proofs.Walks.{KeepsGroups, holds_of_log}
+use Rattle.list_lemmas.proofs.lemmas.Contained.{all_at, find_any, find_still, find_none, Contains-here, Contains-nil, Contains-cases}
+use Rattle.list_lemmas.proofs.lemmas.Firsts.{cases_option}
 
 -- A group, if there is one, and the groups above it are so many at most.
 abbrev Fits : Nesting → ℕ → Option ℕ → Type 0
@@ -60,7 +62,7 @@ module _ (n : Nesting) (h : AreRooted n) (id parent : ℕ)
     | inr some ↦
         let is : Some parent ≡ Some k = rw some at e in
         let all : list_all (is_group n) (parent ∷ []) ≡ true = rw some at known in
-        subst (λ k. is_group n k ≡ true) (same_Some parent k is) (all_at (is_group n) (parent ∷ []) parent all (inl refl))
+        subst (λ k. is_group n k ≡ true) (same_Some parent k is) (all_at (is_group n) (parent ∷ []) parent all (Contains-here []))
   ]
 
   old_above : (g : ℕ) → is_group n g ≡ true → group_above more g ≡ group_above n g
@@ -91,7 +93,7 @@ module _ (n : Nesting) (h : AreRooted n) (id parent : ℕ)
       (still_fits k (group_above n g) (λ j e. h.parents g j e) f)
 
   all_fit : (g : ℕ) → Fits more (suc (length n.groups)) (Some g)
-  all_fit g = elim (none_or_some (group_above more g)) [
+  all_fit g = elim (cases_option (group_above more g)) [
     | inl none ↦ subst (Fits more (length n.groups)) (sym none) (none_fits more (length n.groups))
     | inr k ↦
         let old = is_old_parent g k.0 k.1 in
@@ -121,7 +123,7 @@ rooted = holds_of_log (λ _ n. AreRooted n) (λ t n l. rooted_on t n l.rec) (rec
 -- ---- all groups above
 
 above_fits : (n : Nesting) → AreRooted n → (g : ℕ) → Fits n (length n.groups) (group_above n g)
-above_fits n h g = elim (none_or_some (group_above n g)) [
+above_fits n h g = elim (cases_option (group_above n g)) [
   | inl none ↦ subst (Fits n (length n.groups)) (sym none) (none_fits n (length n.groups))
   | inr k ↦ subst (Fits n (length n.groups)) (sym k.1) (h.few k.0 (h.parents g k.0 k.1))
 ]
@@ -142,14 +144,16 @@ all_above lines log none g =
 -- ---- no group above itself
 
 -- What fits from a group fits from those above it.
-fits_above : (n : Nesting) (k m : ℕ) (o : Option ℕ) (g : ℕ) → Member (from_group n k o) g → Fits n m o → Fits n m (Some g)
-fits_above n zero m o g of h = absurd of
-fits_above n (suc k) m None g of h = absurd of
-fits_above n (suc k) m (Some x) g (inl is) h = subst (λ x. Fits n m (Some x)) (sym is) h
-fits_above n (suc k) zero (Some x) g (inr of) h = absurd h
-fits_above n (suc k) (suc m) (Some x) g (inr of) h = fits_more n m (Some g) (fits_above n k m (group_above n x) g of h)
+fits_above : (n : Nesting) (k m : ℕ) (o : Option ℕ) (g : ℕ) → Contains (from_group n k o) g → Fits n m o → Fits n m (Some g)
+fits_above n zero m o g of h = absurd (Contains-nil of)
+fits_above n (suc k) m None g of h = absurd (Contains-nil of)
+fits_above n (suc k) zero (Some x) g of h = absurd h
+fits_above n (suc k) (suc m) (Some x) g of h = elim (Contains-cases (from_group n k (group_above n x)) of) [
+  | inl is ↦ subst (λ x. Fits n (suc m) (Some x)) (sym is) h
+  | inr above ↦ fits_more n m (Some g) (fits_above n k m (group_above n x) g above h)
+]
 
-no_round : (n : Nesting) (g : ℕ) → Member (ancestors n g) g → (m : ℕ) → Fits n m (Some g) → ⊥
+no_round : (n : Nesting) (g : ℕ) → Contains (ancestors n g) g → (m : ℕ) → Fits n m (Some g) → ⊥
 no_round n g of zero h = h
 no_round n g of (suc m) h = no_round n g of m (fits_above n (length n.groups) m (group_above n g) g of h)
 

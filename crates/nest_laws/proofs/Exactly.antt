@@ -1,5 +1,5 @@
 -- Where each child asks for no more than its group licenses, none is shown. The pairs of groups that are apart do not depend on which is named first.
-use Rattle.std.proofs.Common.{◌≡◌, ℕ, ◌==◌, ◌||◌, Bool, true, false, not, inl, inr, List, [], ◌∷◌, filter, refl, sym, ap, subst, Option, None}
+use Rattle.std.proofs.Common.{◌≡◌, ℕ, ◌==◌, ◌||◌, Bool, true, false, not, inl, inr, List, [], ◌∷◌, filter, refl, sym, ap, subst, Option, None, Contains}
 use Rattle.std.specs.Prelude.{option_map}
 use Rattle.std.specs.List.{list_any}
 use Rattle.std.proofs.lemmas.Bool.{and_parts, eq-eqb, eqb-true}
@@ -8,20 +8,21 @@ use Rattle.privilege.specs.declared.kinds.Coherence.TheVariants.{Exclusive, Atom
 use Rattle.vocabulary.specs.Prelude.{Priv, Coherence, agree, both_atomic, kind_of, Place, Req, Tables, is_in, points_in, meets, covers, req_grid, least_of}
 use Rattle.semantics.specs.declared.groups.Child.{Child}
 use Rattle.semantics.specs.Nesting.{Nesting, is_ancestor, privileges_of, licenses, children, reqs_of_child, req_places, first_given, unlicensed_child, shown_unlicensed, interfere, are_free, are_apart}
-use Rattle.log_laws.proofs.lemmas.Members.{Member, member_map, member_in, is_in_of, any_at, any_found, meets_of}
+use Rattle.log_laws.proofs.lemmas.Members.{member_in, is_in_of, meets_of}
 use Rattle.log_laws.proofs.lemmas.Apart.{member_grid}
+use Rattle.list_lemmas.proofs.lemmas.Contained.{member_map, any_at, any_found, Contains-here, Contains-later}
 
 -- ---- what is shown
 
-none_given : {X Y : Type 0} (f : X → Option Y) (xs : List X) → ((x : X) → Member xs x → f x ≡ None) → first_given f xs ≡ None
+none_given : {X Y : Type 0} (f : X → Option Y) (xs : List X) → ((x : X) → Contains xs x → f x ≡ None) → first_given f xs ≡ None
 none_given f [] h = refl
-none_given f (x ∷ xs) h = rw (h x (inl refl)) (none_given f xs (λ y m. h y (inr m)))
+none_given f (x ∷ xs) h = rw (h x (Contains-here xs)) (none_given f xs (λ y m. h y (Contains-later xs m)))
 
-none_passes : {X : Type 0} (p : X → Bool) (xs : List X) → ((x : X) → Member xs x → p x ≡ false) → filter p xs ≡ []
+none_passes : {X : Type 0} (p : X → Bool) (xs : List X) → ((x : X) → Contains xs x → p x ≡ false) → filter p xs ≡ []
 none_passes p [] h = refl
-none_passes p (x ∷ xs) h = rw (h x (inl refl)) (none_passes p xs (λ y m. h y (inr m)))
+none_passes p (x ∷ xs) h = rw (h x (Contains-here xs)) (none_passes p xs (λ y m. h y (Contains-later xs m)))
 
-covers_place : (t : Tables) (r : Req) (p : Place) → Member (req_places t r) p → covers t p r ≡ true
+covers_place : (t : Tables) (r : Req) (p : Place) → Contains (req_places t r) p → covers t p r ≡ true
 covers_place t r p m =
     let at = member_map (λ (p : ℕ × ℕ). record { tree = r.tree; point = p.0; field = p.1 }) (req_grid t r) p m in
     let parts = member_grid (points_in t r.space) r.fields at.0 at.1 in
@@ -31,7 +32,7 @@ covers_place t r p m =
       is_in_of r.fields at.0.1 parts.1,
     ) refl)
 
-pub none_shown : (t : Tables) (n : Nesting) → ((c : Child) → Member (children n) c → (r : Req) → Member (reqs_of_child t n c) r
+pub none_shown : (t : Tables) (n : Nesting) → ((c : Child) → Contains (children n) c → (r : Req) → Contains (reqs_of_child t n c) r
     → (p : Place) → covers t p r ≡ true → licenses t n c.group p r.access ≡ true)
     → shown_unlicensed t n ≡ None
 none_shown t n h = none_given (unlicensed_child t n) (children n)

@@ -1,5 +1,5 @@
 -- Tasks below groups that are free of each other do not interfere.
-use Rattle.std.proofs.Common.{◌≡◌, ℕ, ◌==◌, ◌&&◌, Bool, true, false, not, inl, inr, List, [], ◌∷◌, map, filter, refl, sym, ◌∙◌, subst, None}
+use Rattle.std.proofs.Common.{◌≡◌, ℕ, ◌==◌, ◌&&◌, Bool, true, false, not, inl, inr, List, [], ◌∷◌, map, filter, refl, sym, ◌∙◌, subst, None, Contains}
 use Rattle.std.specs.List.{list_any}
 use Rattle.std.proofs.lemmas.Bool.{cases_Bool, and_parts, eq-eqb, eqb-true, not-false}
 use Rattle.privilege.specs.declared.kinds.Priv.TheVariants.{Ro, Red}
@@ -8,10 +8,12 @@ use Rattle.privilege.specs.Allowed.{contains}
 use Rattle.spy_grammar.specs.declared.nested.NLined.{NLined}
 use Rattle.vocabulary.specs.Prelude.{Priv, Coherence, Kind, agree, both_atomic, kind_of, Place, Req, Tables, place_of, is_in, points_in, meets, is_free, strongest, kind_at, item_kind, item_places, uses_of, covers}
 use Rattle.semantics.specs.Nesting.{Nesting, privileges_of, licenses, interfere, are_free, shown_unlicensed, nested_tables, nesting_of, nested_fault}
-use Rattle.log_laws.proofs.lemmas.Members.{Member, member_of, member_in, member_flat, member_map, member_filter, any_found, none_at, meets_of}
+use Rattle.log_laws.proofs.lemmas.Members.{member_in, meets_of}
 use Rattle.nest_laws.specs.Below.{IsTaskBelow}
 use Rattle.nest_laws.proofs.Licensed.{member_licensed}
 use Rattle.nest_laws.proofs.MemberTasks.{task_uses}
+use Rattle.list_lemmas.proofs.lemmas.Contained.{member_flat, member_map, any_found, none_at, Contains-here, Contains-later}
+use Rattle.list_lemmas.proofs.lemmas.Filtered.{of_filter}
 
 -- ---- kinds
 
@@ -30,17 +32,17 @@ free_agree p q c d e = elim (cases_Bool (agree p q)) [
   ]
 ]
 
-strongest_free : (ks : List Kind) → ((k : Kind) → Member ks k → k ≡ Free) → strongest ks ≡ Free
+strongest_free : (ks : List Kind) → ((k : Kind) → Contains ks k → k ≡ Free) → strongest ks ≡ Free
 strongest_free [] h = refl
-strongest_free (k ∷ ks) h = rw (h k (inl refl)) (strongest_free ks (λ j m. h j (inr m)))
+strongest_free (k ∷ ks) h = rw (h k (Contains-here ks)) (strongest_free ks (λ j m. h j (Contains-later ks m)))
 
 -- ---- privileges of free groups
 
 -- What it means that a requirement covers a place.
 record Covers (t : Tables) (p : Place) (r : Req) : Type 0 where
   tree : r.tree ≡ p.tree
-  point : Member (points_in t r.space) p.point
-  field : Member r.fields p.field
+  point : Contains (points_in t r.space) p.point
+  field : Contains r.fields p.field
 
 covers_so : (t : Tables) (p : Place) (r : Req) → covers t p r ≡ true → Covers t p r
 covers_so t p r e =
@@ -89,13 +91,13 @@ module _ (lines : ℕ) (log : List NLined) (no_fault : nested_fault lines log �
   n = nesting_of log
 
   -- What a task below a group asks for is licensed by the group.
-  use_licensed : (g a : ℕ) → IsTaskBelow t n g a → (q : Req) → Member (uses_of t a) q → (p : Place) → covers t p q ≡ true
+  use_licensed : (g a : ℕ) → IsTaskBelow t n g a → (q : Req) → Contains (uses_of t a) q → (p : Place) → covers t p q ≡ true
       → licenses t n g p q.access ≡ true
   use_licensed g a below q m p c =
-      let of = member_of n.members below.member below.of in
-      let there : Member (uses_of t (place_of t.items below.member.task)) q = subst (λ (k : ℕ). Member (uses_of t k) q) below.item_is m in
+      let of = below.of in
+      let there : Contains (uses_of t (place_of t.items below.member.task)) q = subst (λ (k : ℕ). Contains (uses_of t k) q) below.item_is m in
       member_licensed t n none below.member of g below.below q
-      (subst (λ qs. Member qs q) (task_uses lines log no_fault below.member of) there) p c
+      (subst (λ qs. Contains qs q) (task_uses lines log no_fault below.member of) there) p c
 
   module _ (g h : ℕ) (free : are_free t n g h ≡ true) (a b : ℕ) (x : IsTaskBelow t n g a) (y : IsTaskBelow t n h b) where
     pub free_at : (p : Place) → kind_at t a b p ≡ Free
@@ -104,8 +106,8 @@ module _ (lines : ℕ) (log : List NLined) (no_fault : nested_fault lines log �
         (filter (covers t p) (uses_of t b))) (filter (covers t p) (uses_of t a)) k m in
         let second = member_map (λ (r : Req). kind_of first.0.access first.0.coherence r.access r.coherence)
         (filter (covers t p) (uses_of t b)) k first.2 in
-        let q_in = member_filter (covers t p) (uses_of t a) first.0 first.1 in
-        let r_in = member_filter (covers t p) (uses_of t b) second.0 second.1 in
+        let q_in = of_filter (covers t p) (uses_of t a) first.0 first.1 in
+        let r_in = of_filter (covers t p) (uses_of t b) second.0 second.1 in
         let same : agree first.0.access second.0.access ≡ true =
         licensed_agree t n g h free p first.0.access second.0.access (use_licensed g a x first.0 q_in.0 p q_in.1)
         (use_licensed h b y second.0 r_in.0 p r_in.1) in

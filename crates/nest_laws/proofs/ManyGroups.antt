@@ -1,5 +1,5 @@
 -- A log with many groups keeps the rule on their number as long as there are no more than 1,024.
-use Rattle.std.proofs.Common.{◌≡◌, ℕ, zero, suc, ◌+◌, ◌==◌, ◌<◌, ◌≤◌, false, List, [], ◌∷◌, ◌++◌, find, length, refl, sym, ap, ap₂, ◌∙◌, subst, arith, Some, None, nat_lt}
+use Rattle.std.proofs.Common.{◌≡◌, ℕ, zero, suc, ◌+◌, ◌==◌, ◌<◌, ◌≤◌, false, List, [], ◌∷◌, ◌++◌, find, length, refl, sym, ap, ap₂, ◌∙◌, subst, arith, Some, None, nat_lt, Contains}
 use Rattle.std.specs.Option.{option_or}
 use Rattle.std.proofs.lemmas.Bool.{eqb-true, ltb-true, false_from_ne_true}
 use Rattle.spy_grammar.specs.declared.code.Code.TheVariants as codes
@@ -10,14 +10,14 @@ use Rattle.vocabulary.specs.Prelude.{Lined, Tables}
 use Rattle.semantics.specs.declared.groups.Group as groups
 use Rattle.semantics.specs.Faults.{at_line, declaration_fault}
 use Rattle.semantics.specs.Nesting.{Nesting, with_nested, nesting_of, plain_log, nested_tables, is_group, breaks_nested, nested_in, nested_rules, groups_fault, nested_fault}
-use Rattle.log_laws.proofs.lemmas.Members.{Member, any_found, each_more}
+use Rattle.list_lemmas.proofs.lemmas.Contained.{any_found, each_more, Contains-nil}
 use Rattle.nest_laws.specs.WorkedNests.{groups_from, many_groups}
 use Rattle.nest_laws.proofs.Walks.{nested_more}
 
 -- There are so many groups, whose ids are no larger, and nothing else.
 record HasGroups (n : Nesting) (k : ℕ) : Type 0 where
   count : length n.groups ≡ k
-  ids : (g : groups.Group) → Member n.groups g → g.id ≤ k
+  ids : (g : groups.Group) → Contains n.groups g → g.id ≤ k
   privileges : n.privileges ≡ []
   members : n.members ≡ []
 
@@ -87,7 +87,7 @@ frame_kept lines k = ap (declaration_fault lines)
 
 -- After the header nothing is nested.
 at_first : HasGroups (nesting_of (header ∷ [])) 0
-at_first = record { count = refl; ids = λ g m. absurd m; privileges = refl; members = refl }
+at_first = record { count = refl; ids = λ g m. absurd (Contains-nil m); privileges = refl; members = refl }
 
 pub most_groups : (lines k : ℕ) → k ≤ 1024 → nested_fault lines (many_groups k) ≡ None
 unfolding nested_fault

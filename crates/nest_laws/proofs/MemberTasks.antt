@@ -1,5 +1,5 @@
 -- The members of a nested log of which no fault is shown are tasks, which ask for their requirements and nothing else.
-use Rattle.std.proofs.Common.{◌≡◌, ℕ, ◌==◌, ◌&&◌, true, inl, List, [], ◌∷◌, refl, ap, ◌∙◌, subst, Some, None, slice_get}
+use Rattle.std.proofs.Common.{◌≡◌, ℕ, ◌==◌, ◌&&◌, true, inl, List, [], ◌∷◌, refl, ap, ◌∙◌, subst, Some, None, slice_get, Contains}
 use Rattle.std.proofs.lemmas.Bool.{and_parts, eqb-true}
 use Rattle.std.proofs.lemmas.Option.{slice_get-get_or}
 use Rattle.spy_grammar.specs.declared.nested.NRecord.{NRecord}
@@ -11,21 +11,22 @@ use Rattle.semantics.specs.declared.tables.ItemBody.TheVariants as bodies
 use Rattle.semantics.specs.declared.groups.GroupMember.{GroupMember}
 use Rattle.semantics.specs.Rules.{is_task, is_declared, task_id}
 use Rattle.semantics.specs.Nesting.{Nesting, with_nested, nesting_of, nested_tables, nested_fault, plain_log}
-use Rattle.log_laws.proofs.lemmas.Members.{Member, Each, contains_of, member_left, each_more, any_found, all_at}
+use Rattle.std.proofs.lemmas.List.Elements.{Contains-append_left}
+use Rattle.list_lemmas.proofs.lemmas.Contained.{each_more, any_found, all_at, Contains-nil, Contains-here}
 use Rattle.log_laws.proofs.lemmas.Admitted.{no_broken_rule}
 use Rattle.log_laws.proofs.lemmas.SerialOrder.{items_placed}
 use Rattle.nest_laws.proofs.Walks.{with_plain, KeepsGroups, holds_of_log, plain_faultless}
 
 -- A member is the id of a task.
 abbrev IsOfTask : Tables → GroupMember → Type 0
-IsOfTask t m = (i : Item) × Member t.items i × (i.id ≡ m.task) × (i.body ≡ bodies.Task)
+IsOfTask t m = (i : Item) × Contains t.items i × (i.id ≡ m.task) × (i.body ≡ bodies.Task)
 
 abbrev AreOfTasks : Tables → Nesting → Type 0
-AreOfTasks t n = Each (IsOfTask t) n.members
+AreOfTasks t n = (x : _) → Contains n.members x → IsOfTask t x
 
-item_stays : (i : Item) (t : Tables) (line : ℕ) (r : Record) → Member t.items i → Member (with_record t line r).items i
-item_stays i t line (records.Task id) m = member_left t.items _ i m
-item_stays i t line (records.Fill id tree space fields n) m = member_left t.items _ i m
+item_stays : (i : Item) (t : Tables) (line : ℕ) (r : Record) → Contains t.items i → Contains (with_record t line r).items i
+item_stays i t line (records.Task id) m = Contains-append_left t.items _ i m
+item_stays i t line (records.Fill id tree space fields n) m = Contains-append_left t.items _ i m
 item_stays i t line _ m = m
 
 task_body : (body : ItemBody) → is_task body ≡ true → body ≡ bodies.Task
@@ -43,7 +44,7 @@ one_more : (t : Tables) (n : Nesting) (line : ℕ) (r : NRecord) → KeepsGroups
 one_more t n line (nested.Plain r) kept h m of = let i = h m of in (i.0, item_stays i.0 t line r i.1, i.2, i.3)
 one_more t n line (nested.Member task group) kept h m of =
     each_more (IsOfTask t) n.members (record { task = task; group = group }) h
-    (task_found t task group (all_at (is_declared t) (task_id task ∷ []) (task_id task) kept.things (inl refl))) m of
+    (task_found t task group (all_at (is_declared t) (task_id task ∷ []) (task_id task) kept.things (Contains-here []))) m of
 one_more t n line (nested.Group id parent) kept h m of = h m of
 one_more t n line (nested.Greq group tree space fields access) kept h m of = h m of
 
@@ -51,13 +52,13 @@ uses_are : (t : Tables) (k : ℕ) (i : Item) → slice_get t.items k ≡ Some i 
 uses_are t k i at body = rw (at, body) refl
 
 -- What the item of a member asks for.
-pub task_uses : (lines : ℕ) (log : List NLined) → nested_fault lines log ≡ None → (m : GroupMember) → Member (nesting_of log).members m
+pub task_uses : (lines : ℕ) (log : List NLined) → nested_fault lines log ≡ None → (m : GroupMember) → Contains (nesting_of log).members m
     → uses_of (nested_tables log) (place_of (nested_tables log).items m.task)
     ≡ reqs_of (nested_tables log) (place_of (nested_tables log).items m.task)
 task_uses lines log none m of =
     let t : Tables = nested_tables log in
-    let i = holds_of_log AreOfTasks (λ t n l. one_more t n l.line l.rec) (λ m of. absurd of) lines log none m of in
-    let k = contains_of t.items i.0 i.1 in
+    let i = holds_of_log AreOfTasks (λ t n l. one_more t n l.line l.rec) (λ m of. absurd (Contains-nil of)) lines log none m of in
+    let k = i.1 in
     let at : slice_get t.items k.0 ≡ Some i.0 = slice_get-get_or t.items k.0 i.0 k.1 ∙ ap (λ i. Some i) k.2 in
     let back : place_of t.items i.0.id ≡ k.0 = subst (λ id. place_of t.items id ≡ k.0) (rw at refl)
     (items_placed (plain_log log) (no_broken_rule lines (plain_log log) (plain_faultless lines log none)) k.0 k.1) in

@@ -1,5 +1,5 @@
 -- What holds along a nested log of which no fault is shown.
-use Rattle.std.proofs.Common.{◌≡◌, ℕ, true, false, inl, inr, List, [], ◌∷◌, ◌++◌, refl, sym, ap, ◌∙◌, subst, None, fold, append_assoc, append-nil}
+use Rattle.std.proofs.Common.{◌≡◌, ℕ, true, false, inl, inr, List, [], ◌∷◌, ◌++◌, refl, sym, ap, ◌∙◌, subst, None, fold, append_assoc, append-nil, Contains, arith}
 use Rattle.std.specs.List.{list_all}
 use Rattle.std.proofs.lemmas.Bool.{and_parts, not-false}
 use Rattle.std.proofs.lemmas.List.Elements.{filter_map-append}
@@ -12,7 +12,7 @@ use Rattle.vocabulary.specs.Prelude.{Code, Lined, Tables, with_record, no_tables
 use Rattle.semantics.specs.Rules.{is_declared}
 use Rattle.semantics.specs.Faults.{declaration_fault}
 use Rattle.semantics.specs.Nesting.{Nesting, no_nesting, with_nested, nesting_of, plain_line, plain_log, nested_tables, is_group, named_groups, named_things, repeats_group, nested_rules, breaks_nested, nested_in, groups_fault, nested_fault}
-use Rattle.log_laws.proofs.lemmas.Members.{Member, both_none, unmapped_none, none_found}
+use Rattle.list_lemmas.proofs.lemmas.Contained.{both_none, unmapped_none, none_found}
 
 -- The tables with what one line more declares, if its record is plain.
 abbrev pub with_plain : Tables → NLined → Tables
@@ -28,7 +28,7 @@ pub record KeepsGroups (t : Tables) (n : Nesting) (r : NRecord) : Type 0 where
   pub things : list_all (is_declared t) (named_things r) ≡ true
 
 rule_kept : (whole : Tables) (earlier : List NLined) (l : NLined) (rest : List NLined) → groups_fault whole earlier (l ∷ rest) ≡ None
-    → (code : Code) → Member nested_rules code
+    → (code : Code) → Contains nested_rules code
     → breaks_nested (nested_in whole earlier l.rec) code ≡ false
 rule_kept whole earlier l rest e code m =
     none_found (breaks_nested (nested_in whole earlier l.rec)) nested_rules code
@@ -39,8 +39,8 @@ keeps : (whole : Tables) (earlier : List NLined) (l : NLined) (rest : List NLine
 keeps whole earlier l rest e =
     let known = and_parts (list_all (is_group (nesting_of earlier)) (named_groups l.rec))
     (list_all (is_declared (nested_tables earlier)) (named_things l.rec))
-    (not-false _ (rule_kept whole earlier l rest e codes.UnknownId (inr (inr (inl refl))))) in
-    record { new = rule_kept whole earlier l rest e codes.RepeatedId (inr (inl refl)); groups = known.0; things = known.1 }
+    (not-false _ (rule_kept whole earlier l rest e codes.UnknownId (2, omega arith, refl))) in
+    record { new = rule_kept whole earlier l rest e codes.RepeatedId (1, omega arith, refl); groups = known.0; things = known.1 }
 
 pub nested_more : (earlier : List NLined) (l : NLined) → nesting_of (earlier ++ l ∷ []) ≡ with_nested (nesting_of earlier) l.rec
 nested_more earlier l = fold-append (λ n (l : NLined). with_nested n l.rec) no_nesting earlier (l ∷ [])

@@ -1,5 +1,5 @@
 -- What items ask for, as requirements come one after the other.
-use Rattle.std.proofs.Common.{◌≡◌, ℕ, zero, suc, ◌+◌, ◌<◌, ◌≤◌, ◌==◌, inl, inr, true, false, List, [], ◌∷◌, ◌++◌, length, refl, sym, ap, ◌∙◌, arith, map, filter, get_or, take, nat_lt, subst, Bool, Option, Some, None, position, unwrap_or}
+use Rattle.std.proofs.Common.{◌≡◌, ℕ, zero, suc, ◌+◌, ◌<◌, ◌≤◌, ◌==◌, inl, inr, true, false, List, [], ◌∷◌, ◌++◌, length, refl, sym, ap, ◌∙◌, arith, map, filter, get_or, take, nat_lt, subst, Bool, Option, Some, None, position, unwrap_or, Contains}
 use Rattle.std.specs.List.{range_with_len}
 use Rattle.std.proofs.Math.ListN.{set}
 use Rattle.std.proofs.lemmas.Bool.{cases_Bool, eq-eqb, ne_eqb, ltb-true, ltb-false}
@@ -7,9 +7,9 @@ use Rattle.std.proofs.lemmas.List.{map-append, length-map, append-nil, take_more
 use Rattle.std.proofs.lemmas.List.Elements.{filter-append}
 use Rattle.std.proofs.lemmas.List.Quantifiers.{position-Some}
 use Rattle.std.proofs.lemmas.List.FromFn.{length-range_with_len}
+use Rattle.list_lemmas.proofs.lemmas.Contained.{Contains-here, Contains-later}
 use Rattle.vocabulary.specs.Prelude.{Item, Req, Tables, place_of}
-use Rattle.log_laws.proofs.lemmas.Members.{Member}
-use Rattle.log_laws.proofs.lemmas.Apart.{number_between, range-more}
+use Rattle.list_lemmas.proofs.lemmas.Ranges.{number_between, range-more}
 use Rattle.item_uses.proofs.lemmas.Growing.{at_number}
 use Rattle.licences.specs.Claims.{Claimed}
 use Rattle.nested.specs.Rows.{claim_of, own_by, own_rows_by, with_own}
@@ -44,11 +44,11 @@ own_other : (t : Tables) (rs : List Req) (r : Req) (item : ℕ) → (r.item == i
 own_other t rs r item e = ap (map (claim_of t)) (filter-append (λ (q : Req). q.item == item) rs (r ∷ [])
     ∙ rw e (append-nil (filter (λ (q : Req). q.item == item) rs)))
 
-others_stay : (t : Tables) (rs : List Req) (r : Req) (ns : List ℕ) → ((j : ℕ) → Member ns j → (r.item == j) ≡ false)
+others_stay : (t : Tables) (rs : List Req) (r : Req) (ns : List ℕ) → ((j : ℕ) → Contains ns j → (r.item == j) ≡ false)
     → map (own_by t (rs ++ r ∷ [])) ns ≡ map (own_by t rs) ns
 others_stay t rs r [] h = refl
-others_stay t rs r (n ∷ ns) h = ap (λ x. x ∷ map (own_by t (rs ++ r ∷ [])) ns) (own_other t rs r n (h n (inl refl)))
-    ∙ ap (λ xs. own_by t rs n ∷ xs) (others_stay t rs r ns (λ j m. h j (inr m)))
+others_stay t rs r (n ∷ ns) h = ap (λ x. x ∷ map (own_by t (rs ++ r ∷ [])) ns) (own_other t rs r n (h n (Contains-here ns)))
+    ∙ ap (λ xs. own_by t rs n ∷ xs) (others_stay t rs r ns (λ j m. h j (Contains-later ns m)))
 
 one_grows : (t : Tables) (rs : List Req) (r : Req) (k n i : ℕ) → i < n → r.item ≡ k + i
     → map (own_by t (rs ++ r ∷ [])) (range_with_len k n)

@@ -11,7 +11,7 @@ use Rattle.spy_grammar.specs.declared.nested.NRecord.TheVariants as records
 use Rattle.semantics.specs.declared.groups.Group as groups
 use Rattle.semantics.specs.declared.groups.GroupReq.{GroupReq}
 use Rattle.semantics.specs.Nesting.{Nesting, with_nested, is_group, is_late_nested, repeats_group, named_groups, privileges_before}
-use Rattle.log_laws.proofs.lemmas.Members.{both_none, unmapped_none}
+use Rattle.list_lemmas.proofs.lemmas.Contained.{both_none, unmapped_none}
 use Rattle.nest_rules.specs.declared.pending.Pending.{Pending}
 use Rattle.nest_rules.specs.Pending.{broken, with_pending, pending_fault}
 use Rattle.nested.specs.Rows.{AreNamed}

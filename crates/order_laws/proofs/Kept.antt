@@ -1,16 +1,19 @@
 -- Tasks that interfere are run in serial order exactly where those are that do not agree at a first point.
-use Rattle.std.proofs.Common.{◌≡◌, ℕ, ◌+◌, ◌-◌, ◌<◌, ◌≤◌, inl, inr, Bool, true, false, not, ◌&&◌, ◌==◌, List, [], ◌∷◌, refl, sym, ap, ◌∙◌, subst, arith, map, filter, length, find}
+use Rattle.std.proofs.Common.{◌≡◌, ℕ, ◌+◌, ◌-◌, ◌<◌, ◌≤◌, inl, inr, Bool, true, false, not, ◌&&◌, ◌==◌, List, [], ◌∷◌, refl, sym, ap, ◌∙◌, subst, arith, map, filter, length, find, Contains}
 use Rattle.std.specs.List.{AllByRecursion, range_with_len}
 use Rattle.std.proofs.lemmas.Bool.{cases_Bool, cases_lt, true≢false, not-true, and_parts, and_from, lt-ltb, le-ltb}
-use Rattle.vocabulary.specs.Prelude.{Priv, Coherence, Kind, agree, both_atomic, kind_of, Place, Req, Tables, Space, is_in, points_in, uses_of, covers, kind_at, item_kind, item_places, is_free, strongest, pairs, graph_of}
+use Rattle.vocabulary.specs.Prelude.{Priv, Coherence, Kind, agree, both_atomic, kind_of, Place, Req, Tables, Space, is_in, points_in, covers, kind_at, item_kind, item_places, is_free, strongest, pairs, graph_of}
 use Rattle.privilege.specs.declared.kinds.Kind.TheVariants.{Free, Turn, Before}
 use Rattle.semantics.specs.SerialOrder.{serial, serial_place, by_serial}
 use Rattle.semantics.specs.Events as events
 use Rattle.semantics.specs.Shown.{is_task_at, run_of, task_pairs, IsKept, AreKept}
 use Rattle.point_laws.specs.Alike.{AreAlike, HasFirst, AreFirsts}
-use Rattle.log_laws.proofs.lemmas.Members.{Member, member_of, contains_of, member_flat, flat_member, member_map, map_member, member_filter, filter_member, is_in_of, none_or_some, found_at}
-use Rattle.log_laws.proofs.lemmas.Apart.{number_between, number_in, number_from}
-use Rattle.log_laws.proofs.lemmas.Lists.{place_len}
+use Rattle.log_laws.proofs.lemmas.Members.{is_in_of}
+use Rattle.list_lemmas.proofs.lemmas.Contained.{member_flat, flat_member, member_map, map_member, found_at, Contains-nil, Contains-here, Contains-later, Contains-cases}
+use Rattle.list_lemmas.proofs.lemmas.Filtered.{of_filter, in_filter}
+use Rattle.list_lemmas.proofs.lemmas.Firsts.{cases_option}
+use Rattle.list_lemmas.proofs.lemmas.Parts.{place_len}
+use Rattle.list_lemmas.proofs.lemmas.Ranges.{number_between, number_in, number_from}
 use Rattle.item_uses.proofs.lemmas.ItemKinds.{covers_tells, covers_so, item_place, kinds_at, kind_here, meets_here, req_kind}
 use Rattle.item_uses.proofs.lemmas.LeastPlaces.{strongest_not_free}
 use Rattle.order_laws.specs.Turns.{Meeting, AreInTurn, AreInTurnBut, AreKeptBut, ListsItems}
@@ -28,11 +31,11 @@ differ_not_free p c q d e = elim (cases_Bool (both_atomic c d)) [ inl both ↦ r
 pub agree_turned : (p q : Priv) → agree p q ≡ agree q p
 agree_turned p q = grind (arith)
 
-some_not_free : (ks : List Kind) → is_free (strongest ks) ≡ false → (k : Kind) × Member ks k × (is_free k ≡ false)
+some_not_free : (ks : List Kind) → is_free (strongest ks) ≡ false → (k : Kind) × Contains ks k × (is_free k ≡ false)
 some_not_free [] e = absurd cc
-some_not_free (Free ∷ ks) e = let r = some_not_free ks e in (r.0, inr r.1, r.2)
-some_not_free (Turn ∷ ks) e = (Turn, inl refl, refl)
-some_not_free (Before ∷ ks) e = (Before, inl refl, refl)
+some_not_free (Free ∷ ks) e = let r = some_not_free ks e in (r.0, Contains-later ks r.1, r.2)
+some_not_free (Turn ∷ ks) e = (Turn, Contains-here ks, refl)
+some_not_free (Before ∷ ks) e = (Before, Contains-here ks, refl)
 
 -- Two items that interfere do not agree at some place.
 pub meeting_of : (t : Tables) (a b : ℕ) → is_free (item_kind t a b) ≡ false → (p : Place) × Meeting t a b p
@@ -46,8 +49,8 @@ meeting_of t a b e =
       record {
         q = h.q;
         r = h.r;
-        of_a = contains_of (uses_of t a) h.q h.of_a;
-        of_b = contains_of (uses_of t b) h.r h.of_b;
+        of_a = h.of_a;
+        of_b = h.of_b;
         at_a = covers_so t at.0 h.q h.q_covers;
         at_b = covers_so t at.0 h.r h.r_covers;
         differ = elim (cases_Bool (agree h.q.access h.r.access)) [
@@ -60,8 +63,8 @@ meeting_of t a b e =
 -- Two items that do not agree at a place interfere.
 pub meeting_not_free : (t : Tables) (a b : ℕ) (p : Place) → Meeting t a b p → is_free (item_kind t a b) ≡ false
 meeting_not_free t a b p m =
-    let of_a = member_of (uses_of t a) m.q m.of_a in
-    let of_b = member_of (uses_of t b) m.r m.of_b in
+    let of_a = m.of_a in
+    let of_b = m.of_b in
     let at_a = covers_tells t p m.q m.at_a in
     let at_b = covers_tells t p m.r m.at_b in
     let here = strongest_not_free (kinds_at t a b p) (req_kind t m.q m.r) (kind_here t a b p m.q m.r of_a of_b at_a at_b)
@@ -87,15 +90,15 @@ abbrev moved : ℕ → Place → Place
 moved x p = record { tree = p.tree; point = x; field = p.field }
 
 in_both : (t : Tables) (p q : ℕ) → AreAlike t p q → (id : ℕ) → is_in (points_in t id) p ≡ is_in (points_in t id) q
-in_both t p q alike id = elim (none_or_some (find (λ (s : Space). s.id == id) t.spaces)) [
+in_both t p q alike id = elim (cases_option (find (λ (s : Space). s.id == id) t.spaces)) [
   | inl none ↦ rw none refl
-  | inr some ↦ rw some.1 (alike some.0 (contains_of t.spaces some.0 (found_at (λ (s : Space). s.id == id) t.spaces some.0 some.1).0))
+  | inr some ↦ rw some.1 (alike some.0 (found_at (λ (s : Space). s.id == id) t.spaces some.0 some.1).0)
 ]
 
 first_in : (t : Tables) (firsts : List ℕ) → AreFirsts t firsts → (id q : ℕ) → is_in (points_in t id) q ≡ true → HasFirst t firsts q
-first_in t firsts are_firsts id q e = elim (none_or_some (find (λ (s : Space). s.id == id) t.spaces)) [
+first_in t firsts are_firsts id q e = elim (cases_option (find (λ (s : Space). s.id == id) t.spaces)) [
   | inl none ↦ absurd (true≢false (sym (rw none at e)))
-  | inr some ↦ are_firsts some.0 (contains_of t.spaces some.0 (found_at (λ (s : Space). s.id == id) t.spaces some.0 some.1).0) q
+  | inr some ↦ are_firsts some.0 (found_at (λ (s : Space). s.id == id) t.spaces some.0 some.1).0 q
       (rw some.1 at e)
 ]
 
@@ -137,13 +140,13 @@ both_tasks t p = is_task_at t p.0 && is_task_at t p.1
 abbrev pub row : Tables → ℕ → List (ℕ × ℕ)
 row t a = map (λ b. (a, b)) (filter (λ b. not (is_free (item_kind t a b))) (range_with_len (a + 1) (length t.items - (a + 1))))
 
-pub of_tasks : (t : Tables) (p : ℕ × ℕ) → Member (task_pairs t) p → OfTasks t p.0 p.1
+pub of_tasks : (t : Tables) (p : ℕ × ℕ) → Contains (task_pairs t) p → OfTasks t p.0 p.1
 of_tasks t p m =
-    let k = member_filter (both_tasks t) (pairs t) p m in
+    let k = of_filter (both_tasks t) (pairs t) p m in
     let at = member_flat (row t) (range_with_len 0 (length t.items)) p k.0 in
     let of = member_map (λ b. (at.0, b)) (filter (λ b. not (is_free (item_kind t at.0 b)))
     (range_with_len (at.0 + 1) (length t.items - (at.0 + 1)))) p at.2 in
-    let f = member_filter (λ b. not (is_free (item_kind t at.0 b)))
+    let f = of_filter (λ b. not (is_free (item_kind t at.0 b)))
     (range_with_len (at.0 + 1) (length t.items - (at.0 + 1))) of.0 of.1 in
     let n = number_between (at.0 + 1) (length t.items - (at.0 + 1)) of.0 f.0 in
     let tasks = and_parts (is_task_at t p.0) (is_task_at t p.1) k.1 in
@@ -157,36 +160,38 @@ of_tasks t p m =
       other = tasks.1;
     }
 
-pub task_pair : (t : Tables) (a b : ℕ) → OfTasks t a b → Member (task_pairs t) (a, b)
+pub task_pair : (t : Tables) (a b : ℕ) → OfTasks t a b → Contains (task_pairs t) (a, b)
 task_pair t a b h =
     let lt = h.order in
     let within = h.within in
-    filter_member (both_tasks t) (pairs t) (a, b)
+    in_filter (both_tasks t) (pairs t) (a, b)
     (flat_member (row t) (range_with_len 0 (length t.items)) a (a, b) (number_in (length t.items) a (omega (arith, lt, within)))
     (map_member (λ c. (a, c)) (filter (λ b. not (is_free (item_kind t a b))) (range_with_len (a + 1) (length t.items - (a + 1)))) b
-    (filter_member (λ b. not (is_free (item_kind t a b))) (range_with_len (a + 1) (length t.items - (a + 1))) b
+    (in_filter (λ b. not (is_free (item_kind t a b))) (range_with_len (a + 1) (length t.items - (a + 1))) b
     (number_from (a + 1) (length t.items - (a + 1)) b (omega (arith, lt)) (omega (arith, lt, within)))
     (ap not h.meets))))
     (and_from (is_task_at t a) (is_task_at t b) h.one h.other)
 
 -- ---- recursions
 
-pub all_members : {X : Type 0} (P : X → Type 0) (xs : List X) → ((x : X) → Member xs x → P x) → AllByRecursion P xs
+pub all_members : {X : Type 0} (P : X → Type 0) (xs : List X) → ((x : X) → Contains xs x → P x) → AllByRecursion P xs
 all_members P [] h = tt
-all_members P (x ∷ xs) h = (h x (inl refl), all_members P xs (λ y m. h y (inr m)))
+all_members P (x ∷ xs) h = (h x (Contains-here xs), all_members P xs (λ y m. h y (Contains-later xs m)))
 
-at_member : {X : Type 0} (P : X → Type 0) (xs : List X) → AllByRecursion P xs → (x : X) → Member xs x → P x
-at_member P [] h x m = absurd m
-at_member P (y ∷ ys) h x (inl is) = subst P (sym is) h.0
-at_member P (y ∷ ys) h x (inr m) = at_member P ys h.1 x m
+at_member : {X : Type 0} (P : X → Type 0) (xs : List X) → AllByRecursion P xs → (x : X) → Contains xs x → P x
+at_member P [] h x m = absurd (Contains-nil m)
+at_member P (y ∷ ys) h x m = elim (Contains-cases ys m) [
+  | inl is ↦ subst P (sym is) h.0
+  | inr later ↦ at_member P ys h.1 x later
+]
 
 -- ---- serial order
 
 pub place_is : (t : Tables) (a : ℕ) → serial_place t a ≡ place_in (serial t) a
 place_is t a = place_len (λ i. i == a) (serial t)
 
-pub listed : (t : Tables) → ListsItems t → (a : ℕ) → a < length t.items → Member (serial t) a
-listed t lists a lt = member_of (serial t) a ((lists.items a).1 lt)
+pub listed : (t : Tables) → ListsItems t → (a : ℕ) → a < length t.items → Contains (serial t) a
+listed t lists a lt = (lists.items a).1 lt
 
 turned : (t : Tables) (a b : ℕ) → serial_place t b < serial_place t a → by_serial t (a, b) ≡ (b, a)
 turned t a b lt = rw (lt-ltb _ _ lt) refl

@@ -7,8 +7,8 @@ use Rattle.std.proofs.lemmas.List.Elements.{filter-append}
 use Rattle.std.proofs.lemmas.List.Concat.{flat_map-append}
 use Rattle.vocabulary.specs.Prelude.{Tables, item_kind, is_free}
 use Rattle.semantics.specs.Shown.{is_task_at, task_pairs}
-use Rattle.log_laws.proofs.lemmas.Apart.{range-more}
-use Rattle.log_laws.proofs.lemmas.Lists.{filter_map_of}
+use Rattle.list_lemmas.proofs.lemmas.Parts.{filter_map_of}
+use Rattle.list_lemmas.proofs.lemmas.Ranges.{range-more}
 use Rattle.order_laws.specs.Counting.{count_below, sum_below}
 use Rattle.order_laws.specs.Turns.{do_interfere}
 

@@ -1,5 +1,5 @@
 -- The tasks that use a place in serial order tell whether those that do not agree there are in turn.
-use Rattle.std.proofs.Common.{◌≡◌, ◌≢◌, ℕ, inl, inr, Bool, true, false, not, ◌⊎◌, List, [], ◌∷◌, ◌++◌, refl, sym, ap, ap₂, ◌∙◌, subst, arith, map, filter, find, None}
+use Rattle.std.proofs.Common.{◌≡◌, ◌≢◌, ℕ, inl, inr, Bool, true, false, not, ◌⊎◌, List, [], ◌∷◌, ◌++◌, refl, sym, ap, ap₂, ◌∙◌, subst, arith, map, filter, find, None, Contains}
 use Rattle.std.proofs.lemmas.Bool.{cases_Bool, true≢false, and_parts, and_from, false_from_ne_true, not-true}
 use Rattle.vocabulary.specs.Prelude.{agree, Place, Req, Tables, is_in, uses_of, covers}
 use Rattle.semantics.specs.SerialOrder.{serial}
@@ -7,8 +7,10 @@ use Rattle.semantics.specs.Shown.{is_task_at, run_of}
 use Rattle.cell_races.specs.declared.access.Visit.{Visit}
 use Rattle.cell_races.specs.Accesses.{conflicts}
 use Rattle.cell_races.specs.Races.{is_unordered, race_from, race_in}
-use Rattle.log_laws.proofs.lemmas.Members.{Member, member_of, contains_of, member_append, member_left, member_map, map_member, member_filter, filter_member, none_or_some, none_found, only, found_at}
-use Rattle.log_laws.proofs.lemmas.Apart.{pairs_from}
+use Rattle.std.proofs.lemmas.List.Elements.{Contains-append_cases, Contains-append_left, Contains-append_right}
+use Rattle.list_lemmas.proofs.lemmas.Contained.{member_map, map_member, none_found, only, found_at, Contains-nil, Contains-here, Contains-first, Contains-later, Contains-cases}
+use Rattle.list_lemmas.proofs.lemmas.Filtered.{of_filter, in_filter}
+use Rattle.list_lemmas.proofs.lemmas.Firsts.{cases_option}
 use Rattle.order_laws.specs.Turns.{Meeting, AreInTurn, AgreeWithThemselves, ListsItems}
 use Rattle.order_laws.specs.Visited.{access_of, item_visits, task_visits, Tells}
 use Rattle.order_laws.proofs.lemmas.Agreeing.{conflicts_are}
@@ -21,41 +23,39 @@ use Rattle.order_laws.proofs.Kept.{place_is, listed}
 module _ (before : ℕ → ℕ → Bool) where
   passes : (behind : List Visit) (b : Visit) (bs : List Visit) → race_from before behind (b ∷ bs) ≡ None
       → (find (is_unordered before b) behind ≡ None) × (race_from before (behind ++ b ∷ []) bs ≡ None)
-  passes behind b bs e = elim (none_or_some (find (is_unordered before b) behind)) [
+  passes behind b bs e = elim (cases_option (find (is_unordered before b) behind)) [
     | inl none ↦ (none, rw none at e)
     | inr some ↦ let bad = rw some.1 at e in absurd cc
   ]
 
-  none_unordered : (behind bs : List Visit) → race_from before behind bs ≡ None → (v w : Visit) → (Member behind v × Member bs w)
+  none_unordered : (behind bs : List Visit) → race_from before behind bs ≡ None → (v w : Visit) → (Contains behind v × Contains bs w)
       ⊎ Earlier bs v w → is_unordered before w v ≡ false
-  none_unordered behind [] e v w (inl m) = absurd m.1
+  none_unordered behind [] e v w (inl m) = absurd (Contains-nil m.1)
   none_unordered behind [] e v w (inr m) = absurd m
-  none_unordered behind (b ∷ bs) e v w (inl (m, inl is)) = none_found (is_unordered before w) behind v
-      (subst (λ u. find (is_unordered before u) behind ≡ None) (sym is) (passes behind b bs e).0) m
-  none_unordered behind (b ∷ bs) e v w (inl (m, inr n)) = none_unordered (behind ++ b ∷ []) bs (passes behind b bs e).1 v w
-      (inl (member_left behind (b ∷ []) v m, n))
+  none_unordered behind (b ∷ bs) e v w (inl (m, n)) = elim (Contains-cases bs n) [
+    | inl is ↦ none_found (is_unordered before w) behind v
+        (subst (λ u. find (is_unordered before u) behind ≡ None) (sym is) (passes behind b bs e).0) m
+    | inr later ↦ none_unordered (behind ++ b ∷ []) bs (passes behind b bs e).1 v w
+        (inl (Contains-append_left behind (b ∷ []) v m, later))
+  ]
   none_unordered behind (b ∷ bs) e v w (inr (inl (is, n))) = none_unordered (behind ++ b ∷ []) bs (passes behind b bs e).1 v w
-      (inl (last behind v b is, n))
-    where
-      last : (behind : List Visit) (v b : Visit) → v ≡ b → Member (behind ++ b ∷ []) v
-      last [] v b is = inl is
-      last (x ∷ xs) v b is = inr (last xs v b is)
+      (inl (Contains-append_right behind (b ∷ []) v (Contains-first [] is), n))
   none_unordered behind (b ∷ bs) e v w (inr (inr m)) = none_unordered (behind ++ b ∷ []) bs (passes behind b bs e).1 v w (inr m)
 
-  all_calm : (behind bs : List Visit) → ((v w : Visit) → (Member behind v × Member bs w) ⊎ Earlier bs v w
+  all_calm : (behind bs : List Visit) → ((v w : Visit) → (Contains behind v × Contains bs w) ⊎ Earlier bs v w
       → is_unordered before w v ≡ false) → race_from before behind bs ≡ None
   all_calm behind [] h = refl
-  all_calm behind (b ∷ bs) h = elim (none_or_some (find (is_unordered before b) behind)) [
+  all_calm behind (b ∷ bs) h = elim (cases_option (find (is_unordered before b) behind)) [
     | inl none ↦ rw none (all_calm (behind ++ b ∷ []) bs (λ v w side. elim side [
-      | inl both ↦ elim (member_append behind (b ∷ []) v both.0) [
-        | inl old ↦ h v w (inl (old, inr both.1))
+      | inl both ↦ elim (Contains-append_cases behind (b ∷ []) v both.0) [
+        | inl old ↦ h v w (inl (old, Contains-later bs both.1))
         | inr new ↦ h v w (inr (inl (only new, both.1)))
       ]
       | inr later ↦ h v w (inr (inr later))
     ]))
     | inr some ↦
         let at = found_at (is_unordered before b) behind some.0 some.1 in
-        absurd (true≢false (sym at.1 ∙ h some.0 b (inl (at.0, inl refl))))
+        absurd (true≢false (sym at.1 ∙ h some.0 b (inl (at.0, Contains-here bs))))
   ]
 
 -- ---- visits of tasks
@@ -70,25 +70,25 @@ visits_are t p a e = rw e refl
 no_visits : (t : Tables) (p : Place) (a : ℕ) → is_task_at t a ≡ false → item_visits t p a ≡ []
 no_visits t p a e = rw e refl
 
-visited : (t : Tables) (p : Place) (a : ℕ) (r : Req) → is_task_at t a ≡ true → Member (uses_of t a) r → covers t p r ≡ true
-    → Member (item_visits t p a) (visit t a r)
-visited t p a r task m e = subst (λ vs. Member vs (visit t a r)) (sym (visits_are t p a task))
-    (map_member (visit t a) (filter (covers t p) (uses_of t a)) r (filter_member (covers t p) (uses_of t a) r m e))
+visited : (t : Tables) (p : Place) (a : ℕ) (r : Req) → is_task_at t a ≡ true → Contains (uses_of t a) r → covers t p r ≡ true
+    → Contains (item_visits t p a) (visit t a r)
+visited t p a r task m e = subst (λ vs. Contains vs (visit t a r)) (sym (visits_are t p a task))
+    (map_member (visit t a) (filter (covers t p) (uses_of t a)) r (in_filter (covers t p) (uses_of t a) r m e))
 
 pub record Visits (t : Tables) (p : Place) (a : ℕ) (v : Visit) : Type 0 where
   pub task : is_task_at t a ≡ true
   pub r : Req
-  pub of_a : Member (uses_of t a) r
+  pub of_a : Contains (uses_of t a) r
   pub at : covers t p r ≡ true
   pub is : v ≡ visit t a r
 
-visits_of : (t : Tables) (p : Place) (a : ℕ) (v : Visit) → Member (item_visits t p a) v → Visits t p a v
+visits_of : (t : Tables) (p : Place) (a : ℕ) (v : Visit) → Contains (item_visits t p a) v → Visits t p a v
 visits_of t p a v m = elim (cases_Bool (is_task_at t a)) [
   | inl task ↦
-      let of = member_map (visit t a) (filter (covers t p) (uses_of t a)) v (subst (λ vs. Member vs v) (visits_are t p a task) m) in
-      let f = member_filter (covers t p) (uses_of t a) of.0 of.1 in
+      let of = member_map (visit t a) (filter (covers t p) (uses_of t a)) v (subst (λ vs. Contains vs v) (visits_are t p a task) m) in
+      let f = of_filter (covers t p) (uses_of t a) of.0 of.1 in
       record { task = task; r = of.0; of_a = f.0; at = f.1; is = of.2 }
-  | inr other ↦ absurd (subst (λ vs. Member vs v) (no_visits t p a other) m)
+  | inr other ↦ absurd (Contains-nil (subst (λ vs. Contains vs v) (no_visits t p a other) m))
 ]
 
 module _ (t : Tables) (before : ℕ → ℕ → Bool) (tells : Tells t before) (lists : ListsItems t) where
@@ -107,15 +107,15 @@ module _ (t : Tables) (before : ℕ → ℕ → Bool) (tells : Tells t before) (
       let v = visit t a m.q in
       let w = visit t b m.r in
       let e = flat_earlier (item_visits t p) (serial t) a b v w order
-      (visited t p a m.q one (member_of (uses_of t a) m.q m.of_a) m.at_a)
-      (visited t p b m.r other (member_of (uses_of t b) m.r m.of_b) m.at_b) in
+      (visited t p a m.q one m.of_a m.at_a)
+      (visited t p b m.r other m.of_b m.at_b) in
       let none = none_unordered before [] (task_visits t p) (calm p first) v w (inr e) in
       (tells (run_of t a) (run_of t b)).0 (is_before v w none (conflicts_are m.q.access m.r.access ∙ ap not m.differ))
 
   pub is_calm : AgreeWithThemselves t → (points : List ℕ) → AreInTurn t points → (p : Place) → is_in points p.point ≡ true
       → race_in before (task_visits t p) ≡ None
   is_calm themselves points turn p first = all_calm before [] (task_visits t p) (λ v w side. elim side [
-    | inl both ↦ absurd both.0
+    | inl both ↦ absurd (Contains-nil both.0)
     | inr e ↦
         let parts = earlier_flat (item_visits t p) (serial t) v w e in
         let one = visits_of t p parts.a v parts.in_a in
@@ -128,15 +128,15 @@ module _ (t : Tables) (before : ℕ → ℕ → Bool) (tells : Tells t before) (
         let m : Meeting t parts.a parts.b p = record {
           q = one.r;
           r = other.r;
-          of_a = contains_of (uses_of t parts.a) one.r one.of_a;
-          of_b = contains_of (uses_of t parts.b) other.r other.of_a;
+          of_a = one.of_a;
+          of_b = other.of_a;
           at_a = one.at;
           at_b = other.at;
           differ = not-true (agree one.r.access other.r.access) (sym (conflicts_are one.r.access other.r.access) ∙ c);
         } in
         elim parts.order [
           | inl order ↦
-              let less = place_order (serial t) parts.a parts.b (pairs_from (λ x y. x ≢ y) (serial t) lists.once) order in
+              let less = place_order (serial t) parts.a parts.b lists.once order in
               let so = (tells (run_of t parts.a) (run_of t parts.b)).1
               (turn parts.a parts.b p first one.task other.task m (omega (arith, less, place_is t parts.a, place_is t parts.b))) in
               let same_v : v.node ≡ run_of t parts.a = ap (λ (u : Visit). u.node) one.is in
@@ -146,7 +146,7 @@ module _ (t : Tables) (before : ℕ → ℕ → Bool) (tells : Tells t before) (
               let reqs = filter (covers t p) (uses_of t parts.a) in
               let r = earlier_map (visit t parts.a) reqs v w (subst (λ vs. Earlier vs v w) (visits_are t p parts.a one.task) own) in
               let agrees = pairs_earlier (λ (q : Req) (r : Req). agree q.access r.access ≡ true) reqs r.0 r.1
-              (pairs_from (λ (q : Req) (r : Req). agree q.access r.access ≡ true) reqs (themselves parts.a p one.task)) r.2 in
+              (themselves parts.a p one.task) r.2 in
               let c : conflicts (access_of r.0.access) (access_of r.1.access) ≡ true =
               ap (λ (u : Visit). conflicts (access_of r.0.access) u.access) (sym r.4)
               ∙ (ap (λ (u : Visit). conflicts u.access w.access) (sym r.3) ∙ l.0) in

@@ -16,7 +16,10 @@ use Rattle.semantics.specs.ReplayOrder.{replay_order, is_stuck, shown_cycle}
 use Rattle.semantics.specs.Shown.{event_of, IsKept, is_task_at, run_of, task_pairs}
 use Rattle.semantics.specs.Faults.{log_fault}
 use Rattle.log_laws.proofs.lemmas.Admitted.{faultless}
-use Rattle.log_laws.proofs.lemmas.Members.{Member, member_of, contains_of, member_filter, member_flat, member_map, member_right, none_or_some}
+use Rattle.std.proofs.lemmas.List.Elements.{Contains-append_right}
+use Rattle.list_lemmas.proofs.lemmas.Contained.{member_flat, member_map, Contains-here}
+use Rattle.list_lemmas.proofs.lemmas.Filtered.{of_filter}
+use Rattle.list_lemmas.proofs.lemmas.Firsts.{cases_option}
 use Rattle.log_laws.proofs.lemmas.Cycles.{cycle_is_stuck, none_shown, shown_is_cycle}
 use Rattle.log_laws.proofs.lemmas.Rounds.{before_met}
 use Rattle.log_laws.proofs.lemmas.Laws.{faultless_linked}
@@ -71,12 +74,12 @@ free_everywhere t a b (p ∷ ps) none = elim (cases_Bool (is_free (kind_at t a b
   | inr other ↦ absurd (none-some _ (sym (rw other at none)))
 ]
 
-pair_has_place : (t : Tables) (p : ℕ × ℕ) → Member (pairs t) p → (place : Place) × (least_place t p.0 p.1 ≡ Some place)
+pair_has_place : (t : Tables) (p : ℕ × ℕ) → Contains (pairs t) p → (place : Place) × (least_place t p.0 p.1 ≡ Some place)
 pair_has_place t p m =
     let first = member_flat _ (range_with_len 0 (length t.items)) p m in
     let second = member_map _ _ p first.2 in
-    let meets = (member_filter (λ b. not (is_free (item_kind t first.0 b))) _ second.0 second.1).1 in
-    elim (none_or_some (least_place t first.0 second.0)) [
+    let meets = (of_filter (λ b. not (is_free (item_kind t first.0 b))) _ second.0 second.1).1 in
+    elim (cases_option (least_place t first.0 second.0)) [
       | inl none ↦ absurd (true≢false (sym (free_everywhere t first.0 second.0 (item_places t first.0) none) ∙ not-true meets))
       | inr some ↦ subst (λ (q : ℕ × ℕ). (place : Place) × (least_place t q.0 q.1 ≡ Some place)) (sym second.2) some
     ]
@@ -105,10 +108,10 @@ module _ (t : Tables) (laws : AreJudged t) where
   no_cycle none (k ∷ ks) cycle =
       let last = last_wait nodes k k ks cycle.1 in
       let within = slice_get_within nodes k last.1.by last.1.by_is in
-      true≢false (sym (laws.on_cycle (k ∷ ks) cycle k (contains_of (k ∷ ks) k (inl refl))) ∙ laws.none none k within)
+      true≢false (sym (laws.on_cycle (k ∷ ks) cycle k (Contains-here ks)) ∙ laws.none none k within)
 
   cycle_or_none : ((events : List ℕ) × ShowsCycle t events) ⊎ HasNoCycle t
-  cycle_or_none = elim (none_or_some (shown_cycle nodes)) [
+  cycle_or_none = elim (cases_option (shown_cycle nodes)) [
     | inl none ↦ inr (no_cycle none)
     | inr c ↦ inl (map (event_of t) c.0, record { nodes = c.0; shown = c.1; is_cycle = laws.shown c.0 c.1; events_are = refl })
   ]
@@ -125,8 +128,8 @@ module _ (t : Tables) (laws : AreJudged t) where
     ordered_without_cycle = elim (all_or_first (IsKept t) kept_or_not (task_pairs t)) [
       | inl kept ↦ (Ordered (task_count t) (length (task_pairs t)), (acyclic, kept, refl, refl))
       | inr f ↦
-          let listed = member_filter (λ (p : ℕ × ℕ). is_task_at t p.0 && is_task_at t p.1) (pairs t) f.at
-          (subst (λ ps. Member ps f.at) (sym f.parts) (member_right f.front (f.at ∷ f.back) f.at (inl refl))) in
+          let listed = of_filter (λ (p : ℕ × ℕ). is_task_at t p.0 && is_task_at t p.1) (pairs t) f.at
+          (subst (λ ps. Contains ps f.at) (sym f.parts) (Contains-append_right f.front (f.at ∷ f.back) f.at (Contains-here f.back))) in
           let found = pair_has_place t f.at listed.0 in
           let place = found.0 in (
             Unordered (id_of t (by_serial t f.at).0) (id_of t (by_serial t f.at).1) place.tree place.point place.field,
@@ -161,7 +164,7 @@ module _ (t : Tables) (laws : AreJudged t) where
     module _ (right : IsRaceFree t → shown_difference t ≡ None → IsRight t) (differs : IsRaceFree t → (r : Seen)
         → shown_difference t ≡ Some r → Differs t r) where
       check_without_race : IsRaceFree t → (f : Finding) × CheckFinds t f
-      check_without_race free = elim (none_or_some (shown_difference t)) [
+      check_without_race free = elim (cases_option (shown_difference t)) [
         | inl none ↦ (
           Accepted (task_count t) (operation_count t) (read_count t),
           (record { no_cycle = acyclic; no_race = free; right = right free none }, refl, refl, refl),
@@ -241,7 +244,7 @@ record AreReadsJudged (t : Tables) : Type 0 where
 some_found : (command : Command) (lines : ℕ) (log : List Lined) → (log_fault command lines log ≡ None → AreJudged (tables_of log))
     → (log_fault commands.Check lines log ≡ None → AreReadsJudged (tables_of log))
     → (f : Finding) × IsFound command lines log f
-some_found command lines log laws reads = elim (none_or_some (log_fault command lines log)) [
+some_found command lines log laws reads = elim (cases_option (log_fault command lines log)) [
   | inr fault ↦ (Fault fault.0.line fault.0.code, fault.1)
   | inl none ↦ (let found = finds command none reads (laws none) in (found.0, found_of command lines log found.0 none found.1))
 ]
@@ -269,7 +272,7 @@ found_in command lines log good =
       linked = linked;
       behind = λ front k back is j waits. before_met nodes linked front k back is j ([], waits);
       replayed = all_replayed t linked;
-      on_cycle = λ ks cycle k h. cycle_is_stuck nodes linked ks cycle k (member_of ks k h);
+      on_cycle = λ ks cycle k h. cycle_is_stuck nodes linked ks cycle k h;
       shown = shown_is_cycle nodes linked;
       none = (none_shown nodes).0;
     })

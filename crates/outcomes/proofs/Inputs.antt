@@ -8,7 +8,7 @@ use Rattle.std.proofs.lemmas.List.Splits.{length-slice_split}
 use Rattle.vocabulary.specs.Prelude.{LineFault, Record, Lined, line_at, parts_of, line_count, Hold, Reads}
 use Rattle.spy_grammar.proofs.lemmas.RowLaws.{line_blank, line_good, line_spelled}
 use Rattle.semantics.specs.TextFaults.{line_fault, lines_fault, text_fault}
-use Rattle.log_laws.proofs.lemmas.Members.{both_none}
+use Rattle.list_lemmas.proofs.lemmas.Contained.{both_none}
 use Rattle.outcomes.proofs.lemmas.Clean.{clean}
 
 -- A line without a fault is passed over, or spells a record.

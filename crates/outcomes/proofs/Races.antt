@@ -7,21 +7,23 @@ use Rattle.std.specs.List.{position_or_len, range_with_len}
 use Rattle.std.proofs.lemmas.Bool.Decides.{nat_tests}
 use Rattle.std.proofs.lemmas.Option.{slice_get_within}
 use Rattle.std.specs.Prelude.{position, unwrap_or}
+use Rattle.list_lemmas.proofs.lemmas.Contained.{Contains-nil, Contains-cases}
 use Rattle.vocabulary.specs.Prelude.{Cell, Move, Tables, comes_first, graph_of, steps}
 use Rattle.semantics.specs.ReplayOrder.{replay_order}
 use Rattle.semantics.specs.Shown.{replay_place, IsShownRace}
-use Rattle.log_laws.proofs.lemmas.Members.{Member, member_of}
 use Rattle.log_laws.proofs.lemmas.StepLists.{of_node}
 
 one_place : (a b c d e f : ℕ) → comes_first (a, b, c) (d, e, f) ≡ false → comes_first (d, e, f) (a, b, c) ≡ false → (a ≡ d) × (b ≡ e)
     × (c ≡ f)
 one_place a b c d e f p q = (grind (arith, nat_tests), grind (arith, nat_tests), grind (arith, nat_tests))
 
-found_in : (b : ℕ) (xs : List ℕ) → Member xs b → position_or_len (λ n. n == b) xs < length xs
-found_in b [] m = absurd m
-found_in b (x ∷ xs) (inl is) = rw (eq-eqb x b (sym is)) (omega arith)
-found_in b (x ∷ xs) (inr m) =
-    elim (cases_Bool (x == b)) [ inl same ↦ rw same (omega arith) | inr other ↦ rw other (omega (arith, found_in b xs m)) ]
+found_in : (b : ℕ) (xs : List ℕ) → Contains xs b → position_or_len (λ n. n == b) xs < length xs
+found_in b [] m = absurd (Contains-nil m)
+found_in b (x ∷ xs) m = elim (Contains-cases xs m) [
+  | inl is ↦ rw (eq-eqb x b (sym is)) (omega arith)
+  | inr later ↦
+      elim (cases_Bool (x == b)) [ inl same ↦ rw same (omega arith) | inr other ↦ rw other (omega (arith, found_in b xs later)) ]
+]
 
 -- The first place of a number that a list has.
 position_at : (xs : List ℕ) (n b : ℕ) → position_or_len (λ k. k == b) xs < length xs
@@ -31,7 +33,7 @@ position_at xs n b lt =
     (rw is refl, eqb-true _ _ (position-Some (λ k. k == b) xs _ 0 is).1)
 
 -- The numbers of a list whose first places are the same are the same.
-same_by_place : (xs : List ℕ) (n b d : ℕ) → Member xs b → Member xs d
+same_by_place : (xs : List ℕ) (n b d : ℕ) → Contains xs b → Contains xs d
     → unwrap_or (position (λ k. k == b) xs) n ≡ unwrap_or (position (λ k. k == d) xs) n → b ≡ d
 same_by_place xs n b d m l e =
     let first = position_at xs n b (found_in b xs m) in
@@ -44,10 +46,10 @@ module _ (t : Tables) (replayed : (k : ℕ) → k < length t.nodes → Contains 
   node_of_place : (b d : ℕ) → b < length t.nodes → d < length t.nodes → replay_place t b ≡ replay_place t d → b ≡ d
   node_of_place b d lt less e =
       let order = replay_order (graph_of t.nodes) in
-      same_by_place order (length t.nodes) b d (member_of order b (replayed b lt)) (member_of order d (replayed d less)) e
+      same_by_place order (length t.nodes) b d (replayed b lt) (replayed d less) e
 
   within : (b : ℕ) (m : Move) → Contains (steps t) (record { node = b; move = m }) → b < length t.nodes
-  within b m at = let node = of_node t (range_with_len 0 (length t.nodes)) _ (member_of (steps t) _ at) in
+  within b m at = let node = of_node t (range_with_len 0 (length t.nodes)) _ at in
       slice_get_within t.nodes b node.node node.is_node
 
   pub one_node : (b d : ℕ) (m n : Move) → Contains (steps t) (record { node = b; move = m })

@@ -6,7 +6,7 @@ use Rattle.vocabulary.specs.Prelude.{Cell, Tables, comes_first, graph_of, Before
 use Rattle.semantics.specs.ReplayOrder.{replay_order}
 use Rattle.semantics.specs.Races.{Reads}
 use Rattle.semantics.specs.Shown.{replay_place, IsShownRace}
-use Rattle.log_laws.proofs.lemmas.Members.{Member, member_of, contains_of, member_flat, flat_member, member_map, map_member}
+use Rattle.list_lemmas.proofs.lemmas.Contained.{member_flat, flat_member, member_map, map_member, Contains-here, Contains-later}
 use Rattle.log_laws.proofs.lemmas.Tidy.{ends, meet, untouched}
 use Rattle.outcomes.proofs.Decided.{Told, both_told, failing_told, test_told, less_told, IsLeast, least_or_none}
 use Rattle.outcomes.proofs.Races.{one_node}
@@ -91,7 +91,7 @@ module _ (t : Tables) (replayed : (k : ℕ) → k < length t.nodes → Contains 
   racing_told x = both_told _ _ (failing_told _ (cases_eq x.one.node x.other.node))
       (both_told _ _ (test_told _) (both_told _ _ (failing_told _ (told _ _)) (both_told _ _ (failing_told _ (told _ _)) (less_told _ _))))
 
-  race_of : (x : Trio) → Member trios x → IsRacing x → Race t x.one.node x.other.node x.cell
+  race_of : (x : Trio) → Contains trios x → IsRacing x → Race t x.one.node x.other.node x.cell
   race_of x m r =
       let first = member_flat with_one (steps t) x m in
       let second = member_flat (with_both first.0) (steps t) x first.2 in
@@ -100,8 +100,8 @@ module _ (t : Tables) (replayed : (k : ℕ) → k < length t.nodes → Contains 
         differ = r.0;
         one = x.one.move;
         other = x.other.move;
-        one_in = subst (Contains (steps t)) (sym (ap (λ (y : Trio). y.one) made.2)) (contains_of (steps t) first.0 first.1);
-        other_in = subst (Contains (steps t)) (sym (ap (λ (y : Trio). y.other) made.2)) (contains_of (steps t) second.0 second.1);
+        one_in = subst (Contains (steps t)) (sym (ap (λ (y : Trio). y.one) made.2)) first.1;
+        other_in = subst (Contains (steps t)) (sym (ap (λ (y : Trio). y.other) made.2)) second.1;
         conflict = r.1.0;
         not_before = r.1.1.0;
         not_after = r.1.1.1.0;
@@ -111,17 +111,15 @@ module _ (t : Tables) (replayed : (k : ℕ) → k < length t.nodes → Contains 
   abbrev trio_of : (a b : ℕ) (cell : Cell) → Race t a b cell → Trio
   trio_of a b cell r = record { one = record { node = a; move = r.one }; other = record { node = b; move = r.other }; cell = cell }
 
-  trio_listed : (a b : ℕ) (cell : Cell) (r : Race t a b cell) → Member trios (trio_of a b cell r)
+  trio_listed : (a b : ℕ) (cell : Cell) (r : Race t a b cell) → Contains trios (trio_of a b cell r)
   trio_listed a b cell r =
       let x : Step = record { node = a; move = r.one } in
       let y : Step = record { node = b; move = r.other } in
-      let touched = (meet (λ c. Member ((ends r.one).0 ∷ (ends r.one).1 ∷ []) c)
-      (λ c. Member ((ends r.other).0 ∷ (ends r.other).1 ∷ []) c) r.one r.other cell r.conflict (inl refl, inr (inl refl)) (
-        inl refl,
-        inr (inl refl),
-      )).0 in
-      flat_member with_one (steps t) x (trio_of a b cell r) (member_of (steps t) x r.one_in)
-      (flat_member (with_both x) (steps t) y (trio_of a b cell r) (member_of (steps t) y r.other_in)
+      let touched = (meet (λ c. Contains ((ends r.one).0 ∷ (ends r.one).1 ∷ []) c)
+      (λ c. Contains ((ends r.other).0 ∷ (ends r.other).1 ∷ []) c) r.one r.other cell r.conflict ((0, omega arith, refl), (1, omega arith, refl))
+      ((0, omega arith, refl), (1, omega arith, refl))).0 in
+      flat_member with_one (steps t) x (trio_of a b cell r) r.one_in
+      (flat_member (with_both x) (steps t) y (trio_of a b cell r) r.other_in
       (map_member (trio x y) (cells_of x) cell touched))
 
   racing_of : (a b : ℕ) (cell : Cell) (r : Race t a b cell) → place a < place b → IsRacing (trio_of a b cell r)

@@ -6,8 +6,9 @@ use Rattle.std.specs.List.{range_with_len}
 use Rattle.vocabulary.specs.Prelude.{ListedWait, is_in, Node, WaitsOn, Before}
 use Rattle.semantics.specs.ReplayOrder.{waits_at, done_at}
 use Rattle.semantics.specs.Spare.{IsBeforeAnother, IsSpare, AreSpareWaits}
-use Rattle.log_laws.proofs.lemmas.Apart.{number_in}
-use Rattle.log_laws.proofs.lemmas.Members.{member_of, contains_of, member_in, is_in_of, none_or_some}
+use Rattle.list_lemmas.proofs.lemmas.Firsts.{cases_option}
+use Rattle.list_lemmas.proofs.lemmas.Ranges.{number_in}
+use Rattle.log_laws.proofs.lemmas.Members.{member_in, is_in_of}
 use Rattle.spare_laws.specs.Listed.{AreUpTo, marked}
 use Rattle.spare_laws.proofs.lemmas.Growing.{none_yet, node_more, finished}
 use Rattle.spare_laws.proofs.lemmas.Listing.{event_within}
@@ -22,8 +23,8 @@ below_told P n within tell = elim (some_or_none P (range_with_len 0 n) (λ k m. 
 
 listed_told : (ws : List ℕ) (event : ℕ) → Told (Contains ws event)
 listed_told ws event = elim (cases_Bool (is_in ws event)) [
-  | inl is ↦ inl (contains_of ws event (member_in ws event is))
-  | inr other ↦ inr (λ listed. true≢false (sym (is_in_of ws event (member_of ws event listed)) ∙ other))
+  | inl is ↦ inl (member_in ws event is)
+  | inr other ↦ inr (λ listed. true≢false (sym (is_in_of ws event listed) ∙ other))
 ]
 
 -- The test that a fact holds.
@@ -37,7 +38,7 @@ mark_tells (inr fails) = (λ e. absurd (true≢false (sym e)), λ a. absurd (fai
 
 module _ (nodes : List Node) (before : (a b : ℕ) → Told (Before nodes a b)) where
   done_told : (on event : ℕ) → Told (done_at nodes on ≡ Some event)
-  done_told on event = elim (none_or_some (slice_get nodes on)) [
+  done_told on event = elim (cases_option (slice_get nodes on)) [
     | inl none ↦ inr (λ e. none-some event (sym (rw none refl) ∙ e))
     | inr some ↦ elim (cases_eq some.0.done event) [
       | inl is ↦ inl (rw some.1 (ap (λ d. Some d) is))
@@ -64,7 +65,7 @@ module _ (nodes : List Node) (before : (a b : ℕ) → Told (Before nodes a b)) 
       ]
 
   spare_told : (node k : ℕ) → Told (IsSpare nodes node k)
-  spare_told node k = elim (none_or_some (slice_get (waits_at nodes node) k)) [
+  spare_told node k = elim (cases_option (slice_get (waits_at nodes node) k)) [
     | inl none ↦ inr (λ s. none-some s.event (sym none ∙ s.listed))
     | inr some ↦
         let earlier = take k (waits_at nodes node) in

@@ -9,21 +9,22 @@ use Rattle.std.proofs.lemmas.List.Sums.{sum_by-append, sum_by-take-le}
 use Rattle.std.proofs.lemmas.List.Elements.{All-filter, Contains-append_cases, Contains-append_left, Contains-append_right}
 use Rattle.std.proofs.lemmas.List.FromFn.{get_or-range_with_len, length-range_with_len}
 use Rattle.vocabulary.specs.Prelude.{Space, Tables, is_in}
-use Rattle.log_laws.proofs.lemmas.Members.{contains_of, filter_member, is_in_of, member_filter, member_in, member_of}
+use Rattle.log_laws.proofs.lemmas.Members.{is_in_of, member_in}
 use Rattle.point_laws.specs.Alike.{AreAlike, AreFirsts}
 use Rattle.point_kinds.specs.Parted.{AreLeads, IsParted}
 use Rattle.point_kinds.specs.Kinds.{AreKinds, places_of, shares}
 use Rattle.point_kinds.proofs.Leading.{in_one, only_in}
 use Rattle.point_kinds.proofs.Walking.{at_least, is_in_set}
+use Rattle.list_lemmas.proofs.lemmas.Filtered.{in_filter, of_filter}
 
 -- A place is among those of a set's points just where the set has its point.
 same_in : (set points : List ℕ) (i : ℕ) → i < length points → is_in (places_of set points) i ≡ is_in set (get_or points i 0)
 same_in set points i within = elim (cases_Bool (is_in set (get_or points i 0))) [
   | inl has ↦
-      is_in_of (places_of set points) i (filter_member test all i (member_of all i here) has) ∙ sym has
+      is_in_of (places_of set points) i (in_filter test all i here has) ∙ sym has
   | inr lacks ↦
       false_from_ne_true (is_in (places_of set points) i) (λ is.
-      true≢false (sym (member_filter test all i (member_in (places_of set points) i is)).1 ∙ lacks)) ∙ sym lacks
+      true≢false (sym (of_filter test all i (member_in (places_of set points) i is)).1 ∙ lacks)) ∙ sym lacks
 ]
   where
     test : ℕ → Bool
@@ -78,7 +79,7 @@ pub firsts_of_kinds : (t : Tables) (points numbers leads : List ℕ) → IsStric
     → AreKinds t.spaces points numbers → AreLeads (length points) numbers points leads → AreFirsts t leads
 firsts_of_kinds t points numbers leads ascend firsts kinds are s c q e =
     let h = firsts s c q e in
-    let at = contains_of points h.first (member_in points h.first h.listed) in
+    let at = (member_in points h.first h.listed) in
     let is : get_or points at.0 0 ≡ h.first = get_or_default points at.0 0 h.first at.1 ∙ at.2 in
     let lead = are.listed at.0 at.1 in
     let within : lead.lead < length points = omega (arith, lead.not_later, at.1) in

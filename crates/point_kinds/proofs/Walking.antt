@@ -8,8 +8,8 @@ use Rattle.std.proofs.lemmas.List.Elements.{filter-append}
 use Rattle.std.proofs.lemmas.List.Kept.{AllPairs-from_increasing}
 use Rattle.point_set.specs.Least.{IsLeastFrom}
 use Rattle.vocabulary.specs.Prelude.{is_in}
-use Rattle.log_laws.proofs.lemmas.Apart.{range-more}
-use Rattle.log_laws.proofs.lemmas.Members.{contains_of, is_in_of, member_in, member_of}
+use Rattle.list_lemmas.proofs.lemmas.Ranges.{range-more}
+use Rattle.log_laws.proofs.lemmas.Members.{is_in_of, member_in}
 
 numbers_more : (n : ℕ) → range_with_len 0 (n + 1) ≡ range_with_len 0 n ++ n ∷ []
 numbers_more n =
@@ -38,10 +38,10 @@ filter_skip p a (suc b) le h = elim (cases_eq a (suc b)) [
 ]
 
 pub is_in_set : (set : List ℕ) (p : ℕ) → Contains set p → is_in set p ≡ true
-is_in_set set p c = is_in_of set p (member_of set p c)
+is_in_set set p c = is_in_of set p c
 
 pub not_in_set : (set : List ℕ) (p : ℕ) → (Contains set p → ⊥) → is_in set p ≡ false
-not_in_set set p none = false_from_ne_true (is_in set p) (λ is. none (contains_of set p (member_in set p is)))
+not_in_set set p none = false_from_ne_true (is_in set p) (λ is. none (member_in set p is))
 
 pub at_least : (points : List ℕ) (i j : ℕ) → IsStrictlyIncreasing points → i ≤ j → j < length points → get_or points i 0 ≤ get_or points j 0
 at_least points i j ascend le within = elim (cases_eq i j) [

@@ -1,11 +1,12 @@
 -- Going back from a read along the steps at its point and field gives what it comes from.
-use Rattle.std.proofs.Common.{◌≡◌, ℕ, ◌+◌, ◌⊎◌, ◌==◌, inl, inr, Bool, true, false, cond, List, [], ◌∷◌, ◌++◌, filter, reverse, refl, sym, ap, ◌∙◌, subst, Some, option_map, append_assoc}
+use Rattle.std.proofs.Common.{◌≡◌, ℕ, ◌+◌, ◌⊎◌, ◌==◌, inl, inr, Bool, true, false, cond, List, [], ◌∷◌, ◌++◌, filter, reverse, refl, sym, ap, ◌∙◌, subst, Some, option_map, append_assoc, Contains}
 use Rattle.std.proofs.lemmas.Bool.{cases_Bool}
 use Rattle.std.proofs.lemmas.List.{reverse-append, reverse-reverse}
+use Rattle.list_lemmas.proofs.lemmas.Contained.{Contains-here, Contains-later}
 use Rattle.vocabulary.specs.Prelude.{Cell, Move, is_in, Step, same_cell}
 use Rattle.semantics.specs.declared.moves.Move.TheVariants.{Read, Write, Reduce, Copy, Put, Reset, Fold}
 use Rattle.semantics.specs.Links.{Touch, Leaves, Adds, Puts, Takes, touch, Source, with_last, sources_of, cell_read, ComesFrom}
-use Rattle.log_laws.proofs.lemmas.Members.{Member, member_filter}
+use Rattle.list_lemmas.proofs.lemmas.Filtered.{of_filter}
 use Rattle.log_laws.proofs.lemmas.Tidy.{one_cell, place}
 use Rattle.point_laws.specs.Alike.{target, is_at}
 use Rattle.trail_laws.proofs.lemmas.CopiedCells.{CopyStays}
@@ -125,7 +126,7 @@ module _ (here : ℕ × ℕ → Bool) where
   read_alike _ some all ls there h e = absurd cc
 
   -- What a step comes from among the steps there it comes from among all.
-  comes_among : (some all xs : List Step) → ((y : Step) → Member xs y → CopyStays y.move) → Alike (sources_of some) (sources_of all)
+  comes_among : (some all xs : List Step) → ((y : Step) → Contains xs y → CopyStays y.move) → Alike (sources_of some) (sources_of all)
       → (x : Step) (ls : List Source) → ComesFrom some (filter is_here xs) x ls → ComesFrom all xs x ls
   comes_among some all [] stays h x ls c = absurd c
   comes_among some all (y ∷ xs) stays h x ls c = elim (cases_Bool (is_here y)) [
@@ -133,15 +134,17 @@ module _ (here : ℕ × ℕ → Bool) where
         let d : ComesFrom some (y ∷ filter is_here xs) x ls = rw there at c in
         elim d [
           | inl r ↦ inl (r.0, read_alike y.move some all ls there h r.1)
-          | inr r ↦ inr (comes_among (y ∷ some) (y ∷ all) xs (λ z m. stays z (inr m)) (alike_with y some all (stays y (inl refl)) h) x ls r)
+          | inr r ↦
+              let alike = alike_with y some all (stays y (Contains-here xs)) h in
+              inr (comes_among (y ∷ some) (y ∷ all) xs (λ z m. stays z (Contains-later xs m)) alike x ls r)
         ]
     | inr away ↦
         let d : ComesFrom some (filter is_here xs) x ls = rw away at c in
-        inr (comes_among some (y ∷ all) xs (λ z m. stays z (inr m)) (alike_without y some all away h) x ls d)
+        inr (comes_among some (y ∷ all) xs (λ z m. stays z (Contains-later xs m)) (alike_without y some all away h) x ls d)
   ]
 
 -- Where the steps at some points and a field are listed the latest first, what stands behind a read there is what it comes from.
-pub comes_back : (ps : List ℕ) (field : ℕ) (xs front back : List Step) (x : Step) (c : Cell) → ((y : Step) → Member xs y → CopyStays y.move)
+pub comes_back : (ps : List ℕ) (field : ℕ) (xs front back : List Step) (x : Step) (c : Cell) → ((y : Step) → Contains xs y → CopyStays y.move)
     → cell_read x.move ≡ Some c
     → front ++ x ∷ back ≡ reverse (filter (at_field field) (filter (is_at ps) xs)) → ComesFrom [] xs x (sources_of back c 0)
 comes_back ps field xs front back x c stays r e =
@@ -154,5 +157,5 @@ comes_back ps field xs front back x c stays r e =
     let back_is : ComesFrom [] some x (sources_of back c 0) =
     subst (λ zs. ComesFrom [] some x (sources_of zs c 0)) (onto_reverse back) among in
     comes_among (λ p. is_in ps p.0) [] [] xs stays (λ c n here. refl) x (sources_of back c 0)
-    (comes_among (λ p. p.1 == field) [] [] there (λ y m. stays y (member_filter (is_at ps) xs y m).0) (λ c n here. refl) x
+    (comes_among (λ p. p.1 == field) [] [] there (λ y m. stays y (of_filter (is_at ps) xs y m).0) (λ c n here. refl) x
     (sources_of back c 0) back_is)

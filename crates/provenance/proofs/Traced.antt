@@ -12,7 +12,9 @@ use Rattle.semantics.specs.declared.moves.Move.TheVariants.{Read}
 use Rattle.semantics.specs.Faults.{unmapped_fault}
 use Rattle.semantics.specs.Links.{Source, sources_of, cell_read, ComesFrom, IsTrail, is_asked, IsNoRead, AreLinksOf, TellValue, EndsInOrigin}
 use Rattle.logs.specs.Faultless.{AreDeclared}
-use Rattle.log_laws.proofs.lemmas.Members.{Member, member_of, contains_of, member_left, member_right, member_map, filter_member}
+use Rattle.std.proofs.lemmas.List.Elements.{Contains-append_left, Contains-append_right}
+use Rattle.list_lemmas.proofs.lemmas.Contained.{member_map, Contains-nil, Contains-cases, Contains-first, Contains-later}
+use Rattle.list_lemmas.proofs.lemmas.Filtered.{in_filter}
 use Rattle.log_laws.proofs.lemmas.Admitted.{IsFaultless, no_broken_rule}
 use Rattle.log_laws.proofs.lemmas.Laws.{replay_interleaves}
 use Rattle.point_laws.specs.Alike.{is_at}
@@ -69,25 +71,23 @@ asked_there ask node (Read task req cell) e =
     (rw (eq-eqb ask.point cell.point (sym (eqb-true cell.point ask.point here.0))) refl, here.1)
 asked_there ask node _ e = absurd cc
 
-none_before : {X : Type 0} (p : X → Bool) (xs : List X) → position p xs ≡ None → (x : X) → Member xs x → p x ≡ false
+none_before : {X : Type 0} (p : X → Bool) (xs : List X) → position p xs ≡ None → (x : X) → Contains xs x → p x ≡ false
 none_before p xs e x m =
-    let c = contains_of xs x m in
     let first = position_or_len p xs in
     elim (cases_Bool (nat_lt first (length xs))) [
       | inl less ↦ let bad = sym (ap (λ b. cond b (Some first) None) less) ∙ e in absurd cc
       | inr other ↦
           let past : length xs ≤ first = ltb-false first (length xs) other in
-          let far : c.0 < first = let lt = c.1 in omega (arith, lt, past) in
-          ap p (sym c.2) ∙ fails_before_first p xs c.0 x far
+          let far : m.0 < first = omega (arith, m.1, past) in
+          ap p (sym m.2) ∙ fails_before_first p xs m.0 x far
     ]
 
-member_reverse : {X : Type 0} (xs : List X) (x : X) → Member xs x → Member (reverse xs) x
-member_reverse [] x m = absurd m
-member_reverse (y ∷ ys) x m = subst (λ zs. Member zs x) (sym (reverse-append (y ∷ []) ys))
-    (elim m [
-      | inl is ↦ member_right (reverse ys) (y ∷ []) x (inl is)
-      | inr later ↦
-          member_left (reverse ys) (y ∷ []) x (member_reverse ys x later)
+member_reverse : {X : Type 0} (xs : List X) (x : X) → Contains xs x → Contains (reverse xs) x
+member_reverse [] x m = absurd (Contains-nil m)
+member_reverse (y ∷ ys) x m = subst (λ zs. Contains zs x) (sym (reverse-append (y ∷ []) ys))
+    (elim (Contains-cases ys m) [
+      | inl is ↦ Contains-append_right (reverse ys) (y ∷ []) x (Contains-first [] is)
+      | inr later ↦ Contains-append_left (reverse ys) (y ∷ []) x (member_reverse ys x later)
     ])
 
 abbrev listed_there : Tables → Ask → List Step
@@ -98,19 +98,19 @@ pub none_asked : (t : Tables) (ask : Ask) (items : List Taken) → IsInterleavin
     → position (λ (x : Taken). is_asked ask x.step) items ≡ None → IsNoRead t ask
 none_asked t ask items il same none x is = false_from_ne_true (is_asked ask x.move) (λ asked.
     let here = asked_there ask x.node x.move asked in
-    let at_point = filter_member (is_at (ask.point ∷ [])) (replay_steps t) x (member_of (replay_steps t) x (il.whole x is)) here.0 in
-    let there = filter_member (at_field ask.field) (filter (is_at (ask.point ∷ [])) (replay_steps t)) x at_point here.1 in
-    let listed = subst (λ zs. Member zs x) (sym same) (member_reverse (listed_there t ask) x there) in
+    let at_point = in_filter (is_at (ask.point ∷ [])) (replay_steps t) x (il.whole x is) here.0 in
+    let there = in_filter (at_field ask.field) (filter (is_at (ask.point ∷ [])) (replay_steps t)) x at_point here.1 in
+    let listed = subst (λ zs. Contains zs x) (sym same) (member_reverse (listed_there t ask) x there) in
     let y = member_map step_of items x listed in
     true≢false (sym (ap (λ (z : Step). is_asked ask z.move) (sym y.2) ∙ asked)
     ∙ none_before (λ (x : Taken). is_asked ask x.step) items none y.0 y.1))
 
 -- ---- its links
 
-comes_member : (earlier xs : List Step) (e : Step) (ls : List Source) → ComesFrom earlier xs e ls → Member xs e
+comes_member : (earlier xs : List Step) (e : Step) (ls : List Source) → ComesFrom earlier xs e ls → Contains xs e
 comes_member earlier [] e ls h = absurd h
-comes_member earlier (x ∷ xs) e ls (inl h) = inl h.0
-comes_member earlier (x ∷ xs) e ls (inr h) = inr (comes_member (x ∷ earlier) xs e ls h)
+comes_member earlier (x ∷ xs) e ls (inl h) = Contains-first xs h.0
+comes_member earlier (x ∷ xs) e ls (inr h) = Contains-later xs (comes_member (x ∷ earlier) xs e ls h)
 
 parted : {X : Type 0} (xs : List X) (k : ℕ) (x : X) → k < length xs → x ≡ get_or xs k x → take k xs ++ x ∷ drop (k + 1) xs ≡ xs
 parted xs k x lt is = ap (λ y. take k xs ++ y ∷ drop (k + 1) xs) is ∙ ap (λ ys. take k xs ++ ys) (sym (drop_more xs k x lt))
@@ -130,11 +130,11 @@ traced t k ask items place x task req cell found same at is reads links_are =
     let xs = replay_steps t in
     let sources = sources_of back cell 0 in
     let comes : ComesFrom [] xs (step_of x) sources =
-    comes_back (ask.point ∷ []) ask.field xs front back (step_of x) cell (λ y m. k.stays y (k.replay.in_log y (contains_of xs y m)))
+    comes_back (ask.point ∷ []) ask.field xs front back (step_of x) cell (λ y m. k.stays y (k.replay.in_log y m))
     (ap cell_read reads) (parts ∙ same) in
     record {
       read = step_of x;
-      is_step = k.replay.in_log (step_of x) (contains_of xs (step_of x) (comes_member [] xs (step_of x) sources comes));
+      is_step = k.replay.in_log (step_of x) (comes_member [] xs (step_of x) sources comes);
       asked = ap (λ (y : Taken). is_asked ask y.step) is ∙ first.1;
       sources = sources;
       links_are = links_are;

@@ -10,7 +10,8 @@ use Rattle.vocabulary.specs.Prelude.{Node, AreLinked}
 use Rattle.event_graph.specs.Orders.{IsOrderOf}
 use Rattle.event_graph.proofs.lemmas.Whole.{order_within, order_whole}
 use Rattle.reach_marks.specs.Reached.{Marks, AreMarksOf}
-use Rattle.log_laws.proofs.lemmas.Members.{all_contained, none_or_some}
+use Rattle.list_lemmas.proofs.lemmas.Contained.{all_contained}
+use Rattle.list_lemmas.proofs.lemmas.Firsts.{cases_option}
 use Rattle.cell_races.specs.Ranks.{rank_in}
 use Rattle.race_scan.specs.Placed.{ArePlaced}
 
@@ -37,7 +38,7 @@ module _ (count : ℕ) (order : List ℕ) (marks : Marks) (h : ArePlaced count o
       behind p m n lt e = grind (arith, nat_tests)
 
   pub place_is : (k other : ℕ) → k < count → unwrap_or (position (λ n. n == k) order) other ≡ rank_in marks k
-  place_is k other lt = elim (none_or_some (position (λ n. n == k) order)) [
+  place_is k other lt = elim (cases_option (position (λ n. n == k) order)) [
     | inl none ↦ absurd (found k lt none)
     | inr some ↦
         let at = position-Some (λ n. n == k) order some.0 0 some.1 in

@@ -7,9 +7,9 @@ use Rattle.vocabulary.specs.Prelude.{Cell, Move, Tables, graph_of, Before, Step,
 use Rattle.semantics.specs.ReplayOrder.{replay_order}
 use Rattle.semantics.specs.Races as races
 use Rattle.semantics.specs.Shown.{IsShownRace, replay_place}
-use Rattle.log_laws.proofs.lemmas.Members.{Member, member_of, contains_of, member_flat, flat_member, map_member}
+use Rattle.list_lemmas.proofs.lemmas.Contained.{member_flat, flat_member, map_member}
+use Rattle.list_lemmas.proofs.lemmas.Ranges.{number_within, number_in}
 use Rattle.log_laws.proofs.lemmas.StepLists.{steps_at, step_at}
-use Rattle.log_laws.proofs.lemmas.Apart.{number_within, number_in}
 use Rattle.reach_marks.specs.Reached.{Marks, AreMarksOf, before_in}
 use Rattle.cell_races.specs.declared.access.Access.{Access}
 use Rattle.cell_races.specs.declared.touches.Touch.{Touch}
@@ -29,17 +29,16 @@ use Rattle.race_scan.proofs.Placed.{at_place, place_is}
 -- ---- steps
 
 step_in : (t : Tables) (k : ℕ) (m : Move) → Contains (steps t) (record { node = k; move = m }) → (k < length t.nodes)
-    × Member (moves_at t k) m
+    × Contains (moves_at t k) m
 step_in t k m c =
     let x : Step = record { node = k; move = m } in
-    let at = member_flat (steps_at t) (range_with_len 0 (length t.nodes)) x (member_of (steps t) x c) in
+    let at = member_flat (steps_at t) (range_with_len 0 (length t.nodes)) x c in
     let of = step_at t at.0 x at.2 in
     (subst (λ n. n < length t.nodes) (sym of.0) (number_within (length t.nodes) at.0 at.1), of.1)
 
-in_steps : (t : Tables) (k : ℕ) (m : Move) → k < length t.nodes → Member (moves_at t k) m
+in_steps : (t : Tables) (k : ℕ) (m : Move) → k < length t.nodes → Contains (moves_at t k) m
     → Contains (steps t) (record { node = k; move = m })
 in_steps t k m lt h =
-    contains_of (steps t) (record { node = k; move = m })
     (flat_member (steps_at t) (range_with_len 0 (length t.nodes)) k (record { node = k; move = m }) (number_in (length t.nodes) k lt)
     (map_member (λ m. record { node = k; move = m }) (moves_at t k) m h))
 
@@ -70,11 +69,11 @@ module _ (t : Tables) (order : List ℕ) (marks : Marks) (replayed : order ≡ r
       let p = at_place (length t.nodes) order marks placed k s.0 in (
         p.0,
         p.2,
-        contains_of touches (touch p.0 cell c) (all_gathered t order (length order) (touch p.0 cell c) (record {
+        (all_gathered t order (length order) (touch p.0 cell c) (record {
           place = p.0;
           below = p.1;
           move = m;
-          is_move = subst (λ k. Member (moves_at t k) m) (sym p.2) s.1;
+          is_move = subst (λ k. Contains (moves_at t k) m) (sym p.2) s.1;
           listed = whole p.0 m cell c does;
         })),
       )
@@ -105,11 +104,11 @@ module _ (t : Tables) (order : List ℕ) (marks : Marks) (replayed : order ≡ r
   step_of : (x : Touch) (k : ℕ) → Contains touches x → slice_index order x.place ≡ k
       → (m : Move) × (k < length t.nodes) × Contains (steps t) (record { node = k; move = m }) × (access m x.cell ≡ meant x.access)
   step_of x k c by =
-      let g = gathered t order (length order) x (member_of touches x c) in
+      let g = gathered t order (length order) x c in
       let n = noted g.place g.move x g.listed in
       let is : slice_index order g.place ≡ k = ap (slice_index order) (sym n.0) ∙ by in
       let lt : k < length t.nodes = subst (λ k. k < length t.nodes) is (placed.within g.place 0 g.below) in
-      (g.move, lt, in_steps t k g.move lt (subst (λ k. Member (moves_at t k) g.move) is g.is_move), n.1)
+      (g.move, lt, in_steps t k g.move lt (subst (λ k. Contains (moves_at t k) g.move) is g.is_move), n.1)
 
   pub to_race : (a b : ℕ) (cell : Cell) → Clash (before_in marks) order touches a b cell → Race t a b cell
   to_race a b cell k =
@@ -165,5 +164,5 @@ places_within t order n = all_places (touches_before t order n) (λ x m.
     let g = gathered t order n x m in
     subst (λ p. p < n) (sym (noted g.place g.move x g.listed).0) g.below)
   where
-    all_places : (xs : List Touch) → ((x : Touch) → Member xs x → x.place < n) → All (λ (x : Touch). x.place < n) xs
-    all_places xs h i d lt = h (get_or xs i d) (member_of xs (get_or xs i d) (i, lt, get_or_default xs i (get_or xs i d) d lt))
+    all_places : (xs : List Touch) → ((x : Touch) → Contains xs x → x.place < n) → All (λ (x : Touch). x.place < n) xs
+    all_places xs h i d lt = h (get_or xs i d) (i, lt, get_or_default xs i (get_or xs i d) d lt)

@@ -5,7 +5,7 @@ use Rattle.std.specs.Option.{option_map_or}
 use Rattle.std.proofs.lemmas.Bool.{cases_Bool, and_parts, or_parts, not-false, true≢false, ltb-true, ltb-false}
 use Rattle.std.proofs.lemmas.List.{length-append}
 use Rattle.std.proofs.lemmas.List.Sums.{fails_before_first}
-use Rattle.std.proofs.lemmas.List.Elements.{recursion_from_All}
+use Rattle.std.proofs.lemmas.List.Elements.{recursion_from_All, Contains-append_cases}
 use Rattle.vocabulary.specs.Prelude.{Priv, Record, Lined, Cell, Move, Item, Req, Inst, LogNode, Op, records_of, Tables, place_of, with_record, tables_of, points_in, reqs_of, grid, req_grid, id_of, cell_in, mapped_cell, at_cells, reads_by, changes_by, run_moves, moves_of, operator_of, steps_by}
 use Rattle.privilege.specs.declared.kinds.Priv.TheVariants as privileges
 use Rattle.spy_grammar.specs.declared.code.Code.TheVariants as codes
@@ -14,7 +14,8 @@ use Rattle.semantics.specs.declared.moves.Move.TheVariants as moves
 use Rattle.semantics.specs.declared.tables.Op.TheVariants as operations
 use Rattle.semantics.specs.Rules.{is_task, is_declared, is_reduction, reduces_in, is_of_wrong_kind, names, inst_id, task_id}
 use Rattle.logs.specs.Faultless.{AreDeclared}
-use Rattle.log_laws.proofs.lemmas.Members.{Member, Each, each_more, contains_of, member_at, member_append, member_flat, member_map, all_at, any_at, any_found, find_any, find_still, only}
+use Rattle.list_lemmas.proofs.lemmas.Contained.{each_more, member_flat, member_map, all_at, any_at, any_found, find_any, find_still, only, Contains-here, Contains-later, Contains-nil, all_contained}
+use Rattle.list_lemmas.proofs.lemmas.Firsts.{contains_at}
 use Rattle.log_laws.proofs.lemmas.StepLists.{of_node}
 use Rattle.log_laws.proofs.lemmas.Admitted.{Unbroken, rule_kept, by_records, no_broken_rule}
 use Rattle.inst_steps.specs.Celled.{AreOfInsts}
@@ -27,7 +28,7 @@ use Rattle.replay.specs.Fitting.{Fits, IsOfItem, KeepsKinds, item_at, item_run}
 place_below : {X : Type 0} (p : X → Bool) (xs : List X) → list_any p xs ≡ true → unwrap_or (position p xs) (length xs) < length xs
 place_below p xs e =
     let a = any_found p xs e in
-    let c = contains_of xs a.0 a.1 in
+    let c = a.1 in
     let first = position_or_len p xs in
     elim (cases_Bool (nat_lt first (length xs))) [
       | inl less ↦ subst (λ b. unwrap_or (cond b (Some first) None) (length xs) < length xs) (sym less) (ltb-true first (length xs) less)
@@ -54,7 +55,7 @@ OpFits insts items (operations.Reset inst space fields) = Unit {0}
 OpFits insts items operations.Merge = Unit {0}
 
 abbrev pub NodesFit : Tables → Type 0
-NodesFit t = Each (λ (n : LogNode). OpFits t.insts t.items n.op) t.nodes
+NodesFit t = (n : LogNode) → Contains t.nodes n → OpFits t.insts t.items n.op
 
 kind_still : (insts : List Inst) (x : Inst) (id : ℕ) (b : Bool) → IsOfKind insts id b → IsOfKind (insts ++ x ∷ []) id b
 kind_still insts x id b k = record {
@@ -96,7 +97,7 @@ record Ruled (t : Tables) (r : Record) : Type 0 where
   kinds : is_of_wrong_kind t r ≡ false
 
 node_fits : (t : Tables) (n : LogNode) → NodesFit t → OpFits t.insts t.items n.op
-    → Each (λ (n : LogNode). OpFits t.insts t.items n.op) (t.nodes ++ n ∷ [])
+    → (m : LogNode) → Contains (t.nodes ++ n ∷ []) m → OpFits t.insts t.items m.op
 node_fits t n h w = each_more (λ (n : LogNode). OpFits t.insts t.items n.op) t.nodes n h w
 
 more_fit : (t : Tables) (line : ℕ) (r : Record) → Ruled t r → NodesFit t → NodesFit (with_record t line r)
@@ -104,18 +105,18 @@ more_fit t line (records.Inst id tree space fields kind) k h = λ n m. more_inst
 more_fit t line (records.Task id) k h = λ n m. more_items t.insts t.items _ n.op (h n m)
 more_fit t line (records.Fill id tree space fields value) k h = λ n m. more_items t.insts t.items _ n.op (h n m)
 more_fit t line (records.Run task done waits) k h =
-    node_fits t _ h (task_there t task (all_at (is_declared t) (task_id task ∷ []) (task_id task) k.declared (inl refl)))
+    node_fits t _ h (task_there t task (all_at (is_declared t) (task_id task ∷ []) (task_id task) k.declared (Contains-here [])))
 more_fit t line (records.Copy src dst space fields done waits) k h =
     let one = or_parts _ (src == dst) k.kinds in
     let two = or_parts (reduces_in t src) (reduces_in t dst) one.0 in
     node_fits t _ h (of_kind t dst false (all_at (is_declared t) (names (records.Copy src dst space fields done waits))
-    (inst_id dst) k.declared (inr (inl refl))) two.1)
+    (inst_id dst) k.declared (1, omega arith, refl)) two.1)
 more_fit t line (records.Fold src dst space fields done waits) k h =
     let two = or_parts _ (reduces_in t dst) k.kinds in
     let there = all_at (is_declared t) (names (records.Fold src dst space fields done waits)) in
     node_fits t _ h (
-      of_kind t src true (there (inst_id src) k.declared (inl refl)) (not-false _ two.0),
-      of_kind t dst false (there (inst_id dst) k.declared (inr (inl refl))) two.1,
+      of_kind t src true (there (inst_id src) k.declared (0, omega arith, refl)) (not-false _ two.0),
+      of_kind t dst false (there (inst_id dst) k.declared (1, omega arith, refl)) two.1,
     )
 more_fit t line (records.Put inst space fields n done waits) k h = node_fits t _ h tt
 more_fit t line (records.Reset inst space fields done waits) k h = node_fits t _ h tt
@@ -130,7 +131,7 @@ ruled log earlier r u =
 pub nodes_fit : (t : Tables) → AreDeclared t → NodesFit t
 nodes_fit t d = subst NodesFit (sym d.tables) (by_records (λ r. Unit {0}) NodesFit (records_of d.log)
     (λ earlier l u _. more_fit (tables_of earlier) l.line l.rec (ruled (records_of d.log) earlier l.rec u))
-    [] d.log (recursion_from_All _ (records_of d.log) (λ k d lt. tt)) (no_broken_rule d.lines d.log d.faultless) (λ n m. absurd m))
+    [] d.log (recursion_from_All _ (records_of d.log) (λ k d lt. tt)) (no_broken_rule d.lines d.log d.faultless) (λ n m. absurd (Contains-nil m)))
 
 -- ---- moves of an operation
 
@@ -139,27 +140,27 @@ abbrev Suits : Tables → ℕ → Move → Type 0
 Suits t item m = KeepsKinds t m × StaysAtPlace m × IsOfItem t item m
 
 module _ (t : Tables) (item task : ℕ) (at : place_of t.items task ≡ item) (within : item < length t.items) where
-  read_suits : (number : ℕ) (p : Priv) (c : Cell) (m : Move) → Member (reads_by task number p c) m → Suits t item m
+  read_suits : (number : ℕ) (p : Priv) (c : Cell) (m : Move) → Contains (reads_by task number p c) m → Suits t item m
   read_suits number privileges.Ro c m is = subst (Suits t item) (sym (only is)) (tt, tt, (at, within))
   read_suits number privileges.Rw c m is = subst (Suits t item) (sym (only is)) (tt, tt, (at, within))
-  read_suits number privileges.Wd c m is = absurd is
-  read_suits number (privileges.Red op) c m is = absurd is
+  read_suits number privileges.Wd c m is = absurd (Contains-nil is)
+  read_suits number (privileges.Red op) c m is = absurd (Contains-nil is)
 
-  change_suits : (number : ℕ) (p : Priv) (c : Cell) (m : Move) → Member (changes_by task number p c) m → Suits t item m
-  change_suits number privileges.Ro c m is = absurd is
+  change_suits : (number : ℕ) (p : Priv) (c : Cell) (m : Move) → Contains (changes_by task number p c) m → Suits t item m
+  change_suits number privileges.Ro c m is = absurd (Contains-nil is)
   change_suits number privileges.Rw c m is = subst (Suits t item) (sym (only is)) (tt, tt, tt)
   change_suits number privileges.Wd c m is = subst (Suits t item) (sym (only is)) (tt, tt, tt)
   change_suits number (privileges.Red op) c m is = subst (Suits t item) (sym (only is)) (tt, tt, tt)
 
-  cells_suit : (does : Req → Cell → List Move) → ((r : Req) (c : Cell) (m : Move) → Member (does r c) m → Suits t item m)
-      → (rs : List Req) (m : Move) → Member (at_cells t does rs) m → Suits t item m
+  cells_suit : (does : Req → Cell → List Move) → ((r : Req) (c : Cell) (m : Move) → Contains (does r c) m → Suits t item m)
+      → (rs : List Req) (m : Move) → Contains (at_cells t does rs) m → Suits t item m
   cells_suit does each rs m is =
       let r = member_flat (λ r. flat_map (λ p. does r (mapped_cell t r p)) (req_grid t r)) rs m is in
       let p = member_flat (λ p. does r.0 (mapped_cell t r.0 p)) (req_grid t r.0) m r.2 in
       each r.0 (mapped_cell t r.0 p.0) m p.2
 
-  run_suits : (rs : List Req) (m : Move) → Member (run_moves t task rs) m → Suits t item m
-  run_suits rs m is = elim (member_append (at_cells t (λ r c. reads_by task r.number r.access c) rs)
+  run_suits : (rs : List Req) (m : Move) → Contains (run_moves t task rs) m → Suits t item m
+  run_suits rs m is = elim (Contains-append_cases (at_cells t (λ r c. reads_by task r.number r.access c) rs)
       (at_cells t (λ r c. changes_by task r.number r.access c) rs) m is) [
         | inl a ↦ cells_suit (λ r c. reads_by task r.number r.access c) (λ r c. read_suits r.number r.access c) rs m a
         | inr b ↦ cells_suit (λ r c. changes_by task r.number r.access c) (λ r c. change_suits r.number r.access c) rs m b
@@ -169,7 +170,7 @@ kind_is : (t : Tables) (id : ℕ) (b : Bool) → IsOfKind t.insts id b → reduc
 kind_is t id b k = ap (λ o. option_map_or (λ (i : Inst). is_reduction i.kind) o false) k.found ∙ k.kind
 
 op_suits : (t : Tables) → ((item : ℕ) → item < length t.items → place_of t.items (id_of t item) ≡ item) → (op : Op)
-    → OpFits t.insts t.items op → (m : Move) → Member (moves_of t op) m → Suits t (item_run op) m
+    → OpFits t.insts t.items op → (m : Move) → Contains (moves_of t op) m → Suits t (item_run op) m
 op_suits t apart (operations.Run item) h m is = run_suits t item (id_of t item) (apart item h) h (reqs_of t item) m is
 op_suits t apart (operations.Copy src dst space fields) h m is =
     let p = member_map (λ p. moves.Copy (cell_in src p) (cell_in dst p)) (grid (points_in t space) fields) m is in
@@ -183,25 +184,21 @@ op_suits t apart (operations.Reset inst space fields) h m is =
 op_suits t apart (operations.Fold src dst space fields) h m is =
     let p = member_map (λ p. moves.Fold (operator_of t src) (cell_in src p) (cell_in dst p)) (grid (points_in t space) fields) m is in
     subst (Suits t 0) (sym p.2) ((kind_is t src true h.0, kind_is t dst false h.1), (refl, refl), tt)
-op_suits t apart operations.Merge h m is = absurd is
+op_suits t apart operations.Merge h m is = absurd (Contains-nil is)
 
 -- ---- the steps
-
-all_of : {X : Type 0} (P : X → Type 0) (xs : List X) → ((x : X) → Member xs x → P x) → AllByRecursion P xs
-all_of P [] h = tt
-all_of P (x ∷ xs) h = (h x (inl refl), all_of P xs (λ y m. h y (inr m)))
 
 -- `u` are the tables cut to some points: they have the same items, instances and nodes.
 pub steps_fitted : (u : Tables) → NodesFit u → ((item : ℕ) → item < length u.items → place_of u.items (id_of u item) ≡ item)
     → ((node : ℕ) (m : Move) → Contains (moves_at u node) m → AreOfInsts u m) → (ks : List ℕ) → AllByRecursion (Fits u) (steps_by u ks)
-steps_fitted u nodes apart cells ks = all_of (Fits u) (steps_by u ks) (λ x m.
+steps_fitted u nodes apart cells ks = recursion_from_All (Fits u) (steps_by u ks) (all_contained (Fits u) (steps_by u ks) (λ x m.
     let of = of_node u ks x m in
     let at : moves_at u x.node ≡ moves_of u of.node.op = ap (λ o. option_map_or (λ (n : LogNode). moves_of u n.op) o []) of.is_node in
-    let suits = op_suits u apart of.node.op (nodes of.node (member_at u.nodes x.node of.node of.is_node)) x.move of.is_move in
+    let suits = op_suits u apart of.node.op (nodes of.node (contains_at u.nodes x.node of.node of.is_node)) x.move of.is_move in
     let item : item_at u x.node ≡ item_run of.node.op = ap (λ o. option_map_or (λ (n : LogNode). item_run n.op) o 0) of.is_node in
     record {
-      cells = cells x.node x.move (contains_of (moves_at u x.node) x.move (subst (λ ms. Member ms x.move) (sym at) of.is_move));
+      cells = cells x.node x.move (subst (λ ms. Contains ms x.move) (sym at) of.is_move);
       kinds = suits.0;
       stays = suits.1;
       item = subst (λ i. IsOfItem u i x.move) (sym item) suits.2;
-    })
+    }))

@@ -5,7 +5,7 @@ use Rattle.std.proofs.lemmas.Bool.{cases_Bool}
 use Rattle.std.proofs.lemmas.Option.{same_Some}
 use Rattle.vocabulary.specs.Prelude.{Move, Tables, is_in, Step, steps_by, State, effect, Seen, difference, first_difference, shown_difference, want_of}
 use Rattle.semantics.specs.declared.moves.Move.TheVariants as moves
-use Rattle.log_laws.proofs.lemmas.Members.{none_or_some}
+use Rattle.list_lemmas.proofs.lemmas.Firsts.{cases_option}
 use Rattle.point_laws.specs.Alike.{is_at, target}
 use Rattle.point_laws.specs.Cut.{cut}
 use Rattle.replay.specs.declared.ends.ReplayEnd.{ReplayEnd}
@@ -28,7 +28,7 @@ found_point t ps (x ∷ xs) s r e = elim (cases_Bool (is_at ps x)) [
   | inl listed ↦
       let rest = first_difference t (filter (is_at ps) xs) (effect x.move s) in
       let both : option_or (difference t x.move s) rest ≡ Some r = rw listed at e in
-      elim (none_or_some (difference t x.move s)) [
+      elim (cases_option (difference t x.move s)) [
         | inl none ↦ found_point t ps xs (effect x.move s) r (sym (ap (λ o. option_or o rest) none) ∙ both)
         | inr some ↦
             let is : some.0 ≡ r = same_Some some.0 r (sym (ap (λ o. option_or o rest) some.1) ∙ both) in

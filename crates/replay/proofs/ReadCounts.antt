@@ -8,7 +8,7 @@ use Rattle.vocabulary.specs.Prelude.{may_read, Record, Lined, Req, records_of, T
 use Rattle.semantics.specs.Rules.{size_of, has_many_reads, read_count}
 use Rattle.semantics.specs.Faults.{is_end, header_fault, ended_fault, records_fault}
 use Rattle.logs.specs.Faultless.{AreDeclared}
-use Rattle.log_laws.proofs.lemmas.Members.{both_none}
+use Rattle.list_lemmas.proofs.lemmas.Contained.{both_none}
 use Rattle.log_laws.proofs.lemmas.Admitted.{Unbroken, rule_kept, unbroken, no_broken_rule}
 use Rattle.replay.specs.Counts.{reads_in}
 

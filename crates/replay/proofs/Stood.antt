@@ -10,7 +10,7 @@ use Rattle.value_terms.specs.declared.terms.Base.TheVariants.{Raw, Init}
 use Rattle.vocabulary.specs.Prelude.{Value, plain, weight_of, Cell, Move, Tables, Step, inst_at, start, is_home, is_home_cell, same_cell, effect, difference, first_difference, replay_steps}
 use Rattle.semantics.specs.declared.moves.Move.TheVariants as moves
 use Rattle.semantics.specs.Rules.{reduces_in}
-use Rattle.log_laws.proofs.lemmas.Members.{none_or_some}
+use Rattle.list_lemmas.proofs.lemmas.Firsts.{cases_option}
 use Rattle.log_laws.proofs.lemmas.Tidy.{one_cell}
 use Rattle.point_laws.specs.Alike.{target}
 use Rattle.inst_steps.specs.Stores.{Contents, IsLight, IsStart, has_cell, after_move, value_in}
@@ -53,7 +53,7 @@ state_after (moves.Fold op from to) m c = put_in m to _ c
 -- ---- the start
 
 no_home : (t : Tables) (c : Cell) → has_cell t c ≡ false → is_home_cell t c ≡ false
-no_home t c none = elim (none_or_some (inst_at t c.inst)) [
+no_home t c none = elim (cases_option (inst_at t c.inst)) [
   | inl missing ↦ rw missing refl
   | inr some ↦ rw some.1 (rw (rw some.1 at none) (and-false (is_home some.0.kind)))
 ]

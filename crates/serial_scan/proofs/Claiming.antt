@@ -1,5 +1,5 @@
 -- Claims of what items ask for.
-use Rattle.std.proofs.Common.{◌≡◌, ℕ, ◌<◌, ◌==◌, inl, inr, true, false, List, [], ◌∷◌, ◌++◌, Contains, length, get_or, slice_get, Option, Some, None, refl, sym, ap, ◌∙◌, subst, arith}
+use Rattle.std.proofs.Common.{◌≡◌, ℕ, ◌<◌, ◌==◌, inl, inr, true, false, List, [], ◌∷◌, ◌++◌, Contains, length, get_or, slice_get, Option, Some, None, refl, sym, ap, ◌∙◌, subst}
 use Rattle.std.specs.Option.{option_map_or}
 use Rattle.std.specs.List.Sorted.{IsPermutation}
 use Rattle.std.proofs.lemmas.Bool.{cases_Bool, true≢false, eqb-true}
@@ -12,20 +12,23 @@ use Rattle.semantics.specs.declared.tables.ItemBody.TheVariants.{Task, Fill}
 use Rattle.semantics.specs.Rules.{is_task}
 use Rattle.semantics.specs.SerialOrder.{serial_place}
 use Rattle.semantics.specs.Shown.{is_task_at}
-use Rattle.log_laws.proofs.lemmas.Members.{Member, member_of, contains_of, member_left, member_right, member_append, member_filter, none_or_some, only}
+use Rattle.std.proofs.lemmas.List.Elements.{Contains-append_left, Contains-append_right, Contains-append_cases}
+use Rattle.list_lemmas.proofs.lemmas.Contained.{only, Contains-here, Contains-nil}
+use Rattle.list_lemmas.proofs.lemmas.Filtered.{of_filter}
+use Rattle.list_lemmas.proofs.lemmas.Firsts.{cases_option}
 use Rattle.serial_scan.specs.declared.claims.Claim.{Claim}
 use Rattle.serial_scan.specs.Claims.{AreAllClaims, ClaimOf, HasClaim, Keeps}
 
 -- ---- lists of claims that grow
 
 pub kept_more : (old new : List Claim) (c : Claim) → new ≡ old ++ c ∷ [] → Keeps old new
-kept_more old new c is d m = subst (λ cs. Contains cs d) (sym is) (contains_of (old ++ c ∷ []) d (member_left old (c ∷ []) d (member_of old d m)))
+kept_more old new c is d m = subst (λ cs. Contains cs d) (sym is) (Contains-append_left old (c ∷ []) d m)
 
 pub claim_more : (t : Tables) (old new : List Claim) (c : Claim) (item : ℕ) (r : Req) → new ≡ old ++ c ∷ [] → ClaimOf t item r c
     → HasClaim t new item r
 claim_more t old new c item r is of = record {
   c = c;
-  listed = subst (λ cs. Contains cs c) (sym is) (contains_of (old ++ c ∷ []) c (member_right old (c ∷ []) c (inl refl)));
+  listed = subst (λ cs. Contains cs c) (sym is) (Contains-append_right old (c ∷ []) c (Contains-here []));
   is = of;
 }
 
@@ -42,8 +45,8 @@ AreAdded t claims reqs = (r : Req) → Contains reqs r → r.item < length t.ite
 
 pub reqs_more : (t : Tables) (old new : List Claim) (reqs : List Req) (r : Req) → Keeps old new → AreAdded t old reqs
     → (r.item < length t.items → HasClaim t new r.item r) → AreAdded t new (reqs ++ r ∷ [])
-reqs_more t old new reqs r keeps h own q m lt = elim (member_append reqs (r ∷ []) q (member_of (reqs ++ r ∷ []) q m)) [
-  | inl early ↦ claim_still t old new q.item q keeps (h q (contains_of reqs q early) lt)
+reqs_more t old new reqs r keeps h own q m lt = elim (Contains-append_cases reqs (r ∷ []) q m) [
+  | inl early ↦ claim_still t old new q.item q keeps (h q early lt)
   | inr late ↦
       let is : q ≡ r = only late in
       subst (λ (q : Req). HasClaim t new q.item q) (sym is) (own (subst (λ (q : Req). q.item < length t.items) is lt))
@@ -51,12 +54,12 @@ reqs_more t old new reqs r keeps h own q m lt = elim (member_append reqs (r ∷ 
 
 -- ---- what an item asks for
 
-body_uses : (t : Tables) (a : ℕ) (i : Item) → is_task i.body ≡ true → (r : Req) → Member (uses_of_item t a i) r
-    → Member t.reqs r × (r.item ≡ a)
+body_uses : (t : Tables) (a : ℕ) (i : Item) → is_task i.body ≡ true → (r : Req) → Contains (uses_of_item t a i) r
+    → Contains t.reqs r × (r.item ≡ a)
 body_uses t a i e r m = by i.body e m
   where
     by : (b : ItemBody) → is_task b ≡ true
-        → Member (elim b [
+        → Contains (elim b [
           | Task ↦ reqs_of t a
           | Fill tree space fields n ↦ record {
             item = a;
@@ -68,21 +71,21 @@ body_uses t a i e r m = by i.body e m
             access = Wd;
             coherence = Exclusive;
           } ∷ []
-        ]) r → Member t.reqs r × (r.item ≡ a)
-    by Task e m = let f = member_filter (λ (r : Req). r.item == a) t.reqs r m in (f.0, eqb-true r.item a f.1)
+        ]) r → Contains t.reqs r × (r.item ≡ a)
+    by Task e m = let f = of_filter (λ (r : Req). r.item == a) t.reqs r m in (f.0, eqb-true r.item a f.1)
     by (Fill tree space fields n) e m = absurd (true≢false (sym e))
 
-pub task_req : (t : Tables) (a : ℕ) (r : Req) → is_task_at t a ≡ true → Member (uses_of t a) r → Member t.reqs r × (r.item ≡ a)
+pub task_req : (t : Tables) (a : ℕ) (r : Req) → is_task_at t a ≡ true → Contains (uses_of t a) r → Contains t.reqs r × (r.item ≡ a)
 task_req t a r = by (slice_get t.items a)
   where
     by : (o : Option Item) → option_map_or (λ (i : Item). is_task i.body) o false ≡ true
-        → Member (option_map_or (uses_of_item t a) o []) r → Member t.reqs r × (r.item ≡ a)
+        → Contains (option_map_or (uses_of_item t a) o []) r → Contains t.reqs r × (r.item ≡ a)
     by None e m = absurd (true≢false (sym e))
     by (Some i) e m = body_uses t a i e r m
 
 pub asks_within : (t : Tables) (a : ℕ) (r : Req) → Contains (uses_of t a) r → a < length t.items
-asks_within t a r m = elim (none_or_some (slice_get t.items a)) [
-  | inl none ↦ absurd (member_of [] r (subst (λ o. Contains (option_map_or (uses_of_item t a) o []) r) none m))
+asks_within t a r m = elim (cases_option (slice_get t.items a)) [
+  | inl none ↦ absurd (Contains-nil (subst (λ o. Contains (option_map_or (uses_of_item t a) o []) r) none m))
   | inr some ↦ slice_get_within t.items a some.0 some.1
 ]
 
@@ -95,8 +98,8 @@ all_claims t claims tasks fills item r m =
     let within = asks_within t item r m in
     elim (cases_Bool (is_task_at t item)) [
       | inl task ↦
-          let of = task_req t item r task (member_of (uses_of t item) r m) in
-          subst (λ a. HasClaim t claims a r) of.1 (tasks r (contains_of t.reqs r of.0) (subst (λ a. a < length t.items) (sym of.1) within))
+          let of = task_req t item r task m in
+          subst (λ a. HasClaim t claims a r) of.1 (tasks r of.0 (subst (λ a. a < length t.items) (sym of.1) within))
       | inr other ↦ fills item within other r m
     ]
 
@@ -116,7 +119,7 @@ fill_req a i tree space fields = record {
 -- A fill asks for one thing.
 fill_asks : (t : Tables) (a : ℕ) (i : Item) (tree space : ℕ) (fields : List ℕ) (n : ℕ) → slice_get t.items a ≡ Some i
     → i.body ≡ Fill tree space fields n → (r : Req) → Contains (uses_of t a) r → r ≡ fill_req a i tree space fields
-fill_asks t a i tree space fields n at body r m = only (member_of (fill_req a i tree space fields ∷ []) r (rw (at, body) at m))
+fill_asks t a i tree space fields n at body r m = only (rw (at, body) at m)
 
 pub fill_claim : (t : Tables) (a : ℕ) (i : Item) (tree space : ℕ) (fields : List ℕ) (n : ℕ) (c : Claim)
     → slice_get t.items a ≡ Some i → i.body ≡ Fill tree space fields n

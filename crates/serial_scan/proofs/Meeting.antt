@@ -1,25 +1,26 @@
 -- Items of kind `Before` meet so at a first point.
-use Rattle.std.proofs.Common.{◌≡◌, ℕ, ◌<◌, ◌≤◌, inl, inr, true, ◌&&◌, ◌==◌, List, [], ◌∷◌, Contains, map, find, Option, Some, None, refl, sym, ap, ap₂, ◌∙◌, subst, arith}
+use Rattle.std.proofs.Common.{◌≡◌, ℕ, inl, inr, true, ◌==◌, List, [], ◌∷◌, Contains, map, find, refl, sym, ap, ap₂, ◌∙◌, arith}
 use Rattle.std.proofs.lemmas.Bool.{true≢false}
 use Rattle.vocabulary.specs.Prelude.{Kind, Place, Req, Tables, Space, is_in, points_in, uses_of, kind_of, kind_at, item_kind, item_places, strongest, stronger}
 use Rattle.privilege.specs.declared.kinds.Kind.TheVariants.{Free, Turn, Before}
-use Rattle.semantics.specs.SerialOrder.{serial_place}
 use Rattle.point_laws.specs.Alike.{AreAlike, AreFirsts, HasFirst}
-use Rattle.log_laws.proofs.lemmas.Members.{Member, member_map, is_in_of, contains_of, none_or_some, found_at}
+use Rattle.log_laws.proofs.lemmas.Members.{is_in_of}
 use Rattle.item_uses.proofs.lemmas.ItemKinds.{kinds_at, meets_here}
 use Rattle.serial_scan.specs.declared.claims.Claim.{Claim}
-use Rattle.serial_scan.specs.Claims.{AreAllClaims, ClaimOf, HasClaim}
+use Rattle.serial_scan.specs.Claims.{AreAllClaims, ClaimOf}
 use Rattle.serial_scan.specs.Scanned.{AreClearBefore, IsAtFirst, NoneTurnedBefore}
+use Rattle.list_lemmas.proofs.lemmas.Contained.{member_map, found_at, Contains-here, Contains-later}
+use Rattle.list_lemmas.proofs.lemmas.Firsts.{cases_option}
 
 turn_before : (k : Kind) → stronger Turn k ≡ Before → k ≡ Before
 turn_before Before e = refl
 turn_before _ e = absurd cc
 
-strongest_before : (ks : List Kind) → strongest ks ≡ Before → Member ks Before
+strongest_before : (ks : List Kind) → strongest ks ≡ Before → Contains ks Before
 strongest_before [] e = absurd cc
-strongest_before (Free ∷ ks) e = inr (strongest_before ks e)
-strongest_before (Turn ∷ ks) e = inr (strongest_before ks (turn_before (strongest ks) e))
-strongest_before (Before ∷ ks) e = inl refl
+strongest_before (Free ∷ ks) e = Contains-later ks (strongest_before ks e)
+strongest_before (Turn ∷ ks) e = Contains-later ks (strongest_before ks (turn_before (strongest ks) e))
+strongest_before (Before ∷ ks) e = Contains-here ks
 
 -- Two requirements, at a place of a first point.
 pub record MeetsBefore (t : Tables) (firsts : List ℕ) (a b : ℕ) : Type 0 where
@@ -37,15 +38,15 @@ pub record MeetsBefore (t : Tables) (firsts : List ℕ) (a b : ℕ) : Type 0 whe
   pub before : kind_of q.access q.coherence r.access r.coherence ≡ Before
 
 in_both : (t : Tables) (p q : ℕ) → AreAlike t p q → (id : ℕ) → is_in (points_in t id) p ≡ is_in (points_in t id) q
-in_both t p q alike id = elim (none_or_some (find (λ (s : Space). s.id == id) t.spaces)) [
+in_both t p q alike id = elim (cases_option (find (λ (s : Space). s.id == id) t.spaces)) [
   | inl none ↦ rw none refl
-  | inr some ↦ rw some.1 (alike some.0 (contains_of t.spaces some.0 (found_at (λ (s : Space). s.id == id) t.spaces some.0 some.1).0))
+  | inr some ↦ rw some.1 (alike some.0 (found_at (λ (s : Space). s.id == id) t.spaces some.0 some.1).0)
 ]
 
 first_in : (t : Tables) (firsts : List ℕ) → AreFirsts t firsts → (id q : ℕ) → is_in (points_in t id) q ≡ true → HasFirst t firsts q
-first_in t firsts are_firsts id q e = elim (none_or_some (find (λ (s : Space). s.id == id) t.spaces)) [
+first_in t firsts are_firsts id q e = elim (cases_option (find (λ (s : Space). s.id == id) t.spaces)) [
   | inl none ↦ absurd (true≢false (sym (rw none at e)))
-  | inr some ↦ are_firsts some.0 (contains_of t.spaces some.0 (found_at (λ (s : Space). s.id == id) t.spaces some.0 some.1).0) q
+  | inr some ↦ are_firsts some.0 (found_at (λ (s : Space). s.id == id) t.spaces some.0 some.1).0 q
       (rw some.1 at e)
 ]
 
@@ -62,8 +63,8 @@ meets_before t firsts are_firsts a b e =
       tree = at.0.tree;
       point = f.first;
       field = at.0.field;
-      of_a = contains_of (uses_of t a) h.q h.of_a;
-      of_b = contains_of (uses_of t b) h.r h.of_b;
+      of_a = h.of_a;
+      of_b = h.of_b;
       trees = (sym h.q_covers.0, sym h.r_covers.0);
       listed = f.listed;
       points = (in_both t f.first at.0.point f.alike h.q.space ∙ one, in_both t f.first at.0.point f.alike h.r.space ∙ other);

@@ -1,14 +1,15 @@
 -- The scan of claims, from the last one back.
-use Rattle.std.proofs.Common.{◌≡◌, ℕ, ◌+◌, ◌<◌, ◌≤◌, min, inl, inr, true, false, List, Contains, filter, length, get_or, refl, sym, ap, ◌∙◌, subst, arith, []}
+use Rattle.std.proofs.Common.{◌≡◌, ℕ, ◌+◌, ◌<◌, ◌≤◌, min, inl, inr, true, false, List, filter, length, get_or, sym, ap, ◌∙◌, subst, arith, []}
 use Rattle.std.specs.List.Sorted.{IsNonDecreasingBy}
 use Rattle.std.proofs.lemmas.Bool.{cases_eq, cases_lt, true≢false}
 use Rattle.vocabulary.specs.Prelude.{Place, Tables, is_in, points_in}
-use Rattle.log_laws.proofs.lemmas.Members.{filter_member, member_in, is_in_of}
+use Rattle.log_laws.proofs.lemmas.Members.{member_in, is_in_of}
 use Rattle.earliest_uses.specs.declared.uses.EarliestUses.{EarliestUses}
 use Rattle.earliest_uses.specs.Earlier.{IsNoted}
 use Rattle.earliest_uses.specs.Visits.{IsOver, IsVisit, bound_at}
 use Rattle.serial_scan.specs.declared.claims.Claim.{Claim}
 use Rattle.serial_scan.specs.Scanned.{AreClearBefore, IsAtFirst, IsClear}
+use Rattle.list_lemmas.proofs.lemmas.Filtered.{in_filter}
 
 -- ---- the places of a claim
 
@@ -17,7 +18,7 @@ pub over_first : (t : Tables) (firsts points : List ℕ) (c : Claim) (p : Place)
 over_first t firsts points c p is at = record {
   in_tree = at.in_tree;
   at_point = is_in_of (filter (is_in firsts) points) p.point
-      (filter_member (is_in firsts) points p.point (member_in points p.point (ap (λ ps. is_in ps p.point) (sym is) ∙ at.at_point)) at.listed);
+      (in_filter (is_in firsts) points p.point (member_in points p.point (ap (λ ps. is_in ps p.point) (sym is) ∙ at.at_point)) at.listed);
   at_field = at.at_field;
 }
 

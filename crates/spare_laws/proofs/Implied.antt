@@ -5,7 +5,7 @@ use Rattle.std.proofs.lemmas.Bool.Decides.{nat_tests}
 use Rattle.std.proofs.lemmas.Option.{same_Some, slice_get_within, slice_get-get_or}
 use Rattle.vocabulary.specs.Prelude.{Node, WaitsOn, IsChain, Before, AreLinked}
 use Rattle.semantics.specs.ReplayOrder.{waits_at, done_at}
-use Rattle.log_laws.proofs.lemmas.Members.{Member, member_of, contains_of, none_or_some, member_at}
+use Rattle.list_lemmas.proofs.lemmas.Firsts.{cases_option, contains_at}
 use Rattle.semantics.specs.Spare.{IsBeforeAnother, IsSpare, HaveSameBefore}
 use Rattle.spare_laws.proofs.Links.{remaining, link, linked, waits_of_link}
 use Rattle.spare_laws.proofs.lemmas.Listing.{first_place, earlier, one_place}
@@ -65,7 +65,7 @@ module _ (nodes : List Node) (r : Rises nodes) where
         let e = w.on.done in
         let waits : waits_at nodes b ≡ w.by.waits = rw w.by_is refl in
         let done : done_at nodes a ≡ Some e = rw w.on_is refl in
-        let first = first_place (waits_at nodes b) e (subst (λ ws. Member ws e) (sym waits) (member_of w.by.waits e w.listed)) in
+        let first = first_place (waits_at nodes b) e (subst (λ ws. Contains ws e) (sym waits) w.listed) in
         elim (cases_Bool (out b first.0)) [
           | inr stays ↦ ([], linked nodes out b a (record { k = first.0; event = e; listed = first.1; done = done; left = stays }))
           | inl gone ↦
@@ -73,8 +73,8 @@ module _ (nodes : List Node) (r : Rises nodes) where
               let event : s.event ≡ e = same_Some s.event e (sym s.listed ∙ first.1) in
               elim s.implied [
                 | inl again ↦ absurd
-                    (first.2 (subst (Member (take first.0 (waits_at nodes b))) event
-                    (member_of (take first.0 (waits_at nodes b)) s.event again)))
+                    (first.2 (subst (Contains (take first.0 (waits_at nodes b))) event
+                    again))
                 | inr before ↦
                     let here : before.on ≡ a = one_place nodes graph.apart before.on a e (before.done ∙ ap (λ x. Some x) event) done in
                     let to_other : Before nodes a before.other = subst (λ x. Before nodes x before.other) here before.before in
@@ -94,14 +94,14 @@ module _ (nodes : List Node) (r : Rises nodes) where
     -- A listed wait that is left is the only way from its node to the node that lists it.
     pub least : (node k event : ℕ) → slice_get (waits_at nodes node) k ≡ Some event → out node k ≡ false
         → HaveSameBefore (remaining (and_this out node k) nodes) rest → ⊥
-    least node k event listed stays alike = elim (none_or_some (slice_get nodes node)) [
+    least node k event listed stays alike = elim (cases_option (slice_get nodes node)) [
       | inl none ↦ omega (arith, slice_get_within [] k event (rw none at listed))
       | inr by ↦
           let ws = waits_at nodes node in
           let waits : ws ≡ by.0.waits = rw by.1 refl in
           let more = and_this out node k in
-          let on = graph.linked by.0 event (contains_of nodes by.0 (member_at nodes node by.0 by.1))
-          (subst (λ ws. Contains ws event) waits (contains_of ws event (member_at ws k event listed))) in
+          let on = graph.linked by.0 event (contains_at nodes node by.0 by.1)
+          (subst (λ ws. Contains ws event) waits (contains_at ws k event listed)) in
           let a = on.1.0 in
           let at : done_at nodes a ≡ Some event = done_of on.0 event on.2 on.1 in
           let direct : Before rest a node =
@@ -115,10 +115,9 @@ module _ (nodes : List Node) (r : Rises nodes) where
                 let event_is : l.event ≡ event = same_Some l.event event (sym l.done ∙ (ap (done_at nodes) is ∙ at)) in
                 elim (cases_lt l.k k) [
                   | inl lt ↦ spare_here node k event listed stays
-                      (inl (contains_of (take k ws) event (earlier ws l.k k event (l.listed ∙ ap (λ x. Some x) event_is) lt)))
+                      (inl (earlier ws l.k k event (l.listed ∙ ap (λ x. Some x) event_is) lt))
                   | inr ge ↦ spare_here node l.k l.event l.listed parts.0
-                      (inl (contains_of (take l.k ws) l.event
-                      (earlier ws k l.k l.event (listed ∙ ap (λ x. Some x) (sym event_is)) (omega (arith, ge, parts.1)))))
+                      (inl (earlier ws k l.k l.event (listed ∙ ap (λ x. Some x) (sym event_is)) (omega (arith, ge, parts.1))))
                 ]
             | inr before ↦ spare_here node k event listed stays (inr (record {
               on = a;

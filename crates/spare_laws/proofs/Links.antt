@@ -1,10 +1,11 @@
 -- A graph in which some listed waits are left out: who waits on whom in it.
-use Rattle.std.proofs.Common.{◌≡◌, ℕ, zero, suc, ◌+◌, Bool, false, List, [], ◌∷◌, inl, inr, Some, slice_get, refl, sym, ap, ◌∙◌, subst, arith}
+use Rattle.std.proofs.Common.{◌≡◌, ℕ, zero, suc, ◌+◌, Bool, false, List, [], ◌∷◌, inl, inr, Some, slice_get, refl, sym, ap, ◌∙◌, subst, arith, Contains}
 use Rattle.std.proofs.lemmas.Bool.{cases_Bool}
 use Rattle.std.proofs.lemmas.Option.{same_Some, slice_get_within}
+use Rattle.list_lemmas.proofs.lemmas.Contained.{Contains-nil, Contains-cases, Contains-first, Contains-later}
 use Rattle.vocabulary.specs.Prelude.{Node, WaitsOn}
 use Rattle.semantics.specs.ReplayOrder.{waits_at, done_at}
-use Rattle.log_laws.proofs.lemmas.Members.{Member, member_of, contains_of, none_or_some, member_at}
+use Rattle.list_lemmas.proofs.lemmas.Firsts.{cases_option, contains_at}
 use Rattle.semantics.specs.Spare.{waits_left, nodes_left}
 
 -- The nodes but for the waits that are left out.
@@ -19,17 +20,17 @@ pub record Link (nodes : List Node) (out : ℕ → ℕ → Bool) (later earlier 
   pub done : done_at nodes earlier ≡ Some event
   pub left : out later k ≡ false
 
-kept_member : (out : ℕ → Bool) (j : ℕ) (ws : List ℕ) (e : ℕ) → Member (waits_left out j ws) e → (i : ℕ) × (slice_get ws i ≡ Some e)
+kept_member : (out : ℕ → Bool) (j : ℕ) (ws : List ℕ) (e : ℕ) → Contains (waits_left out j ws) e → (i : ℕ) × (slice_get ws i ≡ Some e)
     × (out (j + i) ≡ false)
-kept_member out j [] e m = absurd m
+kept_member out j [] e m = absurd (Contains-nil m)
 kept_member out j (w ∷ ws) e m = elim (cases_Bool (out j)) [
   | inl gone ↦
       let r = kept_member out (j + 1) ws e (rw gone at m) in
       let same : j + 1 + r.0 ≡ j + suc r.0 = omega arith in
       (suc r.0, r.1, subst (λ n. out n ≡ false) same r.2)
   | inr here ↦
-      let n : Member (w ∷ waits_left out (j + 1) ws) e = rw here at m in
-      elim n [
+      let n : Contains (w ∷ waits_left out (j + 1) ws) e = rw here at m in
+      elim (Contains-cases (waits_left out (j + 1) ws) n) [
         | inl is ↦ let same : j ≡ j + 0 = omega arith in (0, ap (λ x. Some x) (sym is), subst (λ n. out n ≡ false) same here)
         | inr later ↦
             let r = kept_member out (j + 1) ws e later in
@@ -38,16 +39,16 @@ kept_member out j (w ∷ ws) e m = elim (cases_Bool (out j)) [
       ]
 ]
 
-kept_in : (out : ℕ → Bool) (j : ℕ) (ws : List ℕ) (i e : ℕ) → slice_get ws i ≡ Some e → out (j + i) ≡ false → Member (waits_left out j ws) e
+kept_in : (out : ℕ → Bool) (j : ℕ) (ws : List ℕ) (i e : ℕ) → slice_get ws i ≡ Some e → out (j + i) ≡ false → Contains (waits_left out j ws) e
 kept_in out j [] i e at left = absurd (omega (arith, slice_get_within [] i e at))
 kept_in out j (w ∷ ws) zero e at left =
     let same : j + 0 ≡ j = omega arith in
     let here : out j ≡ false = subst (λ n. out n ≡ false) same left in
-    rw here (inl (sym (same_Some w e at)))
+    rw here (Contains-first (waits_left out (j + 1) ws) (sym (same_Some w e at)))
 kept_in out j (w ∷ ws) (suc i) e at left =
     let same : j + suc i ≡ j + 1 + i = omega arith in
     let m = kept_in out (j + 1) ws i e at (subst (λ n. out n ≡ false) same left) in
-    elim (cases_Bool (out j)) [ inl gone ↦ rw gone m | inr here ↦ rw here (inr m) ]
+    elim (cases_Bool (out j)) [ inl gone ↦ rw gone m | inr here ↦ rw here (Contains-later (waits_left out (j + 1) ws) m) ]
 
 -- What is left of a node.
 abbrev left_of : (ℕ → ℕ → Bool) → ℕ → Node → Node
@@ -78,8 +79,8 @@ module _ (nodes : List Node) (out : ℕ → ℕ → Bool) where
       let by = some_left out 0 nodes b w.by w.by_is in
       let on = some_left out 0 nodes a w.on w.on_is in
       let is_b : 0 + b ≡ b = omega arith in
-      let listed : Member (waits_left (out (0 + b)) 0 by.0.waits) w.on.done =
-      subst (λ (n : Node). Member n.waits w.on.done) by.2 (member_of w.by.waits w.on.done w.listed) in
+      let listed : Contains (waits_left (out (0 + b)) 0 by.0.waits) w.on.done =
+      subst (λ (n : Node). Contains n.waits w.on.done) by.2 w.listed in
       let r = kept_member (out (0 + b)) 0 by.0.waits w.on.done listed in
       let place : 0 + r.0 ≡ r.0 = omega arith in
       record {
@@ -91,9 +92,9 @@ module _ (nodes : List Node) (out : ℕ → ℕ → Bool) where
       }
 
   pub linked : (b a : ℕ) → Link nodes out b a → WaitsOn (remaining out nodes) b a
-  linked b a l = elim (none_or_some (slice_get nodes b)) [
+  linked b a l = elim (cases_option (slice_get nodes b)) [
     | inl none ↦ absurd (omega (arith, slice_get_within [] l.k l.event (rw none at l.listed)))
-    | inr by ↦ elim (none_or_some (slice_get nodes a)) [
+    | inr by ↦ elim (cases_option (slice_get nodes a)) [
       | inl none ↦ let bad = rw none at l.done in absurd cc
       | inr on ↦
           let is_b : b ≡ 0 + b = omega arith in
@@ -107,17 +108,16 @@ module _ (nodes : List Node) (out : ℕ → ℕ → Bool) where
             by = left_of out (0 + b) by.0;
             on_is = left_some out 0 nodes a on.0 on.1;
             by_is = left_some out 0 nodes b by.0 by.1;
-            listed = contains_of (waits_left (out (0 + b)) 0 by.0.waits) on.0.done
-                (subst (Member (waits_left (out (0 + b)) 0 by.0.waits)) (sym event) listed);
+            listed = (subst (Contains (waits_left (out (0 + b)) 0 by.0.waits)) (sym event) listed);
           }
     ]
   ]
 
   -- A listed wait that is left is one of the graph.
   pub waits_of_link : (b a : ℕ) → Link nodes out b a → WaitsOn nodes b a
-  waits_of_link b a l = elim (none_or_some (slice_get nodes b)) [
+  waits_of_link b a l = elim (cases_option (slice_get nodes b)) [
     | inl none ↦ absurd (omega (arith, slice_get_within [] l.k l.event (rw none at l.listed)))
-    | inr by ↦ elim (none_or_some (slice_get nodes a)) [
+    | inr by ↦ elim (cases_option (slice_get nodes a)) [
       | inl none ↦ let bad = rw none at l.done in absurd cc
       | inr on ↦
           let event : on.0.done ≡ l.event = same_Some on.0.done l.event (rw on.1 at l.done) in
@@ -126,8 +126,7 @@ module _ (nodes : List Node) (out : ℕ → ℕ → Bool) where
             by = by.0;
             on_is = on.1;
             by_is = by.1;
-            listed = contains_of by.0.waits on.0.done
-                (subst (Member by.0.waits) (sym event) (member_at by.0.waits l.k l.event (rw by.1 at l.listed)));
+            listed = (subst (Contains by.0.waits) (sym event) (contains_at by.0.waits l.k l.event (rw by.1 at l.listed)));
           }
     ]
   ]

@@ -6,11 +6,12 @@ use Rattle.std.proofs.lemmas.List.{get_or-map}
 use Rattle.std.proofs.lemmas.Option.{same_Some, slice_get_within, slice_get-get_or, get_or_from_slice_get}
 use Rattle.vocabulary.specs.Prelude.{Node, AreLinked, WaitsOn, Before, is_in}
 use Rattle.semantics.specs.ReplayOrder.{waits_at, done_at}
-use Rattle.log_laws.proofs.lemmas.Members.{member_of, contains_of, member_in, is_in_of, any_at, any_found}
+use Rattle.log_laws.proofs.lemmas.Members.{member_in, is_in_of}
 use Rattle.event_graph.specs.Orders.{IsWait}
 use Rattle.reach_marks.specs.Reached.{Marks, AreMarksOf, before_in}
 use Rattle.semantics.specs.Spare.{IsSpare}
 use Rattle.spare_laws.proofs.lemmas.Listing.{earlier, member_take, one_place, event_within}
+use Rattle.list_lemmas.proofs.lemmas.Contained.{any_at, any_found}
 
 module _ (nodes : List Node) (linked : AreLinked nodes) (marks : Marks) (right : AreMarksOf nodes marks) (node : ℕ) (waits : List ℕ)
     (each : length waits ≡ length (waits_at nodes node))
@@ -41,8 +42,7 @@ module _ (nodes : List Node) (linked : AreLinked nodes) (marks : Marks) (right :
       record {
         event = w.event;
         listed = w.listed;
-        implied = inl (contains_of (take k (waits_at nodes node)) w.event
-            (earlier (waits_at nodes node) first.0 k w.event (v.listed ∙ ap (λ x. Some x) event) first.1));
+        implied = inl (earlier (waits_at nodes node) first.0 k w.event (v.listed ∙ ap (λ x. Some x) event) first.1);
       }
 
   before : (k : ℕ) → k < length waits → list_any (before_in marks (get_or waits k 0)) waits ≡ true → IsSpare nodes node k
@@ -58,7 +58,7 @@ module _ (nodes : List Node) (linked : AreLinked nodes) (marks : Marks) (right :
           on = on;
           other = r.0;
           done = w.done;
-          waits = (all r.0).0 (contains_of waits r.0 r.1);
+          waits = (all r.0).0 r.1;
           before =
               (right.exact on r.0 within.0 within.1).0 r.2;
         });
@@ -71,7 +71,7 @@ module _ (nodes : List Node) (linked : AreLinked nodes) (marks : Marks) (right :
       let at = event_at k s.event s.listed in
       elim s.implied [
         | inl repeated ↦
-            let first = member_take (waits_at nodes node) k s.event (member_of (take k (waits_at nodes node)) s.event repeated) in
+            let first = member_take (waits_at nodes node) k s.event repeated in
             let early = event_at first.0 s.event first.2 in
             let same : get_or waits first.0 0 ≡ on = one_place nodes linked.apart (get_or waits first.0 0) on s.event early.1 at.1 in
             let m = earlier waits first.0 k on (slice_get-get_or waits first.0 0 early.0 ∙ ap (λ x. Some x) same) first.1 in
@@ -83,7 +83,7 @@ module _ (nodes : List Node) (linked : AreLinked nodes) (marks : Marks) (right :
             let other_in = slice_get_within nodes other.other other.waits.on other.waits.on_is in
             let marked : before_in marks on other.other ≡ true =
             (right.exact on other.other on_in other_in).1 (subst (λ x. Before nodes x other.other) same other.before) in
-            let found = any_at (before_in marks on) waits other.other (member_of waits other.other there) marked in
+            let found = any_at (before_in marks on) waits other.other there marked in
             rw found (or_true (is_in (take k waits) on))
       ]
     where

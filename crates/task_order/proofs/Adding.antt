@@ -1,8 +1,9 @@
 -- What is added of the points of a set, point by point.
-use Rattle.std.proofs.Common.{◌≡◌, ℕ, inl, inr, List, [], ◌∷◌, ◌++◌, Contains, refl, sym, ap, ◌∙◌, subst, map, append_assoc}
+use Rattle.std.proofs.Common.{◌≡◌, ℕ, inl, inr, List, [], ◌∷◌, ◌++◌, Contains, sym, ap, ◌∙◌, subst, map, append_assoc}
 use Rattle.std.specs.List.Sorted.{IsPermutation}
 use Rattle.std.proofs.lemmas.List.Sorted.{Contains-permutation, IsPermutation-sym}
-use Rattle.log_laws.proofs.lemmas.Members.{member_of, contains_of, member_append, member_left, member_right, member_map, map_member, member_flat, flat_member, only}
+use Rattle.std.proofs.lemmas.List.Elements.{Contains-append_cases, Contains-append_left, Contains-append_right}
+use Rattle.list_lemmas.proofs.lemmas.Contained.{member_map, map_member, member_flat, flat_member, only, Contains-nil, Contains-here}
 use Rattle.cell_races.specs.declared.touches.Touch.{Touch}
 use Rattle.task_order.specs.Gathered.{touch_at, touches_over, IsOneAt, Adds, IsDoneBy, AreDoneBy}
 use Rattle.vocabulary.specs.Prelude.{Req, Tables}
@@ -14,24 +15,24 @@ adds_over one points fields old new is =
     let here = touches_over one points fields in
     let at : ℕ → List Touch = λ p. map (touch_at one p) fields in
     record {
-      kept = λ x m. subst (λ xs. Contains xs x) (sym is) (contains_of (old ++ here) x (member_left old here x (member_of old x m)));
-      sound = λ x m. elim (member_append old here x (member_of (old ++ here) x (subst (λ xs. Contains xs x) is m))) [
-        | inl early ↦ inl (contains_of old x early)
+      kept = λ x m. subst (λ xs. Contains xs x) (sym is) (Contains-append_left old here x m);
+      sound = λ x m. elim (Contains-append_cases old here x (subst (λ xs. Contains xs x) is m)) [
+        | inl early ↦ inl early
         | inr late ↦
             let p = member_flat at points x late in
             let f = member_map (touch_at one p.0) fields x p.2 in
             inr (record {
               point = p.0;
               field = f.0;
-              in_points = contains_of points p.0 p.1;
-              in_fields = contains_of fields f.0 f.1;
+              in_points = p.1;
+              in_fields = f.1;
               is = f.2;
             })
       ];
       whole = λ x o.
-          let f = map_member (touch_at one o.point) fields o.field (member_of fields o.field o.in_fields) in
-          let m = flat_member at points o.point (touch_at one o.point o.field) (member_of points o.point o.in_points) f in
-          let n = contains_of (old ++ here) (touch_at one o.point o.field) (member_right old here (touch_at one o.point o.field) m) in
+          let f = map_member (touch_at one o.point) fields o.field o.in_fields in
+          let m = flat_member at points o.point (touch_at one o.point o.field) o.in_points f in
+          let n = Contains-append_right old here (touch_at one o.point o.field) m in
           subst (λ y. Contains new y) (sym o.is) (subst (λ xs. Contains xs (touch_at one o.point o.field)) (sym is) n);
     }
 
@@ -46,22 +47,17 @@ over_more one p points rest fields now new at is =
 -- ---- requirement by requirement
 
 pub done_none : (t : Tables) (points : List ℕ) → AreDoneBy t points [] []
-done_none t points = record { sound = λ x m. absurd (member_of [] x m); whole = λ r x m. absurd (member_of [] r m) }
+done_none t points = record { sound = λ x m. absurd (Contains-nil m); whole = λ r x m. absurd (Contains-nil m) }
 
 pub done_more : (t : Tables) (points : List ℕ) (reqs : List Req) (r : Req) (old new : List Touch) → AreDoneBy t points reqs old
     → Adds (IsDoneBy t points r) old new → AreDoneBy t points (reqs ++ r ∷ []) new
 done_more t points reqs r old new h adds = record {
   sound = λ x m. elim (adds.sound x m) [
-    | inl early ↦ let s = h.sound x early in (
-      s.0,
-      contains_of (reqs ++ r ∷ []) s.0
-          (member_left reqs (r ∷ []) s.0 (member_of reqs s.0 s.1)),
-      s.2,
-    )
-    | inr late ↦ (r, contains_of (reqs ++ r ∷ []) r (member_right reqs (r ∷ []) r (inl refl)), late)
+    | inl early ↦ let s = h.sound x early in (s.0, Contains-append_left reqs (r ∷ []) s.0 s.1, s.2)
+    | inr late ↦ (r, Contains-append_right reqs (r ∷ []) r (Contains-here []), late)
   ];
-  whole = λ q x m d. elim (member_append reqs (r ∷ []) q (member_of (reqs ++ r ∷ []) q m)) [
-    | inl early ↦ adds.kept x (h.whole q x (contains_of reqs q early) d)
+  whole = λ q x m d. elim (Contains-append_cases reqs (r ∷ []) q m) [
+    | inl early ↦ adds.kept x (h.whole q x early d)
     | inr late ↦ adds.whole x (subst (λ q. IsDoneBy t points q x) (only late) d)
   ];
 }

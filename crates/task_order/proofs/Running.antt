@@ -1,15 +1,16 @@
 -- The node that runs each item.
-use Rattle.std.proofs.Common.{◌≡◌, ℕ, suc, ◌+◌, ◌<◌, ◌==◌, inl, inr, List, [], ◌∷◌, map, length, refl, sym, ap, ◌∙◌, arith, slice_index, get_or}
+use Rattle.std.proofs.Common.{◌≡◌, ℕ, suc, ◌+◌, ◌<◌, ◌==◌, inl, inr, List, [], ◌∷◌, map, length, refl, sym, ap, ◌∙◌, arith, slice_index, get_or, Contains}
 use Rattle.std.specs.Prelude.{position, unwrap_or}
 use Rattle.std.specs.List.{position_or_len}
-use Rattle.std.proofs.lemmas.Bool.{cases_Bool, eqb-true, eq-eqb, true≢false}
+use Rattle.std.proofs.lemmas.Bool.{cases_Bool, eqb-true}
+use Rattle.list_lemmas.proofs.lemmas.Contained.{Contains-nil}
 use Rattle.vocabulary.specs.Prelude.{LogNode, Tables}
 use Rattle.semantics.specs.Rules.{runs_item}
 use Rattle.semantics.specs.SerialOrder.{serial, serial_place}
 use Rattle.semantics.specs.Shown.{run_of}
-use Rattle.log_laws.proofs.lemmas.Lists.{place_len}
-use Rattle.log_laws.proofs.lemmas.Members.{Member, member_of}
+use Rattle.list_lemmas.proofs.lemmas.Parts.{place_len}
 use Rattle.order_laws.specs.Turns.{ListsItems}
+use Rattle.order_laws.proofs.lemmas.SerialPlaces.{behind}
 use Rattle.task_order.specs.Gathered.{in_order}
 use Rattle.task_order.specs.Runs.{AreRunsFrom, AreRunsOf}
 
@@ -25,12 +26,12 @@ run_is t nodes same runs are item lt =
 abbrev place_in : List ℕ → ℕ → ℕ
 place_in xs n = position_or_len (λ i. i == n) xs
 
-at_place : (f : ℕ → ℕ) (xs : List ℕ) (n d : ℕ) → Member xs n → get_or (map f xs) (place_in xs n) d ≡ f n
-at_place f [] n d m = absurd m
+at_place : (f : ℕ → ℕ) (xs : List ℕ) (n d : ℕ) → Contains xs n → get_or (map f xs) (place_in xs n) d ≡ f n
+at_place f [] n d m = absurd (Contains-nil m)
 at_place f (x ∷ xs) n d m = elim (cases_Bool (x == n)) [
   | inl at ↦ rw at (ap f (eqb-true x n at))
   | inr other ↦
-      let later : Member xs n = elim m [ inl is ↦ absurd (true≢false (sym (eq-eqb x n (sym is)) ∙ other)) | inr k ↦ k ] in
+      let later = behind x xs n other m in
       let next : place_in (x ∷ xs) n ≡ suc (place_in xs n) = (let h : place_in (x ∷ xs) n ≡ 1 + place_in xs n = rw other refl in
       omega (arith, h)) in
       ap (λ k. get_or (f x ∷ map f xs) k d) next ∙ at_place f xs n d later
@@ -40,5 +41,5 @@ pub run_at : (t : Tables) (runs : List ℕ) → ListsItems t → AreRunsOf t run
     → slice_index (in_order runs t) (serial_place t item) ≡ run_of t item
 run_at t runs lists are item lt =
     ap (slice_index (in_order runs t)) (place_len (λ i. i == item) (serial t))
-    ∙ (at_place (λ i. slice_index runs i) (serial t) item 0 (member_of (serial t) item ((lists.items item).1 lt))
+    ∙ (at_place (λ i. slice_index runs i) (serial t) item 0 ((lists.items item).1 lt)
     ∙ are.runs_are item (let each = are.each in omega (arith, lt, each)))

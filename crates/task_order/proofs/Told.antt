@@ -9,8 +9,9 @@ use Rattle.vocabulary.specs.Prelude.{Priv, Cell, Place, Req, Tables, agree, is_f
 use Rattle.privilege.specs.declared.kinds.Priv.TheVariants.{Ro, Rw, Wd, Red}
 use Rattle.semantics.specs.SerialOrder.{serial, serial_place}
 use Rattle.semantics.specs.Shown.{is_task_at}
-use Rattle.log_laws.proofs.lemmas.Members.{Member, member_of, contains_of, filter_member, all_contained}
-use Rattle.log_laws.proofs.lemmas.Apart.{pairs_of, pairs_from}
+use Rattle.list_lemmas.proofs.lemmas.Contained.{all_contained}
+use Rattle.list_lemmas.proofs.lemmas.Filtered.{in_filter}
+use Rattle.list_lemmas.proofs.lemmas.Pairs.{AllPairs-cases}
 use Rattle.cell_races.specs.declared.touches.Touch.{Touch}
 use Rattle.cell_races.specs.Touches.{touch}
 use Rattle.order_laws.specs.Turns.{Meeting, ListsItems, AgreeWithThemselves, do_interfere}
@@ -121,7 +122,7 @@ agrees_class (Red n) (Red m) e = ap (λ k. k + 2) (eqb-true n m e)
 record Uses (t : Tables) (u : User) (p : Place) : Type 0 where
   pub r : Req
   pub task : is_task_at t u.item ≡ true
-  pub of_item : Member (uses_of t u.item) r
+  pub of_item : Contains (uses_of t u.item) r
   pub at : covers t p r ≡ true
   pub class : u.class ≡ class_of (access_of r.access)
 
@@ -139,8 +140,8 @@ module _ (t : Tables) (lists : ListsItems t) (firsts : List ℕ) (touches : List
       record {
         r = s.0;
         task = task;
-        of_item = subst (λ rs. Member rs s.0) (sym (task_uses t u.item task))
-            (filter_member (λ (r : Req). r.item == u.item) t.reqs s.0 (member_of t.reqs s.0 s.1) (eq-eqb s.0.item u.item (sym item)));
+        of_item = subst (λ rs. Contains rs s.0) (sym (task_uses t u.item task))
+            (in_filter (λ (r : Req). r.item == u.item) t.reqs s.0 s.1 (eq-eqb s.0.item u.item (sym item)));
         at = d.covered;
         class = ap (λ (u : User). u.class) is ∙ ap class_of d.access;
       }
@@ -159,7 +160,7 @@ module _ (t : Tables) (lists : ListsItems t) (firsts : List ℕ) (touches : List
   touch_in a p r task m at listed =
       let own = own_req t a r task m in
       done.whole r (touch (serial_place t a) (record { inst = p.tree; point = p.point; field = p.field }) (access_of r.access))
-      (contains_of t.reqs r own.0)
+      own.0
       (record {
         task = ap (is_task_at t) own.1 ∙ task;
         covered = at;
@@ -179,12 +180,12 @@ module _ (t : Tables) (lists : ListsItems t) (firsts : List ℕ) (touches : List
         let one = uses u s.x s.x_in s.u_is in
         let other : Uses t v p = subst (λ c. Uses t v (place_at c)) (sym s.same) (uses v s.y s.y_in s.v_is) in
         let here = filter (covers t p) (uses_of t u.item) in
-        let q_in = filter_member (covers t p) (uses_of t u.item) one.r one.of_item one.at in
-        let r_in = filter_member (covers t p) (uses_of t u.item) other.r
-        (subst (λ a. Member (uses_of t a) other.r) (sym item) other.of_item) other.at in
+        let q_in = in_filter (covers t p) (uses_of t u.item) one.r one.of_item one.at in
+        let r_in = in_filter (covers t p) (uses_of t u.item) other.r
+        (subst (λ a. Contains (uses_of t a) other.r) (sym item) other.of_item) other.at in
         let agrees = λ (q : Req) (r : Req). agree q.access r.access ≡ true in
         one.class
-        ∙ elim (pairs_of agrees here (pairs_from agrees here (own u.item p one.task)) one.r other.r q_in r_in) [
+        ∙ elim (AllPairs-cases agrees here (own u.item p one.task) one.r other.r q_in r_in) [
           | inl same ↦ ap (λ (r : Req). class_of (access_of r.access)) same
           | inr (inl agree) ↦ agrees_class one.r.access other.r.access agree
           | inr (inr agree) ↦ sym (agrees_class other.r.access one.r.access agree)
@@ -200,8 +201,8 @@ module _ (t : Tables) (lists : ListsItems t) (firsts : List ℕ) (touches : List
         let meeting : Meeting t m.u.item m.v.item p = record {
           q = one.r;
           r = other.r;
-          of_a = contains_of (uses_of t m.u.item) one.r one.of_item;
-          of_b = contains_of (uses_of t m.v.item) other.r other.of_item;
+          of_a = one.of_item;
+          of_b = other.of_item;
           at_a = one.at;
           at_b = other.at;
           differ = not-true (agree one.r.access other.r.access)

@@ -5,7 +5,7 @@ use Rattle.vocabulary.specs.Prelude.{Place, Req, Tables, is_in, points_in, cover
 use Rattle.semantics.specs.SerialOrder.{serial, serial_place}
 use Rattle.semantics.specs.Shown.{is_task_at, run_of}
 use Rattle.reach_marks.specs.Reached.{Marks, AreMarksOf, before_in}
-use Rattle.log_laws.proofs.lemmas.Members.{Member, member_of, contains_of, member_filter, filter_member, member_in, is_in_of}
+use Rattle.log_laws.proofs.lemmas.Members.{member_in, is_in_of}
 use Rattle.cell_races.specs.declared.touches.Touch.{Touch}
 use Rattle.cell_races.specs.Touches.{touch}
 use Rattle.cell_races.specs.Turns as turns
@@ -16,6 +16,7 @@ use Rattle.order_laws.proofs.lemmas.TaskUses.{own_req, task_within}
 use Rattle.task_order.specs.Gathered.{IsOneAt, Adds, IsDoneBy, AreDoneBy, in_order}
 use Rattle.task_order.specs.Runs.{AreRunsOf}
 use Rattle.task_order.proofs.Running.{run_at}
+use Rattle.list_lemmas.proofs.lemmas.Filtered.{of_filter, in_filter}
 
 -- ---- what one requirement does
 
@@ -32,10 +33,10 @@ adds_done t points pts r one old new task set tree place access h = record {
   sound = λ x m. elim (h.sound x m) [
     | inl early ↦ inl early
     | inr late ↦
-        let f = member_filter (is_in points) pts late.point (member_of (filter (is_in points) pts) late.point late.in_points) in
+        let f = of_filter (is_in points) pts late.point late.in_points in
         let here : is_in (points_in t r.space) late.point ≡ true =
-        is_in_of (points_in t r.space) late.point (subst (λ ps. Member ps late.point) (sym set) f.0) in
-        let field : is_in r.fields late.field ≡ true = is_in_of r.fields late.field (member_of r.fields late.field late.in_fields) in
+        is_in_of (points_in t r.space) late.point (subst (λ ps. Contains ps late.point) (sym set) f.0) in
+        let field : is_in r.fields late.field ≡ true = is_in_of r.fields late.field late.in_fields in
         inr (subst (IsDoneBy t points r) (sym late.is) (record {
           task = task;
           covered = and_from (r.tree == one.cell.inst) _ (eq-eqb r.tree one.cell.inst (sym tree))
@@ -48,14 +49,13 @@ adds_done t points pts r one old new task set tree place access h = record {
   whole = λ x d.
       let a = and_parts (r.tree == x.cell.inst) (is_in (points_in t r.space) x.cell.point && is_in r.fields x.cell.field) d.covered in
       let b = and_parts (is_in (points_in t r.space) x.cell.point) (is_in r.fields x.cell.field) a.1 in
-      let in_set : Member pts x.cell.point = subst (λ ps. Member ps x.cell.point) set
+      let in_set : Contains pts x.cell.point = subst (λ ps. Contains ps x.cell.point) set
       (member_in (points_in t r.space) x.cell.point b.0) in
       h.whole x (record {
         point = x.cell.point;
         field = x.cell.field;
-        in_points = contains_of (filter (is_in points) pts) x.cell.point
-            (filter_member (is_in points) pts x.cell.point in_set d.listed);
-        in_fields = contains_of r.fields x.cell.field (member_in r.fields x.cell.field b.1);
+        in_points = (in_filter (is_in points) pts x.cell.point in_set d.listed);
+        in_fields = (member_in r.fields x.cell.field b.1);
         is = same_touch x one.cell.inst one.place (sym (eqb-true r.tree x.cell.inst a.0) ∙ sym tree) (d.place ∙ sym place)
             ∙ ap (λ acc. touch one.place (record { inst = one.cell.inst; point = x.cell.point; field = x.cell.field }) acc)
             (d.access ∙ sym access);
@@ -101,8 +101,8 @@ in_turn t marks runs points touches noted out lists are marked done turn items a
     let r = own_req t b m.r other m.of_b in
     let x = done_at t a p m.q in
     let y = done_at t b p m.r in
-    let x_in = done.whole m.q x (contains_of t.reqs m.q q.0) (is_done t points a p m.q one q.1 m.at_a listed) in
-    let y_in = done.whole m.r y (contains_of t.reqs m.r r.0) (is_done t points b p m.r other r.1 m.at_b listed) in
+    let x_in = done.whole m.q x q.0 (is_done t points a p m.q one q.1 m.at_a listed) in
+    let y_in = done.whole m.r y r.0 (is_done t points b p m.r other r.1 m.at_b listed) in
     let so = turn x y x_in y_in refl less (conflicts_are m.q.access m.r.access ∙ ap not m.differ)
     (sym (items a (task_within t a one)) ∙ a_free) (sym (items b (task_within t b other)) ∙ b_free) in
     let first = run_at t runs lists are a (task_within t a one) in

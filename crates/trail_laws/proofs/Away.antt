@@ -1,11 +1,11 @@
 -- In a log without a fault only reduction instances are reset, and none of these is read by a task or copied.
-use Rattle.std.proofs.Common.{◌≡◌, ℕ, ◌==◌, ◌&&◌, inl, inr, Bool, true, false, not, List, [], ◌∷◌, ◌++◌, flat_map, find, Option, Some, None, is_some, refl, sym, ap, ◌∙◌, subst, arith}
+use Rattle.std.proofs.Common.{◌≡◌, ℕ, ◌==◌, ◌&&◌, inl, inr, Bool, true, false, not, List, [], ◌∷◌, ◌++◌, flat_map, find, Option, Some, None, is_some, refl, sym, ap, ◌∙◌, subst, arith, Contains}
 use Rattle.std.specs.Prelude.{IfSome}
 use Rattle.std.specs.List.{list_all}
 use Rattle.std.specs.Option.{option_map_or}
 use Rattle.std.proofs.lemmas.Bool.{or_parts, not-false, true≢false, cond_both}
 use Rattle.std.proofs.lemmas.Bool.Decides.{nat_tests}
-use Rattle.std.proofs.lemmas.List.Elements.{recursion_from_All}
+use Rattle.std.proofs.lemmas.List.Elements.{recursion_from_All, Contains-append_cases}
 use Rattle.vocabulary.specs.Prelude.{Priv, may_read, InstKind, Record, Lined, Cell, Move, Req, Inst, Map, LogNode, Op, records_of, Tables, place_of, with_record, tables_of, is_in, points_in, reqs_of, grid, req_grid, req_at, Step, steps, id_of, inst_at, mapped, mapped_cell, at_cells, reads_by, changes_by, run_moves, move_of, data_moves, moves_of}
 use Rattle.privilege.specs.declared.kinds.Priv.TheVariants as privileges
 use Rattle.spy_words.specs.declared.access.InstKind.TheVariants as layouts
@@ -16,7 +16,9 @@ use Rattle.semantics.specs.declared.moves.Move.TheVariants as moves
 use Rattle.semantics.specs.declared.tables.Op.TheVariants as operations
 use Rattle.semantics.specs.DataOps.{DataAct, Copies, Puts, Resets, Folds, DataOp, data_of}
 use Rattle.semantics.specs.Rules.{is_declared, is_reduction, reduces_in, is_of_wrong_kind, fits, names, inst_id}
-use Rattle.log_laws.proofs.lemmas.Members.{Member, Each, each_more, member_at, member_append, member_flat, member_map, member_filter, found_at, all_at, find_any, find_still, none_or_some, only}
+use Rattle.list_lemmas.proofs.lemmas.Contained.{each_more, member_flat, member_map, found_at, all_at, find_any, find_still, only, Contains-nil}
+use Rattle.list_lemmas.proofs.lemmas.Filtered.{of_filter}
+use Rattle.list_lemmas.proofs.lemmas.Firsts.{contains_at, cases_option}
 use Rattle.log_laws.proofs.lemmas.Apart.{member_grid}
 use Rattle.log_laws.proofs.lemmas.Sane.{AreSane, two_reqs}
 use Rattle.log_laws.proofs.lemmas.StepLists.{of_node}
@@ -47,8 +49,8 @@ record IsFit (t : Tables) (m : Map) : Type 0 where
   fit : fits req.access inst.kind ≡ true
 
 record AreKept (t : Tables) : Type 0 where
-  maps : Each (IsFit t) t.maps
-  nodes : Each (λ (n : LogNode). OpKept t.insts n.op) t.nodes
+  maps : (x : _) → Contains t.maps x → IsFit t x
+  nodes : (n : LogNode) → Contains t.nodes n → OpKept t.insts n.op
 
 kind_still : (insts : List Inst) (x : Inst) (id : ℕ) (b : Bool) → IsOfKind insts id b → IsOfKind (insts ++ x ∷ []) id b
 kind_still insts x id b k = record {
@@ -126,10 +128,10 @@ kept_with t line (records.Copy src dst space fields done waits) k h =
     let one = or_parts _ (src == dst) k.kinds in
     let two = or_parts (reduces_in t src) (reduces_in t dst) one.0 in
     with_op t _ h (of_kind t src false (all_at (is_declared t) (names (records.Copy src dst space fields done waits))
-    (inst_id src) k.declared (inl refl)) two.0)
+    (inst_id src) k.declared (0, omega arith, refl)) two.0)
 kept_with t line (records.Reset inst space fields done waits) k h =
     with_op t _ h (of_kind t inst true (all_at (is_declared t) (names (records.Reset inst space fields done waits))
-    (inst_id inst) k.declared (inl refl)) (not-false _ k.kinds))
+    (inst_id inst) k.declared (0, omega arith, refl)) (not-false _ k.kinds))
 kept_with t line (records.Run task done waits) k h = with_op t _ h tt
 kept_with t line (records.Fold src dst space fields done waits) k h = with_op t _ h tt
 kept_with t line (records.Put inst space fields n done waits) k h = with_op t _ h tt
@@ -146,7 +148,7 @@ ruled log earlier r u = record { declared = (keeps_of log earlier r u).declared;
 kept : (log : List Lined) → IsFaultless Check log → AreKept (tables_of log)
 kept log f = by_records (λ r. Unit {0}) AreKept (records_of log)
     (λ earlier l u _. kept_with (tables_of earlier) l.line l.rec (ruled (records_of log) earlier l.rec u))
-    [] log (recursion_from_All _ (records_of log) (λ k d lt. tt)) f.records (record { maps = λ m is. absurd is; nodes = λ n m. absurd m })
+    [] log (recursion_from_All _ (records_of log) (λ k d lt. tt)) f.records (record { maps = λ m is. absurd (Contains-nil is); nodes = λ n m. absurd (Contains-nil m) })
 
 -- ---- moves
 
@@ -161,13 +163,13 @@ no_reduction privileges.Wd kind r e = absurd cc
 no_reduction (privileges.Red op) kind r e = absurd cc
 no_reduction p kind r e = refl
 
-module _ (t : Tables) (sane : AreSane t) (whole : (r : Req) (field : ℕ) → Member t.reqs r → Member r.fields field
+module _ (t : Tables) (sane : AreSane t) (whole : (r : Req) (field : ℕ) → Contains t.reqs r → Contains r.fields field
     → is_some (mapped t r field) ≡ true) (kept : AreKept t) where
   -- The instance to which a field of a requirement that reads is mapped does not reduce.
-  mapped_kept : (r : Req) (p : ℕ × ℕ) → Member t.reqs r → Member (req_grid t r) p → may_read r.access ≡ true
+  mapped_kept : (r : Req) (p : ℕ × ℕ) → Contains t.reqs r → Contains (req_grid t r) p → may_read r.access ≡ true
       → reduces_in t (mapped_cell t r p).inst ≡ false
   mapped_kept r p is at may =
-      elim (none_or_some (find (λ (m : Map). (m.item == r.item) && ((m.number == r.number) && is_in m.fields p.1)) t.maps)) [
+      elim (cases_option (find (λ (m : Map). (m.item == r.item) && ((m.number == r.number) && is_in m.fields p.1)) t.maps)) [
         | inl none ↦ absurd (true≢false (sym (whole r p.1 is (member_grid (points_in t r.space) r.fields p at).1) ∙ rw none refl))
         | inr some ↦
             let m : Map = some.0 in
@@ -182,30 +184,30 @@ module _ (t : Tables) (sane : AreSane t) (whole : (r : Req) (field : ℕ) → Me
       ]
 
   module _ (item task : ℕ) where
-    read_kept : (r : Req) (p : ℕ × ℕ) (m : Move) → Member t.reqs r → Member (req_grid t r) p
-        → Member (reads_by task r.number r.access (mapped_cell t r p)) m → KeepsAway t m
-    read_kept r p m is at done = cond_both (may_read r.access) (moves.Read task r.number (mapped_cell t r p) ∷ []) [] (λ ms. Member ms m
+    read_kept : (r : Req) (p : ℕ × ℕ) (m : Move) → Contains t.reqs r → Contains (req_grid t r) p
+        → Contains (reads_by task r.number r.access (mapped_cell t r p)) m → KeepsAway t m
+    read_kept r p m is at done = cond_both (may_read r.access) (moves.Read task r.number (mapped_cell t r p) ∷ []) [] (λ ms. Contains ms m
         → KeepsAway t m)
         (λ may h. subst (KeepsAway t) (sym (only h)) (mapped_kept r p is at may))
-        (λ no h. absurd h) done
+        (λ no h. absurd (Contains-nil h)) done
 
-    change_kept : (number : ℕ) (p : Priv) (c : Cell) (m : Move) → Member (changes_by task number p c) m → KeepsAway t m
-    change_kept number privileges.Ro c m is = absurd is
+    change_kept : (number : ℕ) (p : Priv) (c : Cell) (m : Move) → Contains (changes_by task number p c) m → KeepsAway t m
+    change_kept number privileges.Ro c m is = absurd (Contains-nil is)
     change_kept number privileges.Rw c m is = subst (KeepsAway t) (sym (only is)) tt
     change_kept number privileges.Wd c m is = subst (KeepsAway t) (sym (only is)) tt
     change_kept number (privileges.Red op) c m is = subst (KeepsAway t) (sym (only is)) tt
 
     cells_kept : (does : Req → Cell → List Move)
-        → ((r : Req) (p : ℕ × ℕ) (m : Move) → Member t.reqs r → Member (req_grid t r) p → Member (does r (mapped_cell t r p)) m
+        → ((r : Req) (p : ℕ × ℕ) (m : Move) → Contains t.reqs r → Contains (req_grid t r) p → Contains (does r (mapped_cell t r p)) m
         → KeepsAway t m)
-        → (m : Move) → Member (at_cells t does (reqs_of t item)) m → KeepsAway t m
+        → (m : Move) → Contains (at_cells t does (reqs_of t item)) m → KeepsAway t m
     cells_kept does each m is =
         let r = member_flat (λ r. flat_map (λ p. does r (mapped_cell t r p)) (req_grid t r)) (reqs_of t item) m is in
         let p = member_flat (λ p. does r.0 (mapped_cell t r.0 p)) (req_grid t r.0) m r.2 in
-        each r.0 p.0 m (member_filter (λ (r : Req). r.item == item) t.reqs r.0 r.1).0 p.1 p.2
+        each r.0 p.0 m (of_filter (λ (r : Req). r.item == item) t.reqs r.0 r.1).0 p.1 p.2
 
-    run_kept : (m : Move) → Member (run_moves t task (reqs_of t item)) m → KeepsAway t m
-    run_kept m is = elim (member_append (at_cells t (λ r c. reads_by task r.number r.access c) (reqs_of t item))
+    run_kept : (m : Move) → Contains (run_moves t task (reqs_of t item)) m → KeepsAway t m
+    run_kept m is = elim (Contains-append_cases (at_cells t (λ r c. reads_by task r.number r.access c) (reqs_of t item))
         (at_cells t (λ r c. changes_by task r.number r.access c) (reqs_of t item)) m is) [
           | inl a ↦ cells_kept (λ r c. reads_by task r.number r.access c) read_kept m a
           | inr b ↦ cells_kept (λ r c. changes_by task r.number r.access c)
@@ -218,22 +220,22 @@ module _ (t : Tables) (sane : AreSane t) (whole : (r : Req) (field : ℕ) → Me
   act_kept (Resets inst) p h = kind_is t inst true h
   act_kept (Folds src dst) p h = tt
 
-  data_kept : (o : Option DataOp) → IfSome o (λ (d : DataOp). ActKept t.insts d.act) → (m : Move) → Member (data_moves t o) m
+  data_kept : (o : Option DataOp) → IfSome o (λ (d : DataOp). ActKept t.insts d.act) → (m : Move) → Contains (data_moves t o) m
       → KeepsAway t m
-  data_kept None h m is = absurd is
+  data_kept None h m is = absurd (Contains-nil is)
   data_kept (Some d) h m is =
       let p = member_map (move_of t d.act) (grid (points_in t d.space) d.fields) m is in
       subst (KeepsAway t) (sym p.2) (act_kept d.act p.0 h)
 
-  op_kept : (op : Op) → OpKept t.insts op → (m : Move) → Member (moves_of t op) m → KeepsAway t m
+  op_kept : (op : Op) → OpKept t.insts op → (m : Move) → Contains (moves_of t op) m → KeepsAway t m
   op_kept (operations.Run item) h m is = run_kept item (id_of t item) m is
   op_kept op h m is = data_kept (data_of op) h m is
 
-pub steps_kept : (log : List Lined) → IsFaultless Check log → (x : Step) → Member (steps (tables_of log)) x
+pub steps_kept : (log : List Lined) → IsFaultless Check log → (x : Step) → Contains (steps (tables_of log)) x
     → KeepsAway (tables_of log) x.move
 steps_kept log f x m =
     let t = tables_of log in
     let of = of_node t _ x m in
     let k = kept log f in
     op_kept t (sane Check log f) (all_mapped log f) k of.node.op
-    (k.nodes of.node (member_at t.nodes x.node of.node of.is_node)) x.move of.is_move
+    (k.nodes of.node (contains_at t.nodes x.node of.node of.is_node)) x.move of.is_move

@@ -1,12 +1,12 @@
 -- All links but the last are copies, all are of steps that are taken, and all are at one point and field.
-use Rattle.std.proofs.Common.{◌≡◌, ◌≢◌, ℕ, ◌+◌, ◌⊎◌, inl, inr, sym, ap, ◌∙◌, Bool, true, false, cond, List, [], ◌∷◌, map, refl, subst, Option, Some, None, option_map}
+use Rattle.std.proofs.Common.{◌≡◌, ◌≢◌, ℕ, ◌+◌, ◌⊎◌, inl, inr, sym, ap, ◌∙◌, Bool, true, false, cond, List, [], ◌∷◌, map, refl, subst, Option, Some, None, option_map, Contains}
 use Rattle.std.proofs.lemmas.Bool.{cond_both}
 use Rattle.std.proofs.lemmas.Option.{same_Some}
 use Rattle.vocabulary.specs.Prelude.{Link, Cell, Move, Tables, Step, same_cell}
 use Rattle.semantics.specs.declared.links.LinkKind.TheVariants as kinds
 use Rattle.semantics.specs.declared.moves.Move.TheVariants.{Read, Write, Reduce, Copy, Put, Reset, Fold}
 use Rattle.semantics.specs.Links.{Touch, Leaves, Adds, Puts, Takes, touch, Source, with_last, sources_of, cell_read, ComesFrom, kind_of, link_of, EndsInOrigin}
-use Rattle.log_laws.proofs.lemmas.Members.{Member, only}
+use Rattle.list_lemmas.proofs.lemmas.Contained.{only, Contains-here, Contains-later, Contains-first, Contains-cases}
 use Rattle.log_laws.proofs.lemmas.Tidy.{one_cell, place}
 use Rattle.trail_laws.proofs.Told.{KeepsAway}
 
@@ -66,33 +66,34 @@ module _ (t : Tables) where
 -- ---- the steps of sources are steps that were taken
 
 by_last : (y : Step) (k : Touch) (c : Cell) (n : ℕ) (earlier : List Step)
-    → ((c : Cell) (n : ℕ) (s : Source) (x : Step) → Member (sources_of earlier c n) s → s.by ≡ Some x → Member earlier x)
-    → (s : Source) (x : Step) → Member (with_last y k c n (sources_of earlier)) s → s.by ≡ Some x → Member (y ∷ earlier) x
-by_last y Leaves c n earlier before s x m e = inr (before c n s x m e)
-by_last y Adds c n earlier before s x m e = inr (before c (n + 1) s x m e)
-by_last y Puts c n earlier before s x m e = inl (same_Some x y (sym e ∙ ap (λ (s : Source). s.by) (only m)))
-by_last y (Takes from) c n earlier before s x (inl is) e = inl (same_Some x y (sym e ∙ ap (λ (s : Source). s.by) is))
-by_last y (Takes from) c n earlier before s x (inr m) e = inr (before from 0 s x m e)
+    → ((c : Cell) (n : ℕ) (s : Source) (x : Step) → Contains (sources_of earlier c n) s → s.by ≡ Some x → Contains earlier x)
+    → (s : Source) (x : Step) → Contains (with_last y k c n (sources_of earlier)) s → s.by ≡ Some x → Contains (y ∷ earlier) x
+by_last y Leaves c n earlier before s x m e = Contains-later earlier (before c n s x m e)
+by_last y Adds c n earlier before s x m e = Contains-later earlier (before c (n + 1) s x m e)
+by_last y Puts c n earlier before s x m e = Contains-first earlier (same_Some x y (sym e ∙ ap (λ (s : Source). s.by) (only m)))
+by_last y (Takes from) c n earlier before s x m e = elim (Contains-cases _ m) [
+  | inl is ↦ Contains-first earlier (same_Some x y (sym e ∙ ap (λ (s : Source). s.by) is))
+  | inr behind ↦ Contains-later earlier (before from 0 s x behind e)
+]
 
-by_earlier : (earlier : List Step) (c : Cell) (n : ℕ) (s : Source) (x : Step) → Member (sources_of earlier c n) s → s.by ≡ Some x
-    → Member earlier x
+by_earlier : (earlier : List Step) (c : Cell) (n : ℕ) (s : Source) (x : Step) → Contains (sources_of earlier c n) s → s.by ≡ Some x
+    → Contains earlier x
 by_earlier [] c n s x m e = let bad = sym e ∙ ap (λ (s : Source). s.by) (only m) in absurd cc
 by_earlier (y ∷ earlier) c n s x m e = by_last y (touch y.move c) c n earlier (by_earlier earlier) s x m e
 
 by_read : (earlier : List Step) (o : Option Cell) (ls : List Source) (s : Source) (x : Step)
-    → option_map (λ c. sources_of earlier c 0) o ≡ Some ls → Member ls s → s.by ≡ Some x → Member earlier x
+    → option_map (λ c. sources_of earlier c 0) o ≡ Some ls → Contains ls s → s.by ≡ Some x → Contains earlier x
 by_read earlier None ls s x e m is = absurd cc
 by_read earlier (Some c) ls s x e m is = by_earlier earlier c 0 s x
-    (subst (λ ls. Member ls s) (sym (same_Some (sources_of earlier c 0) ls e)) m) is
+    (subst (λ ls. Contains ls s) (sym (same_Some (sources_of earlier c 0) ls e)) m) is
 
-pub comes_of : (earlier xs : List Step) (e : Step) (ls : List Source) → ComesFrom earlier xs e ls → (s : Source) (x : Step) → Member ls s
-    → s.by ≡ Some x → Member earlier x ⊎ Member xs x
+pub comes_of : (earlier xs : List Step) (e : Step) (ls : List Source) → ComesFrom earlier xs e ls → (s : Source) (x : Step) → Contains ls s
+    → s.by ≡ Some x → Contains earlier x ⊎ Contains xs x
 comes_of earlier [] e ls c s x m is = absurd c
 comes_of earlier (y ∷ xs) e ls (inl h) s x m is = inl (by_read earlier (cell_read y.move) ls s x h.1 m is)
 comes_of earlier (y ∷ xs) e ls (inr h) s x m is = elim (comes_of (y ∷ earlier) xs e ls h s x m is) [
-  | inl (inl same) ↦ inr (inl same)
-  | inl (inr before) ↦ inl before
-  | inr after ↦ inr (inr after)
+  | inl now ↦ elim (Contains-cases earlier now) [ inl same ↦ inr (Contains-first xs same) | inr before ↦ inl before ]
+  | inr after ↦ inr (Contains-later xs after)
 ]
 
 -- ---- the cells of sources are at the point and the field that are read
@@ -114,7 +115,7 @@ takes_there t (Reset cell) c k = tt
 takes_there t (Fold op from to) c k = cond_both (same_cell c to) Adds Leaves (TakesThere c) (λ e. tt) (λ e. tt)
 
 abbrev pub AreThere : Cell → List Source → Type 0
-AreThere c ls = (s : Source) → Member ls s → place s.cell ≡ place c
+AreThere c ls = (s : Source) → Contains ls s → place s.cell ≡ place c
 
 there_by : (x : Step) (k : Touch) (c : Cell) (n : ℕ) (before : Cell → ℕ → List Source) → TakesThere c k
     → ((c : Cell) (n : ℕ) → AreThere c (before c n)) → AreThere c (with_last x k c n before)
@@ -122,17 +123,19 @@ unfolding TakesThere
 there_by x Leaves c n before takes h s m = h c n s m
 there_by x Adds c n before takes h s m = h c (n + 1) s m
 there_by x Puts c n before takes h s m = ap (λ (s : Source). place s.cell) (only m)
-there_by x (Takes from) c n before takes h s (inl is) = ap (λ (s : Source). place s.cell) is
-there_by x (Takes from) c n before takes h s (inr m) = h from 0 s m ∙ takes
+there_by x (Takes from) c n before takes h s m = elim (Contains-cases (before from 0) m) [
+  | inl is ↦ ap (λ (s : Source). place s.cell) is
+  | inr behind ↦ h from 0 s behind ∙ takes
+]
 
-there : (t : Tables) (earlier : List Step) → ((x : Step) → Member earlier x → KeepsAway t x.move) → (c : Cell) (n : ℕ)
+there : (t : Tables) (earlier : List Step) → ((x : Step) → Contains earlier x → KeepsAway t x.move) → (c : Cell) (n : ℕ)
     → AreThere c (sources_of earlier c n)
 there t [] keeps c n = λ s m. ap (λ (s : Source). place s.cell) (only m)
-there t (x ∷ earlier) keeps c n = there_by x (touch x.move c) c n (sources_of earlier) (takes_there t x.move c (keeps x (inl refl)))
-    (there t earlier (λ y m. keeps y (inr m)))
+there t (x ∷ earlier) keeps c n = there_by x (touch x.move c) c n (sources_of earlier) (takes_there t x.move c (keeps x (Contains-here earlier)))
+    (there t earlier (λ y m. keeps y (Contains-later earlier m)))
 
-pub comes_there : (t : Tables) (earlier xs : List Step) → ((x : Step) → Member earlier x → KeepsAway t x.move)
-    → ((x : Step) → Member xs x → KeepsAway t x.move)
+pub comes_there : (t : Tables) (earlier xs : List Step) → ((x : Step) → Contains earlier x → KeepsAway t x.move)
+    → ((x : Step) → Contains xs x → KeepsAway t x.move)
     → (e : Step) (ls : List Source) → ComesFrom earlier xs e ls → (c : Cell) → cell_read e.move ≡ Some c → AreThere c ls
 comes_there t earlier [] before keeps e ls h c reads = absurd h
 comes_there t earlier (x ∷ xs) before keeps e ls (inl h) c reads =
@@ -141,9 +144,8 @@ comes_there t earlier (x ∷ xs) before keeps e ls (inl h) c reads =
     ∙ h.1) in
     subst (AreThere c) same (there t earlier before c 0)
 comes_there t earlier (x ∷ xs) before keeps e ls (inr h) c reads =
-    comes_there t (x ∷ earlier) xs (λ y m. elim m [
-      | inl is ↦
-          subst (λ (y : Step). KeepsAway t y.move) (sym is) (keeps x (inl refl))
+    comes_there t (x ∷ earlier) xs (λ y m. elim (Contains-cases earlier m) [
+      | inl is ↦ subst (λ (y : Step). KeepsAway t y.move) (sym is) (keeps x (Contains-here xs))
       | inr b ↦ before y b
     ])
-    (λ y m. keeps y (inr m)) e ls h c reads
+    (λ y m. keeps y (Contains-later xs m)) e ls h c reads

@@ -8,7 +8,9 @@ use Rattle.semantics.specs.declared.moves.Move.TheVariants as moves
 use Rattle.semantics.specs.declared.tables.Op.TheVariants as operations
 use Rattle.semantics.specs.DataOps.{DataAct, Copies, Puts, Resets, Folds, DataOp, data_of}
 use Rattle.semantics.specs.Links.{is_asked, cell_read}
-use Rattle.log_laws.proofs.lemmas.Members.{Member, member_of, member_append, member_map, member_filter}
+use Rattle.std.proofs.lemmas.List.Elements.{Contains-append_cases}
+use Rattle.list_lemmas.proofs.lemmas.Contained.{member_map, Contains-nil}
+use Rattle.list_lemmas.proofs.lemmas.Filtered.{of_filter}
 use Rattle.log_laws.proofs.lemmas.Admitted.{IsFaultless, sane}
 use Rattle.log_laws.proofs.lemmas.Sane.{two_reqs}
 use Rattle.log_laws.proofs.lemmas.SerialOrder.{items_placed}
@@ -56,7 +58,7 @@ record IsReadOf (t : Tables) (op : Op) (m : Move) : Type 0 where
   runs : op ≡ operations.Run item
   req : Req
   at : ℕ × ℕ
-  is_req : Member (reqs_of t item) req
+  is_req : Contains (reqs_of t item) req
   is : m ≡ moves.Read (id_of t item) req.number (mapped_cell t req at)
 
 act_reads : (t : Tables) (act : DataAct) (p : ℕ × ℕ) → is_read (move_of t act p) ≡ false
@@ -65,16 +67,16 @@ act_reads t (Puts inst n) p = refl
 act_reads t (Resets inst) p = refl
 act_reads t (Folds src dst) p = refl
 
-data_reads : (t : Tables) (o : Option DataOp) (m : Move) → Member (data_moves t o) m → is_read m ≡ false
-data_reads t None m is = absurd is
+data_reads : (t : Tables) (o : Option DataOp) (m : Move) → Contains (data_moves t o) m → is_read m ≡ false
+data_reads t None m is = absurd (Contains-nil is)
 data_reads t (Some d) m is = let p = member_map (move_of t d.act) (grid (points_in t d.space) d.fields) m is in
     ap is_read p.2 ∙ act_reads t d.act p.0
 
-read_of : (t : Tables) (op : Op) (m : Move) → Member (moves_of t op) m → is_read m ≡ true → IsReadOf t op m
+read_of : (t : Tables) (op : Op) (m : Move) → Contains (moves_of t op) m → is_read m ≡ true → IsReadOf t op m
 read_of t (operations.Run item) m is read =
     let task = id_of t item in
     let rs = reqs_of t item in
-    elim (member_append (at_cells t (reads task) rs) (at_cells t (changes task) rs) m is) [
+    elim (Contains-append_cases (at_cells t (reads task) rs) (at_cells t (changes task) rs) m is) [
       | inl r ↦
           let of = is_of t rs (reads task) m r in
           record {
@@ -105,11 +107,11 @@ module _ (log : List Lined) (f : IsFaultless Check log) (ask : Ask) where
   t = tables_of log
 
   -- Reads of one task, for one requirement, at one point and field are one.
-  one_move : (i : ℕ) (q r : Req) (p s : ℕ × ℕ) → Member (reqs_of t i) q → Member (reqs_of t i) r → q.number ≡ r.number → p ≡ s
+  one_move : (i : ℕ) (q r : Req) (p s : ℕ × ℕ) → Contains (reqs_of t i) q → Contains (reqs_of t i) r → q.number ≡ r.number → p ≡ s
       → moves.Read (id_of t i) q.number (mapped_cell t q p) ≡ moves.Read (id_of t i) r.number (mapped_cell t r s)
   one_move i q r p s is_q is_r numbers places =
-      let a = member_filter (λ (r : Req). r.item == i) t.reqs q is_q in
-      let b = member_filter (λ (r : Req). r.item == i) t.reqs r is_r in
+      let a = of_filter (λ (r : Req). r.item == i) t.reqs q is_q in
+      let b = of_filter (λ (r : Req). r.item == i) t.reqs r is_r in
       elim (two_reqs t (sane Check log f) q r a.0 b.0 (eqb-true q.item i a.1 ∙ sym (eqb-true r.item i b.1))) [
         | inl one ↦ ap₂ (λ (r : Req) p. moves.Read (id_of t i) r.number (mapped_cell t r p)) one places
         | inr two ↦ absurd (two.0 numbers)
@@ -118,8 +120,8 @@ module _ (log : List Lined) (f : IsFaultless Check log) (ask : Ask) where
   pub one_asked : (x y : Step) → Contains (steps t) x → Contains (steps t) y → is_asked ask x.move ≡ true → is_asked ask y.move ≡ true
       → x ≡ y
   one_asked x y in_x in_y e g =
-      let a = of_node t _ x (member_of (steps t) x in_x) in
-      let b = of_node t _ y (member_of (steps t) y in_y) in
+      let a = of_node t _ x in_x in
+      let b = of_node t _ y in_y in
       let m = read_of t a.node.op x.move a.is_move (asked_reads ask x.move e) in
       let n = read_of t b.node.op y.move b.is_move (asked_reads ask y.move g) in
       let p = asked_tells ask x.move e in
@@ -141,6 +143,6 @@ module _ (log : List Lined) (f : IsFaultless Check log) (ask : Ask) where
       let field_is : m.at.1 ≡ n.at.1 = ap (λ (c : Cell). c.field) cell_m ∙ p.at_field
       ∙ sym (ap (λ (c : Cell). c.field) cell_n ∙ q.at_field) in
       let move : x.move ≡ y.move = m.is ∙ one_move m.item m.req n.req m.at n.at m.is_req
-      (subst (λ i. Member (reqs_of t i) n.req) item_is n.is_req) numbers (λ i. (point_is i, field_is i))
+      (subst (λ i. Contains (reqs_of t i) n.req) item_is n.is_req) numbers (λ i. (point_is i, field_is i))
       ∙ ap (λ i. moves.Read (id_of t i) n.req.number (mapped_cell t n.req n.at)) (sym item_is) ∙ sym n.is in
       λ i. record { node = nodes i; move = move i }

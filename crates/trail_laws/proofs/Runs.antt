@@ -1,5 +1,5 @@
 -- In the tables of a log without a fault no two nodes run one item, and no two nodes have one event, which is not 0.
-use Rattle.std.proofs.Common.{◌≡◌, ◌≢◌, ℕ, zero, suc, ◌<◌, ◌≤◌, inl, inr, true, false, ◌&&◌, ◌==◌, nat_lt, List, [], ◌∷◌, ◌++◌, find, Some, length, option_map, unwrap_or, slice_get, refl, sym, ap, ◌∙◌, subst, arith}
+use Rattle.std.proofs.Common.{◌≡◌, ◌≢◌, ℕ, zero, suc, ◌<◌, ◌≤◌, inl, inr, true, false, ◌&&◌, ◌==◌, nat_lt, List, [], ◌∷◌, ◌++◌, find, Some, length, option_map, unwrap_or, slice_get, refl, sym, ap, ◌∙◌, subst, arith, Contains, AllPairs}
 use Rattle.std.specs.List.{list_all, AllByRecursion}
 use Rattle.std.proofs.lemmas.Bool.{and_parts, ltb-true, eqb-true, eq-eqb, true≢false, cases_eq, cases_Bool}
 use Rattle.std.proofs.lemmas.Bool.Decides.{nat_tests}
@@ -13,10 +13,11 @@ use Rattle.spy_grammar.specs.declared.record.Record.TheVariants as records
 use Rattle.semantics.specs.declared.tables.Op.TheVariants as operations
 use Rattle.semantics.specs.Shown.{event_of}
 use Rattle.semantics.specs.Rules.{is_declared, is_task, names, task_id, is_run_again, runs_item}
-use Rattle.log_laws.proofs.lemmas.Members.{Member, Each, each_more, none_at, any_at, any_found, find_any, member_at, found_at, map_member}
-use Rattle.log_laws.proofs.lemmas.Apart.{PairsBy, all_pairs, pairs_from, pairs_of, pairs_more}
+use Rattle.list_lemmas.proofs.lemmas.Contained.{each_more, none_at, any_at, any_found, find_any, found_at, map_member, Contains-nil}
+use Rattle.list_lemmas.proofs.lemmas.Firsts.{contains_at}
+use Rattle.list_lemmas.proofs.lemmas.Pairs.{AllPairs-cases, AllPairs-push, AllPairs-nil, AllPairs-first, AllPairs-rest, AllPairs-put}
+use Rattle.list_lemmas.proofs.lemmas.Parts.{place_len}
 use Rattle.log_laws.proofs.lemmas.Admitted.{Unbroken, rule_kept, IsFaultless, by_records, keeps_of}
-use Rattle.log_laws.proofs.lemmas.Lists.{place_len}
 
 still_at : {X : Type 0} (xs ys : List X) (k : ℕ) (x : X) → slice_get xs k ≡ Some x → slice_get (xs ++ ys) k ≡ Some x
 still_at [] ys k x e = let none : k < 0 = slice_get_within [] k x e in absurd (omega (arith, none))
@@ -25,10 +26,18 @@ still_at (y ∷ xs) ys (suc k) x e = still_at xs ys k x e
 
 -- ---- what stays with each record
 
+-- Two nodes do not run one item.
+abbrev pub RunApart : LogNode → LogNode → Type 0
+RunApart m n = (item : ℕ) → m.op ≡ operations.Run item → n.op ≡ operations.Run item → ⊥
+
+-- What the graph has of a node.
+abbrev event_node : LogNode → Node
+event_node n = record { done = n.done; waits = n.waits }
+
 -- No two nodes run one item, and each that runs an item runs one that there is.
 pub record AreRuns (t : Tables) : Type 0 where
-  pub runs : PairsBy (λ (m n : LogNode). (item : ℕ) → m.op ≡ operations.Run item → n.op ≡ operations.Run item → ⊥) t.nodes
-  pub items : Each (λ (n : LogNode). (item : ℕ) → n.op ≡ operations.Run item → item < length t.items) t.nodes
+  pub runs : AllPairs RunApart t.nodes
+  pub items : (n : LogNode) → Contains t.nodes n → (item : ℕ) → n.op ≡ operations.Run item → item < length t.items
 
 -- The rules that matter here.
 record Keeps (t : Tables) (r : Record) : Type 0 where
@@ -44,11 +53,11 @@ with_item t i h = record {
   items = λ n m item e. let lt = h.items n m item e in omega (arith, lt, length-append t.items (i ∷ []));
 }
 
-with_node : (t : Tables) (n : LogNode) → ((m : LogNode) → Member t.nodes m → (item : ℕ) → m.op ≡ operations.Run item
+with_node : (t : Tables) (n : LogNode) → ((m : LogNode) → Contains t.nodes m → (item : ℕ) → m.op ≡ operations.Run item
     → n.op ≡ operations.Run item → ⊥)
     → ((item : ℕ) → n.op ≡ operations.Run item → item < length t.items) → AreRuns t → AreRuns (record t { nodes = t.nodes ++ n ∷ [] })
 with_node t n once there h = record {
-  runs = pairs_more _ t.nodes n h.runs once;
+  runs = AllPairs-push RunApart t.nodes n h.runs once;
   items = each_more (λ (n : LogNode). (item : ℕ) → n.op ≡ operations.Run item → item < length t.items) t.nodes n h.items there;
 }
 
@@ -84,17 +93,17 @@ with_kept t line _ k h = record { runs = h.runs; items = h.items }
 pub are_runs : (command : Command) (log : List Lined) → IsFaultless command log → AreRuns (tables_of log)
 are_runs command log f = by_records (λ r. Unit {0}) AreRuns (records_of log)
     (λ earlier l u _. with_kept (tables_of earlier) l.line l.rec (keeps (records_of log) earlier l.rec u))
-    [] log (recursion_from_All _ (records_of log) (λ k d lt. tt)) f.records (record { runs = tt; items = λ n m. absurd m })
+    [] log (recursion_from_All _ (records_of log) (λ k d lt. tt)) f.records (record { runs = AllPairs-nil RunApart; items = λ n m. absurd (Contains-nil m) })
 
 -- ---- what follows
 
 module _ (t : Tables) (h : AreRuns t) where
   pub within_items : (k item : ℕ) (n : LogNode) → slice_get t.nodes k ≡ Some n → n.op ≡ operations.Run item → item < length t.items
-  within_items k item n at e = h.items n (member_at t.nodes k n at) item e
+  within_items k item n at e = h.items n (contains_at t.nodes k n at) item e
 
   before : (k l : ℕ) (m n : LogNode) → slice_get t.nodes k ≡ Some m → slice_get t.nodes l ≡ Some n → k < l → (item : ℕ)
       → m.op ≡ operations.Run item → n.op ≡ operations.Run item → ⊥
-  before k l m n a b lt item e f = all_pairs _ t.nodes h.runs k l m lt (slice_get_within t.nodes l n b) item
+  before k l m n a b lt item e f = h.runs k l m lt (slice_get_within t.nodes l n b) item
       (ap (λ (n : LogNode). n.op) (get_or_from_slice_get t.nodes k m m a) ∙ e)
       (ap (λ (n : LogNode). n.op) (get_or_from_slice_get t.nodes l n m b) ∙ f)
 
@@ -115,7 +124,7 @@ module _ (t : Tables) (h : AreRuns t) where
 abbrev Positive : LogNode → Type 0
 Positive n = 1 ≤ n.done
 
-more_positive : (t : Tables) (line : ℕ) (r : Record) → Good r → Each Positive t.nodes → Each Positive (with_record t line r).nodes
+more_positive : (t : Tables) (line : ℕ) (r : Record) → Good r → ((x : _) → Contains t.nodes x → Positive x) → (x : _) → Contains (with_record t line r).nodes x → Positive x
 more_positive t line (records.Run task done waits) good h = each_more Positive t.nodes _ h good.1.0.0
 more_positive t line (records.Copy src dst space fields done waits) good h = each_more Positive t.nodes _ h good.1.1.1.1.0.0
 more_positive t line (records.Put inst space fields n done waits) good h = each_more Positive t.nodes _ h good.1.1.1.1.0.0
@@ -125,10 +134,10 @@ more_positive t line (records.Merge done waits) good h = each_more Positive t.no
 more_positive t line _ good h = h
 
 positive : (command : Command) (log : List Lined) → AllByRecursion Good (records_of log) → IsFaultless command log
-    → Each Positive (tables_of log).nodes
-positive command log good f = by_records Good (λ t. Each Positive t.nodes) (records_of log)
+    → (x : _) → Contains (tables_of log).nodes x → Positive x
+positive command log good f = by_records Good (λ t. ((x : _) → Contains t.nodes x → Positive x)) (records_of log)
     (λ earlier l u g h. more_positive (tables_of earlier) l.line l.rec g h)
-    [] log good f.records (λ n m. absurd m)
+    [] log good f.records (λ n m. absurd (Contains-nil m))
 
 -- The event of the node at a position.
 pub event_at : (t : Tables) (k : ℕ) (n : LogNode) → slice_get t.nodes k ≡ Some n → event_of t k ≡ n.done
@@ -140,7 +149,7 @@ event_at t k n at =
 pub event_positive : (command : Command) (log : List Lined) → AllByRecursion Good (records_of log) → IsFaultless command log
     → (k : ℕ) (n : LogNode) → slice_get (tables_of log).nodes k ≡ Some n → 1 ≤ event_of (tables_of log) k
 event_positive command log good f k n at = let t = tables_of log in
-    subst (λ e. 1 ≤ e) (sym (event_at t k n at)) (positive command log good f n (member_at t.nodes k n at))
+    subst (λ e. 1 ≤ e) (sym (event_at t k n at)) (positive command log good f n (contains_at t.nodes k n at))
 
 -- The node that is found by the event of a node is this node.
 pub found_by_event : (t : Tables) → AreLinked (graph_of t.nodes) → (k : ℕ) (n : LogNode) → slice_get t.nodes k ≡ Some n
@@ -148,23 +157,22 @@ pub found_by_event : (t : Tables) → AreLinked (graph_of t.nodes) → (k : ℕ)
 found_by_event t graph k n at =
     let is = event_at t k n at in
     let p = λ (m : LogNode). m.done == event_of t k in
-    let there = find_any p t.nodes (any_at p t.nodes n (member_at t.nodes k n at) (eq-eqb n.done (event_of t k) (sym is))) in
+    let there = find_any p t.nodes (any_at p t.nodes n (contains_at t.nodes k n at) (eq-eqb n.done (event_of t k) (sym is))) in
     let m : LogNode = there.0 in
     let found = found_at p t.nodes m there.1 in
-    there.1 ∙ ap (λ n. Some n) (same_node m n found.0 (member_at t.nodes k n at) (eqb-true m.done (event_of t k) found.1 ∙ is))
+    there.1 ∙ ap (λ n. Some n) (same_node m n found.0 (contains_at t.nodes k n at) (eqb-true m.done (event_of t k) found.1 ∙ is))
   where
-    pairs : (ns : List LogNode) → PairsBy (λ (m n : Node). m.done ≢ n.done) (graph_of ns) → PairsBy (λ (m n : LogNode). m.done ≢ n.done) ns
-    pairs [] h = tt
-    pairs (n ∷ ns) h = (
-      λ m is. h.0 (record { done = m.done; waits = m.waits })
-          (map_member (λ (n : LogNode). record { done = n.done; waits = n.waits }) ns m is),
-      pairs ns h.1,
-    )
+    pairs : (ns : List LogNode) → AllPairs (λ (m n : Node). m.done ≢ n.done) (graph_of ns) → AllPairs (λ (m n : LogNode). m.done ≢ n.done) ns
+    pairs [] h = AllPairs-nil (λ (m n : LogNode). m.done ≢ n.done)
+    pairs (n ∷ ns) h =
+        let first = AllPairs-first (λ (m n : Node). m.done ≢ n.done) (event_node n) (graph_of ns) h in
+        let rest = AllPairs-rest (λ (m n : Node). m.done ≢ n.done) (event_node n) (graph_of ns) h in
+        AllPairs-put (λ (m n : LogNode). m.done ≢ n.done) n ns (λ m is. first (event_node m) (map_member event_node ns m is)) (pairs ns rest)
 
-    same_node : (m n : LogNode) → Member t.nodes m → Member t.nodes n → m.done ≡ n.done → m ≡ n
+    same_node : (m n : LogNode) → Contains t.nodes m → Contains t.nodes n → m.done ≡ n.done → m ≡ n
     same_node m n a b e =
-        elim (pairs_of (λ (m n : LogNode). m.done ≢ n.done) t.nodes
-        (pairs t.nodes (pairs_from (λ (m n : Node). m.done ≢ n.done) (graph_of t.nodes) graph.apart)) m n a b) [
+        elim (AllPairs-cases (λ (m n : LogNode). m.done ≢ n.done) t.nodes
+        (pairs t.nodes graph.apart) m n a b) [
           | inl is ↦ is
           | inr (inl differ) ↦ absurd (differ e)
           | inr (inr differ) ↦ absurd (differ (sym e))

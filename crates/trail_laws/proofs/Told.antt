@@ -1,14 +1,14 @@
 -- Where nothing was added on the way, a cell holds what the last source put.
-use Rattle.std.proofs.Common.{◌≡◌, ℕ, ◌+◌, ◌<◌, inl, inr, Bool, true, false, cond, List, [], ◌∷◌, refl, sym, ap, ◌∙◌, subst, Option, Some, None, option_map, arith}
+use Rattle.std.proofs.Common.{◌≡◌, ℕ, ◌+◌, ◌<◌, inl, inr, Bool, true, false, cond, List, [], ◌∷◌, refl, sym, ap, ◌∙◌, subst, Option, Some, None, option_map, arith, Contains, ◌≢◌}
 use Rattle.std.specs.List.{AllByRecursion}
 use Rattle.std.proofs.lemmas.Bool.{true≢false}
 use Rattle.std.proofs.lemmas.Option.{same_Some}
+use Rattle.list_lemmas.proofs.lemmas.Contained.{Contains-first, Contains-here, Contains-nil, Contains-later, Contains-cases}
 use Rattle.value_terms.specs.declared.terms.Base.TheVariants.{Const, Out, Ident}
 use Rattle.vocabulary.specs.Prelude.{Value, plain, add_one, fold_in, Cell, Move, Tables, Step, State, start, same_cell, effect, sees, ReadsIn}
 use Rattle.semantics.specs.declared.moves.Move.TheVariants.{Read, Write, Reduce, Copy, Put, Reset, Fold}
 use Rattle.semantics.specs.Rules.{reduces_in}
-use Rattle.log_laws.proofs.lemmas.Members.{Member}
-use Rattle.log_laws.proofs.lemmas.Apart.{Apart}
+use Rattle.list_lemmas.proofs.lemmas.Pairs.{Apart, AllPairs-first, AllPairs-rest}
 use Rattle.log_laws.proofs.lemmas.Tidy.{one_cell, place}
 use Rattle.semantics.specs.Links.{Touch, Leaves, Adds, Puts, Takes, touch, Source, with_last, sources_of, cell_read, ComesFrom}
 
@@ -112,38 +112,42 @@ seen_here t (Read task req cell) earlier s ls k h e none v is =
     subst (λ ls. last_value t ls ≡ Some v) same (h cell k (subst HasNoAdds (sym same) none) ∙ is)
 seen_here t _ earlier s ls k h e none v is = absurd cc
 
-pub reads_member : (xs : List Step) (s : State) (e : Step) (v : Value) → ReadsIn xs s e v → Member xs e
+pub reads_member : (xs : List Step) (s : State) (e : Step) (v : Value) → ReadsIn xs s e v → Contains xs e
 reads_member [] s e v h = absurd h
-reads_member (x ∷ xs) s e v (inl h) = inl h.0
-reads_member (x ∷ xs) s e v (inr h) = inr (reads_member xs (effect x.move s) e v h)
+reads_member (x ∷ xs) s e v (inl h) = Contains-first xs h.0
+reads_member (x ∷ xs) s e v (inr h) = Contains-later xs (reads_member xs (effect x.move s) e v h)
 
-pub comes_member : (earlier xs : List Step) (e : Step) (ls : List Source) → ComesFrom earlier xs e ls → Member xs e
+pub comes_member : (earlier xs : List Step) (e : Step) (ls : List Source) → ComesFrom earlier xs e ls → Contains xs e
 comes_member earlier [] e ls h = absurd h
-comes_member earlier (x ∷ xs) e ls (inl h) = inl h.0
-comes_member earlier (x ∷ xs) e ls (inr h) = inr (comes_member (x ∷ earlier) xs e ls h)
+comes_member earlier (x ∷ xs) e ls (inl h) = Contains-first xs h.0
+comes_member earlier (x ∷ xs) e ls (inr h) = Contains-later xs (comes_member (x ∷ earlier) xs e ls h)
 
 -- Of steps of which none is taken twice, one that reads what came from sources without adds sees what the last of these puts.
-pub told : (t : Tables) (earlier xs : List Step) (s : State) → Apart xs → ((x : Step) → Member xs x → KeepsAway t x.move)
+pub told : (t : Tables) (earlier xs : List Step) (s : State) → Apart xs → ((x : Step) → Contains xs x → KeepsAway t x.move)
     → Shows t earlier s
     → (e : Step) (ls : List Source) → ComesFrom earlier xs e ls → HasNoAdds ls → (v : Value) → ReadsIn xs s e v → last_value t ls ≡ Some v
 told t earlier [] s apart keeps h e ls c none v r = absurd r
-told t earlier (x ∷ xs) s apart keeps h e ls (inl c) none v (inl r) = seen_here t x.move earlier s ls (keeps x (inl refl)) h c.1 none v r.1
-told t earlier (x ∷ xs) s apart keeps h e ls (inl c) none v (inr r) = absurd (apart.0 e (reads_member xs (effect x.move s) e v r) (sym c.0))
-told t earlier (x ∷ xs) s apart keeps h e ls (inr c) none v (inl r) = absurd (apart.0 e (comes_member (x ∷ earlier) xs e ls c) (sym r.0))
+told t earlier (x ∷ xs) s apart keeps h e ls (inl c) none v (inl r) = seen_here t x.move earlier s ls (keeps x (Contains-here xs)) h c.1 none v r.1
+told t earlier (x ∷ xs) s apart keeps h e ls (inl c) none v (inr r) =
+    absurd (AllPairs-first (λ x y. x ≢ y) x xs apart e (reads_member xs (effect x.move s) e v r) (sym c.0))
+told t earlier (x ∷ xs) s apart keeps h e ls (inr c) none v (inl r) =
+    absurd (AllPairs-first (λ x y. x ≢ y) x xs apart e (comes_member (x ∷ earlier) xs e ls c) (sym r.0))
 told t earlier (x ∷ xs) s apart keeps h e ls (inr c) none v (inr r) =
-    told t (x ∷ earlier) xs (effect x.move s) apart.1 (λ y m. keeps y (inr m))
-    (shows_next t x.node x.move earlier s (keeps x (inl refl)) h) e ls c none v r
+    told t (x ∷ earlier) xs (effect x.move s) (AllPairs-rest (λ x y. x ≢ y) x xs apart) (λ y m. keeps y (Contains-later xs m))
+    (shows_next t x.node x.move earlier s (keeps x (Contains-here xs)) h) e ls c none v r
 
 -- Each step that reads comes from some sources.
-pub comes : (earlier xs : List Step) (e : Step) (c : Cell) → Member xs e → cell_read e.move ≡ Some c → (ls : List Source)
+pub comes : (earlier xs : List Step) (e : Step) (c : Cell) → Contains xs e → cell_read e.move ≡ Some c → (ls : List Source)
     × ComesFrom earlier xs e ls
-comes earlier [] e c m r = absurd m
-comes earlier (x ∷ xs) e c (inl is) r = (
-  sources_of earlier c 0,
-  inl (
-    is,
-    ap (λ (y : Step). option_map (λ c. sources_of earlier c 0) (cell_read y.move)) (sym is)
-        ∙ ap (option_map (λ c. sources_of earlier c 0)) r,
-  ),
-)
-comes earlier (x ∷ xs) e c (inr m) r = let rest = comes (x ∷ earlier) xs e c m r in (rest.0, inr rest.1)
+comes earlier [] e c m r = absurd (Contains-nil m)
+comes earlier (x ∷ xs) e c m r = elim (Contains-cases xs m) [
+  | inl is ↦ (
+    sources_of earlier c 0,
+    inl (
+      is,
+      ap (λ (y : Step). option_map (λ c. sources_of earlier c 0) (cell_read y.move)) (sym is)
+          ∙ ap (option_map (λ c. sources_of earlier c 0)) r,
+    ),
+  )
+  | inr later ↦ let rest = comes (x ∷ earlier) xs e c later r in (rest.0, inr rest.1)
+]

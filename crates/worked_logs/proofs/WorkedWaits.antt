@@ -1,13 +1,14 @@
 -- The waits that others imply, of a worked log.
 use Rattle.std.proofs.Common.{◌≡◌, ℕ, zero, suc, ◌<◌, ◌≤◌, ◌⊎◌, inl, inr, List, [], ◌∷◌, take, refl, sym, ap, arith, subst, Contains, Some, slice_get}
 use Rattle.std.proofs.lemmas.Option.{same_Some, slice_get_within}
+use Rattle.list_lemmas.proofs.lemmas.Pairs.{AllPairs-put, AllPairs-nil}
+use Rattle.list_lemmas.proofs.lemmas.Contained as element
+use Rattle.list_lemmas.proofs.lemmas.Contained.{Contains-nil, Contains-first, Contains-cases}
 use Rattle.findings.specs.declared.finding.Finding.TheVariants as findings
 use Rattle.vocabulary.specs.Prelude.{ListedWait, lined, Node, WaitsOn, Before, IsCycle}
 use Rattle.semantics.specs.ReplayOrder.{done_at}
 use Rattle.semantics.specs.Spare.{IsBeforeAnother, IsSpare, IsAhead, AreSpareWaits}
 use Rattle.semantics.specs.declared.command.Command.TheVariants.{Spare}
-use Rattle.log_laws.proofs.lemmas.Apart.{all_pairs}
-use Rattle.log_laws.proofs.lemmas.Members.{Member, member_of, contains_of}
 use Rattle.outcomes.specs.Outcome.{IsFound}
 use Rattle.worked_logs.specs.WorkedLogs.{with_spare_wait}
 use Rattle.semantics.specs.Computed.{logs_computed}
@@ -35,20 +36,21 @@ done_is (suc (suc (suc zero))) event e = sym (same_Some _ event e)
 done_is (suc (suc (suc (suc k)))) event e = absurd cc
 
 -- What a node lists are events of earlier ones.
-listed_below : (k : ℕ) (n : Node) (event : ℕ) → slice_get nodes k ≡ Some n → Member n.waits event → event ≤ k
-listed_below zero n event e m = absurd (subst (λ (n : Node). Member n.waits event) (sym (same_Some _ n e)) m)
+listed_below : (k : ℕ) (n : Node) (event : ℕ) → slice_get nodes k ≡ Some n → Contains n.waits event → event ≤ k
+listed_below zero n event e m = absurd (Contains-nil (subst (λ (n : Node). Contains n.waits event) (sym (same_Some _ n e)) m))
 listed_below (suc zero) n event e m =
-    elim (subst (λ (n : Node). Member n.waits event) (sym (same_Some _ n e)) m) [ inl is ↦ omega (arith, is) | inr none ↦ absurd none ]
+    omega (arith, element.only (subst (λ (n : Node). Contains n.waits event) (sym (same_Some _ n e)) m))
 listed_below (suc (suc zero)) n event e m =
-    elim (subst (λ (n : Node). Member n.waits event) (sym (same_Some _ n e)) m) [ inl is ↦ omega (arith, is) | inr none ↦ absurd none ]
-listed_below (suc (suc (suc zero))) n event e m = elim (subst (λ (n : Node). Member n.waits event) (sym (same_Some _ n e)) m) [
-  | inl is ↦ omega (arith, is)
-  | inr later ↦ elim later [ inl is ↦ omega (arith, is) | inr none ↦ absurd none ]
-]
+    omega (arith, element.only (subst (λ (n : Node). Contains n.waits event) (sym (same_Some _ n e)) m))
+listed_below (suc (suc (suc zero))) n event e m =
+    elim (Contains-cases (3 ∷ []) (subst (λ (n : Node). Contains n.waits event) (sym (same_Some _ n e)) m)) [
+      | inl is ↦ omega (arith, is)
+      | inr later ↦ omega (arith, element.only later)
+    ]
 listed_below (suc (suc (suc (suc k)))) n event e m = absurd cc
 
 rises : (a b : ℕ) → WaitsOn nodes b a → a < b
-rises a b w = omega (arith, event_is a w.on w.on_is, listed_below b w.by w.on.done w.by_is (member_of w.by.waits w.on.done w.listed))
+rises a b w = omega (arith, event_is a w.on w.on_is, listed_below b w.by w.on.done w.by_is w.listed)
 
 before_rises : (a b : ℕ) → Before nodes a b → a < b
 before_rises a b ([], chain) = rises a b chain
@@ -64,7 +66,7 @@ implied_below node event h = omega (arith, done_is h.on event h.done, before_ris
 
 -- The only wait of a node is no repeated one.
 alone : (event node : ℕ) → event ≡ node → (ws : List ℕ) → Contains (take 0 ws) event ⊎ IsBeforeAnother nodes node event → ⊥
-alone event node same ws (inl again) = member_of [] event again
+alone event node same ws (inl again) = Contains-nil again
 alone event node same ws (inr h) = omega (arith, implied_below node event h, same)
 
 only : (node k : ℕ) → IsSpare nodes node k → (node ≡ 3) × (k ≡ 0)
@@ -77,7 +79,7 @@ only (suc (suc (suc zero))) zero s = (refl, refl)
 only (suc (suc (suc zero))) (suc zero) s =
     let event : 3 ≡ s.event = same_Some 3 s.event s.listed in
     elim s.implied [
-      | inl again ↦ elim (member_of (1 ∷ []) s.event again) [ inl is ↦ absurd (omega (arith, is, event)) | inr none ↦ absurd none ]
+      | inl again ↦ absurd (omega (arith, element.only again, event))
       | inr h ↦ absurd (omega (arith, implied_below 3 s.event h, event))
     ]
 only (suc (suc (suc zero))) (suc (suc k)) s = absurd (omega (arith, slice_get_within (1 ∷ 3 ∷ []) (suc (suc k)) s.event s.listed))
@@ -109,14 +111,10 @@ found = record { node = 3; k = 0 } ∷ []
 are_spare : AreSpareWaits nodes found
 are_spare = record {
   each = λ w. (
-    λ c. elim (member_of found w c) [
-      | inl is ↦ subst (λ (v : ListedWait). IsSpare nodes v.node v.k) (sym is) first_is_spare
-      | inr none ↦
-          absurd none
-    ],
-    λ s. let at = only w.node w.k s in contains_of found w (inl (rw (at.0, at.1) refl)),
+    λ c. subst (λ (v : ListedWait). IsSpare nodes v.node v.k) (sym (element.only c)) first_is_spare,
+    λ s. let at = only w.node w.k s in Contains-first [] (rw (at.0, at.1) refl),
   );
-  in_order = all_pairs IsAhead found ((λ w m. absurd m), tt);
+  in_order = AllPairs-put IsAhead (record { node = 3; k = 0 }) [] (λ w none. absurd (Contains-nil none)) (AllPairs-nil IsAhead);
 }
 
 pub spare_of_copy : IsFound Spare 20 (lined with_spare_wait) (findings.Spare ((4, 1) ∷ []) 4)

@@ -11,7 +11,7 @@ use Rattle.std.specs.Option.{IsSomeAnd}
 use Rattle.semantics.specs.ReplayOrder.{waits_at, done_at}
 use Rattle.std.proofs.lemmas.Option.{same_Some, slice_get_cases, slice_get_within, slice_get-map, get_or_from_slice_get, slice_get-get_or}
 use Rattle.vocabulary.specs.Prelude.{Node, AreLinked}
-use Rattle.log_laws.proofs.lemmas.Members.{none_or_some}
+use Rattle.list_lemmas.proofs.lemmas.Firsts.{cases_option}
 use Rattle.event_graph.specs.WaitCounts.{times, AddsWaits}
 use Rattle.event_graph.specs.EventPlaces.{hits, is_place, ArePlaces}
 use Rattle.event_graph.proofs.Times.{times-push}
@@ -41,7 +41,7 @@ abbrev done : Node → ℕ
 done n = n.done
 
 done_of : (nodes : List Node) (k x : ℕ) → slice_get (map done nodes) k ≡ Some x → (n : Node) × (slice_get nodes k ≡ Some n) × (n.done ≡ x)
-done_of nodes k x e = elim (none_or_some (slice_get nodes k)) [
+done_of nodes k x e = elim (cases_option (slice_get nodes k)) [
   | inl none ↦ let bad = rw none at (sym (slice_get-map done nodes k) ∙ e) in absurd cc
   | inr some ↦ let is = rw some.1 at (sym (slice_get-map done nodes k) ∙ e) in (some.0, some.1, same_Some some.0.done x is)
 ]
@@ -52,7 +52,7 @@ record Stand (nodes : List Node) (place : ℕ → Option ℕ) : Type 0 where
   known : (p : ℕ) (n : Node) → slice_get nodes p ≡ Some n → place n.done ≡ Some p
 
 pub node_at : (nodes : List Node) (p e : ℕ) → done_at nodes p ≡ Some e → (n : Node) × (slice_get nodes p ≡ Some n) × (n.done ≡ e)
-node_at nodes p e is = elim (none_or_some (slice_get nodes p)) [
+node_at nodes p e is = elim (cases_option (slice_get nodes p)) [
   | inl none ↦ let bad = rw none at is in absurd cc
   | inr some ↦ (some.0, some.1, same_Some some.0.done e (rw some.1 at is))
 ]
@@ -107,7 +107,7 @@ hits_times nodes place are p n at (w ∷ ws) = ap (λ b. (if b then 1 else 0) + 
     here = elim (cases_eq w n.done) [
       | inl e ↦ ap (λ v. is_place p (place v)) e
           ∙ (ap (is_place p) ((stand nodes place are).known p n at) ∙ (eq-eqb p p refl ∙ sym (eq-eqb w n.done e)))
-      | inr ne ↦ elim (none_or_some (place w)) [
+      | inr ne ↦ elim (cases_option (place w)) [
         | inl none ↦ ap (is_place p) none ∙ sym (ne_eqb w n.done ne)
         | inr some ↦ ap (is_place p) some.1 ∙ (ne_eqb some.0 p (λ same. let m = (stand nodes place are).found w some.0 some.1 in
             ne (sym m.2 ∙ ap done (same_Some m.0 n (sym m.1 ∙ (ap (slice_get nodes) same ∙ at))))) ∙ sym (ne_eqb w n.done ne))
@@ -143,7 +143,7 @@ pub placed_within : (nodes : List Node) (place : ℕ → Option ℕ) → ArePlac
     → All (λ e. is_some (place e) ≡ true) ws → (m : ℕ) → m ≡ length nodes → All (λ e. IsSomeAnd (place e) (λ p. p < m)) ws
 placed_within nodes place are ws known m is i d lt =
     let e = get_or ws i d in
-    elim (none_or_some (place e)) [
+    elim (cases_option (place e)) [
       | inl none ↦ let bad = rw none at (known i d lt) in absurd cc
       | inr some ↦ rw some.1 (let n = node_at nodes some.0 e (are.found e some.0 some.1) in
           omega (arith, slice_get_within nodes some.0 n.0 n.1, is))
@@ -151,7 +151,7 @@ placed_within nodes place are ws known m is i d lt =
 
 pub waits_known : (nodes : List Node) → AreLinked nodes → (place : ℕ → Option ℕ) → ArePlaces nodes place → (k : ℕ)
     → All (λ e. is_some (place e) ≡ true) (waits_at nodes k)
-waits_known nodes linked place are k = elim (none_or_some (slice_get nodes k)) [
+waits_known nodes linked place are k = elim (cases_option (slice_get nodes k)) [
   | inl none ↦ rw none (λ i d lt. absurd (omega (arith, lt)))
   | inr n ↦ rw n.1 (λ i d lt.
       let e = get_or n.0.waits i d in
@@ -184,7 +184,7 @@ linked_if nodes place is first known =
     record {
       apart = λ i j d lt within e. let same = same_Some i j (sym (stands_at i d (omega (arith, lt, within)))
           ∙ (ap place e ∙ stands_at j d within)) in omega (arith, lt, same);
-      linked = λ n event (k, lt, at) (w, less, it). elim (none_or_some (place event)) [
+      linked = λ n event (k, lt, at) (w, less, it). elim (cases_option (place event)) [
         | inl none ↦ let bad = sym (ap (λ (o : Option ℕ). is_some o) (ap place it ∙ none)) ∙ rw at at (known k n lt) w event less in
             absurd cc
         | inr some ↦

@@ -3,7 +3,7 @@ use Rattle.std.proofs.Common.{◌≡◌, ℕ, true, List, Some, slice_get, is_so
 use Rattle.std.specs.List.{list_any, position_from}
 use Rattle.list_lemmas.proofs.lemmas.Firsts.{find_place}
 use Rattle.list_lemmas.proofs.lemmas.Places.{is_some-position}
-use Rattle.log_laws.proofs.lemmas.Members.{find_any, found_at}
+use Rattle.list_lemmas.proofs.lemmas.Contained.{find_any, found_at}
 
 pub place_found : {X : Type 0} (p : X → Bool) (xs : List X) (k : ℕ) → position_from p 0 xs ≡ Some k → (x : X) × (slice_get xs k ≡ Some x)
     × (p x ≡ true)

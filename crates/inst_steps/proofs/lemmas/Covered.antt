@@ -1,10 +1,10 @@
 -- The cells that the steps of a log without a fault touch are cells of instances.
-use Rattle.std.proofs.Common.{◌≡◌, ℕ, ◌==◌, ◌&&◌, cond, inl, inr, Bool, true, false, not, is_some, List, [], ◌∷◌, ◌++◌, map, filter, flat_map, find, Option, Some, None, option_map, refl, sym, ap, ap₂, ◌∙◌, subst, slice_get, Contains}
+use Rattle.std.proofs.Common.{◌≡◌, ℕ, ◌==◌, ◌&&◌, cond, inl, inr, Bool, true, false, not, is_some, List, [], ◌∷◌, ◌++◌, map, filter, flat_map, find, Option, Some, None, option_map, refl, sym, ap, ap₂, ◌∙◌, subst, slice_get, Contains, arith}
 use Rattle.std.specs.Prelude.{IfSome}
 use Rattle.std.specs.List.{list_all, list_any}
 use Rattle.std.specs.Option.{option_map_or}
 use Rattle.std.proofs.lemmas.Bool.{not-false, false≢true, true≢false, or_parts, eqb-true, and_parts}
-use Rattle.std.proofs.lemmas.List.Elements.{recursion_from_All}
+use Rattle.std.proofs.lemmas.List.Elements.{recursion_from_All, Contains-append_right, Contains-append_cases, Contains-push}
 use Rattle.std.proofs.lemmas.Option.{same_Some}
 use Rattle.vocabulary.specs.Prelude.{Rect, Priv, Record, Lined, Move, Req, Inst, Map, LogNode, Op, records_of, Tables, Space, place_of, with_space, with_record, no_tables, tables_of, is_in, is_within, points_in, reqs_of, grid, req_at, inst_at, cell_in, id_of, operator_of, moves_of, start, Value}
 use Rattle.privilege.specs.declared.kinds.Priv.TheVariants as privileges
@@ -18,7 +18,7 @@ use Rattle.semantics.specs.Rules.{is_declared, names, space_id, lacks, is_not_co
 use Rattle.semantics.specs.declared.command.Command.TheVariants.{Check}
 use Rattle.semantics.specs.Faults.{unmapped_fault}
 use Rattle.logs.specs.Faultless.{AreDeclared}
-use Rattle.log_laws.proofs.lemmas.Members.{Member, Each, each_more, member_right, none_at, member_of, member_at, member_flat, member_map, member_append, member_filter, all_at, is_in_of, member_in, found_at, find_any, find_still, none_or_some, only, filter_member}
+use Rattle.log_laws.proofs.lemmas.Members.{is_in_of, member_in}
 use Rattle.log_laws.proofs.lemmas.Apart.{member_grid}
 use Rattle.log_laws.proofs.lemmas.Sane.{two_reqs}
 use Rattle.log_laws.proofs.lemmas.Admitted.{Unbroken, rule_kept, by_records, no_broken_rule, IsFaultless, sane, all_mapped}
@@ -31,6 +31,9 @@ use Rattle.inst_steps.specs.Stores.{Contents, IsStart, HasCells, has_cell}
 use Rattle.inst_steps.specs.Celled.{AreOfInsts, HasCellsOf}
 use Rattle.inst_steps.proofs.Sweeping.{pass_cut, sweeps_are, passes_cut}
 use Rattle.inst_steps.specs.Stepping.{moves_at}
+use Rattle.list_lemmas.proofs.lemmas.Contained.{each_more, none_at, member_flat, member_map, all_at, found_at, find_any, find_still, only, Contains-nil}
+use Rattle.list_lemmas.proofs.lemmas.Filtered.{of_filter, in_filter}
+use Rattle.list_lemmas.proofs.lemmas.Firsts.{contains_at, cases_option}
 
 -- ---- an instance has the points of a space, and fields
 
@@ -82,13 +85,13 @@ abbrev Mapped : Tables → Map → Type 0
 Mapped t m = (r : Req) × (req_at t m.item m.number ≡ Some r) × Within t.spaces t.insts r.space m.fields m.inst
 
 abbrev OpWithin : List Space → List Inst → Op → Type 0
-OpWithin ss is op = (d : DataOp) → data_of op ≡ Some d → Each (Within ss is d.space d.fields) (insts_of d.act)
+OpWithin ss is op = (d : DataOp) → data_of op ≡ Some d → (x : _) → Contains (insts_of d.act) x → Within ss is d.space d.fields x
 
 record Covers (t : Tables) : Type 0 where
-  insts : Each (λ (i : Inst). Spaced t i.space) t.insts
-  reqs : Each (λ (r : Req). Spaced t r.space) t.reqs
-  maps : Each (Mapped t) t.maps
-  nodes : Each (λ (n : LogNode). OpWithin t.spaces t.insts n.op) t.nodes
+  insts : (i : Inst) → Contains t.insts i → Spaced t i.space
+  reqs : (r : Req) → Contains t.reqs r → Spaced t r.space
+  maps : (x : _) → Contains t.maps x → Mapped t x
+  nodes : (n : LogNode) → Contains t.nodes n → OpWithin t.spaces t.insts n.op
 
 more_op : (ss us : List Space) (is js : List Inst)
     → ((space : ℕ) (fields : List ℕ) (id : ℕ) → Within ss is space fields id → Within us js space fields id) → (op : Op) → OpWithin ss is op
@@ -100,7 +103,7 @@ spaced t id e = find_any (λ (s : Space). s.id == id) t.spaces e
 
 within : (t : Tables) → Covers t → (space : ℕ) (fields : List ℕ) (id : ℕ) → Spaced t space → lacks t (points_in t space) fields id ≡ false
     → Within t.spaces t.insts space fields id
-within t h space fields id known none = elim (none_or_some (inst_at t id)) [
+within t h space fields id known none = elim (cases_option (inst_at t id)) [
   | inl missing ↦ absurd
       (false≢true (sym (ap (λ o. option_map_or (λ (i : Inst). is_within (points_in t space) (points_in t i.space)
       && is_within fields i.fields) o false) missing) ∙ not-false _ none))
@@ -127,7 +130,7 @@ within t h space fields id known none = elim (none_or_some (inst_at t id)) [
 named_there : (t : Tables) → Covers t → (item number : ℕ) (fields : List ℕ) (id : ℕ) → not (is_some (req_at t item number)) ≡ false
     → lacks t (option_map_or (λ (r : Req). points_in t r.space) (req_at t item number) []) fields id ≡ false
     → (r : Req) × (req_at t item number ≡ Some r) × Within t.spaces t.insts r.space fields id
-named_there t h item number fields id there none = elim (none_or_some (req_at t item number)) [
+named_there t h item number fields id there none = elim (cases_option (req_at t item number)) [
   | inl missing ↦ absurd (true≢false (sym (ap (λ (o : Option Req). not (is_some o)) missing) ∙ there))
   | inr some ↦
       let r = some.0 in (
@@ -156,12 +159,12 @@ op_within : (t : Tables) → Covers t → (act : DataAct) (space : ℕ) (fields 
     → list_all (is_declared t) (map (λ id. rules.inst_id id) (insts_of act) ++ space_id space ∷ []) ≡ true
     → list_any (lacks t (points_in t space) fields) (insts_of act) ≡ false → (d : DataOp)
     → Some (let x : DataOp = record { act = act; space = space; fields = fields } in x) ≡ Some d
-    → Each (Within t.spaces t.insts d.space d.fields) (insts_of d.act)
+    → (x : _) → Contains (insts_of d.act) x → Within t.spaces t.insts d.space d.fields x
 op_within t h act space fields known none d e =
     let insts = map (λ id. rules.inst_id id) (insts_of act) in
     let declared = spaced t space (all_at (is_declared t) (insts ++ space_id space ∷ []) (space_id space) known
-    (member_right insts (space_id space ∷ []) (space_id space) (inl refl))) in
-    subst (λ (d : DataOp). Each (Within t.spaces t.insts d.space d.fields) (insts_of d.act)) (same_Some _ d e)
+    (Contains-push insts (space_id space))) in
+    subst (λ (d : DataOp). (id : ℕ) → Contains (insts_of d.act) id → Within t.spaces t.insts d.space d.fields id) (same_Some _ d e)
     (λ id m. within t h space fields id declared (none_at (lacks t (points_in t space) fields) (insts_of act) id none m))
 
 space_covers : (t : Tables) (id : ℕ) (points : List ℕ) (rects : List Rect) → Covers t → Covers (with_space t id points rects)
@@ -179,14 +182,14 @@ more_covers t line (records.Req task tree space fields access atomic) k h = reco
   insts = h.insts;
   reqs = each_more (λ (r : Req). Spaced t r.space) t.reqs _ h.reqs
       (spaced t space (all_at (is_declared t) (names (records.Req task tree space fields access atomic)) (space_id space) k.declared
-      (inr (inr (inl refl)))));
+      (2, omega arith, refl)));
   maps = λ n m. let f = h.maps n m in (f.0, find_still (λ (r : Req). (r.item == n.item) && (r.number == n.number)) t.reqs _ f.0 f.1, f.2);
   nodes = h.nodes;
 }
 more_covers t line (records.Inst id tree space fields kind) k h = record {
   insts = each_more (λ (i : Inst). Spaced t i.space) t.insts _ h.insts
       (spaced t space (all_at (is_declared t) (names (records.Inst id tree space fields kind)) (space_id space) k.declared
-      (inr (inl refl))));
+      (1, omega arith, refl)));
   reqs = h.reqs;
   maps = λ n m. let f = h.maps n m in (f.0, f.1, more_insts t.spaces t.insts _ f.0.space n.fields n.inst f.2);
   nodes = λ n m. more_op t.spaces t.spaces t.insts _ (more_insts t.spaces t.insts _) n.op (h.nodes n m);
@@ -210,7 +213,12 @@ more_covers t line (records.Merge done waits) k h = node_more t _ h (λ d e. abs
 more_covers t line _ k h = record { insts = h.insts; reqs = h.reqs; maps = h.maps; nodes = h.nodes }
 
 nothing_covered : Covers no_tables
-nothing_covered = record { insts = λ i m. absurd m; reqs = λ r m. absurd m; maps = λ n m. absurd m; nodes = λ n m. absurd m }
+nothing_covered = record {
+  insts = λ i m. absurd (Contains-nil m);
+  reqs = λ r m. absurd (Contains-nil m);
+  maps = λ n m. absurd (Contains-nil m);
+  nodes = λ n m. absurd (Contains-nil m);
+}
 
 ruled : (log : List Record) (earlier : List Lined) (r : Record) → Unbroken log earlier r → Ruled (tables_of earlier) r
 ruled log earlier r u =
@@ -224,35 +232,35 @@ covers log f = by_records (λ r. Unit {0}) Covers (records_of log)
 
 -- ---- the cells of a sweep
 
-kept_in : (listed : Option (List ℕ)) (xs ys : List ℕ) (p : ℕ) → is_within xs ys ≡ true → Member (kept listed xs) p
+kept_in : (listed : Option (List ℕ)) (xs ys : List ℕ) (p : ℕ) → is_within xs ys ≡ true → Contains (kept listed xs) p
     → is_in (kept listed ys) p ≡ true
 kept_in (Some ps) xs ys p w m =
-    let a = member_filter (is_in ps) xs p m in
-    is_in_of (filter (is_in ps) ys) p (filter_member (is_in ps) ys p (member_in ys p (all_at (is_in ys) xs p w a.0)) a.1)
+    let a = of_filter (is_in ps) xs p m in
+    is_in_of (filter (is_in ps) ys) p (in_filter (is_in ps) ys p (member_in ys p (all_at (is_in ys) xs p w a.0)) a.1)
 kept_in None xs ys p w m = all_at (is_in ys) xs p w m
 
 held : (t : Tables) (listed : Option (List ℕ)) (space : ℕ) (fields : List ℕ) (id : ℕ) → Within t.spaces t.insts space fields id
-    → (q : ℕ × ℕ) → Member (kept listed (points_in t space)) q.0 → Member fields q.1
+    → (q : ℕ × ℕ) → Contains (kept listed (points_in t space)) q.0 → Contains fields q.1
     → has_cell (cut_to listed t) (cell_in id q) ≡ true
 held t listed space fields id w q point field =
     let here : inst_at (cut_to listed t) id ≡ Some w.i = w.in_inst in
     let there : points_in (cut_to listed t) w.i.space ≡ kept listed w.si.points =
     points_cut_to listed t w.i.space ∙ ap (λ o. kept listed (option_map_or (λ (s : Space). s.points) o [])) w.of_inst in
-    let at : Member (kept listed w.s.points) q.0 =
-    subst (λ o. Member (kept listed (option_map_or (λ (s : Space). s.points) o [])) q.0) w.in_space point in
+    let at : Contains (kept listed w.s.points) q.0 =
+    subst (λ o. Contains (kept listed (option_map_or (λ (s : Space). s.points) o [])) q.0) w.in_space point in
     rw (here, there, kept_in listed w.s.points w.si.points q.0 w.points at, all_at (is_in w.i.fields) fields q.1 w.covered field) refl
 
 abbrev Held : Tables → Option (List ℕ) → Act → ℕ → List ℕ → Type 0
-Held t listed act space fields = (q : ℕ × ℕ) → Member (kept listed (points_in t space)) q.0 → Member fields q.1
+Held t listed act space fields = (q : ℕ × ℕ) → Contains (kept listed (points_in t space)) q.0 → Contains fields q.1
     → AreOfInsts (cut_to listed t) (move_at t act q)
 
 module _ (log : List Lined) (f : IsFaultless Check log) (listed : Option (List ℕ)) where
-  req_held : (r : Req) → Member (tables_of log).reqs r → (q : ℕ × ℕ) → Member (kept listed (points_in (tables_of log) r.space)) q.0
-      → Member r.fields q.1 → has_cell (cut_to listed (tables_of log)) (cell_of (tables_of log) r.item r.number q) ≡ true
+  req_held : (r : Req) → Contains (tables_of log).reqs r → (q : ℕ × ℕ) → Contains (kept listed (points_in (tables_of log) r.space)) q.0
+      → Contains r.fields q.1 → has_cell (cut_to listed (tables_of log)) (cell_of (tables_of log) r.item r.number q) ≡ true
   req_held r own q point field =
       let t = tables_of log in
       let test : Map → Bool = λ (m : Map). (m.item == r.item) && ((m.number == r.number) && is_in m.fields q.1) in
-      elim (none_or_some (find test t.maps)) [
+      elim (cases_option (find test t.maps)) [
         | inl missing ↦ absurd (false≢true (sym (ap (λ o. is_some (option_map (λ (m : Map). m.inst) o)) missing)
             ∙ all_mapped log f r q.1 own field))
         | inr some ↦
@@ -265,11 +273,11 @@ module _ (log : List Lined) (f : IsFaultless Check log) (listed : Option (List �
             let n = (covers log f).maps m at.0 in
             let same = one_req log f n.0 r m n.1 own item number in
             rw some.1 (held t listed n.0.space m.fields m.inst n.2 q
-            (subst (λ (r : Req). Member (kept listed (points_in t r.space)) q.0) (sym same) point) in_fields)
+            (subst (λ (r : Req). Contains (kept listed (points_in t r.space)) q.0) (sym same) point) in_fields)
       ]
     where
       one_req : (log : List Lined) (f : IsFaultless Check log) (q r : Req) (m : Map) → req_at (tables_of log) m.item m.number ≡ Some q
-          → Member (tables_of log).reqs r → m.item ≡ r.item → m.number ≡ r.number → q ≡ r
+          → Contains (tables_of log).reqs r → m.item ≡ r.item → m.number ≡ r.number → q ≡ r
       one_req log f q r m found own item number =
           let at = found_at (λ (q : Req). (q.item == m.item) && (q.number == m.number)) (tables_of log).reqs q found in
           let i = eqb-true q.item m.item (and_parts (q.item == m.item) (q.number == m.number) at.1).0 in
@@ -280,7 +288,7 @@ module _ (log : List Lined) (f : IsFaultless Check log) (listed : Option (List �
                 absurd (apart.0 (n ∙ number))
           ]
 
-  read_held : (task : ℕ) (r : Req) → Member (tables_of log).reqs r → (a : Priv) → r.access ≡ a → (p : Pass)
+  read_held : (task : ℕ) (r : Req) → Contains (tables_of log).reqs r → (a : Priv) → r.access ≡ a → (p : Pass)
       → pass_for r (reading (tables_of log) task r) ≡ Some p → Held (tables_of log) listed p.act p.space p.fields
   read_held task r own privileges.Ro e p is = subst
       (λ (o : Option Pass). IfSome o (λ (p : Pass). Held (tables_of log) listed p.act p.space p.fields)) (rw e at is) (req_held r own)
@@ -289,7 +297,7 @@ module _ (log : List Lined) (f : IsFaultless Check log) (listed : Option (List �
   read_held task r own privileges.Wd e p is = absurd (let bad = rw e at is in cc)
   read_held task r own (privileges.Red op) e p is = absurd (let bad = rw e at is in cc)
 
-  change_held : (task : ℕ) (r : Req) → Member (tables_of log).reqs r → (a : Priv) → r.access ≡ a → (p : Pass)
+  change_held : (task : ℕ) (r : Req) → Contains (tables_of log).reqs r → (a : Priv) → r.access ≡ a → (p : Pass)
       → pass_for r (changing (tables_of log) task r) ≡ Some p → Held (tables_of log) listed p.act p.space p.fields
   change_held task r own privileges.Ro e p is = absurd (let bad = rw e at is in cc)
   change_held task r own privileges.Rw e p is =
@@ -299,71 +307,71 @@ module _ (log : List Lined) (f : IsFaultless Check log) (listed : Option (List �
   change_held task r own (privileges.Red op) e p is =
       subst (λ (o : Option Pass). IfSome o (λ (p : Pass). Held (tables_of log) listed p.act p.space p.fields)) (rw e at is) (req_held r own)
 
-  only_held : (p q : Pass) → Held (tables_of log) listed q.act q.space q.fields → Member (Some q ∷ []) (Some p)
+  only_held : (p q : Pass) → Held (tables_of log) listed q.act q.space q.fields → Contains (Some q ∷ []) (Some p)
       → Held (tables_of log) listed p.act p.space p.fields
   only_held p q w m = subst (λ (o : Option Pass). IfSome o (λ (p : Pass). Held (tables_of log) listed p.act p.space p.fields))
       (sym (only m)) w
 
   pass_held : (op : Op) → OpWithin (tables_of log).spaces (tables_of log).insts op → (p : Pass)
-      → Member (passes_of (tables_of log) op) (Some p) → Held (tables_of log) listed p.act p.space p.fields
+      → Contains (passes_of (tables_of log) op) (Some p) → Held (tables_of log) listed p.act p.space p.fields
   pass_held (operations.Run item) w p m =
       let t = tables_of log in
       let task = id_of t item in
       let reads : Req → Option Pass = λ r. pass_for r (reading t task r) in
       let changes : Req → Option Pass = λ r. pass_for r (changing t task r) in
-      let own : (r : Req) → Member (reqs_of t item) r → Member t.reqs r =
-      λ r m. (member_filter (λ (r : Req). r.item == item) t.reqs r m).0 in
-      elim (member_append (map reads (reqs_of t item)) (map changes (reqs_of t item)) (Some p) m) [
+      let own : (r : Req) → Contains (reqs_of t item) r → Contains t.reqs r =
+      λ r m. (of_filter (λ (r : Req). r.item == item) t.reqs r m).0 in
+      elim (Contains-append_cases (map reads (reqs_of t item)) (map changes (reqs_of t item)) (Some p) m) [
         | inl a ↦ let r = member_map reads (reqs_of t item) (Some p) a in read_held task r.0 (own r.0 r.1) r.0.access refl p (sym r.2)
         | inr b ↦ let r = member_map changes (reqs_of t item) (Some p) b in change_held task r.0 (own r.0 r.1) r.0.access refl p (sym r.2)
       ]
   pass_held (operations.Copy src dst space fields) w p m =
       only_held p (pass (acts.Copy src dst) space fields)
       (λ q point field. (
-        held (tables_of log) listed space fields src (w _ refl src (inl refl)) q point field,
-        held (tables_of log) listed space fields dst (w _ refl dst (inr (inl refl))) q point field,
+        held (tables_of log) listed space fields src (w _ refl src (0, omega arith, refl)) q point field,
+        held (tables_of log) listed space fields dst (w _ refl dst (1, omega arith, refl)) q point field,
       )) m
   pass_held (operations.Put inst space fields n) w p m =
-      only_held p (pass (acts.Put inst n) space fields) (held (tables_of log) listed space fields inst (w _ refl inst (inl refl))) m
+      only_held p (pass (acts.Put inst n) space fields) (held (tables_of log) listed space fields inst (w _ refl inst (0, omega arith, refl))) m
   pass_held (operations.Reset inst space fields) w p m =
-      only_held p (pass (acts.Reset inst) space fields) (held (tables_of log) listed space fields inst (w _ refl inst (inl refl))) m
+      only_held p (pass (acts.Reset inst) space fields) (held (tables_of log) listed space fields inst (w _ refl inst (0, omega arith, refl))) m
   pass_held (operations.Fold src dst space fields) w p m =
       only_held p (pass (acts.Fold (operator_of (tables_of log) src) src dst) space fields)
       (λ q point field. (
-        held (tables_of log) listed space fields src (w _ refl src (inl refl)) q point field,
-        held (tables_of log) listed space fields dst (w _ refl dst (inr (inl refl))) q point field,
+        held (tables_of log) listed space fields src (w _ refl src (0, omega arith, refl)) q point field,
+        held (tables_of log) listed space fields dst (w _ refl dst (1, omega arith, refl)) q point field,
       )) m
-  pass_held operations.Merge w p m = absurd m
+  pass_held operations.Merge w p m = absurd (Contains-nil m)
 
   one_held : (op : Op) → OpWithin (tables_of log).spaces (tables_of log).insts op → (o : Option Pass)
-      → Member (passes_of (tables_of log) op) o → (step : Move) → Member (moves_of_pass (cut_to listed (tables_of log)) o) step
+      → Contains (passes_of (tables_of log) op) o → (step : Move) → Contains (moves_of_pass (cut_to listed (tables_of log)) o) step
       → AreOfInsts (cut_to listed (tables_of log)) step
-  one_held op w None m step n = absurd n
+  one_held op w None m step n = absurd (Contains-nil n)
   one_held op w (Some p) m step n =
       let t = tables_of log in
       let points = kept listed (points_in t p.space) in
-      let q = member_map (move_at t p.act) (grid points p.fields) step (subst (λ ms. Member ms step) (pass_cut listed t p) n) in
+      let q = member_map (move_at t p.act) (grid points p.fields) step (subst (λ ms. Contains ms step) (pass_cut listed t p) n) in
       let at = member_grid points p.fields q.0 q.1 in
       subst (AreOfInsts (cut_to listed t)) (sym q.2) (pass_held op w p m q.0 at.0 at.1)
 
   op_held : (op : Op) → OpWithin (tables_of log).spaces (tables_of log).insts op → (step : Move)
-      → Member (moves_of (cut_to listed (tables_of log)) op) step → AreOfInsts (cut_to listed (tables_of log)) step
+      → Contains (moves_of (cut_to listed (tables_of log)) op) step → AreOfInsts (cut_to listed (tables_of log)) step
   op_held op w step m =
       let t = tables_of log in
       let swept : moves_of (cut_to listed t) op ≡ flat_map (moves_of_pass (cut_to listed t)) (passes_of t op) =
       sym (sweeps_are (cut_to listed t) op) ∙ ap (flat_map (moves_of_pass (cut_to listed t))) (passes_cut listed t op) in
-      let o = member_flat (moves_of_pass (cut_to listed t)) (passes_of t op) step (subst (λ ms. Member ms step) swept m) in
+      let o = member_flat (moves_of_pass (cut_to listed t)) (passes_of t op) step (subst (λ ms. Contains ms step) swept m) in
       one_held op w o.0 o.1 step o.2
 
-  node_held : (node : ℕ) (step : Move) → Member (moves_at (cut_to listed (tables_of log)) node) step
+  node_held : (node : ℕ) (step : Move) → Contains (moves_at (cut_to listed (tables_of log)) node) step
       → AreOfInsts (cut_to listed (tables_of log)) step
   node_held node step m =
       let t = tables_of log in
       let of : Option LogNode → List Move = λ o. option_map_or (λ (n : LogNode). moves_of (cut_to listed t) n.op) o [] in
-      elim (none_or_some (slice_get t.nodes node)) [
-        | inl missing ↦ absurd (subst (λ o. Member (of o) step) missing m)
-        | inr some ↦ op_held some.0.op ((covers log f).nodes some.0 (member_at t.nodes node some.0 some.1)) step
-            (subst (λ o. Member (of o) step) some.1 m)
+      elim (cases_option (slice_get t.nodes node)) [
+        | inl missing ↦ absurd (Contains-nil (subst (λ o. Contains (of o) step) missing m))
+        | inr some ↦ op_held some.0.op ((covers log f).nodes some.0 (contains_at t.nodes node some.0 some.1)) step
+            (subst (λ o. Contains (of o) step) some.1 m)
       ]
 
 -- The steps of nodes touch cells of instances alone, at all points and at listed ones.
@@ -374,7 +382,7 @@ pub steps_of_insts : (t : Tables) → AreDeclared t → unmapped_fault t ≡ Non
     → Contains (moves_at (cut_to listed t) node) step → AreOfInsts (cut_to listed t) step
 steps_of_insts t d e listed node step = subst (λ u. unmapped_fault u ≡ None → Contains (moves_at (cut_to listed u) node) step
     → AreOfInsts (cut_to listed u) step) (sym d.tables)
-    (λ e c. node_held d.log (sound t d e) listed node step (member_of (moves_at (cut_to listed (tables_of d.log)) node) step c)) e
+    (λ e c. node_held d.log (sound t d e) listed node step c) e
 
 -- ---- stores that have these cells
 

@@ -10,11 +10,13 @@ use Rattle.value_terms.proofs.lemmas.Sums.{weight_added, weight_folded}
 use Rattle.semantics.specs.declared.moves.Move.TheVariants as moves
 use Rattle.point_laws.specs.Cut.{cut}
 use Rattle.point_laws.proofs.lemmas.Cuts.{points_cut, start_cut}
-use Rattle.log_laws.proofs.lemmas.Members.{member_filter, member_in, none_or_some}
+use Rattle.log_laws.proofs.lemmas.Members.{member_in}
 use Rattle.log_laws.proofs.lemmas.Tidy.{one_cell}
 use Rattle.inst_steps.specs.Stores.{Contents, HasCells, Holds, IsStart, has_cell, after_move, value_in}
 use Rattle.inst_steps.specs.Weighing.{weight_at, weight_after}
 use Rattle.inst_steps.proofs.lemmas.StoreMaps.{get_put}
+use Rattle.list_lemmas.proofs.lemmas.Filtered.{of_filter}
+use Rattle.list_lemmas.proofs.lemmas.Firsts.{cases_option}
 
 get_at : (m : Contents) (c : Cell) (v : Value) (q : Cell) → get (insert m c v) q ≡ cond (same_cell q c) (Some v) (get m q)
 unfolding same_cell
@@ -43,12 +45,12 @@ same_cells (moves.Fold op from to) m c h = kept_cells m to _ c h.1
 
 not_kept : (ps points : List ℕ) (p : ℕ) → is_in ps p ≡ false → is_in (filter (is_in ps) points) p ≡ false
 not_kept ps points p none = false_from_ne_true (is_in (filter (is_in ps) points) p) (λ e.
-    let m = member_filter (is_in ps) points p (member_in (filter (is_in ps) points) p e) in
+    let m = of_filter (is_in ps) points p (member_in (filter (is_in ps) points) p e) in
     true≢false (sym m.1 ∙ none))
 
 -- The cells of cut tables are at the points to which they are cut.
 pub none_there : (ps : List ℕ) (t : Tables) (c : Cell) → is_in ps c.point ≡ false → has_cell (cut ps t) c ≡ false
-none_there ps t c none = elim (none_or_some (inst_at t c.inst)) [
+none_there ps t c none = elim (cases_option (inst_at t c.inst)) [
   | inl missing ↦ rw missing refl
   | inr some ↦ rw (some.1, points_cut ps t some.0.space, not_kept ps (points_in t some.0.space) c.point none) refl
 ]

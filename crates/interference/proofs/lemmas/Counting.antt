@@ -14,7 +14,7 @@ use Rattle.interference.specs.Tasks.{are_tasks}
 use Rattle.interference.proofs.AllPairs.{all_are}
 use Rattle.interference.specs.Pairing.{met_at}
 use Rattle.interference.proofs.Rows.{meeting, rows_step}
-use Rattle.log_laws.proofs.lemmas.Lists.{filter_short, filter_map_of}
+use Rattle.list_lemmas.proofs.lemmas.Parts.{filter_short, filter_map_of}
 
 row_few : (us : List (List Usage)) (a from : ℕ) → length (row None us a from) ≤ length us
 row_few us a from = omega (

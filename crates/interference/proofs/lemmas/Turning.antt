@@ -7,8 +7,10 @@ use Rattle.std.proofs.lemmas.List.FromFn.{length-range_with_len}
 use Rattle.vocabulary.specs.Prelude.{Tables, is_free, is_before, item_kind, least_place}
 use Rattle.semantics.specs.Kinds as kinds
 use Rattle.semantics.specs.SerialOrder.{serial, serial_place, turned_pair}
-use Rattle.log_laws.proofs.lemmas.Members.{Member, member_of, member_map, member_flat, member_filter, found_at, none_or_some}
-use Rattle.log_laws.proofs.lemmas.Apart.{number_between}
+use Rattle.list_lemmas.proofs.lemmas.Contained.{member_map, member_flat, found_at, Contains-here, Contains-later}
+use Rattle.list_lemmas.proofs.lemmas.Filtered.{of_filter}
+use Rattle.list_lemmas.proofs.lemmas.Firsts.{cases_option}
+use Rattle.list_lemmas.proofs.lemmas.Ranges.{number_between}
 use Rattle.logs.specs.Listing.{ArePlacesIn}
 use Rattle.item_uses.specs.Usages.{Usage, usages_of, usages, usages_at}
 use Rattle.item_uses.specs.Sharing.{kind_between}
@@ -73,32 +75,31 @@ first_against places us = ap (find (λ (p : Pair). is_before p.kind)) (left_agai
 
 -- ---- the first that is turned
 
-find_same : {X : Type 0} (p q : X → Bool) (xs : List X) → ((x : X) → Member xs x → p x ≡ q x) → find p xs ≡ find q xs
+find_same : {X : Type 0} (p q : X → Bool) (xs : List X) → ((x : X) → Contains xs x → p x ≡ q x) → find p xs ≡ find q xs
 find_same p q [] h = refl
 find_same p q (x ∷ xs) h =
     elim (cases_Bool (q x)) [
-      | inl t ↦ rw (h x (inl refl) ∙ t, t) refl
-      | inr f ↦
-          rw (h x (inl refl) ∙ f, f) (find_same p q xs (λ y m. h y (inr m)))
+      | inl t ↦ rw (h x (Contains-here xs) ∙ t, t) refl
+      | inr f ↦ rw (h x (Contains-here xs) ∙ f, f) (find_same p q xs (λ y m. h y (Contains-later xs m)))
     ]
 
-pub find_none : {X : Type 0} (p : X → Bool) (xs : List X) → ((x : X) → Member xs x → p x ≡ false) → find p xs ≡ None
+pub find_none : {X : Type 0} (p : X → Bool) (xs : List X) → ((x : X) → Contains xs x → p x ≡ false) → find p xs ≡ None
 find_none p [] h = refl
-find_none p (x ∷ xs) h = rw (h x (inl refl)) (find_none p xs (λ y m. h y (inr m)))
+find_none p (x ∷ xs) h = rw (h x (Contains-here xs)) (find_none p xs (λ y m. h y (Contains-later xs m)))
 
 pub record OfPair (t : Tables) (p : ℕ × ℕ) : Type 0 where
   pub order : p.0 < p.1
   pub within : p.1 < length t.items
   pub meets : is_free (item_kind t p.0 p.1) ≡ false
 
-pub pair_within : (t : Tables) (p : ℕ × ℕ) → Member (kinds.pairs t) p → OfPair t p
+pub pair_within : (t : Tables) (p : ℕ × ℕ) → Contains (kinds.pairs t) p → OfPair t p
 pair_within t p m =
     let at = member_flat (λ a. map (λ b. (a, b))
     (filter (λ b. not (is_free (item_kind t a b))) (range_with_len (a + 1) (length t.items - (a + 1)))))
     (range_with_len 0 (length t.items)) p m in
     let of = member_map (λ b. (at.0, b)) (filter (λ b. not (is_free (item_kind t at.0 b)))
     (range_with_len (at.0 + 1) (length t.items - (at.0 + 1)))) p at.2 in
-    let f = member_filter (λ b. not (is_free (item_kind t at.0 b))) (range_with_len (at.0 + 1) (length t.items - (at.0 + 1))) of.0 of.1 in
+    let f = of_filter (λ b. not (is_free (item_kind t at.0 b))) (range_with_len (at.0 + 1) (length t.items - (at.0 + 1))) of.0 of.1 in
     let n = number_between (at.0 + 1) (length t.items - (at.0 + 1)) of.0 f.0 in
     subst (OfPair t) (sym of.2) (record {
       order = omega (arith, n.0);
@@ -154,7 +155,7 @@ none_turned t e = find_none (is_turned_pair t) (kinds.pairs t) (λ p m.
 
 -- What the search found is the pair of the definitions, with its place.
 has_place : (t : Tables) (a b : ℕ) → is_free (item_kind t a b) ≡ false → least_place t a b ≡ Some (unwrap_or (least_place t a b) no_place)
-has_place t a b e = elim (none_or_some (least_place t a b)) [
+has_place t a b e = elim (cases_option (least_place t a b)) [
   | inl none ↦ absurd (let free = kind_is t a b ∙ none_free (usages_of t a) (usages_of t b) (sym (place_is t a b) ∙ none) in let bad =
       sym e ∙ ap is_free free in cc)
   | inr some ↦ rw some.1 refl
@@ -188,8 +189,8 @@ first_is t us asked places o e are is found =
 
 -- ---- what a pair of the list is
 
-of_list : (t : Tables) (p : Pair) → Contains (all_pairs t) p → (q : ℕ × ℕ) × Member (kinds.pairs t) q × (p ≡ pair_of t q)
-of_list t p m = member_map (pair_of t) (kinds.pairs t) p (member_of (all_pairs t) p m)
+of_list : (t : Tables) (p : Pair) → Contains (all_pairs t) p → (q : ℕ × ℕ) × Contains (kinds.pairs t) q × (p ≡ pair_of t q)
+of_list t p m = member_map (pair_of t) (kinds.pairs t) p m
 
 pub pair_order : (t : Tables) (p : Pair) → Contains (all_pairs t) p → p.a < p.b
 pair_order t p m = let of = of_list t p m in subst (λ (r : Pair). r.a < r.b) (sym of.2) (pair_within t of.0 of.1).order

@@ -1,11 +1,12 @@
 -- Two items whose bounds leave no room for a common place do not interfere.
-use Rattle.std.proofs.Common.{◌≡◌, ℕ, ◌<◌, ◌≤◌, ◌⊎◌, inl, inr, Bool, true, false, not, ◌&&◌, List, refl, sym, ap, ◌∙◌, arith, Option, Some, None, subst, map, flat_map, eqb, nat_lt}
+use Rattle.std.proofs.Common.{◌≡◌, ℕ, ◌<◌, ◌≤◌, ◌⊎◌, inl, inr, Bool, true, false, not, ◌&&◌, List, refl, sym, ap, ◌∙◌, arith, Option, Some, None, subst, map, flat_map, eqb, nat_lt, Contains}
 use Rattle.std.specs.Prelude.{is_some}
 use Rattle.std.specs.List.{filter_map}
 use Rattle.std.proofs.lemmas.Bool.{eqb-true, and_cases, not-false, ltb-true}
 use Rattle.privilege.specs.declared.kinds.Kind.TheVariants.{Free}
 use Rattle.vocabulary.specs.Prelude.{Priv, agree, Place, is_free}
-use Rattle.log_laws.proofs.lemmas.Members.{Member, contains_of, member_flat, flat_member, member_map, map_member, member_filter_map, filter_map_member, none_or_some}
+use Rattle.list_lemmas.proofs.lemmas.Contained.{member_flat, flat_member, member_map, map_member, member_filter_map, filter_map_member}
+use Rattle.list_lemmas.proofs.lemmas.Firsts.{cases_option}
 use Rattle.item_uses.specs.declared.span.Span.{Span}
 use Rattle.item_uses.specs.declared.accesses.Accesses.{Accesses}
 use Rattle.item_uses.specs.declared.accesses.Accesses.TheVariants.{Nothing, Same, Mixed}
@@ -31,7 +32,7 @@ kind_by_place q r = by (is_free (usage_kind q r)) refl (shared_place q r) refl
     by false e None f = rw (e, f) refl
     by false e (Some p) f = rw (f, e) refl
 
-free_member : (qs rs : List Usage) → ((q r : Usage) → Member qs q → Member rs r → is_free (shared_kind q r) ≡ true)
+free_member : (qs rs : List Usage) → ((q r : Usage) → Contains qs q → Contains rs r → is_free (shared_kind q r) ≡ true)
     → kind_between qs rs ≡ Free
 free_member qs rs h = only_free (kind_between qs rs) (strongest_below (flat_map (λ q. map (shared_kind q) rs) qs) Free
     (λ k m. let one = member_flat (λ q. map (shared_kind q) rs) qs k m in
@@ -39,7 +40,7 @@ free_member qs rs h = only_free (kind_between qs rs) (strongest_below (flat_map 
     subst (λ k. AtMost k Free) (sym (other.2 ∙ is_it_free (shared_kind one.0 other.0) (h one.0 other.0 one.1 other.1))) refl))
 
 pub none_free : (qs rs : List Usage) → place_between qs rs ≡ None → kind_between qs rs ≡ Free
-none_free qs rs e = free_member qs rs (λ q r m n. elim (none_or_some (kind_place q r)) [
+none_free qs rs e = free_member qs rs (λ q r m n. elim (cases_option (kind_place q r)) [
   | inl none ↦ kind_by_place q r ∙ ap (λ o. not (is_some o)) none
   | inr some ↦ absurd (subst (IsLeastPlace (flat_map (λ q. filter_map (kind_place q) rs) qs)) e
       (place_is_least (flat_map (λ q. filter_map (kind_place q) rs) qs)) some.0
@@ -60,7 +61,7 @@ some_not qs rs p e =
 pub free_both : (qs rs : List Usage) → (kind_between qs rs ≡ Free → place_between qs rs ≡ None)
     × (place_between qs rs ≡ None → kind_between qs rs ≡ Free)
 free_both qs rs = (
-  λ free. elim (none_or_some (place_between qs rs)) [
+  λ free. elim (cases_option (place_between qs rs)) [
     | inl none ↦ none
     | inr some ↦ absurd (let bad = sym (some_not qs rs some.0 some.1) ∙ ap is_free free in cc)
   ],
@@ -90,10 +91,10 @@ nothing_shared s z q r a b e = by (eqb q.tree r.tree) refl (least_shared q.point
         let xs = shared_in q.points r.points x ex in
         let fs = shared_in q.fields r.fields f ef in
         let same = eqb-true q.tree r.tree et in
-        let p = a.points x (contains_of q.points x xs.0) in
-        let p2 = b.points x (contains_of r.points x xs.1) in
-        let g = a.fields f (contains_of q.fields f fs.0) in
-        let g2 = b.fields f (contains_of r.fields f fs.1) in
+        let p = a.points x xs.0 in
+        let p2 = b.points x xs.1 in
+        let g = a.fields f fs.0 in
+        let g2 = b.fields f fs.1 in
         absurd (elim (and_cases (overlap s.first_point s.last_point z.first_point z.last_point
         && overlap s.first_tree s.last_tree z.first_tree z.last_tree)
         (overlap s.first_field s.last_field z.first_field z.last_field) e) [
@@ -107,7 +108,7 @@ nothing_shared s z q r a b e = by (eqb q.tree r.tree) refl (least_shared q.point
         ])
 
 agreed : (q r : Usage) → agree q.access r.access ≡ true → is_free (shared_kind q r) ≡ true
-agreed q r e = elim (none_or_some (shared_place q r)) [ inl none ↦ rw none refl | inr some ↦ rw (some.1, e) refl ]
+agreed q r e = elim (cases_option (shared_place q r)) [ inl none ↦ rw none refl | inr some ↦ rw (some.1, e) refl ]
 
 agreeing : (x y : Accesses) (p q : Priv) → IsAmong x p → IsAmong y q → all_agree x y ≡ true → agree p q ≡ true
 agreeing Nothing y p q a b e = absurd a
@@ -127,7 +128,7 @@ free_within s z q r a b e = elim (and_cases (not (all_agree s.accesses z.accesse
     none_kind q r e = rw e refl
 
 pub free_apart : (s z : Span) (qs rs : List Usage) → Bounds s qs → Bounds z rs → may_interfere s z ≡ false → kind_between qs rs ≡ Free
-free_apart s z qs rs a b e = free_member qs rs (λ q r m n. free_within s z q r (a q (contains_of qs q m)) (b r (contains_of rs r n)) e)
+free_apart s z qs rs a b e = free_member qs rs (λ q r m n. free_within s z q r (a q m) (b r n) e)
 
 pub none_apart : (s z : Span) (qs rs : List Usage) → Bounds s qs → Bounds z rs → may_interfere s z ≡ false → place_between qs rs ≡ None
 none_apart s z qs rs a b e = (free_both qs rs).0 (free_apart s z qs rs a b e)

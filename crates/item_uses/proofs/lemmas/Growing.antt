@@ -1,16 +1,16 @@
 -- What items ask for, as requirements come one after the other.
-use Rattle.std.proofs.Common.{◌≡◌, ℕ, zero, suc, ◌+◌, ◌<◌, ◌==◌, inl, inr, true, false, List, [], ◌∷◌, ◌++◌, length, refl, sym, ap, ◌∙◌, arith, map, Option, Some, None, slice_get, get_or, take}
+use Rattle.std.proofs.Common.{◌≡◌, ℕ, zero, suc, ◌+◌, ◌<◌, ◌==◌, inl, inr, true, false, List, [], ◌∷◌, ◌++◌, length, refl, sym, ap, ◌∙◌, arith, map, Option, Some, None, slice_get, get_or, take, Contains}
 use Rattle.std.specs.List.{range_with_len}
 use Rattle.std.proofs.Math.ListN.{set}
 use Rattle.std.proofs.lemmas.Bool.{cases_Bool, eq-eqb, ne_eqb, eqb-true}
 use Rattle.std.proofs.lemmas.List.{map-append, length-map, append-nil}
 use Rattle.std.proofs.lemmas.List.Elements.{filter-append}
 use Rattle.std.proofs.lemmas.List.FromFn.{length-range_with_len}
+use Rattle.list_lemmas.proofs.lemmas.Contained.{Contains-here, Contains-later}
 use Rattle.vocabulary.specs.Prelude.{Item, ItemBody, Req, Tables, uses_of, uses_of_item, reqs_of}
 use Rattle.semantics.specs.declared.tables.ItemBody.TheVariants.{Task, Fill}
 use Rattle.semantics.specs.Shown.{is_task_at}
-use Rattle.log_laws.proofs.lemmas.Members.{Member}
-use Rattle.log_laws.proofs.lemmas.Apart.{number_between}
+use Rattle.list_lemmas.proofs.lemmas.Ranges.{number_between}
 use Rattle.item_uses.specs.Usages.{Usage, usage_of, usages_of, usages, usages_at}
 use Rattle.item_uses.specs.Gathered.{own_usages, with_usage}
 use Rattle.item_uses.proofs.OneMore.{one_more}
@@ -108,9 +108,10 @@ task_within t i e = within t.items i (λ f. let bad = rw f at e in cc)
     within (x ∷ xs) zero h = omega arith
     within (x ∷ xs) (suc i) h = omega (arith, within xs i h)
 
-map_same : {X : Type 0} (f g : ℕ → X) (ns : List ℕ) → ((j : ℕ) → Member ns j → g j ≡ f j) → map g ns ≡ map f ns
+map_same : {X : Type 0} (f g : ℕ → X) (ns : List ℕ) → ((j : ℕ) → Contains ns j → g j ≡ f j) → map g ns ≡ map f ns
 map_same f g [] h = refl
-map_same f g (n ∷ ns) h = ap (λ x. x ∷ map g ns) (h n (inl refl)) ∙ ap (λ xs. f n ∷ xs) (map_same f g ns (λ j m. h j (inr m)))
+map_same f g (n ∷ ns) h = ap (λ x. x ∷ map g ns) (h n (Contains-here ns))
+    ∙ ap (λ xs. f n ∷ xs) (map_same f g ns (λ j m. h j (Contains-later ns m)))
 
 map_set : {X : Type 0} (f g : ℕ → X) (k n i : ℕ) → i < n → ((j : ℕ) → (j ≡ k + i → ⊥) → g j ≡ f j)
     → map g (range_with_len k n) ≡ set (map f (range_with_len k n)) i (g (k + i))

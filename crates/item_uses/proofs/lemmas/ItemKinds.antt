@@ -1,17 +1,19 @@
 -- The kind of two items comes from their requirements, two at a time.
-use Rattle.std.proofs.Common.{◌≡◌, ℕ, ◌≤◌, Bool, true, false, List, refl, sym, ap, ◌∙◌, Option, Some, None, subst, filter, map, flat_map, eqb, ◌&&◌}
+use Rattle.std.proofs.Common.{◌≡◌, ℕ, ◌≤◌, Bool, true, false, List, refl, sym, ap, ◌∙◌, Option, Some, None, subst, filter, map, flat_map, eqb, ◌&&◌, Contains}
 use Rattle.std.proofs.lemmas.Bool.{eqb-true, eq-eqb, and_parts, and_from}
 use Rattle.vocabulary.specs.Prelude.{Kind, kind_of, Place, Req, Tables, is_in, points_in, uses_of, covers, kind_at, item_kind, item_places, req_grid}
-use Rattle.log_laws.proofs.lemmas.Members.{Member, member_filter, is_in_of, member_in, member_flat, flat_member, member_map, map_member, filter_member}
+use Rattle.log_laws.proofs.lemmas.Members.{is_in_of, member_in}
 use Rattle.log_laws.proofs.lemmas.Apart.{member_grid, grid_member}
 use Rattle.item_uses.specs.Usages.{usage_of, usages_of}
 use Rattle.item_uses.specs.Sharing.{least_shared, shared_place, shared_kind, usage_kind, kind_between}
 use Rattle.item_uses.proofs.Strongest.{AtMost, at_most_trans, below_strongest, strongest_below, strongest_same}
 use Rattle.item_uses.proofs.Shared.{shared_at, shared_in}
+use Rattle.list_lemmas.proofs.lemmas.Contained.{member_flat, flat_member, member_map, map_member}
+use Rattle.list_lemmas.proofs.lemmas.Filtered.{of_filter, in_filter}
 
 -- A requirement covers a place of its tree, its points and its fields.
 abbrev pub Covers : Tables → Place → Req → Type 0
-Covers t p r = (r.tree ≡ p.tree) × Member (points_in t r.space) p.point × Member r.fields p.field
+Covers t p r = (r.tree ≡ p.tree) × Contains (points_in t r.space) p.point × Contains r.fields p.field
 
 pub covers_tells : (t : Tables) (p : Place) (r : Req) → covers t p r ≡ true → Covers t p r
 covers_tells t p r e =
@@ -27,15 +29,16 @@ covers_so t p r c = and_from _ _ (eq-eqb r.tree p.tree c.0)
 abbrev places_of_req : Tables → Req → List Place
 places_of_req t r = map (λ (p : ℕ × ℕ). record { tree = r.tree; point = p.0; field = p.1 }) (req_grid t r)
 
-pub item_place : (t : Tables) (item : ℕ) (p : Place) (r : Req) → Member (uses_of t item) r → Covers t p r → Member (item_places t item) p
+pub item_place : (t : Tables) (item : ℕ) (p : Place) (r : Req) → Contains (uses_of t item) r → Covers t p r
+    → Contains (item_places t item) p
 item_place t item p r m c =
-    let at : Member (places_of_req t r) (record { tree = r.tree; point = p.point; field = p.field }) =
+    let at : Contains (places_of_req t r) (record { tree = r.tree; point = p.point; field = p.field }) =
     map_member (λ (p : ℕ × ℕ). record { tree = r.tree; point = p.0; field = p.1 }) (req_grid t r) (p.point, p.field)
     (grid_member (points_in t r.space) r.fields p.point p.field c.1 c.2) in
     flat_member (places_of_req t) (uses_of t item) r p m
-    (subst (λ tree. Member (places_of_req t r) (record { tree = tree; point = p.point; field = p.field })) c.0 at)
+    (subst (λ tree. Contains (places_of_req t r) (record { tree = tree; point = p.point; field = p.field })) c.0 at)
 
-pub place_of_item : (t : Tables) (item : ℕ) (p : Place) → Member (item_places t item) p → (r : Req) × Member (uses_of t item) r
+pub place_of_item : (t : Tables) (item : ℕ) (p : Place) → Contains (item_places t item) p → (r : Req) × Contains (uses_of t item) r
     × Covers t p r
 place_of_item t item p m =
     let at = member_flat (places_of_req t) (uses_of t item) p m in
@@ -51,32 +54,32 @@ kinds_at t a b p = flat_map (λ (q : Req). map (λ (r : Req). kind_of q.access q
 abbrev pub req_kind : Tables → Req → Req → Kind
 req_kind t q r = usage_kind (usage_of t q) (usage_of t r)
 
-pub kind_here : (t : Tables) (a b : ℕ) (p : Place) (q r : Req) → Member (uses_of t a) q → Member (uses_of t b) r → Covers t p q
-    → Covers t p r → Member (kinds_at t a b p) (req_kind t q r)
+pub kind_here : (t : Tables) (a b : ℕ) (p : Place) (q r : Req) → Contains (uses_of t a) q → Contains (uses_of t b) r → Covers t p q
+    → Covers t p r → Contains (kinds_at t a b p) (req_kind t q r)
 kind_here t a b p q r m n c d =
     flat_member (λ (q : Req). map (λ (r : Req). kind_of q.access q.coherence r.access r.coherence) (filter (covers t p) (uses_of t b)))
     (filter (covers t p) (uses_of t a)) q (req_kind t q r)
-    (filter_member (covers t p) (uses_of t a) q m (covers_so t p q c))
+    (in_filter (covers t p) (uses_of t a) q m (covers_so t p q c))
     (map_member (λ (r : Req). kind_of q.access q.coherence r.access r.coherence) (filter (covers t p) (uses_of t b)) r
-    (filter_member (covers t p) (uses_of t b) r n (covers_so t p r d)))
+    (in_filter (covers t p) (uses_of t b) r n (covers_so t p r d)))
 
 -- A kind at a place, with its two requirements.
 pub record Meets (t : Tables) (a b : ℕ) (p : Place) (k : Kind) : Type 0 where
   pub q : Req
   pub r : Req
-  pub of_a : Member (uses_of t a) q
-  pub of_b : Member (uses_of t b) r
+  pub of_a : Contains (uses_of t a) q
+  pub of_b : Contains (uses_of t b) r
   pub q_covers : Covers t p q
   pub r_covers : Covers t p r
   pub is : k ≡ req_kind t q r
 
-pub meets_here : (t : Tables) (a b : ℕ) (p : Place) (k : Kind) → Member (kinds_at t a b p) k → Meets t a b p k
+pub meets_here : (t : Tables) (a b : ℕ) (p : Place) (k : Kind) → Contains (kinds_at t a b p) k → Meets t a b p k
 meets_here t a b p k m =
     let at = member_flat (λ (q : Req). map (λ (r : Req). kind_of q.access q.coherence r.access r.coherence)
     (filter (covers t p) (uses_of t b))) (filter (covers t p) (uses_of t a)) k m in
     let of = member_map (λ (r : Req). kind_of at.0.access at.0.coherence r.access r.coherence) (filter (covers t p) (uses_of t b)) k at.2 in
-    let one = member_filter (covers t p) (uses_of t a) at.0 at.1 in
-    let other = member_filter (covers t p) (uses_of t b) of.0 of.1 in
+    let one = of_filter (covers t p) (uses_of t a) at.0 at.1 in
+    let other = of_filter (covers t p) (uses_of t b) of.0 of.1 in
     record {
       q = at.0;
       r = of.0;
@@ -120,14 +123,14 @@ some_kind : (t : Tables) (q r : Req) (p : Place) → shared_place (usage_of t q)
     → shared_kind (usage_of t q) (usage_of t r) ≡ req_kind t q r
 some_kind t q r p e = rw e refl
 
-pub kind_of_two : (t : Tables) (a b : ℕ) (q r : Req) → Member (uses_of t a) q → Member (uses_of t b) r
-    → Member (flat_map (λ q. map (shared_kind q) (usages_of t b)) (usages_of t a)) (shared_kind (usage_of t q) (usage_of t r))
+pub kind_of_two : (t : Tables) (a b : ℕ) (q r : Req) → Contains (uses_of t a) q → Contains (uses_of t b) r
+    → Contains (flat_map (λ q. map (shared_kind q) (usages_of t b)) (usages_of t a)) (shared_kind (usage_of t q) (usage_of t r))
 kind_of_two t a b q r m n = flat_member (λ q. map (shared_kind q) (usages_of t b)) (usages_of t a) (usage_of t q)
     (shared_kind (usage_of t q) (usage_of t r)) (map_member (usage_of t) (uses_of t a) q m)
     (map_member (shared_kind (usage_of t q)) (usages_of t b) (usage_of t r) (map_member (usage_of t) (uses_of t b) r n))
 
 -- The kind at a place is at most that of the items.
-at_most_items : (t : Tables) (a b : ℕ) (p : Place) (k : Kind) → Member (kinds_at t a b p) k
+at_most_items : (t : Tables) (a b : ℕ) (p : Place) (k : Kind) → Contains (kinds_at t a b p) k
     → AtMost k (kind_between (usages_of t a) (usages_of t b))
 at_most_items t a b p k m =
     let h = meets_here t a b p k m in
@@ -136,7 +139,7 @@ at_most_items t a b p k m =
     (below_strongest _ (shared_kind (usage_of t h.q) (usage_of t h.r)) (kind_of_two t a b h.q h.r h.of_a h.of_b))
 
 -- What two requirements share is at most the kind at that place, and so of the items.
-at_most_places : (t : Tables) (a b : ℕ) (q r : Req) → Member (uses_of t a) q → Member (uses_of t b) r
+at_most_places : (t : Tables) (a b : ℕ) (q r : Req) → Contains (uses_of t a) q → Contains (uses_of t b) r
     → AtMost (shared_kind (usage_of t q) (usage_of t r)) (item_kind t a b)
 at_most_places t a b q r m n = by (shared_place (usage_of t q) (usage_of t r)) refl
   where

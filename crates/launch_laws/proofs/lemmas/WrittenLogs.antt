@@ -1,5 +1,5 @@
 -- What a launch log without a fault writes is a log: each record has a spelling, and the text is no longer than an input may be.
-use Rattle.std.proofs.Common.{◌≡◌, ℕ, ◌+◌, ◌^◌, ◌≤◌, ◌<◌, ◌==◌, ◌&&◌, Bool, false, List, [], ◌∷◌, ◌++◌, Option, Some, None, is_none, unwrap_or, IfSome, nat_lt, find, fold, length, All, refl, sym, subst, arith, inl, inr, length-append}
+use Rattle.std.proofs.Common.{◌≡◌, ℕ, ◌+◌, ◌^◌, ◌≤◌, ◌<◌, ◌==◌, ◌&&◌, Bool, false, List, [], ◌∷◌, ◌++◌, Option, Some, None, is_none, unwrap_or, IfSome, nat_lt, find, fold, length, All, refl, sym, subst, arith, length-append, Contains}
 use Rattle.std.specs.List.{list_any, AllByRecursion}
 use Rattle.std.specs.Option.{option_map, option_map_or}
 use Rattle.std.proofs.lemmas.Bool.{eqb-true, le-ltb, ltb-false, or_parts, false≢true}
@@ -15,7 +15,7 @@ use Rattle.semantics.specs.Launches.{TaskLaunch, Expanded, not_expanded, declare
 use Rattle.list_lemmas.proofs.lemmas.Firsts.{map_cases, find_some}
 use Rattle.list_lemmas.proofs.lemmas.Places.{all_found}
 use Rattle.log_laws.proofs.lemmas.ReadLogs.{text_has_no_fault}
-use Rattle.log_laws.proofs.lemmas.Members.{Member, both_none, unmapped_none, none_found}
+use Rattle.list_lemmas.proofs.lemmas.Contained.{both_none, unmapped_none, none_found}
 
 -- ---- lists in which each has a property, by recursion
 
@@ -155,14 +155,14 @@ launches_fit e (Lreq base tree part fields access atomic) h good within = tt
 
 one_more : (e : Expanded) (r : LRecord) → IsLog e → GoodLaunch r → find (breaks_launch e r) launch_rules ≡ None → IsLog (with_launching e r)
 one_more e r h good none =
-    let kept : (code : Code) → Member launch_rules code → breaks_launch e r code ≡ false =
+    let kept : (code : Code) → Contains launch_rules code → breaks_launch e r code ≡ false =
     λ code. none_found (breaks_launch e r) launch_rules code none in
-    let known = kept codes.UnknownId (inr (inl refl)) in
-    let within = kept codes.LaunchRange (inr (inr (inl refl))) in
+    let known = kept codes.UnknownId (1, omega arith, refl) in
+    let within = kept codes.LaunchRange (2, omega arith, refl) in
     record {
       good = each_append Good e.written (writes e r) h.good (writes_good e r h good known within);
       ids = each_append HasIds e.launches (launches_by r) h.ids (launches_fit e r h good within);
-      short = ltb-false MOST_BYTES (length (text_of (e.written ++ writes e r))) (kept codes.TooLong (inr (inr (inr (inr (inl refl))))));
+      short = ltb-false MOST_BYTES (length (text_of (e.written ++ writes e r))) (kept codes.TooLong (4, omega arith, refl));
     }
 
 all_more : (e : Expanded) (log : List LLined) → IsLog e → AllByRecursion (λ (l : LLined). GoodLaunch l.rec) log

@@ -14,7 +14,7 @@ use Rattle.semantics.specs.Faults.{at_line, declaration_fault, serial_fault, unm
 use Rattle.outcomes.specs.Outcome.{IsFound, CheckFinds, WhyFinds}
 use Rattle.semantics.specs.Rules.{is_late}
 use Rattle.log_laws.proofs.lemmas.Admitted.{IsFaultless, rule_kept, by_records, no_broken_rule}
-use Rattle.log_laws.proofs.lemmas.Members.{both_none}
+use Rattle.list_lemmas.proofs.lemmas.Contained.{both_none}
 use Rattle.logs.specs.Faultless.{AreDeclared}
 use Rattle.log_findings.specs.Findings.{table_fault, IsFoundOf}
 use Rattle.log_findings.specs.Faultless.{AreFaultless}

@@ -1,5 +1,5 @@
 -- What it means for the tables of a log that no fault is shown of it.
-use Rattle.std.proofs.Common.{◌≡◌, ℕ, inl, inr, true, false, not, refl, List, [], ◌∷◌, ◌++◌, sym, subst, append_assoc, append-nil, None, is_some}
+use Rattle.std.proofs.Common.{◌≡◌, ℕ, inl, inr, true, false, not, refl, List, [], ◌∷◌, ◌++◌, sym, subst, append_assoc, append-nil, None, is_some, Contains}
 use Rattle.std.specs.List.{AllByRecursion, list_all}
 use Rattle.std.proofs.lemmas.Bool.{not-false, or_parts}
 use Rattle.std.proofs.lemmas.List.Elements.{recursion_from_All}
@@ -10,7 +10,7 @@ use Rattle.semantics.specs.Rules.{is_declared, names}
 use Rattle.semantics.specs.declared.command.Command.TheVariants.{Check}
 use Rattle.semantics.specs.Faults.{breaks, first_broken, record_in, records_fault, declaration_fault, log_fault, header_fault, ended_fault, count_fault, serial_fault, map_fault}
 use Rattle.semantics.proofs.lemmas.RecordRules.{is_record_rule, none_passes}
-use Rattle.log_laws.proofs.lemmas.Members.{Member, none_found, both_none, unmapped_none, all_at}
+use Rattle.list_lemmas.proofs.lemmas.Contained.{none_found, both_none, unmapped_none, all_at, Contains-nil, Contains-cases}
 use Rattle.log_laws.proofs.lemmas.Sane.{Keeps, AreSane, with_kept, nothing_sane}
 
 -- A record of the log breaks no rule.
@@ -45,10 +45,12 @@ by_records G P log step earlier (l ∷ rest) good e h =
 
 -- Each record of a log without a broken rule breaks none at its place.
 pub each_unbroken : (log : List Record) (earlier rest : List Lined) → records_fault log earlier rest ≡ None → (r : Record)
-    → Member (records_of rest) r → (before : List Lined) × Unbroken log before r
-each_unbroken log earlier [] e r m = absurd m
-each_unbroken log earlier (l ∷ rest) e r (inl is) = (earlier, subst (Unbroken log earlier) (sym is) (unbroken log earlier l rest e).0)
-each_unbroken log earlier (l ∷ rest) e r (inr later) = each_unbroken log (earlier ++ l ∷ []) rest (unbroken log earlier l rest e).1 r later
+    → Contains (records_of rest) r → (before : List Lined) × Unbroken log before r
+each_unbroken log earlier [] e r m = absurd (Contains-nil m)
+each_unbroken log earlier (l ∷ rest) e r m = elim (Contains-cases (records_of rest) m) [
+  | inl is ↦ (earlier, subst (Unbroken log earlier) (sym is) (unbroken log earlier l rest e).0)
+  | inr later ↦ each_unbroken log (earlier ++ l ∷ []) rest (unbroken log earlier l rest e).1 r later
+]
 
 pub keeps_of : (log : List Record) (earlier : List Lined) (r : Record) → Unbroken log earlier r → Keeps (tables_of earlier) r
 keeps_of log earlier r u =
@@ -84,7 +86,7 @@ sane command log f = by_records (λ r. Unit {0}) AreSane (records_of log)
     [] log (recursion_from_All _ (records_of log) (λ k d lt. tt)) f.records nothing_sane
 
 -- Each field of a requirement is mapped.
-pub all_mapped : (log : List Lined) → IsFaultless Check log → (r : Req) (field : ℕ) → Member (tables_of log).reqs r → Member r.fields field
+pub all_mapped : (log : List Lined) → IsFaultless Check log → (r : Req) (field : ℕ) → Contains (tables_of log).reqs r → Contains r.fields field
     → is_some (mapped (tables_of log) r field) ≡ true
 all_mapped log f r field m is =
     let none = none_found (λ (r : Req). not (list_all (λ n. is_some (mapped (tables_of log) r n)) r.fields)) (tables_of log).reqs r

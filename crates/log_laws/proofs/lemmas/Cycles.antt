@@ -9,9 +9,12 @@ use Rattle.std.proofs.lemmas.Map.Views.{any-filter_same}
 use Rattle.std.proofs.lemmas.Option.{gets, slice_get-get_or, same_Some}
 use Rattle.vocabulary.specs.Prelude.{is_in, Node, WaitsOn, IsChain, IsCycle, AreLinked}
 use Rattle.semantics.specs.ReplayOrder.{positions, waits_at, has_event, replay_order, is_stuck, stuck_nodes, stuck_wait, up_to, walk, from_least, cycle_from, shown_cycle}
-use Rattle.log_laws.proofs.lemmas.Members.{Member, contains_of, member_filter, any_at, any_found, is_in_of, member_in, find_any, found_at}
-use Rattle.log_laws.proofs.lemmas.Apart.{Apart, all_pairs, number_within, number_in}
-use Rattle.log_laws.proofs.lemmas.Lists.{split_at, one_fails, few}
+use Rattle.log_laws.proofs.lemmas.Members.{is_in_of, member_in}
+use Rattle.list_lemmas.proofs.lemmas.Contained.{any_at, any_found, find_any, found_at, Contains-here, Contains-nil, Contains-cases}
+use Rattle.list_lemmas.proofs.lemmas.Filtered.{of_filter}
+use Rattle.list_lemmas.proofs.lemmas.Pairs.{Apart, apart_put, apart_none}
+use Rattle.list_lemmas.proofs.lemmas.Parts.{split_at, one_fails, few}
+use Rattle.list_lemmas.proofs.lemmas.Ranges.{number_within, number_in}
 use Rattle.log_laws.proofs.lemmas.Rounds.{is_met, not_before_itself, replay, listed}
 
 apart_turned : (k : ℕ) (ks : List ℕ) → AllPairs (λ a b. a ≢ b) (k ∷ ks) → AllPairs (λ a b. a ≢ b) (ks ++ k ∷ [])
@@ -41,13 +44,13 @@ module _ (nodes : List Node) where
   from_least_cycle [] h = h
   from_least_cycle (k ∷ ks) h = turned (take _ (k ∷ ks)) (drop _ (k ∷ ks)) (rw take-append-drop h)
 
-  pub stuck_in : (k : ℕ) → k < length nodes → is_stuck nodes k ≡ true → Member (stuck_nodes nodes) k
+  pub stuck_in : (k : ℕ) → k < length nodes → is_stuck nodes k ≡ true → Contains (stuck_nodes nodes) k
   stuck_in k lt is = member_in (stuck_nodes nodes) k
       (any-filter_same (λ j. j == k) (is_stuck nodes) true (λ j e. rw (eqb-true j k e) is) (positions nodes)
       ∙ is_in_of (positions nodes) k (number_in (length nodes) k lt))
 
-  stuck_from : (k : ℕ) → Member (stuck_nodes nodes) k → (k < length nodes) × (is_stuck nodes k ≡ true)
-  stuck_from k m = let at = member_filter (is_stuck nodes) (positions nodes) k m in (number_within (length nodes) k at.0, at.1)
+  stuck_from : (k : ℕ) → Contains (stuck_nodes nodes) k → (k < length nodes) × (is_stuck nodes k ≡ true)
+  stuck_from k m = let at = of_filter (is_stuck nodes) (positions nodes) k m in (number_within (length nodes) k at.0, at.1)
 
   -- Whether a node lists the event of another.
   abbrev lists : ℕ → ℕ → Bool
@@ -65,12 +68,12 @@ module _ (nodes : List Node) where
   Trail k (w ∷ ws) = WaitsOn nodes w k × Trail w ws
 
   -- Where the walk comes to a node again, the nodes from there on are a first part of those walked, and make a chain.
-  up_to_chain : (k start : ℕ) (ws : List ℕ) (end : ℕ) → Trail start ws → Member ws k → WaitsOn nodes end k
+  up_to_chain : (k start : ℕ) (ws : List ℕ) (end : ℕ) → Trail start ws → Contains ws k → WaitsOn nodes end k
       → IsChain nodes start (up_to k ws) end × (back : List ℕ) × (ws ≡ up_to k ws ++ back)
-  up_to_chain k start [] end trail m waits = absurd m
+  up_to_chain k start [] end trail m waits = absurd (Contains-nil m)
   up_to_chain k start (w ∷ ws) end trail m waits = elim (cases_Bool (w == k)) [
     | inl here ↦ rw here ((trail.0, rw (eqb-true w k here) waits), ws, refl)
-    | inr not_here ↦ elim m [
+    | inr not_here ↦ elim (Contains-cases ws m) [
       | inl is ↦ absurd (eqb-false w k not_here (sym is))
       | inr later ↦ let r = up_to_chain k w ws end trail.1 later waits in rw not_here ((trail.0, r.0), r.1, ap (λ ns. w ∷ ns) r.2)
     ]
@@ -78,17 +81,17 @@ module _ (nodes : List Node) where
 
   -- The walk so far: stuck nodes, each once.
   abbrev IsWalk : ℕ → List ℕ → Type 0
-  IsWalk k walked = Apart walked × ((j : ℕ) → Member walked j → Member (stuck_nodes nodes) j) × Trail k walked
+  IsWalk k walked = Apart walked × ((j : ℕ) → Contains walked j → Contains (stuck_nodes nodes) j) × Trail k walked
 
-  closed : (walked : List ℕ) (k : ℕ) → IsWalk k walked → Member walked k → IsCycle nodes (up_to k walked)
-  closed [] k so_far m = absurd m
+  closed : (walked : List ℕ) (k : ℕ) → IsWalk k walked → Contains walked k → IsCycle nodes (up_to k walked)
+  closed [] k so_far m = absurd (Contains-nil m)
   closed (w ∷ ws) k so_far m =
       let front = up_to_chain k k (w ∷ ws) w so_far.2 m so_far.2.0 in
-      (apart_front (up_to k (w ∷ ws)) front.1 (subst (AllPairs (λ a b. a ≢ b)) front.2 (all_pairs _ (w ∷ ws) so_far.0)), front.0.1)
+      (apart_front (up_to k (w ∷ ws)) front.1 (subst (AllPairs (λ a b. a ≢ b)) front.2 so_far.0), front.0.1)
 
-  none_from : (ks : List ℕ) → (cycle_from nodes ks ≡ None) ↔ ((k : ℕ) → Member ks k → ⊥)
-  none_from [] = (λ e k m. m, λ h. refl)
-  none_from (k ∷ ks) = (λ e. absurd (cc e), λ h. absurd (h k (inl refl)))
+  none_from : (ks : List ℕ) → (cycle_from nodes ks ≡ None) ↔ ((k : ℕ) → Contains ks k → ⊥)
+  none_from [] = (λ e k m. Contains-nil m, λ h. refl)
+  none_from (k ∷ ks) = (λ e. absurd (cc e), λ h. absurd (h k (Contains-here ks)))
 
   pub none_shown : (shown_cycle nodes ≡ None) ↔ ((k : ℕ) → k < length nodes → is_stuck nodes k ≡ false)
   unfolding shown_cycle
@@ -99,7 +102,7 @@ module _ (nodes : List Node) where
 
   module _ (linked : AreLinked nodes) where
     -- A node on a cycle comes before itself, so no round takes it.
-    pub cycle_is_stuck : (ks : List ℕ) → IsCycle nodes ks → (k : ℕ) → Member ks k → is_stuck nodes k ≡ true
+    pub cycle_is_stuck : (ks : List ℕ) → IsCycle nodes ks → (k : ℕ) → Contains ks k → is_stuck nodes k ≡ true
     cycle_is_stuck ks cycle k m =
         let cut = split_at ks k m in
         let from_k : IsCycle nodes (k ∷ (cut.1 ++ cut.0)) = turned cut.0 (k ∷ cut.1) (subst (IsCycle nodes) cut.2 cycle) in
@@ -107,15 +110,15 @@ module _ (nodes : List Node) where
         (cut.1 ++ cut.0, from_k.1))
 
     -- A stuck node waits on a stuck node: the next of the walk.
-    next : (k : ℕ) → Member (stuck_nodes nodes) k → (j : ℕ) × (stuck_wait nodes k ≡ Some j) × Member (stuck_nodes nodes) j
+    next : (k : ℕ) → Contains (stuck_nodes nodes) k → (j : ℕ) × (stuck_wait nodes k ≡ Some j) × Contains (stuck_nodes nodes) j
         × WaitsOn nodes k j
     next k m =
         let stuck = stuck_from k m in
         let none : Node = record { done = 0; waits = [] } in
         let by : Node = get_or nodes k none in
         let by_is : slice_get nodes k ≡ Some by = slice_get-get_or nodes k none stuck.0 in
-        let waits : (event : ℕ) → Member (waits_at nodes k) event → Contains by.waits event =
-        λ event m. contains_of by.waits event (rw by_is at m) in
+        let waits : (event : ℕ) → Contains (waits_at nodes k) event → Contains by.waits event =
+        λ event m. (rw by_is at m) in
         let unmet = one_fails (is_met nodes (replay_order nodes)) (waits_at nodes k) (rw stuck.1 at ((replay nodes).full k stuck.0)) in
         let some = linked.linked by unmet.0 (Contains-get_or nodes k none stuck.0) (waits unmet.0 unmet.1) in
         let j : ℕ = some.1.0 in
@@ -131,7 +134,7 @@ module _ (nodes : List Node) where
         (first.0, first.1, found.0, waits_on k first.0 one.0 by (get_or nodes first.0 none) by_is on_is (waits one.0 one.1) one.2)
 
     -- The walk meets no more nodes than there are, so it comes to one again.
-    walk_cycle : (n : ℕ) (walked : List ℕ) (k : ℕ) → IsWalk k walked → Member (stuck_nodes nodes) k → length walked + n ≡ length nodes + 1
+    walk_cycle : (n : ℕ) (walked : List ℕ) (k : ℕ) → IsWalk k walked → Contains (stuck_nodes nodes) k → length walked + n ≡ length nodes + 1
         → IsCycle nodes (walk nodes n walked k)
     walk_cycle zero walked k so_far stuck many =
         absurd (omega (arith, many, few walked (length nodes) so_far.0 (λ j m. (stuck_from j (so_far.1 j m)).0)))
@@ -139,26 +142,24 @@ module _ (nodes : List Node) where
       | inl back ↦ rw back (closed walked k so_far (member_in walked k back))
       | inr new ↦
           let step = next k stuck in
-          let apart : Apart (k ∷ walked) = (
-            λ j m e. both_ways (is_in walked k) new (is_in_of walked k (subst (Member walked) (sym e) m)),
-            so_far.0,
-          ) in
-          let all_stuck : (j : ℕ) → Member (k ∷ walked) j → Member (stuck_nodes nodes) j =
-          λ j m. elim m [ inl is ↦ rw is stuck | inr before ↦ so_far.1 j before ] in
+          let apart : Apart (k ∷ walked) =
+          apart_put k walked (λ j m e. both_ways (is_in walked k) new (is_in_of walked k (subst (Contains walked) (sym e) m))) so_far.0 in
+          let all_stuck : (j : ℕ) → Contains (k ∷ walked) j → Contains (stuck_nodes nodes) j =
+          λ j m. elim (Contains-cases walked m) [ inl is ↦ rw is stuck | inr before ↦ so_far.1 j before ] in
           rw (new, step.1) (walk_cycle n (k ∷ walked) step.0 (apart, all_stuck, (step.3, so_far.2)) step.2 (omega (arith, many)))
     ]
 
-    pub stuck_cycle : (k : ℕ) → Member (stuck_nodes nodes) k → IsCycle nodes (walk nodes (length nodes + 1) [] k)
-    stuck_cycle k stuck = walk_cycle (length nodes + 1) [] k (tt, λ j m. absurd m, tt) stuck (omega arith)
+    pub stuck_cycle : (k : ℕ) → Contains (stuck_nodes nodes) k → IsCycle nodes (walk nodes (length nodes + 1) [] k)
+    stuck_cycle k stuck = walk_cycle (length nodes + 1) [] k (apart_none, λ j m. absurd (Contains-nil m), tt) stuck (omega arith)
 
     -- So there is a cycle where a node is stuck.
     pub has_cycle : (k : ℕ) → k < length nodes → is_stuck nodes k ≡ true → (c : List ℕ) × IsCycle nodes c
     has_cycle k within stuck = (_, stuck_cycle k (stuck_in k within stuck))
 
-    shown_from : (ks : List ℕ) → ((k : ℕ) → Member ks k → Member (stuck_nodes nodes) k) → (c : List ℕ) → cycle_from nodes ks ≡ Some c
+    shown_from : (ks : List ℕ) → ((k : ℕ) → Contains ks k → Contains (stuck_nodes nodes) k) → (c : List ℕ) → cycle_from nodes ks ≡ Some c
         → IsCycle nodes c
     shown_from [] all c e = absurd (cc e)
-    shown_from (k ∷ ks) all c e = subst (IsCycle nodes) (same_Some _ c e) (from_least_cycle _ (stuck_cycle k (all k (inl refl))))
+    shown_from (k ∷ ks) all c e = subst (IsCycle nodes) (same_Some _ c e) (from_least_cycle _ (stuck_cycle k (all k (Contains-here ks))))
 
     pub shown_is_cycle : (c : List ℕ) → shown_cycle nodes ≡ Some c → IsCycle nodes c
     unfolding shown_cycle

@@ -2,7 +2,7 @@
 use Rattle.std.proofs.Common.{◌≡◌, ℕ, ◌+◌, ◌*◌, ◌^◌, ◌<◌, ◌≤◌, List, [], ◌∷◌, ◌++◌, map, fold, length, get_or, All, Contains, inl, inr, refl, sym, ◌∙◌, subst}
 use Rattle.std.specs.List.{AllByRecursion, Any}
 use Rattle.std.proofs.lemmas.List.{get_or_default}
-use Rattle.std.proofs.lemmas.List.Elements.{All-append, All-nil, Contains-append_left, Contains-append_right}
+use Rattle.std.proofs.lemmas.List.Elements.{All-append, All-nil, Contains-append_left, Contains-append_right, Contains-append_cases}
 use Rattle.std.proofs.lemmas.List.Quantifiers.{Any-push}
 use Rattle.point_set.specs.Rects.{AreRects, Has, Holds, rect_at, rect_points}
 use Rattle.point_set.proofs.lemmas.Columns.{of_has}
@@ -10,7 +10,7 @@ use Rattle.vocabulary.specs.Prelude.{Good, Lined, Record, Rect, Space, Tables, n
 use Rattle.spy_grammar.specs.declared.record.Record.TheVariants as records
 use Rattle.semantics.proofs.lemmas.InOrder.{points_of_strips, rects_in_order, strips_in_order}
 use Rattle.log_laws.specs.Drawn.{AreDrawn, HasAllOf, IsDrawnIn}
-use Rattle.log_laws.proofs.lemmas.Members.{Each, Member, contains_of, each_more, member_append, member_of}
+use Rattle.list_lemmas.proofs.lemmas.Contained.{each_more, Contains-nil}
 
 abbrev HasPoint : Rect → Type 0
 HasPoint r = (r.x0 ≤ r.x1) × (r.y0 ≤ r.y1)
@@ -20,7 +20,7 @@ abbrev IsWithin : List Space → Rect → Type 0
 IsWithin spaces r = Any (λ (s : Space). HasAllOf r s.points) spaces
 
 abbrev Drawing : Tables → Type 0
-Drawing t = All HasPoint t.rects × Each (λ (s : Space). IsDrawnIn t.rects s.points) t.spaces × Each (IsWithin t.spaces) t.rects
+Drawing t = All HasPoint t.rects × ((s : Space) → Contains t.spaces s → IsDrawnIn t.rects s.points) × ((x : _) → Contains t.rects x → IsWithin t.spaces x)
 
 more_rects : (rects more : List Rect) (points : List ℕ) → IsDrawnIn rects points → IsDrawnIn (rects ++ more) points
 more_rects rects more points h = record {
@@ -36,9 +36,9 @@ more_spaces spaces s r h =
     (c.0, h.1, c.1, c.2, h.4)
 
 -- Rectangles have all points of each of them.
-has_all : (rects : List Rect) (r : Rect) → Member rects r → HasAllOf r (rect_points rects)
+has_all : (rects : List Rect) (r : Rect) → Contains rects r → HasAllOf r (rect_points rects)
 has_all rects r m x y holds =
-    let c = contains_of rects r m in
+    let c = m in
     let is : r ≡ rect_at rects c.0 = sym c.2 ∙ get_or_default rects c.0 r (record { x0 = 0; x1 = 0; y0 = 0; y1 = 0 }) c.1 in
     of_has rects x y (record { place = c.0; within = c.1; holds = subst (λ (s : Rect). Holds s x y) is holds })
 
@@ -54,7 +54,7 @@ with_one t id points rects are is h =
             listed = λ r c. Contains-append_right t.rects rects r c;
             same = is;
           }),
-      λ r m. elim (member_append t.rects rects r m) [
+      λ r m. elim (Contains-append_cases t.rects rects r m) [
         | inl old ↦ more_spaces t.spaces s r (h.2 r old)
         | inr new ↦ Any-push (λ (s : Space). HasAllOf r s.points) t.spaces s (subst (HasAllOf r) (sym is) (has_all rects r new))
       ],
@@ -73,8 +73,8 @@ all_good t (l ∷ log) good h = all_good (with_record t l.line l.rec) log good.1
 
 pub drawn : (log : List Lined) → AllByRecursion Good (records_of log) → AreDrawn (tables_of log)
 drawn log good =
-    let all = all_good no_tables log good (All-nil HasPoint, λ s m. absurd m, λ r m. absurd m) in record {
+    let all = all_good no_tables log good (All-nil HasPoint, λ s m. absurd (Contains-nil m), λ r m. absurd (Contains-nil m)) in record {
       some = all.0;
-      spaces = λ s c. all.1 s (member_of (tables_of log).spaces s c);
-      within = λ r c. all.2 r (member_of (tables_of log).rects r c);
+      spaces = λ s c. all.1 s c;
+      within = λ r c. all.2 r c;
     }

@@ -3,7 +3,7 @@ use Rattle.std.proofs.Common.{List}
 use Rattle.std.specs.List.{AllByRecursion}
 use Rattle.vocabulary.specs.Prelude.{Lined, Good, Command, records_of, tables_of, AreLinked, graph_of, HasNoCycle, IsInterleaving, IsTidy, replay_steps}
 use Rattle.semantics.specs.declared.command.Command.TheVariants.{Check}
-use Rattle.log_laws.proofs.lemmas.Apart.{Apart}
+use Rattle.list_lemmas.proofs.lemmas.Pairs.{Apart, apart_none}
 use Rattle.log_laws.proofs.lemmas.Admitted.{IsFaultless, sane, all_mapped}
 use Rattle.log_laws.proofs.lemmas.Tidy.{tidy, moves_once}
 use Rattle.log_laws.proofs.Strict.{strict}
@@ -22,5 +22,5 @@ pub replay_interleaves : (log : List Lined) → AllByRecursion Good (records_of 
 replay_interleaves log good f no_cycle =
     let t = tables_of log in
     let clear = strict Check log good f in
-    let apart = at_position t Apart tt (λ n m. moves_once t (sane Check log f) (all_mapped log f) clear n.op (clear.operations n m)) in
+    let apart = at_position t Apart apart_none (λ n m. moves_once t (sane Check log f) (all_mapped log f) clear n.op (clear.operations n m)) in
     interleaves t (linked Check log f clear) apart no_cycle

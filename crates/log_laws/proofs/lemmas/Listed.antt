@@ -1,9 +1,9 @@
 -- In a log without a broken rule no two items have one id. Where lines list items, each item is listed once, and nothing else is.
-use Rattle.std.proofs.Common.{◌≡◌, ◌≢◌, ℕ, ◌+◌, ◌<◌, ◌==◌, inl, inr, Bool, true, false, ◌||◌, List, [], ◌∷◌, ◌++◌, filter, fold, length, refl, sym, ap, ◌∙◌, subst, arith, Some, None, is_some, IsSome, find, slice_get, flat_map, append-nil, length-append}
+use Rattle.std.proofs.Common.{◌≡◌, ◌≢◌, ℕ, ◌+◌, ◌<◌, ◌==◌, inl, inr, Bool, true, false, ◌||◌, List, [], ◌∷◌, ◌++◌, filter, fold, length, refl, sym, ap, ◌∙◌, subst, arith, Some, None, is_some, IsSome, find, slice_get, flat_map, append-nil, length-append, Contains, AllPairs}
 use Rattle.std.specs.List.{list_any, list_all}
 use Rattle.std.proofs.lemmas.Bool.{true≢false, not-false, or_parts, eq-eqb}
 use Rattle.std.proofs.lemmas.Grind.{flat_map-append}
-use Rattle.std.proofs.lemmas.List.Elements.{recursion_from_All, Contains-get_or, filter-append}
+use Rattle.std.proofs.lemmas.List.Elements.{recursion_from_All, Contains-get_or, filter-append, Contains-append_cases}
 use Rattle.std.proofs.lemmas.List.Folds.{list_any-append}
 use Rattle.std.proofs.lemmas.Option.{slice_get_cases}
 use Rattle.spy_grammar.specs.declared.code.Code.TheVariants as codes
@@ -12,8 +12,10 @@ use Rattle.spy_grammar.specs.declared.record.Record.TheVariants as records
 use Rattle.semantics.specs.SerialOrder.{listed}
 use Rattle.semantics.specs.Rules.{is_declared, item_id, names, repeats_id, has_repeat, items_listed, items_declared, is_bad_serial}
 use Rattle.semantics.specs.Faults.{records_fault}
-use Rattle.log_laws.proofs.lemmas.Members.{Member, Each, each_more, member_of, member_at, member_append, map_member, member_flat, any_at, find_any, none_at, all_at, is_in_of, member_in, meets_of}
-use Rattle.log_laws.proofs.lemmas.Apart.{Apart, PairsBy, pairs_append, pairs_more}
+use Rattle.log_laws.proofs.lemmas.Members.{is_in_of, member_in, meets_of}
+use Rattle.list_lemmas.proofs.lemmas.Contained.{each_more, map_member, member_flat, any_at, find_any, none_at, all_at, Contains-nil, Contains-here}
+use Rattle.list_lemmas.proofs.lemmas.Firsts.{contains_at}
+use Rattle.list_lemmas.proofs.lemmas.Pairs.{Apart, AllPairs-append, AllPairs-push, apart_none, apart_put, AllPairs-nil}
 use Rattle.log_laws.proofs.lemmas.Sane.{Keeps}
 use Rattle.log_laws.proofs.lemmas.Admitted.{Unbroken, rule_kept, by_records, keeps_of}
 
@@ -23,28 +25,28 @@ lists r = is_some (items_listed r)
 
 -- No two items have one id, and each is declared by a record of the log. No id is listed twice, and each is that of an item. Once all lines that list items are read, they list each item of the log.
 pub record AreListed (log : List Record) (t : Tables) : Type 0 where
-  pub ids : PairsBy (λ (i j : Item). i.id ≢ j.id) t.items
-  pub of_log : Each (λ (i : Item). (r : Record) × Member log r × Member (items_declared r) i.id) t.items
+  pub ids : AllPairs (λ (i j : Item). i.id ≢ j.id) t.items
+  pub of_log : (i : Item) → Contains t.items i → (r : Record) × Contains log r × Contains (items_declared r) i.id
   pub once : Apart (listed t)
-  pub known : Each (λ id. is_declared t (item_id id) ≡ true) (listed t)
-  pub whole : 0 < length t.serials → length (filter lists log) ≡ length t.serials → (r : Record) (id : ℕ) → Member log r
-      → Member (items_declared r) id → Member (listed t) id
+  pub known : (id : _) → Contains (listed t) id → is_declared t (item_id id) ≡ true
+  pub whole : 0 < length t.serials → length (filter lists log) ≡ length t.serials → (r : Record) (id : ℕ) → Contains log r
+      → Contains (items_declared r) id → Contains (listed t) id
 
 -- A list without a repeat has nothing twice.
 not_repeated : (ns : List ℕ) → has_repeat ns ≡ false → Apart ns
-not_repeated [] e = tt
+not_repeated [] e = apart_none
 not_repeated (n ∷ ns) e =
     let parts = or_parts (is_in ns n) (has_repeat ns) e in
-    (λ m is same. true≢false (sym (is_in_of ns n (subst (Member ns) (sym same) is)) ∙ parts.0), not_repeated ns parts.1)
+    apart_put n ns (λ m is same. true≢false (sym (is_in_of ns n (subst (Contains ns) (sym same) is)) ∙ parts.0)) (not_repeated ns parts.1)
 
 -- These facts stay with an item more, with a line more, and so with each record that breaks no rule.
-one_more_item : (log : List Record) (t : Tables) (line id : ℕ) (body : ItemBody) → (r : Record) × Member log r
-    × Member (items_declared r) id → list_any (is_declared t) (item_id id ∷ []) ≡ false
+one_more_item : (log : List Record) (t : Tables) (line id : ℕ) (body : ItemBody) → (r : Record) × Contains log r
+    × Contains (items_declared r) id → list_any (is_declared t) (item_id id ∷ []) ≡ false
     → AreListed log t → AreListed log (with_item t line id body)
 one_more_item log t line id body of new h =
-    let fresh = none_at (is_declared t) (item_id id ∷ []) (item_id id) new (inl refl) in
+    let fresh = none_at (is_declared t) (item_id id ∷ []) (item_id id) new (Contains-here []) in
     record {
-      ids = pairs_more (λ (i j : Item). i.id ≢ j.id) t.items _ h.ids
+      ids = AllPairs-push (λ (i j : Item). i.id ≢ j.id) t.items _ h.ids
           (λ i m same. true≢false (sym (eq-eqb i.id id same) ∙ none_at (λ (i : Item). i.id == id) t.items i fresh m));
       of_log = each_more _ t.items _ h.of_log of;
       once = h.once;
@@ -65,38 +67,38 @@ one_more_line log t line ids k good h =
     record {
       ids = h.ids;
       of_log = h.of_log;
-      once = subst Apart (sym more) (pairs_append (λ m n. m ≢ n) (listed t) ids h.once (not_repeated ids twice.0)
-          (λ m n a b same. true≢false (sym (meets_of ids (listed t) n b (subst (Member (listed t)) same a)) ∙ twice.1)));
-      known = λ n m. elim (member_append (listed t) ids n (subst (λ ns. Member ns n) more m)) [
+      once = subst Apart (sym more) (AllPairs-append (λ m n. m ≢ n) (listed t) ids h.once (not_repeated ids twice.0)
+          (λ m n a b same. true≢false (sym (meets_of ids (listed t) n b (subst (Contains (listed t)) same a)) ∙ twice.1)));
+      known = λ n m. elim (Contains-append_cases (listed t) ids n (subst (λ ns. Contains ns n) more m)) [
         | inl earlier ↦ h.known n earlier
         | inr here ↦ all_at (is_declared t) (names (records.Serial ids)) (item_id n) k.declared (map_member (λ id. item_id id) ids n here)
       ];
       whole = λ _ count r id m is.
           let all : list_all last log ≡ true = not-false _
           (rw (eq-eqb (length (filter lists log)) (length t.serials + 1) (count ∙ length-append t.serials (s ∷ []))) at rules.1) in
-          subst (λ ns. Member ns id) (sym more) (member_in (listed t ++ ids) id
+          subst (λ ns. Contains ns id) (sym more) (member_in (listed t ++ ids) id
           (all_at (is_in (listed t ++ ids)) (items_declared r) id (all_at last log r all m) is));
     }
 
-one_more : (log : List Record) (t : Tables) (line : ℕ) (r : Record) → Member log r → Keeps t r → repeats_id t r ≡ false
+one_more : (log : List Record) (t : Tables) (line : ℕ) (r : Record) → Contains log r → Keeps t r → repeats_id t r ≡ false
     → is_bad_serial log t r ≡ false
     → AreListed log t → AreListed log (with_record t line r)
-one_more log t line (records.Task id) m k new good h = one_more_item log t line id _ (records.Task id, m, inl refl) new h
+one_more log t line (records.Task id) m k new good h = one_more_item log t line id _ (records.Task id, m, Contains-here []) new h
 one_more log t line (records.Fill id tree space fields n) m k new good h =
-    one_more_item log t line id _ (records.Fill id tree space fields n, m, inl refl) new h
+    one_more_item log t line id _ (records.Fill id tree space fields n, m, Contains-here []) new h
 one_more log t line (records.Serial ids) m k new good h = one_more_line log t line ids k good h
 one_more log t line _ m k new good h = record { ids = h.ids; of_log = h.of_log; once = h.once; known = h.known; whole = h.whole }
 
-one_more_unbroken : (log : List Record) (earlier : List Lined) (l : Lined) → Unbroken log earlier l.rec → Member log l.rec
+one_more_unbroken : (log : List Record) (earlier : List Lined) (l : Lined) → Unbroken log earlier l.rec → Contains log l.rec
     → AreListed log (tables_of earlier) → AreListed log (with_record (tables_of earlier) l.line l.rec)
 one_more_unbroken log earlier l u m = one_more log (tables_of earlier) l.line l.rec m (keeps_of log earlier l.rec u)
     (rule_kept codes.RepeatedId refl u) (rule_kept codes.Serial refl u)
 
 pub are_listed : (log : List Lined) → records_fault (records_of log) [] log ≡ None → AreListed (records_of log) (tables_of log)
-are_listed log none = by_records (Member (records_of log)) (AreListed (records_of log)) (records_of log)
+are_listed log none = by_records (Contains (records_of log)) (AreListed (records_of log)) (records_of log)
     (one_more_unbroken (records_of log))
-    [] log (recursion_from_All _ (records_of log) (λ k d lt. member_of (records_of log) _ (Contains-get_or (records_of log) k d lt))) none
-    (record { ids = tt; of_log = λ i m. absurd m; once = tt; known = λ n m. absurd m; whole = λ some. absurd (omega (arith, some)) })
+    [] log (recursion_from_All _ (records_of log) (λ k d lt. (Contains-get_or (records_of log) k d lt))) none
+    (record { ids = AllPairs-nil (λ (i j : Item). i.id ≢ j.id); of_log = λ i m. absurd (Contains-nil m); once = apart_none; known = λ n m. absurd (Contains-nil m); whole = λ some. absurd (omega (arith, some)) })
 
 -- ---- all lines that list items
 
@@ -120,15 +122,15 @@ item_at items k lt = elim (slice_get_cases items k).1 [ inl at ↦ (at.0, at.2) 
 -- Where a line lists items, each item is listed.
 pub each_listed : (log : List Lined) → records_fault (records_of log) [] log ≡ None → 0 < length (tables_of log).serials → (item : ℕ)
     → item < length (tables_of log).items
-    → Member (listed (tables_of log)) (id_of (tables_of log) item)
+    → Contains (listed (tables_of log)) (id_of (tables_of log) item)
 each_listed log none some item lt =
     let h = are_listed log none in
     let i = item_at (tables_of log).items item lt in
-    let of = h.of_log i.0 (member_at (tables_of log).items item i.0 i.1) in
+    let of = h.of_log i.0 (contains_at (tables_of log).items item i.0 i.1) in
     rw i.1 (h.whole some (omega (arith, lines_counted no_tables log)) of.0 i.0.id of.1 of.2)
 
 -- A line that lists an id is found.
-pub line_found : (serials : List Serial) (id : ℕ) → Member (flat_map (λ (s : Serial). s.ids) serials) id
+pub line_found : (serials : List Serial) (id : ℕ) → Contains (flat_map (λ (s : Serial). s.ids) serials) id
     → IsSome (find (λ (s : Serial). is_in s.ids id) serials)
 line_found serials id m =
     let at = member_flat (λ (s : Serial). s.ids) serials id m in

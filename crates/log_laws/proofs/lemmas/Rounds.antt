@@ -9,9 +9,11 @@ use Rattle.std.proofs.lemmas.List.Folds.{Any-from_list_any, list_any_at}
 use Rattle.std.proofs.lemmas.Option.{gets, slice_get_cases}
 use Rattle.vocabulary.specs.Prelude.{is_in, Node, WaitsOn, IsChain, Before, AreLinked}
 use Rattle.semantics.specs.ReplayOrder.{positions, waits_at, has_event, is_ready, after_rounds, replay_order, is_stuck}
-use Rattle.log_laws.proofs.lemmas.Members.{Member, member_of, contains_of, none_or_some, all_at, is_in_of, member_in, found_at, none_found}
-use Rattle.log_laws.proofs.lemmas.Apart.{pairs_from, number_within, number_in}
-use Rattle.log_laws.proofs.lemmas.Lists.{few}
+use Rattle.log_laws.proofs.lemmas.Members.{is_in_of, member_in}
+use Rattle.list_lemmas.proofs.lemmas.Contained.{all_at, found_at, none_found}
+use Rattle.list_lemmas.proofs.lemmas.Firsts.{cases_option}
+use Rattle.list_lemmas.proofs.lemmas.Parts.{few}
+use Rattle.list_lemmas.proofs.lemmas.Ranges.{number_within, number_in}
 
 -- No event is at two positions.
 one_place : (nodes : List Node) → AreLinked nodes → (i j : ℕ) (n : Node) → has_event nodes n.done i ≡ true → slice_get nodes j ≡ Some n
@@ -42,11 +44,11 @@ module _ {nodes : List Node} {ks : List ℕ} (h : AreTaken nodes ks) where
     length-take-le j ks,
   )
 
-  pub taken_within : (k : ℕ) → Member ks k → k < length nodes
-  taken_within k m = let at = contains_of ks k m in subst (λ j. j < length nodes) at.2 (h.at at.0 k at.1).0
+  pub taken_within : (k : ℕ) → Contains ks k → k < length nodes
+  taken_within k m = let at = m in subst (λ j. j < length nodes) at.2 (h.at at.0 k at.1).0
 
   no_more : length ks ≤ length nodes
-  no_more = few ks (length nodes) (pairs_from _ ks once) taken_within
+  no_more = few ks (length nodes) once taken_within
 
   module _ (linked : AreLinked nodes) where
     -- What comes before a node stands in front of it.
@@ -54,7 +56,7 @@ module _ {nodes : List Node} {ks : List ℕ} (h : AreTaken nodes ks) where
     waits_before i d j lt w =
         let all_met : list_all (is_met nodes (take i ks)) (waits_at nodes (get_or ks i d)) ≡ true = grind (arith, h.at i d lt) in
         let met = all_at (is_met nodes (take i ks)) (waits_at nodes (get_or ks i d)) w.on.done all_met
-        (rw w.by_is (member_of w.by.waits w.on.done w.listed)) in
+        (rw w.by_is w.listed) in
         let found = Any-from_list_any (has_event nodes w.on.done) (take i ks) met in
         let same : found.1 ≡ j = one_place nodes linked found.1 j w.on found.4 w.on_is in (
           found.0,
@@ -75,8 +77,8 @@ module _ {nodes : List Node} {ks : List ℕ} (h : AreTaken nodes ks) where
         let at = stands_before i d (get_or ks j d) (omega arith) before.0 before.1 in
         once at.0 j d (omega arith) lt (grind (arith, get_or_default ks at.0 d (get_or ks j d), at.2))
 
-    pub not_before_itself : (k : ℕ) → Member ks k → Before nodes k k → ⊥
-    not_before_itself k m before = let at = contains_of ks k m in in_turn at.0 at.0 k (omega arith) at.1 (rw at.2 before)
+    pub not_before_itself : (k : ℕ) → Contains ks k → Before nodes k k → ⊥
+    not_before_itself k m before = let at = m in in_turn at.0 at.0 k (omega arith) at.1 (rw at.2 before)
 
 -- What the proofs know of the replay order.
 pub record IsReplay (nodes : List Node) (ks : List ℕ) : Type 0 where
@@ -91,7 +93,7 @@ rounds nodes zero ks h room = record {
   full = λ k lt. false_from_ne_true (is_ready nodes ks k)
       (λ ready. omega (arith, room k lt ready, length_push ks k, no_more (taken_more nodes ks k h lt ready)));
 }
-rounds nodes (suc n) ks h room = elim (none_or_some (find (is_ready nodes ks) (positions nodes))) [
+rounds nodes (suc n) ks h room = elim (cases_option (find (is_ready nodes ks) (positions nodes))) [
   | inl none ↦ rw none
       (rounds nodes n ks h (λ k lt ready. grind (
         arith,
@@ -117,14 +119,14 @@ before_met nodes linked front k back is j before =
     (at.0, at.1, grind (arith, common_steps, at.1, at.2))
 
 -- A node is stuck, or in the replay order.
-pub listed : (nodes : List Node) (k : ℕ) → is_stuck nodes k ≡ false → Member (replay_order nodes) k
+pub listed : (nodes : List Node) (k : ℕ) → is_stuck nodes k ≡ false → Contains (replay_order nodes) k
 listed nodes k free = member_in (replay_order nodes) k (not-false (is_in (replay_order nodes) k) free)
 
 pub listed_decides : (nodes : List Node) (k : ℕ) → Contains (replay_order nodes) k ↔ ((k < length nodes) × (is_stuck nodes k ≡ false))
 listed_decides nodes k = (
   λ h. (
-    taken_within (replay nodes).taken k (member_of (replay_order nodes) k h),
-    rw (is_in_of (replay_order nodes) k (member_of (replay_order nodes) k h)) refl,
+    taken_within (replay nodes).taken k h,
+    rw (is_in_of (replay_order nodes) k h) refl,
   ),
-  λ h. contains_of (replay_order nodes) k (listed nodes k h.1),
+  λ h. (listed nodes k h.1),
 )

@@ -1,5 +1,5 @@
 -- What the rules on records make of the tables: requirements, maps and instances fit each other.
-use Rattle.std.proofs.Common.{◌≡◌, ◌≢◌, ℕ, ◌<◌, ◌≤◌, ◌⊎◌, inl, inr, true, false, not, ◌&&◌, ◌==◌, List, [], ◌∷◌, ◌++◌, refl, sym, ap, ◌∙◌, arith, Option, Some, option_map, is_some}
+use Rattle.std.proofs.Common.{◌≡◌, ◌≢◌, ℕ, ◌<◌, ◌≤◌, ◌⊎◌, inl, inr, true, false, not, ◌&&◌, ◌==◌, List, [], ◌∷◌, ◌++◌, refl, sym, ap, ◌∙◌, arith, Option, Some, option_map, is_some, Contains, AllPairs}
 use Rattle.std.specs.List.{list_any, list_all}
 use Rattle.std.specs.Option.{option_map_or}
 use Rattle.std.proofs.lemmas.Bool.{not-false, eq-eqb, eqb-true}
@@ -9,15 +9,17 @@ use Rattle.vocabulary.specs.Prelude.{Rect, Record, Priv, agree, Req, Inst, Map, 
 use Rattle.spy_grammar.specs.declared.record.Record.TheVariants as records
 use Rattle.privilege.specs.declared.kinds.Priv.TheVariants as privileges
 use Rattle.semantics.specs.Rules.{is_declared, names, space_id, lacks_req, interferes_with_own, is_of_wrong_tree}
-use Rattle.log_laws.proofs.lemmas.Members.{Member, Each, each_more, none_at, all_at, meets_of, find_any, find_still}
-use Rattle.log_laws.proofs.lemmas.Apart.{Apart, PairsBy, pairs_so, pairs_more, pairs_of, member_grid}
+use Rattle.log_laws.proofs.lemmas.Members.{meets_of}
+use Rattle.log_laws.proofs.lemmas.Apart.{member_grid}
+use Rattle.list_lemmas.proofs.lemmas.Contained.{each_more, none_at, all_at, find_any, find_still, Contains-nil}
+use Rattle.list_lemmas.proofs.lemmas.Pairs.{Apart, AllPairs-so, AllPairs-push, AllPairs-cases, AllPairs-nil}
 
 -- Two requirements agree, if they share a place.
 abbrev pub AgreeWhere : Tables → Req → Req → Type 0
-AgreeWhere t q r = (p : ℕ × ℕ) → Member (req_grid t q) p → Member (req_grid t r) p → q.tree ≡ r.tree → agree q.access r.access ≡ true
+AgreeWhere t q r = (p : ℕ × ℕ) → Contains (req_grid t q) p → Contains (req_grid t r) p → q.tree ≡ r.tree → agree q.access r.access ≡ true
 
 -- Of two requirements of one item the later has the larger number, and they agree where they share a place.
-abbrev FitTogether : Tables → Req → Req → Type 0
+abbrev pub FitTogether : Tables → Req → Req → Type 0
 FitTogether t q r = q.item ≡ r.item → (q.number < r.number) × AgreeWhere t q r
 
 -- A map names a requirement and an instance, which are of one tree.
@@ -26,9 +28,9 @@ Names t m = (r : Req) × (i : Inst) × (req_at t m.item m.number ≡ Some r) × 
 
 -- No number of a requirement is above the count of its item's, and its space is declared. Requirements fit together, and each map names one.
 pub record AreSane (t : Tables) : Type 0 where
-  pub known : Each (λ (r : Req). (r.number ≤ reqs_before t.reqs r.item) × (is_declared t (space_id r.space) ≡ true)) t.reqs
-  pub reqs : PairsBy (FitTogether t) t.reqs
-  pub named : Each (Names t) t.maps
+  pub known : (r : Req) → Contains t.reqs r → (r.number ≤ reqs_before t.reqs r.item) × (is_declared t (space_id r.space) ≡ true)
+  pub reqs : AllPairs (FitTogether t) t.reqs
+  pub named : (x : _) → Contains t.maps x → Names t x
 
 -- The rules that matter here.
 pub record Keeps (t : Tables) (r : Record) : Type 0 where
@@ -51,7 +53,7 @@ agrees : (t : Tables) (item tree space : ℕ) (fields : List ℕ) (access : Priv
     → list_any (λ (q : Req). (q.item == item) &&
     ((q.tree == tree) && (meets (points_in t q.space) (points_in t space)
     && (meets q.fields fields && not (agree q.access access))))) t.reqs ≡ false
-    → (q : Req) → Member t.reqs q → q.item ≡ item → (p : ℕ × ℕ) → Member (req_grid t q) p → Member (grid (points_in t space) fields) p
+    → (q : Req) → Contains t.reqs q → q.item ≡ item → (p : ℕ × ℕ) → Contains (req_grid t q) p → Contains (grid (points_in t space) fields) p
     → q.tree ≡ tree → agree q.access access ≡ true
 agrees t item tree space fields access none q m at p in_q in_r of =
     let a = member_grid (points_in t q.space) q.fields p in_q in
@@ -73,7 +75,7 @@ named_by _ _ known of = absurd cc
 with_one : (t : Tables) (id : ℕ) (points : List ℕ) (rects : List Rect) → AreSane t → AreSane (with_space t id points rects)
 with_one t id points rects h = record {
   known = λ r m. ((h.known r m).0, list_any-append (λ (s : Space). s.id == r.space) t.spaces _ ∙ rw (h.known r m).1 refl);
-  reqs = pairs_so (FitTogether t) _ t.reqs (λ q r a b fit item. (
+  reqs = AllPairs-so (FitTogether t) (FitTogether (with_space t id points rects)) t.reqs (λ q r a b fit item. (
     (fit item).0,
     rw (grid_stays t _ q (h.known q a).1, grid_stays t _ r (h.known r b).1) (fit item).1,
   )) h.reqs;
@@ -86,11 +88,11 @@ with_kept t line (records.Ispace id set) k h = with_one t id _ _ h
 with_kept t line (records.Plane id quads) k h = with_one t id _ _ h
 with_kept t line (records.Req task tree space fields access atomic) k h =
     let declared = all_at (is_declared t) (names (records.Req task tree space fields access atomic)) (space_id space) k.declared
-    (inr (inr (inl refl))) in
+    (2, omega arith, refl) in
     record {
       known = each_more _ t.reqs _ (λ r m. (omega (arith, sum_by-append {X = Req}, (h.known r m).0), (h.known r m).1))
           (rw (sum_by-append, eq-eqb (place_of t.items task) (place_of t.items task) refl) (omega arith), declared);
-      reqs = pairs_more (FitTogether t) t.reqs _ h.reqs
+      reqs = AllPairs-push (FitTogether t) t.reqs _ h.reqs
           (λ q m item. (omega (arith, (h.known q m).0, ap (reqs_before t.reqs) item), agrees t _ tree space fields _ k.own q m item));
       named = λ m is. let n = h.named m is in (
         n.0,
@@ -110,7 +112,7 @@ with_kept t line (records.Map task number fields inst) k h =
 with_kept t line _ k h = record { known = h.known; reqs = h.reqs; named = h.named }
 
 pub nothing_sane : AreSane no_tables
-nothing_sane = record { known = λ r m. absurd m; reqs = tt; named = λ m is. absurd is }
+nothing_sane = record { known = λ r m. absurd (Contains-nil m); reqs = AllPairs-nil (FitTogether no_tables); named = λ m is. absurd (Contains-nil is) }
 
 -- ---- what follows
 
@@ -120,9 +122,9 @@ agree_back (privileges.Red a) (privileges.Red b) e = eq-eqb b a (sym (eqb-true a
 agree_back _ _ e = absurd cc
 
 -- Two requirements of one item are one, or they have different numbers and agree where they share a place.
-pub two_reqs : (t : Tables) → AreSane t → (q r : Req) → Member t.reqs q → Member t.reqs r → q.item ≡ r.item → (q ≡ r)
+pub two_reqs : (t : Tables) → AreSane t → (q r : Req) → Contains t.reqs q → Contains t.reqs r → q.item ≡ r.item → (q ≡ r)
     ⊎ ((q.number ≢ r.number) × AgreeWhere t q r)
-two_reqs t sane q r a b item = elim (pairs_of (FitTogether t) t.reqs sane.reqs q r a b) [
+two_reqs t sane q r a b item = elim (AllPairs-cases (FitTogether t) t.reqs sane.reqs q r a b) [
   | inl is ↦ inl is
   | inr (inl before) ↦ let fit = before item in inr (λ e. omega (arith, fit.0, e), fit.1)
   | inr (inr after) ↦ let fit = after (sym item) in
@@ -130,5 +132,5 @@ two_reqs t sane q r a b item = elim (pairs_of (FitTogether t) t.reqs sane.reqs q
 ]
 
 pub reqs_apart : (t : Tables) → AreSane t → Apart t.reqs
-reqs_apart t sane = pairs_so (FitTogether t) (λ q r. q ≢ r) t.reqs
+reqs_apart t sane = AllPairs-so (FitTogether t) (λ q r. q ≢ r) t.reqs
     (λ q r _ _ fit e. omega (arith, (fit (ap (λ (r : Req). r.item) e)).0, ap (λ (r : Req). r.number) e)) sane.reqs

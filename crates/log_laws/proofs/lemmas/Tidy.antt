@@ -1,5 +1,5 @@
 -- Two steps of one node conflict only where the one is a read and the other is none, and no step is taken twice.
-use Rattle.std.proofs.Common.{◌≡◌, ◌≢◌, ℕ, ◌⊎◌, inl, inr, Bool, true, false, not, ◌&&◌, ◌==◌, List, [], ◌∷◌, cond, refl, sym, ap, ap₂, ◌∙◌, subst, Some, arith, find, is_some, map, flat_map}
+use Rattle.std.proofs.Common.{◌≡◌, ◌≢◌, ℕ, ◌⊎◌, inl, inr, Bool, true, false, not, ◌&&◌, ◌==◌, List, [], ◌∷◌, cond, refl, sym, ap, ap₂, ◌∙◌, subst, Some, arith, find, is_some, map, flat_map, Contains}
 use Rattle.std.proofs.lemmas.Bool.{true≢false, and_parts, cond_both, eq-eqb, eqb-true, false_from_ne_true}
 use Rattle.std.proofs.lemmas.Bool.Decides.{nat_tests}
 use Rattle.std.proofs.lemmas.Option.{same_Some}
@@ -9,8 +9,12 @@ use Rattle.semantics.specs.declared.moves.Move.TheVariants as moves
 use Rattle.semantics.specs.declared.tables.Op.TheVariants as operations
 use Rattle.semantics.specs.Rules.{tree_of_inst}
 use Rattle.semantics.specs.Races.{Reads}
-use Rattle.log_laws.proofs.lemmas.Members.{Member, member_of, only, member_append, member_map, member_flat, member_filter, found_at, none_or_some}
-use Rattle.log_laws.proofs.lemmas.Apart.{Apart, pairs_append, apart_map, apart_flat, apart_filter, grid_apart, member_grid}
+use Rattle.std.proofs.lemmas.List.Elements.{Contains-append_cases}
+use Rattle.list_lemmas.proofs.lemmas.Contained.{only, member_map, member_flat, found_at, Contains-nil}
+use Rattle.list_lemmas.proofs.lemmas.Filtered.{of_filter}
+use Rattle.list_lemmas.proofs.lemmas.Firsts.{cases_option}
+use Rattle.list_lemmas.proofs.lemmas.Pairs.{Apart, AllPairs-append, apart_map, apart_flat, apart_filter, apart_none, apart_one}
+use Rattle.log_laws.proofs.lemmas.Apart.{grid_apart, member_grid}
 use Rattle.log_laws.proofs.lemmas.Sane.{AreSane, two_reqs, reqs_apart}
 use Rattle.log_laws.proofs.Strict.{AreStrict, HasFieldsApart, points_in_apart}
 use Rattle.log_laws.proofs.lemmas.StepLists.{of_node}
@@ -87,7 +91,7 @@ place c = (c.point, c.field)
 
 -- Two of some moves conflict only where the one is a read and the other is none.
 abbrev AreTidy : List Move → Type 0
-AreTidy ms = (m n : Move) (c : Cell) → Member ms m → Member ms n → m ≢ n → conflicts (access m c) (access n c) ≡ true
+AreTidy ms = (m n : Move) (c : Cell) → Contains ms m → Contains ms n → m ≢ n → conflicts (access m c) (access n c) ≡ true
     → is_read m ≢ is_read n
 
 -- Of moves of one shape, over points and fields, two that conflict are one.
@@ -105,36 +109,36 @@ one_shape of ps at m n c a b differ e =
 pub record IsOf (t : Tables) (rs : List Req) (does : Req → Cell → List Move) (m : Move) : Type 0 where
   pub req : Req
   pub at : ℕ × ℕ
-  pub is_req : Member rs req
-  pub is_at : Member (req_grid t req) at
-  pub is_done : Member (does req (mapped_cell t req at)) m
+  pub is_req : Contains rs req
+  pub is_at : Contains (req_grid t req) at
+  pub is_done : Contains (does req (mapped_cell t req at)) m
 
-pub is_of : (t : Tables) (rs : List Req) (does : Req → Cell → List Move) (m : Move) → Member (at_cells t does rs) m → IsOf t rs does m
+pub is_of : (t : Tables) (rs : List Req) (does : Req → Cell → List Move) (m : Move) → Contains (at_cells t does rs) m → IsOf t rs does m
 is_of t rs does m h =
     let r = member_flat (λ r. flat_map (λ p. does r (mapped_cell t r p)) (req_grid t r)) rs m h in
     let p = member_flat (λ p. does r.0 (mapped_cell t r.0 p)) (req_grid t r.0) m r.2 in
     record { req = r.0; at = p.0; is_req = r.1; is_at = p.1; is_done = p.2 }
 
-pub read_is : (task number : ℕ) (access : Priv) (c : Cell) (m : Move) → Member (reads_by task number access c) m
+pub read_is : (task number : ℕ) (access : Priv) (c : Cell) (m : Move) → Contains (reads_by task number access c) m
     → m ≡ moves.Read task number c
-read_is task number access c m = cond_both (may_read access) (moves.Read task number c ∷ []) [] (λ ms. Member ms m
-    → m ≡ moves.Read task number c) (λ _ h. only h) (λ _ none. absurd none)
+read_is task number access c m = cond_both (may_read access) (moves.Read task number c ∷ []) [] (λ ms. Contains ms m
+    → m ≡ moves.Read task number c) (λ _ h. only h) (λ _ none. absurd (Contains-nil none))
 
 -- How a task changes a cell for a requirement that lets it.
 abbrev pub change_of : ℕ → ℕ → Priv → Cell → Move
 change_of task number (privileges.Red op) c = moves.Reduce task number op c
 change_of task number _ c = moves.Write task c
 
-pub change_tells : (task number : ℕ) (access : Priv) (c : Cell) (m : Move) → Member (changes_by task number access c) m
+pub change_tells : (task number : ℕ) (access : Priv) (c : Cell) (m : Move) → Contains (changes_by task number access c) m
     → (m ≡ change_of task number access c) × (is_read m ≡ false) × Ends (λ x. x ≡ c) m
-change_tells task number privileges.Ro c m none = absurd none
+change_tells task number privileges.Ro c m none = absurd (Contains-nil none)
 change_tells task number _ c m h = let is = only h in (is, ap is_read is, subst (Ends (λ x. x ≡ c)) (sym is) (refl, refl))
 
 -- Changes for two requirements that agree are reductions with one operator.
-pub reductions : (task j k : ℕ) (p q : Priv) (a b : Cell) (m n : Move) → agree p q ≡ true → Member (changes_by task j p a) m
-    → Member (changes_by task k q b) n
+pub reductions : (task j k : ℕ) (p q : Priv) (a b : Cell) (m n : Move) → agree p q ≡ true → Contains (changes_by task j p a) m
+    → Contains (changes_by task k q b) n
     → (op : ℕ) × (m ≡ moves.Reduce task j op a) × (n ≡ moves.Reduce task k op b)
-reductions task j k privileges.Ro q a b m n e none y = absurd none
+reductions task j k privileges.Ro q a b m n e none y = absurd (Contains-nil none)
 reductions task j k (privileges.Red o) (privileges.Red p) a b m n e x y =
     (o, only x, only y ∙ ap (λ op. moves.Reduce task k op b) (sym (eqb-true o p e)))
 reductions task j k _ _ a b m n e x y = absurd cc
@@ -152,29 +156,29 @@ a_read task t rs m x = ap is_read (read_is task x.req.number x.req.access (mappe
 pub no_read : (task : ℕ) (t : Tables) (rs : List Req) (m : Move) → IsOf t rs (changes task) m → is_read m ≡ false
 no_read task t rs m x = (change_tells task x.req.number x.req.access (mapped_cell t x.req x.at) m x.is_done).1
 
-of_run : (task : ℕ) (t : Tables) (rs : List Req) (m : Move) → Member (run_moves t task rs) m → IsOf t rs (reads task) m
+of_run : (task : ℕ) (t : Tables) (rs : List Req) (m : Move) → Contains (run_moves t task rs) m → IsOf t rs (reads task) m
     ⊎ IsOf t rs (changes task) m
 of_run task t rs m h =
-    elim (member_append (at_cells t (reads task) rs) (at_cells t (changes task) rs) m h) [
+    elim (Contains-append_cases (at_cells t (reads task) rs) (at_cells t (changes task) rs) m h) [
       | inl r ↦ inl (is_of t rs _ m r)
       | inr c ↦
           inr (is_of t rs _ m c)
     ]
 
 read_once : (task number : ℕ) (access : Priv) (c : Cell) → Apart (reads_by task number access c)
-read_once task number access c = cond_both (may_read access) (moves.Read task number c ∷ []) [] Apart (λ _. (λ m none. absurd none, tt))
-    (λ _. tt)
+read_once task number access c = cond_both (may_read access) (moves.Read task number c ∷ []) [] Apart
+    (λ _. apart_one (moves.Read task number c)) (λ _. apart_none)
 
 change_once : (task number : ℕ) (access : Priv) (c : Cell) → Apart (changes_by task number access c)
-change_once task number privileges.Ro c = tt
-change_once task number _ c = (λ m none. absurd none, tt)
+change_once task number privileges.Ro c = apart_none
+change_once task number _ c = apart_one _
 
-module _ (t : Tables) (sane : AreSane t) (whole : (r : Req) (field : ℕ) → Member t.reqs r → Member r.fields field
+module _ (t : Tables) (sane : AreSane t) (whole : (r : Req) (field : ℕ) → Contains t.reqs r → Contains r.fields field
     → is_some (mapped t r field) ≡ true) where
   -- The cell to which a requirement is mapped is of its tree.
-  mapped_tree : (r : Req) (p : ℕ × ℕ) → Member t.reqs r → Member (req_grid t r) p → tree_of_inst t (mapped_cell t r p).inst ≡ Some r.tree
+  mapped_tree : (r : Req) (p : ℕ × ℕ) → Contains t.reqs r → Contains (req_grid t r) p → tree_of_inst t (mapped_cell t r p).inst ≡ Some r.tree
   mapped_tree r p is at =
-      elim (none_or_some (find (λ (m : Map). (m.item == r.item) && ((m.number == r.number) && is_in m.fields p.1)) t.maps)) [
+      elim (cases_option (find (λ (m : Map). (m.item == r.item) && ((m.number == r.number) && is_in m.fields p.1)) t.maps)) [
         | inl none ↦ absurd (true≢false (sym (whole r p.1 is (member_grid (points_in t r.space) r.fields p at).1) ∙ rw none refl))
         | inr some ↦
             let m : Map = some.0 in
@@ -189,12 +193,12 @@ module _ (t : Tables) (sane : AreSane t) (whole : (r : Req) (field : ℕ) → Me
       ]
 
   module _ (item : ℕ) where
-    pub own : (r : Req) → Member (reqs_of t item) r → Member t.reqs r × (r.item ≡ item)
-    own r m = let f = member_filter (λ (r : Req). r.item == item) t.reqs r m in (f.0, eqb-true r.item item f.1)
+    pub own : (r : Req) → Contains (reqs_of t item) r → Contains t.reqs r × (r.item ≡ item)
+    own r m = let f = of_filter (λ (r : Req). r.item == item) t.reqs r m in (f.0, eqb-true r.item item f.1)
 
     -- Two requirements of one task are one, or have different numbers and agree, if they are mapped to one cell.
-    pub one_or_agree : (q r : Req) (p s : ℕ × ℕ) → Member (reqs_of t item) q → Member (reqs_of t item) r → Member (req_grid t q) p
-        → Member (req_grid t r) s → mapped_cell t q p ≡ mapped_cell t r s
+    pub one_or_agree : (q r : Req) (p s : ℕ × ℕ) → Contains (reqs_of t item) q → Contains (reqs_of t item) r → Contains (req_grid t q) p
+        → Contains (req_grid t r) s → mapped_cell t q p ≡ mapped_cell t r s
         → (q ≡ r) ⊎ ((q.number ≢ r.number) × (agree q.access r.access ≡ true))
     one_or_agree q r p s is_q is_r at_p at_s here =
         let a = own q is_q in
@@ -202,7 +206,7 @@ module _ (t : Tables) (sane : AreSane t) (whole : (r : Req) (field : ℕ) → Me
         let trees = sym (mapped_tree q p a.0 at_p) ∙ ap (λ (c : Cell). tree_of_inst t c.inst) here ∙ mapped_tree r s b.0 at_s in
         elim (two_reqs t sane q r a.0 b.0 (a.1 ∙ sym b.1)) [
           | inl one ↦ inl one
-          | inr two ↦ inr (two.0, two.1 p at_p (subst (Member (req_grid t r)) (sym (ap place here)) at_s) (same_Some q.tree r.tree trees))
+          | inr two ↦ inr (two.0, two.1 p at_p (subst (Contains (req_grid t r)) (sym (ap place here)) at_s) (same_Some q.tree r.tree trees))
         ]
 
     two_changes : (task : ℕ) (m n : Move) (c : Cell) → IsOf t (reqs_of t item) (changes task) m → IsOf t (reqs_of t item) (changes task) n
@@ -232,15 +236,15 @@ module _ (t : Tables) (sane : AreSane t) (whole : (r : Req) (field : ℕ) → Me
 
   op_tidy : (op : Op) → AreTidy (moves_of t op)
   op_tidy (operations.Run item) = run_tidy item (id_of t item)
-  op_tidy operations.Merge = λ m n c a b differ e. absurd a
+  op_tidy operations.Merge = λ m n c a b differ e. absurd (Contains-nil a)
   op_tidy _ = one_shape _ _ (λ p. (refl, refl))
 
   pub tidy : IsTidy t
   tidy node m n c a b differ e =
-      let x = of_node t _ _ (member_of (steps t) (record { node = node; move = m }) a) in
-      let y = of_node t _ _ (member_of (steps t) (record { node = node; move = n }) b) in
+      let x = of_node t _ _ a in
+      let y = of_node t _ _ b in
       let one = same_Some y.node x.node (sym y.is_node ∙ x.is_node) in
-      op_tidy x.node.op m n c x.is_move (subst (λ (k : LogNode). Member (moves_of t k.op) n) one y.is_move) differ e
+      op_tidy x.node.op m n c x.is_move (subst (λ (k : LogNode). Contains (moves_of t k.op) n) one y.is_move) differ e
 
   -- ---- a node takes no step twice
 
@@ -251,8 +255,8 @@ module _ (t : Tables) (sane : AreSane t) (whole : (r : Req) (field : ℕ) → Me
     module _ (item task : ℕ) where
       -- A task does once at each cell what it does for its requirements, if each move tells its cell, and of requirements that agree the number of its own.
       module _ (does : Req → Cell → List Move) (each : (r : Req) (c : Cell) → Apart (does r c)) (cell : (r : Req) (c : Cell) (m : Move)
-          → Member (does r c) m → (ends m).0 ≡ c)
-          (number : (q r : Req) (a b : Cell) (m : Move) → agree q.access r.access ≡ true → Member (does q a) m → Member (does r b) m
+          → Contains (does r c) m → (ends m).0 ≡ c)
+          (number : (q r : Req) (a b : Cell) (m : Move) → agree q.access r.access ≡ true → Contains (does q a) m → Contains (does r b) m
           → q.number ≡ r.number) where
         cells_once : Apart (at_cells t does (reqs_of t item))
         cells_once = apart_flat (λ r. flat_map (λ p. does r (mapped_cell t r p)) (req_grid t r)) (reqs_of t item)
@@ -271,7 +275,7 @@ module _ (t : Tables) (sane : AreSane t) (whole : (r : Req) (field : ℕ) → Me
             (apart_filter (λ (r : Req). r.item == item) t.reqs (reqs_apart t sane))
 
       run_once : Apart (run_moves t task (reqs_of t item))
-      run_once = pairs_append (λ m n. m ≢ n) _ _
+      run_once = AllPairs-append (λ m n. m ≢ n) _ _
           (cells_once (reads task) (λ r c. read_once task r.number r.access c)
           (λ r c m h. ap (λ m. (ends m).0) (read_is task r.number r.access c m h))
           (λ q r a b m _ x y. let same : moves.Read task q.number a ≡ moves.Read task r.number b =
@@ -286,5 +290,5 @@ module _ (t : Tables) (sane : AreSane t) (whole : (r : Req) (field : ℕ) → Me
 
     pub moves_once : (op : Op) → HasFieldsApart op → Apart (moves_of t op)
     moves_once (operations.Run item) h = run_once item (id_of t item)
-    moves_once operations.Merge h = tt
+    moves_once operations.Merge h = apart_none
     moves_once _ h = apart_map _ _ (λ p q e. ap (λ m. place (ends m).0) e) (grid_once _ _ h)

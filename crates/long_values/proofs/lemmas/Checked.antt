@@ -6,7 +6,6 @@ use Rattle.findings.specs.declared.finding.Finding.TheVariants as findings
 use Rattle.semantics.specs.declared.command.Command.TheVariants.{Check}
 use Rattle.semantics.specs.Faults.{log_fault}
 use Rattle.outcomes.specs.Outcome.{CheckFinds, IsFound, IsOutcome}
-use Rattle.log_laws.proofs.lemmas.Members.{contains_of}
 use Rattle.long_values.specs.LongValues.{short}
 use Rattle.long_values.specs.LongExecution.{start_long, IsRightLong}
 use Rattle.long_values.specs.LongOutcome.{DiffersLong, CheckFindsLong, IsFoundLong, IsOutcomeLong}
@@ -20,7 +19,7 @@ differ_long t r d xs il =
     (subst (λ s. ReadsIn xs s (read_step d.node d.inst r) r.got) (sym (short_start t)) (d.sees xs il)) in (
       d.inst,
       e.0,
-      contains_of _ e.0 e.1,
+      e.1,
       e.2,
       λ same. d.differ (sym e.2.value_is ∙ ap short same
           ∙ short_wanted t (place_of t.items e.0.task) e.0.place ∙ (λ i. wanted t (place_of t.items (e.2.task_is i)) (e.2.place_is i))),

@@ -4,7 +4,6 @@ use Rattle.vocabulary.specs.Prelude.{Lined, Cell, Tables, tables_of, place_of, w
 use Rattle.semantics.specs.Faults.{log_fault}
 use Rattle.semantics.specs.declared.command.Command.TheVariants.{Check}
 use Rattle.log_laws.proofs.lemmas.Admitted.{faultless, sane}
-use Rattle.log_laws.proofs.lemmas.Members.{member_of, contains_of}
 use Rattle.long_values.specs.LongValues.{short}
 use Rattle.long_values.specs.LongExecution.{start_long, IsRightLong}
 use Rattle.long_values.proofs.ShortSequential.{short_wanted}
@@ -18,7 +17,7 @@ short_right t right xs il node inst r read =
     let cell : Cell = record { inst = inst; point = r.point; field = r.field } in
     let e = listed_read t xs (start_long t) node r.task r.number cell r.got
     (subst (λ s. ReadsIn xs s (read_step node inst r) r.got) (sym (short_start t)) read) in
-    sym e.2.value_is ∙ ap short (right xs il e.0 (contains_of _ e.0 e.1)) ∙ short_wanted t (place_of t.items e.0.task) e.0.place
+    sym e.2.value_is ∙ ap short (right xs il e.0 e.1) ∙ short_wanted t (place_of t.items e.0.task) e.0.place
     ∙ (λ i. wanted t (place_of t.items (e.2.task_is i)) (e.2.place_is i))
 
 -- In every interleaving of a log without a fault each read sees what it should, exactly where each does with all that was read for it.
@@ -28,6 +27,6 @@ right_same lines log none =
     let f = faultless Check lines log none in (
       λ right xs il r m. right_long t (named Check log f) (run_once Check log f) (sane Check log f) xs il
           (λ node task req cell v read. right xs il node cell.inst
-          (record { task = task; number = req; point = cell.point; field = cell.field; got = v }) read) r (member_of _ r m),
+          (record { task = task; number = req; point = cell.point; field = cell.field; got = v }) read) r m,
       short_right t,
     )

@@ -4,7 +4,6 @@ use Rattle.privilege.specs.declared.kinds.Kind.TheVariants.{Free}
 use Rattle.spy_grammar.specs.declared.nested.NLined.{NLined}
 use Rattle.vocabulary.specs.Prelude.{Place, Req, Tables, covers, item_kind, reqs_of}
 use Rattle.semantics.specs.Nesting.{Nesting, are_free, licenses, nested_fault, nested_tables, nesting_of, shown_unlicensed}
-use Rattle.log_laws.proofs.lemmas.Members.{Member, member_of}
 use Rattle.nest_laws.specs.Below.{IsTaskBelow}
 use Rattle.nest_laws.proofs.Licensed.{member_licensed}
 use Rattle.nest_laws.proofs.FreeGroups.{tasks_free}
@@ -13,8 +12,8 @@ use Rattle.nest_laws.proofs.FreeGroups.{tasks_free}
 pub task_licensed : (t : Tables) (n : Nesting) → shown_unlicensed t n ≡ None → (g item : ℕ) → IsTaskBelow t n g item → (r : Req)
     → Contains (reqs_of t item) r → (p : Place) → covers t p r ≡ true → licenses t n g p r.access ≡ true
 task_licensed t n none g item below r asks p here =
-    member_licensed t n none below.member (member_of n.members below.member below.of) g below.below r
-    (subst (λ (k : ℕ). Member (reqs_of t k) r) below.item_is (member_of (reqs_of t item) r asks)) p here
+    member_licensed t n none below.member below.of g below.below r
+    (subst (λ (k : ℕ). Contains (reqs_of t k) r) below.item_is asks) p here
 
 -- Tasks below two groups that are free of each other do not interfere.
 pub free_tasks : (lines : ℕ) (log : List NLined) → nested_fault lines log ≡ None

@@ -1,5 +1,5 @@
 -- The fields of a tree that is declared stay, as a log without a fault goes on.
-use Rattle.std.proofs.Common.{◌≡◌, ℕ, ◌==◌, true, List, [], ◌∷◌, ◌++◌, refl, sym, ap, ◌∙◌, subst, Some, None, append_assoc}
+use Rattle.std.proofs.Common.{◌≡◌, ℕ, ◌==◌, true, List, [], ◌∷◌, ◌++◌, refl, sym, ap, ◌∙◌, subst, Some, None, append_assoc, Contains}
 use Rattle.std.specs.List.{list_any}
 use Rattle.std.specs.Option.{option_map_or}
 use Rattle.std.proofs.lemmas.Bool.{and_parts}
@@ -11,12 +11,12 @@ use Rattle.semantics.specs.declared.tables.Tree as trees
 use Rattle.semantics.specs.declared.tables.FieldSpace as fspaces
 use Rattle.semantics.specs.Rules.{is_declared, tree_id, field_space_id, space_id, exceeds_tree}
 use Rattle.semantics.specs.Faults.{records_fault}
-use Rattle.log_laws.proofs.lemmas.Members.{Each, each_more, found_at, find_any, find_still, both_none}
+use Rattle.list_lemmas.proofs.lemmas.Contained.{each_more, found_at, find_any, find_still, both_none, Contains-nil}
 use Rattle.log_laws.proofs.lemmas.Admitted.{Unbroken, by_records, keeps_of}
 
 -- The field space of each tree is declared.
 abbrev AreFielded : Tables → Type 0
-AreFielded t = Each (λ (r : trees.Tree). is_declared t (field_space_id r.fspace) ≡ true) t.trees
+AreFielded t = (r : trees.Tree) → Contains t.trees r → is_declared t (field_space_id r.fspace) ≡ true
 
 still_declared : (xs ys : List fspaces.FieldSpace) (id : ℕ) → list_any (λ (f : fspaces.FieldSpace). f.id == id) xs ≡ true
     → list_any (λ (f : fspaces.FieldSpace). f.id == id) (xs ++ ys) ≡ true
@@ -34,7 +34,7 @@ fielded_with log earlier line _ u h = h
 
 fielded : (log : List Record) (rest : List Lined) → records_fault log [] rest ≡ None → AreFielded (tables_of rest)
 fielded log rest e = by_records (λ r. Unit {0}) AreFielded log (λ earlier l u _. fielded_with log earlier l.line l.rec u) [] rest
-    (recursion_from_All _ (records_of rest) (λ k d lt. tt)) e (λ r m. absurd m)
+    (recursion_from_All _ (records_of rest) (λ k d lt. tt)) e (λ r m. absurd (Contains-nil m))
 
 -- What is found of a tree is found later.
 record IsKept (t u : Tables) : Type 0 where

@@ -10,7 +10,8 @@ use Rattle.semantics.specs.declared.tables.ItemBody.TheVariants.{Task, Fill}
 use Rattle.semantics.specs.Rules.{is_task}
 use Rattle.semantics.specs.Shown.{is_task_at}
 use Rattle.order_laws.specs.Turns.{do_interfere}
-use Rattle.log_laws.proofs.lemmas.Members.{Member, member_of, member_filter, none_or_some}
+use Rattle.list_lemmas.proofs.lemmas.Filtered.{of_filter}
+use Rattle.list_lemmas.proofs.lemmas.Firsts.{cases_option}
 
 body_case : (b : ItemBody) (own : List Req) (other : ℕ → ℕ → List ℕ → ℕ → List Req) → is_task b ≡ true
     → (elim b [ Task ↦ own | Fill tree space fields n ↦ other tree space fields n ]) ≡ own
@@ -38,14 +39,13 @@ task_uses t a = by (slice_get t.items a)
     by None e = absurd (true≢false (sym e))
     by (Some i) e = body_uses t a i e
 
-pub own_req : (t : Tables) (a : ℕ) (r : Req) → is_task_at t a ≡ true → Contains (uses_of t a) r → Member t.reqs r × (r.item ≡ a)
+pub own_req : (t : Tables) (a : ℕ) (r : Req) → is_task_at t a ≡ true → Contains (uses_of t a) r → Contains t.reqs r × (r.item ≡ a)
 own_req t a r task m =
-    let f = member_filter (λ (r : Req). r.item == a) t.reqs r (member_of (reqs_of t a) r
-    (subst (λ rs. Contains rs r) (task_uses t a task) m)) in
+    let f = of_filter (λ (r : Req). r.item == a) t.reqs r (subst (λ rs. Contains rs r) (task_uses t a task) m) in
     (f.0, eqb-true r.item a f.1)
 
 pub task_within : (t : Tables) (a : ℕ) → is_task_at t a ≡ true → a < length t.items
-task_within t a e = elim (none_or_some (slice_get t.items a)) [
+task_within t a e = elim (cases_option (slice_get t.items a)) [
   | inl none ↦ absurd (true≢false (sym (rw none at e)))
   | inr some ↦ slice_get_within t.items a some.0 some.1
 ]

@@ -1,5 +1,5 @@
 -- What one replay shows, in every interleaving.
-use Rattle.std.proofs.Common.{◌≡◌, ◌≢◌, ℕ, inl, inr, List, [], ◌∷◌, refl, sym, ap, ◌∙◌, subst, Option, Some, None}
+use Rattle.std.proofs.Common.{◌≡◌, ◌≢◌, ℕ, inl, inr, List, [], ◌∷◌, refl, sym, ap, ◌∙◌, subst, Option, Some, None, Contains}
 use Rattle.std.specs.List.{AllByRecursion}
 use Rattle.std.specs.Option.{option_or}
 use Rattle.std.proofs.lemmas.Bool.{cases_Bool}
@@ -11,7 +11,8 @@ use Rattle.semantics.specs.Faults.{log_fault}
 use Rattle.log_laws.proofs.lemmas.Admitted.{IsFaultless, faultless}
 use Rattle.log_laws.proofs.lemmas.Answers.{one_sight}
 use Rattle.log_laws.proofs.lemmas.Laws.{faultless_tidy, replay_interleaves}
-use Rattle.log_laws.proofs.lemmas.Members.{Member, contains_of, both_none, none_or_some}
+use Rattle.list_lemmas.proofs.lemmas.Contained.{both_none, Contains-first, Contains-later}
+use Rattle.list_lemmas.proofs.lemmas.Firsts.{cases_option}
 
 module _ (t : Tables) where
   -- A read that does not differ saw what it should.
@@ -63,7 +64,7 @@ module _ (t : Tables) where
   record IsSeenIn (xs : List Step) (s : State) (r : Seen) : Type 0 where
     node : ℕ
     inst : ℕ
-    listed : Member xs (read_step node inst r)
+    listed : Contains xs (read_step node inst r)
     reads : ReadsIn xs s (read_step node inst r) r.got
     differ : r.got ≢ want_of t r
 
@@ -80,7 +81,7 @@ module _ (t : Tables) where
           record {
             node = x.node;
             inst = c.inst;
-            listed = inl step;
+            listed = Contains-first xs step;
             reads = inl (step, subst (λ (q : Seen). sees x.move s ≡ Some q.got) same.0 (ap (λ m. sees m s) is));
             differ = subst (λ (q : Seen). q.got ≢ want_of t q) same.0 same.1;
           }
@@ -93,10 +94,10 @@ module _ (t : Tables) where
 
   first_seen : (xs : List Step) (s : State) (r : Seen) → first_difference t xs s ≡ Some r → IsSeenIn xs s r
   first_seen [] s r e = absurd cc
-  first_seen (x ∷ xs) s r e = elim (none_or_some (difference t x.move s)) [
+  first_seen (x ∷ xs) s r e = elim (cases_option (difference t x.move s)) [
     | inl none ↦ (
         let rest = first_seen xs (effect x.move s) r (sym (ap (λ o. option_or o (first_difference t xs (effect x.move s))) none) ∙ e) in
-        record { node = rest.node; inst = rest.inst; listed = inr rest.listed; reads = inr rest.reads; differ = rest.differ })
+        record { node = rest.node; inst = rest.inst; listed = Contains-later xs rest.listed; reads = inr rest.reads; differ = rest.differ })
     | inr some ↦ (
         let both : ◌≡◌ {A = Option Seen} (Some some.0) (Some r) =
         sym (ap (λ o. option_or o (first_difference t xs (effect x.move s))) some.1) ∙ e in
@@ -117,7 +118,7 @@ module _ (t : Tables) where
           node = seen.node;
           inst = seen.inst;
           is_step = whole.in_log (read_step seen.node seen.inst r)
-              (contains_of (replay_steps t) (read_step seen.node seen.inst r) seen.listed);
+              seen.listed;
           differ = seen.differ;
           sees = λ xs is. one (replay_steps t) xs whole is (start t) (read_step seen.node seen.inst r) r.got seen.reads;
         }

@@ -6,15 +6,18 @@ use Rattle.std.proofs.Math.Path.{fun_ext}
 use Rattle.std.proofs.lemmas.Bool.{cases_Bool, true≢false, false_from_ne_true, eqb-true}
 use Rattle.std.proofs.lemmas.List.Concat.{flat_map_single}
 use Rattle.std.proofs.lemmas.List.Elements.{filter-append}
+use Rattle.list_lemmas.proofs.lemmas.Contained.{Contains-here, Contains-later}
 use Rattle.value_terms.specs.declared.terms.Base.TheVariants.{Init}
 use Rattle.vocabulary.specs.Prelude.{Value, plain, same_value, Cell, Place, Move, Item, Req, Op, Tables, Space, place_of, is_in, points_in, covers, uses_of, reqs_of, grid, req_grid, after_items, after_uses, wanted, changed, Step, id_of, inst_at, cell_in, mapped_cell, operator_of, reads_by, changes_by, at_cells, moves_of, steps_by, steps, State, start, effect, graph_of, req_at, difference, first_difference, shown_difference, access, Race}
 use Rattle.semantics.specs.declared.moves.Move.TheVariants as moves
 use Rattle.semantics.specs.declared.tables.Op.TheVariants as operations
 use Rattle.semantics.specs.SerialOrder.{serial, serial_place}
 use Rattle.semantics.specs.ReplayOrder.{replay_order}
-use Rattle.log_laws.proofs.lemmas.Members.{Member, Each, member_of, contains_of, member_filter, none_or_some, filter_member, member_in, is_in_of}
+use Rattle.log_laws.proofs.lemmas.Members.{member_in, is_in_of}
 use Rattle.log_laws.proofs.lemmas.StepLists.{steps_at}
-use Rattle.log_laws.proofs.lemmas.Lists.{filter_map_of}
+use Rattle.list_lemmas.proofs.lemmas.Filtered.{of_filter, in_filter}
+use Rattle.list_lemmas.proofs.lemmas.Firsts.{cases_option}
+use Rattle.list_lemmas.proofs.lemmas.Parts.{filter_map_of}
 use Rattle.point_laws.specs.Alike.{HasPointsInOrder, AreFirsts, target, is_at}
 use Rattle.point_laws.specs.Cut.{cut, cut_space, kept, cut_to}
 use Rattle.point_laws.proofs.Rows.{filter_flat, kept_grid}
@@ -43,28 +46,26 @@ kept_nothing (Some ps) = refl
 kept_nothing None = refl
 
 pub in_both : (ps xs : List ℕ) (q : ℕ) → Contains (filter (is_in ps) xs) q → Contains xs q × Contains ps q
-in_both ps xs q h = let m = member_filter (is_in ps) xs q (member_of (filter (is_in ps) xs) q h) in
-    (contains_of xs q m.0, contains_of ps q (member_in ps q m.1))
+in_both ps xs q h = let m = of_filter (is_in ps) xs q h in (m.0, member_in ps q m.1)
 
 pub in_kept : (ps xs : List ℕ) (q : ℕ) → Contains xs q → Contains ps q → Contains (filter (is_in ps) xs) q
-in_kept ps xs q here there = contains_of (filter (is_in ps) xs) q
-    (filter_member (is_in ps) xs q (member_of xs q here) (is_in_of ps q (member_of ps q there)))
+in_kept ps xs q here there = in_filter (is_in ps) xs q here (is_in_of ps q there)
 
 pub kept_within : (listed : Option (List ℕ)) (xs : List ℕ) (q : ℕ) → Contains (kept listed xs) q → Contains xs q
 kept_within (Some ps) xs q h = (in_both ps xs q h).0
 kept_within None xs q h = h
 
-in_filter : (keep : ℕ → Bool) (p : ℕ) → keep p ≡ true → (ns : List ℕ) → is_in (filter keep ns) p ≡ is_in ns p
-in_filter keep p at [] = refl
-in_filter keep p at (n ∷ ns) = elim (cases_Bool (keep n)) [
-  | inl kept ↦ rw kept (ap (λ b. (n == p) || b) (in_filter keep p at ns))
+filter_in : (keep : ℕ → Bool) (p : ℕ) → keep p ≡ true → (ns : List ℕ) → is_in (filter keep ns) p ≡ is_in ns p
+filter_in keep p at [] = refl
+filter_in keep p at (n ∷ ns) = elim (cases_Bool (keep n)) [
+  | inl kept ↦ rw kept (ap (λ b. (n == p) || b) (filter_in keep p at ns))
   | inr left ↦
       let differ : (n == p) ≡ false = false_from_ne_true (n == p) (λ e. true≢false (sym at ∙ ap keep (sym (eqb-true n p e)) ∙ left)) in
-      rw (left, differ) (in_filter keep p at ns)
+      rw (left, differ) (filter_in keep p at ns)
 ]
 
 in_cut : (ps : List ℕ) (t : Tables) (p : ℕ) → is_in ps p ≡ true → (id : ℕ) → is_in (points_in (cut ps t) id) p ≡ is_in (points_in t id) p
-in_cut ps t p at id = ap (λ ns. is_in ns p) (points_cut ps t id) ∙ in_filter (is_in ps) p at (points_in t id)
+in_cut ps t p at id = ap (λ ns. is_in ns p) (points_cut ps t id) ∙ filter_in (is_in ps) p at (points_in t id)
 
 -- ---- the steps of cut tables
 
@@ -103,7 +104,7 @@ module _ (ps : List ℕ) (t : Tables) where
   moves_cut operations.Merge = refl
 
   steps_at_cut : (k : ℕ) → steps_at (cut ps t) k ≡ filter (is_at ps) (steps_at t k)
-  steps_at_cut k = elim (none_or_some (slice_get t.nodes k)) [
+  steps_at_cut k = elim (cases_option (slice_get t.nodes k)) [
     | inl none ↦ rw none refl
     | inr some ↦ rw some.1 (ap (map (λ m. record { node = k; move = m })) (moves_cut some.0.op)
         ∙ sym (filter_map_of (is_at ps) (λ m. record { node = k; move = m }) (moves_of t some.0.op)))
@@ -115,7 +116,7 @@ module _ (ps : List ℕ) (t : Tables) where
   -- ---- the values of cut tables
 
   pub start_cut : (c : Cell) → is_in ps c.point ≡ true → start (cut ps t) c ≡ start t c
-  start_cut c at = elim (none_or_some (inst_at t c.inst)) [
+  start_cut c at = elim (cases_option (inst_at t c.inst)) [
     | inl none ↦ rw none refl
     | inr some ↦ rw (some.1, in_cut ps t c.point at some.0.space) refl
   ]
@@ -152,22 +153,22 @@ module _ (ps : List ℕ) (t : Tables) where
       (wanted_cut (place_of t.items task) (record { tree = tree; point = c.point; field = c.field }) at)
   difference_cut _ s at = refl
 
-  differences_cut : (xs : List Step) → Stay xs → Each (λ x. is_at ps x ≡ true) xs → (r s : State) → Agree ps r s
+  differences_cut : (xs : List Step) → Stay xs → ((x : _) → Contains xs x → is_at ps x ≡ true) → (r s : State) → Agree ps r s
       → first_difference (cut ps t) xs r ≡ first_difference t xs s
   differences_cut [] stay at r s agree = refl
   differences_cut (x ∷ xs) stay at r s agree =
-      let here = at x (inl refl) in
+      let here = at x (Contains-here xs) in
       ap₂ option_or (difference_cut x.move r here ∙ difference_agrees t ps x.move r s here agree)
-      (differences_cut xs (λ y m. stay y (inr m)) (λ y m. at y (inr m)) (effect x.move r) (effect x.move s)
-      (kept_agree ps x.move (stay x (inl refl)) here r s agree))
+      (differences_cut xs (λ y m. stay y (Contains-later xs m)) (λ y m. at y (Contains-later xs m)) (effect x.move r) (effect x.move s)
+      (kept_agree ps x.move (stay x (Contains-here xs)) here r s agree))
 
   pub shown_cut : (nodes : List ℕ) → first_difference (cut ps t) (steps_by (cut ps t) nodes) (start (cut ps t))
       ≡ first_difference t (filter (is_at ps) (steps_by t nodes)) (start t)
   shown_cut nodes =
       let xs = filter (is_at ps) (steps_by t nodes) in
       ap (λ xs. first_difference (cut ps t) xs (start (cut ps t))) (steps_cut nodes)
-      ∙ differences_cut xs (λ x m. steps_stay t nodes x (member_filter (is_at ps) (steps_by t nodes) x m).0)
-      (λ x m. (member_filter (is_at ps) (steps_by t nodes) x m).1) (start (cut ps t)) (start t) start_cut
+      ∙ differences_cut xs (λ x m. steps_stay t nodes x (of_filter (is_at ps) (steps_by t nodes) x m).0)
+      (λ x m. (of_filter (is_at ps) (steps_by t nodes) x m).1) (start (cut ps t)) (start t) start_cut
 
 -- Tables that are cut to first points show the differing read of the whole.
 pub shown_whole : (t : Tables) → HasPointsInOrder t → (firsts : List ℕ) → AreFirsts t firsts
@@ -178,14 +179,13 @@ shown_whole t order firsts are_firsts = let nodes = replay_order (graph_of t.nod
 -- ---- races
 
 module _ (ps : List ℕ) (t : Tables) (a b : ℕ) (cell : Cell) where
-  step_in_cut : (x : Step) → Contains (steps (cut ps t)) x → Member (steps t) x × (is_at ps x ≡ true)
-  step_in_cut x c = member_filter (is_at ps) (steps t) x
-      (subst (λ xs. Member xs x) (steps_cut ps t (range_with_len 0 (length t.nodes))) (member_of (steps (cut ps t)) x c))
+  step_in_cut : (x : Step) → Contains (steps (cut ps t)) x → Contains (steps t) x × (is_at ps x ≡ true)
+  step_in_cut x c = of_filter (is_at ps) (steps t) x
+      (subst (λ xs. Contains xs x) (steps_cut ps t (range_with_len 0 (length t.nodes))) c)
 
   cut_has_step : (x : Step) → Contains (steps t) x → is_at ps x ≡ true → Contains (steps (cut ps t)) x
-  cut_has_step x c at = contains_of (steps (cut ps t)) x
-      (subst (λ xs. Member xs x) (sym (steps_cut ps t (range_with_len 0 (length t.nodes))))
-      (filter_member (is_at ps) (steps t) x (member_of (steps t) x c) at))
+  cut_has_step x c at = (subst (λ xs. Contains xs x) (sym (steps_cut ps t (range_with_len 0 (length t.nodes))))
+      (in_filter (is_at ps) (steps t) x c at))
 
   of_cut : Race (cut ps t) a b cell → (is_in ps cell.point ≡ true) × Race t a b cell
   of_cut r =
@@ -197,9 +197,9 @@ module _ (ps : List ℕ) (t : Tables) (a b : ℕ) (cell : Cell) where
           differ = r.differ;
           one = r.one;
           other = r.other;
-          one_in = contains_of (steps t) _ one.0;
+          one_in = one.0;
           other_in =
-              contains_of (steps t) _ other.0;
+              other.0;
           conflict = r.conflict;
           not_before = r.not_before;
           not_after = r.not_after;
@@ -211,9 +211,9 @@ module _ (ps : List ℕ) (t : Tables) (a b : ℕ) (cell : Cell) where
       let ks = range_with_len 0 (length t.nodes) in
       let touched = both_touched (access r.one cell) (access r.other cell) r.conflict in
       let first = touched_point r.one cell (is_step t ks (record { node = a; move = r.one })
-      (member_of (steps t) _ r.one_in)).stays touched.0 in
+      r.one_in).stays touched.0 in
       let second = touched_point r.other cell (is_step t ks (record { node = b; move = r.other })
-      (member_of (steps t) _ r.other_in)).stays touched.1 in
+      r.other_in).stays touched.1 in
       record {
         differ = r.differ;
         one = r.one;

@@ -1,15 +1,16 @@
 -- The first difference of a replay is at a first point.
-use Rattle.std.proofs.Common.{◌≡◌, ◌≢◌, ℕ, ◌<◌, inl, inr, ◌⊎◌, Bool, true, false, cond, List, [], ◌∷◌, ◌++◌, map, filter, flat_map, refl, sym, ap, ap₂, ◌∙◌, arith, Option, Some, None, slice_get}
+use Rattle.std.proofs.Common.{◌≡◌, ◌≢◌, ℕ, ◌<◌, inl, inr, ◌⊎◌, Bool, true, false, cond, List, [], ◌∷◌, ◌++◌, map, filter, flat_map, refl, sym, ap, ap₂, ◌∙◌, arith, Option, Some, None, slice_get, Contains}
 use Rattle.std.specs.Option.{option_or, option_map_or}
 use Rattle.std.proofs.Math.Path.{fun_ext}
 use Rattle.std.proofs.lemmas.Bool.{cases_Bool, true≢false}
 use Rattle.std.proofs.lemmas.List.{map-append}
 use Rattle.std.proofs.lemmas.List.Elements.{filter-append}
+use Rattle.list_lemmas.proofs.lemmas.Pairs.{AllPairs-rest, AllPairs-first}
 use Rattle.vocabulary.specs.Prelude.{Priv, same_value, Cell, Move, Req, Op, Tables, place_of, is_in, points_in, reqs_of, req_grid, Step, id_of, mapped_cell, reads_by, changes_by, at_cells, moves_of, steps_by, State, start, effect, executed, is_read, wanted, Seen, req_at, want_of, differing, difference, first_difference}
 use Rattle.privilege.specs.declared.kinds.Priv.TheVariants as privileges
 use Rattle.semantics.specs.declared.moves.Move.TheVariants as moves
 use Rattle.semantics.specs.declared.tables.Op.TheVariants as operations
-use Rattle.log_laws.proofs.lemmas.Members.{Member, Each, is_in_of, member_in, member_filter, member_map, none_or_some, both_none}
+use Rattle.log_laws.proofs.lemmas.Members.{is_in_of, member_in}
 use Rattle.log_laws.proofs.lemmas.StepLists.{steps_at}
 use Rattle.log_laws.proofs.lemmas.Tidy.{is_of, a_read, no_read}
 use Rattle.point_laws.specs.Alike.{AreAlike, HasPointsInOrder, AreFirsts, target, cell_at, is_at}
@@ -17,8 +18,11 @@ use Rattle.point_laws.proofs.Values.{in_both, first_in, wanted_alike}
 use Rattle.point_laws.proofs.Rows.{filter_flat, flat_grid, kept_parts}
 use Rattle.point_laws.proofs.Moves.{at_points, reads_kept, steps_at_same, steps_at_stay}
 use Rattle.point_laws.proofs.Effects.{Agree, Mirrors, executed_agree}
-use Rattle.log_laws.proofs.lemmas.Apart.{Rise}
-use Rattle.log_laws.proofs.lemmas.Lists.{filter_map_of}
+use Rattle.list_lemmas.proofs.lemmas.Contained.{member_map, both_none, Contains-here, Contains-later, Contains-cases}
+use Rattle.list_lemmas.proofs.lemmas.Filtered.{of_filter}
+use Rattle.list_lemmas.proofs.lemmas.Firsts.{cases_option}
+use Rattle.list_lemmas.proofs.lemmas.Parts.{filter_map_of}
+use Rattle.list_lemmas.proofs.lemmas.Ranges.{Rise}
 use Rattle.point_laws.proofs.lemmas.Order.{points_in_rise, points_in_apart}
 use Rattle.point_laws.proofs.Mirrored.{same_mirrors, start_mirrors}
 
@@ -45,9 +49,9 @@ first_flat : {A B C : Type 0} (d : A → Option B) (f : C → List A) (xs : List
 first_flat d f [] = refl
 first_flat d f (x ∷ xs) = first_append d (f x) (flat_map f xs) ∙ ap (option_or (first_of d (f x))) (first_flat d f xs)
 
-first_same : {A B : Type 0} (d e : A → Option B) (xs : List A) → ((x : A) → Member xs x → d x ≡ e x) → first_of d xs ≡ first_of e xs
+first_same : {A B : Type 0} (d e : A → Option B) (xs : List A) → ((x : A) → Contains xs x → d x ≡ e x) → first_of d xs ≡ first_of e xs
 first_same d e [] same = refl
-first_same d e (x ∷ xs) same = ap₂ option_or (same x (inl refl)) (first_same d e xs (λ y m. same y (inr m)))
+first_same d e (x ∷ xs) same = ap₂ option_or (same x (Contains-here xs)) (first_same d e xs (λ y m. same y (Contains-later xs m)))
 
 none_so : {A B : Type 0} (d e : A → Option B) → ((x : A) → d x ≡ None → e x ≡ None) → (xs : List A) → first_of d xs ≡ None
     → first_of e xs ≡ None
@@ -56,25 +60,27 @@ none_so d e so (x ∷ xs) h = let parts = both_none (d x) (first_of d xs) h in r
 
 -- Of ascending numbers those may be left out that answer only where an earlier one does.
 module _ {B : Type 0} (keep : ℕ → Bool) (d : ℕ → Option B) (points : List ℕ)
-    (early : (x : ℕ) → Member points x → keep x ≡ false → (y : ℕ) × Member points y × (y < x) × (d y ≡ None → d x ≡ None)) where
-  rest_suffices : (rest : List ℕ) → Rise rest → Each (Member points) rest → ((y : ℕ) → Member points y → (d y ≡ None) ⊎ Member rest y)
+    (early : (x : ℕ) → Contains points x → keep x ≡ false → (y : ℕ) × Contains points y × (y < x) × (d y ≡ None → d x ≡ None)) where
+  rest_suffices : (rest : List ℕ) → Rise rest → ((x : ℕ) → Contains rest x → Contains points x)
+      → ((y : ℕ) → Contains points y → (d y ≡ None) ⊎ Contains rest y)
       → first_of (λ x. cond (keep x) (d x) None) rest ≡ first_of d rest
   rest_suffices [] rise within before = refl
   rest_suffices (x ∷ xs) rise within before =
       let go : d x ≡ None → first_of (λ x. cond (keep x) (d x) None) xs ≡ first_of d xs =
-      λ none. rest_suffices xs rise.1 (λ y m. within y (inr m)) (λ y m. elim (before y m) [
+      λ none. rest_suffices xs (AllPairs-rest (λ x y. x < y) x xs rise) (λ y m. within y (Contains-later xs m)) (λ y m. elim (before y m) [
         | inl e ↦ inl e
-        | inr (inl is) ↦ inl (ap d is ∙ none)
-        | inr (inr later) ↦ inr later
+        | inr m ↦ elim (Contains-cases xs m) [ inl is ↦ inl (ap d is ∙ none) | inr later ↦ inr later ]
       ]) in
       elim (cases_Bool (keep x)) [
-        | inl kept ↦ rw kept (elim (none_or_some (d x)) [ inl none ↦ ap (option_or (d x)) (go none) | inr some ↦ rw some.1 refl ])
+        | inl kept ↦ rw kept (elim (cases_option (d x)) [ inl none ↦ ap (option_or (d x)) (go none) | inr some ↦ rw some.1 refl ])
         | inr left ↦
-            let e = early x (within x (inl refl)) left in
+            let e = early x (within x (Contains-here xs)) left in
             let none : d x ≡ None = elim (before e.0 e.1) [
               | inl none ↦ e.3 none
-              | inr (inl is) ↦ absurd (omega (arith, is, e.2))
-              | inr (inr later) ↦ absurd (omega (arith, rise.0 e.0 later, e.2))
+              | inr m ↦ elim (Contains-cases xs m) [
+                | inl is ↦ absurd (omega (arith, is, e.2))
+                | inr later ↦ absurd (omega (arith, AllPairs-first (λ x y. x < y) x xs rise e.0 later, e.2))
+              ]
             ] in
             rw (left, none) (go none)
       ]
@@ -101,20 +107,20 @@ read_leaves : (m : Move) (s : State) → is_read m ≡ true → effect m s ≡ s
 read_leaves (moves.Read task req cell) s e = refl
 read_leaves _ s e = absurd cc
 
-reads_seen : (t : Tables) (k : ℕ) (ms : List Move) → Each (λ m. is_read m ≡ true) ms → (s : State)
+reads_seen : (t : Tables) (k : ℕ) (ms : List Move) → ((m : _) → Contains ms m → is_read m ≡ true) → (s : State)
     → first_difference t (steps_of k ms) s ≡ seen t s ms
 reads_seen t k [] read s = refl
 reads_seen t k (m ∷ ms) read s = ap (option_or (difference t m s))
-    (ap (first_difference t (steps_of k ms)) (read_leaves m s (read m (inl refl))) ∙ reads_seen t k ms (λ n h. read n (inr h)) s)
+    (ap (first_difference t (steps_of k ms)) (read_leaves m s (read m (Contains-here ms))) ∙ reads_seen t k ms (λ n h. read n (Contains-later ms h)) s)
 
 no_difference : (t : Tables) (m : Move) (s : State) → is_read m ≡ false → difference t m s ≡ None
 no_difference t (moves.Read task req cell) s e = absurd cc
 no_difference t _ s e = refl
 
-none_seen : (t : Tables) (k : ℕ) (ms : List Move) → Each (λ m. is_read m ≡ false) ms → (s : State)
+none_seen : (t : Tables) (k : ℕ) (ms : List Move) → ((m : _) → Contains ms m → is_read m ≡ false) → (s : State)
     → first_difference t (steps_of k ms) s ≡ None
 none_seen t k [] none s = refl
-none_seen t k (m ∷ ms) none s = rw (no_difference t m s (none m (inl refl))) (none_seen t k ms (λ n h. none n (inr h)) (effect m s))
+none_seen t k (m ∷ ms) none s = rw (no_difference t m s (none m (Contains-here ms))) (none_seen t k ms (λ n h. none n (Contains-later ms h)) (effect m s))
 
 pub difference_agrees : (t : Tables) (ps : List ℕ) (m : Move) (r s : State) → is_in ps (target m).point ≡ true → Agree ps r s
     → difference t m r ≡ difference t m s
@@ -127,7 +133,7 @@ seen_cond t s true ms = refl
 seen_cond t s false ms = refl
 
 -- Reads, and then moves that are none.
-run_difference : (t : Tables) (k : ℕ) (ms ns : List Move) → Each (λ m. is_read m ≡ true) ms → Each (λ m. is_read m ≡ false) ns → (s : State)
+run_difference : (t : Tables) (k : ℕ) (ms ns : List Move) → ((m : _) → Contains ms m → is_read m ≡ true) → ((m : _) → Contains ns m → is_read m ≡ false) → (s : State)
     → first_difference t (steps_of k (ms ++ ns)) s ≡ seen t s ms
 run_difference t k ms ns read none s =
     ap (λ xs. first_difference t xs s) (map-append (λ m. record { node = k; move = m }) ms ns)
@@ -135,11 +141,11 @@ run_difference t k ms ns read none s =
     ∙ ap₂ option_or (reads_seen t k ms read s) (none_seen t k ns none (executed (steps_of k ms) s))
     ∙ or_none (seen t s ms)
 
-changes_alone : (t : Tables) (k : ℕ) (ps : List ℕ) (ms : List Move) → Each (λ m. is_read m ≡ false) ms → (r s : State)
+changes_alone : (t : Tables) (k : ℕ) (ps : List ℕ) (ms : List Move) → ((m : _) → Contains ms m → is_read m ≡ false) → (r s : State)
     → first_difference t (filter (is_at ps) (steps_of k ms)) r ≡ first_difference t (steps_of k ms) s
 changes_alone t k ps ms none r s =
     ap (λ xs. first_difference t xs r) (filter_map_of (is_at ps) (λ m. record { node = k; move = m }) ms)
-    ∙ none_seen t k (filter (at_points ps) ms) (λ m h. none m (member_filter (at_points ps) ms m h).0) r
+    ∙ none_seen t k (filter (at_points ps) ms) (λ m h. none m (of_filter (at_points ps) ms m h).0) r
     ∙ sym (none_seen t k ms none s)
 
 -- ---- reads at alike points
@@ -185,7 +191,7 @@ module _ (t : Tables) (order : HasPointsInOrder t) (firsts : List ℕ) (are_firs
       let d : ℕ → Option Seen = λ x. seen t s (row x) in
       let by_field : (x : ℕ) → d x ≡ first_of (λ f. seen t s (does (x, f))) r.fields =
       λ x. first_flat (λ m. difference t m s) (λ f. does (x, f)) r.fields in
-      let early : (x : ℕ) → Member points x → is_in firsts x ≡ false → (y : ℕ) × Member points y × (y < x) × (d y ≡ None → d x ≡ None) =
+      let early : (x : ℕ) → Contains points x → is_in firsts x ≡ false → (y : ℕ) × Contains points y × (y < x) × (d y ≡ None → d x ≡ None) =
       λ x m left.
       let inside = is_in_of points x m in
       let h = first_in t firsts are_firsts r.space x inside in
@@ -230,15 +236,15 @@ module _ (t : Tables) (order : HasPointsInOrder t) (firsts : List ℕ) (are_firs
       let rs = reqs_of t item in
       let first = reads task rs in
       let then = at_cells t (λ r c. changes_by task r.number r.access c) rs in
-      let are_reads : Each (λ m. is_read m ≡ true) first = λ m h. a_read task t rs m (is_of t rs _ m h) in
-      let are_changes : Each (λ m. is_read m ≡ false) then = λ m h. no_read task t rs m (is_of t rs _ m h) in
+      let are_reads : ((m : _) → Contains first m → is_read m ≡ true) = λ m h. a_read task t rs m (is_of t rs _ m h) in
+      let are_changes : ((m : _) → Contains then m → is_read m ≡ false) = λ m h. no_read task t rs m (is_of t rs _ m h) in
       ap (λ xs. first_difference t xs r) (filter_map_of (is_at firsts) (λ m. record { node = k; move = m }) (first ++ then)
       ∙ ap (steps_of k) (filter-append (at_points firsts) first then))
       ∙ run_difference t k (filter (at_points firsts) first) (filter (at_points firsts) then)
-      (λ m h. are_reads m (member_filter (at_points firsts) first m h).0)
-      (λ m h. are_changes m (member_filter (at_points firsts) then m h).0) r
+      (λ m h. are_reads m (of_filter (at_points firsts) first m h).0)
+      (λ m h. are_changes m (of_filter (at_points firsts) then m h).0) r
       ∙ first_same (λ m. difference t m r) (λ m. difference t m s) (filter (at_points firsts) first)
-      (λ m h. difference_agrees t firsts m r s (member_filter (at_points firsts) first m h).1 agree)
+      (λ m h. difference_agrees t firsts m r s (of_filter (at_points firsts) first m h).1 agree)
       ∙ reqs_seen task rs s uniform
       ∙ sym (run_difference t k first then are_reads are_changes s)
   node_difference k operations.Merge r s agree uniform = refl
@@ -247,7 +253,7 @@ module _ (t : Tables) (order : HasPointsInOrder t) (firsts : List ℕ) (are_firs
   node_at : (k : ℕ) (r s : State) → Agree firsts r s → Uniform s
       → first_difference t (filter (is_at firsts) (steps_at t k)) r ≡ first_difference t (steps_at t k) s
   node_at k r s agree uniform =
-      elim (none_or_some (slice_get t.nodes k)) [
+      elim (cases_option (slice_get t.nodes k)) [
         | inl none ↦ rw none refl
         | inr some ↦
             rw some.1 (node_difference k some.0.op r s agree uniform)

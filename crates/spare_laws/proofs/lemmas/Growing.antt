@@ -1,12 +1,13 @@
 -- The list of spare waits, node by node.
-use Rattle.std.proofs.Common.{◌≡◌, ◌↔◌, ℕ, zero, suc, ◌+◌, ◌<◌, ◌≤◌, ◌==◌, ◌&&◌, Bool, true, false, List, [], ◌∷◌, ◌++◌, length, get_or, take, inl, inr, Some, slice_get, refl, sym, ap, ◌∙◌, subst, arith, if◌then◌else◌, eqb, Contains, length-append}
+use Rattle.std.proofs.Common.{◌≡◌, ◌↔◌, ℕ, zero, suc, ◌+◌, ◌<◌, ◌≤◌, ◌==◌, ◌&&◌, Bool, true, false, List, [], ◌∷◌, ◌++◌, length, get_or, take, inl, inr, Some, slice_get, refl, sym, ap, ◌∙◌, subst, arith, if◌then◌else◌, eqb, Contains, length-append, AllPairs}
 use Rattle.std.proofs.lemmas.Bool.{cases_eq, and_parts, and_from, false_from_ne_true, eqb-true, eq-eqb}
 use Rattle.std.proofs.lemmas.List.{take_more, take_all, length-take-le}
 use Rattle.std.proofs.lemmas.List.Sums.{sum_by_push}
 use Rattle.std.proofs.lemmas.Option.{slice_get_within, slice_get-get_or}
 use Rattle.vocabulary.specs.Prelude.{Node, ListedWait}
-use Rattle.log_laws.proofs.lemmas.Members.{Member, member_of, contains_of, member_append, member_left, member_right, any_at, any_found}
-use Rattle.log_laws.proofs.lemmas.Apart.{PairsBy, pairs_from, all_pairs, pairs_append}
+use Rattle.std.proofs.lemmas.List.Elements.{Contains-append_cases, Contains-append_left, Contains-append_right}
+use Rattle.list_lemmas.proofs.lemmas.Contained.{any_at, any_found, Contains-nil, Contains-cases, Contains-first, Contains-later}
+use Rattle.list_lemmas.proofs.lemmas.Pairs.{AllPairs-append, AllPairs-nil, AllPairs-put}
 use Rattle.spare_laws.proofs.lemmas.Listing.{waits_within}
 use Rattle.semantics.specs.ReplayOrder.{waits_at}
 use Rattle.semantics.specs.Spare.{IsSpare, IsAhead, AreSpareWaits, is_among}
@@ -22,33 +23,34 @@ record IsMarked (node j : ℕ) (ms : List Bool) (w : ListedWait) : Type 0 where
 marked_later : (node j : ℕ) (m : Bool) (ms : List Bool) (w : ListedWait) → IsMarked node (j + 1) ms w → IsMarked node j (m ∷ ms) w
 marked_later node j m ms w h = record { i = suc h.i; node_is = h.node_is; k_is = omega (arith, h.k_is); set = h.set }
 
-is_marked : (node j : ℕ) (ms : List Bool) (w : ListedWait) → Member (marked node j ms) w → IsMarked node j ms w
-is_marked node j [] w m = absurd m
-is_marked node j (true ∷ ms) w (inl is) = record {
-  i = 0;
-  node_is = ap (λ (v : ListedWait). v.node) is;
-  k_is =
-      ap (λ (v : ListedWait). v.k) is ∙ omega arith;
-  set = refl;
-}
-is_marked node j (true ∷ ms) w (inr later) = marked_later node j true ms w (is_marked node (j + 1) ms w later)
+is_marked : (node j : ℕ) (ms : List Bool) (w : ListedWait) → Contains (marked node j ms) w → IsMarked node j ms w
+is_marked node j [] w m = absurd (Contains-nil m)
+is_marked node j (true ∷ ms) w m = elim (Contains-cases (marked node (j + 1) ms) m) [
+  | inl is ↦ record {
+    i = 0;
+    node_is = ap (λ (v : ListedWait). v.node) is;
+    k_is = ap (λ (v : ListedWait). v.k) is ∙ omega arith;
+    set = refl;
+  }
+  | inr later ↦ marked_later node j true ms w (is_marked node (j + 1) ms w later)
+]
 is_marked node j (false ∷ ms) w later = marked_later node j false ms w (is_marked node (j + 1) ms w later)
 
 marked_in : (node j : ℕ) (ms : List Bool) (i k : ℕ) → slice_get ms i ≡ Some true → k ≡ j + i
-    → Member (marked node j ms) (record { node = node; k = k })
+    → Contains (marked node j ms) (record { node = node; k = k })
 marked_in node j [] i k set is = absurd (omega (arith, slice_get_within [] i true set))
-marked_in node j (true ∷ ms) zero k set is = let same : k ≡ j = omega (arith, is) in inl (ap (λ n. record { node = node; k = n }) same)
+marked_in node j (true ∷ ms) zero k set is = let same : k ≡ j = omega (arith, is) in
+    Contains-first (marked node (j + 1) ms) (ap (λ n. record { node = node; k = n }) same)
 marked_in node j (false ∷ ms) zero k set is = absurd cc
-marked_in node j (true ∷ ms) (suc i) k set is = inr (marked_in node (j + 1) ms i k set (omega (arith, is)))
+marked_in node j (true ∷ ms) (suc i) k set is =
+    Contains-later (marked node (j + 1) ms) (marked_in node (j + 1) ms i k set (omega (arith, is)))
 marked_in node j (false ∷ ms) (suc i) k set is = marked_in node (j + 1) ms i k set (omega (arith, is))
 
-marked_order : (node j : ℕ) (ms : List Bool) → PairsBy IsAhead (marked node j ms)
-marked_order node j [] = tt
-marked_order node j (true ∷ ms) = (
-  λ w m. let h = is_marked node (j + 1) ms w m in
-      inr (sym h.node_is, omega (arith, h.k_is)),
-  marked_order node (j + 1) ms,
-)
+marked_order : (node j : ℕ) (ms : List Bool) → AllPairs IsAhead (marked node j ms)
+marked_order node j [] = AllPairs-nil IsAhead
+marked_order node j (true ∷ ms) = AllPairs-put IsAhead (record { node = node; k = j }) (marked node (j + 1) ms)
+    (λ w m. let h = is_marked node (j + 1) ms w m in inr (sym h.node_is, omega (arith, h.k_is)))
+    (marked_order node (j + 1) ms)
 marked_order node j (false ∷ ms) = marked_order node (j + 1) ms
 
 -- One mark more.
@@ -78,8 +80,8 @@ marked_few node j (false ∷ ms) = omega (arith, marked_few node (j + 1) ms)
 module _ (nodes : List Node) where
   pub none_yet : AreUpTo nodes 0 []
   none_yet = record {
-    each = λ w. (λ c. absurd (member_of [] w c), λ h. absurd (omega (arith, h.1)));
-    in_order = all_pairs IsAhead [] tt;
+    each = λ w. (λ c. absurd (Contains-nil c), λ h. absurd (omega (arith, h.1)));
+    in_order = AllPairs-nil IsAhead;
     few = omega arith;
   }
 
@@ -100,8 +102,8 @@ module _ (nodes : List Node) where
       let new = marked node 0 ms in
       record {
         each = λ w. (
-          λ c. elim (member_append list new w (member_of (list ++ new) w c)) [
-            | inl old ↦ let r = (h.each w).0 (contains_of list w old) in (r.0, omega (arith, r.1))
+          λ c. elim (Contains-append_cases list new w c) [
+            | inl old ↦ let r = (h.each w).0 old in (r.0, omega (arith, r.1))
             | inr here ↦
                 let r = is_marked node 0 ms w here in
                 let place : r.i ≡ w.k = omega (arith, r.k_is) in (
@@ -109,17 +111,16 @@ module _ (nodes : List Node) where
                   omega (arith, r.node_is),
                 )
           ],
-          λ s. contains_of (list ++ new) w (elim (cases_eq w.node node) [
+          λ s. (elim (cases_eq w.node node) [
             | inl here ↦
                 let set : slice_get ms w.k ≡ Some true = (tells w.k).1 (subst (λ n. IsSpare nodes n w.k) here s.0) in
                 let m = marked_in node 0 ms w.k w.k set (omega arith) in
-                member_right list new w (subst (λ n. Member new (record { node = n; k = w.k })) (sym here) m)
-            | inr other ↦ member_left list new w (member_of list w ((h.each w).1 (s.0, omega (arith, s.1, other))))
+                Contains-append_right list new w (subst (λ n. Contains new (record { node = n; k = w.k })) (sym here) m)
+            | inr other ↦ Contains-append_left list new w ((h.each w).1 (s.0, omega (arith, s.1, other)))
           ]),
         );
-        in_order = all_pairs IsAhead (list ++ new)
-            (pairs_append IsAhead list new (pairs_from IsAhead list h.in_order) (marked_order node 0 ms)
-            (λ v w m n. let r = is_marked node 0 ms w n in inl (omega (arith, ((h.each v).0 (contains_of list v m)).1, r.node_is))));
+        in_order = (AllPairs-append IsAhead list new h.in_order (marked_order node 0 ms)
+            (λ v w m n. let r = is_marked node 0 ms w n in inl (omega (arith, ((h.each v).0 m).1, r.node_is))));
         few = omega (arith, h.few, length-append list new, marked_few node 0 ms, many, listed_more node within);
       }
 
@@ -145,10 +146,10 @@ module _ (nodes : List Node) where
         let r = any_found (λ (w : ListedWait). (w.node == node) && (w.k == k)) list e in
         let parts = and_parts (eqb r.0.node node) (eqb r.0.k k) r.2 in
         subst (λ n. IsSpare nodes n k) (eqb-true r.0.node node parts.0)
-        (subst (IsSpare nodes r.0.node) (eqb-true r.0.k k parts.1) ((h.each r.0).0 (contains_of list r.0 r.1))),
+        (subst (IsSpare nodes r.0.node) (eqb-true r.0.k k parts.1) ((h.each r.0).0 r.1)),
     λ s.
         let w : ListedWait = record { node = node; k = k } in
-        any_at (λ (w : ListedWait). (w.node == node) && (w.k == k)) list w (member_of list w ((h.each w).1 s))
+        any_at (λ (w : ListedWait). (w.node == node) && (w.k == k)) list w ((h.each w).1 s)
         (and_from (eqb node node) (eqb k k) (eq-eqb node node refl) (eq-eqb k k refl)),
   )
 

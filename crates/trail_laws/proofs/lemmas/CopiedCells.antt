@@ -3,7 +3,6 @@ use Rattle.std.proofs.Common.{◌≡◌, List, Contains}
 use Rattle.vocabulary.specs.Prelude.{Lined, Move, Tables, tables_of, Step, steps}
 use Rattle.semantics.specs.declared.command.Command.TheVariants.{Check}
 use Rattle.semantics.specs.declared.moves.Move.TheVariants.{Read, Write, Reduce, Copy, Put, Reset, Fold}
-use Rattle.log_laws.proofs.lemmas.Members.{member_of}
 use Rattle.log_laws.proofs.lemmas.Admitted.{IsFaultless}
 use Rattle.log_laws.proofs.lemmas.Tidy.{place}
 use Rattle.trail_laws.proofs.Told.{KeepsAway}
@@ -23,4 +22,4 @@ of_kept t (Reset cell) k = tt
 of_kept t (Fold op from to) k = tt
 
 pub copies_stay : (log : List Lined) → IsFaultless Check log → (x : Step) → Contains (steps (tables_of log)) x → CopyStays x.move
-copies_stay log f x is = of_kept (tables_of log) x.move (steps_kept log f x (member_of (steps (tables_of log)) x is))
+copies_stay log f x is = of_kept (tables_of log) x.move (steps_kept log f x is)

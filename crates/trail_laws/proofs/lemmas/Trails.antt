@@ -13,7 +13,8 @@ use Rattle.semantics.specs.DataOps.{Copies, Puts, Resets, Folds}
 use Rattle.semantics.specs.Shown.{event_of}
 use Rattle.semantics.specs.Faults.{log_fault}
 use Rattle.semantics.specs.Links.{Source, cell_read, ComesFrom, IsTrail, is_asked, IsNoRead, kind_of, link_of, AreLinksOf, put_by, put_at, value_put, last_put, TellValue, EndsInOrigin}
-use Rattle.log_laws.proofs.lemmas.Members.{Member, member_of, contains_of, member_append, member_map, any_found, none_at}
+use Rattle.std.proofs.lemmas.List.Elements.{Contains-append_cases}
+use Rattle.list_lemmas.proofs.lemmas.Contained.{member_map, any_found, none_at, Contains-here, Contains-nil, Contains-later}
 use Rattle.log_laws.proofs.lemmas.Admitted.{IsFaultless}
 use Rattle.log_laws.proofs.lemmas.StepLists.{of_node}
 use Rattle.log_laws.proofs.lemmas.Tidy.{place, is_of, read_is, change_of, change_tells, reads, changes}
@@ -60,18 +61,18 @@ changes_put t item number privileges.Ro c v e = e
 changes_put t item number privileges.Rw c v e = e
 changes_put t item number privileges.Wd c v e = e
 
-of_map : {X : Type 0} (f : X → Move) (xs : List X) (m : Move) (o : Option Value) → ((x : X) → own_put (f x) ≡ o) → Member (map f xs) m
+of_map : {X : Type 0} (f : X → Move) (xs : List X) (m : Move) (o : Option Value) → ((x : X) → own_put (f x) ≡ o) → Contains (map f xs) m
     → own_put m ≡ o
 of_map f xs m o all is = let x = member_map f xs m is in ap own_put x.2 ∙ all x.0
 
 none_put : (m : Move) (v : Value) (o : Option Value) → own_put m ≡ None → own_put m ≡ Some v → o ≡ Some v
 none_put m v o none e = let bad = sym none ∙ e in absurd cc
 
-move_puts : (t : Tables) (op : Op) (m : Move) (v : Value) → Member (moves_of t op) m → own_put m ≡ Some v → put_by t op ≡ Some v
+move_puts : (t : Tables) (op : Op) (m : Move) (v : Value) → Contains (moves_of t op) m → own_put m ≡ Some v → put_by t op ≡ Some v
 move_puts t (operations.Run item) m v is e =
     let task = id_of t item in
     let rs = reqs_of t item in
-    elim (member_append (at_cells t (reads task) rs) (at_cells t (changes task) rs) m is) [
+    elim (Contains-append_cases (at_cells t (reads task) rs) (at_cells t (changes task) rs) m is) [
       | inl r ↦
           let of = is_of t rs (reads task) m r in
           let bad = sym (ap own_put (read_is task of.req.number of.req.access (mapped_cell t of.req of.at) m of.is_done)) ∙ e in
@@ -90,7 +91,7 @@ move_puts t (operations.Reset inst space fields) m v is e =
     none_put m v None (of_map (move_of t (Resets inst)) (grid (points_in t space) fields) m None (λ p. refl) is) e
 move_puts t (operations.Fold src dst space fields) m v is e =
     none_put m v None (of_map (move_of t (Folds src dst)) (grid (points_in t space) fields) m None (λ p. refl) is) e
-move_puts t operations.Merge m v is e = absurd is
+move_puts t operations.Merge m v is e = absurd (Contains-nil is)
 
 -- A link puts what the operation with its event puts.
 kind_puts : (t : Tables) (ask : Ask) (m : Move) (event inst n : ℕ) (v : Value) → own_put m ≡ Some v → put_at t event ≡ Some v
@@ -100,7 +101,7 @@ kind_puts t ask (moves.Put cell k) event inst n v e put = put
 kind_puts t ask _ event inst n v e put = absurd cc
 
 module _ (t : Tables) (graph : AreLinked (graph_of t.nodes)) (ask : Ask) where
-  link_puts : (o : Option Step) (c : Cell) (n : ℕ) → ((x : Step) → o ≡ Some x → Member (steps t) x) → place c ≡ (ask.point, ask.field)
+  link_puts : (o : Option Step) (c : Cell) (n : ℕ) → ((x : Step) → o ≡ Some x → Contains (steps t) x) → place c ≡ (ask.point, ask.field)
       → (v : Value) → own_value t (source o c n) ≡ Some v → value_put t ask (link_of t (source o c n)) ≡ Some v
   link_puts None c n taken there v e = ap (λ p. Some (start t (cell_in c.inst p))) (sym there) ∙ e
   link_puts (Some x) c n taken there v e =
@@ -109,12 +110,13 @@ module _ (t : Tables) (graph : AreLinked (graph_of t.nodes)) (ask : Ask) where
       ∙ move_puts t of.node.op x.move v of.is_move e in
       kind_puts t ask x.move (event_of t x.node) c.inst n v e put
 
-  last_puts : (ls : List Source) → ((s : Source) (x : Step) → Member ls s → s.by ≡ Some x → Member (steps t) x)
-      → ((s : Source) → Member ls s → place s.cell ≡ (ask.point, ask.field))
+  last_puts : (ls : List Source) → ((s : Source) (x : Step) → Contains ls s → s.by ≡ Some x → Contains (steps t) x)
+      → ((s : Source) → Contains ls s → place s.cell ≡ (ask.point, ask.field))
       → (v : Value) → last_value t ls ≡ Some v → last_put t ask (map (link_of t) ls) ≡ Some v
   last_puts [] taken there v e = absurd cc
-  last_puts (s ∷ []) taken there v e = link_puts s.by s.cell s.adds (λ x is. taken s x (inl refl) is) (there s (inl refl)) v e
-  last_puts (s ∷ r ∷ rest) taken there v e = last_puts (r ∷ rest) (λ q x m is. taken q x (inr m) is) (λ q m. there q (inr m)) v e
+  last_puts (s ∷ []) taken there v e = link_puts s.by s.cell s.adds (λ x is. taken s x (Contains-here []) is) (there s (Contains-here [])) v e
+  last_puts (s ∷ r ∷ rest) taken there v e = last_puts (r ∷ rest)
+      (λ q x m is. taken q x (Contains-later (r ∷ rest) m) is) (λ q m. there q (Contains-later (r ∷ rest) m)) v e
 
 -- ---- the links of a read
 
@@ -149,37 +151,37 @@ module _ (log : List Lined) (good : AllByRecursion Good (records_of log)) (f : I
   pub ends : (ask : Ask) (ls : List Link) → AreLinksOf t ask ls → EndsInOrigin ls
   ends ask ls a = let xs = replay_steps t in subst EndsInOrigin (sym a.links_are) (comes_ends t [] xs a.read a.sources (a.trail xs replay))
 
-  taken : (ask : Ask) (ls : List Link) → (a : AreLinksOf t ask ls) → (s : Source) (x : Step) → Member a.sources s → s.by ≡ Some x
-      → Member (steps t) x
+  taken : (ask : Ask) (ls : List Link) → (a : AreLinksOf t ask ls) → (s : Source) (x : Step) → Contains a.sources s → s.by ≡ Some x
+      → Contains (steps t) x
   taken ask ls a s x m is =
       let xs = replay_steps t in
       elim (comes_of [] xs a.read a.sources (a.trail xs replay) s x m is) [
-        | inl before ↦ absurd before
+        | inl before ↦ absurd (Contains-nil before)
         | inr in_xs ↦
-            member_of (steps t) x (replay.in_log x (contains_of xs x in_xs))
+            (replay.in_log x in_xs)
       ]
 
   -- Exactly the start has no operation.
   pub starts : (ask : Ask) (ls : List Link) → AreLinksOf t ask ls → (l : Link) → Contains ls l → (l.done ≡ 0) ↔ (l.kind ≡ kinds.Start)
   starts ask ls a l is =
-      let s = member_map (link_of t) a.sources l (subst (λ ls. Member ls l) a.links_are (member_of ls l is)) in
+      let s = member_map (link_of t) a.sources l (subst (λ ls. Contains ls l) a.links_are is) in
       subst (λ (l : Link). (l.done ≡ 0) ↔ (l.kind ≡ kinds.Start)) (sym s.2) (start_link t s.0.by s.0.cell s.0.adds (λ x e.
       let of = of_node t _ x (taken ask ls a s.0 x s.1 e) in event_positive Check log good f x.node of.node of.is_node))
 
   -- Where nothing was added on the way, what is read is what the last link puts.
   pub tell_value : (ask : Ask) (ls : List Link) → AreLinksOf t ask ls → TellValue t ask ls
   tell_value ask ls a no_add xs il x asked v r =
-      let in_log : Contains (steps t) x = il.in_log x (contains_of xs x (reads_member xs (start t) x v r)) in
+      let in_log : Contains (steps t) x = il.in_log x (reads_member xs (start t) x v r) in
       let same : x ≡ a.read = one_asked log f ask x a.read in_log a.is_step asked a.asked in
-      let kept : (y : Step) → Member xs y → KeepsAway t y.move =
-      λ y m. steps_kept log f y (member_of (steps t) y (il.in_log y (contains_of xs y m))) in
+      let kept : (y : Step) → Contains xs y → KeepsAway t y.move =
+      λ y m. steps_kept log f y (il.in_log y m) in
       let comes_so : ComesFrom [] xs a.read a.sources = a.trail xs il in
       let value : last_value t a.sources ≡ Some v = told t [] xs (start t) (once t xs il) kept (shows_start t) a.read a.sources comes_so
       (no_adds t a.sources (subst (AllByRecursion (λ (l : Link). l.adds ≡ 0)) a.links_are no_add)) v
       (subst (λ x. ReadsIn xs (start t) x v) same r) in
       let tells = asked_tells ask a.read.move a.asked in
       let there : AreThere tells.cell a.sources =
-      comes_there t [] xs (λ y m. absurd m) kept a.read a.sources comes_so tells.cell (ap cell_read tells.is) in
+      comes_there t [] xs (λ y m. absurd (Contains-nil m)) kept a.read a.sources comes_so tells.cell (ap cell_read tells.is) in
       let at : place tells.cell ≡ (ask.point, ask.field) = λ i. (tells.at_point i, tells.at_field i) in
       subst (λ ls. last_put t ask ls ≡ Some v) (sym a.links_are)
       (last_puts t (faultless_linked Check log good f) ask a.sources (taken ask ls a) (λ s m. there s m ∙ at) v value)
@@ -201,9 +203,9 @@ module _ (log : List Lined) (good : AllByRecursion Good (records_of log)) (f : I
     some_list ask = elim (cases_Bool (list_any (λ (x : Step). is_asked ask x.move) (steps t))) [
       | inl some ↦
           let x = any_found (λ (x : Step). is_asked ask x.move) (steps t) some in
-          let is_step = contains_of (steps t) x.0 x.1 in
+          let is_step = x.1 in
           let tells = asked_tells ask x.0.move x.2 in
-          let found = comes [] (replay_steps t) x.0 tells.cell (member_of (replay_steps t) x.0 (replay.whole x.0 is_step))
+          let found = comes [] (replay_steps t) x.0 tells.cell (replay.whole x.0 is_step)
           (ap cell_read tells.is) in
           inl (
             map (link_of t) found.0,
@@ -217,5 +219,5 @@ module _ (log : List Lined) (good : AllByRecursion Good (records_of log)) (f : I
                   trail_of_replay x.0 found.0 found.1;
             },
           )
-      | inr none ↦ inr (λ x is. none_at (λ (x : Step). is_asked ask x.move) (steps t) x none (member_of (steps t) x is))
+      | inr none ↦ inr (λ x is. none_at (λ (x : Step). is_asked ask x.move) (steps t) x none is)
     ]

@@ -1,14 +1,12 @@
 use Rattle.std.proofs.Common.{◌≡◌, ◌+◌, ◌++◌, ◌∷◌, [], ◌∙◌, sym, subst, arith, get_or, length, take}
 use Rattle.std.proofs.lemmas.List.{take_all, take_more}
-use Rattle.std.proofs.lemmas.List.Elements.{All-take}
-use Rattle.log_laws.proofs.lemmas.Members.{contains_of}
+use Rattle.std.proofs.lemmas.List.Elements.{All-take, All-contains}
+use Rattle.list_lemmas.proofs.lemmas.Contained.{all_contained}
 use Rattle.reach_marks.specs.Reached.{before_in}
 use Rattle.cell_races.specs.declared.access.Access.TheVariants.{Reads}
 use Rattle.cell_races.specs.declared.touches.Touch.{Touch}
 use Rattle.cell_races.specs.Turns.{IsMarked}
 use Rattle.cell_races.specs.Visits.{visit_of}
-use Rattle.cell_races.proofs.Members.{all_of, all_at}
-use Rattle.cell_races.proofs.Ordered.{ordered_of}
 use Rattle.cell_races.proofs.Stands.{asked_within}
 use Rattle.cell_races.proofs.Turning.{marked_visits}
 use Rattle.cell_races.proofs.Cells.{NotAfter}
@@ -27,8 +25,8 @@ take_or_note-requires-clause-group c =
     let marked = All-take (IsMarked c.args.order.now c.args.reach.now) c.loop-touch.touch-index c.args.touches.now c.requires.marked in
     asked_within c.requires.goes_on h.stands (visit_of c.args.order.now (get_or c.args.touches.now c.loop-touch.touch-index none))
     (length c.args.reach.now.places)
-    (marked_visits c.args.order.now c.args.reach.now h.taken (all_of (IsMarked c.args.order.now c.args.reach.now) h.taken
-    (λ x m. all_at (IsMarked c.args.order.now c.args.reach.now) (take c.loop-touch.touch-index c.args.touches.now) x marked
+    (marked_visits c.args.order.now c.args.reach.now h.taken (all_contained (IsMarked c.args.order.now c.args.reach.now) h.taken
+    (λ x m. All-contains (IsMarked c.args.order.now c.args.reach.now) (take c.loop-touch.touch-index c.args.touches.now) x marked
     (h.of_seen x m))))
 
 pub loop-touch-preserved : goal.loop-touch-preserved
@@ -57,5 +55,5 @@ returns c =
     subst (λ xs. IsSifted before c.args.order.now xs c.loop-touch.frontier c.args.noted.now.items c.loop-touch.noted.items)
     (take_all c.loop-touch.touch-index touches (omega (arith, c.loop-touch-test.false))) c.loop-touch.invariant in
     sifted_all before c.args.order.now touches c.loop-touch.frontier c.args.noted.now.items c.loop-touch.noted.items all
-    (ordered_of NotAfter touches c.requires.in_order) (λ x y m n. c.requires.one x y (contains_of touches x m)
-    (contains_of touches y n))
+    c.requires.in_order (λ x y m n. c.requires.one x y m
+    n)

@@ -1,14 +1,12 @@
-use Rattle.std.proofs.Common.{◌-◌, ◌∙◌, false, sym, subst, arith, length, replicate, take, drop, refl}
+use Rattle.std.proofs.Common.{◌-◌, ◌∙◌, false, sym, subst, arith, length, replicate, take, drop, refl, Contains}
 use Rattle.std.proofs.lemmas.List.{take_all}
-use Rattle.log_laws.proofs.lemmas.Members.{Member, member_of, member_left}
-use Rattle.log_laws.proofs.lemmas.Apart.{all_pairs}
+use Rattle.std.proofs.lemmas.List.Elements.{Contains-append_left}
 use Rattle.reach_marks.specs.Reached.{before_in}
 use Rattle.cell_races.specs.declared.access.Access.TheVariants.{Reads}
 use Rattle.cell_races.specs.declared.touches.Touch.{Touch}
 use Rattle.cell_races.specs.Turns.{NotesMore}
 use Rattle.cell_races.proofs.Cells.{IsApart, NotAfter}
 use Rattle.cell_races.proofs.Parts.{take_end, drop_parts, at, apart_more, run_in_order}
-use Rattle.cell_races.proofs.Turning.{pairs_in}
 use Rattle.cell_races.proofs.Sifting.{notes_both, notes_all}
 use Rattle.cell_races.proofs.turns.unordered_places.Goals as goal
 
@@ -18,10 +16,8 @@ none = record { cell = record { inst = 0; point = 0; field = 0 }; place = 0; acc
 pub note_cell-requires-clause-in_order : goal.note_cell-requires-clause-in_order
 note_cell-requires-clause-in_order c =
     let x = c.cell_end-end.ensures in
-    let run = take (c.cell_end-end.result - c.loop-from.from) (drop c.loop-from.from c.args.touches.now) in
-    all_pairs NotAfter run (pairs_in (before_in c.args.reach.now) c.args.order.now run
-    (run_in_order c.args.touches.now c.loop-from.from c.cell_end-end.result x.behind x.within none x.same x.other c.requires.in_order
-    c.loop-from.invariant.apart))
+    run_in_order c.args.touches.now c.loop-from.from c.cell_end-end.result x.behind x.within none x.same x.other c.requires.in_order
+    c.loop-from.invariant.apart
 
 pub note_cell-requires-clause-one : goal.note_cell-requires-clause-one
 note_cell-requires-clause-one c = λ y z m n.
@@ -29,7 +25,7 @@ note_cell-requires-clause-one c = λ y z m n.
     let run = take (c.cell_end-end.result - c.loop-from.from) (drop c.loop-from.from c.args.touches.now) in
     let cell = at c.args.touches.now c.loop-from.from c.cell_end-end.result x.behind x.within none x.same x.other c.requires.in_order
     c.loop-from.invariant.apart in
-    cell y (member_of run y m) ∙ sym (cell z (member_of run z n))
+    cell y m ∙ sym (cell z n)
 
 pub loop-from-preserved : goal.loop-from-preserved
 loop-from-preserved c =
@@ -41,7 +37,7 @@ loop-from-preserved c =
     let run = take (end - from) (drop from touches) in
     let start = replicate (length c.args.order.now) false in
     let far : IsApart front run = λ y z m n. c.loop-from.invariant.apart y z m
-    (subst (λ zs. Member zs z) (sym (drop_parts touches from end x.behind x.within)) (member_left run (drop end touches) z n)) in
+    (subst (λ zs. Contains zs z) (sym (drop_parts touches from end x.behind x.within)) (Contains-append_left run (drop end touches) z n)) in
     record {
       within = x.within;
       apart = apart_more touches from end x.behind x.within none x.same x.other c.requires.in_order c.loop-from.invariant.apart;

@@ -1,6 +1,4 @@
-use Rattle.vocabulary.specs.Prelude.{uses_of}
-use Rattle.log_laws.proofs.lemmas.Members.{member_of}
-use Rattle.launch_laws.specs.LaunchOrders.{launch_tables, launches_of}
+use Rattle.launch_laws.specs.LaunchOrders.{launch_tables}
 use Rattle.launch_laws.proofs.FreeTasks.{tasks_turned}
 use Rattle.launch_laws.proofs.FreeStretches.{one_after, one_wanted}
 use Rattle.launch_laws.proofs.laws.launches_in_any_order.Goals as goal
@@ -8,10 +6,10 @@ use Rattle.launch_laws.proofs.laws.launches_in_any_order.Goals as goal
 pub returns-clause-after : goal.returns-clause-after
 returns-clause-after c lines count log no_fault declared l of order other h p v =
     rw (h.order_is, h.other_is) (one_after (launch_tables log) h.front h.here h.there h.back
-    (tasks_turned lines count log no_fault declared l (member_of (launches_of log) l of) order other h) p v)
+    (tasks_turned lines count log no_fault declared l of order other h) p v)
 
 pub returns-clause-wanted : goal.returns-clause-wanted
 returns-clause-wanted c lines count log no_fault declared l of order other h item r asks reads p at =
     rw (h.order_is, h.other_is) (one_wanted (launch_tables log) h.front h.here h.there h.back
-    (tasks_turned lines count log no_fault declared l (member_of (launches_of log) l of) order other h) item r
-    (member_of (uses_of (launch_tables log) item) r asks) reads p at)
+    (tasks_turned lines count log no_fault declared l of order other h) item r
+    asks reads p at)

@@ -1,7 +1,7 @@
 use Rattle.vocabulary.specs.Prelude.{tables_of, steps}
 use Rattle.semantics.specs.declared.command.Command.TheVariants.{Check}
 use Rattle.std.proofs.Common.{◌≢◌}
-use Rattle.log_laws.proofs.lemmas.Apart.{Apart, all_pairs}
+use Rattle.list_lemmas.proofs.lemmas.Pairs.{Apart, apart_none}
 use Rattle.log_laws.proofs.lemmas.Admitted.{faultless, sane, all_mapped}
 use Rattle.log_laws.proofs.Strict.{strict}
 use Rattle.log_laws.proofs.lemmas.Tidy.{moves_once}
@@ -13,5 +13,5 @@ returns c lines log good none =
     let t = tables_of log in
     let f = faultless Check lines log none in
     let clear = strict Check log good f in
-    all_pairs (λ x y. x ≢ y) (steps t) (steps_once t
-    (at_position t Apart tt (λ n m. moves_once t (sane Check log f) (all_mapped log f) clear n.op (clear.operations n m))))
+    (steps_once t
+    (at_position t Apart apart_none (λ n m. moves_once t (sane Check log f) (all_mapped log f) clear n.op (clear.operations n m))))

@@ -1,7 +1,7 @@
 use Rattle.std.proofs.Common.{None, ◌∷◌, [], ◌∙◌, ◌<◌, length, refl, sym, ap, subst, arith, All}
 use Rattle.std.proofs.lemmas.List.{length-map}
 use Rattle.vocabulary.specs.Prelude.{graph_of, Tables}
-use Rattle.log_laws.proofs.lemmas.Members.{all_contained}
+use Rattle.list_lemmas.proofs.lemmas.Contained.{all_contained}
 use Rattle.event_graph.proofs.lemmas.Whole.{order_within}
 use Rattle.point_laws.specs.Cut.{cut}
 use Rattle.point_laws.proofs.lemmas.Cuts.{steps_cut}

@@ -1,6 +1,6 @@
 use Rattle.std.proofs.Common.{arith, sym, subst, ◌+◌, ◌∙◌, ap, length, List, [], get_or, ◌<◌, refl}
 use Rattle.std.proofs.lemmas.List.{length_push}
-use Rattle.log_laws.proofs.lemmas.Members.{all_contained}
+use Rattle.list_lemmas.proofs.lemmas.Contained.{all_contained}
 use Rattle.reach_marks.specs.declared.block.Block.{Block}
 use Rattle.reach_marks.specs.Reached.{AreRows, AreTidy}
 use Rattle.reach_marks.proofs.Replayed.{row_added, rows_pass, tidy_more}

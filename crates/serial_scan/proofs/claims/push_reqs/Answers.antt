@@ -1,11 +1,11 @@
 use Rattle.std.proofs.Common.{◌∙◌, ◌++◌, ◌∷◌, [], Contains, sym, ap, subst, take, arith}
 use Rattle.std.proofs.lemmas.List.{take_all, take_more}
-use Rattle.log_laws.proofs.lemmas.Members.{member_of}
+use Rattle.list_lemmas.proofs.lemmas.Contained.{Contains-nil}
 use Rattle.serial_scan.proofs.Claiming.{AreAdded, reqs_more}
 use Rattle.serial_scan.proofs.claims.push_reqs.Goals as goal
 
 pub loop-req-init : goal.loop-req-init
-loop-req-init g c = record { kept = λ d m. m; added = λ r m lt. absurd (member_of [] r m) }
+loop-req-init g c = record { kept = λ d m. m; added = λ r m lt. absurd (Contains-nil m) }
 
 pub loop-req-preserved : goal.loop-req-preserved
 loop-req-preserved g c =

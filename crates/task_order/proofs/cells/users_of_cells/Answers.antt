@@ -1,7 +1,7 @@
-use Rattle.std.proofs.Common.{◌-◌, sym, subst, arith, take, drop}
+use Rattle.std.proofs.Common.{◌-◌, sym, subst, arith, take, drop, Contains}
 use Rattle.std.proofs.lemmas.List.{take_all}
-use Rattle.std.proofs.lemmas.List.Elements.{All-nil}
-use Rattle.log_laws.proofs.lemmas.Members.{Member, member_left}
+use Rattle.std.proofs.lemmas.List.Elements.{All-nil, Contains-append_left}
+use Rattle.list_lemmas.proofs.lemmas.Contained.{Contains-nil}
 use Rattle.cell_races.proofs.lemmas.CellEnds.{AreApart, take_to_end, rest_parts, one_cell, apart_still}
 use Rattle.pair_rows.specs.Meetings.{AreByClass}
 use Rattle.task_order.specs.Users.{AreUsersOf}
@@ -13,7 +13,7 @@ loop-from-init c = record {
   within = omega arith;
   users = rw c.new-places.ensures (users_none c.args.order.now);
   classes = rw c.new-places.ensures (All-nil AreByClass);
-  apart = λ x y m n e. absurd m;
+  apart = λ x y m n e. absurd (Contains-nil m);
 }
 
 pub loop-from-preserved : goal.loop-from-preserved
@@ -26,8 +26,8 @@ loop-from-preserved c =
     let h = c.loop-from.invariant in
     let front = take from touches in
     let run = take (end - from) (drop from touches) in
-    let far : AreApart front run = λ x y m n. h.apart x y m (subst (λ xs. Member xs y) (sym (rest_parts touches from end is_end))
-    (member_left run (drop end touches) y n)) in
+    let far : AreApart front run = λ x y m n. h.apart x y m (subst (λ xs. Contains xs y) (sym (rest_parts touches from end is_end))
+    (Contains-append_left run (drop end touches) y n)) in
     let one = one_cell touches from end is_end c.requires.in_order h.apart in
     record {
       within = is_end.within;

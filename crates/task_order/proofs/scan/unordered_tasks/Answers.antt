@@ -1,6 +1,6 @@
 use Rattle.std.proofs.Common.{◌≡◌, ◌<◌, ◌∙◌, ap, length, slice_index, arith}
 use Rattle.std.proofs.lemmas.List.{length-map}
-use Rattle.log_laws.proofs.lemmas.Members.{all_contained}
+use Rattle.list_lemmas.proofs.lemmas.Contained.{all_contained}
 use Rattle.reach_marks.specs.Reached.{before_in}
 use Rattle.semantics.specs.SerialOrder.{serial, serial_place}
 use Rattle.cell_races.specs.Turns as turns

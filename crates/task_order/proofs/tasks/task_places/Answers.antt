@@ -1,5 +1,5 @@
 use Rattle.std.proofs.Common.{◌<◌, length, subst}
-use Rattle.log_laws.proofs.lemmas.Members.{all_contained}
+use Rattle.list_lemmas.proofs.lemmas.Contained.{all_contained}
 use Rattle.cell_races.specs.declared.touches.Touch.{Touch}
 use Rattle.order_laws.specs.Turns.{AgreeWithThemselves, ListsItems}
 use Rattle.semantics.specs.SerialOrder.{serial}

@@ -3,7 +3,6 @@ use Rattle.id_maps.specs.Entries.{entry_at}
 use Rattle.std.proofs.lemmas.List.Elements.{Contains-get_or}
 use Rattle.vocabulary.specs.Prelude.{AreLinked}
 use Rattle.log_laws.proofs.lemmas.Cycles.{cycle_is_stuck, none_shown}
-use Rattle.log_laws.proofs.lemmas.Members.{member_of}
 use Rattle.log_laws.proofs.lemmas.Rounds.{replay, once, listed_decides}
 use Rattle.event_graph.proofs.Waited.{linked_from}
 use Rattle.event_graph.proofs.Cycling.{no_cycle}
@@ -33,5 +32,5 @@ returns c =
     record {
       replayed = c.in_ok-order.ensures ∙ c.requires.taken;
       free = no_cycle c.args.self.now ((none_shown c.args.self.now).0 c.requires.none)
-          (λ ks cycle k h. cycle_is_stuck c.args.self.now linked ks cycle k (member_of ks k h));
+          (cycle_is_stuck c.args.self.now linked);
     }

@@ -2,7 +2,7 @@ use Rattle.std.proofs.Common.{◌<◌, length, Contains, All, sym, ap, ◌∙◌
 use Rattle.std.proofs.lemmas.List.{length-map}
 use Rattle.vocabulary.specs.Prelude.{graph_of, steps_by}
 use Rattle.semantics.specs.ReplayOrder.{replay_order}
-use Rattle.log_laws.proofs.lemmas.Members.{all_contained}
+use Rattle.list_lemmas.proofs.lemmas.Contained.{all_contained}
 use Rattle.log_laws.proofs.lemmas.Rounds.{listed_decides}
 use Rattle.replay.specs.Standing.{Stands}
 use Rattle.replay.proofs.Laws.{cut_nodes, cut_stands}

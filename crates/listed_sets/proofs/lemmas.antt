@@ -1,2 +1,0 @@
--- Lemmas for the proofs of other crates.
-pub mod Rising
