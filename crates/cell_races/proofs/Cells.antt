@@ -1,14 +1,14 @@
--- What is done at one cell, among all touches in order.
+-- What is done at one cell, among all accesses in order.
 use Rattle.std.proofs.Common.{◌≡◌, ℕ, ◌&&◌, ◌<◌, ◌≤◌, ◌⊎◌, inl, inr, Bool, true, false, nat_lt, List, [], ◌∷◌, ◌++◌, Some, None, All, refl, sym, ap, ◌∙◌, subst, arith, map, length, slice_index, Contains, AllPairs}
 use Rattle.std.proofs.lemmas.Bool.{or_parts, ltb-false}
 use Rattle.std.proofs.lemmas.Bool.Decides.{nat_tests}
 use Rattle.std.proofs.lemmas.List.{append-nil}
 use Rattle.vocabulary.specs.Prelude.{Cell, comes_first, same_cell}
-use Rattle.cell_races.specs.declared.access.Visit.{Visit}
-use Rattle.cell_races.specs.declared.touches.Touch.{Touch}
+use Rattle.cell_races.specs.declared.access.NodeAccess.{NodeAccess}
+use Rattle.cell_races.specs.declared.cell_accesses.CellAccess.{CellAccess}
 use Rattle.cell_races.specs.Accesses.{conflicts}
-use Rattle.cell_races.specs.Touches.{key, comes_before}
-use Rattle.cell_races.specs.Visits.{visit_of, visits_of}
+use Rattle.cell_races.specs.CellAccesses.{key, comes_before}
+use Rattle.cell_races.specs.NodeAccesses.{node_access_of, node_accesses_of}
 use Rattle.cell_races.specs.Races.{race_in}
 use Rattle.cell_races.specs.Clashes.{Clash, IsFree, IsShown}
 use Rattle.std.proofs.lemmas.List.Elements.{Contains-append_right, Contains-append_cases, Contains-append_left, All-contains}
@@ -36,39 +36,39 @@ field_is a b e f = grind (arith, nat_tests, inst_is a b, point_is a b)
 neither_first : (a b : Cell) → comes_first (key a) (key b) ≡ false → comes_first (key b) (key a) ≡ false → a ≡ b
 neither_first a b e f = rw (inst_is a b e f, point_is a b e f, field_is a b e f) refl
 
--- No later touch of a cell is by an earlier node.
-pub place_after : (x y : Touch) → x.cell ≡ y.cell → comes_before y x ≡ false → x.place ≤ y.place
+-- No later access of a cell is by an earlier node.
+pub place_after : (x y : CellAccess) → x.cell ≡ y.cell → comes_before y x ≡ false → x.place ≤ y.place
 place_after x y same e =
     let at : same_cell y.cell x.cell ≡ true = rw same (same_itself y.cell) in
     ltb-false y.place x.place (sym (ap (λ b. b && nat_lt y.place x.place) at)
     ∙ (or_parts _ (same_cell y.cell x.cell && nat_lt y.place x.place) e).1)
 
--- ---- the touches of one cell, those before and those after them
+-- ---- the accesses of one cell, those before and those after them
 
-abbrev pub NotAfter : Touch → Touch → Type 0
+abbrev pub NotAfter : CellAccess → CellAccess → Type 0
 NotAfter x y = comes_before y x ≡ false
 
-pub record IsCellOf (c : Cell) (front here back : List Touch) : Type 0 where
-  pub at : (x : Touch) → Contains here x → x.cell ≡ c
-  pub not_front : (x : Touch) → Contains front x → x.cell ≡ c → ⊥
-  pub not_back : (x : Touch) → Contains back x → x.cell ≡ c → ⊥
-  pub far : (x y : Touch) → Contains front x → Contains back y → x.cell ≡ y.cell → ⊥
-  pub least : (x : Touch) → Contains here x ⊎ Contains back x → comes_first (key x.cell) (key c) ≡ false
+pub record IsCellOf (c : Cell) (front here back : List CellAccess) : Type 0 where
+  pub at : (x : CellAccess) → Contains here x → x.cell ≡ c
+  pub not_front : (x : CellAccess) → Contains front x → x.cell ≡ c → ⊥
+  pub not_back : (x : CellAccess) → Contains back x → x.cell ≡ c → ⊥
+  pub far : (x y : CellAccess) → Contains front x → Contains back y → x.cell ≡ y.cell → ⊥
+  pub least : (x : CellAccess) → Contains here x ⊎ Contains back x → comes_first (key x.cell) (key c) ≡ false
 
 -- What follows is at other cells than what came before.
-abbrev pub IsApart : List Touch → List Touch → Type 0
-IsApart front back = (x y : Touch) → Contains front x → Contains back y → x.cell ≡ y.cell → ⊥
+abbrev pub IsApart : List CellAccess → List CellAccess → Type 0
+IsApart front back = (x y : CellAccess) → Contains front x → Contains back y → x.cell ≡ y.cell → ⊥
 
 -- The list does not begin at a cell.
-abbrev pub BeginsElsewhere : Cell → List Touch → Type 0
+abbrev pub BeginsElsewhere : Cell → List CellAccess → Type 0
 BeginsElsewhere c [] = Unit {0}
 BeginsElsewhere c (x ∷ xs) = x.cell ≡ c → ⊥
 
-gone : (r : Touch) (back : List Touch) → ((y : Touch) → Contains back y → NotAfter r y) → AllPairs NotAfter back → BeginsElsewhere r.cell back
-    → (y : Touch) → Contains back y → y.cell ≡ r.cell → ⊥
+gone : (r : CellAccess) (back : List CellAccess) → ((y : CellAccess) → Contains back y → NotAfter r y) → AllPairs NotAfter back → BeginsElsewhere r.cell back
+    → (y : CellAccess) → Contains back y → y.cell ≡ r.cell → ⊥
 gone r [] after o begins y m at = absurd (Contains-nil m)
 gone r (e ∷ back) after o begins y m at = elim (Contains-cases back m) [
-  | inl here ↦ begins (ap (λ (x : Touch). x.cell) (sym here) ∙ at)
+  | inl here ↦ begins (ap (λ (x : CellAccess). x.cell) (sym here) ∙ at)
   | inr later ↦
       let not_after = AllPairs-first NotAfter e back o y later in
       begins (neither_first e.cell r.cell (or_parts _ (same_cell e.cell r.cell && nat_lt e.place r.place) (after e (Contains-here back))).0
@@ -76,13 +76,13 @@ gone r (e ∷ back) after o begins y m at = elim (Contains-cases back m) [
       (or_parts _ (same_cell y.cell e.cell && nat_lt y.place e.place) not_after).0))
 ]
 
-pub cell_of : (front : List Touch) (r : Touch) (here back : List Touch) → AllPairs NotAfter (front ++ ((r ∷ here) ++ back))
+pub cell_of : (front : List CellAccess) (r : CellAccess) (here back : List CellAccess) → AllPairs NotAfter (front ++ ((r ∷ here) ++ back))
     → IsApart front ((r ∷ here) ++ back)
-    → ((x : Touch) → Contains (r ∷ here) x → x.cell ≡ r.cell) → BeginsElsewhere r.cell back → IsCellOf r.cell front (r ∷ here) back
+    → ((x : CellAccess) → Contains (r ∷ here) x → x.cell ≡ r.cell) → BeginsElsewhere r.cell back → IsCellOf r.cell front (r ∷ here) back
 cell_of front r here back o apart at begins =
     let rest = (AllPairs-parts NotAfter front ((r ∷ here) ++ back) o).1 in
     let parts = AllPairs-parts NotAfter (r ∷ here) back rest in
-    let after : (y : Touch) → Contains back y → NotAfter r y = λ y m. parts.2 r y (Contains-here here) m in
+    let after : (y : CellAccess) → Contains back y → NotAfter r y = λ y m. parts.2 r y (Contains-here here) m in
     record {
       at = at;
       not_front = λ x m e. apart x r m (Contains-here (here ++ back)) e;
@@ -95,10 +95,10 @@ cell_of front r here back o apart at begins =
     }
 
 module _ (before : ℕ → ℕ → Bool) (order : List ℕ) where
-  side : (front here back : List Touch) (x : Touch) → Contains (front ++ (here ++ back)) x → Contains front x ⊎ (Contains here x ⊎ Contains back x)
+  side : (front here back : List CellAccess) (x : CellAccess) → Contains (front ++ (here ++ back)) x → Contains front x ⊎ (Contains here x ⊎ Contains back x)
   side front here back x m = elim (Contains-append_cases front (here ++ back) x m) [ inl f ↦ inl f | inr r ↦ inr (Contains-append_cases here back x r) ]
 
-  clash_among : (some all : List Touch) (a b : ℕ) (cell : Cell) (k : Clash before order all a b cell) → Contains some k.one
+  clash_among : (some all : List CellAccess) (a b : ℕ) (cell : Cell) (k : Clash before order all a b cell) → Contains some k.one
       → Contains some k.other → Clash before order some a b cell
   clash_among some all a b cell k m n = record {
     differ = k.differ;
@@ -116,7 +116,7 @@ module _ (before : ℕ → ℕ → Bool) (order : List ℕ) where
   }
 
   -- A clash stands in one of the three parts.
-  clash_in : (c : Cell) (front here back : List Touch) → IsCellOf c front here back → IsFree before order front
+  clash_in : (c : Cell) (front here back : List CellAccess) → IsCellOf c front here back → IsFree before order front
       → (a b : ℕ) (cell : Cell) → (k : Clash before order (front ++ (here ++ back)) a b cell) → (Contains here k.one × Contains here k.other)
       ⊎ (Contains back k.one × Contains back k.other)
   clash_in c front here back h free a b cell k =
@@ -139,13 +139,13 @@ module _ (before : ℕ → ℕ → Bool) (order : List ℕ) where
         ]
       ]
 
-  race_of : (here all : List Touch) (a b : ℕ) (cell : Cell) (k : Clash before order all a b cell) → Contains here k.one → Contains here k.other
-      → RaceOf before (map (visit_of order) here) a b
+  race_of : (here all : List CellAccess) (a b : ℕ) (cell : Cell) (k : Clash before order all a b cell) → Contains here k.one → Contains here k.other
+      → RaceOf before (map (node_access_of order) here) a b
   race_of here all a b cell k m n = record {
-    one = visit_of order k.one;
-    other = visit_of order k.other;
-    one_in = map_member (visit_of order) here k.one m;
-    other_in = map_member (visit_of order) here k.other n;
+    one = node_access_of order k.one;
+    other = node_access_of order k.other;
+    one_in = map_member (node_access_of order) here k.one m;
+    other_in = map_member (node_access_of order) here k.other n;
     one_by = k.one_by;
     other_by = k.other_by;
     races = (
@@ -156,13 +156,13 @@ module _ (before : ℕ → ℕ → Bool) (order : List ℕ) where
     );
   }
 
-  clash_of : (c : Cell) (here all : List Touch) → ((x : Touch) → Contains here x → x.cell ≡ c) → ((x : Touch) → Contains here x → Contains all x)
-      → (a b : ℕ) → RaceOf before (map (visit_of order) here) a b → Clash before order all a b c
+  clash_of : (c : Cell) (here all : List CellAccess) → ((x : CellAccess) → Contains here x → x.cell ≡ c) → ((x : CellAccess) → Contains here x → Contains all x)
+      → (a b : ℕ) → RaceOf before (map (node_access_of order) here) a b → Clash before order all a b c
   clash_of c here all at within a b r =
-      let one = member_map (visit_of order) here r.one r.one_in in
-      let other = member_map (visit_of order) here r.other r.other_in in
-      let one_by : slice_index order one.0.place ≡ a = ap (λ (v : Visit). v.node) (sym one.2) ∙ r.one_by in
-      let other_by : slice_index order other.0.place ≡ b = ap (λ (v : Visit). v.node) (sym other.2) ∙ r.other_by in
+      let one = member_map (node_access_of order) here r.one r.one_in in
+      let other = member_map (node_access_of order) here r.other r.other_in in
+      let one_by : slice_index order one.0.place ≡ a = ap (λ (v : NodeAccess). v.node) (sym one.2) ∙ r.one_by in
+      let other_by : slice_index order other.0.place ≡ b = ap (λ (v : NodeAccess). v.node) (sym other.2) ∙ r.other_by in
       record {
         differ = λ e. r.races.0 (r.one_by ∙ (e ∙ sym r.other_by));
         one = one.0;
@@ -173,37 +173,37 @@ module _ (before : ℕ → ℕ → Bool) (order : List ℕ) where
         other_at = at other.0 other.1;
         one_by = one_by;
         other_by = other_by;
-        conflict = subst (λ (v : Visit). conflicts one.0.access v.access ≡ true) other.2
-            (subst (λ (v : Visit). conflicts v.access r.other.access ≡ true) one.2 r.races.1);
+        conflict = subst (λ (v : NodeAccess). conflicts one.0.access v.access ≡ true) other.2
+            (subst (λ (v : NodeAccess). conflicts v.access r.other.access ≡ true) one.2 r.races.1);
         not_before = subst (λ n. before a n ≡ false) r.other_by (subst (λ m. before m r.other.node ≡ false) r.one_by r.races.2);
         not_after = subst (λ n. before b n ≡ false) r.one_by (subst (λ m. before m r.one.node ≡ false) r.other_by r.races.3);
       }
 
-  pub free_more : (c : Cell) (front here : List Touch) → IsCellOf c front here [] → IsFree before order front
-      → race_in before (visits_of order here) ≡ None → IsFree before order (front ++ here)
+  pub free_more : (c : Cell) (front here : List CellAccess) → IsCellOf c front here [] → IsFree before order front
+      → race_in before (node_accesses_of order here) ≡ None → IsFree before order (front ++ here)
   free_more c front here h free e a b cell k =
       let all = subst (λ zs. Clash before order (front ++ zs) a b cell) (sym (append-nil here)) k in
       elim (clash_in c front here [] h free a b cell all) [
-        | inl both ↦ none_at before (map (visit_of order) here) e a b (race_of here _ a b cell all both.0 both.1)
+        | inl both ↦ none_at before (map (node_access_of order) here) e a b (race_of here _ a b cell all both.0 both.1)
         | inr none ↦ absurd (Contains-nil none.0)
       ]
 
   module _ (rank : ℕ → ℕ) (later : (a b : ℕ) → before a b ≡ true → rank a < rank b) (placed : (p : ℕ) → p < length order
       → rank (slice_index order p) ≡ p) where
-    climbs : (c : Cell) (here : List Touch) → ((x : Touch) → Contains here x → x.cell ≡ c) → All (λ (x : Touch). x.place < length order) here
-        → AllPairs NotAfter here → AllPairs (Climbs rank) (map (visit_of order) here)
-    climbs c here at within o = pairs_map (visit_of order) NotAfter (Climbs rank) here (λ x y m n not_after.
-        let first = placed x.place (All-contains (λ (z : Touch). z.place < length order) here x within m) in
-        let second = placed y.place (All-contains (λ (z : Touch). z.place < length order) here y within n) in
+    climbs : (c : Cell) (here : List CellAccess) → ((x : CellAccess) → Contains here x → x.cell ≡ c) → All (λ (x : CellAccess). x.place < length order) here
+        → AllPairs NotAfter here → AllPairs (Climbs rank) (map (node_access_of order) here)
+    climbs c here at within o = pairs_map (node_access_of order) NotAfter (Climbs rank) here (λ x y m n not_after.
+        let first = placed x.place (All-contains (λ (z : CellAccess). z.place < length order) here x within m) in
+        let second = placed y.place (All-contains (λ (z : CellAccess). z.place < length order) here y within n) in
         (rw (first, second) (place_after x y (at x m ∙ sym (at y n)) not_after), λ e. ap (slice_index order) (sym first ∙ (e ∙ second)))) o
 
-    pub shown_of : (c : Cell) (front here back : List Touch) → IsCellOf c front here back → IsFree before order front
-        → All (λ (x : Touch). x.place < length order) here → AllPairs NotAfter here
-        → (a b : ℕ) → race_in before (visits_of order here) ≡ Some (a, b)
+    pub shown_of : (c : Cell) (front here back : List CellAccess) → IsCellOf c front here back → IsFree before order front
+        → All (λ (x : CellAccess). x.place < length order) here → AllPairs NotAfter here
+        → (a b : ℕ) → race_in before (node_accesses_of order here) ≡ Some (a, b)
         → IsShown before rank order (front ++ (here ++ back)) (record { a = a; b = b; cell = c })
     shown_of c front here back h free within o a b e =
-        let s = shown_at before rank later (map (visit_of order) here) (climbs c here h.at within o) a b e in
-        let inside : (x : Touch) → Contains here x → Contains (front ++ (here ++ back)) x =
+        let s = shown_at before rank later (map (node_access_of order) here) (climbs c here h.at within o) a b e in
+        let inside : (x : CellAccess) → Contains here x → Contains (front ++ (here ++ back)) x =
         λ x m. Contains-append_right front (here ++ back) x (Contains-append_left here back x m) in
         record {
           clash = clash_of c here (front ++ (here ++ back)) h.at inside a b s.race;

@@ -2,9 +2,9 @@
 
 ghost use Rattle.std.specs.Prelude.{◌≡◌, ◌<◌, All, OnOk, length};
 ghost use Rattle.reach_marks.specs.Reached.{before_in};
-ghost use Rattle.cell_races.specs.Groups.{no_groups, with_visit, asked, fails_at};
+ghost use Rattle.cell_races.specs.Groups.{no_groups, with_node_access, asked, fails_at};
 
-use crate::access::{Access, Visit};
+use crate::access::{Access, NodeAccess};
 use reach_marks::Reach;
 use std::alloc::{AllocError, Global};
 use std::marker::Model;
@@ -48,10 +48,10 @@ impl Frontier {
     }
 
     // The group that a node has to come after.
-    fn asked(&self, visit: Visit) -> &[usize]
-        ensures { result.now ≡ asked self.now visit }
+    fn asked(&self, node_access: NodeAccess) -> &[usize]
+        ensures { result.now ≡ asked self.now node_access }
     {
-        if self.access.conflicts(visit.access) {
+        if self.access.conflicts(node_access.access) {
             self.group.as_slice()
         } else {
             self.earlier.as_slice()
@@ -60,26 +60,26 @@ impl Frontier {
 
     /// Whether the next node does not come after the whole group that it has to come after.
     #[tactic(auto, using(crate::proofs::Members::position_any))]
-    pub(crate) fn fails(&self, reach: &Reach, visit: Visit) -> bool
-        requires group { All (λ a. a < length reach.now.places) (asked self.now visit) }
-        requires node { visit.node < length reach.now.places }
-        ensures { result ≡ fails_at (before_in reach.now) self.now visit }
+    pub(crate) fn fails(&self, reach: &Reach, node_access: NodeAccess) -> bool
+        requires group { All (λ a. a < length reach.now.places) (asked self.now node_access) }
+        requires node { node_access.node < length reach.now.places }
+        ensures { result ≡ fails_at (before_in reach.now) self.now node_access }
     {
         reach
-            .first_not_before(self.asked(visit), visit.node)
+            .first_not_before(self.asked(node_access), node_access.node)
             .is_some()
     }
 
     /// Takes the next node.
-    pub(crate) fn take(&mut self, visit: Visit) -> Result<(), AllocError>
-        ensures { OnOk result (self.new ≡ with_visit self.old visit) }
+    pub(crate) fn take(&mut self, node_access: NodeAccess) -> Result<(), AllocError>
+        ensures { OnOk result (self.new ≡ with_node_access self.old node_access) }
     {
-        if self.access.conflicts(visit.access) {
+        if self.access.conflicts(node_access.access) {
             mem::swap(&mut self.earlier, &mut self.group);
             self.group.clear();
-            self.access = visit.access;
+            self.access = node_access.access;
         }
-        self.group.push(visit.node)?;
+        self.group.push(node_access.node)?;
         Ok(())
     }
 }

@@ -1,6 +1,6 @@
 //! The race that is shown of what the nodes of a replay do at cells: two that conflict at a cell, neither before the other.
 //!
-//! Whoever goes over the steps of nodes adds what each touches (`push_touches`), and `shown_race` gives the
+//! Whoever goes over the steps of nodes adds what each accesses (`push_cell_accesses`), and `shown_race` gives the
 //! race at the least cell, exactly where there is one. At one cell neighbours that do not conflict form
 //! groups, and a node is compared with a whole group at once; that this finds the same race is the law
 //! `groups_tell`. `unordered_places` asks the same groups which nodes are not in turn, by an order of their own.
@@ -12,12 +12,12 @@ mod cell_scan;
 mod frontier;
 mod laws;
 mod scan;
-mod touches;
+mod cell_accesses;
 mod turns;
-mod visits;
+mod node_accesses;
 
-pub use access::{Access, Visit};
+pub use access::{Access, NodeAccess};
 pub use laws::{first_race_is_first, groups_tell};
 pub use scan::{FoundRace, cell_end, shown_race};
-pub use touches::{Touch, push_touches, sort_touches};
+pub use cell_accesses::{CellAccess, push_cell_accesses, sort_cell_accesses};
 pub use turns::unordered_places;

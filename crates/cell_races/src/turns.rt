@@ -2,43 +2,43 @@
 
 ghost use Rattle.std.specs.Prelude.{◌≡◌, All, IfOk, OnOk, if◌then◌else◌, length, slice_set, true, ◌<◌};
 ghost use Rattle.reach_marks.specs.Reached.{before_in};
-ghost use Rattle.cell_races.specs.Groups.{asked, fails_at, with_visit};
+ghost use Rattle.cell_races.specs.Groups.{asked, fails_at, with_node_access};
 ghost use Rattle.cell_races.specs.Races.{IsTransitive};
-ghost use Rattle.cell_races.specs.Touches as touched;
+ghost use Rattle.cell_races.specs.CellAccesses as accessed;
 ghost use Rattle.cell_races.specs.Turns.{AreNoted, AreOfOneCell, IsMarked, NotesMore};
-ghost use Rattle.cell_races.specs.Visits.{visit_of};
+ghost use Rattle.cell_races.specs.NodeAccesses.{node_access_of};
 
 use crate::frontier::Frontier;
 use crate::scan::cell_end;
-use crate::touches::Touch;
-use crate::visits::visit_of;
+use crate::cell_accesses::CellAccess;
+use crate::node_accesses::node_access_of;
 use reach_marks::Reach;
 use std::alloc::{AllocError, Global};
 
-/// Takes the next touch of a cell into the groups, or notes its place, if its node does not come after all that it has to come after.
+/// Takes the next access of a cell into the groups, or notes its place, if its node does not come after all that it has to come after.
 fn take_or_note(
     frontier: &mut Frontier,
     reach: &Reach,
     order: &[usize],
-    touch: &Touch,
+    cell_access: &CellAccess,
     noted: &mut Vec<bool>,
 ) -> Result<(), AllocError>
     requires group { All (λ a. a < length reach.now.places)
-        (asked frontier.old (visit_of order.now touch.now)) }
-    requires marked { IsMarked order.now reach.now touch.now }
+        (asked frontier.old (node_access_of order.now cell_access.now)) }
+    requires marked { IsMarked order.now reach.now cell_access.now }
     requires each { length noted.old.items ≡ length order.now }
     ensures groups { OnOk result (frontier.new
-        ≡ (if fails_at (before_in reach.now) frontier.old (visit_of order.now touch.now) then frontier.old
-        else with_visit frontier.old (visit_of order.now touch.now))) }
+        ≡ (if fails_at (before_in reach.now) frontier.old (node_access_of order.now cell_access.now) then frontier.old
+        else with_node_access frontier.old (node_access_of order.now cell_access.now))) }
     ensures noted { OnOk result (noted.new.items
-        ≡ (if fails_at (before_in reach.now) frontier.old (visit_of order.now touch.now)
-        then slice_set noted.old.items touch.now.place true else noted.old.items)) }
+        ≡ (if fails_at (before_in reach.now) frontier.old (node_access_of order.now cell_access.now)
+        then slice_set noted.old.items cell_access.now.place true else noted.old.items)) }
 {
-    let visit = visit_of(order, touch);
-    if frontier.fails(reach, visit) {
-        noted[touch.place] = true;
+    let node_access = node_access_of(order, cell_access);
+    if frontier.fails(reach, node_access) {
+        noted[cell_access.place] = true;
     } else {
-        frontier.take(visit)?;
+        frontier.take(node_access)?;
     }
     Ok(())
 }
@@ -48,42 +48,42 @@ fn note_cell(
     frontier: &mut Frontier,
     reach: &Reach,
     order: &[usize],
-    touches: &[Touch],
+    cell_accesses: &[CellAccess],
     noted: &mut Vec<bool>,
 ) -> Result<(), AllocError>
     requires goes_on { IsTransitive (before_in reach.now) }
-    requires marked { All (IsMarked order.now reach.now) touches.now }
-    requires in_order { touched.AreInOrder touches.now }
-    requires one { AreOfOneCell touches.now }
+    requires marked { All (IsMarked order.now reach.now) cell_accesses.now }
+    requires in_order { accessed.AreInOrder cell_accesses.now }
+    requires one { AreOfOneCell cell_accesses.now }
     requires each { length noted.old.items ≡ length order.now }
-    ensures { OnOk result (NotesMore (before_in reach.now) order.now touches.now
+    ensures { OnOk result (NotesMore (before_in reach.now) order.now cell_accesses.now
         noted.old.items noted.new.items) }
 {
     frontier.clear();
-    for touch in touches {
-        take_or_note(frontier, reach, order, touch, noted)?;
+    for cell_access in cell_accesses {
+        take_or_note(frontier, reach, order, cell_access, noted)?;
     }
     Ok(())
 }
 
-/// The places of an order at which nodes are not in turn at some cell, so many that all others are in turn: of two that conflict, the one at the earlier place is before the other. One pass over the touches, which are in order.
+/// The places of an order at which nodes are not in turn at some cell, so many that all others are in turn: of two that conflict, the one at the earlier place is before the other. One pass over the accesses, which are in order.
 pub fn unordered_places(
     alloc: Global,
     reach: &Reach,
     order: &[usize],
-    touches: &[Touch],
+    cell_accesses: &[CellAccess],
 ) -> Result<Vec<bool>, AllocError>
     requires goes_on { IsTransitive (before_in reach.now) }
-    requires marked { All (IsMarked order.now reach.now) touches.now }
-    requires in_order { touched.AreInOrder touches.now }
-    ensures { IfOk result (λ noted. AreNoted (before_in reach.now) order.now touches.now noted.items) }
+    requires marked { All (IsMarked order.now reach.now) cell_accesses.now }
+    requires in_order { accessed.AreInOrder cell_accesses.now }
+    ensures { IfOk result (λ noted. AreNoted (before_in reach.now) order.now cell_accesses.now noted.items) }
 {
     let mut noted = vec![in alloc; false; order.len()]?;
     let mut frontier = Frontier::new(alloc);
     let mut from = 0;
-    while from < touches.len() {
-        let end = cell_end(touches, from);
-        note_cell(&mut frontier, reach, order, &touches[from..end], &mut noted)?;
+    while from < cell_accesses.len() {
+        let end = cell_end(cell_accesses, from);
+        note_cell(&mut frontier, reach, order, &cell_accesses[from..end], &mut noted)?;
         from = end;
     }
     Ok(noted)

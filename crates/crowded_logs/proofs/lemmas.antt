@@ -1,2 +1,2 @@
 -- Lemmas for the proofs of other crates.
-pub mod Told
+pub mod CrowdedFault

@@ -61,6 +61,6 @@ pub record IsKeptOf (log kept : List Lined) : Type 0 where
   pub answer : Answer (records_of first) (records_of later) (records_of kept_later)
 
 -- What is kept of a crowded log, and what is noted of its frame.
-pub record IsToldBy (log kept : List Lined) (frame : Frame) : Type 0 where
+pub record IsKeptAs (log kept : List Lined) (frame : Frame) : Type 0 where
   pub is_kept : IsKeptOf log kept
   pub frame_is : frame ≡ frame_of log

@@ -17,12 +17,12 @@ use Rattle.group_pairs.specs.Outlines.{Grounded, IsPlaced, looked_up, table_in}
 use Rattle.group_pairs.proofs.lemmas.Places.{place_found}
 
 -- The site at the place of a claim's space.
-record Stands (sites : List Site) (c : Claimed) (k : ℕ) : Type 0 where
+record IsSiteOf (sites : List Site) (c : Claimed) (k : ℕ) : Type 0 where
   site : Site
   at : slice_get sites k ≡ Some site
   space : site.space ≡ c.space
 
-stands : (sites : List Site) (c : Claimed) (k : ℕ) → site_place sites c ≡ Some k → Stands sites c k
+stands : (sites : List Site) (c : Claimed) (k : ℕ) → site_place sites c ≡ Some k → IsSiteOf sites c k
 stands sites c k e =
     let found = place_found (λ (s : Site). s.space == c.space) sites k e in
     record { site = found.0; at = found.1; space = eqb-true found.0.space c.space found.2 }
@@ -31,13 +31,13 @@ map_at : {X Y : Type 0} (f : X → Y) (xs : List X) (k : ℕ) (x : X) → slice_
 map_at f xs k x e = slice_get-map f xs k ∙ ap (option_map f) e
 
 -- Sites that stand for two claims share a point exactly where the claims do.
-sharing_is : (g : Grounded) (c d : Claimed) (i j : ℕ) → (s : Stands g.sites c i) → (z : Stands g.sites d j)
+sharing_is : (g : Grounded) (c d : Claimed) (i j : ℕ) → (s : IsSiteOf g.sites c i) → (z : IsSiteOf g.sites d j)
     → c.points ≡ space_points g.regions c.space → d.points ≡ space_points g.regions d.space
     → sharing g.regions s.site z.site ≡ meets c.points d.points
 sharing_is g c d i j s z ours theirs = ap₂ meets (ap (space_points g.regions) s.space ∙ sym ours) (ap (space_points g.regions) z.space
     ∙ sym theirs)
 
-row_at : (g : Grounded) (s : Site) (d : Claimed) (j : ℕ) → (z : Stands g.sites d j)
+row_at : (g : Grounded) (s : Site) (d : Claimed) (j : ℕ) → (z : IsSiteOf g.sites d j)
     → marked (shared_row g.regions g.sites s) (Some j) ≡ sharing g.regions s z.site
 row_at g s d j z = get_or_from_slice_get (shared_row g.regions g.sites s) j (sharing g.regions s z.site) true
     (map_at (sharing g.regions s) g.sites j z.site z.at)
@@ -63,7 +63,7 @@ far g c ds d of ours theirs none = at_place (site_place g.sites c) refl none
     places : List (Option ℕ)
     places = map (site_place g.sites) ds
 
-    in_row : (i : ℕ) (s : Stands g.sites c i) → list_any (marked (shared_row g.regions g.sites s.site)) places ≡ false → (o : Option ℕ)
+    in_row : (i : ℕ) (s : IsSiteOf g.sites c i) → list_any (marked (shared_row g.regions g.sites s.site)) places ≡ false → (o : Option ℕ)
         → site_place g.sites d ≡ o → meets c.points d.points ≡ false
     in_row i s apart None e =
         absurd (true≢false (ap (marked (shared_row g.regions g.sites s.site)) (sym e)

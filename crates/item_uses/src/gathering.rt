@@ -10,9 +10,9 @@ ghost use Rattle.item_uses.specs.Usages.{usage, usage_of, usages};
 ghost use Rattle.item_uses.specs.Gathered.{own_usages, with_usage};
 
 use crate::item::ItemUses;
-use crate::usage::{Asked, Use};
+use crate::usage::{ReqParts, Use};
 use bumpalo::Bump;
-use log_tables::Draft;
+use log_tables::LogTables;
 use point_set::PointSet;
 use privilege::{Coherence, Priv};
 use semantics::{Item, ItemBody, Req};
@@ -21,27 +21,27 @@ use std::alloc::{AllocError, Global};
 /// What is asked for, with its fields in the arena.
 fn placed_use<'a, P: PointSet + Copy>(
     bump: &'a Bump,
-    draft: &Draft<P>,
-    asked: &Asked<'_>,
+    tables: &LogTables<P>,
+    asked: &ReqParts<'_>,
 ) -> Result<Use<'a, P>, AllocError>
     requires { IsStrictlyIncreasing asked.now.fields.now }
     ensures { IfOk result (λ one. one ≡ usage asked.now.tree asked.now.space
-        (points_in draft.now asked.now.space) asked.now.fields.now asked.now.access asked.now.coherence) }
+        (points_in tables.now asked.now.space) asked.now.fields.now asked.now.access asked.now.coherence) }
 {
     let fields = bump.try_alloc_slice_copy(asked.fields)?;
-    let placed = Asked { fields, ..*asked };
-    Ok(Use::new(&placed, draft.set(asked.space).copied()))
+    let placed = ReqParts { fields, ..*asked };
+    Ok(Use::new(&placed, tables.set(asked.space).copied()))
 }
 
 /// What an item asks for by itself.
 fn own_uses<'a, P: PointSet + Copy>(
     alloc: Global,
     bump: &'a Bump,
-    draft: &Draft<P>,
+    tables: &LogTables<P>,
     item: &Item,
 ) -> Result<ItemUses<'a, P>, AllocError>
     requires { IsStrictlyIncreasing (body_fields item.now.body) }
-    ensures { IfOk result (λ uses. uses ≡ own_usages draft.now item.now) }
+    ensures { IfOk result (λ uses. uses ≡ own_usages tables.now item.now) }
 {
     let mut uses = ItemUses::new(alloc);
     if let ItemBody::Fill {
@@ -51,14 +51,14 @@ fn own_uses<'a, P: PointSet + Copy>(
         ..
     } = &item.body
     {
-        let asked = Asked {
+        let asked = ReqParts {
             tree: *tree,
             space: *space,
             fields: fields.as_slice(),
             access: Priv::Wd,
             coherence: Coherence::Exclusive,
         };
-        let one = placed_use(bump, draft, &asked)?;
+        let one = placed_use(bump, tables, &asked)?;
         uses.push(one)?;
     }
     Ok(uses)
@@ -68,13 +68,13 @@ fn own_uses<'a, P: PointSet + Copy>(
 fn own_uses_of_all<'a, P: PointSet + Copy>(
     alloc: Global,
     bump: &'a Bump,
-    draft: &Draft<P>,
+    tables: &LogTables<P>,
 ) -> Result<Vec<ItemUses<'a, P>>, AllocError>
-    ensures { IfOk result (λ items. items.items ≡ map (own_usages draft.now) draft.now.items) }
+    ensures { IfOk result (λ items. items.items ≡ map (own_usages tables.now) tables.now.items) }
 {
     let mut all = Vec::new(alloc);
-    for item in draft.items() {
-        all.push(own_uses(alloc, bump, draft, item)?)?;
+    for item in tables.items() {
+        all.push(own_uses(alloc, bump, tables, item)?)?;
     }
     Ok(all)
 }
@@ -95,40 +95,40 @@ pub fn is_task_at(items: &[Item], item: usize) -> bool
 /// One requirement of an item more.
 fn add_req<'a, P: PointSet + Copy>(
     bump: &'a Bump,
-    draft: &Draft<P>,
+    tables: &LogTables<P>,
     items: &mut Vec<ItemUses<'a, P>>,
     req: &Req,
 ) -> Result<(), AllocError>
-    requires each { length items.old.items ≡ length draft.now.items }
+    requires each { length items.old.items ≡ length tables.now.items }
     requires ascend { IsStrictlyIncreasing req.now.fields }
     ensures { OnOk result (items.new.items
-        ≡ with_usage draft.now items.old.items req.now.item (usage_of draft.now req.now)) }
+        ≡ with_usage tables.now items.old.items req.now.item (usage_of tables.now req.now)) }
 {
-    if !is_task_at(draft.items(), req.item) {
+    if !is_task_at(tables.items(), req.item) {
         return Ok(());
     }
-    let asked = Asked {
+    let asked = ReqParts {
         tree: req.tree,
         space: req.space,
         fields: req.fields.as_slice(),
         access: req.access,
         coherence: req.coherence,
     };
-    let one = placed_use(bump, draft, &asked)?;
+    let one = placed_use(bump, tables, &asked)?;
     items[req.item].push(one)
 }
 
 /// All requirements, each of its item.
 fn add_reqs<'a, P: PointSet + Copy>(
     bump: &'a Bump,
-    draft: &Draft<P>,
+    tables: &LogTables<P>,
     items: &mut Vec<ItemUses<'a, P>>,
 ) -> Result<(), AllocError>
-    requires { items.old.items ≡ map (own_usages draft.now) draft.now.items }
-    ensures { OnOk result (items.new.items ≡ usages draft.now) }
+    requires { items.old.items ≡ map (own_usages tables.now) tables.now.items }
+    ensures { OnOk result (items.new.items ≡ usages tables.now) }
 {
-    for req in draft.reqs() {
-        add_req(bump, draft, items, req)?;
+    for req in tables.reqs() {
+        add_req(bump, tables, items, req)?;
     }
     Ok(())
 }
@@ -137,11 +137,11 @@ fn add_reqs<'a, P: PointSet + Copy>(
 pub fn uses_of_items<'a, P: PointSet + Copy>(
     alloc: Global,
     bump: &'a Bump,
-    draft: &Draft<P>,
+    tables: &LogTables<P>,
 ) -> Result<Vec<ItemUses<'a, P>>, AllocError>
-    ensures { IfOk result (λ items. items.items ≡ usages draft.now) }
+    ensures { IfOk result (λ items. items.items ≡ usages tables.now) }
 {
-    let mut items = own_uses_of_all(alloc, bump, draft)?;
-    add_reqs(bump, draft, &mut items)?;
+    let mut items = own_uses_of_all(alloc, bump, tables)?;
+    add_reqs(bump, tables, &mut items)?;
     Ok(items)
 }

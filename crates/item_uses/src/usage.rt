@@ -22,7 +22,7 @@ use std::marker::Model;
 
 /// What a requirement or a fill asks for: these fields of a space in a tree, with a privilege and a coherence.
 #[derive(Clone, Copy)]
-pub(crate) struct Asked<'a> {
+pub(crate) struct ReqParts<'a> {
     pub(crate) tree: u32,
     pub(crate) space: u32,
     pub(crate) fields: &'a [u32],
@@ -122,7 +122,7 @@ fn access_number(access: Priv) -> u64 {
 
 impl<'a, P: PointSet + Copy> Use<'a, P> {
     /// What is asked for at the points of this set, those of the space, or at no point.
-    pub(crate) fn new(asked: &Asked<'a>, set: Option<P>) -> Use<'a, P>
+    pub(crate) fn new(asked: &ReqParts<'a>, set: Option<P>) -> Use<'a, P>
         requires { IsStrictlyIncreasing asked.now.fields.now }
         ensures { result ≡ usage asked.now.tree asked.now.space (option_map_or P.points set [])
             asked.now.fields.now asked.now.access asked.now.coherence }

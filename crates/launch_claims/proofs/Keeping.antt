@@ -125,12 +125,12 @@ field_over x d e before behind apart h =
     true≢false (sym (share_from x.claim d.claim (record { tree = tree; field = field })) ∙ apart)
 
 -- Whatever was seen: the kept blocks so far, with those that are to be looked at, stand for it.
-abbrev pub StandsYet : List Block → List Block → Block → List Block → List Block → Type 0
-StandsYet old kept d more rest = (seen : List Block) → StandFor (old ++ kept) seen → ComeBefore kept d → Contains seen d
+abbrev pub StillStandFor : List Block → List Block → Block → List Block → List Block → Type 0
+StillStandFor old kept d more rest = (seen : List Block) → StandFor (old ++ kept) seen → ComeBefore kept d → Contains seen d
     → StandFor (more ++ rest) seen
 
 pub yet_pushed : (old kept more next : List Block) (d : Block) (k : ℕ) (z : Block) → k < length kept
-    → StandsYet old kept d more (drop k kept) → next ≡ more ++ get_or kept k z ∷ [] → StandsYet old kept d next (drop (k + 1) kept)
+    → StillStandFor old kept d more (drop k kept) → next ≡ more ++ get_or kept k z ∷ [] → StillStandFor old kept d next (drop (k + 1) kept)
 yet_pushed old kept more next d k z lt yet is seen stand before in_d =
     let x = get_or kept k z in
     let back = drop (k + 1) kept in
@@ -140,9 +140,9 @@ yet_pushed old kept more next d k z lt yet is seen stand before in_d =
     subst (λ (bs : List Block). StandFor bs seen) same (yet seen stand before in_d)
 
 pub yet_dropped : (old kept more : List Block) (d : Block) (k : ℕ) (z : Block) → k < length kept
-    → StandsYet old kept d more (drop k kept)
+    → StillStandFor old kept d more (drop k kept)
     → (share_field (get_or kept k z).claim d.claim ≡ false) ⊎ IsNeedless more (get_or kept k z)
-    → StandsYet old kept d more (drop (k + 1) kept)
+    → StillStandFor old kept d more (drop (k + 1) kept)
 yet_dropped old kept more d k z lt yet idle seen stand before in_d =
     let x = get_or kept k z in
     let back = drop (k + 1) kept in
@@ -153,7 +153,7 @@ yet_dropped old kept more d k z lt yet idle seen stand before in_d =
       | inr needless ↦ needless_told more seen x e (λ b m. now.among b (Contains-append_left more (x ∷ back) b m)) behind needless h
     ])
 
-pub yet_all : (old kept more : List Block) (d : Block) (k : ℕ) → length kept ≤ k → StandsYet old kept d more (drop k kept)
+pub yet_all : (old kept more : List Block) (d : Block) (k : ℕ) → length kept ≤ k → StillStandFor old kept d more (drop k kept)
     → (seen : List Block) → StandFor (old ++ kept) seen → ComeBefore kept d → Contains seen d → StandFor more seen
 yet_all old kept more d k le yet seen stand before in_d =
     subst (λ (bs : List Block). StandFor bs seen) (ap (λ (bs : List Block). more ++ bs) (drop_all k kept le) ∙ append-nil more)

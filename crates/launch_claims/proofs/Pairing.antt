@@ -58,25 +58,25 @@ among_before {P = P} points l reqs k u more n a =
       | inr is ↦ inl (subst (λ (x : Requirement P). AsksAt points l x reqs n) (sym is) (h.1, h.3, h.4, h.5))
     ]
 
-abbrev pub IsTold : {P : Type 0} → (P → List ℕ) → LaunchTasks → Requirement P → List (Requirement P) → Bool → Type 0
-IsTold points l u all b = IsTrue b ↔ Any (λ v. IsKnownAt l u.record u v × Conflict points u v) all
+abbrev pub SaysWhether : {P : Type 0} → (P → List ℕ) → LaunchTasks → Requirement P → List (Requirement P) → Bool → Type 0
+SaysWhether points l u all b = IsTrue b ↔ Any (λ v. IsKnownAt l u.record u v × Conflict points u v) all
 
 asks_first : {P : Type 0} (points : P → List ℕ)
-    (l : LaunchTasks) (u : Requirement P) (reqs : List (Requirement P)) (b : Bool) → IsTold points l u reqs b → b ≡ true
+    (l : LaunchTasks) (u : Requirement P) (reqs : List (Requirement P)) (b : Bool) → SaysWhether points l u reqs b → b ≡ true
     → IsLeast (AsksAt points l u reqs) (Some u.record)
 asks_first points l u reqs b told yes_told =
     let a = told.0 yes_told in
     ((a.1, (a.0, a.2, a.3), a.4.0, a.4.1), λ n h. let is = h.2.asks in omega (arith, is))
 
 asks_none : {P : Type 0} (points : P → List ℕ)
-    (l : LaunchTasks) (u : Requirement P) (reqs : List (Requirement P)) (b : Bool) → IsTold points l u reqs b → b ≡ false → (n : ℕ)
+    (l : LaunchTasks) (u : Requirement P) (reqs : List (Requirement P)) (b : Bool) → SaysWhether points l u reqs b → b ≡ false → (n : ℕ)
     → ¬ AsksAt points l u reqs n
 asks_none points l u reqs b told no_told n h =
     let known : IsKnownAt l u.record u h.0 = subst (λ m. IsKnownAt l m u h.0) (sym h.2.asks) h.2 in
     both_ways b no_told (told.1 (h.1.0, h.0, h.1.1, h.1.2, (known, h.3)))
 
 pub pairs_found : {P : Type 0} (points : P → List ℕ) (l : LaunchTasks) (reqs : List (Requirement P)) (k : ℕ) (u : Requirement P)
-    (o : Option ℕ) (b : Bool) → k < length reqs → u ≡ get_or reqs k u → IsTold points l u reqs b → b ≡ true
+    (o : Option ℕ) (b : Bool) → k < length reqs → u ≡ get_or reqs k u → SaysWhether points l u reqs b → b ≡ true
     → IsLeast (AmongPairs points l (take k reqs) reqs) o
     → IsLeast (AmongPairs points l (take (k + 1) reqs) reqs) (Some (least_with u.record o))
 pairs_found points l reqs k u o b lt is told yes_told h =
@@ -87,7 +87,7 @@ pairs_found points l reqs k u o b lt is told yes_told h =
     (asks_first points l u reqs b told yes_told) h)
 
 pub pairs_passed : {P : Type 0} (points : P → List ℕ) (l : LaunchTasks) (reqs : List (Requirement P)) (k : ℕ) (u : Requirement P)
-    (o : Option ℕ) (b : Bool) → k < length reqs → u ≡ get_or reqs k u → IsTold points l u reqs b → b ≡ false
+    (o : Option ℕ) (b : Bool) → k < length reqs → u ≡ get_or reqs k u → SaysWhether points l u reqs b → b ≡ false
     → IsLeast (AmongPairs points l (take k reqs) reqs) o → IsLeast (AmongPairs points l (take (k + 1) reqs) reqs) o
 pairs_passed points l reqs k u o b lt is told no_told h =
     let more = taken reqs k u lt is in

@@ -7,7 +7,7 @@ use Rattle.spy_grammar.specs.declared.record.Record.TheVariants as records
 use Rattle.semantics.specs.Rules.{is_declared, item_id, task_id, names, is_task}
 use Rattle.semantics.specs.Faults.{records_fault}
 use Rattle.list_lemmas.proofs.lemmas.Contained.{each_more, any_found, any_at, all_at, Contains-nil}
-use Rattle.log_laws.proofs.lemmas.Sane.{Keeps}
+use Rattle.log_laws.proofs.lemmas.Consistent.{Keeps}
 use Rattle.log_laws.proofs.lemmas.Admitted.{by_records, keeps_of}
 use Rattle.launch_laws.proofs.Growth.{item_placed, place_stays}
 

@@ -49,10 +49,10 @@ fault_interfering e l rest none clashes =
 
 fault_past : (e : Expanded) (l : LLined) (rest : List LLined) → single_broken e l.rec ≡ None → interferes_in_launch e l.rec ≡ false
     → launches_fault e (l ∷ rest) ≡ launches_fault (with_launching e l.rec) rest
-fault_past e l rest none calm =
+fault_past e l rest none agreeing =
     fault_by e l rest None
     (rules_or e l.rec ∙ ap (λ (o : Option Code). option_or o (if interferes_in_launch e l.rec then Some codes.LaunchInterference
-    else None)) none ∙ ap (λ b. if b then Some codes.LaunchInterference else None) calm)
+    else None)) none ∙ ap (λ b. if b then Some codes.LaunchInterference else None) agreeing)
 
 -- ---- lines that rise
 
@@ -118,12 +118,12 @@ judged_more log rest l e ns ms w none earlier before None least =
     let nl = launches_by l.rec in
     let nr = writes e l.rec in
     let t = l.line in
-    let calm : interferes_in_launch e l.rec ≡ false = elim (cases_Bool (interferes_in_launch e l.rec)) [
+    let agreeing : interferes_in_launch e l.rec ≡ false = elim (cases_Bool (interferes_in_launch e l.rec)) [
       | inl clashes ↦ absurd (least t (breaks_now e l.rec ns ms nl t w.beside earlier before clashes))
-      | inr calm ↦ calm
+      | inr agreeing ↦ agreeing
     ] in
     w.fault None (λ n b. let lt = before_end ls ws t n before b in least n (breaks_later ls ws nl nr t n (omega (arith, lt)) b))
-    ∙ fault_past e l rest none calm
+    ∙ fault_past e l rest none agreeing
 judged_more log rest l e ns ms w none earlier before (Some n) least =
     let ls = zip ns e.launches in
     let ws = zip ms e.written in

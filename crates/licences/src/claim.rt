@@ -16,7 +16,7 @@ use std::marker::Model;
 
 /// What a requirement asks for, or a privilege allows: these fields of a space in a tree, with a privilege.
 #[derive(Clone, Copy)]
-pub struct Asked<'a> {
+pub struct NumberedReq<'a> {
     /// Its number among others.
     pub number: u32,
     pub tree: u32,
@@ -131,7 +131,7 @@ fn serves_each<P: PointSet + Copy>(one: &Claim<'_, P>, asked: &Claim<'_, P>, fie
 
 impl<'a, P: PointSet + Copy> Claim<'a, P> {
     /// What is asked for at the points of this set, that of its space, or at no point.
-    pub fn new(asked: &Asked<'a>, set: Option<P>) -> Claim<'a, P>
+    pub fn new(asked: &NumberedReq<'a>, set: Option<P>) -> Claim<'a, P>
         requires { IsStrictlyIncreasing asked.now.fields.now }
         ensures { result ≡ claimed asked.now.number asked.now.tree asked.now.space
             (option_map_or P.points set []) asked.now.fields.now asked.now.access }

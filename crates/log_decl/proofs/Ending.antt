@@ -8,7 +8,7 @@ use Rattle.vocabulary.specs.Prelude.{Code, Lined, records_of, Tables, tables_of,
 use Rattle.semantics.specs.Faults.{at_line, header_fault, records_fault}
 use Rattle.log_decl.specs.declared.decl_end.DeclEnd.{DeclEnd}
 use Rattle.log_decl.specs.declared.decl_end.DeclEnd.TheVariants as ends
-use Rattle.log_decl.specs.Walk.{space_broken, spaces_fault, IsWithin, StandsAt}
+use Rattle.log_decl.specs.Walk.{space_broken, spaces_fault, IsWithin, HasWalked}
 use Rattle.log_decl.proofs.FirstFault.{AreWithin, walk_told, tried_told}
 
 -- The records after some of them.
@@ -18,7 +18,7 @@ behind (y ∷ ys) zero x at = (ys, ap (λ z. z ∷ ys) (same_Some y x at))
 behind (y ∷ ys) (suc k) x at = behind ys k x at
 
 -- The first fault, by the records that the walk kept and those after them.
-parted : (log : List Lined) (k : ℕ) (t : Tables) (code : Option Code) → StandsAt log k t code
+parted : (log : List Lined) (k : ℕ) (t : Tables) (code : Option Code) → HasWalked log k t code
     → records_fault (records_of log) [] log ≡ option_or (spaces_fault [] (take k log))
     (records_fault (records_of log) (take k log) (drop k log))
 parted log k t code stands =
@@ -26,13 +26,13 @@ parted log k t code stands =
     ∙ walk_told (records_of log) [] (take k log) (drop k log) stands.kept
 
 -- A kept record breaks a rule of the forest.
-pub refused : (log : List Lined) (k : ℕ) (t : Tables) (code : Option Code) (f : Fault) → StandsAt log k t code
+pub refused : (log : List Lined) (k : ℕ) (t : Tables) (code : Option Code) (f : Fault) → HasWalked log k t code
     → spaces_fault [] (take k log) ≡ Some f → records_fault (records_of log) [] log ≡ Some f
 refused log k t code f stands e = parted log k t code stands
     ∙ ap (λ o. option_or o (records_fault (records_of log) (take k log) (drop k log))) e
 
 -- None does, and the walk stands at a record that breaks another rule.
-pub stopped : (log : List Lined) (k : ℕ) (t : Tables) (code : Code) (l : Lined) → StandsAt log k t (Some code) → slice_get log k ≡ Some l
+pub stopped : (log : List Lined) (k : ℕ) (t : Tables) (code : Code) (l : Lined) → HasWalked log k t (Some code) → slice_get log k ≡ Some l
     → spaces_fault [] (take k log) ≡ None → records_fault (records_of log) [] log ≡ Some (at_line code l.line)
 stopped log k t code l stands at e =
     let all = records_of log in
@@ -49,7 +49,7 @@ stopped log k t code l stands at e =
     ∙ ap (λ (x : Lined). Some (at_line code x.line)) same
 
 -- None does, and the walk stands at the end.
-pub ended : (log : List Lined) (k : ℕ) (t : Tables) → StandsAt log k t None → spaces_fault [] (take k log) ≡ None
+pub ended : (log : List Lined) (k : ℕ) (t : Tables) → HasWalked log k t None → spaces_fault [] (take k log) ≡ None
     → records_fault (records_of log) [] log ≡ None
 ended log k t stands e =
     parted log k t None stands

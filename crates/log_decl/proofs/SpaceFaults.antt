@@ -69,9 +69,9 @@ sub_count_with t line (Sub part colour space) e = absurd (none-some line (sym e)
 sub_count_with t line _ e = refl
 
 -- A record that declares no subspace breaks no rule of the forest.
-calm : (t : Tables) (line : ℕ) (r : Record) → sub_line line r ≡ None → space_broken t r ≡ None
-calm t line (Sub part colour space) e = absurd (none-some line (sym e))
-calm t line _ e = refl
+unbroken : (t : Tables) (line : ℕ) (r : Record) → sub_line line r ≡ None → space_broken t r ≡ None
+unbroken t line (Sub part colour space) e = absurd (none-some line (sym e))
+unbroken t line _ e = refl
 
 cases_line : (line : ℕ) (r : Record) → (sub_line line r ≡ None) ⊎ ((part : ℕ) × (colour : ℕ) × (space : ℕ) × (r ≡ Sub part colour space))
 cases_line line (Sub part colour space) = inr (part, colour, space, refl)
@@ -151,9 +151,9 @@ count_more earlier line part colour space =
     let e = ap (λ (u : Tables). length u.subs) (tables_by earlier (record { line = line; rec = Sub part colour space } ∷ [])) in
     omega (arith, e, length-append (tables_of earlier).subs (s ∷ []))
 
-calm_step : (earlier : List Lined) (l : Lined) (rest : List Lined) → space_broken (tables_of earlier) l.rec ≡ None
+unbroken_step : (earlier : List Lined) (l : Lined) (rest : List Lined) → space_broken (tables_of earlier) l.rec ≡ None
     → spaces_fault earlier (l ∷ rest) ≡ spaces_fault (earlier ++ l ∷ []) rest
-calm_step earlier l rest e =
+unbroken_step earlier l rest e =
     ap (λ (o : Option Code). option_or (option_map (λ code. at_line code l.line) o) (spaces_fault (earlier ++ l ∷ []) rest)) e
 
 -- No subspace from here on is faulty.
@@ -169,14 +169,14 @@ no_fault log earlier (l ∷ rest) grown keep sound =
     sym (ap tables_of (append_assoc earlier (l ∷ []) rest)) in
     let after = no_fault log (earlier ++ l ∷ []) rest (grown_later log earlier l grown keep.0) keep.1
     (λ i le. subst (λ (u : Tables). ¬ IsFaulty (regions_of u) i) all_same (sound i (omega (arith, le, more)))) in
-    calm_step earlier l rest (here l.line l.rec (cases_line l.line l.rec) keep.0 (sound (length (tables_of earlier).subs) (omega arith)))
+    unbroken_step earlier l rest (here l.line l.rec (cases_line l.line l.rec) keep.0 (sound (length (tables_of earlier).subs) (omega arith)))
     ∙ after
   where
     here : (line : ℕ) (r : Record) → (sub_line line r ≡ None) ⊎ ((part : ℕ) × (colour : ℕ) × (space : ℕ) × (r ≡ Sub part colour space))
         → other_broken log earlier r ≡ None
         → ¬ IsFaulty (regions_of (tables_of (earlier ++ record { line = line; rec = r } ∷ rest))) (length (tables_of earlier).subs)
         → space_broken (tables_of earlier) r ≡ None
-    here line r (inl other) e sound = calm (tables_of earlier) line r other
+    here line r (inl other) e sound = unbroken (tables_of earlier) line r other
     here line r (inr sub) e sound = let is = sub.3 in
         subst (λ (x : Record). space_broken (tables_of earlier) x ≡ None) (sym is)
         (sound_here log earlier rest line sub.0 sub.1 sub.2 grown (subst (λ (x : Record). other_broken log earlier x ≡ None) is e)
@@ -211,7 +211,7 @@ other_case earlier rest i code l le other after sound broken =
       h.0,
       ap (λ (o : Option ℕ). slice_get (cons_option o (sub_lines rest)) (i - n)) other
           ∙ ap (λ m. slice_get (sub_lines rest) (i - m)) (sym same) ∙ h.1,
-      calm_step earlier l rest (calm (tables_of earlier) l.line l.rec other) ∙ h.2,
+      unbroken_step earlier l rest (unbroken (tables_of earlier) l.line l.rec other) ∙ h.2,
     )
 
 sub_case : (log : List Record) (earlier rest : List Lined) (i : ℕ) (code : Code) (line part colour space : ℕ)
@@ -240,7 +240,7 @@ sub_case log earlier rest i code line part colour space grown le e after sound b
           let next : i - n ≡ suc (i - length (tables_of (earlier ++ l ∷ [])).subs) = omega arith in (
             h.0,
             ap (slice_get (line ∷ sub_lines rest)) next ∙ h.1,
-            calm_step earlier l rest (sound_here log earlier rest line part colour space grown e (sound n (omega arith))) ∙ h.2,
+            unbroken_step earlier l rest (sound_here log earlier rest line part colour space grown e (sound n (omega arith))) ∙ h.2,
           )
     ]
 

@@ -17,7 +17,7 @@ use Rattle.semantics.proofs.lemmas.Versions.{flat_before, version_at}
 use Rattle.log_rules.specs.declared.tally.Tally.{Tally}
 use Rattle.log_rules.specs.Tallied.{AreListed, IsTally, MayCount, rects_in}
 use Rattle.log_decl.specs.Sizes.{is_plane_log, opens_plane, plane_rects, rects_of_log}
-use Rattle.log_decl.specs.Walk.{breaks_other, broken_of, other_broken, Keep, IsWithin, StandsAt}
+use Rattle.log_decl.specs.Walk.{breaks_other, broken_of, other_broken, Keep, IsWithin, HasWalked}
 
 pub tables_more : (log : List Lined) (i : ℕ) (t : Tables) (l : Lined) → t ≡ tables_of (take i log) → i < length log → l ≡ get_or log i l
     → with_record t l.line l.rec ≡ tables_of (take (i + 1) log)
@@ -107,9 +107,9 @@ keeps_more log i t l tables keep lt is none =
 pub stands : (log : List Lined) (k i : ℕ) (t : Tables) (code : Code) (l : Lined) → k ≡ i → t ≡ tables_of (take i log)
     → Keep (records_of log) [] (take i log) → IsWithin t (records_of (take i log))
     → i < length log → l ≡ get_or log i l → broken_of (records_of log) (records_of (take i log)) t l.rec ≡ Some code
-    → StandsAt log k t (Some code)
+    → HasWalked log k t (Some code)
 stands log k i t code l at tables keep within lt is e =
-    subst (λ n. StandsAt log n t (Some code)) (sym at) (record {
+    subst (λ n. HasWalked log n t (Some code)) (sym at) (record {
       in_log = omega (arith, lt);
       tables = tables;
       kept = keep;
@@ -144,7 +144,7 @@ plane_at (l ∷ log) (suc i) t e tables planar = sym (said l.line l.rec) ∙ ap 
 pub stands_where : (log : List Lined) (k i : ℕ) (t : Tables) (o : Option Code) (l : Lined) → k ≡ i → t ≡ tables_of (take i log)
     → Keep (records_of log) [] (take i log) → IsWithin t (records_of (take i log))
     → i < length log → l ≡ get_or log i l → is_some o ≡ true → o ≡ broken_of (records_of log) (records_of (take i log)) t l.rec
-    → StandsAt log k t o
+    → HasWalked log k t o
 stands_where log k i t None l at tables keep within lt is some e = absurd (false≢true some)
 stands_where log k i t (Some code) l at tables keep within lt is some e = stands log k i t code l at tables keep within lt is (sym e)
 

@@ -26,11 +26,11 @@ breaks_other r code = not (is_of_forest code) && breaks r code
 
 -- The record that the code is at, after these records.
 abbrev pub seen : {P : Type 0} → AtRecord P → List Record → InLog
-seen at earlier = record { log = at.whole.now; earlier = earlier; tables = at.draft.now; rec = at.rec.now }
+seen at earlier = record { log = at.whole.now; earlier = earlier; tables = at.tables.now; rec = at.rec.now }
 
 -- In a log of the second version the cells are those of the grid of the rectangles up to the record.
 abbrev pub AreCellsAt : {P : Type 0} → AtRecord P → Type 0
-AreCellsAt at = rules.is_planar at.draft.now ≡ true → at.cells ≡ cell_count (at.draft.now.rects ++ rects_in at.rec.now)
+AreCellsAt at = rules.is_planar at.tables.now ≡ true → at.cells ≡ cell_count (at.tables.now.rects ++ rects_in at.rec.now)
 
 -- The tally is that of these records, whose tables these are. In a log of the second version it goes by
 -- rectangles.
@@ -40,13 +40,13 @@ pub record HasTally (earlier : List Record) (t : Tables) (tally : Tally) : Type 
 
 -- A fact of that record, after the earlier ones, where what is known of these is so.
 abbrev pub IfAt : {P : Type 0} → AtRecord P → (InLog → Type 0) → Type 0
-IfAt at P = (earlier : List Record) → HasTally earlier at.draft.now at.tally.now
+IfAt at P = (earlier : List Record) → HasTally earlier at.tables.now at.tally.now
     → earlier ≡ records_of at.earlier.now → AreCellsAt at → P (seen at earlier)
 
 -- The same where besides it is counted at the end of a log of the second version how many cells begin in each
 -- space.
 abbrev pub IfAtEnd : {P : Type 0} → AtRecord P → Option (Bor Corners) → (InLog → Type 0) → Type 0
-IfAtEnd at corners P = AreAtEnd at.draft.now at.rec.now corners → IfAt at P
+IfAtEnd at corners P = AreAtEnd at.tables.now at.rec.now corners → IfAt at P
 
 -- The first of these rules that a record breaks, of its log, the earlier records, and their tables.
 abbrev pub broken_of : List Record → List Record → Tables → Record → Option Code
@@ -79,7 +79,7 @@ IsWithin t earlier = rules.is_planar t ≡ false → access_total t earlier ≤ 
 
 -- The walk has kept `k` records of the log, whose tables these are; with a code it stands at a record that
 -- breaks that rule, and else at the end.
-pub record StandsAt (log : List Lined) (k : ℕ) (t : Tables) (code : Option Code) : Type 0 where
+pub record HasWalked (log : List Lined) (k : ℕ) (t : Tables) (code : Option Code) : Type 0 where
   pub in_log : k ≤ length log
   pub tables : t ≡ tables_of (take k log)
   pub kept : Keep (records_of log) [] (take k log)

@@ -13,7 +13,7 @@ use log_rules::{
     is_not_in_tree, is_of_other_version, is_of_wrong_kind, is_of_wrong_tree, is_run_again,
     is_sub_again, is_too_deep, names_unknown, repeats_event, repeats_id, waits_for_none,
 };
-use log_tables::Draft;
+use log_tables::LogTables;
 use point_set::PointSet;
 use region_tree::{Memory, SetOfRects};
 use spy_grammar::Code::*;
@@ -33,7 +33,7 @@ const RULES: [Code; 28] = [
 #[derive(Clone, Copy)]
 pub(crate) struct AtRecord<'w, 'l, P: PointSet> {
     pub(crate) whole: &'w WholeLog<'l>,
-    pub(crate) draft: &'w Draft<P>,
+    pub(crate) tables: &'w LogTables<P>,
     pub(crate) tally: &'w Tally,
     /// How many cells the grid of the rectangles up to the record has, where the log is of the second version.
     pub(crate) cells: u128,
@@ -53,31 +53,31 @@ fn breaks<P: PointSet>(
 {
     match code {
         TooManyRecords => Ok(is_late(at.earlier.len(), at.rec)),
-        RepeatedId => Ok(repeats_id(at.draft, at.rec)),
-        UnknownId => Ok(names_unknown(at.draft, at.rec)),
-        TooManyPoints => Ok(has_many_points(at.draft, at.tally, at.rec)),
-        TooManyAtoms => Ok(has_many_atoms(at.draft, at.cells, at.rec)),
-        SpaceInTwo => Ok(is_sub_again(at.draft, at.rec)),
-        LateSub => Ok(is_late_sub(at.draft, at.rec)),
-        TooDeep => Ok(is_too_deep(at.draft, at.rec)),
-        NotRoot => Ok(is_no_root(at.draft, at.rec)),
-        NotInTree => Ok(is_not_in_tree(at.draft, at.rec)),
-        Fields => Ok(has_wrong_fields(at.draft, at.rec)),
-        SelfInterference => interferes_with_own(alloc, at.draft, at.tally, at.rec),
-        WrongTree => Ok(is_of_wrong_tree(at.draft, at.rec)),
-        WrongKind => Ok(is_of_wrong_kind(at.draft, at.rec)),
-        NotCovered => Ok(is_not_covered(at.draft, at.tally, at.rec)),
-        MappedTwice => Ok(is_mapped_again(at.draft, at.rec)),
+        RepeatedId => Ok(repeats_id(at.tables, at.rec)),
+        UnknownId => Ok(names_unknown(at.tables, at.rec)),
+        TooManyPoints => Ok(has_many_points(at.tables, at.tally, at.rec)),
+        TooManyAtoms => Ok(has_many_atoms(at.tables, at.cells, at.rec)),
+        SpaceInTwo => Ok(is_sub_again(at.tables, at.rec)),
+        LateSub => Ok(is_late_sub(at.tables, at.rec)),
+        TooDeep => Ok(is_too_deep(at.tables, at.rec)),
+        NotRoot => Ok(is_no_root(at.tables, at.rec)),
+        NotInTree => Ok(is_not_in_tree(at.tables, at.rec)),
+        Fields => Ok(has_wrong_fields(at.tables, at.rec)),
+        SelfInterference => interferes_with_own(alloc, at.tables, at.tally, at.rec),
+        WrongTree => Ok(is_of_wrong_tree(at.tables, at.rec)),
+        WrongKind => Ok(is_of_wrong_kind(at.tables, at.rec)),
+        NotCovered => Ok(is_not_covered(at.tables, at.tally, at.rec)),
+        MappedTwice => Ok(is_mapped_again(at.tables, at.rec)),
         NoRun => Ok(has_no_run(at.whole, at.rec)),
-        TwoRuns => Ok(is_run_again(at.draft, at.rec)),
-        RepeatedEvent => Ok(repeats_event(at.draft, at.rec)),
+        TwoRuns => Ok(is_run_again(at.tables, at.rec)),
+        RepeatedEvent => Ok(repeats_event(at.tables, at.rec)),
         UndefinedEvent => Ok(waits_for_none(at.whole, at.rec)),
-        Serial => Ok(is_bad_serial(alloc, at.whole, at.draft, at.tally, at.rec)?),
-        TooManyCells => Ok(has_many_cells(at.draft, at.tally, corners, at.rec)),
-        TooManyAccesses => Ok(has_many_accesses(at.draft, at.tally, corners, at.earlier, at.rec)),
-        TooMuchLoad => has_much_load(alloc, at.draft, corners, at.rec),
-        Version => Ok(is_of_other_version(at.draft, at.rec)),
-        TooManyReads => Ok(has_many_reads(at.draft, at.rec)),
+        Serial => Ok(is_bad_serial(alloc, at.whole, at.tables, at.tally, at.rec)?),
+        TooManyCells => Ok(has_many_cells(at.tables, at.tally, corners, at.rec)),
+        TooManyAccesses => Ok(has_many_accesses(at.tables, at.tally, corners, at.earlier, at.rec)),
+        TooMuchLoad => has_much_load(alloc, at.tables, corners, at.rec),
+        Version => Ok(is_of_other_version(at.tables, at.rec)),
+        TooManyReads => Ok(has_many_reads(at.tables, at.rec)),
         _ => Ok(false),
     }
 }
@@ -110,8 +110,8 @@ pub(crate) fn first_broken<P: SetOfRects>(
     ensures { IfAt at.now (λ r. IfOk result (λ code. code ≡ find (breaks_other r) record_rules)) }
 {
     match at.rec {
-        Record::End { .. } if at.draft.is_planar() => {
-            let corners = Corners::of(alloc, at.draft)?;
+        Record::End { .. } if at.tables.is_planar() => {
+            let corners = Corners::of(alloc, at.tables)?;
             first_of(alloc, at, Some(&corners))
         }
         _ => first_of(alloc, at, None),

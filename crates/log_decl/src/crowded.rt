@@ -5,13 +5,13 @@ ghost use Rattle.vocabulary.specs.Prelude.{Good, Lined, records_of};
 ghost use Rattle.semantics.specs.Faults.{declaration_fault, header_fault, records_fault};
 ghost use Rattle.semantics.specs.declared.limits.TheConstants.{MOST_BYTES};
 ghost use Rattle.log_tables.specs.Views.{Ascends};
-ghost use Rattle.crowded_logs.specs.Crowded.{IsToldBy};
+ghost use Rattle.crowded_logs.specs.Crowded.{IsKeptAs};
 
 use crate::decl_end::DeclEnd;
 use crate::declaring::grow;
 use bumpalo::Bump;
 use crowded_logs::Frame;
-use log_tables::Draft;
+use log_tables::LogTables;
 use point_set::RectSet;
 use region_tree::{ArenaRects, Memory};
 use semantics::Fault;
@@ -29,10 +29,10 @@ fn records_fault<'a, P: ArenaRects<'a>>(
     requires header { header_fault 0 records.now ≡ None }
     ensures { IfOk result (λ fault. fault ≡ records_fault (records_of records.now) [] records.now) }
 {
-    let mut draft: Draft<P> = Draft::new(alloc);
-    let end = grow(&mut draft, alloc, bump, records);
+    let mut tables: LogTables<P> = LogTables::new(alloc);
+    let end = grow(&mut tables, alloc, bump, records);
     // Dropped by a call, so that its many fields are no steps of this proof.
-    drop(draft);
+    drop(tables);
     match end {
         Ok(()) => Ok(None),
         Err(DeclEnd::Fault { line, code }) => Ok(Some(Fault { line, code })),
@@ -61,8 +61,8 @@ pub fn crowded_fault(
     requires good { All (λ l. Good l.rec) kept.now }
     requires few_kept { length kept.now ≤ MOST_BYTES }
     requires few_lines { lines ≤ MOST_BYTES }
-    requires log { (log : List Lined) × IsToldBy log kept.now frame }
-    ensures { IfOk result (λ fault. (log : List Lined) → IsToldBy log kept.now frame
+    requires log { (log : List Lined) × IsKeptAs log kept.now frame }
+    ensures { IfOk result (λ fault. (log : List Lined) → IsKeptAs log kept.now frame
         → declaration_fault lines log ≡ Some fault) }
 {
     if let Some(fault) = frame.fault(lines) {

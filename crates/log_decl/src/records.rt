@@ -31,7 +31,7 @@ pub fn declare<'a, P: ArenaRects<'a>>(
         → declaration_fault lines records.now.items ≡ Some (at_line code line) }
 {
     match declarations(alloc, bump, records, lines) {
-        Ok(draft) => match Log::of(alloc, bump, draft) {
+        Ok(tables) => match Log::of(alloc, bump, tables) {
             Ok(log) => Ok(log),
             Err(_) => Err(DeclEnd::Memory),
         },

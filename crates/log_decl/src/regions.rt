@@ -9,7 +9,7 @@ ghost use Rattle.log_decl.specs.SubLines.{sub_line, sub_lines};
 ghost use Rattle.log_decl.specs.Walk.{Keep, spaces_fault};
 
 use crate::decl_end::DeclEnd;
-use log_tables::Draft;
+use log_tables::LogTables;
 use region_tree::{Forest, ForestFault, SetOfRects};
 use spy_grammar::{Code, Lined, Record};
 use std::alloc::Global;
@@ -45,16 +45,16 @@ fn line_of_sub(records: &[Lined], sub: usize) -> u32
 /// Judges the forest that some records declare: the fault of the first of them that breaks a rule of it.
 pub(crate) fn judge_forest<P: SetOfRects>(
     alloc: Global,
-    draft: &Draft<P>,
+    tables: &LogTables<P>,
     records: &[Lined],
 ) -> Result<(), DeclEnd>
-    requires tables { draft.now ≡ tables_of records.now }
+    requires tables { tables.now ≡ tables_of records.now }
     requires keep { (log : List Record) × Keep log [] records.now }
-    ensures sound { OnOk result (IsSound (regions_of draft.now)) }
+    ensures sound { OnOk result (IsSound (regions_of tables.now)) }
     ensures faultless { OnOk result (spaces_fault [] records.now ≡ None) }
     ensures fault { IsFaultOf result (spaces_fault [] records.now) }
 {
-    match Forest::judge(alloc, draft.regions()) {
+    match Forest::judge(alloc, tables.regions()) {
         Ok(_) => Ok(()),
         Err(ForestFault::NotWithin { sub, .. }) => Err(DeclEnd::Fault {
             line: line_of_sub(records, sub),

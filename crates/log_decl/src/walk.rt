@@ -6,14 +6,14 @@ ghost use Rattle.log_tables.specs.Views.{Ascends};
 ghost use Rattle.log_rules.specs.Tallied.{IsTally};
 ghost use Rattle.vocabulary.specs.Prelude.{records_of, no_tables};
 ghost use Rattle.log_decl.specs.Sizes.{plane_rects};
-ghost use Rattle.log_decl.specs.Walk.{StandsAt};
+ghost use Rattle.log_decl.specs.Walk.{HasWalked};
 
 use crate::broken::{AtRecord, first_broken};
 use crate::sizes::{cells_with, is_plane_log};
 use bumpalo::Bump;
 use cell_counts::GridSize;
 use log_rules::{Tally, WholeLog};
-use log_tables::Draft;
+use log_tables::LogTables;
 use region_tree::{ArenaRects, Memory};
 use spy_grammar::{Code, Lined};
 use std::alloc::Global;
@@ -25,32 +25,32 @@ pub(crate) struct Walked {
     pub(crate) code: Option<Code>,
 }
 
-/// Adds the records up to the first that breaks a rule to a draft in which nothing is declared. The first of them is the header, and no other is one. (How many lines there are says where a fault is, and not whether there is one.)
+/// Adds the records up to the first that breaks a rule to tables in which nothing is declared. The first of them is the header, and no other is one. (How many lines there are says where a fault is, and not whether there is one.)
 pub(crate) fn walk<'a, P: ArenaRects<'a>>(
-    draft: &mut Draft<P>,
+    tables: &mut LogTables<P>,
     mut tally: Tally,
     alloc: Global,
     bump: &'a Bump,
     whole: &WholeLog,
     records: &[Lined],
 ) -> Result<Walked, Memory>
-    requires none { draft.old ≡ no_tables }
+    requires none { tables.old ≡ no_tables }
     requires tally { IsTally (plane_rects records.now) [] no_tables tally }
     requires whole { whole.now ≡ records_of records.now }
     requires ascends { All (λ l. Ascends l.rec) records.now }
     requires few { length records.now < 2 ^ 32 - 1 }
     requires header { header_fault 0 records.now ≡ None }
-    ensures { IfOk result (λ w. StandsAt records.now w.kept draft.new w.code) }
+    ensures { IfOk result (λ w. HasWalked records.now w.kept tables.new w.code) }
 {
     let is_plane = is_plane_log(records);
     let mut size = GridSize::new(alloc);
     let mut kept = 0;
     for l in records {
         let cells = cells_with(alloc, is_plane, &mut size, &l.rec)?;
-        tally.remember(draft, &l.rec)?;
+        tally.remember(tables, &l.rec)?;
         let at = AtRecord {
             whole: &*whole,
-            draft: &*draft,
+            tables: &*tables,
             tally: &tally,
             cells,
             earlier: &records[..kept],
@@ -60,8 +60,8 @@ pub(crate) fn walk<'a, P: ArenaRects<'a>>(
         if code.is_some() {
             return Ok(Walked { kept, code });
         }
-        tally = tally.add(alloc, draft, &l.rec)?;
-        draft.add(alloc, bump, l.line, &l.rec)?;
+        tally = tally.add(alloc, tables, &l.rec)?;
+        tables.add(alloc, bump, l.line, &l.rec)?;
         kept += 1;
     }
     Ok(Walked { kept, code: None })

@@ -12,10 +12,10 @@ use Rattle.semantics.specs.Rules.{node_of, completes, runs_task, items_listed, i
 use Rattle.crowded_logs.specs.declared.frame.Frame.{Frame}
 use Rattle.crowded_logs.specs.Crowded.{lists_items, ids_listed, has_unlisted, Answer}
 use Rattle.crowded_logs.specs.Noted.{frame_of, no_frame, with_framed}
-use Rattle.log_input.specs.declared.asked.Asked.{Asked}
+use Rattle.log_input.specs.declared.asked.AskedIds.{AskedIds}
 use Rattle.log_input.specs.declared.answered.Answered.{Answered}
 use Rattle.log_input.specs.declared.crowding.Crowding.{Crowding}
-use Rattle.log_input.specs.Asked.{IsAskedBy, lists_id}
+use Rattle.log_input.specs.AskedIds.{IsAskedBy, lists_id}
 use Rattle.log_input.specs.Answered.{AddsAnswer, IsAnsweredBy, answers_more, done_of, is_open, leaves_out, task_run}
 use Rattle.log_input.specs.Crowding.{IsCrowding}
 use Rattle.log_input.proofs.Gathering.{any_more, records_more}
@@ -92,11 +92,11 @@ all_alike : (p q : ℕ → Bool) (ns : List ℕ) → ((n : ℕ) → p n ≡ q n)
 all_alike p q [] e = refl
 all_alike p q (n ∷ ns) e = rw (e n, all_alike p q ns e) refl
 
-unlisted_by : (first : List Record) (asked : Asked) (r : Record) → IsAskedBy first asked → has_unlisted first r ≡ leaves_out asked r
+unlisted_by : (first : List Record) (asked : AskedIds) (r : Record) → IsAskedBy first asked → has_unlisted first r ≡ leaves_out asked r
 unlisted_by first asked r is =
     ap not (all_alike (is_in (ids_listed first)) (has_id asked.listed) (items_declared r) (λ n. sym (is.listed n ∙ listed_by first n)))
 
-module _ (first later kept : List Record) (asked : Asked) (answered : Answered) (r : Record) (a : Answer first later kept)
+module _ (first later kept : List Record) (asked : AskedIds) (answered : Answered) (r : Record) (a : Answer first later kept)
     (by : IsAskedBy first asked) (is : IsAnsweredBy first kept answered) where
   -- A record that is let go, since it answers nothing more.
   passed : answers_more asked answered r ≡ false → Answer first (later ++ r ∷ []) kept

@@ -7,7 +7,7 @@ use Rattle.vocabulary.specs.Prelude.{Record, Node}
 use Rattle.spy_grammar.specs.declared.record.Record.TheVariants.{Run}
 use Rattle.semantics.specs.Rules.{node_of, completes, runs_task, items_listed, items_declared}
 use Rattle.crowded_logs.specs.Crowded.{lists_items, has_unlisted}
-use Rattle.log_input.specs.declared.asked.Asked.{Asked}
+use Rattle.log_input.specs.declared.asked.AskedIds.{AskedIds}
 use Rattle.log_input.specs.declared.answered.Answered.{Answered}
 
 -- The completion event of a record.
@@ -20,7 +20,7 @@ task_run (Run task done waits) = Some task
 task_run _ = None
 
 -- Whether it declares an item that is not listed.
-abbrev pub leaves_out : Asked → Record → Bool
+abbrev pub leaves_out : AskedIds → Record → Bool
 leaves_out asked r = not (list_all (has_id asked.listed) (items_declared r))
 
 -- Whether an id is asked for and not answered.
@@ -28,7 +28,7 @@ abbrev pub is_open : (ℕ → Bool) → (ℕ → Bool) → Option ℕ → Bool
 is_open asked answered id = option_map_or (λ n. asked n && not (answered n)) id false
 
 -- Whether a record answers something that is asked and not answered yet.
-abbrev pub answers_more : Asked → Answered → Record → Bool
+abbrev pub answers_more : AskedIds → Answered → Record → Bool
 answers_more asked answered r =
     is_open (has_id asked.events) (has_id answered.events) (done_of r)
     || is_open (has_id asked.tasks) (has_id answered.tasks) (task_run r)
@@ -36,7 +36,7 @@ answers_more asked answered r =
     || (leaves_out asked r && not answered.leaves_out)
 
 -- What one record more answers.
-pub record AddsAnswer (asked : Asked) (old new : Answered) (r : Record) : Type 0 where
+pub record AddsAnswer (asked : AskedIds) (old new : Answered) (r : Record) : Type 0 where
   pub events : (n : ℕ) → has_id new.events n ≡ (has_id old.events n || completes n r)
   pub tasks : (n : ℕ) → has_id new.tasks n ≡ (has_id old.tasks n || runs_task n r)
   pub lists : new.lists ≡ (old.lists || lists_items r)

@@ -3,7 +3,7 @@ use Rattle.std.specs.Prelude.{◌≡◌, List, ◌++◌}
 use Rattle.vocabulary.specs.Prelude.{Lined, records_of}
 use Rattle.crowded_logs.specs.Crowded.{Answer}
 use Rattle.crowded_logs.specs.Noted.{frame_of}
-use Rattle.log_input.specs.Asked.{IsAskedBy}
+use Rattle.log_input.specs.AskedIds.{IsAskedBy}
 use Rattle.log_input.specs.Answered.{IsAnsweredBy}
 use Rattle.log_input.specs.declared.crowding.Crowding.{Crowding}
 

@@ -2,7 +2,7 @@
 use Rattle.std.specs.Prelude.{ℕ, ◌≤◌, All, List, length}
 use Rattle.vocabulary.specs.Prelude.{Good, AreLines, Lined}
 use Rattle.semantics.specs.declared.limits.TheConstants.{MOST_BYTES}
-use Rattle.crowded_logs.specs.Crowded.{IsToldBy}
+use Rattle.crowded_logs.specs.Crowded.{IsKeptAs}
 use Rattle.log_reading.specs.Spelled.{Spells}
 use Rattle.log_reading.specs.declared.reading.Input.{Input}
 use Rattle.log_input.specs.declared.input.CrowdedInput.{CrowdedInput}
@@ -19,7 +19,7 @@ pub record SpellsWhole (bytes : List ℕ) (input : Input Lined) : Type 0 where
 pub record SpellsCrowded (bytes : List ℕ) (input : CrowdedInput) : Type 0 where
   pub log : List Lined
   pub spelled : Spells bytes input.lines log
-  pub told : IsToldBy log input.kept.items input.frame
+  pub told : IsKeptAs log input.kept.items input.frame
   pub good : All (λ (l : Lined). Good l.rec) input.kept.items
   pub few_kept : length input.kept.items ≤ MOST_BYTES
   pub few_lines : input.lines ≤ MOST_BYTES

@@ -1,4 +1,4 @@
-pub mod Asked
+pub mod AskedIds
 pub mod Answered
 pub mod Crowding
 pub mod Lines

@@ -6,7 +6,7 @@ ghost use Rattle.id_maps.specs.Sets.{has_id};
 ghost use Rattle.semantics.specs.Rules.{items_listed};
 ghost use Rattle.log_input.specs.Answered.{AddsAnswer, IsAnsweredBy, answers_more, done_of, is_open, leaves_out, task_run};
 
-use crate::asked::Asked;
+use crate::asked::AskedIds;
 use id_maps::IdSet;
 use spy_grammar::Record;
 use std::alloc::{AllocError, Global};
@@ -56,7 +56,7 @@ fn lists_items(rec: &Record) -> bool
 }
 
 /// Whether a record declares an item that is not listed.
-fn leaves_out(asked: &Asked, rec: &Record) -> bool
+fn leaves_out(asked: &AskedIds, rec: &Record) -> bool
     ensures { result ≡ leaves_out asked.now rec.now }
 {
     match rec {
@@ -102,7 +102,7 @@ impl Answered {
     }
 
     /// With what one record more answers.
-    pub(crate) fn add(&mut self, asked: &Asked, rec: &Record) -> Result<(), AllocError>
+    pub(crate) fn add(&mut self, asked: &AskedIds, rec: &Record) -> Result<(), AllocError>
         ensures { OnOk result (AddsAnswer asked.now self.old self.new rec.now) }
     {
         put(&mut self.events, done_of(rec))?;
@@ -113,7 +113,7 @@ impl Answered {
     }
 
     /// Whether a record answers something that is asked and not answered yet.
-    pub(crate) fn lacks(&self, asked: &Asked, rec: &Record) -> bool
+    pub(crate) fn lacks(&self, asked: &AskedIds, rec: &Record) -> bool
         ensures { result ≡ answers_more asked.now self.now rec.now }
     {
         is_open(&asked.events, &self.events, done_of(rec))

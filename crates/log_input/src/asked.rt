@@ -3,7 +3,7 @@
 ghost use Rattle.std.specs.Prelude.{◌≡◌, ◌||◌, ℕ, false, IfOk, OnOk};
 ghost use Rattle.id_maps.specs.Sets.{has_id};
 ghost use Rattle.vocabulary.specs.Prelude.{is_in, records_of};
-ghost use Rattle.log_input.specs.Asked.{AsksMore, IsAskedBy, waits_of};
+ghost use Rattle.log_input.specs.AskedIds.{AsksMore, IsAskedBy, waits_of};
 
 use id_maps::IdSet;
 use spy_grammar::{Lined, Record};
@@ -11,7 +11,7 @@ use std::alloc::{AllocError, Global};
 
 /// What some records ask of the log as a whole: whether these events are completed, and these tasks run, and whether these items are all that there are.
 #[derive(Drop)]
-pub(crate) struct Asked {
+pub(crate) struct AskedIds {
     pub(crate) events: IdSet,
     pub(crate) tasks: IdSet,
     pub(crate) listed: IdSet,
@@ -42,14 +42,14 @@ fn put_all(set: &mut IdSet, ids: &[u32]) -> Result<(), AllocError>
     Ok(())
 }
 
-impl Asked {
+impl AskedIds {
     /// Nothing is asked.
-    fn new(alloc: Global) -> Asked
+    fn new(alloc: Global) -> AskedIds
         ensures events { (n : ℕ) → has_id result.events n ≡ false }
         ensures tasks { (n : ℕ) → has_id result.tasks n ≡ false }
         ensures listed { (n : ℕ) → has_id result.listed n ≡ false }
     {
-        Asked {
+        AskedIds {
             events: IdSet::new(alloc),
             tasks: IdSet::new(alloc),
             listed: IdSet::new(alloc),
@@ -71,10 +71,10 @@ impl Asked {
     }
 
     /// What some records ask.
-    pub(crate) fn by(alloc: Global, log: &[Lined]) -> Result<Asked, AllocError>
+    pub(crate) fn by(alloc: Global, log: &[Lined]) -> Result<AskedIds, AllocError>
         ensures { IfOk result (IsAskedBy (records_of log.now)) }
     {
-        let mut asked = Asked::new(alloc);
+        let mut asked = AskedIds::new(alloc);
         for l in log {
             asked.add(&l.rec)?;
         }

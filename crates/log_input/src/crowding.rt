@@ -5,7 +5,7 @@ ghost use Rattle.vocabulary.specs.Prelude.{Good, Lined};
 ghost use Rattle.log_input.specs.Crowding.{IsCrowding};
 
 use crate::answered::Answered;
-use crate::asked::Asked;
+use crate::asked::AskedIds;
 use crowded_logs::Frame;
 use spy_grammar::Lined;
 use std::alloc::{AllocError, Global};
@@ -15,7 +15,7 @@ use std::alloc::{AllocError, Global};
 pub(crate) struct Crowding {
     pub(crate) kept: Vec<Lined>,
     pub(crate) frame: Frame,
-    pub(crate) asked: Asked,
+    pub(crate) asked: AskedIds,
     pub(crate) answered: Answered,
 }
 
@@ -27,7 +27,7 @@ impl Crowding {
         ensures crowding { IfOk result (IsCrowding first.items []) }
         ensures count { IfOk result (λ c. c.frame.count ≡ length first.items) }
     {
-        let asked = Asked::by(alloc, &first)?;
+        let asked = AskedIds::by(alloc, &first)?;
         let frame = Frame::of(&first);
         Ok(Crowding {
             kept: first,

@@ -1,7 +1,7 @@
 -- Without a race all interleavings agree in what cells hold and in what steps read of it.
 use mathlib.Core.Path.{fun_ext}
 use Rattle.std.proofs.Common.{◌≡◌, List, Option, [], ◌∷◌, inl, inr, refl, ap, ◌∙◌, sym}
-use Rattle.vocabulary.specs.Prelude.{Value, Cell, Tables, Step, State, effect, executed, sees, ReadsIn, IsInterleaving, IsTidy, IsRaceFree}
+use Rattle.vocabulary.specs.Prelude.{Value, Cell, Tables, Step, State, effect, executed, sees, ReadsIn, IsInterleaving, NodesConflictByReads, IsRaceFree}
 use Rattle.log_laws.proofs.lemmas.Swap.{swapped_state, swapped_sight}
 use Rattle.log_laws.proofs.lemmas.Turns as turns
 
@@ -29,10 +29,10 @@ of_seen [] s e v r = r
 of_seen (x ∷ xs) s e v (inl r) = inl r
 of_seen (x ∷ xs) s e v (inr r) = inr (of_seen xs (effect x.move s) e v r)
 
-pub all_agree : (t : Tables) → IsTidy t → IsRaceFree t → (xs ys : List Step) → IsInterleaving t xs → IsInterleaving t ys → Agrees xs ys
-all_agree t tidy free xs ys a b =
-    let both = turns.all_agree State Value after seen (λ x y calm s. fun_ext (swapped_state x.move y.move calm s))
-    (λ x y calm s. swapped_sight x.move y.move calm s) t tidy free xs ys a b in
+pub all_agree : (t : Tables) → NodesConflictByReads t → IsRaceFree t → (xs ys : List Step) → IsInterleaving t xs → IsInterleaving t ys → Agrees xs ys
+all_agree t by_reads free xs ys a b =
+    let both = turns.all_agree State Value after seen (λ x y independent s. fun_ext (swapped_state x.move y.move independent s))
+    (λ x y independent s. swapped_sight x.move y.move independent s) t by_reads free xs ys a b in
     record {
       state = λ s cell. ap (λ (state : State). state cell) (sym (reached_is xs s) ∙ both.state s ∙ reached_is ys s);
       reads = λ s e v r. of_seen xs s e v (both.sights s e v (to_seen ys s e v r));

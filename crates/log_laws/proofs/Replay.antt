@@ -11,7 +11,7 @@ use Rattle.list_lemmas.proofs.lemmas.Firsts.{contains_at, cases_option}
 use Rattle.list_lemmas.proofs.lemmas.Pairs.{Apart, apart_flat, apart_map, AllPairs-append, AllPairs-map, AllPairs-where, AllPairs-flat, AllPairs-nil}
 use Rattle.list_lemmas.proofs.lemmas.Ranges.{numbers_apart, number_in, number_within}
 use Rattle.log_laws.proofs.lemmas.StepLists.{moves_at, steps_at, MayFollow, step_at}
-use Rattle.log_laws.proofs.lemmas.Tidy.{is_of, a_read, no_read}
+use Rattle.log_laws.proofs.lemmas.OwnConflicts.{is_of, a_read, no_read}
 use Rattle.log_laws.proofs.lemmas.Rounds.{once, taken_within, in_turn, not_before_itself, replay, listed}
 use Rattle.log_laws.proofs.lemmas.Cycles.{stuck_in, stuck_cycle}
 

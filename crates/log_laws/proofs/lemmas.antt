@@ -4,10 +4,10 @@ pub mod Apart
 pub mod Drawn
 pub mod Rounds
 pub mod Cycles
-pub mod Sane
+pub mod Consistent
 pub mod Admitted
 pub mod StepLists
-pub mod Tidy
+pub mod OwnConflicts
 pub mod Swap
 pub mod Turns
 pub mod Answers

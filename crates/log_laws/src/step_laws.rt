@@ -2,7 +2,7 @@
 
 ghost use Rattle.std.specs.Prelude.{◌≡◌, ◌≢◌, ℕ, None, List, ◌∷◌, ◌++◌, AllPairs};
 ghost use Rattle.std.specs.List.{AllByRecursion};
-ghost use Rattle.vocabulary.specs.Prelude.{Value, Lined, Good, Cell, records_of, Tables, tables_of, AreLinked, graph_of, HasNoCycle, Step, steps, State, effect, executed, sees, ReadsIn, AreUnordered, IsInterleaving, IsRaceFree, IsTidy, replay_steps, Command};
+ghost use Rattle.vocabulary.specs.Prelude.{Value, Lined, Good, Cell, records_of, Tables, tables_of, AreLinked, graph_of, HasNoCycle, Step, steps, State, effect, executed, sees, ReadsIn, AreUnordered, IsInterleaving, IsRaceFree, NodesConflictByReads, replay_steps, Command};
 ghost use Rattle.semantics.specs.declared.command.Command.TheVariants.{Check};
 ghost use Rattle.semantics.specs.Faults.{log_fault};
 
@@ -14,8 +14,8 @@ pub fn faultless_logs_are_linked()
 {}
 
 /// Two steps of one node conflict only where the one is a read and the other is none.
-pub fn faultless_logs_are_tidy()
-    ensures { (lines : ℕ) (log : List Lined) → log_fault Check lines log ≡ None → IsTidy (tables_of log) }
+pub fn faultless_nodes_conflict_by_reads()
+    ensures { (lines : ℕ) (log : List Lined) → log_fault Check lines log ≡ None → NodesConflictByReads (tables_of log) }
 {}
 
 /// Where there is no cycle, the steps in replay order are an interleaving: so there is one.

@@ -11,7 +11,7 @@ ghost use Rattle.log_limits.specs.Corners.{corner_total, corners_of, space_corne
 use arena_sets::SetOfRects;
 use cell_counts::{corner_count, corner_points};
 use grid::Grid;
-use log_tables::{Draft, Keyed, Rows, Space};
+use log_tables::{LogTables, Keyed, Rows, Space};
 use memory::Memory;
 use point_set::PointSet;
 use std::alloc::Global;
@@ -79,11 +79,11 @@ fn counted<P: SetOfRects>(
 
 impl Corners {
     /// How many cells of a log's grid begin in each of its spaces, by a few binary searches for each rectangle.
-    pub fn of<P: SetOfRects>(alloc: Global, draft: &Draft<P>) -> Result<Corners, Memory>
-        ensures { IfOk result (λ c. c ≡ corners_of draft.now) }
+    pub fn of<P: SetOfRects>(alloc: Global, tables: &LogTables<P>) -> Result<Corners, Memory>
+        ensures { IfOk result (λ c. c ≡ corners_of tables.now) }
     {
-        let grid = Grid::build(alloc, draft.rects())?;
-        let rows = counted(alloc, &grid, draft.spaces())?;
+        let grid = Grid::build(alloc, tables.rects())?;
+        let rows = counted(alloc, &grid, tables.spaces())?;
         Ok(Corners { grid, rows })
     }
 

@@ -9,7 +9,7 @@ use Rattle.vocabulary.specs.Prelude.{Priv, agree, Req, Record, Tables, place_of,
 use Rattle.spy_grammar.specs.declared.record.Record.TheVariants as records
 use Rattle.log_rules.specs.declared.claims.OwnPlace.{OwnPlace}
 use Rattle.log_rules.specs.declared.claims.Claims.{Claims}
-use Rattle.log_rules.specs.declared.claims.Asked.{Asked}
+use Rattle.log_rules.specs.declared.claims.ItemReq.{ItemReq}
 
 -- Whether a requirement of this item, tree, points, fields and privilege is at a place and does not agree
 -- with a privilege there.
@@ -31,7 +31,7 @@ clashes_own t item tree space fields access =
     list_any (clashes_with t item tree (points_in t space) fields access) t.reqs
 
 -- The same of what is asked for.
-abbrev pub clashes_asked : Tables → Asked → Bool
+abbrev pub clashes_asked : Tables → ItemReq → Bool
 clashes_asked t asked = clashes_own t asked.item asked.tree asked.space asked.fields.now asked.access
 
 -- The requirements of each item are found by their numbers, from 1 on.

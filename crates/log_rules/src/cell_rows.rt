@@ -14,7 +14,7 @@ ghost use Rattle.log_rules.specs.Tallied.{rects_in};
 use crate::claim_points::{ClaimPoints, rects_declared};
 use cell_bits::CellBits;
 use grid::Grid;
-use log_tables::Draft;
+use log_tables::LogTables;
 use point_set::PointSet;
 use spy_grammar::Record;
 use std::alloc::{AllocError, Global};
@@ -59,12 +59,12 @@ fn bits_declared(
 fn bits_noted<P: PointSet>(
     alloc: Global,
     places: &ClaimPoints,
-    draft: &Draft<P>,
+    tables: &LogTables<P>,
     rec: &Record,
 ) -> Result<Option<(u32, CellBits)>, AllocError>
     requires { Ascends rec.now }
     ensures { IfOk result (λ found. (all : Option (List Rect)) → places.now.grid ≡ option_map grid_of all
-        → MatchOption found ⊤ (λ f. IsNewRow all draft.now rec.now f.0 f.1)) }
+        → MatchOption found ⊤ (λ f. IsNewRow all tables.now rec.now f.0 f.1)) }
 {
     match &places.grid {
         Some(grid) => bits_declared(alloc, grid, rec),
@@ -87,18 +87,18 @@ impl CellRows {
         &mut self,
         alloc: Global,
         places: &ClaimPoints,
-        draft: &Draft<P>,
+        tables: &LogTables<P>,
         rec: &Record,
     ) -> Result<(), AllocError>
         requires { Ascends rec.now }
         ensures { OnOk result ((all : Option (List Rect)) (line : ℕ)
-            → places.now.grid ≡ option_map grid_of all → HasRows all draft.now self.old
-            → HasRows all (with_record draft.now line rec.now) self.new) }
+            → places.now.grid ≡ option_map grid_of all → HasRows all tables.now self.old
+            → HasRows all (with_record tables.now line rec.now) self.new) }
     {
-        let Some((id, bits)) = bits_noted(alloc, places, draft, rec)? else {
+        let Some((id, bits)) = bits_noted(alloc, places, tables, rec)? else {
             return Ok(());
         };
-        if draft.has_space(id) {
+        if tables.has_space(id) {
             return Ok(());
         }
         self.rows.insert(id, bits)?;

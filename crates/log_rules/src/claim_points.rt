@@ -12,7 +12,7 @@ ghost use Rattle.log_rules.specs.Tallied.{rects_in};
 
 use cell_counts::{corner_count, corner_points};
 use grid::Grid;
-use log_tables::{Draft, rects_of, strips_of};
+use log_tables::{LogTables, rects_of, strips_of};
 use memory::Memory;
 use point_set::{PointSet, Rect, points_in};
 use spy_grammar::Record;
@@ -100,11 +100,11 @@ impl ClaimPoints {
     }
 
     /// At how many points of a space places are claimed.
-    fn count<P: PointSet>(&self, draft: &Draft<P>, space: u32) -> u128 {
+    fn count<P: PointSet>(&self, tables: &LogTables<P>, space: u32) -> u128 {
         if self.grid.is_some() {
             return self.counts.get(&space).copied().unwrap_or(0);
         }
-        match draft.set(space) {
+        match tables.set(space) {
             Some(set) => set.count(),
             None => 0,
         }
@@ -119,15 +119,15 @@ impl ClaimPoints {
     }
 
     /// How many places a record claims: a requirement claims some, unless it is the first of its task.
-    pub fn asked<P: PointSet>(&self, draft: &Draft<P>, rec: &Record) -> u128 {
+    pub fn asked<P: PointSet>(&self, tables: &LogTables<P>, rec: &Record) -> u128 {
         match rec {
             Record::Req {
                 task,
                 space,
                 fields,
                 ..
-            } if draft.req_count(draft.place(*task)) != 0 => {
-                self.count(draft, *space)
+            } if tables.req_count(tables.place(*task)) != 0 => {
+                self.count(tables, *space)
                     .saturating_mul(fields.len() as u128)
             }
             _ => 0,
@@ -138,13 +138,13 @@ impl ClaimPoints {
     pub fn points_in<P: PointSet>(
         &self,
         alloc: Global,
-        draft: &Draft<P>,
+        tables: &LogTables<P>,
         space: u32,
     ) -> Result<Vec<u64>, Memory>
         ensures { IfOk result (λ points. (all : Option (List Rect)) → self.now.grid ≡ option_map grid_of all
-            → points.items ≡ claim_points all (points_in draft.now space)) }
+            → points.items ≡ claim_points all (points_in tables.now space)) }
     {
-        let Some(set) = draft.set(space) else {
+        let Some(set) = tables.set(space) else {
             return Ok(Vec::new(alloc));
         };
         match &self.grid {

@@ -22,7 +22,7 @@ pub(crate) struct OwnPlace {
 
 /// What a requirement asks for: these fields of a space in a tree, for an item, with a privilege.
 #[derive(Clone, Copy)]
-pub(crate) struct Asked<'a> {
+pub(crate) struct ItemReq<'a> {
     pub item: usize,
     pub tree: u32,
     pub space: u32,
@@ -75,7 +75,7 @@ impl Claims {
     }
 
     /// Whether what is asked for clashes at a point.
-    fn clashes_at_point(&self, point: u64, asked: &Asked<'_>) -> bool
+    fn clashes_at_point(&self, point: u64, asked: &ItemReq<'_>) -> bool
         ensures { result ≡ clashes_row self.now asked.now.item asked.now.tree asked.now.fields.now
             asked.now.access point }
     {
@@ -93,7 +93,7 @@ impl Claims {
     }
 
     /// Whether what is asked for clashes at some of these points of its space.
-    pub fn clashes_any(&self, points: &[u64], asked: &Asked<'_>) -> bool
+    pub fn clashes_any(&self, points: &[u64], asked: &ItemReq<'_>) -> bool
         ensures { result ≡ list_any (clashes_row self.now asked.now.item asked.now.tree asked.now.fields.now
             asked.now.access) points.now }
     {
@@ -113,7 +113,7 @@ impl Claims {
     }
 
     /// One requirement more at a point.
-    fn claim_at_point(&mut self, point: u64, asked: &Asked<'_>) -> Result<(), AllocError>
+    fn claim_at_point(&mut self, point: u64, asked: &ItemReq<'_>) -> Result<(), AllocError>
         ensures { OnOk result (Adds self.old self.new (claims_at asked.now.item asked.now.tree
             (point ∷ []) asked.now.fields.now asked.now.access)) }
     {
@@ -130,7 +130,7 @@ impl Claims {
     }
 
     /// One requirement more at these points of its space.
-    pub fn claim_all(&mut self, points: &[u64], asked: &Asked<'_>) -> Result<(), AllocError>
+    pub fn claim_all(&mut self, points: &[u64], asked: &ItemReq<'_>) -> Result<(), AllocError>
         ensures { OnOk result (Adds self.old self.new (claims_at asked.now.item asked.now.tree
             points.now asked.now.fields.now asked.now.access)) }
     {

@@ -9,7 +9,7 @@ ghost use Rattle.log_limits.specs.Sums.{cut};
 ghost use Rattle.log_rules.specs.Counts.{points_asked, cells_asked, reads_of, size_asked};
 
 use log_limits::{asked, exceeds, raised};
-use log_tables::Draft;
+use log_tables::LogTables;
 use point_set::PointSet;
 use privilege::Priv;
 use semantics::{MOST_READS, MOST_RECORDS, Req};
@@ -77,62 +77,62 @@ pub(crate) fn points_asked(rec: &Record) -> u128
 }
 
 /// How many points and fields there are together.
-fn size_of<P: PointSet>(draft: &Draft<P>, space: u32, fields: &Nums) -> u128
-    ensures { result ≡ cut (size_of draft.now space fields.now) }
+fn size_of<P: PointSet>(tables: &LogTables<P>, space: u32, fields: &Nums) -> u128
+    ensures { result ≡ cut (size_of tables.now space fields.now) }
 {
-    match draft.set(space) {
+    match tables.set(space) {
         Some(set) => set.count().saturating_mul(fields.len() as u128),
         None => 0,
     }
 }
 
 /// How many points and fields together the instance has that a record declares.
-pub(crate) fn cells_asked<P: PointSet>(draft: &Draft<P>, rec: &Record) -> u128
-    ensures { result ≡ cut (cells_asked draft.now rec.now) }
+pub(crate) fn cells_asked<P: PointSet>(tables: &LogTables<P>, rec: &Record) -> u128
+    ensures { result ≡ cut (cells_asked tables.now rec.now) }
 {
     match rec {
-        Record::Inst { space, fields, .. } => size_of(draft, *space, fields),
+        Record::Inst { space, fields, .. } => size_of(tables, *space, fields),
         _ => 0,
     }
 }
 
 /// How many points and fields together the accesses have for which a record asks.
-pub(crate) fn size_asked<P: PointSet>(draft: &Draft<P>, rec: &Record) -> u128
-    ensures { result ≡ cut (size_asked draft.now rec.now) }
+pub(crate) fn size_asked<P: PointSet>(tables: &LogTables<P>, rec: &Record) -> u128
+    ensures { result ≡ cut (size_asked tables.now rec.now) }
 {
     match asked(rec) {
-        Some((space, fields)) => size_of(draft, space, fields),
+        Some((space, fields)) => size_of(tables, space, fields),
         None => 0,
     }
 }
 
 /// How many reads a requirement asks for.
-fn reads_of<P: PointSet>(draft: &Draft<P>, req: &Req) -> u128
-    ensures { result ≡ cut (reads_of draft.now req.now) }
+fn reads_of<P: PointSet>(tables: &LogTables<P>, req: &Req) -> u128
+    ensures { result ≡ cut (reads_of tables.now req.now) }
 {
     match req.access {
-        Priv::Ro | Priv::Rw => size_of(draft, req.space, &req.fields),
+        Priv::Ro | Priv::Rw => size_of(tables, req.space, &req.fields),
         Priv::Wd | Priv::Red(_) => 0,
     }
 }
 
 /// How many reads the tasks of a log have.
-fn read_count<P: PointSet>(draft: &Draft<P>) -> u128
-    ensures { result ≡ cut (read_count draft.now) }
+fn read_count<P: PointSet>(tables: &LogTables<P>) -> u128
+    ensures { result ≡ cut (read_count tables.now) }
 {
     let mut count = 0u128;
-    for req in draft.reqs() {
-        count = raised(count, reads_of(draft, req));
+    for req in tables.reqs() {
+        count = raised(count, reads_of(tables, req));
     }
     count
 }
 
 /// Whether a record ends a log whose tasks have too many reads together.
-pub fn has_many_reads<P: PointSet>(draft: &Draft<P>, rec: &Record) -> bool
-    ensures { result ≡ has_many_reads draft.now rec.now }
+pub fn has_many_reads<P: PointSet>(tables: &LogTables<P>, rec: &Record) -> bool
+    ensures { result ≡ has_many_reads tables.now rec.now }
 {
     match rec {
-        Record::End { .. } => exceeds(0, read_count(draft), MOST_READS),
+        Record::End { .. } => exceeds(0, read_count(tables), MOST_READS),
         _ => false,
     }
 }

@@ -4,26 +4,26 @@ ghost use Rattle.std.specs.Prelude.{◌≡◌};
 ghost use Rattle.semantics.specs.Rules.{is_run_again, repeats_event};
 
 use crate::whole_log::done_of;
-use log_tables::Draft;
+use log_tables::LogTables;
 use point_set::PointSet;
 use spy_grammar::Record;
 
 /// Whether a record runs a task that is run already.
-pub fn is_run_again<P: PointSet>(draft: &Draft<P>, rec: &Record) -> bool
-    ensures { result ≡ is_run_again draft.now rec.now }
+pub fn is_run_again<P: PointSet>(tables: &LogTables<P>, rec: &Record) -> bool
+    ensures { result ≡ is_run_again tables.now rec.now }
 {
     match rec {
-        Record::Run { task, .. } => draft.is_run(draft.place(*task)),
+        Record::Run { task, .. } => tables.is_run(tables.place(*task)),
         _ => false,
     }
 }
 
 /// Whether a record completes an event that an earlier record completes.
-pub fn repeats_event<P: PointSet>(draft: &Draft<P>, rec: &Record) -> bool
-    ensures { result ≡ repeats_event draft.now rec.now }
+pub fn repeats_event<P: PointSet>(tables: &LogTables<P>, rec: &Record) -> bool
+    ensures { result ≡ repeats_event tables.now rec.now }
 {
     match done_of(rec) {
-        Some(event) => draft.is_done(event),
+        Some(event) => tables.is_done(event),
         None => false,
     }
 }

@@ -1,7 +1,7 @@
 //! The rules that each record of a log has to keep, given what the earlier records declare. Each rule is one small test, named as its definition is.
 //!
 //! Each function answers exactly its definition in `Rules` of `semantics`, over the tables of the earlier
-//! records (`Draft` of `log_tables`). What a rule asks of the whole log is gathered once before
+//! records (`LogTables` of `log_tables`). What a rule asks of the whole log is gathered once before
 //! (`WholeLog`), and what a rule counts is kept along the way (`Tally`). The order of the rules, and which
 //! fault is shown, are for `log_decl`. Begin with any rule, `names.rt` say.
 #![tactic(auto)]

@@ -9,7 +9,7 @@ ghost use Rattle.log_rules.specs.Loads.{AreLoads, CountsAt, CountsBy, counts_at,
 ghost use Rattle.log_rules.specs.Tallied.{AreAtEnd};
 
 use log_limits::{Corners, exceeds, raised};
-use log_tables::Draft;
+use log_tables::LogTables;
 use memory::Memory;
 use point_set::{PointList, PointSet, points_in};
 use privilege::Priv;
@@ -21,7 +21,7 @@ use std::collections::HashMap;
 /// What a log declares, and, where it is of the second version, at which points cells of its grid begin: these alone are counted then.
 #[derive(Clone, Copy)]
 struct Counted<'w, P: PointSet> {
-    draft: &'w Draft<P>,
+    tables: &'w LogTables<P>,
     corners: Option<&'w Corners>,
 }
 
@@ -117,11 +117,11 @@ impl Loads {
         req: &Req,
     ) -> Result<(), Memory>
         requires { IsStrictlyIncreasing req.now.fields }
-        ensures { OnOk result (CountsBy log.now.draft.now log.now.corners
-            → CountsAt self.old self.new (is_held req.now.tree (points_counted log.now.draft.now req.now.space)
+        ensures { OnOk result (CountsBy log.now.tables.now log.now.corners
+            → CountsAt self.old self.new (is_held req.now.tree (points_counted log.now.tables.now req.now.space)
             req.now.fields)) }
     {
-        let Some(set) = log.draft.set(req.space) else {
+        let Some(set) = log.tables.set(req.space) else {
             return Ok(());
         };
         match log.corners {
@@ -142,8 +142,8 @@ impl Loads {
         req: &Req,
     ) -> Result<(), Memory>
         requires { IsStrictlyIncreasing req.now.fields }
-        ensures { OnOk result (CountsBy log.now.draft.now log.now.corners
-            → CountsAt self.old self.new (λ k. reduces req.now.access && counts_at log.now.draft.now k req.now)) }
+        ensures { OnOk result (CountsBy log.now.tables.now log.now.corners
+            → CountsAt self.old self.new (λ k. reduces req.now.access && counts_at log.now.tables.now k req.now)) }
     {
         if reduces(req.access) {
             self.add_space(alloc, log, req)
@@ -154,11 +154,11 @@ impl Loads {
 
     /// How many requirements of a log reduce at each place whose point is counted.
     fn of<P: PointSet>(alloc: Global, log: &Counted<'_, P>) -> Result<Loads, Memory>
-        ensures { IfOk result (λ loads. CountsBy log.now.draft.now log.now.corners
-            → AreLoads log.now.draft.now loads log.now.draft.now.reqs) }
+        ensures { IfOk result (λ loads. CountsBy log.now.tables.now log.now.corners
+            → AreLoads log.now.tables.now loads log.now.tables.now.reqs) }
     {
         let mut loads = Loads::new(alloc);
-        for req in log.draft.reqs() {
+        for req in log.tables.reqs() {
             loads.add_req(alloc, log, req)?;
         }
         Ok(loads)
@@ -208,10 +208,10 @@ impl Loads {
         log: &Counted<'_, P>,
         inst: &Inst,
     ) -> Result<u128, Memory>
-        ensures { IfOk result (λ load. CountsBy log.now.draft.now log.now.corners
-            → load ≡ cut (inst_load (load_in self.now) log.now.draft.now inst.now)) }
+        ensures { IfOk result (λ load. CountsBy log.now.tables.now log.now.corners
+            → load ≡ cut (inst_load (load_in self.now) log.now.tables.now inst.now)) }
     {
-        let Some(set) = log.draft.set(inst.space) else {
+        let Some(set) = log.tables.set(inst.space) else {
             return Ok(0);
         };
         match log.corners {
@@ -225,11 +225,11 @@ impl Loads {
 
     /// The load of all instances.
     fn of_insts<P: PointSet>(&self, alloc: Global, log: &Counted<'_, P>) -> Result<u128, Memory>
-        ensures { IfOk result (λ load. CountsBy log.now.draft.now log.now.corners
-            → load ≡ cut (sum_by (inst_load (load_in self.now) log.now.draft.now) log.now.draft.now.insts)) }
+        ensures { IfOk result (λ load. CountsBy log.now.tables.now log.now.corners
+            → load ≡ cut (sum_by (inst_load (load_in self.now) log.now.tables.now) log.now.tables.now.insts)) }
     {
         let mut load = 0u128;
-        for inst in log.draft.insts() {
+        for inst in log.tables.insts() {
             load = raised(load, self.of_inst(alloc, log, inst)?);
         }
         Ok(load)
@@ -239,16 +239,16 @@ impl Loads {
 /// Whether a record ends a log whose instances have too much load together.
 pub fn has_much_load<P: PointSet>(
     alloc: Global,
-    draft: &Draft<P>,
+    tables: &LogTables<P>,
     corners: Option<&Corners>,
     rec: &Record,
 ) -> Result<bool, Memory>
-    ensures { IfOk result (λ much. AreAtEnd draft.now rec.now corners.entry
-        → much ≡ has_much_load draft.now rec.now) }
+    ensures { IfOk result (λ much. AreAtEnd tables.now rec.now corners.entry
+        → much ≡ has_much_load tables.now rec.now) }
 {
     match rec {
         Record::End { .. } => {
-            let log = Counted { draft, corners };
+            let log = Counted { tables, corners };
             let loads = Loads::of(alloc, &log)?;
             let load = loads.of_insts(alloc, &log)?;
             Ok(exceeds(0, load, MOST_LOAD))

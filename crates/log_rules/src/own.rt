@@ -12,10 +12,10 @@ ghost use Rattle.log_tables.specs.Views.{Ascends};
 ghost use Rattle.log_rules.specs.Own.{AreNumbered, claim_points, clashes_with, clashes_asked, first_clashes, clashes_row};
 ghost use Rattle.log_rules.specs.Tallied.{AreKept, IfKept, IfTally};
 
-use crate::claims::Asked;
+use crate::claims::ItemReq;
 use crate::fields::meets;
 use crate::tally::{Tally, claims_many};
-use log_tables::{Draft, priv_of};
+use log_tables::{LogTables, priv_of};
 use memory::Memory;
 use point_set::PointSet;
 use privilege::agree;
@@ -24,30 +24,30 @@ use spy_grammar::Record;
 use std::alloc::Global;
 
 /// Whether a requirement is of the item, and shares a place with what is asked for, where the two privileges do not agree.
-fn clashes_with<P: PointSet>(draft: &Draft<P>, tally: &Tally, req: &Req, asked: &Asked<'_>) -> bool
+fn clashes_with<P: PointSet>(tables: &LogTables<P>, tally: &Tally, req: &Req, asked: &ItemReq<'_>) -> bool
     requires req { IsStrictlyIncreasing req.now.fields }
     requires fields { IsStrictlyIncreasing asked.now.fields.now }
-    ensures { IfKept draft.now tally.now (result
-        ≡ clashes_with draft.now asked.now.item asked.now.tree (points_in draft.now asked.now.space)
+    ensures { IfKept tables.now tally.now (result
+        ≡ clashes_with tables.now asked.now.item asked.now.tree (points_in tables.now asked.now.space)
         asked.now.fields.now asked.now.access req.now) }
 {
     req.item == asked.item
         && req.tree == asked.tree
         && !agree(req.access, asked.access)
         && meets(req.fields.as_slice(), asked.fields)
-        && tally.pairs.meet(draft, req.space, asked.space)
+        && tally.pairs.meet(tables, req.space, asked.space)
 }
 
 /// Whether some requirement of the item clashes so, requirement by requirement.
-fn clashes_by_req<P: PointSet>(draft: &Draft<P>, tally: &Tally, asked: &Asked<'_>) -> bool
+fn clashes_by_req<P: PointSet>(tables: &LogTables<P>, tally: &Tally, asked: &ItemReq<'_>) -> bool
     requires { IsStrictlyIncreasing asked.now.fields.now }
-    ensures { IfKept draft.now tally.now (result ≡ clashes_asked draft.now asked.now) }
+    ensures { IfKept tables.now tally.now (result ≡ clashes_asked tables.now asked.now) }
 {
     for before in 0..u32::MAX {
-        let Some(req) = draft.req(asked.item, before + 1) else {
+        let Some(req) = tables.req(asked.item, before + 1) else {
             return false;
         };
-        if clashes_with(draft, tally, req, asked) {
+        if clashes_with(tables, tally, req, asked) {
             return true;
         }
     }
@@ -55,13 +55,13 @@ fn clashes_by_req<P: PointSet>(draft: &Draft<P>, tally: &Tally, asked: &Asked<'_
 }
 
 /// Whether the first requirement of the item clashes so.
-fn first_clashes<P: PointSet>(draft: &Draft<P>, tally: &Tally, asked: &Asked<'_>) -> bool
+fn first_clashes<P: PointSet>(tables: &LogTables<P>, tally: &Tally, asked: &ItemReq<'_>) -> bool
     requires { IsStrictlyIncreasing asked.now.fields.now }
-    ensures { IfKept draft.now tally.now (result ≡ first_clashes draft.now asked.now.item asked.now.tree
+    ensures { IfKept tables.now tally.now (result ≡ first_clashes tables.now asked.now.item asked.now.tree
         asked.now.space asked.now.fields.now asked.now.access) }
 {
-    match draft.req(asked.item, 1) {
-        Some(first) => clashes_with(draft, tally, first, asked),
+    match tables.req(asked.item, 1) {
+        Some(first) => clashes_with(tables, tally, first, asked),
         None => false,
     }
 }
@@ -69,55 +69,55 @@ fn first_clashes<P: PointSet>(draft: &Draft<P>, tally: &Tally, asked: &Asked<'_>
 /// Whether a privilege clashes with what is claimed at these fields of a space.
 fn clashes_with_claims<P: PointSet>(
     alloc: Global,
-    draft: &Draft<P>,
+    tables: &LogTables<P>,
     tally: &Tally,
-    asked: &Asked<'_>,
+    asked: &ItemReq<'_>,
 ) -> Result<bool, Memory>
     ensures { IfOk result (λ clashes. (all : Option (List Rect))
         → tally.now.places.grid ≡ option_map grid_of all → clashes
         ≡ list_any (clashes_row tally.now.claims asked.now.item asked.now.tree asked.now.fields.now asked.now.access)
-        (claim_points all (points_in draft.now asked.now.space))) }
+        (claim_points all (points_in tables.now asked.now.space))) }
 {
-    let points = tally.places.points_in(alloc, draft, asked.space)?;
+    let points = tally.places.points_in(alloc, tables, asked.space)?;
     Ok(tally.claims.clashes_any(points.as_slice(), asked))
 }
 
 /// Whether some requirement of the item clashes so: the first, or a later one, whose places are claimed.
 fn clashes_by_place<P: PointSet>(
     alloc: Global,
-    draft: &Draft<P>,
+    tables: &LogTables<P>,
     tally: &Tally,
-    asked: &Asked<'_>,
+    asked: &ItemReq<'_>,
 ) -> Result<bool, Memory>
     requires { IsStrictlyIncreasing asked.now.fields.now }
-    ensures { IfOk result (λ clashes. (all : Option (List Rect)) → AreKept all draft.now tally.now
-        → tally.now.claimed ≤ MOST_ACCESSES → clashes ≡ clashes_asked draft.now asked.now) }
+    ensures { IfOk result (λ clashes. (all : Option (List Rect)) → AreKept all tables.now tally.now
+        → tally.now.claimed ≤ MOST_ACCESSES → clashes ≡ clashes_asked tables.now asked.now) }
 {
-    if first_clashes(draft, tally, asked) {
+    if first_clashes(tables, tally, asked) {
         return Ok(true);
     }
-    clashes_with_claims(alloc, draft, tally, asked)
+    clashes_with_claims(alloc, tables, tally, asked)
 }
 
 /// Whether some requirement of the item clashes so. The places are not gone through where nothing can clash, or where they may be too many.
 fn clashes_own<P: PointSet>(
     alloc: Global,
-    draft: &Draft<P>,
+    tables: &LogTables<P>,
     tally: &Tally,
     has_many: bool,
-    asked: &Asked<'_>,
+    asked: &ItemReq<'_>,
 ) -> Result<bool, Memory>
     requires { IsStrictlyIncreasing asked.now.fields.now }
-    ensures { IfOk result (λ clashes. (all : Option (List Rect)) → AreKept all draft.now tally.now
+    ensures { IfOk result (λ clashes. (all : Option (List Rect)) → AreKept all tables.now tally.now
         → (has_many ≡ false → tally.now.claimed ≤ MOST_ACCESSES)
-        → clashes ≡ clashes_asked draft.now asked.now) }
+        → clashes ≡ clashes_asked tables.now asked.now) }
 {
-    if draft.req_count(asked.item) == 0 {
+    if tables.req_count(asked.item) == 0 {
         Ok(false)
     } else if has_many {
-        Ok(clashes_by_req(draft, tally, asked))
+        Ok(clashes_by_req(tables, tally, asked))
     } else {
-        clashes_by_place(alloc, draft, tally, asked)
+        clashes_by_place(alloc, tables, tally, asked)
     }
 }
 
@@ -126,13 +126,13 @@ fn clashes_own<P: PointSet>(
 /// It is held against the first of its task, and against the places that the others claim: in a log of the second version those at points where cells of the grid of the whole log begin. Where the requirements ask for too many places, it is held against each earlier one of its task instead.
 pub fn interferes_with_own<P: PointSet>(
     alloc: Global,
-    draft: &Draft<P>,
+    tables: &LogTables<P>,
     tally: &Tally,
     rec: &Record,
 ) -> Result<bool, Memory>
     requires { Ascends rec.now }
-    ensures { IfOk result (λ interferes. IfTally draft.now tally.now
-        (λ earlier. interferes ≡ interferes_with_own draft.now rec.now)) }
+    ensures { IfOk result (λ interferes. IfTally tables.now tally.now
+        (λ earlier. interferes ≡ interferes_with_own tables.now rec.now)) }
 {
     match rec {
         Record::Req {
@@ -144,11 +144,11 @@ pub fn interferes_with_own<P: PointSet>(
             ..
         } => clashes_own(
             alloc,
-            draft,
+            tables,
             tally,
-            claims_many(draft, tally, rec),
-            &Asked {
-                item: draft.place(*task),
+            claims_many(tables, tally, rec),
+            &ItemReq {
+                item: tables.place(*task),
                 tree: *tree,
                 space: *space,
                 fields: fields.as_slice(),

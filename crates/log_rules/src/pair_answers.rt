@@ -4,7 +4,7 @@ ghost use Rattle.std.specs.Prelude.{◌≡◌, ℕ, Bool, List, IfSome, OnOk};
 ghost use Rattle.vocabulary.specs.Prelude.{Tables, points_in};
 ghost use Rattle.log_rules.specs.Pairs.{AreAnswers};
 
-use log_tables::Draft;
+use log_tables::LogTables;
 use point_set::PointSet;
 use std::alloc::{AllocError, Global};
 use std::collections::HashMap;
@@ -46,19 +46,19 @@ impl PairAnswers {
     /// Notes the answer of a pair, if both spaces are declared.
     pub(crate) fn note<P: PointSet>(
         &mut self,
-        draft: &Draft<P>,
+        tables: &LogTables<P>,
         ours: u32,
         theirs: u32,
         answer: bool,
     ) -> Result<(), AllocError>
         ensures { OnOk result ((test : List ℕ → List ℕ → Bool)
-            → answer ≡ test (points_in draft.now ours) (points_in draft.now theirs)
-            → AreAnswers test draft.now self.old → AreAnswers test draft.now self.new) }
+            → answer ≡ test (points_in tables.now ours) (points_in tables.now theirs)
+            → AreAnswers test tables.now self.old → AreAnswers test tables.now self.new) }
     {
-        if !draft.has_space(ours) {
+        if !tables.has_space(ours) {
             return Ok(());
         }
-        if !draft.has_space(theirs) {
+        if !tables.has_space(theirs) {
             return Ok(());
         }
         self.answers.insert(SpacePair { ours, theirs }, answer)?;

@@ -8,56 +8,56 @@ ghost use Rattle.semantics.specs.Rules.{is_not_in_tree, has_wrong_fields, exceed
 use crate::fields::is_within;
 use crate::names::named_req;
 use crate::spaces::is_in_tree;
-use log_tables::Draft;
+use log_tables::LogTables;
 use point_set::PointSet;
 use spy_grammar::{Nums, Record};
 
 /// Whether the space of a requirement or a fill lies outside its tree.
-pub fn is_not_in_tree<P: PointSet>(draft: &Draft<P>, rec: &Record) -> bool
-    ensures { result ≡ is_not_in_tree draft.now rec.now }
+pub fn is_not_in_tree<P: PointSet>(tables: &LogTables<P>, rec: &Record) -> bool
+    ensures { result ≡ is_not_in_tree tables.now rec.now }
 {
     match rec {
         Record::Req { tree, space, .. } | Record::Fill { tree, space, .. } => {
-            !is_in_tree(draft, *tree, *space)
+            !is_in_tree(tables, *tree, *space)
         }
         _ => false,
     }
 }
 
 /// Whether some field is none of a tree's.
-pub fn exceeds_tree<P: PointSet>(draft: &Draft<P>, tree: u32, fields: &Nums) -> bool
-    ensures { result ≡ exceeds_tree draft.now tree fields.now }
+pub fn exceeds_tree<P: PointSet>(tables: &LogTables<P>, tree: u32, fields: &Nums) -> bool
+    ensures { result ≡ exceeds_tree tables.now tree fields.now }
 {
-    match draft.tree(tree) {
-        Some(tree) => !is_within(fields.as_slice(), draft.fields(tree.fspace)),
+    match tables.tree(tree) {
+        Some(tree) => !is_within(fields.as_slice(), tables.fields(tree.fspace)),
         None => !is_within(fields.as_slice(), &[]),
     }
 }
 
 /// Whether some field is none of a requirement's.
-fn exceeds_req<P: PointSet>(draft: &Draft<P>, task: u32, number: u32, fields: &Nums) -> bool
-    ensures { result ≡ not (is_within fields.now (fields_of_req draft.now task number)) }
+fn exceeds_req<P: PointSet>(tables: &LogTables<P>, task: u32, number: u32, fields: &Nums) -> bool
+    ensures { result ≡ not (is_within fields.now (fields_of_req tables.now task number)) }
 {
-    match named_req(draft, task, number) {
+    match named_req(tables, task, number) {
         Some(req) => !is_within(fields.as_slice(), req.fields.as_slice()),
         None => !is_within(fields.as_slice(), &[]),
     }
 }
 
 /// Whether a record has a field that its tree does not have, or, a map, one that its requirement does not have.
-pub fn has_wrong_fields<P: PointSet>(draft: &Draft<P>, rec: &Record) -> bool
-    ensures { result ≡ has_wrong_fields draft.now rec.now }
+pub fn has_wrong_fields<P: PointSet>(tables: &LogTables<P>, rec: &Record) -> bool
+    ensures { result ≡ has_wrong_fields tables.now rec.now }
 {
     match rec {
         Record::Req { tree, fields, .. }
         | Record::Fill { tree, fields, .. }
-        | Record::Inst { tree, fields, .. } => exceeds_tree(draft, *tree, fields),
+        | Record::Inst { tree, fields, .. } => exceeds_tree(tables, *tree, fields),
         Record::Map {
             task,
             req,
             fields,
             ..
-        } => exceeds_req(draft, *task, *req, fields),
+        } => exceeds_req(tables, *task, *req, fields),
         _ => false,
     }
 }

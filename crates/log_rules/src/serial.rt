@@ -11,7 +11,7 @@ ghost use Rattle.log_rules.specs.Listing.{AddsAll, TellsRepeat, is_listed, lists
 use crate::tally::Tally;
 use crate::whole_log::WholeLog;
 use id_maps::IdSet;
-use log_tables::Draft;
+use log_tables::LogTables;
 use point_set::PointSet;
 use spy_grammar::{Lined, Record};
 use std::alloc::{AllocError, Global};
@@ -100,16 +100,16 @@ fn lists_badly(
 pub fn is_bad_serial<P: PointSet>(
     alloc: Global,
     whole: &WholeLog,
-    draft: &Draft<P>,
+    tables: &LogTables<P>,
     tally: &Tally,
     rec: &Record,
 ) -> Result<bool, AllocError>
-    ensures { IfTally draft.now tally.now (λ earlier.
-        IfOk result (λ bad. bad ≡ is_bad_serial whole.now draft.now rec.now)) }
+    ensures { IfTally tables.now tally.now (λ earlier.
+        IfOk result (λ bad. bad ≡ is_bad_serial whole.now tables.now rec.now)) }
 {
     match rec {
         Record::Serial { items } => {
-            let before = draft.serials().len();
+            let before = tables.serials().len();
             let bad = lists_badly(alloc, whole, before, &tally.listed, items.as_slice())?;
             Ok(bad)
         }

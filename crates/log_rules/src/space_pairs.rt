@@ -11,7 +11,7 @@ ghost use Rattle.log_rules.specs.Pairs.{HasPairs};
 use crate::cell_rows::CellRows;
 use crate::claim_points::ClaimPoints;
 use crate::pair_answers::PairAnswers;
-use log_tables::Draft;
+use log_tables::LogTables;
 use point_set::PointSet;
 use spy_grammar::Record;
 use std::alloc::{AllocError, Global};
@@ -41,20 +41,20 @@ fn sets_meet<P: PointSet>(ours: &P, theirs: &P) -> bool
 }
 
 /// Whether a space has no points.
-pub(crate) fn is_vacant<P: PointSet>(draft: &Draft<P>, space: u32) -> bool
-    ensures { result ≡ is_within (points_in draft.now space) [] }
+pub(crate) fn is_vacant<P: PointSet>(tables: &LogTables<P>, space: u32) -> bool
+    ensures { result ≡ is_within (points_in tables.now space) [] }
 {
-    match draft.set(space) {
+    match tables.set(space) {
         Some(set) => is_empty(set),
         None => true,
     }
 }
 
 /// Whether each point of a space is in another one, by their sets.
-fn is_within_by_sets<P: PointSet>(draft: &Draft<P>, ours: u32, theirs: u32) -> bool
-    ensures { result ≡ is_within (points_in draft.now ours) (points_in draft.now theirs) }
+fn is_within_by_sets<P: PointSet>(tables: &LogTables<P>, ours: u32, theirs: u32) -> bool
+    ensures { result ≡ is_within (points_in tables.now ours) (points_in tables.now theirs) }
 {
-    match (draft.set(ours), draft.set(theirs)) {
+    match (tables.set(ours), tables.set(theirs)) {
         (Some(ours), Some(theirs)) => is_set_within(ours, theirs),
         (Some(ours), None) => is_empty(ours),
         (None, _) => true,
@@ -62,13 +62,13 @@ fn is_within_by_sets<P: PointSet>(draft: &Draft<P>, ours: u32, theirs: u32) -> b
 }
 
 /// Whether two spaces have a point in common, by their sets.
-fn meet_by_sets<P: PointSet>(draft: &Draft<P>, ours: u32, theirs: u32) -> bool
-    ensures { result ≡ meets (points_in draft.now ours) (points_in draft.now theirs) }
+fn meet_by_sets<P: PointSet>(tables: &LogTables<P>, ours: u32, theirs: u32) -> bool
+    ensures { result ≡ meets (points_in tables.now ours) (points_in tables.now theirs) }
 {
-    let Some(our_set) = draft.set(ours) else {
+    let Some(our_set) = tables.set(ours) else {
         return false;
     };
-    match draft.set(theirs) {
+    match tables.set(theirs) {
         Some(their_set) => sets_meet(our_set, their_set),
         None => false,
     }
@@ -99,22 +99,22 @@ impl SpacePairs {
         &mut self,
         alloc: Global,
         places: &ClaimPoints,
-        draft: &Draft<P>,
+        tables: &LogTables<P>,
         rec: &Record,
     ) -> Result<(), AllocError>
         requires { Ascends rec.now }
         ensures { OnOk result ((all : Option (List Rect)) (line : ℕ)
-            → places.now.grid ≡ option_map grid_of all → HasPairs all draft.now self.old
-            → HasPairs all (with_record draft.now line rec.now) self.new) }
+            → places.now.grid ≡ option_map grid_of all → HasPairs all tables.now self.old
+            → HasPairs all (with_record tables.now line rec.now) self.new) }
     {
-        self.rows.note(alloc, places, draft, rec)?;
+        self.rows.note(alloc, places, tables, rec)?;
         Ok(())
     }
 
     /// Whether each point of a space is in another one.
-    pub(crate) fn within<P: PointSet>(&self, draft: &Draft<P>, ours: u32, theirs: u32) -> bool
-        ensures { (all : Option (List Rect)) → HasCells all draft.now → HasPairs all draft.now self.now
-            → result ≡ is_within (points_in draft.now ours) (points_in draft.now theirs) }
+    pub(crate) fn within<P: PointSet>(&self, tables: &LogTables<P>, ours: u32, theirs: u32) -> bool
+        ensures { (all : Option (List Rect)) → HasCells all tables.now → HasPairs all tables.now self.now
+            → result ≡ is_within (points_in tables.now ours) (points_in tables.now theirs) }
     {
         if ours == theirs {
             return true;
@@ -124,57 +124,57 @@ impl SpacePairs {
         }
         match self.rows.within(ours, theirs) {
             Some(answer) => answer,
-            None => is_within_by_sets(draft, ours, theirs),
+            None => is_within_by_sets(tables, ours, theirs),
         }
     }
 
     /// Whether two spaces have a point in common.
-    pub(crate) fn meet<P: PointSet>(&self, draft: &Draft<P>, ours: u32, theirs: u32) -> bool
-        ensures { (all : Option (List Rect)) → HasCells all draft.now → HasPairs all draft.now self.now
-            → result ≡ meets (points_in draft.now ours) (points_in draft.now theirs) }
+    pub(crate) fn meet<P: PointSet>(&self, tables: &LogTables<P>, ours: u32, theirs: u32) -> bool
+        ensures { (all : Option (List Rect)) → HasCells all tables.now → HasPairs all tables.now self.now
+            → result ≡ meets (points_in tables.now ours) (points_in tables.now theirs) }
     {
         if let Some(answer) = self.meeting.get(ours, theirs) {
             return answer;
         }
         match self.rows.meets(ours, theirs) {
             Some(answer) => answer,
-            None => meet_by_sets(draft, ours, theirs),
+            None => meet_by_sets(tables, ours, theirs),
         }
     }
 
     /// Notes whether each point of a space is in another one, unless that is known.
     pub(crate) fn note_within<P: PointSet>(
         &mut self,
-        draft: &Draft<P>,
+        tables: &LogTables<P>,
         ours: u32,
         theirs: u32,
     ) -> Result<(), AllocError>
-        ensures { OnOk result ((all : Option (List Rect)) → HasCells all draft.now
-            → HasPairs all draft.now self.old → HasPairs all draft.now self.new) }
+        ensures { OnOk result ((all : Option (List Rect)) → HasCells all tables.now
+            → HasPairs all tables.now self.old → HasPairs all tables.now self.new) }
     {
         if self.within.get(ours, theirs).is_some() {
             return Ok(());
         }
-        let answer = self.within(draft, ours, theirs);
-        self.within.note(draft, ours, theirs, answer)?;
+        let answer = self.within(tables, ours, theirs);
+        self.within.note(tables, ours, theirs, answer)?;
         Ok(())
     }
 
     /// Notes whether two spaces have a point in common, unless that is known.
     pub(crate) fn note_meeting<P: PointSet>(
         &mut self,
-        draft: &Draft<P>,
+        tables: &LogTables<P>,
         ours: u32,
         theirs: u32,
     ) -> Result<(), AllocError>
-        ensures { OnOk result ((all : Option (List Rect)) → HasCells all draft.now
-            → HasPairs all draft.now self.old → HasPairs all draft.now self.new) }
+        ensures { OnOk result ((all : Option (List Rect)) → HasCells all tables.now
+            → HasPairs all tables.now self.old → HasPairs all tables.now self.new) }
     {
         if self.meeting.get(ours, theirs).is_some() {
             return Ok(());
         }
-        let answer = self.meet(draft, ours, theirs);
-        self.meeting.note(draft, ours, theirs, answer)?;
+        let answer = self.meet(tables, ours, theirs);
+        self.meeting.note(tables, ours, theirs, answer)?;
         Ok(())
     }
 }

@@ -4,58 +4,58 @@ ghost use Rattle.std.specs.Prelude.{◌≡◌, ◌==◌, ◌||◌, length, min};
 ghost use Rattle.vocabulary.specs.Prelude.{upward, space_above, is_in, is_in_tree};
 ghost use Rattle.semantics.specs.Rules.{is_of_other_version, is_sub_again, is_late_sub, is_too_deep, is_no_root};
 
-use log_tables::Draft;
+use log_tables::LogTables;
 use point_set::PointSet;
 use semantics::DEEPEST;
 use spy_grammar::Record;
 
 /// Whether a record declares a space by rectangles in a log that is not of the second version.
-pub fn is_of_other_version<P: PointSet>(draft: &Draft<P>, rec: &Record) -> bool
-    ensures { result ≡ is_of_other_version draft.now rec.now }
+pub fn is_of_other_version<P: PointSet>(tables: &LogTables<P>, rec: &Record) -> bool
+    ensures { result ≡ is_of_other_version tables.now rec.now }
 {
     match rec {
-        Record::Plane { .. } => !draft.is_planar(),
+        Record::Plane { .. } => !tables.is_planar(),
         _ => false,
     }
 }
 
 /// Whether a record makes a subspace of a space that is one already.
-pub fn is_sub_again<P: PointSet>(draft: &Draft<P>, rec: &Record) -> bool
-    ensures { result ≡ is_sub_again draft.now rec.now }
+pub fn is_sub_again<P: PointSet>(tables: &LogTables<P>, rec: &Record) -> bool
+    ensures { result ≡ is_sub_again tables.now rec.now }
 {
     match rec {
-        Record::Sub { space, .. } => draft.is_sub(*space),
+        Record::Sub { space, .. } => tables.is_sub(*space),
         _ => false,
     }
 }
 
 /// Whether a record makes a subspace of a space that is split already, or is the root of a tree.
-pub fn is_late_sub<P: PointSet>(draft: &Draft<P>, rec: &Record) -> bool
-    ensures { result ≡ is_late_sub draft.now rec.now }
+pub fn is_late_sub<P: PointSet>(tables: &LogTables<P>, rec: &Record) -> bool
+    ensures { result ≡ is_late_sub tables.now rec.now }
 {
     match rec {
-        Record::Sub { space, .. } => draft.is_split(*space) || draft.is_root(*space),
+        Record::Sub { space, .. } => tables.is_split(*space) || tables.is_root(*space),
         _ => false,
     }
 }
 
 /// Whether a record makes a tree whose root space is a subspace.
-pub fn is_no_root<P: PointSet>(draft: &Draft<P>, rec: &Record) -> bool
-    ensures { result ≡ is_no_root draft.now rec.now }
+pub fn is_no_root<P: PointSet>(tables: &LogTables<P>, rec: &Record) -> bool
+    ensures { result ≡ is_no_root tables.now rec.now }
 {
     match rec {
-        Record::Tree { space, .. } => draft.is_sub(*space),
+        Record::Tree { space, .. } => tables.is_sub(*space),
         _ => false,
     }
 }
 
 /// How many spaces lie above a space, counted up to a limit.
-fn height<P: PointSet>(draft: &Draft<P>, space: u32, limit: usize) -> usize
-    ensures { result ≡ length (upward draft.now limit (space_above draft.now space)) }
+fn height<P: PointSet>(tables: &LogTables<P>, space: u32, limit: usize) -> usize
+    ensures { result ≡ length (upward tables.now limit (space_above tables.now space)) }
 {
     let mut at = space;
     for up in 0..limit {
-        match draft.above(at) {
+        match tables.above(at) {
             Some(above) => at = above,
             None => return up,
         }
@@ -64,12 +64,12 @@ fn height<P: PointSet>(draft: &Draft<P>, space: u32, limit: usize) -> usize
 }
 
 /// Whether a record makes a subspace that lies too far below its topmost space.
-pub fn is_too_deep<P: PointSet>(draft: &Draft<P>, rec: &Record) -> bool
-    ensures { result ≡ is_too_deep draft.now rec.now }
+pub fn is_too_deep<P: PointSet>(tables: &LogTables<P>, rec: &Record) -> bool
+    ensures { result ≡ is_too_deep tables.now rec.now }
 {
     match rec {
-        Record::Sub { part, .. } => match draft.part(*part) {
-            Some(part) => height(draft, part.space, draft.sub_count().min(DEEPEST)) == DEEPEST,
+        Record::Sub { part, .. } => match tables.part(*part) {
+            Some(part) => height(tables, part.space, tables.sub_count().min(DEEPEST)) == DEEPEST,
             None => false,
         },
         _ => false,
@@ -77,12 +77,12 @@ pub fn is_too_deep<P: PointSet>(draft: &Draft<P>, rec: &Record) -> bool
 }
 
 /// Whether a root is among so many spaces above a space.
-fn lies_below<P: PointSet>(draft: &Draft<P>, space: u32, root: u32, limit: usize) -> bool
-    ensures { result ≡ is_in (upward draft.now limit (space_above draft.now space)) root }
+fn lies_below<P: PointSet>(tables: &LogTables<P>, space: u32, root: u32, limit: usize) -> bool
+    ensures { result ≡ is_in (upward tables.now limit (space_above tables.now space)) root }
 {
     let mut at = space;
     for _up in 0..limit {
-        match draft.above(at) {
+        match tables.above(at) {
             Some(above) => at = above,
             None => return false,
         }
@@ -94,12 +94,12 @@ fn lies_below<P: PointSet>(draft: &Draft<P>, space: u32, root: u32, limit: usize
 }
 
 /// Whether a space is the root space of a tree, or lies below it.
-pub fn is_in_tree<P: PointSet>(draft: &Draft<P>, tree: u32, space: u32) -> bool
-    ensures { result ≡ is_in_tree draft.now tree space }
+pub fn is_in_tree<P: PointSet>(tables: &LogTables<P>, tree: u32, space: u32) -> bool
+    ensures { result ≡ is_in_tree tables.now tree space }
 {
-    match draft.tree(tree) {
+    match tables.tree(tree) {
         Some(tree) => space == tree.space
-            || lies_below(draft, space, tree.space, draft.sub_count()),
+            || lies_below(tables, space, tree.space, tables.sub_count()),
         None => false,
     }
 }

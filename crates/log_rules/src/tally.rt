@@ -16,7 +16,7 @@ ghost use Rattle.log_rules.specs.Listing.{AddsAll, ids_listed};
 ghost use Rattle.log_rules.specs.Tallied.{AreAtEnd, IfTally, IsTally, Keeps, MayCount, rects_in};
 
 use crate::claim_points::ClaimPoints;
-use crate::claims::{Asked, Claims};
+use crate::claims::{ItemReq, Claims};
 use crate::counts::{cells_asked, points_asked, size_asked};
 use crate::names::named_req;
 use crate::serial::note_all;
@@ -24,7 +24,7 @@ use crate::space_pairs::SpacePairs;
 use grid::Grid;
 use id_maps::IdSet;
 use log_limits::{Corners, access_total, cell_total, exceeds, raised};
-use log_tables::{Draft, priv_of};
+use log_tables::{LogTables, priv_of};
 use memory::Memory;
 use point_set::PointSet;
 use semantics::{MOST_ACCESSES, MOST_ATOMS, MOST_CELLS, MOST_POINTS};
@@ -56,26 +56,26 @@ fn note_listed(listed: &mut IdSet, rec: &Record) -> Result<(), AllocError>
 }
 
 /// How many accesses a record asks for, in a log of the first version. In one of the second they are counted at its end, and no set is gone through before.
-fn accesses_asked<P: PointSet>(draft: &Draft<P>, rec: &Record) -> u128
-    ensures { is_planar draft.now ≡ false → result ≡ cut (size_asked draft.now rec.now) }
+fn accesses_asked<P: PointSet>(tables: &LogTables<P>, rec: &Record) -> u128
+    ensures { is_planar tables.now ≡ false → result ≡ cut (size_asked tables.now rec.now) }
 {
-    if draft.is_planar() {
+    if tables.is_planar() {
         return 0;
     }
-    size_asked(draft, rec)
+    size_asked(tables, rec)
 }
 
 /// How many places the requirements so far and a record ask for.
-fn claimed_with<P: PointSet>(draft: &Draft<P>, tally: &Tally, rec: &Record) -> u128
+fn claimed_with<P: PointSet>(tables: &LogTables<P>, tally: &Tally, rec: &Record) -> u128
     ensures { tally.now.claimed ≤ result }
 {
-    raised(tally.claimed, tally.places.asked(draft, rec))
+    raised(tally.claimed, tally.places.asked(tables, rec))
 }
 
 /// What a log declares so far, and at which points its requirements claim places.
 #[derive(Clone, Copy)]
 struct ClaimedLog<'w, P: PointSet> {
-    draft: &'w Draft<P>,
+    tables: &'w LogTables<P>,
     places: &'w ClaimPoints,
 }
 
@@ -88,7 +88,7 @@ fn note_claims<P: PointSet>(
     rec: &Record,
 ) -> Result<(), Memory>
     ensures { OnOk result ((all : Option (List Rect)) → log.now.places.now.grid ≡ option_map grid_of all
-        → sum ≤ MOST_ACCESSES → AddsAt all claims.old claims.new (claimed log.now.draft.now rec.now)) }
+        → sum ≤ MOST_ACCESSES → AddsAt all claims.old claims.new (claimed log.now.tables.now rec.now)) }
 {
     if sum > MOST_ACCESSES {
         return Ok(());
@@ -102,14 +102,14 @@ fn note_claims<P: PointSet>(
             access,
             ..
         } => {
-            let item = log.draft.place(*task);
-            if log.draft.req_count(item) == 0 {
+            let item = log.tables.place(*task);
+            if log.tables.req_count(item) == 0 {
                 return Ok(());
             }
-            let points = log.places.points_in(alloc, log.draft, *space)?;
+            let points = log.places.points_in(alloc, log.tables, *space)?;
             claims.claim_all(
                 points.as_slice(),
-                &Asked {
+                &ItemReq {
                     item,
                     tree: *tree,
                     space: *space,
@@ -144,46 +144,46 @@ impl Tally {
     /// Remembers whether a space is within another one, if it has many cells.
     fn remember_within<P: PointSet>(
         &mut self,
-        draft: &Draft<P>,
+        tables: &LogTables<P>,
         ours: u32,
         theirs: u32,
     ) -> Result<(), AllocError>
-        ensures { OnOk result (Keeps draft.now self.old self.new) }
+        ensures { OnOk result (Keeps tables.now self.old self.new) }
     {
         if !self.places.has_many(ours) {
             return Ok(());
         }
-        self.pairs.note_within(draft, ours, theirs)?;
+        self.pairs.note_within(tables, ours, theirs)?;
         Ok(())
     }
 
     /// Remembers whether two spaces meet, if one of them has many cells.
     fn remember_meeting<P: PointSet>(
         &mut self,
-        draft: &Draft<P>,
+        tables: &LogTables<P>,
         ours: u32,
         theirs: u32,
     ) -> Result<(), AllocError>
-        ensures { OnOk result (Keeps draft.now self.old self.new) }
+        ensures { OnOk result (Keeps tables.now self.old self.new) }
     {
         if !self.places.has_many(ours) && !self.places.has_many(theirs) {
             return Ok(());
         }
-        self.pairs.note_meeting(draft, ours, theirs)?;
+        self.pairs.note_meeting(tables, ours, theirs)?;
         Ok(())
     }
 
     /// Remembers whether a space is within that of an instance.
     fn remember_held<P: PointSet>(
         &mut self,
-        draft: &Draft<P>,
+        tables: &LogTables<P>,
         space: u32,
         inst: u32,
     ) -> Result<(), AllocError>
-        ensures { OnOk result (Keeps draft.now self.old self.new) }
+        ensures { OnOk result (Keeps tables.now self.old self.new) }
     {
-        match draft.inst(inst) {
-            Some(inst) => self.remember_within(draft, space, inst.space),
+        match tables.inst(inst) {
+            Some(inst) => self.remember_within(tables, space, inst.space),
             None => Ok(()),
         }
     }
@@ -191,30 +191,30 @@ impl Tally {
     /// Remembers whether a space is within those of two instances.
     fn remember_both<P: PointSet>(
         &mut self,
-        draft: &Draft<P>,
+        tables: &LogTables<P>,
         space: u32,
         src: u32,
         dst: u32,
     ) -> Result<(), AllocError>
-        ensures { OnOk result (Keeps draft.now self.old self.new) }
+        ensures { OnOk result (Keeps tables.now self.old self.new) }
     {
-        self.remember_held(draft, space, src)?;
-        self.remember_held(draft, space, dst)?;
+        self.remember_held(tables, space, src)?;
+        self.remember_held(tables, space, dst)?;
         Ok(())
     }
 
     /// Remembers whether the space of a requirement is within that of an instance.
     fn remember_mapped<P: PointSet>(
         &mut self,
-        draft: &Draft<P>,
+        tables: &LogTables<P>,
         task: u32,
         number: u32,
         inst: u32,
     ) -> Result<(), AllocError>
-        ensures { OnOk result (Keeps draft.now self.old self.new) }
+        ensures { OnOk result (Keeps tables.now self.old self.new) }
     {
-        match named_req(draft, task, number) {
-            Some(req) => self.remember_held(draft, req.space, inst),
+        match named_req(tables, task, number) {
+            Some(req) => self.remember_held(tables, req.space, inst),
             None => Ok(()),
         }
     }
@@ -222,14 +222,14 @@ impl Tally {
     /// Remembers whether a space is within the root space of a tree.
     fn remember_rooted<P: PointSet>(
         &mut self,
-        draft: &Draft<P>,
+        tables: &LogTables<P>,
         space: u32,
         tree: u32,
     ) -> Result<(), AllocError>
-        ensures { OnOk result (Keeps draft.now self.old self.new) }
+        ensures { OnOk result (Keeps tables.now self.old self.new) }
     {
-        match draft.tree(tree) {
-            Some(tree) => self.remember_within(draft, space, tree.space),
+        match tables.tree(tree) {
+            Some(tree) => self.remember_within(tables, space, tree.space),
             None => Ok(()),
         }
     }
@@ -237,14 +237,14 @@ impl Tally {
     /// Remembers whether a space meets that of the first requirement of a task.
     fn remember_first<P: PointSet>(
         &mut self,
-        draft: &Draft<P>,
+        tables: &LogTables<P>,
         task: u32,
         space: u32,
     ) -> Result<(), AllocError>
-        ensures { OnOk result (Keeps draft.now self.old self.new) }
+        ensures { OnOk result (Keeps tables.now self.old self.new) }
     {
-        match named_req(draft, task, 1) {
-            Some(first) => self.remember_meeting(draft, first.space, space),
+        match named_req(tables, task, 1) {
+            Some(first) => self.remember_meeting(tables, first.space, space),
             None => Ok(()),
         }
     }
@@ -252,20 +252,20 @@ impl Tally {
     /// Remembers what the rules on a record ask of two spaces, of which one has many cells, so that two such spaces are held against each other by their sets once in a log, however many records ask for it.
     pub fn remember<P: PointSet>(
         &mut self,
-        draft: &Draft<P>,
+        tables: &LogTables<P>,
         rec: &Record,
     ) -> Result<(), AllocError>
-        ensures { OnOk result (Keeps draft.now self.old self.new) }
+        ensures { OnOk result (Keeps tables.now self.old self.new) }
     {
         match rec {
-            Record::Req { task, space, .. } => self.remember_first(draft, *task, *space),
-            Record::Inst { tree, space, .. } => self.remember_rooted(draft, *space, *tree),
+            Record::Req { task, space, .. } => self.remember_first(tables, *task, *space),
+            Record::Inst { tree, space, .. } => self.remember_rooted(tables, *space, *tree),
             Record::Map {
                 task,
                 req,
                 inst,
                 ..
-            } => self.remember_mapped(draft, *task, *req, *inst),
+            } => self.remember_mapped(tables, *task, *req, *inst),
             Record::Copy {
                 src,
                 dst,
@@ -277,9 +277,9 @@ impl Tally {
                 dst,
                 space,
                 ..
-            } => { self.remember_both(draft, *space, *src, *dst) }
+            } => { self.remember_both(tables, *space, *src, *dst) }
             Record::Put { inst, space, .. } | Record::Reset { inst, space, .. } => {
-                self.remember_held(draft, *space, *inst)
+                self.remember_held(tables, *space, *inst)
             }
             _ => Ok(()),
         }
@@ -289,26 +289,26 @@ impl Tally {
     pub fn add<P: PointSet>(
         self,
         alloc: Global,
-        draft: &Draft<P>,
+        tables: &LogTables<P>,
         rec: &Record,
     ) -> Result<Tally, Memory>
         requires { Ascends rec.now }
         ensures { IfOk result (λ tally. (all : Option (List Rect)) (earlier : List Record) (line : ℕ)
-            → IsTally all earlier draft.now self → MayCount all earlier draft.now rec.now
-            → IsTally all (earlier ++ rec.now ∷ []) (with_record draft.now line rec.now) tally) }
+            → IsTally all earlier tables.now self → MayCount all earlier tables.now rec.now
+            → IsTally all (earlier ++ rec.now ∷ []) (with_record tables.now line rec.now) tally) }
     {
         let mut tally = self;
         tally.points = raised(tally.points, points_asked(rec));
-        tally.cells = raised(tally.cells, cells_asked(draft, rec));
-        tally.accesses = raised(tally.accesses, accesses_asked(draft, rec));
+        tally.cells = raised(tally.cells, cells_asked(tables, rec));
+        tally.accesses = raised(tally.accesses, accesses_asked(tables, rec));
         note_listed(&mut tally.listed, rec)?;
-        let claimed = claimed_with(draft, &tally, rec);
+        let claimed = claimed_with(tables, &tally, rec);
         let log = ClaimedLog {
-            draft,
+            tables,
             places: &tally.places,
         };
         note_claims(alloc, &mut tally.claims, &log, claimed, rec)?;
-        tally.pairs.note(alloc, &tally.places, draft, rec)?;
+        tally.pairs.note(alloc, &tally.places, tables, rec)?;
         tally.places.note(alloc, rec)?;
         tally.claimed = claimed;
         Ok(tally)
@@ -316,11 +316,11 @@ impl Tally {
 }
 
 /// Whether the spaces up to a record have too many points together, in a log of the first version.
-pub fn has_many_points<P: PointSet>(draft: &Draft<P>, tally: &Tally, rec: &Record) -> bool
+pub fn has_many_points<P: PointSet>(tables: &LogTables<P>, tally: &Tally, rec: &Record) -> bool
     requires { Ascends rec.now }
-    ensures { IfTally draft.now tally.now (λ earlier. result ≡ has_many_points draft.now rec.now) }
+    ensures { IfTally tables.now tally.now (λ earlier. result ≡ has_many_points tables.now rec.now) }
 {
-    if draft.is_planar() {
+    if tables.is_planar() {
         return false;
     }
     match rec {
@@ -334,32 +334,32 @@ pub fn has_many_points<P: PointSet>(draft: &Draft<P>, tally: &Tally, rec: &Recor
 }
 
 /// Whether the spaces up to a record make a grid of too many cells, of which there are so many, in a log of the second version.
-pub fn has_many_atoms<P: PointSet>(draft: &Draft<P>, cells: u128, rec: &Record) -> bool
-    ensures { (is_planar draft.now ≡ true → cells ≡ cell_count (draft.now.rects ++ rects_in rec.now))
-        → result ≡ has_many_atoms draft.now rec.now }
+pub fn has_many_atoms<P: PointSet>(tables: &LogTables<P>, cells: u128, rec: &Record) -> bool
+    ensures { (is_planar tables.now ≡ true → cells ≡ cell_count (tables.now.rects ++ rects_in rec.now))
+        → result ≡ has_many_atoms tables.now rec.now }
 {
     match rec {
-        Record::Ispace { .. } | Record::Plane { .. } => draft.is_planar() && cells > MOST_ATOMS,
+        Record::Ispace { .. } | Record::Plane { .. } => tables.is_planar() && cells > MOST_ATOMS,
         _ => false,
     }
 }
 
 /// Whether the instances have too many cells together: those up to an instance in a log of the first version, and all at the end of one of the second.
 pub fn has_many_cells<P: PointSet>(
-    draft: &Draft<P>,
+    tables: &LogTables<P>,
     tally: &Tally,
     corners: Option<&Corners>,
     rec: &Record,
 ) -> bool
-    ensures { IfTally draft.now tally.now (λ earlier. AreAtEnd draft.now rec.now corners.entry
-        → result ≡ has_many_cells draft.now rec.now) }
+    ensures { IfTally tables.now tally.now (λ earlier. AreAtEnd tables.now rec.now corners.entry
+        → result ≡ has_many_cells tables.now rec.now) }
 {
     match rec {
         Record::Inst { .. } => {
-            !draft.is_planar() && exceeds(tally.cells, cells_asked(draft, rec), MOST_CELLS)
+            !tables.is_planar() && exceeds(tally.cells, cells_asked(tables, rec), MOST_CELLS)
         }
         Record::End { .. } => match corners {
-            Some(corners) => exceeds(0, cell_total(corners, draft.insts()), MOST_CELLS),
+            Some(corners) => exceeds(0, cell_total(corners, tables.insts()), MOST_CELLS),
             None => false,
         },
         _ => false,
@@ -368,26 +368,26 @@ pub fn has_many_cells<P: PointSet>(
 
 /// Whether records ask for too many accesses together: those up to each record in a log of the first version, and all at the end of one of the second.
 pub fn has_many_accesses<P: PointSet>(
-    draft: &Draft<P>,
+    tables: &LogTables<P>,
     tally: &Tally,
     corners: Option<&Corners>,
     earlier: &[Lined],
     rec: &Record,
 ) -> bool
-    ensures { IfTally draft.now tally.now (λ before. before ≡ records_of earlier.now
-        → AreAtEnd draft.now rec.now corners.entry → result ≡ has_many_accesses before draft.now rec.now) }
+    ensures { IfTally tables.now tally.now (λ before. before ≡ records_of earlier.now
+        → AreAtEnd tables.now rec.now corners.entry → result ≡ has_many_accesses before tables.now rec.now) }
 {
     match corners {
         Some(corners) => exceeds(0, access_total(corners, earlier), MOST_ACCESSES),
         None => {
-            !draft.is_planar() && exceeds(tally.accesses, size_asked(draft, rec), MOST_ACCESSES)
+            !tables.is_planar() && exceeds(tally.accesses, size_asked(tables, rec), MOST_ACCESSES)
         }
     }
 }
 
 /// Whether a record and the requirements so far ask for so many places that they are not claimed.
-pub(crate) fn claims_many<P: PointSet>(draft: &Draft<P>, tally: &Tally, rec: &Record) -> bool
+pub(crate) fn claims_many<P: PointSet>(tables: &LogTables<P>, tally: &Tally, rec: &Record) -> bool
     ensures { result ≡ false → tally.now.claimed ≤ MOST_ACCESSES }
 {
-    claimed_with(draft, tally, rec) > MOST_ACCESSES
+    claimed_with(tables, tally, rec) > MOST_ACCESSES
 }

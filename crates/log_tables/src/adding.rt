@@ -8,7 +8,7 @@ ghost use Rattle.spy_grammar.specs.declared.record.Record.TheVariants as records
 ghost use Rattle.std.specs.List.Sorted.{IsStrictlyIncreasing};
 ghost use Rattle.point_set.specs.Rects.{AreRects, rect_points};
 
-use crate::draft::Draft;
+use crate::tables::LogTables;
 use crate::entries::Space;
 use arena_sets::{ArenaRects, Memory};
 use bumpalo::Bump;
@@ -146,7 +146,7 @@ fn placed<'a, P: ArenaRects<'a>>(bump: &'a Bump, rects: &[Rect]) -> Result<P, Me
     Ok(set)
 }
 
-impl<'a, P: ArenaRects<'a>> Draft<P> {
+impl<'a, P: ArenaRects<'a>> LogTables<P> {
     /// One space more, whose set is placed in the arena.
     fn add_rects(&mut self, bump: &'a Bump, id: u32, rects: &[Rect]) -> Result<(), Memory>
         requires { AreRects rects.now }

@@ -6,13 +6,13 @@ ghost use Rattle.std.specs.List.Sorted.{IsStrictlyIncreasing};
 ghost use Rattle.vocabulary.specs.Prelude.{fields_in, points_in, space_above};
 ghost use Rattle.semantics.specs.Rules.{is_declared, runs_item, space_id, part_id, field_space_id, tree_id, operator_id, item_id, task_id, inst_id};
 
-use crate::draft::Draft;
+use crate::tables::LogTables;
 use crate::entries::Step;
 use point_set::PointSet;
 use semantics::ItemBody;
 
 #[tactic(auto, using(list_lemmas::proofs::lemmas::Places::list_any_map))]
-impl<P: PointSet> Draft<P> {
+impl<P: PointSet> LogTables<P> {
     /// Whether a space is declared.
     pub fn has_space(&self, id: u32) -> bool
         ensures { result ≡ is_declared self.now (space_id id) }
@@ -106,7 +106,7 @@ impl<P: PointSet> Draft<P> {
 }
 
 #[tactic(auto, using(list_lemmas::proofs::lemmas::Places::find_map))]
-impl<P: PointSet> Draft<P> {
+impl<P: PointSet> LogTables<P> {
     /// The set of a space.
     pub fn set(&self, id: u32) -> Option<&P>
         ensures { MatchOption result (points_in self.now id ≡ []) (λ s. points_in self.now id

@@ -1,14 +1,14 @@
 //! What a log declares, as it is looked up.
 //!
-//! `Draft` is the tables of the records so far. `Draft::add` adds one record to them, exactly as `Tables` of
+//! `LogTables` is the tables of the records so far. `LogTables::add` adds one record to them, exactly as `Tables` of
 //! `semantics` says, and changes nothing where memory runs out; each look-up is its definition. `Decls` is
 //! what of it declares regions. One way to tie an index to a list serves all of them (`Rows`). Begin with
-//! `draft.rt` and `lookups.rt`.
+//! `tables.rt` and `lookups.rt`.
 #![tactic(auto)]
 
 mod adding;
 mod declared;
-mod draft;
+mod tables;
 mod entries;
 mod fields;
 mod lookups;
@@ -20,7 +20,7 @@ mod rows;
 mod two_rows;
 
 pub use adding::{priv_of, rects_of, strips_of};
-pub use draft::Draft;
+pub use tables::LogTables;
 pub use entries::{ReqKey, Space, Step};
 pub use fields::is_in;
 pub use maps::{FieldKey, Maps};

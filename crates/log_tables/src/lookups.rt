@@ -11,7 +11,7 @@ ghost use Rattle.log_tables.specs.Mapped.{inst_mapped};
 ghost use Rattle.log_tables.specs.Regions.{regions_of};
 ghost use Rattle.log_tables.specs.Views.{space_seen};
 
-use crate::draft::Draft;
+use crate::tables::LogTables;
 use crate::entries::Space;
 use crate::maps::FieldKey;
 use crate::regions::Decls;
@@ -28,7 +28,7 @@ fn place_in(items: &Rows<u32, Item>, id: u32) -> usize
     }
 }
 
-impl<P: PointSet> Draft<P> {
+impl<P: PointSet> LogTables<P> {
     /// What is declared of regions.
     pub fn regions(&self) -> &Decls<P>
         ensures { result.now ≡ regions_of self.now }

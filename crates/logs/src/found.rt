@@ -10,7 +10,7 @@ ghost use Rattle.logs.specs.Looked.{AreFound};
 use crate::serial_order::{serial_lines, serial_order, serial_places};
 use bumpalo::Bump;
 use item_uses::{ItemUses, Span, representatives, spans_of_blocks, uses_of_items};
-use log_tables::{Draft, Space};
+use log_tables::{LogTables, Space};
 use point_set::PointSet;
 use region_tree::Memory;
 use std::alloc::{AllocError, Global};
@@ -46,18 +46,18 @@ fn ids_of<P>(alloc: Global, spaces: &[Space<P>]) -> Result<Vec<u32>, AllocError>
 pub(crate) fn found_in<'a, P: PointSet + Copy>(
     alloc: Global,
     bump: &'a Bump,
-    draft: &Draft<P>,
+    tables: &LogTables<P>,
 ) -> Result<Found<'a, P>, Memory>
-    ensures uses { IfOk result (λ f. f.uses.items ≡ usages draft.now) }
+    ensures uses { IfOk result (λ f. f.uses.items ≡ usages tables.now) }
     ensures blocks { IfOk result (λ f. AreBlocks f.blocks.items f.uses.items) }
     ensures representatives { IfOk result (λ f. AreRepresentatives f.representatives.items f.uses.items) }
-    ensures found { IfOk result (λ f. AreFound draft.now f.space_ids.items f.order.items f.places.items (get nat_eq f.lines)) }
+    ensures found { IfOk result (λ f. AreFound tables.now f.space_ids.items f.order.items f.places.items (get nat_eq f.lines)) }
 {
-    let space_ids = ids_of(alloc, draft.spaces())?;
-    let order = serial_order(alloc, draft)?;
-    let places = serial_places(alloc, draft.items().len(), order.as_slice())?;
-    let lines = serial_lines(alloc, draft.serials())?;
-    let uses = uses_of_items(alloc, bump, draft)?;
+    let space_ids = ids_of(alloc, tables.spaces())?;
+    let order = serial_order(alloc, tables)?;
+    let places = serial_places(alloc, tables.items().len(), order.as_slice())?;
+    let lines = serial_lines(alloc, tables.serials())?;
+    let uses = uses_of_items(alloc, bump, tables)?;
     let blocks = spans_of_blocks(alloc, &uses)?;
     let representatives = representatives(alloc, &uses)?;
     Ok(Found {

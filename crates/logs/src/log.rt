@@ -23,7 +23,7 @@ use crate::found::{Found, found_in};
 use crate::mapping::{Unmapped, first_unmapped, inst_mapped};
 use bumpalo::Bump;
 use item_uses::{ItemUses, Span};
-use log_tables::Draft;
+use log_tables::LogTables;
 use point_set::{PointSet, Rect};
 use region_tree::{ArenaSet, Forest, Memory, Path};
 use semantics::{Inst, Item, LogNode, Req};
@@ -33,7 +33,7 @@ use std::marker::Model;
 /// What a log declares, whose records break no rule of its frame and no rule on single records. Contracts see it as the tables of these records.
 #[derive(Drop)]
 pub struct Log<'a, P: PointSet + Copy> {
-    draft: Draft<P>,
+    tables: LogTables<P>,
     found: Found<'a, P>,
 }
 
@@ -51,25 +51,25 @@ impl<'a, P: PointSet + Copy> Model for Log<'a, P> {
 
     ghost Value = { Tables };
 
-    ghost view = { λ l. l.draft };
+    ghost view = { λ l. l.tables };
 
-    ghost invariant = { λ l. AreDeclared l.draft × IsSound (regions_of l.draft)
-        × (l.found.uses.items ≡ usages l.draft) × AreBlocks l.found.blocks.items l.found.uses.items
+    ghost invariant = { λ l. AreDeclared l.tables × IsSound (regions_of l.tables)
+        × (l.found.uses.items ≡ usages l.tables) × AreBlocks l.found.blocks.items l.found.uses.items
         × AreRepresentatives l.found.representatives.items l.found.uses.items
-        × AreFound l.draft l.found.space_ids.items l.found.order.items l.found.places.items (get nat_eq l.found.lines) };
+        × AreFound l.tables l.found.space_ids.items l.found.order.items l.found.places.items (get nat_eq l.found.lines) };
 }
 
 impl<'a, P: ArenaSet<'a>> Log<'a, P> {
     /// The log whose tables these are.
-    pub fn of(alloc: Global, bump: &'a Bump, draft: Draft<P>) -> Result<Log<'a, P>, Memory>
-        requires declared { AreDeclared draft }
-        requires sound { IsSound (regions_of draft) }
-        ensures { IfOk result (λ log. log ≡ draft) }
+    pub fn of(alloc: Global, bump: &'a Bump, tables: LogTables<P>) -> Result<Log<'a, P>, Memory>
+        requires declared { AreDeclared tables }
+        requires sound { IsSound (regions_of tables) }
+        ensures { IfOk result (λ log. log ≡ tables) }
     {
-        match found_in(alloc, bump, &draft) {
-            Ok(found) => Ok(Log { draft, found }),
+        match found_in(alloc, bump, &tables) {
+            Ok(found) => Ok(Log { tables, found }),
             Err(memory) => {
-                drop(draft);
+                drop(tables);
                 Err(memory)
             }
         }
@@ -77,7 +77,7 @@ impl<'a, P: ArenaSet<'a>> Log<'a, P> {
 
     /// Lets the log go: who owns one then proves no drop of its parts.
     pub fn let_go(self) {
-        drop(self.draft);
+        drop(self.tables);
         drop(self.found);
     }
 }
@@ -87,14 +87,14 @@ impl<'a, P: PointSet + Copy> Log<'a, P> {
     pub fn is_declared(&self)
         ensures { AreDeclared self.now }
     {
-        let _draft = &self.draft;
+        let _tables = &self.tables;
     }
 
     /// The tables, in which more can be looked up.
-    pub fn draft(&self) -> &Draft<P>
+    pub fn tables(&self) -> &LogTables<P>
         ensures { result.now ≡ self.now }
     {
-        &self.draft
+        &self.tables
     }
 
     /// The rectangles of the spaces, in the order of their lines. A run of points is one of the first column.
@@ -103,21 +103,21 @@ impl<'a, P: PointSet + Copy> Log<'a, P> {
         ensures drawn { AreDrawn self.now }
         ensures points { All (λ r. (r.x0 ≤ r.x1) × (r.y0 ≤ r.y1)) result.now }
     {
-        self.draft.rects()
+        self.tables.rects()
     }
 
     /// The items, in program order, the order of their lines.
     pub fn items(&self) -> &[Item]
         ensures { result.now ≡ self.now.items }
     {
-        self.draft.items()
+        self.tables.items()
     }
 
     /// The law of the fields of fills: they ascend. There is nothing to do.
     pub fn fill_fields_ascend(&self)
         ensures { All (λ i. IsStrictlyIncreasing (body_fields i.body)) self.now.items }
     {
-        let _items = self.draft.items();
+        let _items = self.tables.items();
     }
 
     /// The requirements, in the order of their lines.
@@ -125,21 +125,21 @@ impl<'a, P: PointSet + Copy> Log<'a, P> {
         ensures reqs { result.now ≡ self.now.reqs }
         ensures ascend { All (λ r. IsStrictlyIncreasing r.fields) result.now }
     {
-        self.draft.reqs()
+        self.tables.reqs()
     }
 
     /// The instances, in the order of their lines.
     pub fn insts(&self) -> &[Inst]
         ensures { result.now ≡ self.now.insts }
     {
-        self.draft.insts()
+        self.tables.insts()
     }
 
     /// The nodes of the recorded run, in the order of their lines.
     pub fn nodes(&self) -> &[LogNode]
         ensures { result.now ≡ self.now.nodes }
     {
-        self.draft.nodes()
+        self.tables.nodes()
     }
 
     /// The positions of all items in serial order.
@@ -168,14 +168,14 @@ impl<'a, P: PointSet + Copy> Log<'a, P> {
     pub fn has_serial(&self) -> bool
         ensures { IsTrue result ↔ (0 < length self.now.serials) }
     {
-        !self.draft.serials().is_empty()
+        !self.tables.serials().is_empty()
     }
 
     // The first line that lists an item.
     fn line_listing(&self, item: usize) -> Option<u32>
         ensures { result ≡ item_line self.now item }
     {
-        let item = self.draft.items().get(item)?;
+        let item = self.tables.items().get(item)?;
         self.found.lines.get(&item.id).copied()
     }
 
@@ -220,7 +220,7 @@ impl<'a, P: PointSet + Copy> Log<'a, P> {
     pub fn forest(&self) -> Forest<'_, P>
         ensures { result ≡ regions_of self.now }
     {
-        Forest::of(self.draft.regions())
+        Forest::of(self.tables.regions())
     }
 
     /// The path of a space in the forest, or `None` where the space is not declared. The only error is that memory ran out.
@@ -237,7 +237,7 @@ impl<'a, P: PointSet + Copy> Log<'a, P> {
         ensures { MatchOption result (points_in self.now space ≡ []) (λ s. points_in self.now space
             ≡ P.points s.now) }
     {
-        self.draft.set(space)
+        self.tables.set(space)
     }
 
     /// The instance with this id.
@@ -245,7 +245,7 @@ impl<'a, P: PointSet + Copy> Log<'a, P> {
         ensures inst { option_copied result ≡ inst_at self.now id }
         ensures ascend { IfSome result (λ inst. IsStrictlyIncreasing inst.now.fields) }
     {
-        self.draft.inst(id)
+        self.tables.inst(id)
     }
 
     /// The requirement of an item with this number.
@@ -253,7 +253,7 @@ impl<'a, P: PointSet + Copy> Log<'a, P> {
         ensures req { option_copied result ≡ req_at self.now item number }
         ensures ascend { IfSome result (λ req. IsStrictlyIncreasing req.now.fields) }
     {
-        self.draft.req(item, number)
+        self.tables.req(item, number)
     }
 
     /// The position of the requirement of an item with this number.
@@ -261,29 +261,29 @@ impl<'a, P: PointSet + Copy> Log<'a, P> {
         ensures place { result ≡ position (λ r. (r.item == item) && (r.number == number)) self.now.reqs }
         ensures req { option_and_then (slice_get self.now.reqs) result ≡ req_at self.now item number }
     {
-        self.draft.req_place(item, number)
+        self.tables.req_place(item, number)
     }
 
     /// How many requirements an item has.
     pub fn req_count(&self, item: usize) -> usize
         ensures { result ≡ reqs_before self.now.reqs item }
     {
-        self.draft.req_count(item)
+        self.tables.req_count(item)
     }
 
     /// The instance to which a field of a requirement is mapped, or `None` where no line maps it. The requirement is named by the position of its item, and by its number there.
     pub fn inst_of_item(&self, item: usize, number: u32, field: u32) -> Option<u32>
         ensures { result ≡ inst_mapped self.now.maps (record { item = item; number = number; field = field }) }
     {
-        self.draft.inst_of(item, number, field)
+        self.tables.inst_of(item, number, field)
     }
 
     /// The instance to which a field of a requirement is mapped, or `None` where no line maps it. The requirement is named by its position.
     pub fn inst_of(&self, req: usize, field: u32) -> Option<u32>
         ensures { result ≡ option_and_then (λ r. mapped self.now r field) (slice_get self.now.reqs req) }
     {
-        let req = self.draft.reqs().get(req)?;
-        inst_mapped(&self.draft, req, field)
+        let req = self.tables.reqs().get(req)?;
+        inst_mapped(&self.tables, req, field)
     }
 
     /// Whether each field of each requirement is mapped, or else the line of the first requirement of which one is not.
@@ -291,7 +291,7 @@ impl<'a, P: PointSet + Copy> Log<'a, P> {
         ensures mapped { OnOk result (unmapped_fault self.now ≡ None) }
         ensures unmapped { IfErr result (λ u. unmapped_fault self.now ≡ Some (at_line codes.Unmapped u.line)) }
     {
-        match first_unmapped(&self.draft) {
+        match first_unmapped(&self.tables) {
             Some(req) => Err(Unmapped { line: req.line }),
             None => Ok(()),
         }

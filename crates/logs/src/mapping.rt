@@ -6,7 +6,7 @@ ghost use Rattle.std.specs.Option.{option_copied};
 ghost use Rattle.vocabulary.specs.Prelude.{mapped};
 ghost use Rattle.logs.specs.Mapping.{is_mapped};
 
-use log_tables::Draft;
+use log_tables::LogTables;
 use point_set::PointSet;
 use semantics::Req;
 
@@ -17,18 +17,18 @@ pub struct Unmapped {
 }
 
 /// The instance to which a field of a requirement is mapped.
-pub(crate) fn inst_mapped<P: PointSet>(draft: &Draft<P>, req: &Req, field: u32) -> Option<u32>
-    ensures { result ≡ mapped draft.now req.now field }
+pub(crate) fn inst_mapped<P: PointSet>(tables: &LogTables<P>, req: &Req, field: u32) -> Option<u32>
+    ensures { result ≡ mapped tables.now req.now field }
 {
-    draft.inst_of(req.item, req.number, field)
+    tables.inst_of(req.item, req.number, field)
 }
 
 /// Whether each field of a requirement is mapped.
-fn is_mapped<P: PointSet>(draft: &Draft<P>, req: &Req) -> bool
-    ensures { result ≡ is_mapped draft.now req.now }
+fn is_mapped<P: PointSet>(tables: &LogTables<P>, req: &Req) -> bool
+    ensures { result ≡ is_mapped tables.now req.now }
 {
     for field in req.fields.as_slice() {
-        if inst_mapped(draft, req, *field).is_none() {
+        if inst_mapped(tables, req, *field).is_none() {
             return false;
         }
     }
@@ -36,8 +36,8 @@ fn is_mapped<P: PointSet>(draft: &Draft<P>, req: &Req) -> bool
 }
 
 /// The first requirement of which a field is not mapped.
-pub(crate) fn first_unmapped<P: PointSet>(draft: &Draft<P>) -> Option<&Req>
-    ensures { option_copied result ≡ find (λ r. not (is_mapped draft.now r)) draft.now.reqs }
+pub(crate) fn first_unmapped<P: PointSet>(tables: &LogTables<P>) -> Option<&Req>
+    ensures { option_copied result ≡ find (λ r. not (is_mapped tables.now r)) tables.now.reqs }
 {
-    draft.reqs().iter().find(|req| !is_mapped(draft, req))
+    tables.reqs().iter().find(|req| !is_mapped(tables, req))
 }

@@ -7,7 +7,7 @@ ghost use Rattle.vocabulary.specs.Prelude.{is_in, place_of};
 ghost use Rattle.semantics.specs.SerialOrder.{listed, serial};
 ghost use Rattle.logs.specs.Listing.{line_listing, ArePlacesIn};
 
-use log_tables::Draft;
+use log_tables::LogTables;
 use point_set::PointSet;
 use semantics::Serial;
 use std::alloc::{AllocError, Global};
@@ -28,21 +28,21 @@ fn program_order(alloc: Global, count: usize) -> Result<Vec<usize>, AllocError>
 /// The positions of the items with these ids.
 fn places_of_ids<P: PointSet>(
     alloc: Global,
-    draft: &Draft<P>,
+    tables: &LogTables<P>,
     ids: &[u32],
 ) -> Result<Vec<usize>, AllocError>
-    ensures { IfOk result (λ places. places.items ≡ map (place_of draft.now.items) ids.now) }
+    ensures { IfOk result (λ places. places.items ≡ map (place_of tables.now.items) ids.now) }
 {
-    ids.iter().map(|id| draft.place(*id)).collect(alloc)
+    ids.iter().map(|id| tables.place(*id)).collect(alloc)
 }
 
 /// The positions of the items that are listed, in their order.
-fn listed_order<P: PointSet>(alloc: Global, draft: &Draft<P>) -> Result<Vec<usize>, AllocError>
-    ensures { IfOk result (λ order. order.items ≡ map (place_of draft.now.items) (listed draft.now)) }
+fn listed_order<P: PointSet>(alloc: Global, tables: &LogTables<P>) -> Result<Vec<usize>, AllocError>
+    ensures { IfOk result (λ order. order.items ≡ map (place_of tables.now.items) (listed tables.now)) }
 {
     let mut order = Vec::new(alloc);
-    for list in draft.serials() {
-        let places = places_of_ids(alloc, draft, list.ids.as_slice())?;
+    for list in tables.serials() {
+        let places = places_of_ids(alloc, tables, list.ids.as_slice())?;
         order.extend_from_slice(&places)?;
     }
     Ok(order)
@@ -51,14 +51,14 @@ fn listed_order<P: PointSet>(alloc: Global, draft: &Draft<P>) -> Result<Vec<usiz
 /// The positions of all items in serial order.
 pub(crate) fn serial_order<P: PointSet>(
     alloc: Global,
-    draft: &Draft<P>,
+    tables: &LogTables<P>,
 ) -> Result<Vec<usize>, AllocError>
-    ensures { IfOk result (λ order. order.items ≡ serial draft.now) }
+    ensures { IfOk result (λ order. order.items ≡ serial tables.now) }
 {
-    if draft.serials().is_empty() {
-        program_order(alloc, draft.items().len())
+    if tables.serials().is_empty() {
+        program_order(alloc, tables.items().len())
     } else {
-        listed_order(alloc, draft)
+        listed_order(alloc, tables)
     }
 }
 

@@ -12,8 +12,8 @@ use Rattle.list_lemmas.proofs.lemmas.Firsts.{cases_option}
 use Rattle.list_lemmas.proofs.lemmas.Pairs.{AllPairs-map, AllPairs-so, AllPairs-flat, AllPairs-nil}
 use Rattle.list_lemmas.proofs.lemmas.Ranges.{Rise}
 use Rattle.log_laws.proofs.lemmas.Apart.{fields_rise, points_rise, plane_rises}
-use Rattle.log_laws.proofs.lemmas.Sane.{AreSane, FitTogether}
-use Rattle.log_laws.proofs.lemmas.Admitted.{IsFaultless, by_records, sane}
+use Rattle.log_laws.proofs.lemmas.Consistent.{AreConsistent, FitTogether}
+use Rattle.log_laws.proofs.lemmas.Admitted.{IsFaultless, by_records, consistent}
 use Rattle.long_values.specs.LongSequential.{places_of, places_read}
 
 record DoRise (t : Tables) : Type 0 where
@@ -76,11 +76,11 @@ number_of : (t : Tables) (r : Req) (e : ℕ × Place) → Contains (places_of t 
 number_of t r e m = ap (λ (e : ℕ × Place). e.0)
     (member_map (λ (p : ℕ × ℕ). (r.number, record { tree = r.tree; point = p.0; field = p.1 })) (req_grid t r) e m).2
 
-all_rise : (t : Tables) (item : ℕ) → AreSane t → DoRise t → AllPairs First (places_read t item)
-all_rise t item sane h =
+all_rise : (t : Tables) (item : ℕ) → AreConsistent t → DoRise t → AllPairs First (places_read t item)
+all_rise t item consistent h =
     let own : List Req = reqs_of t item in
     let reads : Req → Bool = λ (r : Req). may_read r.access in
-    let up : AllPairs Later t.reqs = AllPairs-so (FitTogether t) Later t.reqs (λ q r _ _ fit same. (fit same).0) sane.reqs in
+    let up : AllPairs Later t.reqs = AllPairs-so (FitTogether t) Later t.reqs (λ q r _ _ fit same. (fit same).0) consistent.reqs in
     let kept : AllPairs Later (filter reads own) =
     AllPairs-filter Later reads own (AllPairs-filter Later (λ (r : Req). r.item == item) t.reqs up) in
     AllPairs-flat First (places_of t) (filter reads own)
@@ -98,6 +98,6 @@ all_rise t item sane h =
 
 pub places_rise : (command : Command) (log : List Lined) → AllByRecursion Good (records_of log) → IsFaultless command log → (item : ℕ)
     → AllPairs First (places_read (tables_of log) item)
-places_rise command log good f item = all_rise (tables_of log) item (sane command log f)
+places_rise command log good f item = all_rise (tables_of log) item (consistent command log f)
     (by_records Good DoRise (records_of log) (λ earlier l u g h. with_good (tables_of earlier) l.line l.rec g h) [] log good f.records
     (record { spaces = λ s m. absurd (Contains-nil m); fields = λ r m. absurd (Contains-nil m) }))

@@ -8,7 +8,7 @@ ghost use Rattle.nest_rules.specs.Pending.{broken};
 use crate::groups::Groups;
 use crate::pending::Pending;
 use log_rules::{exceeds_tree, is_in_tree};
-use log_tables::Draft;
+use log_tables::LogTables;
 use point_set::PointSet;
 use semantics::MOST_GROUPS;
 use spy_grammar::{Code, NRecord};
@@ -69,28 +69,28 @@ fn is_late_group(groups: &Groups, rec: &NRecord) -> bool
 }
 
 /// Whether the space of a privilege lies outside its tree.
-fn is_outside_tree<P: PointSet>(draft: &Draft<P>, rec: &NRecord) -> bool
-    ensures { result ≡ is_outside_tree draft.now rec.now }
+fn is_outside_tree<P: PointSet>(tables: &LogTables<P>, rec: &NRecord) -> bool
+    ensures { result ≡ is_outside_tree tables.now rec.now }
 {
     match rec {
-        NRecord::Greq { tree, space, .. } => !is_in_tree(draft, *tree, *space),
+        NRecord::Greq { tree, space, .. } => !is_in_tree(tables, *tree, *space),
         _ => false,
     }
 }
 
 /// Whether a privilege has a field that its tree does not have.
-fn has_other_fields<P: PointSet>(draft: &Draft<P>, rec: &NRecord) -> bool
-    ensures { result ≡ has_other_fields draft.now rec.now }
+fn has_other_fields<P: PointSet>(tables: &LogTables<P>, rec: &NRecord) -> bool
+    ensures { result ≡ has_other_fields tables.now rec.now }
 {
     match rec {
-        NRecord::Greq { tree, fields, .. } => exceeds_tree(draft, *tree, fields),
+        NRecord::Greq { tree, fields, .. } => exceeds_tree(tables, *tree, fields),
         _ => false,
     }
 }
 
 /// The first rule that a record breaks, given what is nested by then and what the whole log declares.
-pub(crate) fn broken<P: PointSet>(draft: &Draft<P>, groups: &Groups, p: &Pending) -> Option<Code>
-    ensures { result ≡ broken draft.now groups.now p.now }
+pub(crate) fn broken<P: PointSet>(tables: &LogTables<P>, groups: &Groups, p: &Pending) -> Option<Code>
+    ensures { result ≡ broken tables.now groups.now p.now }
 {
     if is_late_nested(groups, &p.rec) {
         return Some(Code::TooManyRecords);
@@ -104,10 +104,10 @@ pub(crate) fn broken<P: PointSet>(draft: &Draft<P>, groups: &Groups, p: &Pending
     if is_late_group(groups, &p.rec) {
         return Some(Code::TooManyGroups);
     }
-    if is_outside_tree(draft, &p.rec) {
+    if is_outside_tree(tables, &p.rec) {
         return Some(Code::NotInTree);
     }
-    if has_other_fields(draft, &p.rec) {
+    if has_other_fields(tables, &p.rec) {
         return Some(Code::Fields);
     }
     None

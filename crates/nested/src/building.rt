@@ -17,7 +17,7 @@ use crate::nest_end::NestEnd;
 use arena_sets::ArenaRects;
 use bumpalo::Bump;
 use log_decl::{DeclEnd, Log, declare};
-use log_tables::Draft;
+use log_tables::LogTables;
 use nest_rules::{Groups, Parts, Pending, split};
 use point_set::PointSet;
 use spy_grammar::{Lined, NLined};
@@ -26,14 +26,14 @@ use std::alloc::Global;
 /// The groups, or the fault of the first record that breaks a rule on groups.
 fn groups_of<P: PointSet>(
     alloc: Global,
-    draft: &Draft<P>,
+    tables: &LogTables<P>,
     nested: Vec<Pending>,
 ) -> Result<Groups, NestEnd>
     requires { All (λ p. GoodNested p.rec) nested.items }
-    ensures groups { IfOk result (λ g. AreGroups draft.now nested.items g) }
-    ensures end { IfErr result (λ e. IsEnd draft.now nested.items e) }
+    ensures groups { IfOk result (λ g. AreGroups tables.now nested.items g) }
+    ensures end { IfErr result (λ e. IsEnd tables.now nested.items e) }
 {
-    match judged(alloc, draft, nested) {
+    match judged(alloc, tables, nested) {
         Ok(Ok(groups)) => Ok(groups),
         Ok(Err(fault)) => Err(NestEnd::Fault {
             line: fault.line,
@@ -47,16 +47,16 @@ fn groups_of<P: PointSet>(
 fn found_of<'a, P: PointSet + Copy>(
     alloc: Global,
     bump: &'a Bump,
-    draft: &Draft<P>,
+    tables: &LogTables<P>,
     groups: Groups,
 ) -> Result<Found<'a, P>, NestEnd>
     requires { AreNamed groups }
     ensures groups { IfOk result (λ f. f.groups ≡ groups) }
-    ensures rows { IfOk result (λ f. f.rows.items ≡ rows_in draft.now groups) }
-    ensures licensed { OnOk result (shown_unlicensed draft.now groups ≡ None) }
-    ensures end { IfErr result (λ e. IsRefusal draft.now groups e) }
+    ensures rows { IfOk result (λ f. f.rows.items ≡ rows_in tables.now groups) }
+    ensures licensed { OnOk result (shown_unlicensed tables.now groups ≡ None) }
+    ensures end { IfErr result (λ e. IsRefusal tables.now groups e) }
 {
-    match licensed(alloc, bump, draft, groups) {
+    match licensed(alloc, bump, tables, groups) {
         Ok(Ok(found)) => Ok(found),
         Ok(Err(shown)) => Err(NestEnd::Unlicensed(shown)),
         Err(_) => Err(NestEnd::Memory),
@@ -67,15 +67,15 @@ fn found_of<'a, P: PointSet + Copy>(
 fn found_in<'a, P: PointSet + Copy>(
     alloc: Global,
     bump: &'a Bump,
-    draft: &Draft<P>,
+    tables: &LogTables<P>,
     nested: Vec<Pending>,
 ) -> Result<Found<'a, P>, NestEnd>
     requires { All (λ p. GoodNested p.rec) nested.items }
-    ensures found { IfOk result (λ f. AreFound draft.now nested.items f.groups f.rows.items) }
-    ensures end { IfErr result (λ e. IsEnd draft.now nested.items e) }
+    ensures found { IfOk result (λ f. AreFound tables.now nested.items f.groups f.rows.items) }
+    ensures end { IfErr result (λ e. IsEnd tables.now nested.items e) }
 {
-    match groups_of(alloc, draft, nested) {
-        Ok(groups) => match found_of(alloc, bump, draft, groups) {
+    match groups_of(alloc, tables, nested) {
+        Ok(groups) => match found_of(alloc, bump, tables, groups) {
             Ok(found) => Ok(found),
             Err(end) => Err(end),
         },
@@ -97,7 +97,7 @@ fn nest_of<'a, P: ArenaRects<'a>>(
     ensures licensed { OnOk result (shown_unlicensed log.entry (all_nested nested.items) ≡ None) }
     ensures end { IfErr result (λ e. IsEnd log.entry nested.items e) }
 {
-    match found_in(alloc, bump, log.draft(), nested) {
+    match found_in(alloc, bump, log.tables(), nested) {
         Ok(found) => Ok(Nest::of(log, found)),
         Err(end) => {
             // Dropped by a call, so that its many fields are no steps of this proof.

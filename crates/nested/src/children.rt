@@ -10,7 +10,7 @@ use crate::own::own_rows;
 use crate::row::Row;
 use crate::rows::row_at;
 use licences::{Claim, first_refused};
-use log_tables::Draft;
+use log_tables::LogTables;
 use nest_rules::Groups;
 use point_set::PointSet;
 use semantics::{Child, Group, GroupMember, Unlicensed};
@@ -49,14 +49,14 @@ fn refused_by<P: PointSet + Copy>(
 
 /// What is shown of a group that has privileges which the group above it does not license.
 fn refused_group<P: PointSet + Copy>(
-    draft: &Draft<P>,
+    tables: &LogTables<P>,
     groups: &Groups,
     rows: &[Row<'_, P>],
     group: Group,
 ) -> Option<Unlicensed>
-    requires rows { rows.now ≡ rows_in draft.now groups.now }
+    requires rows { rows.now ≡ rows_in tables.now groups.now }
     requires named { AreNamed groups.now }
-    ensures { result ≡ shown_group draft.now groups.now group }
+    ensures { result ≡ shown_group tables.now groups.now group }
 {
     if group.parent == 0 {
         return None;
@@ -76,17 +76,17 @@ fn refused_group<P: PointSet + Copy>(
 
 /// What is shown of the first of some groups that has privileges which the group above it does not license.
 fn refused_groups<P: PointSet + Copy>(
-    draft: &Draft<P>,
+    tables: &LogTables<P>,
     groups: &Groups,
     rows: &[Row<'_, P>],
     all: &[Group],
 ) -> Option<Unlicensed>
-    requires rows { rows.now ≡ rows_in draft.now groups.now }
+    requires rows { rows.now ≡ rows_in tables.now groups.now }
     requires named { AreNamed groups.now }
-    ensures { result ≡ first_given (shown_group draft.now groups.now) all.now }
+    ensures { result ≡ first_given (shown_group tables.now groups.now) all.now }
 {
     for group in all {
-        let shown = refused_group(draft, groups, rows, *group);
+        let shown = refused_group(tables, groups, rows, *group);
         if shown.is_some() {
             return shown;
         }
@@ -104,18 +104,18 @@ fn row_of_place<'r, 'a, P: PointSet + Copy>(rows: &'r [Row<'a, P>], place: usize
 
 /// What is shown of a task that asks for more than its group licenses.
 fn refused_member<P: PointSet + Copy>(
-    draft: &Draft<P>,
+    tables: &LogTables<P>,
     groups: &Groups,
     rows: &[Row<'_, P>],
     tasks: &[Row<'_, P>],
     member: GroupMember,
 ) -> Option<Unlicensed>
-    requires rows { rows.now ≡ rows_in draft.now groups.now }
+    requires rows { rows.now ≡ rows_in tables.now groups.now }
     requires named { AreNamed groups.now }
-    requires tasks { tasks.now ≡ own_rows_by draft.now draft.now.reqs }
-    ensures { result ≡ shown_member draft.now groups.now member }
+    requires tasks { tasks.now ≡ own_rows_by tables.now tables.now.reqs }
+    ensures { result ≡ shown_member tables.now groups.now member }
 {
-    let own = row_of_place(tasks, draft.place(member.task));
+    let own = row_of_place(tasks, tables.place(member.task));
     let child = Child {
         leaf: true,
         id: member.task,
@@ -127,19 +127,19 @@ fn refused_member<P: PointSet + Copy>(
 
 /// What is shown of the first of some tasks that asks for more than its group licenses.
 fn refused_members<P: PointSet + Copy>(
-    draft: &Draft<P>,
+    tables: &LogTables<P>,
     groups: &Groups,
     rows: &[Row<'_, P>],
     tasks: &[Row<'_, P>],
     all: &[GroupMember],
 ) -> Option<Unlicensed>
-    requires rows { rows.now ≡ rows_in draft.now groups.now }
+    requires rows { rows.now ≡ rows_in tables.now groups.now }
     requires named { AreNamed groups.now }
-    requires tasks { tasks.now ≡ own_rows_by draft.now draft.now.reqs }
-    ensures { result ≡ first_given (shown_member draft.now groups.now) all.now }
+    requires tasks { tasks.now ≡ own_rows_by tables.now tables.now.reqs }
+    ensures { result ≡ first_given (shown_member tables.now groups.now) all.now }
 {
     for member in all {
-        let shown = refused_member(draft, groups, rows, tasks, *member);
+        let shown = refused_member(tables, groups, rows, tasks, *member);
         if shown.is_some() {
             return shown;
         }
@@ -151,19 +151,19 @@ fn refused_members<P: PointSet + Copy>(
 #[tactic(auto, using(crate::proofs::Showing::all_children))]
 pub(crate) fn unlicensed<P: PointSet + Copy>(
     alloc: Global,
-    draft: &Draft<P>,
+    tables: &LogTables<P>,
     groups: &Groups,
     rows: &[Row<'_, P>],
 ) -> Result<Option<Unlicensed>, AllocError>
-    requires rows { rows.now ≡ rows_in draft.now groups.now }
+    requires rows { rows.now ≡ rows_in tables.now groups.now }
     requires named { AreNamed groups.now }
-    ensures { IfOk result (λ shown. shown ≡ shown_unlicensed draft.now groups.now) }
+    ensures { IfOk result (λ shown. shown ≡ shown_unlicensed tables.now groups.now) }
 {
-    let shown = refused_groups(draft, groups, rows, groups.groups());
+    let shown = refused_groups(tables, groups, rows, groups.groups());
     if shown.is_some() {
         return Ok(shown);
     }
-    let tasks = own_rows(alloc, draft)?;
-    let shown = refused_members(draft, groups, rows, &tasks, groups.members());
+    let tasks = own_rows(alloc, tables)?;
+    let shown = refused_members(tables, groups, rows, &tasks, groups.members());
     Ok(shown)
 }

@@ -10,7 +10,7 @@ use crate::apart::ancestors_of;
 use crate::finding::Found;
 use crate::row::Row;
 use group_pairs::{Side, count_apart};
-use log_tables::Draft;
+use log_tables::LogTables;
 use logs::Log;
 use memory::Memory;
 use nest_rules::Groups;
@@ -34,12 +34,12 @@ fn side_of<'r, 'a, P: PointSet + Copy>(
 /// Each group with its ancestors and its privileges.
 pub(crate) fn sides_of<'r, 'a, P: PointSet + Copy>(
     alloc: Global,
-    draft: &Draft<P>,
+    tables: &LogTables<P>,
     groups: &Groups,
     rows: &'r [Row<'a, P>],
 ) -> Result<Vec<Side<'r, 'a, P>>, AllocError>
-    requires { rows.now ≡ rows_in draft.now groups.now }
-    ensures { IfOk result (λ sides. sides.items ≡ sides_in draft.now groups.now) }
+    requires { rows.now ≡ rows_in tables.now groups.now }
+    ensures { IfOk result (λ sides. sides.items ≡ sides_in tables.now groups.now) }
 {
     let mut sides = Vec::new(alloc);
     let mut place = 0;
@@ -60,7 +60,7 @@ pub(crate) fn count_free<'a, P: PointSet + Copy>(
     requires few { length found.now.groups.groups ≤ MOST_GROUPS }
     ensures { IfOk result (λ count. count ≡ free_pairs log.now found.now.groups) }
 {
-    let sides = sides_of(alloc, log.draft(), &found.groups, &found.rows)?;
+    let sides = sides_of(alloc, log.tables(), &found.groups, &found.rows)?;
     let forest = log.forest();
     count_apart(alloc, &forest, &sides)
 }

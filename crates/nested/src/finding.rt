@@ -12,7 +12,7 @@ use crate::children::unlicensed;
 use crate::row::Row;
 use crate::rows::rows_of;
 use bumpalo::Bump;
-use log_tables::Draft;
+use log_tables::LogTables;
 use nest_rules::{Groups, Pending, walk};
 use point_set::PointSet;
 use semantics::{Fault, Unlicensed};
@@ -28,18 +28,18 @@ pub(crate) struct Found<'a, P: PointSet + Copy> {
 /// The groups, or the fault of the first record that breaks a rule on groups.
 pub(crate) fn judged<P: PointSet>(
     alloc: Global,
-    draft: &Draft<P>,
+    tables: &LogTables<P>,
     nested: Vec<Pending>,
 ) -> Result<Result<Groups, Fault>, AllocError>
     requires { All (λ p. GoodNested p.rec) nested.items }
     ensures nesting { IfOk result (λ r. IfOk r (λ g. g ≡ fold with_pending no_nesting nested.items)) }
     ensures few { IfOk result (λ r. IfOk r AreFew) }
-    ensures faultless { IfOk result (λ r. OnOk r (pending_fault draft.now no_nesting nested.items ≡ None)) }
+    ensures faultless { IfOk result (λ r. OnOk r (pending_fault tables.now no_nesting nested.items ≡ None)) }
     ensures fault { IfOk result (λ r. (f : Fault) → r ≡ Err f
-        → pending_fault draft.now no_nesting nested.items ≡ Some f) }
+        → pending_fault tables.now no_nesting nested.items ≡ Some f) }
 {
     let mut groups = Groups::new(alloc);
-    match walk(&mut groups, draft, nested)? {
+    match walk(&mut groups, tables, nested)? {
         Some(fault) => Ok(Err(fault)),
         None => Ok(Ok(groups)),
     }
@@ -49,18 +49,18 @@ pub(crate) fn judged<P: PointSet>(
 pub(crate) fn licensed<'a, P: PointSet + Copy>(
     alloc: Global,
     bump: &'a Bump,
-    draft: &Draft<P>,
+    tables: &LogTables<P>,
     groups: Groups,
 ) -> Result<Result<Found<'a, P>, Unlicensed>, AllocError>
     requires { AreNamed groups }
     ensures groups { IfOk result (λ r. IfOk r (λ f. f.groups ≡ groups)) }
-    ensures rows { IfOk result (λ r. IfOk r (λ f. f.rows.items ≡ rows_in draft.now groups)) }
-    ensures licensed { IfOk result (λ r. OnOk r (shown_unlicensed draft.now groups ≡ None)) }
+    ensures rows { IfOk result (λ r. IfOk r (λ f. f.rows.items ≡ rows_in tables.now groups)) }
+    ensures licensed { IfOk result (λ r. OnOk r (shown_unlicensed tables.now groups ≡ None)) }
     ensures shown { IfOk result (λ r. (u : Unlicensed) → r ≡ Err u
-        → shown_unlicensed draft.now groups ≡ Some u) }
+        → shown_unlicensed tables.now groups ≡ Some u) }
 {
-    let rows = rows_of(alloc, bump, draft, &groups)?;
-    match unlicensed(alloc, draft, &groups, rows.as_slice())? {
+    let rows = rows_of(alloc, bump, tables, &groups)?;
+    match unlicensed(alloc, tables, &groups, rows.as_slice())? {
         Some(shown) => Ok(Err(shown)),
         None => Ok(Ok(Found { groups, rows })),
     }

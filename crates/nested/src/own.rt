@@ -6,19 +6,19 @@ ghost use Rattle.std.specs.List.Sorted.{IsStrictlyIncreasing};
 ghost use Rattle.nested.specs.Rows.{claim_of, own_rows_by, with_own};
 
 use crate::row::Row;
-use licences::{Asked, Claim};
-use log_tables::Draft;
+use licences::{NumberedReq, Claim};
+use log_tables::LogTables;
 use point_set::PointSet;
 use semantics::Req;
 use std::alloc::{AllocError, Global};
 
 /// A requirement of a task.
-fn req_claim<'l, P: PointSet + Copy>(draft: &Draft<P>, req: &'l Req) -> Claim<'l, P>
+fn req_claim<'l, P: PointSet + Copy>(tables: &LogTables<P>, req: &'l Req) -> Claim<'l, P>
     requires { IsStrictlyIncreasing req.now.fields }
-    ensures { result ≡ claim_of draft.now req.now }
+    ensures { result ≡ claim_of tables.now req.now }
 {
-    let set = draft.set(req.space).copied();
-    let asked = Asked {
+    let set = tables.set(req.space).copied();
+    let asked = NumberedReq {
         number: req.number,
         tree: req.tree,
         space: req.space,
@@ -44,16 +44,16 @@ fn empty_rows<'l, P: PointSet + Copy>(
 
 /// One requirement more, in the row of its item.
 fn add_own<'l, P: PointSet + Copy>(
-    draft: &Draft<P>,
+    tables: &LogTables<P>,
     rows: &mut Vec<Row<'l, P>>,
     req: &'l Req,
 ) -> Result<(), AllocError>
     requires { IsStrictlyIncreasing req.now.fields }
     ensures { OnOk result (rows.new.items
-        ≡ with_own rows.old.items req.now.item (claim_of draft.now req.now)) }
+        ≡ with_own rows.old.items req.now.item (claim_of tables.now req.now)) }
 {
     if req.item < rows.len() {
-        let claim = req_claim(draft, req);
+        let claim = req_claim(tables, req);
         rows[req.item].push(claim)?;
     }
     Ok(())
@@ -62,13 +62,13 @@ fn add_own<'l, P: PointSet + Copy>(
 /// The requirements of each item, and, past the last, a row for what is unknown.
 pub(crate) fn own_rows<'l, P: PointSet + Copy>(
     alloc: Global,
-    draft: &'l Draft<P>,
+    tables: &'l LogTables<P>,
 ) -> Result<Vec<Row<'l, P>>, AllocError>
-    ensures { IfOk result (λ rows. rows.items ≡ own_rows_by draft.now draft.now.reqs) }
+    ensures { IfOk result (λ rows. rows.items ≡ own_rows_by tables.now tables.now.reqs) }
 {
-    let mut rows = empty_rows(alloc, draft.items().len() + 1)?;
-    for req in draft.reqs() {
-        add_own(draft, &mut rows, req)?;
+    let mut rows = empty_rows(alloc, tables.items().len() + 1)?;
+    for req in tables.reqs() {
+        add_own(tables, &mut rows, req)?;
     }
     Ok(rows)
 }

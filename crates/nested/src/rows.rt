@@ -9,8 +9,8 @@ ghost use Rattle.nested.specs.Rows.{AreNamed, claim_of, row_among, row_in, rows_
 
 use crate::row::Row;
 use bumpalo::Bump;
-use licences::{Asked, Claim};
-use log_tables::Draft;
+use licences::{NumberedReq, Claim};
+use log_tables::LogTables;
 use nest_rules::Groups;
 use point_set::PointSet;
 use semantics::{Group, GroupReq};
@@ -19,15 +19,15 @@ use std::alloc::{AllocError, Global};
 /// A privilege, with its fields in the arena.
 fn privilege_claim<'a, P: PointSet + Copy>(
     bump: &'a Bump,
-    draft: &Draft<P>,
+    tables: &LogTables<P>,
     privilege: &GroupReq,
 ) -> Result<Claim<'a, P>, AllocError>
     requires { IsStrictlyIncreasing privilege.now.fields }
-    ensures { IfOk result (λ claim. claim ≡ claim_of draft.now (as_req privilege.now)) }
+    ensures { IfOk result (λ claim. claim ≡ claim_of tables.now (as_req privilege.now)) }
 {
     let fields = bump.try_alloc_slice_copy(privilege.fields.as_slice())?;
-    let set = draft.set(privilege.space).copied();
-    let asked = Asked {
+    let set = tables.set(privilege.space).copied();
+    let asked = NumberedReq {
         number: privilege.number,
         tree: privilege.tree,
         space: privilege.space,
@@ -41,18 +41,18 @@ fn privilege_claim<'a, P: PointSet + Copy>(
 fn row_of<'a, P: PointSet + Copy>(
     alloc: Global,
     bump: &'a Bump,
-    draft: &Draft<P>,
+    tables: &LogTables<P>,
     privileges: &[GroupReq],
     group: u32,
 ) -> Result<Row<'a, P>, AllocError>
     requires { All (λ q. IsStrictlyIncreasing q.fields) privileges.now }
     ensures { IfOk result (λ row. row
-        ≡ map (λ q. claim_of draft.now (as_req q)) (filter (λ q. q.group == group) privileges.now)) }
+        ≡ map (λ q. claim_of tables.now (as_req q)) (filter (λ q. q.group == group) privileges.now)) }
 {
     let mut row = Row::new(alloc);
     for privilege in privileges {
         if privilege.group == group {
-            row.push(privilege_claim(bump, draft, privilege)?)?;
+            row.push(privilege_claim(bump, tables, privilege)?)?;
         }
     }
     Ok(row)
@@ -62,16 +62,16 @@ fn row_of<'a, P: PointSet + Copy>(
 fn rows_among<'a, P: PointSet + Copy>(
     alloc: Global,
     bump: &'a Bump,
-    draft: &Draft<P>,
+    tables: &LogTables<P>,
     privileges: &[GroupReq],
     groups: &[Group],
 ) -> Result<Vec<Row<'a, P>>, AllocError>
     requires { All (λ q. IsStrictlyIncreasing q.fields) privileges.now }
-    ensures { IfOk result (λ rows. rows.items ≡ map (row_among draft.now privileges.now) groups.now) }
+    ensures { IfOk result (λ rows. rows.items ≡ map (row_among tables.now privileges.now) groups.now) }
 {
     let mut rows = Vec::new(alloc);
     for group in groups {
-        rows.push(row_of(alloc, bump, draft, privileges, group.id)?)?;
+        rows.push(row_of(alloc, bump, tables, privileges, group.id)?)?;
     }
     Ok(rows)
 }
@@ -80,12 +80,12 @@ fn rows_among<'a, P: PointSet + Copy>(
 pub(crate) fn rows_of<'a, P: PointSet + Copy>(
     alloc: Global,
     bump: &'a Bump,
-    draft: &Draft<P>,
+    tables: &LogTables<P>,
     groups: &Groups,
 ) -> Result<Vec<Row<'a, P>>, AllocError>
-    ensures { IfOk result (λ rows. rows.items ≡ rows_in draft.now groups.now) }
+    ensures { IfOk result (λ rows. rows.items ≡ rows_in tables.now groups.now) }
 {
-    rows_among(alloc, bump, draft, groups.privileges(), groups.groups())
+    rows_among(alloc, bump, tables, groups.privileges(), groups.groups())
 }
 
 /// The row, or the group, at a place.

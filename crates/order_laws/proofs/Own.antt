@@ -8,8 +8,8 @@ use Rattle.semantics.specs.Faults.{declaration_fault}
 use Rattle.list_lemmas.proofs.lemmas.Filtered.{of_filter}
 use Rattle.list_lemmas.proofs.lemmas.Pairs.{AllPairs-so}
 use Rattle.log_laws.proofs.lemmas.Apart.{grid_member}
-use Rattle.log_laws.proofs.lemmas.Sane.{AreSane, AgreeWhere}
-use Rattle.log_laws.proofs.lemmas.Admitted.{sane, no_broken_rule}
+use Rattle.log_laws.proofs.lemmas.Consistent.{AreConsistent, AgreeWhere}
+use Rattle.log_laws.proofs.lemmas.Admitted.{consistent, no_broken_rule}
 use Rattle.item_uses.proofs.lemmas.ItemKinds.{covers_tells}
 use Rattle.order_laws.specs.Turns.{AgreeWithThemselves}
 use Rattle.order_laws.proofs.lemmas.TaskUses.{task_uses}
@@ -18,7 +18,7 @@ use Rattle.order_laws.proofs.lemmas.TaskUses.{task_uses}
 abbrev AgreeInItem : Tables → Req → Req → Type 0
 AgreeInItem t q r = q.item ≡ r.item → AgreeWhere t q r
 
-pub agree_with_themselves : (t : Tables) → AreSane t → AgreeWithThemselves t
+pub agree_with_themselves : (t : Tables) → AreConsistent t → AgreeWithThemselves t
 agree_with_themselves t h a p task =
     let here = filter (covers t p) (reqs_of t a) in
     let pairs = AllPairs-filter (AgreeInItem t) (covers t p) (reqs_of t a)
@@ -38,4 +38,4 @@ agree_with_themselves t h a p task =
 
 pub declared_agree : (lines : ℕ) (log : List Lined) → declaration_fault lines log ≡ None → AgreeWithThemselves (tables_of log)
 declared_agree lines log e = agree_with_themselves (tables_of log)
-    (sane Ordered log (record { records = no_broken_rule lines log e; maps = refl }))
+    (consistent Ordered log (record { records = no_broken_rule lines log e; maps = refl }))

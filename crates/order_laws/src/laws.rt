@@ -8,7 +8,7 @@ ghost use Rattle.point_laws.specs.Alike.{AreFirsts};
 ghost use Rattle.cell_races.specs.Races.{race_in};
 ghost use Rattle.order_laws.specs.Counting.{count_below, sum_below};
 ghost use Rattle.order_laws.specs.Turns.{AreInTurn, AreInTurnBut, AreKeptBut, AgreeWithThemselves, IsFirstUnkept, ListsItems, Meeting, do_interfere};
-ghost use Rattle.order_laws.specs.Visited.{Tells, task_visits};
+ghost use Rattle.order_laws.specs.TaskAccesses.{Tells, task_node_accesses};
 
 /// Every two tasks that interfere are run in serial order exactly where those are that do not agree at a first point.
 pub fn places_tell_of_tasks()
@@ -22,11 +22,11 @@ pub fn places_tell_of_tasks()
 /// The tasks that use a place in serial order tell whether those are run in serial order that do not agree there: no earlier one conflicts with a later one and is not before it. (This is what the groups of a place find.)
 pub fn groups_tell_of_tasks()
     ensures turn { (t : Tables) (before : ℕ → ℕ → Bool) → Tells t before → ListsItems t → (points : List ℕ)
-        → ((p : Place) → is_in points p.point ≡ true → race_in before (task_visits t p) ≡ None)
+        → ((p : Place) → is_in points p.point ≡ true → race_in before (task_node_accesses t p) ≡ None)
         → AreInTurn t points }
-    ensures calm { (t : Tables) (before : ℕ → ℕ → Bool) → Tells t before → ListsItems t
+    ensures race_free { (t : Tables) (before : ℕ → ℕ → Bool) → Tells t before → ListsItems t
         → AgreeWithThemselves t → (points : List ℕ) → AreInTurn t points
-        → (p : Place) → is_in points p.point ≡ true → race_in before (task_visits t p) ≡ None }
+        → (p : Place) → is_in points p.point ≡ true → race_in before (task_node_accesses t p) ≡ None }
 {}
 
 /// The requirements of a task agree where they share a place.

@@ -9,31 +9,31 @@ use Rattle.list_lemmas.proofs.lemmas.Contained.{only, Contains-here, Contains-la
 use Rattle.list_lemmas.proofs.lemmas.Firsts.{cases_option}
 
 -- A fact holds, or it fails.
-abbrev pub Told : Type 0 → Type 0
-Told A = A ⊎ (A → ⊥)
+abbrev pub IsDecided : Type 0 → Type 0
+IsDecided A = A ⊎ (A → ⊥)
 
-pub both_told : (A B : Type 0) → Told A → Told B → Told (A × B)
+pub both_told : (A B : Type 0) → IsDecided A → IsDecided B → IsDecided (A × B)
 both_told A B (inl a) (inl b) = inl (a, b)
 both_told A B (inl a) (inr fails) = inr (λ p. fails p.1)
 both_told A B (inr fails) b = inr (λ p. fails p.0)
 
-pub either_told : (A B : Type 0) → Told A → Told B → Told (A ⊎ B)
+pub either_told : (A B : Type 0) → IsDecided A → IsDecided B → IsDecided (A ⊎ B)
 either_told A B (inl a) b = inl (inl a)
 either_told A B (inr fails) (inl b) = inl (inr b)
 either_told A B (inr fails) (inr fails_too) = inr (λ o. elim o [ inl a ↦ fails a | inr b ↦ fails_too b ])
 
-pub failing_told : (A : Type 0) → Told A → Told (A → ⊥)
+pub failing_told : (A : Type 0) → IsDecided A → IsDecided (A → ⊥)
 failing_told A (inl a) = inr (λ fails. fails a)
 failing_told A (inr fails) = inl fails
 
-pub test_told : (b : Bool) → Told (b ≡ true)
+pub test_told : (b : Bool) → IsDecided (b ≡ true)
 test_told b = elim (cases_Bool b) [ inl is ↦ inl is | inr other ↦ inr (λ is. true≢false (sym is ∙ other)) ]
 
-pub less_told : (a b : ℕ) → Told (a < b)
+pub less_told : (a b : ℕ) → IsDecided (a < b)
 less_told a b = elim (test_told (nat_lt a b)) [ inl is ↦ inl (ltb-true a b is) | inr other ↦ inr (λ lt. other (lt-ltb a b lt)) ]
 
 -- Some element of a list passes, or none does.
-pub some_or_none : {X : Type 0} (P : X → Type 0) (xs : List X) → ((x : X) → Contains xs x → Told (P x)) → ((x : X) × Contains xs x × P x)
+pub some_or_none : {X : Type 0} (P : X → Type 0) (xs : List X) → ((x : X) → Contains xs x → IsDecided (P x)) → ((x : X) × Contains xs x × P x)
     ⊎ ((x : X) → Contains xs x → P x → ⊥)
 some_or_none P [] tell = inr (λ x m holds. absurd (Contains-nil m))
 some_or_none P (x ∷ xs) tell = elim (tell x (Contains-here xs)) [
@@ -46,7 +46,7 @@ some_or_none P (x ∷ xs) tell = elim (tell x (Contains-here xs)) [
 
 -- Of those that pass there is a least, or none passes.
 module _ {X : Type 0} (less : X → X → Bool) (never : (x : X) → less x x ≡ false) (along : (x y z : X) → less x y ≡ true → less y z ≡ true
-    → less x z ≡ true) (P : X → Type 0) (tell : (x : X) → Told (P x)) where
+    → less x z ≡ true) (P : X → Type 0) (tell : (x : X) → IsDecided (P x)) where
   -- A least one of a list that passes.
   pub record IsLeast (xs : List X) (x : X) : Type 0 where
     pub listed : Contains xs x
@@ -93,7 +93,7 @@ module _ {X : Type 0} (less : X → X → Bool) (never : (x : X) → less x x �
 
 -- ---- nodes
 
-pub waits_told : (nodes : List Node) (later earlier : ℕ) → Told (WaitsOn nodes later earlier)
+pub waits_told : (nodes : List Node) (later earlier : ℕ) → IsDecided (WaitsOn nodes later earlier)
 waits_told nodes later earlier = elim (cases_option (slice_get nodes earlier)) [
   | inl none ↦ inr (λ w. none-some w.on (sym none ∙ w.on_is))
   | inr on ↦ elim (cases_option (slice_get nodes later)) [
@@ -143,8 +143,8 @@ module _ (nodes : List Node) where
   module _ (order : List ℕ)
       (behind : (front : List ℕ) (k : ℕ) (back : List ℕ) → order ≡ front ++ k ∷ back → (j : ℕ) → WaitsOn nodes k j → Contains front j)
       (whole : (k : ℕ) → k < length nodes → Contains order k) (a : ℕ) where
-    next_told : (front : List ℕ) (k : ℕ) (back : List ℕ) → order ≡ front ++ k ∷ back → ((j : ℕ) → Contains front j → Told (Before nodes a j))
-        → Told (Before nodes a k)
+    next_told : (front : List ℕ) (k : ℕ) (back : List ℕ) → order ≡ front ++ k ∷ back → ((j : ℕ) → Contains front j → IsDecided (Before nodes a j))
+        → IsDecided (Before nodes a k)
     next_told front k back is so_far =
         let By : ℕ → Type 0 = λ j. WaitsOn nodes k j × ((a ≡ j) ⊎ Before nodes a j) in
         elim (some_or_none By front (λ j m. both_told _ _ (waits_told nodes k j) (either_told _ _ (cases_eq a j) (so_far j m)))) [
@@ -154,23 +154,23 @@ module _ (nodes : List Node) where
               none last.0 (behind front k back is last.0 last.1) (last.1, last.2))
         ]
 
-    told_along : (front rest : List ℕ) → order ≡ front ++ rest → ((j : ℕ) → Contains front j → Told (Before nodes a j)) → (k : ℕ)
-        → Contains rest k → Told (Before nodes a k)
+    told_along : (front rest : List ℕ) → order ≡ front ++ rest → ((j : ℕ) → Contains front j → IsDecided (Before nodes a j)) → (k : ℕ)
+        → Contains rest k → IsDecided (Before nodes a k)
     told_along front [] is so_far k m = absurd (Contains-nil m)
     told_along front (n ∷ rest) is so_far k m =
         let here = next_told front n rest is so_far in
         elim (Contains-cases rest m) [
-          | inl same ↦ subst (λ j. Told (Before nodes a j)) (sym same) here
+          | inl same ↦ subst (λ j. IsDecided (Before nodes a j)) (sym same) here
           | inr later ↦ told_along (front ++ n ∷ []) rest (is ∙ sym (append_assoc front (n ∷ []) rest))
               (λ j at. elim (Contains-append_cases front (n ∷ []) j at) [
                 | inl before ↦ so_far j before
                 | inr last ↦
-                    subst (λ j. Told (Before nodes a j)) (sym (only last)) here
+                    subst (λ j. IsDecided (Before nodes a j)) (sym (only last)) here
               ]) k later
         ]
 
     -- Whether a node is before another.
-    pub before_told : (b : ℕ) → Told (Before nodes a b)
+    pub before_told : (b : ℕ) → IsDecided (Before nodes a b)
     before_told b = elim (cases_Bool (is_in order b)) [
       | inl listed ↦ told_along [] order refl (λ j m. absurd (Contains-nil m)) b (member_in order b listed)
       | inr other ↦ inr (λ before.

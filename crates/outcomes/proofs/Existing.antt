@@ -26,7 +26,7 @@ use Rattle.log_laws.proofs.lemmas.Laws.{faultless_linked}
 use Rattle.trail_laws.proofs.lemmas.Trails.{some_list, why_faults}
 use Rattle.semantics.specs.Links.{AreLinksOf, IsNoRead}
 use Rattle.outcomes.specs.Outcome.{CheckFinds, OrderedFinds, DepsFinds, SpareFinds, WhyFinds, Finds, IsFound, ShowsCycle, ShowsRace, ask_shown, link_shown, before_count, dependences, events_of_wait}
-use Rattle.outcomes.proofs.Decided.{Told, before_told, last_wait}
+use Rattle.outcomes.proofs.Decided.{IsDecided, before_told, last_wait}
 use Rattle.outcomes.proofs.SomeRaces.{race_or_none}
 use Rattle.outcomes.proofs.SomeSpare.{spare_list}
 use Rattle.outcomes.proofs.lemmas.Found.{all_replayed, graph_length}
@@ -41,7 +41,7 @@ record FirstFailing {X : Type 0} (P : X → Type 0) (xs : List X) : Type 0 where
   passed : AllByRecursion P front
   fails : P at → ⊥
 
-all_or_first : {X : Type 0} (P : X → Type 0) (tell : (x : X) → Told (P x)) (xs : List X) → AllByRecursion P xs ⊎ FirstFailing P xs
+all_or_first : {X : Type 0} (P : X → Type 0) (tell : (x : X) → IsDecided (P x)) (xs : List X) → AllByRecursion P xs ⊎ FirstFailing P xs
 all_or_first P tell [] = inl tt
 all_or_first P tell (x ∷ xs) = elim (tell x) [
   | inr fails ↦ inr (record { front = []; at = x; back = xs; parts = refl; passed = tt; fails = fails })
@@ -117,11 +117,11 @@ module _ (t : Tables) (laws : AreJudged t) where
   ]
 
   module _ (acyclic : HasNoCycle t) where
-    told : (a b : ℕ) → Told (Before nodes a b)
+    told : (a b : ℕ) → IsDecided (Before nodes a b)
     told a b = before_told nodes (replay_order nodes) laws.behind
         (λ k lt. laws.replayed acyclic k (subst (λ n. k < n) (graph_length t.nodes) lt)) a b
 
-    kept_or_not : (p : ℕ × ℕ) → Told (IsKept t p)
+    kept_or_not : (p : ℕ × ℕ) → IsDecided (IsKept t p)
     kept_or_not p = told (run_of t (by_serial t p).0) (run_of t (by_serial t p).1)
 
     ordered_without_cycle : (f : Finding) × OrderedFinds t f

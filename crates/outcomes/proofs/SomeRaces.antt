@@ -7,8 +7,8 @@ use Rattle.semantics.specs.ReplayOrder.{replay_order}
 use Rattle.semantics.specs.Races.{Reads}
 use Rattle.semantics.specs.Shown.{replay_place, IsShownRace}
 use Rattle.list_lemmas.proofs.lemmas.Contained.{member_flat, flat_member, member_map, map_member, Contains-here, Contains-later}
-use Rattle.log_laws.proofs.lemmas.Tidy.{ends, meet, untouched}
-use Rattle.outcomes.proofs.Decided.{Told, both_told, failing_told, test_told, less_told, IsLeast, least_or_none}
+use Rattle.log_laws.proofs.lemmas.OwnConflicts.{ends, meet, untouched}
+use Rattle.outcomes.proofs.Decided.{IsDecided, both_told, failing_told, test_told, less_told, IsLeast, least_or_none}
 use Rattle.outcomes.proofs.Races.{one_node}
 
 turned_conflict : (a b : Access) → conflicts b a ≡ conflicts a b
@@ -24,7 +24,7 @@ turned_conflict (Folds p) Reads = refl
 turned_conflict (Folds p) Writes = refl
 turned_conflict (Folds p) (Folds q) = grind (arith, nat_tests)
 
-cell_told : (a b : Cell) → Told (a ≡ b)
+cell_told : (a b : Cell) → IsDecided (a ≡ b)
 cell_told a b = elim (cases_eq a.inst b.inst) [
   | inr other ↦ inr (λ e. other (ap (λ (c : Cell). c.inst) e))
   | inl inst ↦ elim (cases_eq a.point b.point) [
@@ -62,7 +62,7 @@ abbrev cell_before : Cell → Cell → Bool
 cell_before c d = comes_first (c.inst, c.point, c.field) (d.inst, d.point, d.field)
 
 module _ (t : Tables) (replayed : (k : ℕ) → k < length t.nodes → Contains (replay_order (graph_of t.nodes)) k) (told : (a b : ℕ)
-    → Told (Before (graph_of t.nodes) a b)) where
+    → IsDecided (Before (graph_of t.nodes) a b)) where
   abbrev cells_of : Step → List Cell
   cells_of x = (ends x.move).0 ∷ (ends x.move).1 ∷ []
 
@@ -87,7 +87,7 @@ module _ (t : Tables) (replayed : (k : ℕ) → k < length t.nodes → Contains 
       × ((Before (graph_of t.nodes) x.one.node x.other.node → ⊥)
       × ((Before (graph_of t.nodes) x.other.node x.one.node → ⊥) × (place x.one.node < place x.other.node))))
 
-  racing_told : (x : Trio) → Told (IsRacing x)
+  racing_told : (x : Trio) → IsDecided (IsRacing x)
   racing_told x = both_told _ _ (failing_told _ (cases_eq x.one.node x.other.node))
       (both_told _ _ (test_told _) (both_told _ _ (failing_told _ (told _ _)) (both_told _ _ (failing_told _ (told _ _)) (less_told _ _))))
 
@@ -171,10 +171,10 @@ module _ (t : Tables) (replayed : (k : ℕ) → k < length t.nodes → Contains 
   abbrev WithLater : Cell → ℕ → Trio → Type 0
   WithLater c b x = AtCell c x × (x.other.node ≡ b)
 
-  at_cell_told : (c : Cell) (x : Trio) → Told (AtCell c x)
+  at_cell_told : (c : Cell) (x : Trio) → IsDecided (AtCell c x)
   at_cell_told c x = both_told _ _ (racing_told x) (cell_told x.cell c)
 
-  with_later_told : (c : Cell) (b : ℕ) (x : Trio) → Told (WithLater c b x)
+  with_later_told : (c : Cell) (b : ℕ) (x : Trio) → IsDecided (WithLater c b x)
   with_later_told c b x = both_told _ _ (at_cell_told c x) (cases_eq x.other.node b)
 
   abbrev LeastCell : Trio → Type 0

@@ -12,32 +12,32 @@ use Rattle.log_laws.proofs.lemmas.Members.{member_in, is_in_of}
 use Rattle.spare_laws.specs.Listed.{AreUpTo, marked}
 use Rattle.spare_laws.proofs.lemmas.Growing.{none_yet, node_more, finished}
 use Rattle.spare_laws.proofs.lemmas.Listing.{event_within}
-use Rattle.outcomes.proofs.Decided.{Told, both_told, either_told, some_or_none, waits_told}
+use Rattle.outcomes.proofs.Decided.{IsDecided, both_told, either_told, some_or_none, waits_told}
 
 -- Some number below this one passes, or none does.
-below_told : (P : ℕ → Type 0) (n : ℕ) → ((k : ℕ) → P k → k < n) → ((k : ℕ) → Told (P k)) → Told ((k : ℕ) × P k)
+below_told : (P : ℕ → Type 0) (n : ℕ) → ((k : ℕ) → P k → k < n) → ((k : ℕ) → IsDecided (P k)) → IsDecided ((k : ℕ) × P k)
 below_told P n within tell = elim (some_or_none P (range_with_len 0 n) (λ k m. tell k)) [
   | inl some ↦ inl (some.0, some.2)
   | inr none ↦ inr (λ k. none k.0 (number_in n k.0 (within k.0 k.1)) k.1)
 ]
 
-listed_told : (ws : List ℕ) (event : ℕ) → Told (Contains ws event)
+listed_told : (ws : List ℕ) (event : ℕ) → IsDecided (Contains ws event)
 listed_told ws event = elim (cases_Bool (is_in ws event)) [
   | inl is ↦ inl (member_in ws event is)
   | inr other ↦ inr (λ listed. true≢false (sym (is_in_of ws event listed) ∙ other))
 ]
 
 -- The test that a fact holds.
-abbrev mark_of : {A : Type 0} → Told A → Bool
+abbrev mark_of : {A : Type 0} → IsDecided A → Bool
 mark_of (inl holds) = true
 mark_of (inr fails) = false
 
-mark_tells : {A : Type 0} (t : Told A) → (mark_of t ≡ true) ↔ A
+mark_tells : {A : Type 0} (t : IsDecided A) → (mark_of t ≡ true) ↔ A
 mark_tells (inl holds) = (λ e. holds, λ a. refl)
 mark_tells (inr fails) = (λ e. absurd (true≢false (sym e)), λ a. absurd (fails a))
 
-module _ (nodes : List Node) (before : (a b : ℕ) → Told (Before nodes a b)) where
-  done_told : (on event : ℕ) → Told (done_at nodes on ≡ Some event)
+module _ (nodes : List Node) (before : (a b : ℕ) → IsDecided (Before nodes a b)) where
+  done_told : (on event : ℕ) → IsDecided (done_at nodes on ≡ Some event)
   done_told on event = elim (cases_option (slice_get nodes on)) [
     | inl none ↦ inr (λ e. none-some event (sym (rw none refl) ∙ e))
     | inr some ↦ elim (cases_eq some.0.done event) [
@@ -50,11 +50,11 @@ module _ (nodes : List Node) (before : (a b : ℕ) → Told (Before nodes a b)) 
   abbrev Behind : ℕ → ℕ → ℕ → Type 0
   Behind node on other = WaitsOn nodes node other × Before nodes on other
 
-  behind_told : (node on : ℕ) → Told ((other : ℕ) × Behind node on other)
+  behind_told : (node on : ℕ) → IsDecided ((other : ℕ) × Behind node on other)
   behind_told node on = below_told (Behind node on) (length nodes) (λ other b. slice_get_within nodes other b.0.on b.0.on_is)
       (λ other. both_told (WaitsOn nodes node other) (Before nodes on other) (waits_told nodes node other) (before on other))
 
-  another_told : (node event : ℕ) → Told (IsBeforeAnother nodes node event)
+  another_told : (node event : ℕ) → IsDecided (IsBeforeAnother nodes node event)
   another_told node event =
       let By : ℕ → Type 0 = λ on. (done_at nodes on ≡ Some event) × ((other : ℕ) × Behind node on other) in
       elim (below_told By (length nodes) (λ on b. event_within nodes on event b.0)
@@ -64,7 +64,7 @@ module _ (nodes : List Node) (before : (a b : ℕ) → Told (Before nodes a b)) 
         | inr none ↦ inr (λ b. none (b.on, (b.done, (b.other, (b.waits, b.before)))))
       ]
 
-  spare_told : (node k : ℕ) → Told (IsSpare nodes node k)
+  spare_told : (node k : ℕ) → IsDecided (IsSpare nodes node k)
   spare_told node k = elim (cases_option (slice_get (waits_at nodes node) k)) [
     | inl none ↦ inr (λ s. none-some s.event (sym none ∙ s.listed))
     | inr some ↦

@@ -47,7 +47,7 @@ fn firsts_among<'a, P: PointSet + Copy>(
     ensures apart { shares log.now.spaces points.now ≤ MOST_SHARES → IfOk result (λ firsts. (p q : ℕ)
         → Contains firsts.items p → Contains firsts.items q → AreAlike log.now p q → p ≡ q) }
 {
-    match kinds_of(alloc, log.draft().spaces(), points, MOST_SHARES)? {
+    match kinds_of(alloc, log.tables().spaces(), points, MOST_SHARES)? {
         Some(kinds) => {
             let firsts = leads(alloc, &kinds.numbers, kinds.end, points)?;
             Ok(firsts)

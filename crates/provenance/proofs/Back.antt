@@ -5,9 +5,9 @@ use Rattle.std.proofs.lemmas.List.{reverse-append, reverse-reverse}
 use Rattle.list_lemmas.proofs.lemmas.Contained.{Contains-here, Contains-later}
 use Rattle.vocabulary.specs.Prelude.{Cell, Move, is_in, Step, same_cell}
 use Rattle.semantics.specs.declared.moves.Move.TheVariants.{Read, Write, Reduce, Copy, Put, Reset, Fold}
-use Rattle.semantics.specs.Links.{Touch, Leaves, Adds, Puts, Takes, touch, Source, with_last, sources_of, cell_read, ComesFrom}
+use Rattle.semantics.specs.Links.{Flow, Leaves, Adds, Puts, Takes, flow, Source, with_last, sources_of, cell_read, ComesFrom}
 use Rattle.list_lemmas.proofs.lemmas.Filtered.{of_filter}
-use Rattle.log_laws.proofs.lemmas.Tidy.{one_cell, place}
+use Rattle.log_laws.proofs.lemmas.OwnConflicts.{one_cell, place}
 use Rattle.point_laws.specs.Alike.{target, is_at}
 use Rattle.trail_laws.proofs.lemmas.CopiedCells.{CopyStays}
 use Rattle.provenance.specs.Listing.{at_field}
@@ -44,22 +44,22 @@ comes_at earlier (y ∷ front) back x c r = inr (comes_at (y ∷ earlier) front 
 -- ---- moves at their target
 
 -- A move touches its target alone.
-leaves_or : (b : Bool) (k : Touch) → (b ≡ true) ⊎ (cond b k Leaves ≡ Leaves)
+leaves_or : (b : Bool) (k : Flow) → (b ≡ true) ⊎ (cond b k Leaves ≡ Leaves)
 leaves_or true k = inl refl
 leaves_or false k = inr refl
 
-touches_target : (m : Move) (c : Cell) → (c ≡ target m) ⊎ (touch m c ≡ Leaves)
-unfolding touch
-touches_target (Read task req cell) c = inr refl
-touches_target (Write task cell) c = elim (leaves_or (same_cell c cell) Puts) [ inl is ↦ inl (one_cell c cell is) | inr left ↦ inr left ]
-touches_target (Reduce task req op cell) c =
+flows_to_target : (m : Move) (c : Cell) → (c ≡ target m) ⊎ (flow m c ≡ Leaves)
+unfolding flow
+flows_to_target (Read task req cell) c = inr refl
+flows_to_target (Write task cell) c = elim (leaves_or (same_cell c cell) Puts) [ inl is ↦ inl (one_cell c cell is) | inr left ↦ inr left ]
+flows_to_target (Reduce task req op cell) c =
     elim (leaves_or (same_cell c cell) Adds) [ inl is ↦ inl (one_cell c cell is) | inr left ↦ inr left ]
-touches_target (Copy from to) c = elim (leaves_or (same_cell c to) (Takes from)) [ inl is ↦ inl (one_cell c to is) | inr left ↦ inr left ]
-touches_target (Put cell n) c = elim (leaves_or (same_cell c cell) Puts) [ inl is ↦ inl (one_cell c cell is) | inr left ↦ inr left ]
-touches_target (Reset cell) c = inr refl
-touches_target (Fold op from to) c = elim (leaves_or (same_cell c to) Adds) [ inl is ↦ inl (one_cell c to is) | inr left ↦ inr left ]
+flows_to_target (Copy from to) c = elim (leaves_or (same_cell c to) (Takes from)) [ inl is ↦ inl (one_cell c to is) | inr left ↦ inr left ]
+flows_to_target (Put cell n) c = elim (leaves_or (same_cell c cell) Puts) [ inl is ↦ inl (one_cell c cell is) | inr left ↦ inr left ]
+flows_to_target (Reset cell) c = inr refl
+flows_to_target (Fold op from to) c = elim (leaves_or (same_cell c to) Adds) [ inl is ↦ inl (one_cell c to is) | inr left ↦ inr left ]
 
-from_of : Touch → Cell → Cell
+from_of : Flow → Cell → Cell
 from_of (Takes from) c = from
 from_of _ c = c
 
@@ -70,13 +70,13 @@ unfolding from_of
 takes_cond true c to from same stays = stays ∙ sym (ap place (same refl))
 takes_cond false c to from same stays = refl
 
-other_cond : (b : Bool) (c : Cell) (k : Touch) → from_of k c ≡ c → place (from_of (cond b k Leaves) c) ≡ place c
+other_cond : (b : Bool) (c : Cell) (k : Flow) → from_of k c ≡ c → place (from_of (cond b k Leaves) c) ≡ place c
 unfolding from_of
 other_cond true c k e = ap place e
 other_cond false c k e = refl
 
-takes_there : (m : Move) (c : Cell) → CopyStays m → place (from_of (touch m c) c) ≡ place c
-unfolding touch from_of
+takes_there : (m : Move) (c : Cell) → CopyStays m → place (from_of (flow m c) c) ≡ place c
+unfolding flow from_of
 takes_there (Read task req cell) c stays = refl
 takes_there (Write task cell) c stays = other_cond (same_cell c cell) c Puts refl
 takes_there (Reduce task req op cell) c stays = other_cond (same_cell c cell) c Adds refl
@@ -96,7 +96,7 @@ module _ (here : ℕ × ℕ → Bool) where
   abbrev Alike : (Cell → ℕ → List Source) → (Cell → ℕ → List Source) → Type 0
   Alike f g = (c : Cell) (n : ℕ) → here (place c) ≡ true → f c n ≡ g c n
 
-  alike_by : (y : Step) (k : Touch) (c : Cell) (n : ℕ) (f g : Cell → ℕ → List Source) → Alike f g → here (place c) ≡ true
+  alike_by : (y : Step) (k : Flow) (c : Cell) (n : ℕ) (f g : Cell → ℕ → List Source) → Alike f g → here (place c) ≡ true
       → place (from_of k c) ≡ place c → with_last y k c n f ≡ with_last y k c n g
   unfolding from_of
   alike_by y Leaves c n f g h there same = h c n there
@@ -108,12 +108,12 @@ module _ (here : ℕ × ℕ → Bool) where
   -- One step more, there and elsewhere.
   alike_with : (y : Step) (some all : List Step) → CopyStays y.move → Alike (sources_of some) (sources_of all)
       → Alike (sources_of (y ∷ some)) (sources_of (y ∷ all))
-  alike_with y some all stays h c n there = alike_by y (touch y.move c) c n (sources_of some) (sources_of all) h there
+  alike_with y some all stays h c n there = alike_by y (flow y.move c) c n (sources_of some) (sources_of all) h there
       (takes_there y.move c stays)
 
   alike_without : (y : Step) (some all : List Step) → is_here y ≡ false → Alike (sources_of some) (sources_of all)
       → Alike (sources_of some) (sources_of (y ∷ all))
-  alike_without y some all away h c n there = elim (touches_target y.move c) [
+  alike_without y some all away h c n there = elim (flows_to_target y.move c) [
     | inl is ↦ let bad = sym there ∙ ap (λ (a : Cell). here (place a)) is ∙ away in absurd cc
     | inr leaves ↦ h c n there ∙ sym (ap (λ k. with_last y k c n (sources_of all)) leaves)
   ]

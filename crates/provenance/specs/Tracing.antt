@@ -3,12 +3,12 @@ use Rattle.std.specs.Prelude.{List, map}
 use Rattle.vocabulary.specs.Prelude.{Link, Cell, Tables}
 use Rattle.semantics.specs.Links as links
 use Rattle.provenance.specs.declared.taking.Taken.{Taken}
-use Rattle.provenance.specs.declared.touches.Touch.{Touch}
-use Rattle.provenance.specs.declared.touches.Touch.TheVariants.{Leaves, Adds, Puts, Takes}
+use Rattle.provenance.specs.declared.flows.Flow.{Flow}
+use Rattle.provenance.specs.declared.flows.Flow.TheVariants.{Leaves, Adds, Puts, Takes}
 use Rattle.provenance.specs.Listing.{step_of}
 
--- What a touch that is found means.
-abbrev pub meant : Touch → links.Touch
+-- What a flow that is found means.
+abbrev pub meant : Flow → links.Flow
 meant Leaves = links.Leaves
 meant Adds = links.Adds
 meant Puts = links.Puts

@@ -8,7 +8,7 @@
 
 mod ends;
 mod taking;
-mod touches;
+mod flows;
 mod tracing;
 mod walking;
 

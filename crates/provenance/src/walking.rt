@@ -6,7 +6,7 @@ ghost use Rattle.semantics.specs.Shown.{event_of};
 ghost use Rattle.provenance.specs.Tracing.{links_behind};
 
 use crate::taking::Taken;
-use crate::touches::{Touch, touch_of};
+use crate::flows::{Flow, flow_of};
 use logs::Log;
 use point_set::PointSet;
 use semantics::{Ask, Cell, Link, LinkKind, Move};
@@ -59,14 +59,14 @@ pub(crate) fn walk<P: PointSet + Copy>(
     let mut at = cell;
     let mut adds = 0;
     for taken in earlier {
-        match touch_of(&taken.step, at) {
-            Touch::Leaves => {}
-            Touch::Adds => adds += 1,
-            Touch::Puts => {
+        match flow_of(&taken.step, at) {
+            Flow::Leaves => {}
+            Flow::Adds => adds += 1,
+            Flow::Puts => {
                 links.push(link_by(log, taken, at.inst, adds))?;
                 return Ok(links);
             }
-            Touch::Takes { from } => {
+            Flow::Takes { from } => {
                 links.push(link_by(log, taken, at.inst, adds))?;
                 at = from;
                 adds = 0;

@@ -12,15 +12,15 @@ use Rattle.list_lemmas.proofs.lemmas.Ranges.{number_within, number_in}
 use Rattle.log_laws.proofs.lemmas.StepLists.{steps_at, step_at}
 use Rattle.reach_marks.specs.Reached.{Marks, AreMarksOf, before_in}
 use Rattle.cell_races.specs.declared.access.Access.{Access}
-use Rattle.cell_races.specs.declared.touches.Touch.{Touch}
+use Rattle.cell_races.specs.declared.cell_accesses.CellAccess.{CellAccess}
 use Rattle.cell_races.specs.declared.scan.FoundRace.{FoundRace}
 use Rattle.cell_races.specs.Accesses.{meant}
-use Rattle.cell_races.specs.Touches.{touch}
+use Rattle.cell_races.specs.CellAccesses.{cell_access}
 use Rattle.cell_races.specs.Ranks.{rank_in}
 use Rattle.cell_races.specs.Clashes.{Clash, IsFree, IsShown}
 use Rattle.cell_races.proofs.lemmas.Noted.{noted, whole, both_meant}
 use Rattle.inst_steps.specs.Stepping.{moves_at}
-use Rattle.race_scan.specs.Gathered.{touches_before}
+use Rattle.race_scan.specs.Gathered.{cell_accesses_before}
 use Rattle.race_scan.specs.Placed.{ArePlaced}
 use Rattle.race_scan.specs.Ends.{IsShownIn}
 use Rattle.race_scan.proofs.Collected.{gathered, all_gathered}
@@ -45,8 +45,8 @@ in_steps t k m lt h =
 module _ (t : Tables) (order : List ℕ) (marks : Marks) (replayed : order ≡ replay_order (graph_of t.nodes))
     (marked : AreMarksOf (graph_of t.nodes) marks)
     (at_graph : ArePlaced (length (graph_of t.nodes)) order marks) where
-  abbrev touches : List Touch
-  touches = touches_before t order (length order)
+  abbrev cell_accesses : List CellAccess
+  cell_accesses = cell_accesses_before t order (length order)
 
   many : length (graph_of t.nodes) ≡ length t.nodes
   many = length-map t.nodes _
@@ -61,15 +61,15 @@ module _ (t : Tables) (order : List ℕ) (marks : Marks) (replayed : order ≡ r
   none_before a b la lb e before = true≢false (sym ((marked.exact a b (rw many la) (rw many lb)).1 before) ∙ e)
 
   -- What a step does at a cell is gathered at the place of its node.
-  pub touch_of : (k : ℕ) (m : Move) (cell : Cell) (c : Access) → Contains (steps t) (record { node = k; move = m })
+  pub cell_access_of : (k : ℕ) (m : Move) (cell : Cell) (c : Access) → Contains (steps t) (record { node = k; move = m })
       → access m cell ≡ meant c
-      → (p : ℕ) × (slice_index order p ≡ k) × Contains touches (touch p cell c)
-  touch_of k m cell c in_log does =
+      → (p : ℕ) × (slice_index order p ≡ k) × Contains cell_accesses (cell_access p cell c)
+  cell_access_of k m cell c in_log does =
       let s = step_in t k m in_log in
       let p = at_place (length t.nodes) order marks placed k s.0 in (
         p.0,
         p.2,
-        (all_gathered t order (length order) (touch p.0 cell c) (record {
+        (all_gathered t order (length order) (cell_access p.0 cell c) (record {
           place = p.0;
           below = p.1;
           move = m;
@@ -78,17 +78,17 @@ module _ (t : Tables) (order : List ℕ) (marks : Marks) (replayed : order ≡ r
         })),
       )
 
-  pub to_clash : (a b : ℕ) (cell : Cell) → Race t a b cell → Clash (before_in marks) order touches a b cell
+  pub to_clash : (a b : ℕ) (cell : Cell) → Race t a b cell → Clash (before_in marks) order cell_accesses a b cell
   to_clash a b cell r =
       let m = both_meant (access r.one cell) (access r.other cell) r.conflict in
-      let one = touch_of a r.one cell m.0 r.one_in m.2 in
-      let other = touch_of b r.other cell m.1 r.other_in m.3 in
+      let one = cell_access_of a r.one cell m.0 r.one_in m.2 in
+      let other = cell_access_of b r.other cell m.1 r.other_in m.3 in
       let la = (step_in t a r.one r.one_in).0 in
       let lb = (step_in t b r.other r.other_in).0 in
       record {
         differ = r.differ;
-        one = touch one.0 cell m.0;
-        other = touch other.0 cell m.1;
+        one = cell_access one.0 cell m.0;
+        other = cell_access other.0 cell m.1;
         one_in = one.2;
         other_in = other.2;
         one_at = refl;
@@ -101,7 +101,7 @@ module _ (t : Tables) (order : List ℕ) (marks : Marks) (replayed : order ≡ r
       }
 
   -- What is gathered is what a step of its node does.
-  step_of : (x : Touch) (k : ℕ) → Contains touches x → slice_index order x.place ≡ k
+  step_of : (x : CellAccess) (k : ℕ) → Contains cell_accesses x → slice_index order x.place ≡ k
       → (m : Move) × (k < length t.nodes) × Contains (steps t) (record { node = k; move = m }) × (access m x.cell ≡ meant x.access)
   step_of x k c by =
       let g = gathered t order (length order) x c in
@@ -110,7 +110,7 @@ module _ (t : Tables) (order : List ℕ) (marks : Marks) (replayed : order ≡ r
       let lt : k < length t.nodes = subst (λ k. k < length t.nodes) is (placed.within g.place 0 g.below) in
       (g.move, lt, in_steps t k g.move lt (subst (λ k. Contains (moves_at t k) g.move) is g.is_move), n.1)
 
-  pub to_race : (a b : ℕ) (cell : Cell) → Clash (before_in marks) order touches a b cell → Race t a b cell
+  pub to_race : (a b : ℕ) (cell : Cell) → Clash (before_in marks) order cell_accesses a b cell → Race t a b cell
   to_race a b cell k =
       let one = step_of k.one a k.one_in k.one_by in
       let other = step_of k.other b k.other_in k.other_by in
@@ -136,10 +136,10 @@ module _ (t : Tables) (order : List ℕ) (marks : Marks) (replayed : order ≡ r
   nodes_of : (a b : ℕ) (cell : Cell) → Race t a b cell → (replay_place t a ≡ rank_in marks a) × (replay_place t b ≡ rank_in marks b)
   nodes_of a b cell r = (rank_is a (step_in t a r.one r.one_in).0, rank_is b (step_in t b r.other r.other_in).0)
 
-  pub free_race : IsFree (before_in marks) order touches → IsRaceFree t
+  pub free_race : IsFree (before_in marks) order cell_accesses → IsRaceFree t
   free_race free a b cell r = free a b cell (to_clash a b cell r)
 
-  pub shown_race : (s : FoundRace) → IsShown (before_in marks) (rank_in marks) order touches s → IsShownRace t s.a s.b s.cell
+  pub shown_race : (s : FoundRace) → IsShown (before_in marks) (rank_in marks) order cell_accesses s → IsShownRace t s.a s.b s.cell
   shown_race s h =
       let race = to_race s.a s.b s.cell h.clash in
       let at = nodes_of s.a s.b s.cell race in
@@ -153,16 +153,16 @@ module _ (t : Tables) (order : List ℕ) (marks : Marks) (replayed : order ≡ r
             rw (at.0, n.0) (h.first_earlier c (to_clash c s.b s.cell r) (rw (← n.0, ← at.1) less));
       }
 
-  pub found_race : (o : Option FoundRace) → MatchOption o (IsFree (before_in marks) order touches)
-      (IsShown (before_in marks) (rank_in marks) order touches) → MatchOption o (IsRaceFree t) (IsShownIn t)
+  pub found_race : (o : Option FoundRace) → MatchOption o (IsFree (before_in marks) order cell_accesses)
+      (IsShown (before_in marks) (rank_in marks) order cell_accesses) → MatchOption o (IsRaceFree t) (IsShownIn t)
   found_race None h = free_race h
   found_race (Some s) h = shown_race s h
 
--- Each touch is at a place of the order.
-pub places_within : (t : Tables) (order : List ℕ) (n : ℕ) → All (λ (x : Touch). x.place < n) (touches_before t order n)
-places_within t order n = all_places (touches_before t order n) (λ x m.
+-- Each access is at a place of the order.
+pub places_within : (t : Tables) (order : List ℕ) (n : ℕ) → All (λ (x : CellAccess). x.place < n) (cell_accesses_before t order n)
+places_within t order n = all_places (cell_accesses_before t order n) (λ x m.
     let g = gathered t order n x m in
     subst (λ p. p < n) (sym (noted g.place g.move x g.listed).0) g.below)
   where
-    all_places : (xs : List Touch) → ((x : Touch) → Contains xs x → x.place < n) → All (λ (x : Touch). x.place < n) xs
+    all_places : (xs : List CellAccess) → ((x : CellAccess) → Contains xs x → x.place < n) → All (λ (x : CellAccess). x.place < n) xs
     all_places xs h i d lt = h (get_or xs i d) (i, lt, get_or_default xs i (get_or xs i d) d lt)

@@ -8,7 +8,7 @@ ghost use Rattle.reach_marks.specs.Reached.{AreMarksOf};
 ghost use Rattle.point_laws.specs.Alike.{AreFirsts};
 ghost use Rattle.race_scan.specs.Ends.{IsEndOf, IsShownIn};
 
-use crate::node_touches::touches_of;
+use crate::accesses_by_node::cell_accesses_of;
 use cell_races::{FoundRace, shown_race};
 use cut_logs::CutLog;
 use event_graph::{Graph, Order};
@@ -61,8 +61,8 @@ fn race_of<'a, P: ArenaSet<'a>>(
     ensures { IfOk result (λ r. MatchOption r (IsRaceFree log.now) (IsShownIn log.now)) }
 {
     let _linked = graph.len();
-    let touches = touches_of(alloc, log, order.as_slice())?;
-    let clash = shown_race(alloc, graph, order, reach, touches)?;
+    let cell_accesses = cell_accesses_of(alloc, log, order.as_slice())?;
+    let clash = shown_race(alloc, graph, order, reach, cell_accesses)?;
     Ok(clash)
 }
 

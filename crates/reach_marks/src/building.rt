@@ -4,7 +4,7 @@ ghost use Rattle.std.specs.Prelude.{◌≡◌, ℕ, ◌<◌, ◌^◌, length, If
 ghost use Rattle.vocabulary.specs.Prelude.{AreLinked};
 ghost use Rattle.semantics.specs.ReplayOrder.{replay_order};
 ghost use Rattle.reach_marks.specs.Places.{ArePlacesIn};
-ghost use Rattle.reach_marks.specs.Reached.{AreRows, AreTidy};
+ghost use Rattle.reach_marks.specs.Reached.{AreRows, AreCompact};
 
 use crate::joining::with_row;
 use crate::rows::Rows;
@@ -25,7 +25,7 @@ pub(crate) fn rows_of(
     requires order { order.now ≡ replay_order graph.now }
     requires places { ArePlacesIn (length graph.now) order.now places.now }
     ensures each { IfOk result (λ v. length v ≡ length order.now) }
-    ensures tidy { IfOk result (λ v. AreTidy v) }
+    ensures compact { IfOk result (λ v. AreCompact v) }
     ensures rows { IfOk result (λ v. AreRows graph.now order.now v) }
 {
     let mut rows = Rows::with_room(alloc, order.len())?;

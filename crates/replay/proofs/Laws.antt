@@ -25,7 +25,7 @@ use Rattle.inst_steps.proofs.lemmas.Covered.{cells_at_start, cells_there, steps_
 use Rattle.replay.specs.declared.ends.ReplayEnd.{ReplayEnd}
 use Rattle.replay.specs.Ends.{IsEndOf}
 use Rattle.replay.specs.Fitting.{Fits}
-use Rattle.replay.specs.Standing.{Stands, left_in}
+use Rattle.replay.specs.Standing.{IsReplayedUpTo, left_in}
 use Rattle.replay.proofs.Fitted.{nodes_fit, steps_fitted}
 use Rattle.replay.proofs.Pointed.{shown_point, same_end}
 use Rattle.replay.proofs.Stood.{stand_first, stand_next}
@@ -41,12 +41,12 @@ module _ (t : Tables) (d : AreDeclared t) where
 
   -- A store of the start stands before all steps.
   starts_stand : unmapped_fault t ≡ None → (listed : Option (List ℕ)) (m : Contents) → IsStart (cut_to listed t) m
-      → Stands (cut_to listed t) (replay_steps (cut_to listed t)) m
+      → IsReplayedUpTo (cut_to listed t) (replay_steps (cut_to listed t)) m
   starts_stand mapped listed m is = stand_first (cut_to listed t) m is (cells_at_start (cut_to listed t) m is) (steps_fit mapped listed)
       (steps_are_few t d listed)
 
-  pub cut_stands : (u : Tables) → IsCutOf t u → unmapped_fault t ≡ None → (m : Contents) → IsStart u m → Stands u (replay_steps u) m
-  cut_stands u of mapped m = subst (λ u. IsStart u m → Stands u (replay_steps u) m) (sym of.1) (starts_stand mapped of.0 m)
+  pub cut_stands : (u : Tables) → IsCutOf t u → unmapped_fault t ≡ None → (m : Contents) → IsStart u m → IsReplayedUpTo u (replay_steps u) m
+  cut_stands u of mapped m = subst (λ u. IsStart u m → IsReplayedUpTo u (replay_steps u) m) (sym of.1) (starts_stand mapped of.0 m)
 
   module _ (firsts : List ℕ) (are : AreFirsts t firsts) where
     pub shown_by_firsts : shown_difference (cut firsts t) ≡ shown_difference t
@@ -70,17 +70,17 @@ cut_by t u of actions by = subst (λ (u : Tables). AllByRecursion (IsBy u) actio
 -- A store that stands before the nodes from a place on stands before the moves of the first of them.
 pub stands_in : (t : Tables) (order : List ℕ) (place : ℕ) (moves : List Move) (m : Contents) → place < length order
     → moves ≡ moves_at t (get_or order place 0)
-    → Stands t (steps_by t (drop place order)) m → Stands t (left_in t order place (get_or order place 0) moves) m
+    → IsReplayedUpTo t (steps_by t (drop place order)) m → IsReplayedUpTo t (left_in t order place (get_or order place 0) moves) m
 stands_in t order place moves m lt is h =
-    subst (λ ms. Stands t (left_in t order place (get_or order place 0) ms) m) (sym is)
-    (subst (λ ks. Stands t (steps_by t ks) m) (drop_more order place 0 lt) h)
+    subst (λ ms. IsReplayedUpTo t (left_in t order place (get_or order place 0) ms) m) (sym is)
+    (subst (λ ks. IsReplayedUpTo t (steps_by t ks) m) (drop_more order place 0 lt) h)
 
 -- A store that stands before a step has its cells.
-pub stand_cells : (t : Tables) (x : Step) (left : List Step) (m : Contents) → Stands t (x ∷ left) m → HasCells m x.move
+pub stand_cells : (t : Tables) (x : Step) (left : List Step) (m : Contents) → IsReplayedUpTo t (x ∷ left) m → HasCells m x.move
 stand_cells t x left m h = cells_there t m x.move h.cells h.fit.0.cells
 
 -- Once the step is taken, it stands after it.
-pub stands_on : (t : Tables) (x : Step) (left : List Step) (m : Contents) → Stands t (x ∷ left) m → difference t x.move (value_in m) ≡ None
-    → Stands t left (after_move x.move m)
+pub stands_on : (t : Tables) (x : Step) (left : List Step) (m : Contents) → IsReplayedUpTo t (x ∷ left) m → difference t x.move (value_in m) ≡ None
+    → IsReplayedUpTo t left (after_move x.move m)
 stands_on t x left m h none =
     stand_next t x left m (λ cell. same_cells x.move m cell (stand_cells t x left m h) ∙ h.cells cell) (λ cell. weighs x.move m cell) h none

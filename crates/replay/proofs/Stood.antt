@@ -11,7 +11,7 @@ use Rattle.vocabulary.specs.Prelude.{Value, plain, weight_of, Cell, Move, Tables
 use Rattle.semantics.specs.declared.moves.Move.TheVariants as moves
 use Rattle.semantics.specs.Rules.{reduces_in}
 use Rattle.list_lemmas.proofs.lemmas.Firsts.{cases_option}
-use Rattle.log_laws.proofs.lemmas.Tidy.{one_cell}
+use Rattle.log_laws.proofs.lemmas.OwnConflicts.{one_cell}
 use Rattle.point_laws.specs.Alike.{target}
 use Rattle.inst_steps.specs.Stores.{Contents, IsLight, IsStart, has_cell, after_move, value_in}
 use Rattle.inst_steps.specs.Celled.{HasCellsOf}
@@ -22,7 +22,7 @@ use Rattle.replay.specs.declared.ends.ReplayEnd.{ReplayEnd}
 use Rattle.replay.specs.declared.ends.ReplayEnd.TheVariants.{Differ, Memory}
 use Rattle.replay.specs.Ends.{Tells, IsEndOf}
 use Rattle.replay.specs.Fitting.{Fits, KeepsKinds}
-use Rattle.replay.specs.Standing.{HasRoom, Stands}
+use Rattle.replay.specs.Standing.{HasRoom, IsReplayedUpTo}
 
 at_itself : (c : Cell) → is_cell_at c.point c.field c ≡ true
 at_itself c = rw (eq-eqb c.point c.point refl, eq-eqb c.field c.field refl) refl
@@ -73,7 +73,7 @@ start_light : (t : Tables) (m : Contents) → IsStart t m → (c : Cell) → wei
 start_light t m is c = ap weight_of (started t m is c) ∙ weighs_nothing (is_home_cell t c)
 
 pub stand_first : (t : Tables) (m : Contents) → IsStart t m → HasCellsOf t m → AllByRecursion (Fits t) (replay_steps t)
-    → ((point field : ℕ) → length (filter (is_at_place point field) (replay_steps t)) < 2 ^ 31) → Stands t (replay_steps t) m
+    → ((point field : ℕ) → length (filter (is_at_place point field) (replay_steps t)) < 2 ^ 31) → IsReplayedUpTo t (replay_steps t) m
 stand_first t m is cells fit few = record {
   fit = fit;
   shown = ap (first_difference t (replay_steps t)) (fun_ext (started t m is));
@@ -186,13 +186,13 @@ few_left taken p x left few = elim (cases_Bool (p x)) [
   | inr away ↦ rw away (rw away at few)
 ]
 
-pub stand_light : (t : Tables) (x : Step) (left : List Step) (m : Contents) → Stands t (x ∷ left) m → IsLight m x.move
+pub stand_light : (t : Tables) (x : Step) (left : List Step) (m : Contents) → IsReplayedUpTo t (x ∷ left) m → IsLight m x.move
 stand_light t x left m h = let r = h.room in
     has_room t m r.taken r.light r.gathered x.move h.fit.0.kinds h.fit.0.stays (few_there t x left m r)
 
 pub stand_next : (t : Tables) (x : Step) (left : List Step) (m : Contents) → HasCellsOf t (after_move x.move m)
     → ((c : Cell) → weight_at (after_move x.move m) c ≤ weight_after x.move m c)
-    → Stands t (x ∷ left) m → difference t x.move (value_in m) ≡ None → Stands t left (after_move x.move m)
+    → IsReplayedUpTo t (x ∷ left) m → difference t x.move (value_in m) ≡ None → IsReplayedUpTo t left (after_move x.move m)
 stand_next t x left m cells weighs h none =
     let r = h.room in
     let kinds = h.fit.0.kinds in
@@ -211,7 +211,7 @@ stand_next t x left m cells weighs h none =
       };
     }
 
-pub stand_end : (t : Tables) (x : Step) (left : List Step) (m : Contents) → Stands t (x ∷ left) m → (e : ReplayEnd)
+pub stand_end : (t : Tables) (x : Step) (left : List Step) (m : Contents) → IsReplayedUpTo t (x ∷ left) m → (e : ReplayEnd)
     → Tells t (difference t x.move (value_in m)) e → IsEndOf t e
 stand_end t x left m h (Differ task number point field got want) tells =
     (sym h.shown ∙ ap (λ o. option_or o (first_difference t left (effect x.move (value_in m)))) tells.0, tells.1)

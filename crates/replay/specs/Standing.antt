@@ -20,7 +20,7 @@ pub record HasRoom (t : Tables) (left : List Step) (m : Contents) : Type 0 where
 
 -- A store is what a replay has made of it where these steps are left: the first differing read among them is
 -- the one that is shown.
-pub record Stands (t : Tables) (left : List Step) (m : Contents) : Type 0 where
+pub record IsReplayedUpTo (t : Tables) (left : List Step) (m : Contents) : Type 0 where
   pub fit : AllByRecursion (Fits t) left
   pub shown : first_difference t left (value_in m) ≡ shown_difference t
   pub cells : HasCellsOf t m

@@ -10,6 +10,6 @@ place_at tree c = record { tree = tree; point = c.point; field = c.field }
 
 -- Where a log has cells, versions say what sequential execution wants.
 pub record AreVersionsIn (t : Tables) (k : Kept) : Type 0 where
-  pub each : length k.moments ≡ length t.items
+  pub each : length k.positions ≡ length t.items
   pub value : (item tree : ℕ) (c : Cell) → item < length t.items → has_cell t c ≡ true
       → value_at k item (place_at tree c) ≡ wanted t item (place_at tree c)

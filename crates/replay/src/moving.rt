@@ -106,7 +106,7 @@ impl<'r, 'a, P: PointSet + Copy> Replay<'r, 'a, P> {
         at: &ItemPlace,
         got: usize,
     ) -> Result<Option<Unlike>, Memory>
-        requires item { at.now.item < length self.now.versions.now.moments }
+        requires item { at.now.item < length self.now.versions.now.positions }
         requires got { got < length store.old.values }
         requires wanted { AreWanted store.old.values self.now.versions.now wanted.old }
         ensures unlike { IfOk result (λ r. MatchOption r

@@ -9,7 +9,7 @@ ghost use Rattle.point_laws.specs.Alike.{AreFirsts};
 ghost use Rattle.cut_logs.specs.Cutting.{IsCutOf};
 ghost use Rattle.serial_exec.specs.Kept.{AreVersionsAt};
 ghost use Rattle.replay.specs.Ends.{IsEndOf};
-ghost use Rattle.replay.specs.Standing.{Stands};
+ghost use Rattle.replay.specs.Standing.{IsReplayedUpTo};
 ghost use Rattle.replay.specs.Versioned.{AreVersionsIn};
 ghost use Rattle.replay.specs.Wanting.{AreWanted};
 
@@ -40,10 +40,10 @@ impl<'r, 'a, P: PointSet + Copy> Replay<'r, 'a, P> {
         requires cut { IsCutOf self.now.log.now self.now.cut.now }
         requires place { place < length order.now }
         requires versions { AreVersionsIn self.now.cut.now self.now.versions.now }
-        requires stands { Stands self.now.cut.now
+        requires stands { IsReplayedUpTo self.now.cut.now
             (steps_by self.now.cut.now (drop place order.now)) store.old.cells }
         requires wanted { AreWanted store.old.values self.now.versions.now wanted.old }
-        ensures stands { OnOk result (Stands self.now.cut.now
+        ensures stands { OnOk result (IsReplayedUpTo self.now.cut.now
             (steps_by self.now.cut.now (drop (place + 1) order.now)) store.new.cells) }
         ensures wanted { OnOk result (AreWanted store.new.values self.now.versions.now wanted.new) }
         ensures end { IfErr result (IsEndOf self.now.cut.now) }
@@ -66,7 +66,7 @@ impl<'r, 'a, P: PointSet + Copy> Replay<'r, 'a, P> {
         requires cut { IsCutOf self.now.log.now self.now.cut.now }
         requires nodes { All (λ k. k < length self.now.cut.now.nodes) order.now }
         requires versions { AreVersionsIn self.now.cut.now self.now.versions.now }
-        requires stands { Stands self.now.cut.now
+        requires stands { IsReplayedUpTo self.now.cut.now
             (steps_by self.now.cut.now order.now) store.old.cells }
         requires wanted { AreWanted store.old.values self.now.versions.now wanted.old }
         ensures right { OnOk result (shown_difference self.now.cut.now ≡ None) }

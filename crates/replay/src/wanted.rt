@@ -72,7 +72,7 @@ fn number_listed(
     item: usize,
     place: &Place,
 ) -> Result<usize, Memory>
-    requires item { item < length versions.now.moments }
+    requires item { item < length versions.now.positions }
     requires wanted { AreWanted store.old.values versions.now wanted.old }
     ensures number { IfOk result (IsNumberOf store.new.values (value_at versions.now item place.now)) }
     ensures wanted { OnOk result (AreWanted store.new.values versions.now wanted.new) }
@@ -98,7 +98,7 @@ pub(crate) fn number_wanted(
     item: usize,
     place: &Place,
 ) -> Result<usize, Memory>
-    requires item { item < length versions.now.moments }
+    requires item { item < length versions.now.positions }
     requires wanted { AreWanted store.old.values versions.now wanted.old }
     ensures number { IfOk result (IsNumberOf store.new.values (value_at versions.now item place.now)) }
     ensures wanted { OnOk result (AreWanted store.new.values versions.now wanted.new) }

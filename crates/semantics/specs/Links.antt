@@ -22,24 +22,24 @@ use Rattle.semantics.specs.Shown.{event_of}
 
 -- What a move does to a cell, as far as it matters where the cell's value came from: nothing, or it adds to
 -- what the cell holds, puts something of its own there, or puts there what another cell holds.
-pub data Touch : Type 0 where
-  Leaves : Touch
-  Adds : Touch
-  Puts : Touch
-  Takes : (from : Cell) → Touch
+pub data Flow : Type 0 where
+  Leaves : Flow
+  Adds : Flow
+  Puts : Flow
+  Takes : (from : Cell) → Flow
 
-abbrev pub touch_at : Cell → Touch → Cell → Touch
-touch_at cell here c = if same_cell c cell then here else Leaves
+abbrev pub flow_at : Cell → Flow → Cell → Flow
+flow_at cell here c = if same_cell c cell then here else Leaves
 
 -- (A reset leaves it: what is emptied is never read by a task, nor copied.)
-unfoldable pub touch : Move → Cell → Touch
-touch (Read task req cell) c = Leaves
-touch (Write task cell) c = touch_at cell Puts c
-touch (Reduce task req op cell) c = touch_at cell Adds c
-touch (Copy from to) c = touch_at to (Takes from) c
-touch (Put cell n) c = touch_at cell Puts c
-touch (Reset cell) c = Leaves
-touch (Fold op from to) c = touch_at to Adds c
+unfoldable pub flow : Move → Cell → Flow
+flow (Read task req cell) c = Leaves
+flow (Write task cell) c = flow_at cell Puts c
+flow (Reduce task req op cell) c = flow_at cell Adds c
+flow (Copy from to) c = flow_at to (Takes from) c
+flow (Put cell n) c = flow_at cell Puts c
+flow (Reset cell) c = Leaves
+flow (Fold op from to) c = flow_at to Adds c
 
 -- The step that put something into a cell, or none where the cell held it from the start on; and how often
 -- something was added to it there before it was read.
@@ -50,7 +50,7 @@ pub record Source : Type 0 where
 
 -- What is behind a cell, the latest first, from the last step that was taken and what is behind the cells
 -- before it. So many adds were met on the way back.
-abbrev pub with_last : Step → Touch → Cell → ℕ → (Cell → ℕ → List Source) → List Source
+abbrev pub with_last : Step → Flow → Cell → ℕ → (Cell → ℕ → List Source) → List Source
 with_last x Leaves c adds before = before c adds
 with_last x Adds c adds before = before c (adds + 1)
 with_last x Puts c adds before = record { by = Some x; cell = c; adds = adds } ∷ []
@@ -59,7 +59,7 @@ with_last x (Takes from) c adds before = record { by = Some x; cell = c; adds = 
 -- What is behind a cell after some steps, which are listed the latest first.
 abbrev pub sources_of : List Step → Cell → ℕ → List Source
 sources_of [] c adds = record { by = None; cell = c; adds = adds } ∷ []
-sources_of (x ∷ earlier) c adds = with_last x (touch x.move c) c adds (sources_of earlier)
+sources_of (x ∷ earlier) c adds = with_last x (flow x.move c) c adds (sources_of earlier)
 
 -- The cell that a task's read reads.
 abbrev pub cell_read : Move → Option Cell

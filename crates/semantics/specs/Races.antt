@@ -60,11 +60,11 @@ abbrev pub IsRaceFree : Tables → Type 0
 IsRaceFree t = (a b : ℕ) (cell : Cell) → Race t a b cell → ⊥
 
 -- Two moves conflict at no cell.
-abbrev pub IsCalm : Move → Move → Type 0
-IsCalm m n = (cell : Cell) → conflicts (access m cell) (access n cell) ≡ false
+abbrev pub AreIndependent : Move → Move → Type 0
+AreIndependent m n = (cell : Cell) → conflicts (access m cell) (access n cell) ≡ false
 
 -- Two moves of one node conflict only where the one is a read and the other is none.
-abbrev pub IsTidy : Tables → Type 0
-IsTidy t = (node : ℕ) (m n : Move) (cell : Cell) → Contains (steps t) (record { node = node; move = m })
+abbrev pub NodesConflictByReads : Tables → Type 0
+NodesConflictByReads t = (node : ℕ) (m n : Move) (cell : Cell) → Contains (steps t) (record { node = node; move = m })
     → Contains (steps t) (record { node = node; move = n })
     → m ≢ n → conflicts (access m cell) (access n cell) ≡ true → is_read m ≢ is_read n

@@ -27,8 +27,8 @@ lookup-mapped items test (e ∷ es) = elim (cases_Bool (test e.0)) [
   | inr other ↦ rw other (lookup-mapped items test es)
 ]
 
-pub kept-changes : (moments : List ℕ) (h : PlaceLists Change) (p : Place) → changes_in (kept moments h) p ≡ listed h p
-kept-changes moments h p = lookup-mapped (λ v. v.items) (same_place p) h.lists.entries
+pub kept-changes : (positions : List ℕ) (h : PlaceLists Change) (p : Place) → changes_in (kept positions h) p ≡ listed h p
+kept-changes positions h p = lookup-mapped (λ v. v.items) (same_place p) h.lists.entries
 
 -- What is looked up.
 pub found-at : {V X : Type 0} (items : V → List X) (at found : Option V) → found ≡ at
@@ -37,28 +37,28 @@ found-at items at found is = ap (λ o. option_map_or items o []) (sym is)
 
 -- ---- in order
 
-rises-at : (cs : List Change) → Rises cs → (i j : ℕ) (d : Change) → i ≤ j → j < length cs → (get_or cs i d).moment ≤ (get_or cs j d).moment
+rises-at : (cs : List Change) → Rises cs → (i j : ℕ) (d : Change) → i ≤ j → j < length cs → (get_or cs i d).position ≤ (get_or cs j d).position
 rises-at [] up i j d le lt = absurd (omega (arith, lt))
 rises-at (c ∷ cs) up zero zero d le lt = omega arith
 rises-at (c ∷ cs) up zero (suc j) d le lt = up.0 j d (omega (arith, lt))
 rises-at (c ∷ cs) up (suc i) zero d le lt = absurd (omega (arith, le))
 rises-at (c ∷ cs) up (suc i) (suc j) d le lt = rises-at cs up.1 i j d (omega (arith, le)) (omega (arith, lt))
 
-pub kept-in_order : (t : Tables) (moments : List ℕ) (h : PlaceLists Change) → ((p : Place) → listed h p ≡ items_changes t 0 (serial t) p)
-    → AreInOrder (kept moments h)
-kept-in_order t moments h are p = subst (λ cs. IsNonDecreasingBy (λ c. c.moment) cs) (sym (kept-changes moments h p ∙ are p))
+pub kept-in_order : (t : Tables) (positions : List ℕ) (h : PlaceLists Change) → ((p : Place) → listed h p ≡ items_changes t 0 (serial t) p)
+    → AreInOrder (kept positions h)
+kept-in_order t positions h are p = subst (λ cs. IsNonDecreasingBy (λ c. c.position) cs) (sym (kept-changes positions h p ∙ are p))
     (rises-at (items_changes t 0 (serial t) p) (items-rise t 0 (serial t) p))
 
 -- ---- what is wanted
 
-pub versions-of : (t : Tables) (moments : List ℕ) (h : PlaceLists Change) → ArePlacesIn (serial t) (length t.items) moments
-    → ((p : Place) → listed h p ≡ items_changes t 0 (serial t) p) → AreVersionsOf t (kept moments h)
-versions-of t moments h places are = record {
+pub versions-of : (t : Tables) (positions : List ℕ) (h : PlaceLists Change) → ArePlacesIn (serial t) (length t.items) positions
+    → ((p : Place) → listed h p ≡ items_changes t 0 (serial t) p) → AreVersionsOf t (kept positions h)
+versions-of t positions h places are = record {
   each = places.each;
   value = λ item p lt.
-      let moment : get_or moments item 0 ≡ serial_place t item = places.place item lt in
-      ap (λ cs. after_changes (before (get_or moments item 0) cs) (plain Init)) (kept-changes moments h p ∙ are p)
-      ∙ ap (λ m. after_changes (before m (items_changes t 0 (serial t) p)) (plain Init)) (moment ∙ sym (zero-add (serial_place t item)))
+      let position : get_or positions item 0 ≡ serial_place t item = places.place item lt in
+      ap (λ cs. after_changes (before (get_or positions item 0) cs) (plain Init)) (kept-changes positions h p ∙ are p)
+      ∙ ap (λ m. after_changes (before m (items_changes t 0 (serial t) p)) (plain Init)) (position ∙ sym (zero-add (serial_place t item)))
       ∙ ap (λ cs. after_changes cs (plain Init)) (before-items t 0 (serial_place t item) (serial t) p)
       ∙ sym (items-changes t 0 (take (serial_place t item) (serial t)) p (plain Init));
 }

@@ -26,17 +26,17 @@ action_of i r = elim i.body [
 
 -- The change of an action, if there is one.
 abbrev pub change_of : ℕ → Option Action → List Change
-change_of moment None = []
-change_of moment (Some a) = record { moment = moment; action = a } ∷ []
+change_of position None = []
+change_of position (Some a) = record { position = position; action = a } ∷ []
 
 -- The changes at a place by a requirement.
 abbrev pub use_changes : Tables → ℕ → (Req → Option Action) → Req → Place → List Change
-use_changes t moment act r p = if covers t p r then change_of moment (act r) else []
+use_changes t position act r p = if covers t p r then change_of position (act r) else []
 
 -- The changes at a place by some requirements.
 abbrev pub uses_changes : Tables → ℕ → (Req → Option Action) → List Req → Place → List Change
-uses_changes t moment act [] p = []
-uses_changes t moment act (r ∷ rs) p = use_changes t moment act r p ++ uses_changes t moment act rs p
+uses_changes t position act [] p = []
+uses_changes t position act (r ∷ rs) p = use_changes t position act r p ++ uses_changes t position act rs p
 
 -- What a task does by a requirement.
 abbrev pub by_task : ℕ → Req → Option Action
@@ -44,13 +44,13 @@ by_task task r = task_action task r.number r.access
 
 -- The changes at a place by an item.
 abbrev pub item_changes : Tables → ℕ → ℕ → Place → List Change
-item_changes t moment item p = option_map_or (λ i. uses_changes t moment (action_of i) (uses_of t item) p)
+item_changes t position item p = option_map_or (λ i. uses_changes t position (action_of i) (uses_of t item) p)
     (slice_get t.items item) []
 
 -- The changes at a place by some items, of which the first has this place in serial order.
 abbrev pub items_changes : Tables → ℕ → List ℕ → Place → List Change
-items_changes t moment [] p = []
-items_changes t moment (item ∷ items) p = item_changes t moment item p ++ items_changes t (moment + 1) items p
+items_changes t position [] p = []
+items_changes t position (item ∷ items) p = item_changes t position item p ++ items_changes t (position + 1) items p
 
 -- What an action makes of a value.
 abbrev pub acted_by : Action → Value → Value
@@ -64,7 +64,7 @@ after_changes (c ∷ cs) v = after_changes cs (acted_by c.action v)
 
 -- The changes of items that come earlier in serial order.
 abbrev pub before : ℕ → List Change → List Change
-before moment cs = filter (λ c. nat_lt c.moment moment) cs
+before position cs = filter (λ c. nat_lt c.position position) cs
 
 -- Whether a place is one of these fields at these points.
 abbrev pub covered : ℕ → List ℕ → List ℕ → Place → Bool

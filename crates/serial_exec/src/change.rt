@@ -19,7 +19,7 @@ pub enum Action {
 #[derive(Clone, Copy)]
 pub struct Change {
     /// The place of its item in serial order.
-    pub moment: usize,
+    pub position: usize,
     /// What is done there.
     pub action: Action,
 }

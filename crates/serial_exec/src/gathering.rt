@@ -49,17 +49,17 @@ fn note_in_region<P: PointSet + Copy>(
 fn note_req<P: PointSet + Copy>(
     histories: &mut PlaceLists<Change>,
     log: &CutLog<'_, '_, '_, P>,
-    moment: usize,
+    position: usize,
     task: u32,
     req: &Req,
 ) -> Result<(), AllocError>
     requires { IsStrictlyIncreasing req.now.fields }
     ensures { OnOk result ((p : Place) → listed histories.new p ≡ listed histories.old p ++
-        use_changes log.now moment (by_task task) req.now p) }
+        use_changes log.now position (by_task task) req.now p) }
 {
     match task_action(task, req.number, req.access) {
         Some(action) => {
-            let change = Change { moment, action };
+            let change = Change { position, action };
             let fields = req.fields.as_slice();
             let region = Region {
                 tree: req.tree,
@@ -76,16 +76,16 @@ fn note_req<P: PointSet + Copy>(
 fn note_req_at<P: PointSet + Copy>(
     histories: &mut PlaceLists<Change>,
     log: &CutLog<'_, '_, '_, P>,
-    moment: usize,
+    position: usize,
     task: u32,
     k: usize,
 ) -> Result<(), AllocError>
     ensures { OnOk result ((p : Place) → listed histories.new p ≡ listed histories.old p ++
-        uses_changes log.now moment (by_task task)
+        uses_changes log.now position (by_task task)
         (reqs_at log.now.reqs (k ∷ [])) p) }
 {
     match log.reqs().get(k) {
-        Some(req) => note_req(histories, log, moment, task, req),
+        Some(req) => note_req(histories, log, position, task, req),
         None => Ok(()),
     }
 }
@@ -94,16 +94,16 @@ fn note_req_at<P: PointSet + Copy>(
 fn note_reqs<P: PointSet + Copy>(
     histories: &mut PlaceLists<Change>,
     log: &CutLog<'_, '_, '_, P>,
-    moment: usize,
+    position: usize,
     task: u32,
     own: &[usize],
 ) -> Result<(), AllocError>
     ensures { OnOk result ((p : Place) → listed histories.new p ≡ listed histories.old p ++
-        uses_changes log.now moment (by_task task)
+        uses_changes log.now position (by_task task)
         (reqs_at log.now.reqs own.now) p) }
 {
     for k in own {
-        note_req_at(histories, log, moment, task, *k)?;
+        note_req_at(histories, log, position, task, *k)?;
     }
     Ok(())
 }
@@ -113,19 +113,19 @@ fn note_item<P: PointSet + Copy>(
     histories: &mut PlaceLists<Change>,
     log: &CutLog<'_, '_, '_, P>,
     own: &NumberLists,
-    moment: usize,
+    position: usize,
     item: usize,
 ) -> Result<(), AllocError>
     requires { AreOwn log.now.reqs log.now.reqs (length log.now.items) own.now }
     ensures { OnOk result ((p : Place) → listed histories.new p ≡ listed histories.old p ++
-        item_changes log.now moment item p) }
+        item_changes log.now position item p) }
 {
     log.fill_fields_ascend();
     let Some(found) = log.items().get(item) else {
         return Ok(());
     };
     match &found.body {
-        ItemBody::Task => note_reqs(histories, log, moment, found.id, own.list(item)),
+        ItemBody::Task => note_reqs(histories, log, position, found.id, own.list(item)),
         ItemBody::Fill {
             tree,
             space,
@@ -133,7 +133,7 @@ fn note_item<P: PointSet + Copy>(
             n,
         } => {
             let change = Change {
-                moment,
+                position,
                 action: Action::Put(Base::Const(*n)),
             };
             let fields = fields.as_slice();
@@ -158,8 +158,8 @@ pub(crate) fn histories_of<P: PointSet + Copy>(
     let own = own_reqs(alloc, log.items().len(), log.reqs())?;
     let mut histories = PlaceLists::new(alloc);
     let order = log.serial();
-    for moment in 0..order.len() {
-        note_item(&mut histories, log, &own, moment, order[moment])?;
+    for position in 0..order.len() {
+        note_item(&mut histories, log, &own, position, order[position])?;
     }
     Ok(histories)
 }

@@ -23,7 +23,7 @@ use value_terms::{Memory, Value};
 /// Contracts see what is kept; `value_at` says what it means.
 #[derive(Drop)]
 pub struct Versions {
-    moments: Vec<usize>,
+    positions: Vec<usize>,
     histories: PlaceLists<Change>,
 }
 
@@ -32,9 +32,9 @@ impl Model for Versions {
 
     ghost Value = { Kept };
 
-    ghost view = { λ v. kept v.moments.items v.histories };
+    ghost view = { λ v. kept v.positions.items v.histories };
 
-    ghost invariant = { λ v. AreInOrder (kept v.moments.items v.histories) };
+    ghost invariant = { λ v. AreInOrder (kept v.positions.items v.histories) };
 }
 
 impl Versions {
@@ -45,9 +45,9 @@ impl Versions {
     ) -> Result<Versions, Memory>
         ensures { IfOk result (AreVersionsOf log.now) }
     {
-        let moments = Vec::from_slice(alloc, log.serial_places())?;
+        let positions = Vec::from_slice(alloc, log.serial_places())?;
         let histories = histories_of(alloc, log)?;
-        Ok(Versions { moments, histories })
+        Ok(Versions { positions, histories })
     }
 
     /// The versions at all points.
@@ -77,9 +77,9 @@ impl Versions {
 
     /// How many items the log has.
     pub fn len(&self) -> usize
-        ensures { result ≡ length self.now.moments }
+        ensures { result ≡ length self.now.positions }
     {
-        self.moments.len()
+        self.positions.len()
     }
 
     /// The changes at a place.
@@ -91,16 +91,16 @@ impl Versions {
 
     /// The changes at a place by the items before an item, in serial order, which are the first of all there.
     pub fn changes_before(&self, item: usize, place: &Place) -> &[Change]
-        requires { item < length self.now.moments }
+        requires { item < length self.now.positions }
         ensures before { result.now ≡ changes_before self.now item place.now }
         ensures first { AreFirst (changes_in self.now place.now) result.now }
     {
-        changes_until(self.changes_at(place), self.moments[item])
+        changes_until(self.changes_at(place), self.positions[item])
     }
 
     /// The value that a read of an item should see at a place: that of sequential execution just before the item.
     pub fn want(&self, alloc: Global, item: usize, place: &Place) -> Result<Value, Memory>
-        requires { item < length self.now.moments }
+        requires { item < length self.now.positions }
         ensures { IfOk result (λ v. v ≡ value_at self.now item place.now) }
     {
         let (base, added) = latest(self.changes_before(item, place));
@@ -109,11 +109,11 @@ impl Versions {
 }
 
 /// The changes by items that come earlier in serial order, by a binary search.
-fn changes_until(changes: &[Change], moment: usize) -> &[Change]
-    requires { IsNonDecreasingBy (λ c. c.moment) changes.now }
-    ensures before { result.now ≡ before moment changes.now }
+fn changes_until(changes: &[Change], position: usize) -> &[Change]
+    requires { IsNonDecreasingBy (λ c. c.position) changes.now }
+    ensures before { result.now ≡ before position changes.now }
     ensures first { AreFirst changes.now result.now }
 {
-    let end = changes.partition_point(|change| change.moment < moment);
+    let end = changes.partition_point(|change| change.position < position);
     &changes[..end]
 }

@@ -41,8 +41,8 @@ rises nodes free once listed behind stuck = record {
   rank = place_in (replay_order nodes);
   up = λ b a w.
       let lt = slice_get_within nodes b w.by w.by_is in
-      let calm = false_from_ne_true (is_stuck nodes b) (λ s. let c = stuck b lt s in free c.0 c.1) in
-      let cut = split_at (replay_order nodes) b ((listed b).1 (lt, calm)) in
+      let independent = false_from_ne_true (is_stuck nodes b) (λ s. let c = stuck b lt s in free c.0 c.1) in
+      let cut = split_at (replay_order nodes) b ((listed b).1 (lt, independent)) in
       let front = behind cut.0 b cut.1 cut.2 a w in
       let apart = subst (AllPairs (λ a b. a ≢ b)) cut.2 once in
       let parts = AllPairs-parts (λ a b. a ≢ b) cut.0 (b ∷ cut.1) apart in

@@ -8,7 +8,7 @@ use Rattle.semantics.specs.declared.command.Command.{Command}
 use Rattle.semantics.specs.Faults.{declaration_fault, log_fault, map_fault, serial_fault}
 use Rattle.outcomes.specs.Outcome.{IsFound, IsOutcome}
 use Rattle.findings.specs.declared.finding.Finding.{Finding}
-use Rattle.crowded_logs.specs.Crowded.{IsToldBy}
+use Rattle.crowded_logs.specs.Crowded.{IsKeptAs}
 use Rattle.log_reading.specs.declared.reading.Input.{Input}
 use Rattle.log_input.specs.declared.input.CrowdedInput.{CrowdedInput}
 use Rattle.log_input.specs.declared.input.LogInput.{LogInput}
@@ -27,10 +27,10 @@ crowded_outcome bytes input s fault is command = inr (record {
 })
 
 pub crowded_found : {E : Type 0} (input : CrowdedInput) (kept : List Lined) (result : Result Fault E) → kept ≡ input.kept.items
-    → IfOk result (λ fault. (log : List Lined) → IsToldBy log kept input.frame → declaration_fault input.lines log ≡ Some fault)
+    → IfOk result (λ fault. (log : List Lined) → IsKeptAs log kept input.frame → declaration_fault input.lines log ≡ Some fault)
     → IfOk result (λ fault. (bytes : List ℕ) → SpellsCrowded bytes input → (command : Command) → IsOutcome command bytes (findings.Fault fault.line fault.code))
 crowded_found input kept (Ok fault) same told =
-    λ bytes s command. crowded_outcome bytes input s fault (told s.log (subst (λ ls. IsToldBy s.log ls input.frame) (sym same) s.told)) command
+    λ bytes s command. crowded_outcome bytes input s fault (told s.log (subst (λ ls. IsKeptAs s.log ls input.frame) (sym same) s.told)) command
 crowded_found input kept (Err e) same told = tt
 
 -- What is found in the records of an input is found in the input.

@@ -11,7 +11,7 @@ use Rattle.outcomes.specs.Outcome.{IsOutcome}
 use Rattle.spy_cli.specs.declared.status.Status.{Status}
 use Rattle.spy_cli.specs.declared.status.Status.TheVariants.{Yes, Refused, Fault, Usage, ReadFault, WriteFault, Memory}
 use Rattle.spy_cli.specs.Answers.{status_of, Answers, AnswersPart, EndsOnLog, IsDecided}
-use Rattle.spy_cli.specs.Endings.{IsEnding, IsTold, IsToldInPart}
+use Rattle.spy_cli.specs.Endings.{IsEnding, IsReported, IsReportedInPart}
 
 -- A status that the input decides is none of the others.
 decided_is_not : (status other : Status) → IsDecided status → status ≡ other → IsDecided other
@@ -27,7 +27,7 @@ ending_memory Holds before after faults now = record {
   no_read_fault = λ is. cc;
 }
 
-pub ending_part : (Holds : Finding → Type 0) (before after : Option (List ℕ)) (faults now : ℕ) → IsToldInPart Holds before after
+pub ending_part : (Holds : Finding → Type 0) (before after : Option (List ℕ)) (faults now : ℕ) → IsReportedInPart Holds before after
     → Rose faults now → IsEnding Holds WriteFault before after faults now
 ending_part Holds before after faults now part rose = record {
   told = λ decided. absurd decided;
@@ -39,7 +39,7 @@ ending_part Holds before after faults now part rose = record {
 }
 
 pub ending_told : (Holds : Finding → Type 0) (status : Status) (before after : Option (List ℕ)) (faults now : ℕ) → IsDecided status
-    → IsTold Holds status before after → now ≡ faults → IsEnding Holds status before after faults now
+    → IsReported Holds status before after → now ≡ faults → IsEnding Holds status before after faults now
 ending_told Holds status before after faults now decided told no_fault = record {
   told = λ _. told;
   part = λ is. absurd (decided_is_not status WriteFault decided is);
@@ -73,12 +73,12 @@ ending_of Holds f status result before after faults now text holds status_is tex
 
 -- What holds is taken for something else.
 pub told_so : (P Q : Finding → Type 0) (status : Status) (before after : Option (List ℕ)) → ((f : Finding) → P f → Q f)
-    → IsTold P status before after → IsTold Q status before after
+    → IsReported P status before after → IsReported Q status before after
 told_so P Q status before after so t =
     record { finding = t.finding; holds = so t.finding t.holds; status_is = t.status_is; written = t.written }
 
 pub part_so : (P Q : Finding → Type 0) (before after : Option (List ℕ)) → ((f : Finding) → P f → Q f)
-    → IsToldInPart P before after → IsToldInPart Q before after
+    → IsReportedInPart P before after → IsReportedInPart Q before after
 part_so P Q before after so t = record { finding = t.finding; holds = so t.finding t.holds; written = t.written }
 
 pub ending_so : (P Q : Finding → Type 0) (status : Status) (before after : Option (List ℕ)) (faults now : ℕ) → ((f : Finding) → P f → Q f)
@@ -94,7 +94,7 @@ ending_so P Q status before after faults now so e = record {
 
 -- What is told of a command is its answer.
 pub answers_told : (command : Command) (bytes : List ℕ) (status : Status) (before after : Option (List ℕ))
-    → IsTold (IsOutcome command bytes) status before after → Answers (requests.Judge command) bytes status before after
+    → IsReported (IsOutcome command bytes) status before after → Answers (requests.Judge command) bytes status before after
 answers_told command bytes status before after t = record {
   text = report_text t.finding;
   answer =
@@ -107,7 +107,7 @@ answers_told command bytes status before after t = record {
 }
 
 pub answers_in_part : (command : Command) (bytes : List ℕ) (before after : Option (List ℕ))
-    → IsToldInPart (IsOutcome command bytes) before after → AnswersPart (requests.Judge command) bytes before after
+    → IsReportedInPart (IsOutcome command bytes) before after → AnswersPart (requests.Judge command) bytes before after
 answers_in_part command bytes before after t = record {
   status = status_of t.finding;
   text = report_text t.finding;

@@ -11,7 +11,7 @@ ghost use Rattle.findings.specs.Texts as reports;
 ghost use Rattle.outcomes.specs.Outcome.{IsFound, IsOutcome};
 ghost use Rattle.log_input.specs.Inputs.{IsInput, SpellsCrowded};
 ghost use Rattle.spy_cli.specs.Answers.{IsDecided, IsRead};
-ghost use Rattle.spy_cli.specs.Endings.{IsEnding, IsTold, IsToldInPart};
+ghost use Rattle.spy_cli.specs.Endings.{IsEnding, IsReported, IsReportedInPart};
 
 use crate::answering::input_of;
 use crate::crowded::input_fault;
@@ -105,9 +105,9 @@ pub(crate) fn deps_answered<S: Source, K: Sink>(
 ) -> Status
     // What the input decides is told, or a part of it where the sink failed.
     ensures told { IsDecided result → (bytes : List ℕ) → S.left source.old ≡ Some bytes
-        → IsTold (IsOutcome Deps bytes) result (K.held sink.old) (K.held sink.new) }
+        → IsReported (IsOutcome Deps bytes) result (K.held sink.old) (K.held sink.new) }
     ensures part { result ≡ Status.WriteFault → (bytes : List ℕ) → S.left source.old ≡ Some bytes
-        → IsToldInPart (IsOutcome Deps bytes) (K.held sink.old) (K.held sink.new)
+        → IsReportedInPart (IsOutcome Deps bytes) (K.held sink.old) (K.held sink.new)
         ⊎ (Rose (S.faults source.old) (S.faults source.new)
         × Grows (K.held sink.old) (K.held sink.new) (reports.report_text findings.CannotRead)) }
     ensures not_usage { result ≢ Status.Usage }

@@ -1,9 +1,9 @@
--- The users of places, as the touches of one cell more are added.
+-- The users of places, as the accesses of one cell more are added.
 use Rattle.std.proofs.Common.{◌≡◌, ℕ, inl, inr, List, [], ◌∷◌, ◌++◌, All, Contains, sym, subst, map}
 use Rattle.std.proofs.lemmas.List.Sorted.{Contains-permutation, IsPermutation-sym}
 use Rattle.std.proofs.lemmas.List.Elements.{All-append, All-cons, All-nil, Contains-append_cases, Contains-append_left, Contains-append_right}
 use Rattle.list_lemmas.proofs.lemmas.Contained.{member_map, map_member, only, Contains-nil, Contains-here}
-use Rattle.cell_races.specs.declared.touches.Touch.{Touch}
+use Rattle.cell_races.specs.declared.cell_accesses.CellAccess.{CellAccess}
 use Rattle.cell_races.proofs.lemmas.CellEnds.{AreApart}
 use Rattle.pair_rows.specs.declared.users.User.{User}
 use Rattle.pair_rows.specs.Meetings.{AreByClass}
@@ -15,23 +15,23 @@ users_none order = record {
   whole = λ x y m. absurd (Contains-nil m);
 }
 
-module _ (order : List ℕ) (front run : List Touch) (old new : List (List User)) (h : AreUsersOf order front old)
-    (more : IsOneMore order run old new) (one : (x y : Touch) → Contains run x → Contains run y → x.cell ≡ y.cell)
+module _ (order : List ℕ) (front run : List CellAccess) (old new : List (List User)) (h : AreUsersOf order front old)
+    (more : IsOneMore order run old new) (one : (x y : CellAccess) → Contains run x → Contains run y → x.cell ≡ y.cell)
     (apart : AreApart front run) where
-  early : (x : Touch) → Contains front x → Contains (front ++ run) x
+  early : (x : CellAccess) → Contains front x → Contains (front ++ run) x
   early x m = Contains-append_left front run x m
 
-  late : (x : Touch) → Contains run x → Contains (front ++ run) x
+  late : (x : CellAccess) → Contains run x → Contains (front ++ run) x
   late x m = Contains-append_right front run x m
 
-  -- A user of the new place is one of the new touches.
-  of_run : (u : User) → Contains more.users u → (x : Touch) × Contains run x × (u ≡ user_of order x)
+  -- A user of the new place is one of the new accesses.
+  of_run : (u : User) → Contains more.users u → (x : CellAccess) × Contains run x × (u ≡ user_of order x)
   of_run u m =
       let users = map (user_of order) run in
       member_map (user_of order) run u (Contains-permutation more.users users u
       (IsPermutation-sym users more.users more.same) m)
 
-  in_place : (x : Touch) → Contains run x → Contains more.users (user_of order x)
+  in_place : (x : CellAccess) → Contains run x → Contains more.users (user_of order x)
   in_place x m =
       let users = map (user_of order) run in
       Contains-permutation users more.users (user_of order x) more.same
@@ -58,7 +58,7 @@ module _ (order : List ℕ) (front run : List Touch) (old new : List (List User)
   new_place = subst (λ us. Contains us more.users) (sym more.added)
       (Contains-append_right old (more.users ∷ []) more.users (Contains-here []))
 
-  whole : (x y : Touch) → Contains (front ++ run) x → Contains (front ++ run) y → x.cell ≡ y.cell → SharePlace order new x y
+  whole : (x y : CellAccess) → Contains (front ++ run) x → Contains (front ++ run) y → x.cell ≡ y.cell → SharePlace order new x y
   whole x y xm ym same = elim (Contains-append_cases front run x xm) [
     | inl x_front ↦ elim (Contains-append_cases front run y ym) [
       | inl y_front ↦

@@ -2,7 +2,7 @@ mod Adding
 mod Running
 mod Turned
 mod Grown
-mod Told
+mod Interfering
 mod Counted
 mod Chains
 mod Looked

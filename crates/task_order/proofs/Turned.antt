@@ -6,11 +6,11 @@ use Rattle.semantics.specs.SerialOrder.{serial, serial_place}
 use Rattle.semantics.specs.Shown.{is_task_at, run_of}
 use Rattle.reach_marks.specs.Reached.{Marks, AreMarksOf, before_in}
 use Rattle.log_laws.proofs.lemmas.Members.{member_in, is_in_of}
-use Rattle.cell_races.specs.declared.touches.Touch.{Touch}
-use Rattle.cell_races.specs.Touches.{touch}
+use Rattle.cell_races.specs.declared.cell_accesses.CellAccess.{CellAccess}
+use Rattle.cell_races.specs.CellAccesses.{cell_access}
 use Rattle.cell_races.specs.Turns as turns
 use Rattle.order_laws.specs.Turns.{AreInTurnBut, ListsItems}
-use Rattle.order_laws.specs.Visited.{access_of}
+use Rattle.order_laws.specs.TaskAccesses.{access_of}
 use Rattle.order_laws.proofs.lemmas.Agreeing.{conflicts_are}
 use Rattle.order_laws.proofs.lemmas.TaskUses.{own_req, task_within}
 use Rattle.task_order.specs.Gathered.{IsOneAt, Adds, IsDoneBy, AreDoneBy, in_order}
@@ -20,11 +20,11 @@ use Rattle.list_lemmas.proofs.lemmas.Filtered.{of_filter, in_filter}
 
 -- ---- what one requirement does
 
-same_touch : (x : Touch) (tree place : ℕ) (x_tree : x.cell.inst ≡ tree) → x.place ≡ place
-    → x ≡ touch place (record { inst = tree; point = x.cell.point; field = x.cell.field }) x.access
-same_touch x tree place e f = ap₂ (λ i k. touch k (record { inst = i; point = x.cell.point; field = x.cell.field }) x.access) e f
+same_cell_access : (x : CellAccess) (tree place : ℕ) (x_tree : x.cell.inst ≡ tree) → x.place ≡ place
+    → x ≡ cell_access place (record { inst = tree; point = x.cell.point; field = x.cell.field }) x.access
+same_cell_access x tree place e f = ap₂ (λ i k. cell_access k (record { inst = i; point = x.cell.point; field = x.cell.field }) x.access) e f
 
-pub adds_done : (t : Tables) (points pts : List ℕ) (r : Req) (one : Touch) (old new : List Touch) → is_task_at t r.item ≡ true
+pub adds_done : (t : Tables) (points pts : List ℕ) (r : Req) (one : CellAccess) (old new : List CellAccess) → is_task_at t r.item ≡ true
     → points_in t r.space ≡ pts
     → one.cell.inst ≡ r.tree → one.place ≡ serial_place t r.item → one.access ≡ access_of r.access
     → Adds (IsOneAt one (filter (is_in points) pts) r.fields) old new → Adds (IsDoneBy t points r) old new
@@ -56,29 +56,29 @@ adds_done t points pts r one old new task set tree place access h = record {
         field = x.cell.field;
         in_points = (in_filter (is_in points) pts x.cell.point in_set d.listed);
         in_fields = (member_in r.fields x.cell.field b.1);
-        is = same_touch x one.cell.inst one.place (sym (eqb-true r.tree x.cell.inst a.0) ∙ sym tree) (d.place ∙ sym place)
-            ∙ ap (λ acc. touch one.place (record { inst = one.cell.inst; point = x.cell.point; field = x.cell.field }) acc)
+        is = same_cell_access x one.cell.inst one.place (sym (eqb-true r.tree x.cell.inst a.0) ∙ sym tree) (d.place ∙ sym place)
+            ∙ ap (λ acc. cell_access one.place (record { inst = one.cell.inst; point = x.cell.point; field = x.cell.field }) acc)
             (d.access ∙ sym access);
       });
 }
 
-pub adds_nothing : (t : Tables) (points : List ℕ) (r : Req) (old : List Touch) → ((x : Touch) → IsDoneBy t points r x → ⊥)
+pub adds_nothing : (t : Tables) (points : List ℕ) (r : Req) (old : List CellAccess) → ((x : CellAccess) → IsDoneBy t points r x → ⊥)
     → Adds (IsDoneBy t points r) old old
 adds_nothing t points r old none = record { kept = λ x m. m; sound = λ x m. inl m; whole = λ x d. absurd (none x d) }
 
-pub none_there : (t : Tables) (points : List ℕ) (r : Req) → points_in t r.space ≡ [] → (x : Touch) → IsDoneBy t points r x → ⊥
+pub none_there : (t : Tables) (points : List ℕ) (r : Req) → points_in t r.space ≡ [] → (x : CellAccess) → IsDoneBy t points r x → ⊥
 none_there t points r none x d =
     let a = and_parts (r.tree == x.cell.inst) (is_in (points_in t r.space) x.cell.point && is_in r.fields x.cell.field) d.covered in
     let b = and_parts (is_in (points_in t r.space) x.cell.point) (is_in r.fields x.cell.field) a.1 in
     true≢false (sym b.0 ∙ ap (λ ps. is_in ps x.cell.point) none)
 
-pub none_done : (t : Tables) (points : List ℕ) (r : Req) → is_task_at t r.item ≡ false → (x : Touch) → IsDoneBy t points r x → ⊥
+pub none_done : (t : Tables) (points : List ℕ) (r : Req) → is_task_at t r.item ≡ false → (x : CellAccess) → IsDoneBy t points r x → ⊥
 none_done t points r other x d = true≢false (sym d.task ∙ other)
 
 -- ---- in turn
 
-abbrev done_at : Tables → ℕ → Place → Req → Touch
-done_at t a p r = touch (serial_place t a) (record { inst = p.tree; point = p.point; field = p.field }) (access_of r.access)
+abbrev done_at : Tables → ℕ → Place → Req → CellAccess
+done_at t a p r = cell_access (serial_place t a) (record { inst = p.tree; point = p.point; field = p.field }) (access_of r.access)
 
 is_done : (t : Tables) (points : List ℕ) (a : ℕ) (p : Place) (r : Req) → is_task_at t a ≡ true → r.item ≡ a → covers t p r ≡ true
     → is_in points p.point ≡ true → IsDoneBy t points r (done_at t a p r)
@@ -91,12 +91,12 @@ is_done t points a p r task item covered listed = record {
   access = refl;
 }
 
-pub in_turn : (t : Tables) (marks : Marks) (runs points : List ℕ) (touches : List Touch) (noted : List Bool) (out : ℕ → Bool)
+pub in_turn : (t : Tables) (marks : Marks) (runs points : List ℕ) (cell_accesses : List CellAccess) (noted : List Bool) (out : ℕ → Bool)
     → ListsItems t
-    → AreRunsOf t runs → AreMarksOf (graph_of t.nodes) marks → AreDoneBy t points t.reqs touches
-    → turns.AreInTurnBut (before_in marks) (in_order runs t) touches noted
+    → AreRunsOf t runs → AreMarksOf (graph_of t.nodes) marks → AreDoneBy t points t.reqs cell_accesses
+    → turns.AreInTurnBut (before_in marks) (in_order runs t) cell_accesses noted
     → ((item : ℕ) → item < length t.items → out item ≡ turns.is_noted noted (serial_place t item)) → AreInTurnBut t points out
-in_turn t marks runs points touches noted out lists are marked done turn items a b p listed one other m less a_free b_free =
+in_turn t marks runs points cell_accesses noted out lists are marked done turn items a b p listed one other m less a_free b_free =
     let q = own_req t a m.q one m.of_a in
     let r = own_req t b m.r other m.of_b in
     let x = done_at t a p m.q in

@@ -1,7 +1,7 @@
 //! Whether the tasks of a log that interfere are run in serial order.
 //!
 //! `task_order` says so, or shows the first pair that is not, exactly as `Shown` of `semantics` defines it.
-//! It goes over no pairs where all are in order. `task_touches.rt` gathers what tasks do at first points, and
+//! It goes over no pairs where all are in order. `task_cell_accesses.rt` gathers what tasks do at first points, and
 //! `scan.rt` goes over it once, place by place, with the groups of `cell_races`, and notes tasks so that all
 //! others are run in serial order. `tasks.rt` makes the users of each place, and counts the pairs of tasks that
 //! interfere by the rows of bits of `pair_rows`. Where a task is noted, `sifting.rt` leaves in such rows its
@@ -15,7 +15,7 @@ mod runs;
 mod scan;
 mod search;
 mod sifting;
-mod task_touches;
+mod task_cell_accesses;
 mod tasks;
 
 pub use memory::Memory;

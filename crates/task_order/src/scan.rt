@@ -4,13 +4,13 @@ ghost use Rattle.std.specs.Prelude.{◌≡◌, ℕ, ◌<◌, All, IfOk, IsTrue, 
 ghost use Rattle.vocabulary.specs.Prelude.{graph_of};
 ghost use Rattle.semantics.specs.SerialOrder.{serial, serial_place};
 ghost use Rattle.reach_marks.specs.Reached.{AreMarksOf};
-ghost use Rattle.cell_races.specs.Touches.{AreInOrder};
+ghost use Rattle.cell_races.specs.CellAccesses.{AreInOrder};
 ghost use Rattle.cell_races.specs.Turns.{IsMarked, is_noted};
 ghost use Rattle.order_laws.specs.Turns.{AreKeptBut, ListsItems};
-ghost use Rattle.task_order.specs.Gathered.{AreFirstTouches, in_order};
+ghost use Rattle.task_order.specs.Gathered.{AreFirstCellAccesses, in_order};
 ghost use Rattle.task_order.specs.Runs.{AreRunsOf};
 
-use cell_races::{Touch, unordered_places};
+use cell_races::{CellAccess, unordered_places};
 use log_laws::serial_order_lists;
 use logs::Log;
 use order_laws::places_tell_of_tasks;
@@ -43,11 +43,11 @@ fn runs_in_order<'a, P: PointSet + Copy>(
 }
 
 /// Whether what is done is done by nodes that are marked.
-fn are_marked(reach: &Reach, order: &[usize], touches: &[Touch]) -> bool
-    ensures { IsTrue result → All (IsMarked order.now reach.now) touches.now }
+fn are_marked(reach: &Reach, order: &[usize], cell_accesses: &[CellAccess]) -> bool
+    ensures { IsTrue result → All (IsMarked order.now reach.now) cell_accesses.now }
 {
-    for touch in touches {
-        let place = touch.place;
+    for cell_access in cell_accesses {
+        let place = cell_access.place;
         if place >= order.len() {
             return false;
         }
@@ -84,12 +84,12 @@ pub(crate) fn unordered_tasks<'a, P: PointSet + Copy>(
     log: &Log<'a, P>,
     reach: &Reach,
     runs: &[usize],
-    touches: &[Touch],
+    cell_accesses: &[CellAccess],
 ) -> Result<Vec<bool>, AllocError>
     requires marks { AreMarksOf (graph_of log.now.nodes) reach.now }
     requires runs { AreRunsOf log.now runs.now }
-    requires touches { AreFirstTouches log.now touches.now }
-    requires order { AreInOrder touches.now }
+    requires cell_accesses { AreFirstCellAccesses log.now cell_accesses.now }
+    requires order { AreInOrder cell_accesses.now }
     ensures each { IfOk result (λ unordered. length unordered.items ≡ length log.now.items) }
     ensures kept { IfOk result (λ unordered. AreKeptBut log.now (is_noted unordered.items)) }
 {
@@ -97,11 +97,11 @@ pub(crate) fn unordered_tasks<'a, P: PointSet + Copy>(
     before_is_transitive();
     places_tell_of_tasks();
     let order = runs_in_order(alloc, log, runs)?;
-    if !are_marked(reach, &order, touches) {
+    if !are_marked(reach, &order, cell_accesses) {
         let all = Vec::from_elem(alloc, true, log.items().len())?;
         return Ok(all);
     }
-    let noted = unordered_places(alloc, reach, &order, touches)?;
+    let noted = unordered_places(alloc, reach, &order, cell_accesses)?;
     let items = items_noted(alloc, log, &noted)?;
     Ok(items)
 }

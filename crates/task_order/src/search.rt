@@ -14,7 +14,7 @@ use crate::kept::Schedule;
 use crate::least::first_unkept;
 use crate::runs::runs_of;
 use crate::scan::unordered_tasks;
-use crate::task_touches::touches_of_tasks;
+use crate::task_cell_accesses::cell_accesses_of_tasks;
 use crate::tasks::{count_task_pairs, task_places};
 use logs::Log;
 use memory::Memory;
@@ -130,9 +130,9 @@ pub fn task_order<'a, P: ArenaSet<'a>>(
 {
     let firsts = FirstPoints::of(alloc, log)?;
     let runs = runs_of(alloc, log)?;
-    let touches = touches_of_tasks(alloc, log, firsts.as_slice())?;
-    let unordered = unordered_tasks(alloc, log, reach, &runs, &touches)?;
-    let places = task_places(alloc, log, &touches)?;
+    let cell_accesses = cell_accesses_of_tasks(alloc, log, firsts.as_slice())?;
+    let unordered = unordered_tasks(alloc, log, reach, &runs, &cell_accesses)?;
+    let places = task_places(alloc, log, &cell_accesses)?;
     let schedule = Schedule {
         log,
         reach,

@@ -2,12 +2,12 @@
 
 ghost use Rattle.std.specs.Prelude.{◌≡◌, ◌<◌, ◌^◌, IfOk, length};
 ghost use Rattle.semantics.specs.Shown.{task_pairs};
-ghost use Rattle.cell_races.specs.Touches.{AreInOrder};
-ghost use Rattle.task_order.specs.Gathered.{AreFirstTouches};
+ghost use Rattle.cell_races.specs.CellAccesses.{AreInOrder};
+ghost use Rattle.task_order.specs.Gathered.{AreFirstCellAccesses};
 ghost use Rattle.task_order.specs.Users.{AreTaskPlaces};
 
 use crate::cells::users_of_cells;
-use cell_races::Touch;
+use cell_races::CellAccess;
 use log_laws::serial_order_lists;
 use logs::Log;
 use order_laws::{pairs_are_counted, tasks_agree_with_themselves};
@@ -15,21 +15,21 @@ use pair_rows::{Places, count_pairs};
 use point_set::PointSet;
 use std::alloc::{AllocError, Global};
 
-/// The places at which tasks touch first points, each with the tasks that use it: two items meet at some place exactly where they are tasks that interfere.
+/// The places at which tasks access first points, each with the tasks that use it: two items meet at some place exactly where they are tasks that interfere.
 pub(crate) fn task_places<'a, P: PointSet + Copy>(
     alloc: Global,
     log: &Log<'a, P>,
-    touches: &[Touch],
+    cell_accesses: &[CellAccess],
 ) -> Result<Places, AllocError>
-    requires touches { AreFirstTouches log.now touches.now }
-    requires order { AreInOrder touches.now }
+    requires cell_accesses { AreFirstCellAccesses log.now cell_accesses.now }
+    requires order { AreInOrder cell_accesses.now }
     ensures { IfOk result (AreTaskPlaces log.now) }
 {
     log.is_declared();
     serial_order_lists();
     tasks_agree_with_themselves();
     pairs_are_counted();
-    let places = users_of_cells(alloc, log.serial(), touches)?;
+    let places = users_of_cells(alloc, log.serial(), cell_accesses)?;
     Ok(places)
 }
 

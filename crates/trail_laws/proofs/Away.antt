@@ -20,10 +20,10 @@ use Rattle.list_lemmas.proofs.lemmas.Contained.{each_more, member_flat, member_m
 use Rattle.list_lemmas.proofs.lemmas.Filtered.{of_filter}
 use Rattle.list_lemmas.proofs.lemmas.Firsts.{contains_at, cases_option}
 use Rattle.log_laws.proofs.lemmas.Apart.{member_grid}
-use Rattle.log_laws.proofs.lemmas.Sane.{AreSane, two_reqs}
+use Rattle.log_laws.proofs.lemmas.Consistent.{AreConsistent, two_reqs}
 use Rattle.log_laws.proofs.lemmas.StepLists.{of_node}
-use Rattle.log_laws.proofs.lemmas.Admitted.{Unbroken, rule_kept, keeps_of, IsFaultless, by_records, sane, all_mapped}
-use Rattle.trail_laws.proofs.Told.{KeepsAway}
+use Rattle.log_laws.proofs.lemmas.Admitted.{Unbroken, rule_kept, keeps_of, IsFaultless, by_records, consistent, all_mapped}
+use Rattle.trail_laws.proofs.LastPut.{KeepsAway}
 
 -- An instance is there, and is or is none that reduces.
 record IsOfKind (insts : List Inst) (id : ℕ) (reduces : Bool) : Type 0 where
@@ -163,7 +163,7 @@ no_reduction privileges.Wd kind r e = absurd cc
 no_reduction (privileges.Red op) kind r e = absurd cc
 no_reduction p kind r e = refl
 
-module _ (t : Tables) (sane : AreSane t) (whole : (r : Req) (field : ℕ) → Contains t.reqs r → Contains r.fields field
+module _ (t : Tables) (consistent : AreConsistent t) (whole : (r : Req) (field : ℕ) → Contains t.reqs r → Contains r.fields field
     → is_some (mapped t r field) ≡ true) (kept : AreKept t) where
   -- The instance to which a field of a requirement that reads is mapped does not reduce.
   mapped_kept : (r : Req) (p : ℕ × ℕ) → Contains t.reqs r → Contains (req_grid t r) p → may_read r.access ≡ true
@@ -176,7 +176,7 @@ module _ (t : Tables) (sane : AreSane t) (whole : (r : Req) (field : ℕ) → Co
             let found = found_at (λ (m : Map). (m.item == r.item) && ((m.number == r.number) && is_in m.fields p.1)) t.maps m some.1 in
             let f : IsFit t m = kept.maps m found.0 in
             let named = found_at (λ (r : Req). (r.item == m.item) && (r.number == m.number)) t.reqs f.req f.is_req in
-            elim (two_reqs t sane f.req r named.0 is (grind (arith, nat_tests, found.1, named.1))) [
+            elim (two_reqs t consistent f.req r named.0 is (grind (arith, nat_tests, found.1, named.1))) [
               | inl one ↦ rw (some.1, f.is_inst) (no_reduction r.access f.inst.kind may
                   (subst (λ (q : Req). fits q.access f.inst.kind ≡ true) one f.fit))
               | inr two ↦ absurd (two.0 (grind (arith, nat_tests, found.1, named.1)))
@@ -237,5 +237,5 @@ steps_kept log f x m =
     let t = tables_of log in
     let of = of_node t _ x m in
     let k = kept log f in
-    op_kept t (sane Check log f) (all_mapped log f) k of.node.op
+    op_kept t (consistent Check log f) (all_mapped log f) k of.node.op
     (k.nodes of.node (contains_at t.nodes x.node of.node of.is_node)) x.move of.is_move

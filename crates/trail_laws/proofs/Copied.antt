@@ -5,27 +5,27 @@ use Rattle.std.proofs.lemmas.Option.{same_Some}
 use Rattle.vocabulary.specs.Prelude.{Link, Cell, Move, Tables, Step, same_cell}
 use Rattle.semantics.specs.declared.links.LinkKind.TheVariants as kinds
 use Rattle.semantics.specs.declared.moves.Move.TheVariants.{Read, Write, Reduce, Copy, Put, Reset, Fold}
-use Rattle.semantics.specs.Links.{Touch, Leaves, Adds, Puts, Takes, touch, Source, with_last, sources_of, cell_read, ComesFrom, kind_of, link_of, EndsInOrigin}
+use Rattle.semantics.specs.Links.{Flow, Leaves, Adds, Puts, Takes, flow, Source, with_last, sources_of, cell_read, ComesFrom, kind_of, link_of, EndsInOrigin}
 use Rattle.list_lemmas.proofs.lemmas.Contained.{only, Contains-here, Contains-later, Contains-first, Contains-cases}
-use Rattle.log_laws.proofs.lemmas.Tidy.{one_cell, place}
-use Rattle.trail_laws.proofs.Told.{KeepsAway}
+use Rattle.log_laws.proofs.lemmas.OwnConflicts.{one_cell, place}
+use Rattle.trail_laws.proofs.LastPut.{KeepsAway}
 
 -- ---- kinds
 
 -- Only a copy takes, and it puts nothing of its own.
-TellsCopies : Move → Touch → Type 0
+TellsCopies : Move → Flow → Type 0
 TellsCopies m Leaves = Unit {0}
 TellsCopies m Adds = Unit {0}
 TellsCopies m Puts = kind_of m ≢ kinds.Copy
 TellsCopies m (Takes from) = kind_of m ≡ kinds.Copy
 
-copies_cond : (m : Move) (b : Bool) (k : Touch) → TellsCopies m k → TellsCopies m (cond b k Leaves)
+copies_cond : (m : Move) (b : Bool) (k : Flow) → TellsCopies m k → TellsCopies m (cond b k Leaves)
 unfolding TellsCopies
 copies_cond m true k h = h
 copies_cond m false k h = tt
 
-tells_copies : (m : Move) (c : Cell) → TellsCopies m (touch m c)
-unfolding TellsCopies touch
+tells_copies : (m : Move) (c : Cell) → TellsCopies m (flow m c)
+unfolding TellsCopies flow
 tells_copies (Read task req cell) c = tt
 tells_copies (Write task cell) c = copies_cond (Write task cell) (same_cell c cell) Puts (λ e. cc)
 tells_copies (Reduce task req op cell) c = copies_cond (Reduce task req op cell) (same_cell c cell) Adds tt
@@ -39,7 +39,7 @@ one_copied l [] e h = absurd h
 one_copied l (r ∷ rest) e h = (e, h)
 
 module _ (t : Tables) where
-  ends_by : (x : Step) (k : Touch) (c : Cell) (n : ℕ) (before : Cell → ℕ → List Source) → TellsCopies x.move k
+  ends_by : (x : Step) (k : Flow) (c : Cell) (n : ℕ) (before : Cell → ℕ → List Source) → TellsCopies x.move k
       → ((c : Cell) (n : ℕ) → EndsInOrigin (map (link_of t) (before c n))) → EndsInOrigin (map (link_of t) (with_last x k c n before))
   unfolding TellsCopies
   ends_by x Leaves c n before tells h = h c n
@@ -50,7 +50,7 @@ module _ (t : Tables) where
 
   ends : (earlier : List Step) (c : Cell) (n : ℕ) → EndsInOrigin (map (link_of t) (sources_of earlier c n))
   ends [] c n = λ e. cc
-  ends (x ∷ earlier) c n = ends_by x (touch x.move c) c n (sources_of earlier) (tells_copies x.move c) (ends earlier)
+  ends (x ∷ earlier) c n = ends_by x (flow x.move c) c n (sources_of earlier) (tells_copies x.move c) (ends earlier)
 
   ends_read : (earlier : List Step) (o : Option Cell) (ls : List Source) → option_map (λ c. sources_of earlier c 0) o ≡ Some ls
       → EndsInOrigin (map (link_of t) ls)
@@ -65,7 +65,7 @@ module _ (t : Tables) where
 
 -- ---- the steps of sources are steps that were taken
 
-by_last : (y : Step) (k : Touch) (c : Cell) (n : ℕ) (earlier : List Step)
+by_last : (y : Step) (k : Flow) (c : Cell) (n : ℕ) (earlier : List Step)
     → ((c : Cell) (n : ℕ) (s : Source) (x : Step) → Contains (sources_of earlier c n) s → s.by ≡ Some x → Contains earlier x)
     → (s : Source) (x : Step) → Contains (with_last y k c n (sources_of earlier)) s → s.by ≡ Some x → Contains (y ∷ earlier) x
 by_last y Leaves c n earlier before s x m e = Contains-later earlier (before c n s x m e)
@@ -79,7 +79,7 @@ by_last y (Takes from) c n earlier before s x m e = elim (Contains-cases _ m) [
 by_earlier : (earlier : List Step) (c : Cell) (n : ℕ) (s : Source) (x : Step) → Contains (sources_of earlier c n) s → s.by ≡ Some x
     → Contains earlier x
 by_earlier [] c n s x m e = let bad = sym e ∙ ap (λ (s : Source). s.by) (only m) in absurd cc
-by_earlier (y ∷ earlier) c n s x m e = by_last y (touch y.move c) c n earlier (by_earlier earlier) s x m e
+by_earlier (y ∷ earlier) c n s x m e = by_last y (flow y.move c) c n earlier (by_earlier earlier) s x m e
 
 by_read : (earlier : List Step) (o : Option Cell) (ls : List Source) (s : Source) (x : Step)
     → option_map (λ c. sources_of earlier c 0) o ≡ Some ls → Contains ls s → s.by ≡ Some x → Contains earlier x
@@ -98,13 +98,13 @@ comes_of earlier (y ∷ xs) e ls (inr h) s x m is = elim (comes_of (y ∷ earlie
 
 -- ---- the cells of sources are at the point and the field that are read
 
--- What a touch takes is at the point and the field.
-TakesThere : Cell → Touch → Type 0
+-- What a flow takes is at the point and the field.
+TakesThere : Cell → Flow → Type 0
 TakesThere c (Takes from) = place from ≡ place c
 TakesThere c _ = Unit {0}
 
-takes_there : (t : Tables) (m : Move) (c : Cell) → KeepsAway t m → TakesThere c (touch m c)
-unfolding TakesThere touch
+takes_there : (t : Tables) (m : Move) (c : Cell) → KeepsAway t m → TakesThere c (flow m c)
+unfolding TakesThere flow
 takes_there t (Read task req cell) c k = tt
 takes_there t (Write task cell) c k = cond_both (same_cell c cell) Puts Leaves (TakesThere c) (λ e. tt) (λ e. tt)
 takes_there t (Reduce task req op cell) c k = cond_both (same_cell c cell) Adds Leaves (TakesThere c) (λ e. tt) (λ e. tt)
@@ -117,7 +117,7 @@ takes_there t (Fold op from to) c k = cond_both (same_cell c to) Adds Leaves (Ta
 abbrev pub AreThere : Cell → List Source → Type 0
 AreThere c ls = (s : Source) → Contains ls s → place s.cell ≡ place c
 
-there_by : (x : Step) (k : Touch) (c : Cell) (n : ℕ) (before : Cell → ℕ → List Source) → TakesThere c k
+there_by : (x : Step) (k : Flow) (c : Cell) (n : ℕ) (before : Cell → ℕ → List Source) → TakesThere c k
     → ((c : Cell) (n : ℕ) → AreThere c (before c n)) → AreThere c (with_last x k c n before)
 unfolding TakesThere
 there_by x Leaves c n before takes h s m = h c n s m
@@ -131,7 +131,7 @@ there_by x (Takes from) c n before takes h s m = elim (Contains-cases (before fr
 there : (t : Tables) (earlier : List Step) → ((x : Step) → Contains earlier x → KeepsAway t x.move) → (c : Cell) (n : ℕ)
     → AreThere c (sources_of earlier c n)
 there t [] keeps c n = λ s m. ap (λ (s : Source). place s.cell) (only m)
-there t (x ∷ earlier) keeps c n = there_by x (touch x.move c) c n (sources_of earlier) (takes_there t x.move c (keeps x (Contains-here earlier)))
+there t (x ∷ earlier) keeps c n = there_by x (flow x.move c) c n (sources_of earlier) (takes_there t x.move c (keeps x (Contains-here earlier)))
     (there t earlier (λ y m. keeps y (Contains-later earlier m)))
 
 pub comes_there : (t : Tables) (earlier xs : List Step) → ((x : Step) → Contains earlier x → KeepsAway t x.move)

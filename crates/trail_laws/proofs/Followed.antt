@@ -3,13 +3,13 @@ use mathlib.Core.Path.{fun_ext}
 use Rattle.std.proofs.Common.{◌≡◌, ℕ, ◌+◌, inl, inr, Bool, true, false, cond, List, [], ◌∷◌, refl, sym, ap, ◌∙◌, subst, Option, Some, option_map, arith}
 use Rattle.std.proofs.lemmas.Bool.{true≢false}
 use Rattle.std.proofs.lemmas.Bool.Decides.{nat_tests}
-use Rattle.vocabulary.specs.Prelude.{Cell, Move, Step, same_cell, Access, Untouched, Writes, Folds, at_cell, access, conflicts, IsCalm}
+use Rattle.vocabulary.specs.Prelude.{Cell, Move, Step, same_cell, Access, Untouched, Writes, Folds, at_cell, access, conflicts, AreIndependent}
 use Rattle.semantics.specs.declared.moves.Move.TheVariants.{Read, Write, Reduce, Copy, Put, Reset, Fold}
 use Rattle.semantics.specs.Races.{Reads}
-use Rattle.semantics.specs.Links.{Touch, Leaves, Adds, Puts, Takes, touch, Source, with_last, sources_of, cell_read, ComesFrom}
+use Rattle.semantics.specs.Links.{Flow, Leaves, Adds, Puts, Takes, flow, Source, with_last, sources_of, cell_read, ComesFrom}
 use Rattle.log_laws.proofs.lemmas.Turns.{SeesIn}
 
--- ---- what touches conflict with
+-- ---- what flows conflict with
 
 -- Whether an access changes a cell; and whether it conflicts with each change.
 changes : Access → Bool
@@ -44,8 +44,8 @@ clash_back Reads b e f c = absurd cc
 clash_back a Untouched e f c = absurd cc
 clash_back a (Folds op) e f c = absurd cc
 
--- What a touch of a cell tells of the accesses of the move.
-Tells : (Cell → Access) → Cell → Touch → Type 0
+-- What a flow into a cell tells of the accesses of the move.
+Tells : (Cell → Access) → Cell → Flow → Type 0
 Tells at c Leaves = Unit {0}
 Tells at c Adds = changes (at c) ≡ true
 Tells at c Puts = (changes (at c) ≡ true) × (fixes (at c) ≡ true)
@@ -87,8 +87,8 @@ copy_fixes true true e = refl
 copy_fixes false true e = refl
 copy_fixes a false e = absurd (true≢false (sym e))
 
-tells : (m : Move) (c : Cell) → Tells (access m) c (touch m c)
-unfolding Tells touch
+tells : (m : Move) (c : Cell) → Tells (access m) c (flow m c)
+unfolding Tells flow
 tells (Read task req cell) c = tt
 tells (Write task cell) c = puts_tell (access (Write task cell)) c (same_cell c cell) Untouched refl
 tells (Reduce task req op cell) c = adds_tell (access (Reduce task req op cell)) c (same_cell c cell) (Folds op) Untouched
@@ -101,15 +101,15 @@ tells (Fold op from to) c = adds_tell (access (Fold op from to)) c (same_cell c 
     (at_cell from Reads c) (fold_changes (same_cell c from) op) refl
 
 -- A cell is left where the move may not change it.
-quiet_by : (at : Cell → Access) (c : Cell) (k : Touch) → Tells at c k → (changes (at c) ≡ true → ⊥) → k ≡ Leaves
+quiet_by : (at : Cell → Access) (c : Cell) (k : Flow) → Tells at c k → (changes (at c) ≡ true → ⊥) → k ≡ Leaves
 unfolding Tells
 quiet_by at c Leaves h never = refl
 quiet_by at c Adds h never = absurd (never h)
 quiet_by at c Puts h never = absurd (never h.0)
 quiet_by at c (Takes from) h never = absurd (never h.0)
 
-quiet : (m : Move) (c : Cell) → (changes (access m c) ≡ true → ⊥) → touch m c ≡ Leaves
-quiet m c never = quiet_by (access m) c (touch m c) (tells m c) never
+quiet : (m : Move) (c : Cell) → (changes (access m c) ≡ true → ⊥) → flow m c ≡ Leaves
+quiet m c never = quiet_by (access m) c (flow m c) (tells m c) never
 
 -- ---- sources, forwards
 
@@ -121,14 +121,14 @@ pub added : List Source → List Source
 added [] = []
 added (l ∷ ls) = record l { adds = l.adds + 1 } ∷ ls
 
-pub given : Step → Touch → Cell → Origins → List Source
+pub given : Step → Flow → Cell → Origins → List Source
 given x Leaves c o = o c
 given x Adds c o = added (o c)
 given x Puts c o = record { by = Some x; cell = c; adds = 0 } ∷ []
 given x (Takes from) c o = record { by = Some x; cell = c; adds = 0 } ∷ o from
 
 pub follow : Step → Origins → Origins
-follow x o c = given x (touch x.move c) c o
+follow x o c = given x (flow x.move c) c o
 
 pub looks : Step → Origins → Option (List Source)
 looks x o = option_map o (cell_read x.move)
@@ -137,7 +137,7 @@ looks x o = option_map o (cell_read x.move)
 abbrev pub held : List Step → Origins
 held earlier c = sources_of earlier c 0
 
-more_by : (x : Step) (k : Touch) (c : Cell) (n : ℕ) (before : Cell → ℕ → List Source)
+more_by : (x : Step) (k : Flow) (c : Cell) (n : ℕ) (before : Cell → ℕ → List Source)
     → ((c : Cell) (n : ℕ) → before c (n + 1) ≡ added (before c n)) → with_last x k c (n + 1) before ≡ added (with_last x k c n before)
 unfolding added
 more_by x Leaves c n before more = more c n
@@ -149,9 +149,9 @@ more_by x (Takes from) c n before more = refl
 more : (earlier : List Step) (c : Cell) (n : ℕ) → sources_of earlier c (n + 1) ≡ added (sources_of earlier c n)
 unfolding added
 more [] c n = refl
-more (x ∷ earlier) c n = more_by x (touch x.move c) c n (sources_of earlier) (more earlier)
+more (x ∷ earlier) c n = more_by x (flow x.move c) c n (sources_of earlier) (more earlier)
 
-followed_by : (x : Step) (earlier : List Step) (c : Cell) (k : Touch) → given x k c (held earlier) ≡ with_last x k c 0 (sources_of earlier)
+followed_by : (x : Step) (earlier : List Step) (c : Cell) (k : Flow) → given x k c (held earlier) ≡ with_last x k c 0 (sources_of earlier)
 unfolding given
 followed_by x earlier c Leaves = refl
 followed_by x earlier c Adds = sym (more earlier c 0)
@@ -160,7 +160,7 @@ followed_by x earlier c (Takes from) = refl
 
 followed : (x : Step) (earlier : List Step) → follow x (held earlier) ≡ held (x ∷ earlier)
 unfolding follow
-followed x earlier = fun_ext (λ c. followed_by x earlier c (touch x.move c))
+followed x earlier = fun_ext (λ c. followed_by x earlier c (flow x.move c))
 
 -- What comes from sources is seen, and what is seen comes from them.
 pub seen_from : (earlier xs : List Step) (e : Step) (ls : List Source) → ComesFrom earlier xs e ls
@@ -181,15 +181,15 @@ from_seen earlier (x ∷ xs) e ls (inr h) =
 
 -- ---- steps that conflict at no cell
 
-module _ (x y : Step) (calm : IsCalm x.move y.move) (o : Origins) where
+module _ (x y : Step) (independent : AreIndependent x.move y.move) (o : Origins) where
   -- The cell that the one takes from or reads is left by the other.
-  left_by_first : (c : Cell) → fixes (access y.move c) ≡ true → touch x.move c ≡ Leaves
-  left_by_first c f = quiet x.move c (λ ch. clash_back (access x.move c) (access y.move c) (calm c) ch f)
+  left_by_first : (c : Cell) → fixes (access y.move c) ≡ true → flow x.move c ≡ Leaves
+  left_by_first c f = quiet x.move c (λ ch. clash_back (access x.move c) (access y.move c) (independent c) ch f)
 
-  left_by_second : (c : Cell) → fixes (access x.move c) ≡ true → touch y.move c ≡ Leaves
-  left_by_second c f = quiet y.move c (λ ch. clash (access x.move c) (access y.move c) (calm c) f ch)
+  left_by_second : (c : Cell) → fixes (access x.move c) ≡ true → flow y.move c ≡ Leaves
+  left_by_second c f = quiet y.move c (λ ch. clash (access x.move c) (access y.move c) (independent c) f ch)
 
-  turn_by : (c : Cell) (k l : Touch) → touch x.move c ≡ k → touch y.move c ≡ l → Tells (access x.move) c k → Tells (access y.move) c l
+  turn_by : (c : Cell) (k l : Flow) → flow x.move c ≡ k → flow y.move c ≡ l → Tells (access x.move) c k → Tells (access y.move) c l
       → given y l c (follow x o) ≡ given x k c (follow y o)
   unfolding given follow Tells
   turn_by c Leaves Leaves i j f g = ap (λ k. given x k c o) i ∙ sym (ap (λ l. given y l c o) j)
@@ -202,29 +202,29 @@ module _ (x y : Step) (calm : IsCalm x.move y.move) (o : Origins) where
   turn_by c Puts Leaves i j f g = ap (λ k. given x k c o) i
   turn_by c (Takes from) Leaves i j f g = ap (λ k. given x k c o) i
       ∙ sym (ap (λ l. record { by = Some x; cell = c; adds = 0 } ∷ given y l from o) (left_by_second from f.2))
-  turn_by c Adds Puts i j f g = absurd (clash_back (access x.move c) (access y.move c) (calm c) f g.1)
-  turn_by c Adds (Takes from) i j f g = absurd (clash_back (access x.move c) (access y.move c) (calm c) f g.1)
-  turn_by c Puts Adds i j f g = absurd (clash (access x.move c) (access y.move c) (calm c) f.1 g)
-  turn_by c Puts Puts i j f g = absurd (clash (access x.move c) (access y.move c) (calm c) f.1 g.0)
-  turn_by c Puts (Takes from) i j f g = absurd (clash (access x.move c) (access y.move c) (calm c) f.1 g.0)
-  turn_by c (Takes from) Adds i j f g = absurd (clash (access x.move c) (access y.move c) (calm c) f.1 g)
-  turn_by c (Takes from) Puts i j f g = absurd (clash (access x.move c) (access y.move c) (calm c) f.1 g.0)
-  turn_by c (Takes from) (Takes other) i j f g = absurd (clash (access x.move c) (access y.move c) (calm c) f.1 g.0)
+  turn_by c Adds Puts i j f g = absurd (clash_back (access x.move c) (access y.move c) (independent c) f g.1)
+  turn_by c Adds (Takes from) i j f g = absurd (clash_back (access x.move c) (access y.move c) (independent c) f g.1)
+  turn_by c Puts Adds i j f g = absurd (clash (access x.move c) (access y.move c) (independent c) f.1 g)
+  turn_by c Puts Puts i j f g = absurd (clash (access x.move c) (access y.move c) (independent c) f.1 g.0)
+  turn_by c Puts (Takes from) i j f g = absurd (clash (access x.move c) (access y.move c) (independent c) f.1 g.0)
+  turn_by c (Takes from) Adds i j f g = absurd (clash (access x.move c) (access y.move c) (independent c) f.1 g)
+  turn_by c (Takes from) Puts i j f g = absurd (clash (access x.move c) (access y.move c) (independent c) f.1 g.0)
+  turn_by c (Takes from) (Takes other) i j f g = absurd (clash (access x.move c) (access y.move c) (independent c) f.1 g.0)
 
   pub turn : follow y (follow x o) ≡ follow x (follow y o)
   unfolding follow
-  turn = fun_ext (λ c. turn_by c (touch x.move c) (touch y.move c) refl refl (tells x.move c) (tells y.move c))
+  turn = fun_ext (λ c. turn_by c (flow x.move c) (flow y.move c) refl refl (tells x.move c) (tells y.move c))
 
 read_fixes : (task req : ℕ) (c : Cell) → fixes (access (Read task req c) c) ≡ true
 unfolding fixes
 read_fixes task req c = ap (λ b. fixes (cond b Reads Untouched)) (same_itself c)
 
-keep_at : (x : Step) (m : Move) → IsCalm x.move m → (o : Origins) → option_map (follow x o) (cell_read m) ≡ option_map o (cell_read m)
+keep_at : (x : Step) (m : Move) → AreIndependent x.move m → (o : Origins) → option_map (follow x o) (cell_read m) ≡ option_map o (cell_read m)
 unfolding follow given
-keep_at x (Read task req c) calm o = ap (λ k. Some (given x k c o))
-    (quiet x.move c (λ ch. clash_back (access x.move c) (access (Read task req c) c) (calm c) ch (read_fixes task req c)))
-keep_at x _ calm o = refl
+keep_at x (Read task req c) independent o = ap (λ k. Some (given x k c o))
+    (quiet x.move c (λ ch. clash_back (access x.move c) (access (Read task req c) c) (independent c) ch (read_fixes task req c)))
+keep_at x _ independent o = refl
 
-pub keep : (x y : Step) → IsCalm x.move y.move → (o : Origins) → looks y (follow x o) ≡ looks y o
+pub keep : (x y : Step) → AreIndependent x.move y.move → (o : Origins) → looks y (follow x o) ≡ looks y o
 unfolding looks
-keep x y calm o = keep_at x y.move calm o
+keep x y independent o = keep_at x y.move independent o

@@ -1,6 +1,6 @@
 pub mod lemmas
 mod Followed
-mod Told
+mod LastPut
 mod Away
 mod Copied
 mod Runs

@@ -11,11 +11,11 @@ use Rattle.semantics.specs.Links.{is_asked, cell_read}
 use Rattle.std.proofs.lemmas.List.Elements.{Contains-append_cases}
 use Rattle.list_lemmas.proofs.lemmas.Contained.{member_map, Contains-nil}
 use Rattle.list_lemmas.proofs.lemmas.Filtered.{of_filter}
-use Rattle.log_laws.proofs.lemmas.Admitted.{IsFaultless, sane}
-use Rattle.log_laws.proofs.lemmas.Sane.{two_reqs}
+use Rattle.log_laws.proofs.lemmas.Admitted.{IsFaultless, consistent}
+use Rattle.log_laws.proofs.lemmas.Consistent.{two_reqs}
 use Rattle.log_laws.proofs.lemmas.SerialOrder.{items_placed}
 use Rattle.log_laws.proofs.lemmas.StepLists.{of_node}
-use Rattle.log_laws.proofs.lemmas.Tidy.{is_of, read_is, reads, changes, no_read}
+use Rattle.log_laws.proofs.lemmas.OwnConflicts.{is_of, read_is, reads, changes, no_read}
 use Rattle.trail_laws.proofs.Runs.{are_runs, within_items, one_run}
 
 -- ---- the read that is asked for
@@ -112,7 +112,7 @@ module _ (log : List Lined) (f : IsFaultless Check log) (ask : Ask) where
   one_move i q r p s is_q is_r numbers places =
       let a = of_filter (λ (r : Req). r.item == i) t.reqs q is_q in
       let b = of_filter (λ (r : Req). r.item == i) t.reqs r is_r in
-      elim (two_reqs t (sane Check log f) q r a.0 b.0 (eqb-true q.item i a.1 ∙ sym (eqb-true r.item i b.1))) [
+      elim (two_reqs t (consistent Check log f) q r a.0 b.0 (eqb-true q.item i a.1 ∙ sym (eqb-true r.item i b.1))) [
         | inl one ↦ ap₂ (λ (r : Req) p. moves.Read (id_of t i) r.number (mapped_cell t r p)) one places
         | inr two ↦ absurd (two.0 numbers)
       ]

@@ -69,5 +69,5 @@ pub use Rattle.semantics.specs.Steps.{cell_in, id_of, mapped, inst_at, operator_
 pub use Rattle.semantics.specs.Execution.{is_home, start, State, stored, effect, executed, sees, ReadsIn, is_home_cell}
 unfoldable pub use Rattle.semantics.specs.Execution.{same_cell}
 pub use Rattle.semantics.specs.Interleavings.{IsInterleaving, is_read, AreUnordered, MustPrecede}
-pub use Rattle.semantics.specs.Races.{IsTidy, IsRaceFree, IsCalm, Access, Untouched, Writes, Folds, at_cell, from_to, access, conflicts, Race}
+pub use Rattle.semantics.specs.Races.{NodesConflictByReads, IsRaceFree, AreIndependent, Access, Untouched, Writes, Folds, at_cell, from_to, access, conflicts, Race}
 pub use Rattle.semantics.specs.Reads.{req_at, replay_steps, Seen, read_step, IsRight, Differs, shown_difference, want_of, differing, difference, first_difference}

@@ -20,8 +20,8 @@ use Rattle.semantics.specs.Faults.{unmapped_fault}
 use Rattle.logs.specs.Faultless.{AreDeclared}
 use Rattle.log_laws.proofs.lemmas.Members.{is_in_of, member_in}
 use Rattle.log_laws.proofs.lemmas.Apart.{member_grid}
-use Rattle.log_laws.proofs.lemmas.Sane.{two_reqs}
-use Rattle.log_laws.proofs.lemmas.Admitted.{Unbroken, rule_kept, by_records, no_broken_rule, IsFaultless, sane, all_mapped}
+use Rattle.log_laws.proofs.lemmas.Consistent.{two_reqs}
+use Rattle.log_laws.proofs.lemmas.Admitted.{Unbroken, rule_kept, by_records, no_broken_rule, IsFaultless, consistent, all_mapped}
 use Rattle.inst_steps.specs.declared.act.Act.{Act}
 use Rattle.inst_steps.specs.declared.act.Act.TheVariants as acts
 use Rattle.point_laws.specs.Cut.{kept, cut_to}
@@ -282,7 +282,7 @@ module _ (log : List Lined) (f : IsFaultless Check log) (listed : Option (List �
           let at = found_at (λ (q : Req). (q.item == m.item) && (q.number == m.number)) (tables_of log).reqs q found in
           let i = eqb-true q.item m.item (and_parts (q.item == m.item) (q.number == m.number) at.1).0 in
           let n = eqb-true q.number m.number (and_parts (q.item == m.item) (q.number == m.number) at.1).1 in
-          elim (two_reqs (tables_of log) (sane Check log f) q r at.0 own (i ∙ item)) [
+          elim (two_reqs (tables_of log) (consistent Check log f) q r at.0 own (i ∙ item)) [
             | inl is ↦ is
             | inr apart ↦
                 absurd (apart.0 (n ∙ number))

@@ -27,8 +27,8 @@ use Rattle.list_lemmas.proofs.lemmas.Parts.{split_at, filter_map_of, filter_shor
 use Rattle.list_lemmas.proofs.lemmas.Ranges.{number_in}
 use Rattle.log_laws.proofs.lemmas.Apart.{fields_apart, grid_apart}
 use Rattle.log_laws.proofs.lemmas.Rounds.{replay, once, listed_decides}
-use Rattle.log_laws.proofs.lemmas.Sane.{reqs_apart}
-use Rattle.log_laws.proofs.lemmas.Admitted.{rule_kept, by_records, no_broken_rule, sane}
+use Rattle.log_laws.proofs.lemmas.Consistent.{reqs_apart}
+use Rattle.log_laws.proofs.lemmas.Admitted.{rule_kept, by_records, no_broken_rule, consistent}
 use Rattle.log_laws.proofs.lemmas.StepLists.{moves_at, steps_at}
 use Rattle.inst_steps.specs.Places.{is_cell_at, is_at_place}
 use Rattle.inst_steps.proofs.Numbers.{few_entries}
@@ -314,7 +314,7 @@ module _ (t : Tables) (d : AreDeclared t) where
 
   all_apart : Apart t.reqs
   all_apart = subst (λ (u : Tables). Apart u.reqs) (sym d.tables)
-      (reqs_apart (tables_of d.log) (sane Deps d.log (record { records = no_broken_rule d.lines d.log d.faultless; maps = refl })))
+      (reqs_apart (tables_of d.log) (consistent Deps d.log (record { records = no_broken_rule d.lines d.log d.faultless; maps = refl })))
 
   own_few : (items : List ℕ) → Apart items → length (own_reqs t items) ≤ length t.reqs
   own_few items h =

@@ -11,7 +11,7 @@ use Rattle.semantics.specs.declared.moves.Move.TheVariants as moves
 use Rattle.point_laws.specs.Cut.{cut}
 use Rattle.point_laws.proofs.lemmas.Cuts.{points_cut, start_cut}
 use Rattle.log_laws.proofs.lemmas.Members.{member_in}
-use Rattle.log_laws.proofs.lemmas.Tidy.{one_cell}
+use Rattle.log_laws.proofs.lemmas.OwnConflicts.{one_cell}
 use Rattle.inst_steps.specs.Stores.{Contents, HasCells, Holds, IsStart, has_cell, after_move, value_in}
 use Rattle.inst_steps.specs.Weighing.{weight_at, weight_after}
 use Rattle.inst_steps.proofs.lemmas.StoreMaps.{get_put}

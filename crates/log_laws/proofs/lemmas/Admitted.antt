@@ -11,7 +11,7 @@ use Rattle.semantics.specs.declared.command.Command.TheVariants.{Check}
 use Rattle.semantics.specs.Faults.{breaks, first_broken, record_in, records_fault, declaration_fault, log_fault, header_fault, ended_fault, count_fault, serial_fault, map_fault}
 use Rattle.semantics.proofs.lemmas.RecordRules.{is_record_rule, none_passes}
 use Rattle.list_lemmas.proofs.lemmas.Contained.{none_found, both_none, unmapped_none, all_at, Contains-nil, Contains-cases}
-use Rattle.log_laws.proofs.lemmas.Sane.{Keeps, AreSane, with_kept, nothing_sane}
+use Rattle.log_laws.proofs.lemmas.Consistent.{Keeps, AreConsistent, with_kept, nothing_consistent}
 
 -- A record of the log breaks no rule.
 pub record Unbroken (log : List Record) (earlier : List Lined) (r : Record) : Type 0 where
@@ -80,10 +80,10 @@ faultless command lines log e =
     let both = both_none (declaration_fault lines log) _ e in
     record { records = no_broken_rule lines log both.0; maps = (both_none (serial_fault (tables_of log)) _ both.1).1 }
 
-pub sane : (command : Command) (log : List Lined) → IsFaultless command log → AreSane (tables_of log)
-sane command log f = by_records (λ r. Unit {0}) AreSane (records_of log)
+pub consistent : (command : Command) (log : List Lined) → IsFaultless command log → AreConsistent (tables_of log)
+consistent command log f = by_records (λ r. Unit {0}) AreConsistent (records_of log)
     (λ earlier l u _. with_kept (tables_of earlier) l.line l.rec (keeps_of (records_of log) earlier l.rec u))
-    [] log (recursion_from_All _ (records_of log) (λ k d lt. tt)) f.records nothing_sane
+    [] log (recursion_from_All _ (records_of log) (λ k d lt. tt)) f.records nothing_consistent
 
 -- Each field of a requirement is mapped.
 pub all_mapped : (log : List Lined) → IsFaultless Check log → (r : Req) (field : ℕ) → Contains (tables_of log).reqs r → Contains r.fields field

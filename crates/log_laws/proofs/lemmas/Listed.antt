@@ -16,7 +16,7 @@ use Rattle.log_laws.proofs.lemmas.Members.{is_in_of, member_in, meets_of}
 use Rattle.list_lemmas.proofs.lemmas.Contained.{each_more, map_member, member_flat, any_at, find_any, none_at, all_at, Contains-nil, Contains-here}
 use Rattle.list_lemmas.proofs.lemmas.Firsts.{contains_at}
 use Rattle.list_lemmas.proofs.lemmas.Pairs.{Apart, AllPairs-append, AllPairs-push, apart_none, apart_put, AllPairs-nil}
-use Rattle.log_laws.proofs.lemmas.Sane.{Keeps}
+use Rattle.log_laws.proofs.lemmas.Consistent.{Keeps}
 use Rattle.log_laws.proofs.lemmas.Admitted.{Unbroken, rule_kept, by_records, keeps_of}
 
 -- Whether a record lists items.

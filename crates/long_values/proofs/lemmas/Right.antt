@@ -3,7 +3,7 @@ use Rattle.std.proofs.Common.{◌≡◌, ◌↔◌, ℕ, List, None, ap, subst, 
 use Rattle.vocabulary.specs.Prelude.{Lined, Cell, Tables, tables_of, place_of, wanted, ReadsIn, read_step, IsRight}
 use Rattle.semantics.specs.Faults.{log_fault}
 use Rattle.semantics.specs.declared.command.Command.TheVariants.{Check}
-use Rattle.log_laws.proofs.lemmas.Admitted.{faultless, sane}
+use Rattle.log_laws.proofs.lemmas.Admitted.{faultless, consistent}
 use Rattle.long_values.specs.LongValues.{short}
 use Rattle.long_values.specs.LongExecution.{start_long, IsRightLong}
 use Rattle.long_values.proofs.ShortSequential.{short_wanted}
@@ -25,7 +25,7 @@ pub right_same : (lines : ℕ) (log : List Lined) → log_fault Check lines log 
 right_same lines log none =
     let t = tables_of log in
     let f = faultless Check lines log none in (
-      λ right xs il r m. right_long t (named Check log f) (run_once Check log f) (sane Check log f) xs il
+      λ right xs il r m. right_long t (named Check log f) (run_once Check log f) (consistent Check log f) xs il
           (λ node task req cell v read. right xs il node cell.inst
           (record { task = task; number = req; point = cell.point; field = cell.field; got = v }) read) r m,
       short_right t,

@@ -3,7 +3,7 @@ use Rattle.std.proofs.Common.{◌≡◌, not, refl}
 use Rattle.vocabulary.specs.Prelude.{Priv, agree}
 use Rattle.privilege.specs.declared.kinds.Priv.TheVariants.{Ro, Rw, Wd, Red}
 use Rattle.cell_races.specs.Accesses.{conflicts}
-use Rattle.order_laws.specs.Visited.{access_of}
+use Rattle.order_laws.specs.TaskAccesses.{access_of}
 
 pub conflicts_are : (p q : Priv) → conflicts (access_of p) (access_of q) ≡ not (agree p q)
 conflicts_are Ro Ro = refl

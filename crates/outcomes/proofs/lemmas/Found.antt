@@ -252,16 +252,16 @@ one_of commands.Spare t o f g p q = one_of_spare t f g p q
 -- ---- in a log, and in an input
 
 -- What is found is the log's fault, or is found in the tables of a log without one.
-abbrev Told : Command → ℕ → List Lined → Finding → Type 0
-Told command lines log f = ((shown : Shown) × (f ≡ Fault shown.line shown.code) × (log_fault command lines log ≡ Some shown))
+abbrev FaultOrFinding : Command → ℕ → List Lined → Finding → Type 0
+FaultOrFinding command lines log f = ((shown : Shown) × (f ≡ Fault shown.line shown.code) × (log_fault command lines log ≡ Some shown))
     ⊎ ((log_fault command lines log ≡ None) × Finds command (tables_of log) f)
 
-told : (command : Command) (lines : ℕ) (log : List Lined) (f : Finding) → IsFound command lines log f → Told command lines log f
+told : (command : Command) (lines : ℕ) (log : List Lined) (f : Finding) → IsFound command lines log f → FaultOrFinding command lines log f
 told command lines log (Fault line code) p = inl (record { line = line; code = code }, refl, p)
 told command lines log _ p = inr p
 
 one_told : (command : Command) (lines : ℕ) (log : List Lined) → (log_fault command lines log ≡ None → Known command (tables_of log))
-    → (f g : Finding) → Told command lines log f → Told command lines log g → f ≡ g
+    → (f g : Finding) → FaultOrFinding command lines log f → FaultOrFinding command lines log g → f ≡ g
 one_told command lines log laws f g (inl a) (inl b) =
     let both : ◌≡◌ {A = Option Shown} (Some a.0) (Some b.0) = sym a.2 ∙ b.2 in
     let same : a.0 ≡ b.0 = cc in

@@ -10,7 +10,7 @@ use Rattle.semantics.specs.declared.moves.Move.TheVariants as moves
 use Rattle.semantics.specs.Faults.{log_fault}
 use Rattle.log_laws.proofs.lemmas.Admitted.{IsFaultless, faultless}
 use Rattle.log_laws.proofs.lemmas.Answers.{one_sight}
-use Rattle.log_laws.proofs.lemmas.Laws.{faultless_tidy, replay_interleaves}
+use Rattle.log_laws.proofs.lemmas.Laws.{faultless_by_reads, replay_interleaves}
 use Rattle.list_lemmas.proofs.lemmas.Contained.{both_none, Contains-first, Contains-later}
 use Rattle.list_lemmas.proofs.lemmas.Firsts.{cases_option}
 
@@ -131,9 +131,9 @@ module _ (lines : ℕ) (log : List Lined) (good : AllByRecursion Good (records_o
   admitted = faultless Check lines log none
 
   pub right_everywhere : shown_difference (tables_of log) ≡ None → IsRight (tables_of log)
-  right_everywhere = right_in_all (tables_of log) (one_sight (tables_of log) (faultless_tidy log admitted) no_race)
+  right_everywhere = right_in_all (tables_of log) (one_sight (tables_of log) (faultless_by_reads log admitted) no_race)
       (replay_interleaves log good admitted no_cycle)
 
   pub differs_everywhere : (r : Seen) → shown_difference (tables_of log) ≡ Some r → Differs (tables_of log) r
-  differs_everywhere = differs_in_all (tables_of log) (one_sight (tables_of log) (faultless_tidy log admitted) no_race)
+  differs_everywhere = differs_in_all (tables_of log) (one_sight (tables_of log) (faultless_by_reads log admitted) no_race)
       (replay_interleaves log good admitted no_cycle)

@@ -12,7 +12,7 @@ use Rattle.semantics.specs.declared.moves.Move.TheVariants as moves
 use Rattle.semantics.specs.declared.tables.Op.TheVariants as operations
 use Rattle.log_laws.proofs.lemmas.Members.{is_in_of, member_in}
 use Rattle.log_laws.proofs.lemmas.StepLists.{steps_at}
-use Rattle.log_laws.proofs.lemmas.Tidy.{is_of, a_read, no_read}
+use Rattle.log_laws.proofs.lemmas.OwnConflicts.{is_of, a_read, no_read}
 use Rattle.point_laws.specs.Alike.{AreAlike, HasPointsInOrder, AreFirsts, target, cell_at, is_at}
 use Rattle.point_laws.proofs.Values.{in_both, first_in, wanted_alike}
 use Rattle.point_laws.proofs.Rows.{filter_flat, flat_grid, kept_parts}

@@ -4,8 +4,8 @@ use Rattle.vocabulary.specs.Prelude.{Lined, Move, Tables, tables_of, Step, steps
 use Rattle.semantics.specs.declared.command.Command.TheVariants.{Check}
 use Rattle.semantics.specs.declared.moves.Move.TheVariants.{Read, Write, Reduce, Copy, Put, Reset, Fold}
 use Rattle.log_laws.proofs.lemmas.Admitted.{IsFaultless}
-use Rattle.log_laws.proofs.lemmas.Tidy.{place}
-use Rattle.trail_laws.proofs.Told.{KeepsAway}
+use Rattle.log_laws.proofs.lemmas.OwnConflicts.{place}
+use Rattle.trail_laws.proofs.LastPut.{KeepsAway}
 use Rattle.trail_laws.proofs.Away.{steps_kept}
 
 abbrev pub CopyStays : Move → Type 0

@@ -17,11 +17,11 @@ use Rattle.std.proofs.lemmas.List.Elements.{Contains-append_cases}
 use Rattle.list_lemmas.proofs.lemmas.Contained.{member_map, any_found, none_at, Contains-here, Contains-nil, Contains-later}
 use Rattle.log_laws.proofs.lemmas.Admitted.{IsFaultless}
 use Rattle.log_laws.proofs.lemmas.StepLists.{of_node}
-use Rattle.log_laws.proofs.lemmas.Tidy.{place, is_of, read_is, change_of, change_tells, reads, changes}
-use Rattle.log_laws.proofs.lemmas.Laws.{faultless_linked, faultless_tidy, replay_interleaves}
+use Rattle.log_laws.proofs.lemmas.OwnConflicts.{place, is_of, read_is, change_of, change_tells, reads, changes}
+use Rattle.log_laws.proofs.lemmas.Laws.{faultless_linked, faultless_by_reads, replay_interleaves}
 use Rattle.log_laws.proofs.lemmas.Turns.{seen_once, once, all_agree}
 use Rattle.trail_laws.proofs.Followed.{Origins, follow, looks, held, seen_from, from_seen, turn, keep}
-use Rattle.trail_laws.proofs.Told.{HasNoAdds, KeepsAway, own_put, own_value, last_value, told, shows_start, reads_member, comes}
+use Rattle.trail_laws.proofs.LastPut.{HasNoAdds, KeepsAway, own_put, own_value, last_value, told, shows_start, reads_member, comes}
 use Rattle.trail_laws.proofs.Away.{steps_kept}
 use Rattle.trail_laws.proofs.Copied.{AreThere, comes_ends, comes_of, comes_there}
 use Rattle.trail_laws.proofs.Runs.{event_positive, found_by_event}
@@ -191,7 +191,7 @@ module _ (log : List Lined) (good : AllByRecursion Good (records_of log)) (f : I
     pub alike : (xs ys : List Step) → IsInterleaving t xs → IsInterleaving t ys → (x : Step) (ls : List Source) → ComesFrom [] xs x ls
         → ComesFrom [] ys x ls
     alike xs ys a b x ls h = from_seen [] ys x ls
-        ((all_agree Origins (List Source) follow looks turn keep t (faultless_tidy log f) free ys xs b a).sights (held []) x ls
+        ((all_agree Origins (List Source) follow looks turn keep t (faultless_by_reads log f) free ys xs b a).sights (held []) x ls
         (seen_from [] xs x ls h))
 
     -- So what it came from in the replay is its trail.

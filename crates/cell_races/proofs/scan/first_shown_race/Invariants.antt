@@ -6,10 +6,10 @@ use Rattle.cell_races.proofs.scan.first_shown_race.Given as goal
 
 abbrev pub invariant-loop-from : goal.invariant-loop-from
 invariant-loop-from l = record {
-  within : l.from ≤ length l.touches;
-  free : IsFree (before_in l.reach) l.order (take l.from l.touches);
-  apart : IsApart (take l.from l.touches) (drop l.from l.touches);
+  within : l.from ≤ length l.cell_accesses;
+  free : IsFree (before_in l.reach) l.order (take l.from l.cell_accesses);
+  apart : IsApart (take l.from l.cell_accesses) (drop l.from l.cell_accesses);
 }
 
 abbrev pub decreases-loop-from : goal.decreases-loop-from
-decreases-loop-from l = length l.touches - l.from
+decreases-loop-from l = length l.cell_accesses - l.from

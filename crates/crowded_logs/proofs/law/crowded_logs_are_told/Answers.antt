@@ -1,4 +1,4 @@
-use Rattle.crowded_logs.proofs.lemmas.Told.{fault_told, header_told, some_told}
+use Rattle.crowded_logs.proofs.lemmas.CrowdedFault.{fault_told, header_told, some_told}
 use Rattle.crowded_logs.proofs.law.crowded_logs_are_told.Goals as goal
 
 pub returns-clause-fault : goal.returns-clause-fault

@@ -2,7 +2,7 @@ use Rattle.std.proofs.Common.{◌≡◌, ◌+◌, ◌⊎◌, false, List, Vec, G
 use Rattle.launch_claims.specs.declared.block.Block.{Block}
 use Rattle.launch_claims.specs.Claims.{share_field}
 use Rattle.launch_claims.specs.Blocks.{IsNeedless}
-use Rattle.launch_claims.proofs.Keeping.{StandsYet, yet_all, yet_dropped, yet_pushed}
+use Rattle.launch_claims.proofs.Keeping.{StillStandFor, yet_all, yet_dropped, yet_pushed}
 use Rattle.launch_claims.proofs.Nodes.{no_block}
 use Rattle.launch_claims.proofs.kept.keep_others.Goals as goal
 use Rattle.launch_claims.proofs.kept.keep_others.Goals.{then-not-is_idle+in_ok-push, else-not-is_idle}
@@ -24,7 +24,7 @@ loop-other-preserved c =
       | else-not-is_idle w ↦
           let idle = subst (λ (bs : List Block). (share_field x.claim d.claim ≡ false) ⊎ IsNeedless bs x) c.as_slice.ensures.value
           (c.is_idle.ensures w.if-not-is_idle.false) in
-          subst (λ (bs : List Block). StandsYet old kept d bs rest) (sym (ap (λ (v : Vec Block Global). v.items) w.more-is))
+          subst (λ (bs : List Block). StillStandFor old kept d bs rest) (sym (ap (λ (v : Vec Block Global). v.items) w.more-is))
           (yet_dropped old kept now d k no_block within c.loop-other.invariant idle)
     ]
 

@@ -2,7 +2,7 @@ use Rattle.std.proofs.Common.{[], ap, sym, ◌∙◌}
 use Rattle.std.specs.Option.{option_or}
 use Rattle.vocabulary.specs.Prelude.{records_of}
 use Rattle.semantics.specs.Faults.{records_fault}
-use Rattle.crowded_logs.proofs.lemmas.Told.{fault_told, header_told, some_told}
+use Rattle.crowded_logs.proofs.lemmas.CrowdedFault.{fault_told, header_told, some_told}
 use Rattle.log_decl.proofs.lemmas.Ascending.{good_ascends}
 use Rattle.log_decl.proofs.crowded.crowded_fault.Goals as goal
 

@@ -9,7 +9,7 @@ pub grow-requires : goal.grow-requires
 grow-requires g c κs = (
   (refl, tt),
   (
-    c.new-draft.ensures,
+    c.new-tables.ensures,
     (
       (λ k d lt. good_ascends _ (c.requires.good k d lt)),
       (

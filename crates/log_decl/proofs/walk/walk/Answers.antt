@@ -14,7 +14,7 @@ returns-then-is_some g c =
     let all = plane_rects log in
     let i = c.loop-l.l-index in
     let es = records_of (take i log) in
-    let t = c.loop-l.draft in
+    let t = c.loop-l.tables in
     let r = c.l-item.result.rec in
     let measured = λ (planar : is_planar t ≡ true). let plane = c.is_plane_log-is_plane.ensures ∙ plane_at log i t c.requires.header inv.tables planar in
     (c.in_ok-cells.ensures t.rects plane (inv.size plane)).1 in
@@ -30,7 +30,7 @@ loop-l-preserved g c =
     let all = plane_rects log in
     let i = c.loop-l.l-index in
     let es = records_of (take i log) in
-    let t = c.loop-l.draft in
+    let t = c.loop-l.tables in
     let l = c.l-item.result in
     let r = c.l-item.result.rec in
     let measured = λ (planar : is_planar t ≡ true). let plane = c.is_plane_log-is_plane.ensures ∙ plane_at log i t c.requires.header inv.tables planar in

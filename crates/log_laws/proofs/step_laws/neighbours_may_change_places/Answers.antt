@@ -2,9 +2,9 @@ use Rattle.std.proofs.Common.{sym}
 use Rattle.vocabulary.specs.Prelude.{tables_of}
 use Rattle.semantics.specs.declared.command.Command.TheVariants.{Check}
 use Rattle.log_laws.proofs.lemmas.Admitted.{faultless}
-use Rattle.log_laws.proofs.lemmas.Laws.{faultless_tidy}
+use Rattle.log_laws.proofs.lemmas.Laws.{faultless_by_reads}
 use Rattle.log_laws.proofs.lemmas.Swap.{swapped_state, swapped_sight}
-use Rattle.log_laws.proofs.lemmas.Turns.{calm}
+use Rattle.log_laws.proofs.lemmas.Turns.{independent}
 use Rattle.log_laws.proofs.Swapped.{swapped}
 use Rattle.log_laws.proofs.step_laws.neighbours_may_change_places.Goals as goal
 
@@ -13,16 +13,16 @@ returns-clause-interleaving c = swapped
 
 pub returns-clause-state : goal.returns-clause-state
 returns-clause-state c lines log none free x y u =
-    let tidy = faultless_tidy log (faultless Check lines log none) in
-    swapped_state x.move y.move (calm (tables_of log) tidy free x y u.one_in u.other_in (u.differ, u.not_after) (
+    let by_reads = faultless_by_reads log (faultless Check lines log none) in
+    swapped_state x.move y.move (independent (tables_of log) by_reads free x y u.one_in u.other_in (u.differ, u.not_after) (
       λ e. u.differ (sym e),
       u.not_before,
     ))
 
 pub returns-clause-sight : goal.returns-clause-sight
 returns-clause-sight c lines log none free x y u s =
-    let tidy = faultless_tidy log (faultless Check lines log none) in
-    let either = calm (tables_of log) tidy free in (
+    let by_reads = faultless_by_reads log (faultless Check lines log none) in
+    let either = independent (tables_of log) by_reads free in (
       swapped_sight x.move y.move (either x y u.one_in u.other_in (u.differ, u.not_after) (λ e. u.differ (sym e), u.not_before)) s,
       swapped_sight y.move x.move (either y x u.other_in u.one_in (λ e. u.differ (sym e), u.not_before) (u.differ, u.not_after)) s,
     )

@@ -9,7 +9,7 @@ use Rattle.log_rules.proofs.counts.read_count.Goals as goal
 
 pub loop-req-preserved : goal.loop-req-preserved
 loop-req-preserved g c =
-    let t = c.args.draft.now in
+    let t = c.args.tables.now in
     let i = c.loop-req.req-index in
     let item = c.req-item.result in
     let f = reads_of t in
@@ -25,7 +25,7 @@ loop-req-preserved g c =
 
 pub returns : goal.returns
 returns g c =
-    let t = c.args.draft.now in
+    let t = c.args.tables.now in
     let i = c.loop-req.req-index in
     let P : List Req → Type 0 = λ xs. length xs ≤ i in
     c.loop-req.invariant ∙ ap (λ (rs : List Req). cut (sum_by (reads_of t) rs))

@@ -6,6 +6,6 @@ use Rattle.log_rules.proofs.events.is_run_again.Goals as goal
 
 pub returns-in-Run : goal.returns-in-Run
 returns-in-Run g c =
-    let t = c.args.draft.now in
+    let t = c.args.tables.now in
     c.is_run.ensures ∙ ap (λ p. list_any (λ (n : LogNode). runs_item p n.op) t.nodes) c.place.ensures
     ∙ ap (is_run_again t) (sym c.in-Run.is)

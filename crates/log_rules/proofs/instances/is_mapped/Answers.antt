@@ -8,4 +8,4 @@ pub returns : goal.returns
 returns g c =
     c.is_some.ensures ∙ ap is_some c.inst_of.ensures
     ∙ is_some-find (λ (m : Map). m.inst) (λ (m : Map). names_field m.item m.number m.fields
-    (record { item = c.args.item; number = c.args.number; field = c.args.field })) c.args.draft.now.maps
+    (record { item = c.args.item; number = c.args.number; field = c.args.field })) c.args.tables.now.maps

@@ -6,7 +6,7 @@ use Rattle.log_rules.proofs.load.has_much_load.Goals as goal
 
 pub returns-in_ok-load-in-End : goal.returns-in_ok-load-in-End
 returns-in_ok-load-in-End g c = λ at.
-    let t = c.args.draft.now in
+    let t = c.args.tables.now in
     let by = counts_at_end t c.args.rec.now c.args.corners (ap is_end c.in-End.is) at in
     let count = load_in c.in_ok-loads-in-End.loads in
     let load = sum_by (load_of t) t.insts in

@@ -8,7 +8,7 @@ use Rattle.log_rules.proofs.own.clashes_by_place.Goals as goal
 
 pub returns-then-first_clashes : goal.returns-then-first_clashes
 returns-then-first_clashes g c = λ all are few.
-    let t = c.args.draft.now in
+    let t = c.args.tables.now in
     let claims = c.args.tally.now.claims in
     let asked = c.args.asked.now in
     let kept = list_any (clashes_row claims asked.item asked.tree asked.fields.now asked.access)
@@ -18,7 +18,7 @@ returns-then-first_clashes g c = λ all are few.
 
 pub returns : goal.returns
 returns g c =
-    let t = c.args.draft.now in
+    let t = c.args.tables.now in
     let claims = c.args.tally.now.claims in
     let asked = c.args.asked.now in
     let kept = λ (all : Option (List Rect)).

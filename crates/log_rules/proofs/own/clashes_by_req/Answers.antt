@@ -8,7 +8,7 @@ use Rattle.log_rules.proofs.own.clashes_by_req.Goals as goal
 
 pub returns-in_default : goal.returns-in_default
 returns-in_default g c = λ all are.
-    let t = c.args.draft.now in
+    let t = c.args.tables.now in
     let asked = c.args.asked.now in
     let k = c.loop-before.before in
     let none : slice_get (reqs_of t asked.item) k ≡ None = sym (are.numbered asked.item k) ∙ sym c.in_default.ensures.req in
@@ -18,7 +18,7 @@ returns-in_default g c = λ all are.
 
 pub returns-then-clashes_with : goal.returns-then-clashes_with
 returns-then-clashes_with g c = λ all are.
-    let t = c.args.draft.now in
+    let t = c.args.tables.now in
     let asked = c.args.asked.now in
     let f = clashes_with t asked.item asked.tree (points_in t asked.space) asked.fields.now asked.access in
     sym (found_any (is_at asked.item (c.loop-before.before + 1)) f t.reqs c.in-Some.req.now (sym c.in-Some.ensures.req)
@@ -26,7 +26,7 @@ returns-then-clashes_with g c = λ all are.
 
 pub loop-before-preserved : goal.loop-before-preserved
 loop-before-preserved g c = λ all are.
-    let t = c.args.draft.now in
+    let t = c.args.tables.now in
     let asked = c.args.asked.now in
     let k = c.loop-before.before in
     let f = clashes_with t asked.item asked.tree (points_in t asked.space) asked.fields.now asked.access in
@@ -35,7 +35,7 @@ loop-before-preserved g c = λ all are.
 
 pub returns : goal.returns
 returns g c = λ all are.
-    let t = c.args.draft.now in
+    let t = c.args.tables.now in
     let asked = c.args.asked.now in
     let k = c.loop-before.before in
     let own = reqs_of t asked.item in

@@ -6,6 +6,6 @@ use Rattle.log_rules.specs.Tallied.{IfKept}
 use Rattle.log_rules.proofs.own.clashes_by_req.Given as goal
 
 abbrev pub invariant-loop-before : goal.invariant-loop-before
-invariant-loop-before g l = IfKept l.draft l.tally
-    (list_any (clashes_with l.draft l.asked.item l.asked.tree (points_in l.draft l.asked.space) l.asked.fields.now l.asked.access)
-    (take l.before (reqs_of l.draft l.asked.item)) ≡ false)
+invariant-loop-before g l = IfKept l.tables l.tally
+    (list_any (clashes_with l.tables l.asked.item l.asked.tree (points_in l.tables l.asked.space) l.asked.fields.now l.asked.access)
+    (take l.before (reqs_of l.tables l.asked.item)) ≡ false)

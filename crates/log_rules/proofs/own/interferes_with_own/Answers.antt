@@ -7,7 +7,7 @@ use Rattle.log_rules.proofs.own.interferes_with_own.Goals as goal
 
 pub returns-in-Req : goal.returns-in-Req
 returns-in-Req g c =
-    let t = c.args.draft.now in
+    let t = c.args.tables.now in
     let req = c.in-Req in
     IfOk-weaker c.clashes_own.result _ _ (λ interferes told all earlier is.
     told all is.kept c.claims_many.ensures

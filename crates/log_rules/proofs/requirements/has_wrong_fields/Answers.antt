@@ -4,7 +4,7 @@ use Rattle.log_rules.proofs.requirements.has_wrong_fields.Goals as goal
 
 pub returns-in-Req : goal.returns-in-Req
 returns-in-Req g c =
-    let rule = has_wrong_fields c.args.draft.now in
+    let rule = has_wrong_fields c.args.tables.now in
     elim c.in-Req.is [
       | inl req ↦ c.exceeds_tree.ensures ∙ ap rule (sym req.4)
       | inr other ↦ elim other [

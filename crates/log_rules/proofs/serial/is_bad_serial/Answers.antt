@@ -9,7 +9,7 @@ use Rattle.log_rules.proofs.serial.is_bad_serial.Goals as goal
 pub returns-in_ok-bad-in-Serial : goal.returns-in_ok-bad-in-Serial
 returns-in_ok-bad-in-Serial g c = λ all earlier is.
     let log = c.args.whole.now in
-    let t = c.args.draft.now in
+    let t = c.args.tables.now in
     let set = has_id c.args.tally.now.listed in
     c.in_ok-bad-in-Serial.ensures
     ∙ ap (λ (ids : List ℕ). lists_badly log (length c.serials-before.result.now) set ids) c.as_slice.ensures

@@ -5,5 +5,5 @@ use Rattle.log_rules.proofs.space_pairs.meet_by_sets.Goals as goal
 
 pub returns-in-None : goal.returns-in-None
 returns-in-None g c =
-    let ours = points_in c.args.draft.now c.args.ours in
+    let ours = points_in c.args.tables.now c.args.ours in
     sym (ap (λ (xs : List ℕ). meets ours xs) c.in-None.ensures ∙ list_any-false ours)

@@ -8,7 +8,7 @@ use Rattle.log_rules.proofs.spaces.is_too_deep.Goals as goal
 
 pub returns-in-Some : goal.returns-in-Some
 returns-in-Some g c =
-    let t = c.args.draft.now in
+    let t = c.args.tables.now in
     let above = space_above t c.in-Some.part.space in
     deep_test (length (spaces_above t c.in-Some.part.space)) c.height.result (c.height.ensures
     ∙ cut_off t (length t.subs) 64 c.min.result above (c.min.ensures ∙ ap (λ n. min n 64) c.sub_count.ensures))

@@ -9,7 +9,7 @@ use Rattle.log_rules.proofs.tally.has_many_accesses.Goals as goal
 
 pub returns-in-Some : goal.returns-in-Some
 returns-in-Some g c = λ all earlier is same at.
-    let t = c.args.draft.now in
+    let t = c.args.tables.now in
     let r = c.args.rec.now in
     let ends = subst (AreAtEnd t r) c.in-Some.is at in
     let parts = and_parts (is_planar t) (is_end r) ends.0 in

@@ -8,7 +8,7 @@ use Rattle.log_rules.proofs.tally.has_many_cells.Goals as goal
 
 pub returns-then-not-is_planar : goal.returns-then-not-is_planar
 returns-then-not-is_planar g c = λ all earlier is at.
-    let t = c.args.draft.now in
+    let t = c.args.tables.now in
     let r = c.args.rec.now in
     let flat = sym c.is_planar.ensures ∙ c.if-not-is_planar.true in
     c.exceeds.ensures (cells_asked t r) c.cells_asked.ensures (lit< tt)
@@ -18,7 +18,7 @@ returns-then-not-is_planar g c = λ all earlier is at.
 
 pub returns-in-Some : goal.returns-in-Some
 returns-in-Some g c = λ all earlier is at.
-    let t = c.args.draft.now in
+    let t = c.args.tables.now in
     let r = c.args.rec.now in
     let ends = subst (AreAtEnd t r) c.in-Some.is at in
     let planar = (and_parts (is_planar t) (is_end r) ends.0).0 in

@@ -7,7 +7,7 @@ use Rattle.log_rules.proofs.tally.note_claims.Goals as goal
 
 pub returns-then-req_count-eq0 : goal.returns-then-req_count-eq0
 returns-then-req_count-eq0 g c = λ all grid few k a begins.
-    let t = c.args.log.now.draft.now in
+    let t = c.args.log.now.tables.now in
     let req = c.in-Req in
     let none = sym (c.req_count.ensures.count ∙ ap (reqs_before t.reqs) c.place-item.ensures) ∙ c.if-req_count-eq0.true in
     sym (or-false (clashes_in c.args.claims.now k a))
@@ -17,7 +17,7 @@ returns-then-req_count-eq0 g c = λ all grid few k a begins.
 
 pub returns-in_ok-claim_all-in-Req : goal.returns-in_ok-claim_all-in-Req
 returns-in_ok-claim_all-in-Req g c = λ all grid few k a begins.
-    let t = c.args.log.now.draft.now in
+    let t = c.args.log.now.tables.now in
     let req = c.in-Req in
     let some : reqs_before t.reqs (place_of t.items req.task) ≡ 0 → ⊥ =
     λ none. c.if-req_count-eq0.false (c.req_count.ensures.count ∙ ap (reqs_before t.reqs) c.place-item.ensures ∙ none) in

@@ -3,4 +3,4 @@ use Rattle.vocabulary.specs.Prelude.{place_of}
 use Rattle.logs.proofs.serial_order.listed_order.Given as goal
 
 abbrev pub invariant-loop-list : goal.invariant-loop-list
-invariant-loop-list g l = l.order.items ≡ map (place_of l.draft.items) (flat_map (λ s. s.ids) (take l.list-index l.draft.serials))
+invariant-loop-list g l = l.order.items ≡ map (place_of l.tables.items) (flat_map (λ s. s.ids) (take l.list-index l.tables.serials))

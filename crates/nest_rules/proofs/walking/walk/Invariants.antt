@@ -12,7 +12,7 @@ invariant-loop-p g l = record {
   can : (goal.iterator-loop-p g).can_next l.p-iterator;
   finite : (goal.iterator-loop-p g).is_finite l.p-iterator;
   good : AllByRecursion (λ (p : Pending). GoodNested p.rec) (into_iter_items l.p-iterator);
-  fault : pending_fault l.draft no_nesting l.fn.nested.items ≡ pending_fault l.draft l.groups (into_iter_items l.p-iterator);
+  fault : pending_fault l.tables no_nesting l.fn.nested.items ≡ pending_fault l.tables l.groups (into_iter_items l.p-iterator);
   nesting : fold with_pending no_nesting l.fn.nested.items ≡ fold with_pending l.groups (into_iter_items l.p-iterator);
   few : AreFew l.groups;
 }

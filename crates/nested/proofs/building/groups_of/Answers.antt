@@ -4,4 +4,4 @@ use Rattle.nested.proofs.building.groups_of.Goals as goal
 pub returns-in-Ok-Ok-clause-groups : goal.returns-in-Ok-Ok-clause-groups
 returns-in-Ok-Ok-clause-groups g c =
     let told = c.in-Ok-Ok.ensures in
-    groups_told c.args.draft.now c.args.nested.items c.in-Ok-Ok.groups c.in-Ok-Ok.field-0 c.in-Ok-Ok.field-0-is told.nesting told.few told.faultless
+    groups_told c.args.tables.now c.args.nested.items c.in-Ok-Ok.groups c.in-Ok-Ok.field-0 c.in-Ok-Ok.field-0-is told.nesting told.few told.faultless

@@ -4,5 +4,5 @@ use Rattle.nested.specs.Rows.{shown_group}
 use Rattle.nested.proofs.children.refused_groups.Given as goal
 
 abbrev pub invariant-loop-group : goal.invariant-loop-group
-invariant-loop-group g l = first_given (shown_group l.draft l.groups) l.all
-    ≡ first_given (shown_group l.draft l.groups) (drop l.group-index l.all)
+invariant-loop-group g l = first_given (shown_group l.tables l.groups) l.all
+    ≡ first_given (shown_group l.tables l.groups) (drop l.group-index l.all)

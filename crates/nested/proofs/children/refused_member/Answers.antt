@@ -8,14 +8,14 @@ use Rattle.nested.proofs.children.refused_member.Goals as goal
 
 pub row_of_place-own-requires : goal.row_of_place-own-requires
 row_of_place-own-requires g c =
-    let t = c.args.draft.now in
+    let t = c.args.tables.now in
     subst (λ (k : ℕ). k < length c.args.tasks.now) (sym c.place.ensures)
     (subst (λ (rows : List (List Claimed)). place_of t.items c.args.member.task < length rows) (sym c.requires.tasks)
     (has_row t t.reqs c.args.member.task))
 
 pub refused_by-requires : goal.refused_by-requires
 refused_by-requires g c =
-    let t = c.args.draft.now in
+    let t = c.args.tables.now in
     let n = c.args.groups.now in
     spaces_alike t _ c.as_slice.result.now (row_in_spaces t n c.args.member.group _
     (c.row_at-all.ensures t c.requires.rows c.requires.named))
@@ -25,7 +25,7 @@ refused_by-requires g c =
 
 pub returns : goal.returns
 returns g c =
-    let t = c.args.draft.now in
+    let t = c.args.tables.now in
     let n = c.args.groups.now in
     member_told t n c.args.member _ c.as_slice.result.now c.refused_by.result (c.row_at-all.ensures t c.requires.rows c.requires.named)
     (c.as_slice.ensures ∙ c.row_of_place-own.ensures ∙ ap (λ (k : ℕ). get_or c.args.tasks.now k []) c.place.ensures

@@ -14,7 +14,7 @@ count_apart-requires-clause-points g c =
     let ss = c.deref-2.result.now in
     subst (λ (d : Regions). All (λ (s : Sided). All (λ (c : Claimed). c.points ≡ space_points d c.space) s.claims) ss)
     (sym c.forest-forest.ensures)
-    (sides_in_spaces t n ss (c.deref-2.ensures.value ∙ c.in_ok-sides.ensures ∙ ap (λ (u : Tables). sides_in u n) c.draft.ensures))
+    (sides_in_spaces t n ss (c.deref-2.ensures.value ∙ c.in_ok-sides.ensures ∙ ap (λ (u : Tables). sides_in u n) c.tables.ensures))
 
 pub returns : goal.returns
 returns g c =
@@ -22,4 +22,4 @@ returns g c =
     let n = c.args.found.now.groups in
     subst (λ (m : ℕ). IfOk c.count_apart.result (λ count. count ≡ m))
     (pairs_told t n c.deref-2.result.now (c.deref-2.ensures.value ∙ c.in_ok-sides.ensures
-    ∙ ap (λ (u : Tables). sides_in u n) c.draft.ensures)) c.count_apart.ensures
+    ∙ ap (λ (u : Tables). sides_in u n) c.tables.ensures)) c.count_apart.ensures

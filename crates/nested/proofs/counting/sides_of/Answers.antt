@@ -4,7 +4,7 @@ use Rattle.nested.proofs.counting.sides_of.Goals as goal
 
 pub loop-group-preserved : goal.loop-group-preserved
 loop-group-preserved g c =
-    let t = c.args.draft.now in
+    let t = c.args.tables.now in
     let n = c.args.groups.now in
     let was = c.loop-group.invariant in (
       ap (λ (k : ℕ). k + 1) was.0,

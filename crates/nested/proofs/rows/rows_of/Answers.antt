@@ -6,7 +6,7 @@ use Rattle.nested.proofs.rows.rows_of.Goals as goal
 
 pub returns : goal.returns
 returns g c =
-    let t = c.args.draft.now in
+    let t = c.args.tables.now in
     let n = c.args.groups.now in
     subst (λ (gs : List Group). IfOk c.rows_among.result (λ rows. rows.items ≡ map (row_among t n.privileges) gs)) c.groups.ensures
     (subst (λ (qs : List GroupReq). IfOk c.rows_among.result

@@ -12,7 +12,7 @@ kinds_are : (g : Over) (c : goal.After-drop-kinds-in-Some g) → AreKinds c.args
 kinds_are g c =
     let seen = space_seen g.P.PointSet.points in
     let points = c.args.points.now in
-    subst (λ ss. AreKinds ss points c.in-Some.kinds.numbers.items) (c.spaces.ensures ∙ ap (λ t. t.spaces) c.draft.ensures)
+    subst (λ ss. AreKinds ss points c.in-Some.kinds.numbers.items) (c.spaces.ensures ∙ ap (λ t. t.spaces) c.tables.ensures)
     (subst (λ r. IfSome r (λ k. AreKinds (map seen c.spaces.result.now) points k.numbers.items)) c.in-Some.is c.in_ok-kinds.ensures.kinds)
 
 leads_are : (g : Over) (c : goal.After-drop-kinds-in-Some g)
@@ -34,5 +34,5 @@ returns-in_ok-firsts-in-None-clause-apart g c few =
     let seen = space_seen g.P.PointSet.points in
     let points = c.args.points.now in
     let many = subst (λ r. IfNone r (MOST_SHARES < shares (map seen c.spaces.result.now) points)) c.in-None.is c.in_ok-kinds.ensures.none in
-    let same = ap (λ ss. shares ss points) (c.spaces.ensures ∙ ap (λ t. t.spaces) c.draft.ensures) in
+    let same = ap (λ ss. shares ss points) (c.spaces.ensures ∙ ap (λ t. t.spaces) c.tables.ensures) in
     absurd (omega (arith, few, many, same))

@@ -2,8 +2,8 @@ use Rattle.std.proofs.Common.{arith, sym, subst, ◌+◌, ◌∙◌, ap, length,
 use Rattle.std.proofs.lemmas.List.{length_push}
 use Rattle.list_lemmas.proofs.lemmas.Contained.{all_contained}
 use Rattle.reach_marks.specs.declared.block.Block.{Block}
-use Rattle.reach_marks.specs.Reached.{AreRows, AreTidy}
-use Rattle.reach_marks.proofs.Replayed.{row_added, rows_pass, tidy_more}
+use Rattle.reach_marks.specs.Reached.{AreRows, AreCompact}
+use Rattle.reach_marks.proofs.Replayed.{row_added, rows_pass, compact_more}
 use Rattle.reach_marks.proofs.building.rows_of.Goals as goal
 
 pub with_row-requires-clause-waits : goal.with_row-requires-clause-waits
@@ -23,7 +23,7 @@ loop-p-preserved c =
     let row = get_or c.in_ok-rows-2.rows (length rows) [] in
     record {
       each = ap (λ (rs : List (List Block)). length rs) adds.more ∙ length_push rows row ∙ ap (λ n. n + 1) c.loop-p.invariant.each;
-      tidy = subst AreTidy (sym adds.more) (tidy_more rows c.loop-p.invariant.tidy row adds.each adds.exact);
+      compact = subst AreCompact (sym adds.more) (compact_more rows c.loop-p.invariant.compact row adds.each adds.exact);
       rows = subst (AreRows c.args.graph.now c.args.order.now) (sym adds.more)
           (row_added c.args.graph.now c.args.order.now c.requires.order c.requires.linked rows rows c.loop-p.p row c.in_ok-waits.waits.items
           c.as_slice.result.now c.loop-p.invariant.rows c.loop-p.invariant.each c.loop-p-test.true c.in_ok-waits.ensures refl

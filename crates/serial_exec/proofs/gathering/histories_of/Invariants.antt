@@ -5,6 +5,6 @@ use Rattle.serial_exec.specs.Changes.{items_changes}
 use Rattle.serial_exec.specs.Histories.{listed}
 use Rattle.serial_exec.proofs.gathering.histories_of.Given as goal
 
-abbrev pub invariant-loop-moment : goal.invariant-loop-moment
-invariant-loop-moment g l = (p : Place) → listed l.histories p
-    ≡ items_changes l.log 0 (take l.moment (serial l.log)) p
+abbrev pub invariant-loop-position : goal.invariant-loop-position
+invariant-loop-position g l = (p : Place) → listed l.histories p
+    ≡ items_changes l.log 0 (take l.position (serial l.log)) p

@@ -12,7 +12,7 @@ use Rattle.serial_exec.proofs.gathering.note_item.Goals as goal
 
 pub returns-in_default : goal.returns-in_default
 returns-in_default g c = λ p.
-    no-item c.args.log.now c.args.moment c.args.item p (listed c.args.histories.now p)
+    no-item c.args.log.now c.args.position c.args.item p (listed c.args.histories.now p)
     (item-past c.items.result.now c.args.log.now.items c.args.item c.items.ensures c.in_default.ensures.lookup.3)
 
 pub note_in_region-requires : goal.note_in_region-requires
@@ -29,7 +29,7 @@ returns-in-Task g c =
     let mine : c.list.result.now ≡ get_or c.args.own.now c.args.item [] = c.list.ensures in
     on_ok c.note_reqs.result (λ h p. h p
     ∙ ap (λ xs. listed c.args.histories.now p ++ xs)
-    (task-item t c.args.moment c.args.item p c.in-Some.found.now (reqs_at t.reqs c.list.result.now)
+    (task-item t c.args.position c.args.item p c.in-Some.found.now (reqs_at t.reqs c.list.result.now)
     (item-here c.items.result.now t.items c.args.item c.in-Some.found.now c.items.ensures lt c.in-Some.ensures.lookup.1)
     c.in-Task.is
     (ap (reqs_at t.reqs) mine ∙ c.requires.own c.args.item inside))) c.note_reqs.ensures
@@ -41,8 +41,8 @@ returns-in-Fill g c =
     on_ok c.note_in_region.result (λ h p. h p
     ∙ ap (λ fields. listed c.args.histories.now p
     ++ cond (covered c.in-Fill.tree (points_in t c.in-Fill.space) fields p)
-    (record { moment = c.args.moment; action = Put (Const c.in-Fill.n) } ∷ []) []) c.as_slice-fields.ensures
+    (record { position = c.args.position; action = Put (Const c.in-Fill.n) } ∷ []) []) c.as_slice-fields.ensures
     ∙ ap (λ xs. listed c.args.histories.now p ++ xs)
-    (fill-item t c.args.moment c.args.item p c.in-Some.found.now c.in-Fill.tree c.in-Fill.space c.in-Fill.fields c.in-Fill.n
+    (fill-item t c.args.position c.args.item p c.in-Some.found.now c.in-Fill.tree c.in-Fill.space c.in-Fill.fields c.in-Fill.n
     (item-here c.items.result.now t.items c.args.item c.in-Some.found.now c.items.ensures lt c.in-Some.ensures.lookup.1)
     c.in-Fill.is)) c.note_in_region.ensures

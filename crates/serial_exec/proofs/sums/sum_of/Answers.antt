@@ -9,7 +9,7 @@ use Rattle.serial_exec.proofs.sums.sum_of.Goals as goal
 
 pub loop-change-preserved : goal.loop-change-preserved
 loop-change-preserved c =
-    let d : Change = record { moment = 0; action = Put bases.Raw } in
+    let d : Change = record { position = 0; action = Put bases.Raw } in
     let i = c.loop-change.change-index in
     let more : weight_of c.in_ok-value.value ≤ weight_of c.loop-change.value + 1 = c.in_ok-value.ensures.weight in
     let light : weight_of c.loop-change.value ≤ i = c.loop-change.invariant.1 in (

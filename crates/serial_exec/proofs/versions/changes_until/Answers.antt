@@ -14,7 +14,7 @@ returns-clause-first c = (
 
 pub returns-clause-before : goal.returns-clause-before
 returns-clause-before c =
-    let at = c.partition_point-end.ensures.partitioned (λ (d : Change). nat_lt d.moment c.args.moment)
+    let at = c.partition_point-end.ensures.partitioned (λ (d : Change). nat_lt d.position c.args.position)
     (always_returns_same _ _ _ (λ a r f called. search rules))
-    (IsPartitionedBy-ltb (λ (d : Change). d.moment) c.args.changes.now c.args.moment c.requires) in
-    taken-parted (λ (d : Change). nat_lt d.moment c.args.moment) c.args.changes.now c.partition_point-end.result at.0 at.1
+    (IsPartitionedBy-ltb (λ (d : Change). d.position) c.args.changes.now c.args.position c.requires) in
+    taken-parted (λ (d : Change). nat_lt d.position c.args.position) c.args.changes.now c.partition_point-end.result at.0 at.1

@@ -1,7 +1,7 @@
 use Rattle.std.proofs.Common.{◌≤◌, All, List, length, subst, sym}
 use Rattle.vocabulary.specs.Prelude.{Good, Lined}
 use Rattle.semantics.specs.declared.limits.TheConstants.{MOST_BYTES}
-use Rattle.crowded_logs.specs.Crowded.{IsToldBy}
+use Rattle.crowded_logs.specs.Crowded.{IsKeptAs}
 use Rattle.spy_cli.proofs.CrowdedFaults.{crowded_found}
 use Rattle.spy_cli.proofs.crowded.input_fault.Goals as goal
 
@@ -11,7 +11,7 @@ crowded_fault-requires-clause-good c = subst (All (λ (l : Lined). Good l.rec)) 
 pub crowded_fault-requires-clause-log : goal.crowded_fault-requires-clause-log
 crowded_fault-requires-clause-log c =
     let s = c.requires.1 in
-    (s.log, subst (λ ls. IsToldBy s.log ls c.args.input.now.frame) (sym c.deref.ensures.value) s.told)
+    (s.log, subst (λ ls. IsKeptAs s.log ls c.args.input.now.frame) (sym c.deref.ensures.value) s.told)
 
 pub returns : goal.returns
 returns c = crowded_found c.args.input.now c.deref.result.now c.crowded_fault.result c.deref.ensures.value c.crowded_fault.ensures

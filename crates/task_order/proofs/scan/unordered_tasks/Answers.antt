@@ -27,12 +27,12 @@ items_noted-requires g c = record {
 pub returns-clause-kept : goal.returns-clause-kept
 returns-clause-kept g c =
     let t = c.args.log.now in
-    let first = c.requires.touches in
+    let first = c.requires.cell_accesses in
     let noted = c.in_ok-noted.noted.items in
     let out = turns.is_noted c.in_ok-items.items.items in
-    let turn : turns.AreInTurnBut (before_in c.args.reach.now) (in_order c.args.runs.now t) c.args.touches.now noted =
+    let turn : turns.AreInTurnBut (before_in c.args.reach.now) (in_order c.args.runs.now t) c.args.cell_accesses.now noted =
     rw (← c.in_ok-order.ensures, ← c.deref-2.ensures.value) c.in_ok-noted.ensures.turn in
     c.places_tell_of_tasks.ensures.but t first.firsts out first.are_firsts c.lists_items.ensures
-    (in_turn t c.args.reach.now c.args.runs.now first.firsts c.args.touches.now noted out c.lists_items.ensures c.requires.runs
+    (in_turn t c.args.reach.now c.args.runs.now first.firsts c.args.cell_accesses.now noted out c.lists_items.ensures c.requires.runs
     c.requires.marks first.done turn (λ item lt. c.in_ok-items.ensures.items item lt
     ∙ ap (λ bs. turns.is_noted bs (serial_place t item)) c.deref-3.ensures.value))

@@ -2,7 +2,7 @@ use Rattle.std.proofs.Common.{[], sym, ap, subst, ◌∙◌}
 use Rattle.std.proofs.lemmas.List.{append-nil}
 use Rattle.vocabulary.specs.Prelude.{records_of}
 use Rattle.crowded_logs.specs.Noted.{frame_of}
-use Rattle.log_input.specs.Asked.{IsAskedBy}
+use Rattle.log_input.specs.AskedIds.{IsAskedBy}
 use Rattle.log_input.proofs.crowding.Crowding.begin.Goals as goal
 
 pub returns-clause-crowding : goal.returns-clause-crowding

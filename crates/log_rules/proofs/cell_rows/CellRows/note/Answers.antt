@@ -7,14 +7,14 @@ use Rattle.log_rules.proofs.BitRows.{rows_more, rows_stay}
 use Rattle.log_rules.proofs.cell_rows.CellRows.note.Goals as goal
 
 pub returns-in_default : goal.returns-in_default
-returns-in_default g c = λ all line grid has. rows_stay all c.args.draft.now line c.args.rec.now c.args.self.now has
+returns-in_default g c = λ all line grid has. rows_stay all c.args.tables.now line c.args.rec.now c.args.self.now has
 
 pub returns-then-has_space : goal.returns-then-has_space
-returns-then-has_space g c = λ all line grid has. rows_stay all c.args.draft.now line c.args.rec.now c.args.self.now has
+returns-then-has_space g c = λ all line grid has. rows_stay all c.args.tables.now line c.args.rec.now c.args.self.now has
 
 pub returns : goal.returns
 returns g c = λ all line grid has.
-    let t = c.args.draft.now in
+    let t = c.args.tables.now in
     let r = c.args.rec.now in
     let none = sym c.has_space.ensures ∙ c.if-has_space.false in
     let row = subst (λ (o : Option (ℕ × CellBits)). MatchOption o ⊤ (λ f. IsNewRow all t r f.0 f.1)) c.in-Some.is

@@ -10,7 +10,7 @@ returns-in_default g c = λ all grid. c.new.ensures.items ∙ sym (ap (claim_poi
 
 pub returns-in-Some-grid : goal.returns-in-Some-grid
 returns-in-Some-grid g c =
-    let t = c.args.draft.now in
+    let t = c.args.tables.now in
     IfOk-weaker c.corner_points.result _ _ (λ points told all is. corners_told all c.args.self.now.grid c.in-Some-grid.grid points.items
     (g.P.PointSet.points c.in-Some.set.now) (points_in t c.args.space) c.in-Some-grid.is is
     (sym c.in-Some.ensures) told) c.corner_points.ensures

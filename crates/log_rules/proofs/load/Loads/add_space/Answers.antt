@@ -7,7 +7,7 @@ use Rattle.log_rules.proofs.load.Loads.add_space.Goals as goal
 
 pub returns-in_ok-add_listed-in-Some-corners : goal.returns-in_ok-add_listed-in-Some-corners
 returns-in_ok-add_listed-in-Some-corners g c = λ by.
-    let t = c.args.log.now.draft.now in
+    let t = c.args.log.now.tables.now in
     let cs = c.args.log.now.corners in
     let corners = c.in-Some-corners.corners in
     let have = g.P.PointSet.points c.in-Some.set.now in

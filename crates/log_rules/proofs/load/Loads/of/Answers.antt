@@ -8,7 +8,7 @@ use Rattle.log_rules.proofs.load.Loads.of.Goals as goal
 
 pub loop-req-preserved : goal.loop-req-preserved
 loop-req-preserved g c = λ by k.
-    let t = c.args.log.now.draft.now in
+    let t = c.args.log.now.tables.now in
     let i = c.loop-req.req-index in
     let item = c.req-item.result in
     let mid = load_in c.loop-req.loads k in

@@ -8,7 +8,7 @@ use Rattle.log_rules.proofs.load.Loads.of_inst.Goals as goal
 
 pub returns-in_ok-points-in-Some-corners : goal.returns-in_ok-points-in-Some-corners
 returns-in_ok-points-in-Some-corners g c = λ by.
-    let t = c.args.log.now.draft.now in
+    let t = c.args.log.now.tables.now in
     let cs = c.args.log.now.corners in
     let corners = c.in-Some-corners.corners in
     let inst = c.args.inst.now in

@@ -7,9 +7,9 @@ use Rattle.log_rules.proofs.load.Loads.of_insts.Goals as goal
 
 pub loop-inst-preserved : goal.loop-inst-preserved
 loop-inst-preserved g c = λ by.
-    let insts = c.args.log.now.draft.now.insts in
+    let insts = c.args.log.now.tables.now.insts in
     let i = c.loop-inst.inst-index in
-    let f = inst_load (load_in c.args.self.now) c.args.log.now.draft.now in
+    let f = inst_load (load_in c.args.self.now) c.args.log.now.tables.now in
     let item = c.inst-item.result in
     let all = c.insts-inst-items.ensures in
     let more = sum_by_more f insts i item (subst (λ (xs : List Inst). i < length xs) all c.loop-inst-test.true) in

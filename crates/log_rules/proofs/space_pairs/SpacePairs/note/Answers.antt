@@ -4,7 +4,7 @@ use Rattle.log_rules.proofs.space_pairs.SpacePairs.note.Goals as goal
 
 pub returns : goal.returns
 returns g c = λ all line grid has.
-    let t = c.args.draft.now in
+    let t = c.args.tables.now in
     let r = c.args.rec.now in
     record {
       rows = c.in_ok-note.ensures all line grid has.rows;

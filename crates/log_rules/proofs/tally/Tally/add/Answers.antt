@@ -17,7 +17,7 @@ within_limit a b n few is = elim (cases_lt 4194304 (a + b)) [ inl lt ↦ grind (
 
 pub returns : goal.returns
 returns g c = λ all earlier line is may.
-    let t = c.args.draft.now in
+    let t = c.args.tables.now in
     let r = c.args.rec.now in
     let old = c.args.self in
     let most = 2 ^ 128 - 1 in

@@ -12,5 +12,5 @@ returns-clause-drawn g c =
 pub returns-clause-points : goal.returns-clause-points
 returns-clause-points g c =
     let declared = c.self.invariant.0 in
-    let all : AreDrawn c.self.inside.draft = subst AreDrawn (sym declared.tables) (drawn declared.log declared.good) in
+    let all : AreDrawn c.self.inside.tables = subst AreDrawn (sym declared.tables) (drawn declared.log declared.good) in
     subst (All (λ (r : Rect). (r.x0 ≤ r.x1) × (r.y0 ≤ r.y1))) (sym c.rects.ensures) all.some

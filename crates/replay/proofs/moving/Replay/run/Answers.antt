@@ -4,7 +4,7 @@ use Rattle.vocabulary.specs.Prelude.{graph_of, steps_by}
 use Rattle.semantics.specs.ReplayOrder.{replay_order}
 use Rattle.list_lemmas.proofs.lemmas.Contained.{all_contained}
 use Rattle.log_laws.proofs.lemmas.Rounds.{listed_decides}
-use Rattle.replay.specs.Standing.{Stands}
+use Rattle.replay.specs.Standing.{IsReplayedUpTo}
 use Rattle.replay.proofs.Laws.{cut_nodes, cut_stands}
 use Rattle.replay.proofs.Wanting.{none_wanted}
 use Rattle.replay.proofs.moving.Replay.run.Goals as goal
@@ -24,7 +24,7 @@ take_nodes-requires-clause-stands g c =
     let u = c.args.self.now.cut.now in
     let of = c.requires.cut in
     let same = c.as_slice.ensures ∙ c.requires.order.replayed ∙ ap (λ ns. replay_order (graph_of ns)) (sym (cut_nodes t u of)) in
-    subst (λ ks. Stands u (steps_by u ks) c.in_ok-store.store.cells) (sym same)
+    subst (λ ks. IsReplayedUpTo u (steps_by u ks) c.in_ok-store.store.cells) (sym same)
     (cut_stands t c.is_declared.ensures u of c.requires.mapped c.in_ok-store.store.cells c.in_ok-store.ensures)
 
 pub take_nodes-requires-clause-wanted : goal.take_nodes-requires-clause-wanted

@@ -1,7 +1,7 @@
 use Rattle.std.proofs.Common.{slice_index, sym, ap, ◌∙◌, subst}
 use Rattle.std.specs.List.{AllByRecursion}
 use Rattle.inst_steps.specs.Acting.{IsBy, steps_in}
-use Rattle.replay.specs.Standing.{Stands, left_in}
+use Rattle.replay.specs.Standing.{IsReplayedUpTo, left_in}
 use Rattle.replay.proofs.Laws.{cut_by, stands_in, stands_on}
 use Rattle.replay.proofs.moving.Replay.take_node.Goals as goal
 
@@ -26,11 +26,11 @@ loop-action-preserved g c =
     let node = slice_index order c.args.place in
     let left = left_in t order c.args.place node (steps_in c.next.new.self) in
     let by = subst (AllByRecursion (IsBy c.args.self.now.log.now)) c.in-Some.ensures.steps c.loop-action.invariant.2 in
-    let before = subst (λ rest. Stands t (left_in t order c.args.place node
+    let before = subst (λ rest. IsReplayedUpTo t (left_in t order c.args.place node
     (steps_in rest)) c.loop-action.store.cells) c.in-Some.ensures.steps c.loop-action.invariant.3 in
     let after = stands_on t (record {
       node = node;
       move =
           c.in-Some.action.step;
     }) left c.loop-action.store.cells before c.in_ok-take.ensures.right in
-    (tt, tt, by.1, subst (Stands t left) (sym c.in_ok-take.ensures.moved) after, c.in_ok-take.ensures.wanted)
+    (tt, tt, by.1, subst (IsReplayedUpTo t left) (sym c.in_ok-take.ensures.moved) after, c.in_ok-take.ensures.wanted)

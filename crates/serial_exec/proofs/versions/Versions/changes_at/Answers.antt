@@ -6,5 +6,5 @@ use Rattle.serial_exec.proofs.versions.Versions.changes_at.Goals as goal
 pub returns : goal.returns
 returns c =
     let p = c.args.place.now in
-    c.at.ensures ∙ sym (kept-changes c.self.inside.moments.items c.self.inside.histories p)
+    c.at.ensures ∙ sym (kept-changes c.self.inside.positions.items c.self.inside.histories p)
     ∙ ap (λ (k : Kept). changes_in k p) c.self.view_is

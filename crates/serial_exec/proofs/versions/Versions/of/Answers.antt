@@ -6,11 +6,11 @@ use Rattle.serial_exec.proofs.versions.Versions.of.Goals as goal
 
 pub invariant_of-result : goal.invariant_of-result
 invariant_of-result g c =
-    kept-in_order c.args.log.now c.in_ok-moments.moments.items c.in_ok-histories.histories c.in_ok-histories.ensures
+    kept-in_order c.args.log.now c.in_ok-positions.positions.items c.in_ok-histories.histories c.in_ok-histories.ensures
 
 pub returns : goal.returns
 returns g c =
-    versions-of c.args.log.now c.in_ok-moments.moments.items c.in_ok-histories.histories
+    versions-of c.args.log.now c.in_ok-positions.positions.items c.in_ok-histories.histories
     (subst (λ (places : List ℕ). ArePlacesIn (serial c.args.log.now) (length c.args.log.now.items) places)
-    (sym c.in_ok-moments.ensures.items) c.serial_places.ensures)
+    (sym c.in_ok-positions.ensures.items) c.serial_places.ensures)
     c.in_ok-histories.ensures

@@ -1,7 +1,0 @@
-use Rattle.std.proofs.Common.{take}
-use Rattle.vocabulary.specs.Prelude.{records_of}
-use Rattle.log_input.specs.Asked.{IsAskedBy}
-use Rattle.log_input.proofs.asked.Asked.by.Given as goal
-
-abbrev pub invariant-loop-l : goal.invariant-loop-l
-invariant-loop-l l = IsAskedBy (records_of (take l.l-index l.log)) l.asked
