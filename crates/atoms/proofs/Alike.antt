@@ -76,9 +76,6 @@ pub first_least : (rects : List Rect) (k l p : ℕ) → InCell rects k l p
     → get_or (grid_of rects).xs k 0 * 2 ^ 32 + get_or (grid_of rects).ys l 0 ≤ p
 first_least rects k l p h = omega (arith, h.column.1, h.row.1)
 
-pub in_map : {X Y : Type 0} (f : X → Y) (xs : List X) (x : X) → Contains xs x → Contains (map f xs) (f x)
-in_map f xs x c = (map_member f xs x c)
-
 -- So the first points of the cells are those of all declared points.
 pub are_firsts : (t : Tables) (firsts : List ℕ) → AreDrawn t → firsts ≡ map (λ (c : GridCell). c.first) (cells_of t.rects) → AreFirsts t firsts
 are_firsts t firsts drawn is s c q e =
@@ -87,7 +84,7 @@ are_firsts t firsts drawn is s c q e =
     record {
       first = (cell_at (grid_of t.rects) cell.column cell.row).first;
       listed = is_in_from firsts _ (subst (λ ns. Contains ns (cell_at (grid_of t.rects) cell.column cell.row).first) (sym is)
-          (in_map (λ (c : GridCell). c.first) (cells_of t.rects) (cell_at (grid_of t.rects) cell.column cell.row) cell.listed));
+          (map_member (λ (c : GridCell). c.first) (cells_of t.rects) (cell_at (grid_of t.rects) cell.column cell.row) cell.listed));
       not_greater = first_least t.rects cell.column cell.row q cell.has;
       alike = alike_in_cell t cell.column cell.row _ q drawn first cell.has;
     }

@@ -15,10 +15,10 @@ use Rattle.covered_cells.specs.Covered.{cell_at, cells_of}
 use Rattle.covered_cells.proofs.lemmas.Listed.{listed, listed_where_some}
 use Rattle.vocabulary.specs.Prelude.{Tables}
 use Rattle.log_laws.specs.Drawn.{AreDrawn}
-use Rattle.list_lemmas.proofs.lemmas.Contained.{member_map}
+use Rattle.list_lemmas.proofs.lemmas.Contained.{member_map, map_member}
 use Rattle.atoms.specs.Atoms.{AreAtomsOf, HasPoint, IsDeclared, atoms_of, cell_rect}
 use Rattle.atoms.proofs.Points.{InCell, column_of, is_in_from}
-use Rattle.atoms.proofs.Alike.{alike_in_cell, cell_of, in_map}
+use Rattle.atoms.proofs.Alike.{alike_in_cell, cell_of}
 
 -- ---- A cell is where its rectangle is.
 
@@ -90,7 +90,7 @@ has_atom : (t : Tables) (p : ℕ) → AreDrawn t → IsDeclared t p → Any (λ 
 has_atom t p drawn h =
     let cell = cell_of t h.1 p drawn (h.0, h.2, h.3) h.4 in
     let c = cell_at (grid_of t.rects) cell.column cell.row in
-    let at = in_map (cell_rect (grid_of t.rects)) (cells_of t.rects) c cell.listed in
+    let at = map_member (cell_rect (grid_of t.rects)) (cells_of t.rects) c cell.listed in
     (at.0, cell_rect (grid_of t.rects) c, at.1, at.2, in_rect t.rects cell.column cell.row p cell.has)
 
 -- ---- No two share a point.

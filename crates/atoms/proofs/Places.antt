@@ -20,8 +20,9 @@ use Rattle.log_laws.specs.Drawn.{AreDrawn}
 use Rattle.point_laws.specs.Alike.{AreFirsts}
 use Rattle.atoms.specs.Atoms.{AreAtomsOf, AreKept, HasPoint, IsAtomAt, IsIn, IsPlaceOf, atoms_of, cell_rect, first_points}
 use Rattle.atoms.proofs.Points.{InCell, column_is, row_is}
-use Rattle.atoms.proofs.Alike.{are_firsts, first_in_cell, in_map}
+use Rattle.atoms.proofs.Alike.{are_firsts, first_in_cell}
 use Rattle.atoms.proofs.Parted.{Placed, are_atoms, atom_at, in_atom, in_rect, placed, span_once}
+use Rattle.list_lemmas.proofs.lemmas.Contained.{map_member}
 
 -- The first points of cells are those of their rectangles.
 firsts_by : (rects : List Rect) (cells : List GridCell) → ((c : GridCell) → Contains cells c → Placed rects c)
@@ -176,7 +177,7 @@ not_found grid cells firsts kept k l p h none some =
     a.at.first ∙ ap (λ i. first_of (grid_of rects) i a.cell.row) (sym column) ∙ ap (λ j. first_of (grid_of rects) k j) (sym row)
     ∙ ap (λ g. first_of g k l) (sym kept.grid_is) in
     none (subst (Contains firsts) begins (subst (λ ns. Contains ns a.cell.first) (sym kept.firsts_are)
-    (in_map (λ (c : GridCell). c.first) cells a.cell a.listed)))
+    (map_member (λ (c : GridCell). c.first) cells a.cell a.listed)))
 
 -- The place of the first point of a cell that has the point is that of the atom.
 pub atom_placed : (grid : Cuts) (cells : List GridCell) (firsts : List ℕ) → AreKept grid cells firsts → (c : GridCell) (p : ℕ)

@@ -1,5 +1,5 @@
 -- The points of a set at which cells begin, up to one of its points.
-use Rattle.std.proofs.Common.{◌≡◌, ◌↔◌, ℕ, zero, suc, ◌^◌, ◌<◌, ◌≤◌, true, false, List, [], ◌∷◌, ◌++◌, All, Contains, get_or, Option, Some, None, MatchOption, refl, sym, ◌∙◌, subst, inl, inr, arith, add-one, cond}
+use Rattle.std.proofs.Common.{◌≡◌, ◌↔◌, ℕ, zero, suc, ◌<◌, ◌≤◌, true, false, List, [], ◌∷◌, ◌++◌, Contains, get_or, Option, Some, None, MatchOption, refl, sym, ◌∙◌, subst, inl, inr, arith, add-one, cond}
 use Rattle.std.specs.List.Sorted.{IsStrictlyIncreasing}
 use Rattle.std.proofs.lemmas.Bool.{cases_Bool, cases_lt, false≢true}
 use Rattle.std.proofs.lemmas.List.Elements.{Contains-append_left, Contains-append_right, Contains-append_cases}

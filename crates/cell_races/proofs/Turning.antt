@@ -1,7 +1,7 @@
 -- Whether what conflicts at a cell is in turn, cell by cell.
-use Rattle.std.proofs.Common.{◌≡◌, ℕ, ◌<◌, inl, inr, Bool, true, false, not, List, [], ◌∷◌, ◌++◌, None, All, refl, sym, ap, ◌∙◌, subst, arith, map, find, length, slice_index, Contains, AllPairs}
+use Rattle.std.proofs.Common.{◌≡◌, ℕ, ◌<◌, inl, inr, Bool, true, false, not, List, [], ◌∷◌, ◌++◌, None, All, sym, ap, ◌∙◌, subst, arith, map, find, length, slice_index, Contains, AllPairs}
 use Rattle.std.proofs.lemmas.Bool.{cases_Bool, true≢false, and_from}
-use Rattle.std.proofs.lemmas.List.Elements.{Contains-append_left, Contains-append_right, All-contains, Contains-push}
+use Rattle.std.proofs.lemmas.List.Elements.{Contains-append_left, All-contains, Contains-push}
 use Rattle.list_lemmas.proofs.lemmas.Pairs.{AllPairs-nil, AllPairs-put, AllPairs-cases}
 use Rattle.list_lemmas.proofs.lemmas.Contained.{member_map, none_found, all_contained, Contains-nil, Contains-cases}
 use Rattle.list_lemmas.proofs.lemmas.Firsts.{cases_option}

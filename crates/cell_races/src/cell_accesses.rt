@@ -70,7 +70,11 @@ fn push_one(
 }
 
 /// Adds what a move does, by the node at a place of the replay order.
-pub fn push_cell_accesses(cell_accesses: &mut Vec<CellAccess>, place: usize, step: Move) -> Result<(), AllocError>
+pub fn push_cell_accesses(
+    cell_accesses: &mut Vec<CellAccess>,
+    place: usize,
+    step: Move,
+) -> Result<(), AllocError>
     ensures ok { OnOk result (cell_accesses.new.items ≡ cell_accesses.old.items ++ cell_accesses_of place step) }
     ensures err { OnErr result (cell_accesses.new.items ≡ cell_accesses.old.items) }
 {

@@ -8,16 +8,16 @@
 #![tactic(auto)]
 
 mod access;
+mod cell_accesses;
 mod cell_scan;
 mod frontier;
 mod laws;
-mod scan;
-mod cell_accesses;
-mod turns;
 mod node_accesses;
+mod scan;
+mod turns;
 
 pub use access::{Access, NodeAccess};
+pub use cell_accesses::{CellAccess, push_cell_accesses, sort_cell_accesses};
 pub use laws::{first_race_is_first, groups_tell};
 pub use scan::{FoundRace, cell_end, shown_race};
-pub use cell_accesses::{CellAccess, push_cell_accesses, sort_cell_accesses};
 pub use turns::unordered_places;

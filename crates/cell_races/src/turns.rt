@@ -8,10 +8,10 @@ ghost use Rattle.cell_races.specs.CellAccesses as accessed;
 ghost use Rattle.cell_races.specs.Turns.{AreNoted, AreOfOneCell, IsMarked, NotesMore};
 ghost use Rattle.cell_races.specs.NodeAccesses.{node_access_of};
 
-use crate::frontier::Frontier;
-use crate::scan::cell_end;
 use crate::cell_accesses::CellAccess;
+use crate::frontier::Frontier;
 use crate::node_accesses::node_access_of;
+use crate::scan::cell_end;
 use reach_marks::Reach;
 use std::alloc::{AllocError, Global};
 
@@ -83,7 +83,13 @@ pub fn unordered_places(
     let mut from = 0;
     while from < cell_accesses.len() {
         let end = cell_end(cell_accesses, from);
-        note_cell(&mut frontier, reach, order, &cell_accesses[from..end], &mut noted)?;
+        note_cell(
+            &mut frontier,
+            reach,
+            order,
+            &cell_accesses[from..end],
+            &mut noted,
+        )?;
         from = end;
     }
     Ok(noted)

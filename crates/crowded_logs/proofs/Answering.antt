@@ -17,7 +17,8 @@ use Rattle.semantics.specs.SerialOrder.{listed}
 use Rattle.semantics.specs.Faults.{breaks, first_broken, record_in, record_rules}
 use Rattle.semantics.specs.Rules.{node_of, completes, runs_task, items_listed, items_declared, has_no_run, waits_for_none, has_repeat, is_bad_serial}
 use Rattle.crowded_logs.specs.Crowded.{waits_on, declares_task, lists_items, ids_listed, has_unlisted, Answer}
-use Rattle.crowded_logs.proofs.Tests.{same_bool, and_alike, or_left, find_same, all_same, list_all-any, any_alike, none_counted}
+use Rattle.crowded_logs.proofs.Tests.{same_bool, and_alike, or_left, all_same, list_all-any, any_alike, none_counted}
+use Rattle.list_lemmas.proofs.lemmas.Contained.{find_same}
 
 -- ---- the lines of a log that list items
 
@@ -177,12 +178,12 @@ module _ (first later kept : List Lined) (a : Answer (records_of first) (records
       ap (list_any p) parts ∙ list_any-append p (records_of earlier) (l.rec ∷ records_of rest)
       ∙ or_right (list_any p (records_of earlier)) _ (or_left (p l.rec) (list_any p (records_of rest)) h) in
       let alike = find_same (breaks (record_in L earlier l.rec)) (breaks (record_in M earlier l.rec)) record_rules
-      (breaks_same L M earlier l.rec
+      (λ rule _. breaks_same L M earlier l.rec
       (no_run_same L M l.rec (λ id h. tasks_same fs (records_of later) (records_of kept) a id (asked (declares_task id) h)))
       (undefined_same L M l.rec (λ event h. events_same fs (records_of later) (records_of kept) a event (asked (waits_on event) h)))
       (serial_same L M (tables_of earlier) l.rec (λ ids is.
       left_out_same fs (records_of later) (records_of kept) a (records_of earlier) (records_of rest) l.rec ids (tables_of earlier) is parts
-      (omega (arith, lines_counted no_tables earlier)) (lines_listed no_tables earlier)))) in
+      (omega (arith, lines_counted no_tables earlier)) (lines_listed no_tables earlier))) rule) in
       ap (λ (rs : List Record). first_broken (record_in rs earlier l.rec)) (map-append (λ (k : Lined). k.rec) first later)
       ∙ alike
       ∙ sym (ap (λ (rs : List Record). first_broken (record_in rs earlier l.rec)) (map-append (λ (k : Lined). k.rec) first kept))

@@ -9,14 +9,7 @@ use Rattle.semantics.specs.Faults.{at_line, opens, is_header, is_end, miscounts,
 use Rattle.crowded_logs.specs.declared.frame.EndLine.{EndLine}
 use Rattle.crowded_logs.specs.declared.frame.Frame.{Frame}
 use Rattle.crowded_logs.specs.Noted.{end_on, with_framed, with_all_framed, frame_of, no_frame, ended_noted, count_noted, frame_fault}
-
-or_or : {X : Type 0} (o p q : Option X) → option_or (option_or o p) q ≡ option_or o (option_or p q)
-or_or None p q = refl
-or_or (Some x) p q = refl
-
-or_none : {X : Type 0} (o : Option X) → option_or o None ≡ o
-or_none None = refl
-or_none (Some x) = refl
+use Rattle.list_lemmas.proofs.lemmas.Firsts.{or_none, or_alike}
 
 counted : (f : Frame) (log : List Lined) → (with_all_framed f log).count ≡ f.count + length log
 counted f [] = omega arith
@@ -157,10 +150,6 @@ count_told lines c f (l ∷ log) none clean =
     ]
 
 -- ---- all of it
-
-or_alike : {X : Type 0} (o p q : Option X) → (o ≡ None → p ≡ q) → option_or o p ≡ option_or o q
-or_alike None p q h = h refl
-or_alike (Some x) p q h = refl
 
 pub frame_told : (lines : ℕ) (log : List Lined) → 1 ≤ length log
     → option_or (header_fault lines log) (option_or (ended_fault lines log) (count_fault log)) ≡ frame_fault lines (frame_of log)

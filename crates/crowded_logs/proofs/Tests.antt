@@ -1,5 +1,5 @@
 -- Tests of records, by which lists of them are told apart.
-use Rattle.std.proofs.Common.{◌≡◌, ℕ, ◌==◌, arith, Bool, true, false, not, ◌&&◌, ◌||◌, cond, List, [], ◌∷◌, ◌++◌, length, filter, find, Option, Some, None, option_map, refl, sym, ap, ap₂, ◌∙◌, eq-eqb}
+use Rattle.std.proofs.Common.{◌≡◌, ℕ, ◌==◌, arith, Bool, true, false, not, ◌&&◌, ◌||◌, cond, List, [], ◌∷◌, ◌++◌, length, filter, find, Some, None, option_map, refl, sym, ap, ap₂, ◌∙◌, eq-eqb}
 use Rattle.std.specs.List.{list_any, list_all}
 use Rattle.std.proofs.lemmas.Bool.{ne_eqb, or_parts, or_right}
 use Rattle.std.proofs.lemmas.List.Folds.{list_any-append}
@@ -18,10 +18,6 @@ and_alike false x y h = refl
 pub or_left : (x y : Bool) → x ≡ true → (x || y) ≡ true
 or_left true y e = refl
 or_left false y e = absurd cc
-
-pub find_same : {X : Type 0} (p q : X → Bool) (xs : List X) → ((x : X) → p x ≡ q x) → find p xs ≡ find q xs
-find_same p q [] h = refl
-find_same {X} p q (x ∷ xs) h = ap₂ (λ (b : Bool) (o : Option X). cond b (Some x) o) (h x) (find_same p q xs h)
 
 -- Tests that are alike at each member.
 pub all_same : (p q : ℕ → Bool) (xs : List ℕ) → ((x : ℕ) → is_in xs x ≡ true → p x ≡ q x) → list_all p xs ≡ list_all q xs

@@ -13,6 +13,7 @@ use Rattle.std.proofs.Math.Bool.{or_comm}
 use Rattle.event_graph.specs.EventPlaces.{is_place, ArePlaces}
 use Rattle.event_graph.specs.Marked.{AreMarked}
 use Rattle.event_graph.proofs.Taking.{find_least, find_nothing}
+use Rattle.list_lemmas.proofs.lemmas.Places.{find_filter}
 
 -- Whether a node has an event is read off the place of the event.
 not_there : (nodes : List Node) (place : ℕ → Option ℕ) → ArePlaces nodes place → (j e : ℕ) → (done_at nodes j ≡ Some e → ⊥)
@@ -32,15 +33,6 @@ event_place nodes place are j e = elim (cases_option (done_at nodes j)) [
     | inr other ↦ ne_eqb some.0 e other ∙ sym (not_there nodes place are j e (λ at. other (same_Some some.0 e (sym some.1 ∙ at))))
   ]
 ]
-
-find_filter : {X : Type 0} (s p : X → Bool) (xs : List X) → find p (filter s xs) ≡ find (λ x. s x && p x) xs
-find_filter s p [] = refl
-find_filter s p (x ∷ xs) =
-    elim (cases_Bool (s x)) [
-      | inl yes_s ↦ rw yes_s (ap (λ o. cond (p x) (Some x) o) (find_filter s p xs))
-      | inr no_s ↦
-          rw no_s (find_filter s p xs)
-    ]
 
 filter_none : {X : Type 0} (s : X → Bool) (xs : List X) → find s xs ≡ None → filter s xs ≡ []
 filter_none s [] e = refl

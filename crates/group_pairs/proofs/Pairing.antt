@@ -1,14 +1,12 @@
 -- Lists that are gone through, one element more.
 use Rattle.std.proofs.Common.{◌≡◌, ℕ, suc, ◌+◌, ◌<◌, ◌≤◌, List, [], ◌∷◌, ◌++◌, All, map, take, length, get_or, sym, ap, ◌∙◌, subst, arith}
-use Rattle.std.proofs.lemmas.List.{map-append, take_all, take_more}
+use Rattle.std.proofs.lemmas.List.{map-append, take_all}
 use Rattle.std.proofs.lemmas.List.Elements.{All-push}
-
-one_more : {X : Type 0} (xs : List X) (i : ℕ) (x : X) → i < length xs → x ≡ get_or xs i x → take (i + 1) xs ≡ take i xs ++ x ∷ []
-one_more xs i x lt is = take_more xs i x lt ∙ ap (λ y. take i xs ++ y ∷ []) (sym is)
+use Rattle.list_lemmas.proofs.lemmas.Parts.{take_with}
 
 pub all_more : {X : Type 0} (P : X → Type 0) (xs : List X) (i : ℕ) (x : X) → i < length xs → x ≡ get_or xs i x → All P (take i xs) → P x
     → All P (take (i + 1) xs)
-all_more P xs i x lt is all here = subst (All P) (sym (one_more xs i x lt is)) (All-push P (take i xs) x all here)
+all_more P xs i x lt is all here = subst (All P) (sym (take_with xs i x lt is)) (All-push P (take i xs) x all here)
 
 pub all_taken : {X : Type 0} (P : X → Type 0) (xs : List X) (i : ℕ) → length xs ≤ i → All P (take i xs) → All P xs
 all_taken P xs i le all = subst (All P) (take_all i xs le) all
@@ -17,7 +15,7 @@ pub map_grows : {X Y : Type 0} (f : X → Y) (xs : List X) (i : ℕ) (x : X) (y 
     → now ≡ map f (take i xs) → next ≡ now ++ y ∷ [] → y ≡ f x → next ≡ map f (take (i + 1) xs)
 map_grows f xs i x y now next lt is so_far more own =
     more ∙ ap (λ ys. ys ++ y ∷ []) so_far ∙ ap (λ z. map f (take i xs) ++ z ∷ []) own
-    ∙ sym (ap (map f) (one_more xs i x lt is) ∙ map-append f (take i xs) (x ∷ []))
+    ∙ sym (ap (map f) (take_with xs i x lt is) ∙ map-append f (take i xs) (x ∷ []))
 
 pub all_of_rest : {X : Type 0} (P : X → Type 0) (x : X) (xs : List X) → All P (x ∷ xs) → P x × All P xs
 all_of_rest P x xs all = (all 0 x (omega arith), λ k d lt. all (suc k) d (omega (arith, lt)))
@@ -33,6 +31,6 @@ pub one_party : {X Y : Type 0} (f : X → Y) (P : X → Type 0) (now next : List
     × All P next
 one_party f P now next ys i x y lt is so_far all more same here = (
   ap (map f) more ∙ map-append f now (x ∷ []) ∙ ap (λ zs. zs ++ f x ∷ []) so_far ∙ ap (λ z. take i ys ++ z ∷ []) same
-      ∙ sym (one_more ys i y lt is),
+      ∙ sym (take_with ys i y lt is),
   subst (All P) (sym more) (All-push P now x all here),
 )

@@ -1,5 +1,5 @@
 -- The requirements that actions name allow their moves, and are those that the moves name.
-use Rattle.std.proofs.Common.{◌≡◌, ℕ, ◌+◌, ◌==◌, ◌&&◌, inl, inr, List, [], ◌∷◌, map, Option, Some, None, option_map, unwrap_or, slice_get, refl, sym, ap, ap₂, ◌∙◌, subst, Contains}
+use Rattle.std.proofs.Common.{◌≡◌, ℕ, ◌+◌, ◌==◌, ◌&&◌, inl, inr, [], ◌∷◌, map, Option, Some, None, option_map, unwrap_or, slice_get, refl, sym, ap, ap₂, ◌∙◌, subst, Contains}
 use Rattle.std.specs.Prelude.{IfSome}
 use Rattle.std.specs.List.{AllByRecursion}
 use Rattle.std.specs.Option.{option_and_then}
@@ -10,7 +10,7 @@ use Rattle.vocabulary.specs.Prelude.{Priv, Req, Op, Tables, points_in, reqs_of, 
 use Rattle.privilege.specs.declared.kinds.Priv.TheVariants as privileges
 use Rattle.semantics.specs.declared.tables.Op.TheVariants as operations
 use Rattle.std.proofs.lemmas.List.Elements.{Contains-append_cases, recursion_from_All}
-use Rattle.list_lemmas.proofs.lemmas.Contained.{found_at, member_flat, member_map, only, Contains-here, Contains-later, all_contained, Contains-nil}
+use Rattle.list_lemmas.proofs.lemmas.Contained.{found_at, member_flat, member_map, only, all_contained, Contains-nil}
 use Rattle.list_lemmas.proofs.lemmas.Filtered.{of_filter}
 use Rattle.list_lemmas.proofs.lemmas.Firsts.{find_by_place, cases_option}
 use Rattle.inst_steps.specs.declared.act.Act.{Act}

@@ -17,8 +17,8 @@ use Rattle.launch_claims.specs.Interference.{Conflict, InterferesIn, IsKnownAt, 
 use Rattle.launch_claims.specs.Blocks.{AreBlocks, HasClashUpTo, IsBlockOf, IsInBlock, ShareColumn, block_of}
 use Rattle.launch_claims.proofs.Claimed.{IsTimely}
 use Rattle.launch_claims.proofs.Clashing.{Clash, clash_back, clash_from, clash_told, one_field, share_from}
-use Rattle.launch_claims.proofs.lemmas.Members.{in_flat, in_map, of_flat, of_map}
-use Rattle.launch_claims.proofs.Pairing.{taken}
+use Rattle.list_lemmas.proofs.lemmas.Contained.{flat_member, map_member, member_flat, member_map}
+use Rattle.list_lemmas.proofs.lemmas.Parts.{take_with}
 
 -- what a requirement claims, whose points are those of rectangles
 abbrev blocks_by : {P : Type 0} → LaunchTasks → Requirement P → List Rect → List Block
@@ -33,8 +33,8 @@ point_in l r points rects field p are has h =
     record {
       rect = rect;
       claimed =
-          in_flat (λ (f : ℕ). map (block_of (claim_on l r f)) rects) r.fields.now field (block_of (claim_on l r field) rect) has
-          (in_map (block_of (claim_on l r field)) rects rect
+          flat_member (λ (f : ℕ). map (block_of (claim_on l r f)) rects) r.fields.now field (block_of (claim_on l r field) rect) has
+          (map_member (block_of (claim_on l r field)) rects rect
           (Contains-get_or rects k (record { x0 = 0; x1 = 0; y0 = 0; y1 = 0 }) at.has.within));
       x = at.x;
       y = at.y;
@@ -46,19 +46,19 @@ point_in l r points rects field p are has h =
 wide_by : {P : Type 0} (l : LaunchTasks) (r : Requirement P) (points : List ℕ) (rects : List Rect) (b : Block) → AreRectsOf points rects
     → Contains (blocks_by l r rects) b → b.x0 ≤ b.x1
 wide_by l r points rects b are h =
-    let f = of_flat (λ (field : ℕ). map (block_of (claim_on l r field)) rects) r.fields.now b h in
-    let m = of_map (block_of (claim_on l r f.0)) rects b f.2 in
+    let f = member_flat (λ (field : ℕ). map (block_of (claim_on l r field)) rects) r.fields.now b h in
+    let m = member_map (block_of (claim_on l r f.0)) rects b f.2 in
     let none : Rect = record { x0 = 0; x1 = 0; y0 = 0; y1 = 0 } in
     let k = m.1.0 in
     let is : rect_at rects k ≡ m.0 = get_or_default rects k none m.0 m.1.1 ∙ m.1.2 in
     let wide = subst (λ (s : Rect). s.x0 ≤ s.x1) is (are.0.0.some k none m.1.1).0 in
-    subst (λ (c : Block). c.x0 ≤ c.x1) m.2 wide
+    subst (λ (c : Block). c.x0 ≤ c.x1) (sym m.2) wide
 
 block_by : {P : Type 0} (points : P → List ℕ) (l : LaunchTasks) (r : Requirement P) (rects : List Rect) (b : Block)
     → AreRectsOf (points r.set) rects → Contains (blocks_by l r rects) b → IsBlockOf points l r b
 block_by points l r rects b are h =
-    let f = of_flat (λ (field : ℕ). map (block_of (claim_on l r field)) rects) r.fields.now b h in
-    let m = of_map (block_of (claim_on l r f.0)) rects b f.2 in
+    let f = member_flat (λ (field : ℕ). map (block_of (claim_on l r field)) rects) r.fields.now b h in
+    let m = member_map (block_of (claim_on l r f.0)) rects b f.2 in
     let none : Rect = record { x0 = 0; x1 = 0; y0 = 0; y1 = 0 } in
     let k = m.1.0 in
     let is : rect_at rects k ≡ m.0 = get_or_default rects k none m.0 m.1.1 ∙ m.1.2 in
@@ -66,7 +66,7 @@ block_by points l r rects b are h =
       field = f.0;
       rect = m.0;
       has = f.1;
-      is = m.2;
+      is = sym m.2;
       points = λ x y holds. subst (λ (ps : List ℕ). Contains ps (x * 2 ^ 32 + y)) are.1
           (of_has rects x y (record { place = k; within = m.1.1; holds = subst (λ (s : Rect). Holds s x y) (sym is) holds }));
     }
@@ -125,7 +125,7 @@ blocks_more {P = P} points l reqs k u rects old new lt is are added before =
         | inr later ↦ wide_by l u (points u.set) rects b are later
       ];
     } in
-    subst (λ (rs : List (Requirement P)). AreBlocks points l rs new) (sym (taken reqs k u lt is))
+    subst (λ (rs : List (Requirement P)). AreBlocks points l rs new) (sym (take_with reqs k u lt is))
     (subst (AreBlocks points l (take k reqs ++ u ∷ [])) (sym added) told)
 
 pub blocks_all : {P : Type 0} (points : P → List ℕ) (l : LaunchTasks) (reqs : List (Requirement P)) (k : ℕ) (blocks : List Block)

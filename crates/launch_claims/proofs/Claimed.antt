@@ -18,9 +18,9 @@ use Rattle.launch_claims.specs.Claiming.{AreClaims, AreInFirstColumn, IsClaimOf,
 use Rattle.launch_claims.specs.Claims.{HasClash, IsFirstClash, asked_below}
 use Rattle.launch_claims.specs.Interference.{AllAgree, Conflict, InterferesIn, IsKnownAt, IsLeast}
 use Rattle.launch_claims.proofs.Clashing.{Clash, agree_same, clash_back, clash_from, clash_told, one_field, share_from}
-use Rattle.launch_claims.proofs.lemmas.Members.{in_flat, in_map, of_flat, of_map}
-use Rattle.launch_claims.proofs.Pairing.{taken}
 use Rattle.launch_claims.proofs.Passing.{asked_from, asked_in, clash_moved, clash_within}
+use Rattle.list_lemmas.proofs.lemmas.Contained.{flat_member, map_member, member_flat, member_map}
+use Rattle.list_lemmas.proofs.lemmas.Parts.{take_with}
 
 -- ---- claims of requirements
 
@@ -70,20 +70,20 @@ none_in_column points none = λ k d lt. absurd (none (get_or points k d) (Contai
 claim_in : {P : Type 0} (l : LaunchTasks) (u : Requirement P) (rects : List Rect) (f : ℕ) (r : Rect) → Contains u.fields.now f
     → Contains rects r → Contains (claims_by l u rects) (rows_of (claim_on l u f) r)
 claim_in l u rects f r has h =
-    in_flat (λ (field : ℕ). map (rows_of (claim_on l u field)) rects) u.fields.now f (rows_of (claim_on l u f) r) has
-    (in_map (rows_of (claim_on l u f)) rects r h)
+    flat_member (λ (field : ℕ). map (rows_of (claim_on l u field)) rects) u.fields.now f (rows_of (claim_on l u f) r) has
+    (map_member (rows_of (claim_on l u f)) rects r h)
 
 claim_of : {P : Type 0} (points : P → List ℕ) (l : LaunchTasks) (u : Requirement P) (rects : List Rect) (c : Claim)
     → AreInFirstColumn (points u.set) → AreRectsOf (points u.set) rects
     → Contains (claims_by l u rects) c → IsClaimOf points l u c
 claim_of points l u rects c column are h =
-    let f = of_flat (λ (field : ℕ). map (rows_of (claim_on l u field)) rects) u.fields.now c h in
-    let r = of_map (rows_of (claim_on l u f.0)) rects c f.2 in
+    let f = member_flat (λ (field : ℕ). map (rows_of (claim_on l u field)) rects) u.fields.now c h in
+    let r = member_map (rows_of (claim_on l u f.0)) rects c f.2 in
     record {
       field = f.0;
       rect = r.0;
       has = f.1;
-      is = r.2;
+      is = sym r.2;
       points = λ x low high. of_row (points u.set) rects r.0 x column are r.1 low high;
     }
 
@@ -126,7 +126,7 @@ claims_more {P = P} points l reqs k u rects old new lt is column are added befor
             }) has in_set
       ];
     } in
-    subst (λ (rs : List (Requirement P)). AreClaims points l rs new) (sym (taken reqs k u lt is))
+    subst (λ (rs : List (Requirement P)). AreClaims points l rs new) (sym (take_with reqs k u lt is))
     (subst (AreClaims points l (take k reqs ++ u ∷ [])) (sym added) told)
 
 pub claims_all : {P : Type 0} (points : P → List ℕ) (l : LaunchTasks) (reqs : List (Requirement P)) (k : ℕ) (claims : List Claim)

@@ -10,7 +10,7 @@ use Rattle.launch_claims.specs.Claims.{clashes, share_field}
 use Rattle.launch_claims.specs.Reaches.{IsBefore}
 use Rattle.launch_claims.specs.Blocks.{ComeBefore, IsNeedless, RowsClash, StandFor, covers}
 use Rattle.launch_claims.proofs.Clashing.{agree_same, clash_from, clash_told, one_field, share_also, share_from}
-use Rattle.launch_claims.proofs.lemmas.Members.{one_of}
+use Rattle.list_lemmas.proofs.lemmas.Contained.{Contains-cases}
 
 disagrees : (p q r : Priv) → (agree p q || not (agree p p)) ≡ true → agree q r ≡ false → agree p r ≡ false
 disagrees p q r h apart = elim (cases_Bool (agree p r)) [
@@ -62,8 +62,8 @@ needless_told kept seen x e into behind n h =
 -- one block more is seen, and kept
 pub stand_more : (kept seen : List Block) (d : Block) → StandFor kept seen → StandFor (d ∷ kept) (seen ++ d ∷ [])
 stand_more kept seen d s = record {
-  among = λ b h. elim (one_of d kept b h) [
-    | inl is ↦ subst (Contains (seen ++ d ∷ [])) is (Contains-push seen d)
+  among = λ b h. elim (Contains-cases kept h) [
+    | inl is ↦ subst (Contains (seen ++ d ∷ [])) (sym is) (Contains-push seen d)
     | inr later ↦ Contains-append_left seen (d ∷ []) b (s.among b later)
   ];
   told = λ e behind some. elim (Contains-push_cases seen d some.0 some.1) [
@@ -99,9 +99,9 @@ dropped front back seen x s idle = record {
       let r = s.told e behind some in
       elim (Contains-append_cases front (x ∷ back) r.0 r.1) [
         | inl first ↦ (r.0, Contains-append_left front back r.0 first, r.2)
-        | inr later ↦ elim (one_of x back r.0 later) [
+        | inr later ↦ elim (Contains-cases back later) [
           | inl is ↦
-              let other = idle e behind (subst (λ (b : Block). IsTrue (clashes b.claim e.claim)) (sym is) r.2) in
+              let other = idle e behind (subst (λ (b : Block). IsTrue (clashes b.claim e.claim)) is r.2) in
               (other.0, Contains-append_left front back other.0 other.1, other.2)
           | inr last ↦ (r.0, Contains-append_right front back r.0 last, r.2)
         ]

@@ -1,5 +1,5 @@
 -- Requirements of a launch, compared pair by pair.
-use Rattle.std.proofs.Common.{◌≡◌, ◌↔◌, ℕ, ◌+◌, ◌<◌, ◌≤◌, min, Bool, true, false, IsTrue, List, [], ◌∷◌, ◌++◌, ◌⊎◌, Contains, Option, Some, None, length, get_or, take, sym, ap, subst, ◌∙◌, inl, inr, arith}
+use Rattle.std.proofs.Common.{◌≡◌, ◌↔◌, ℕ, ◌+◌, ◌<◌, ◌≤◌, min, Bool, true, false, IsTrue, List, [], ◌∷◌, ◌++◌, ◌⊎◌, Contains, Option, Some, None, length, get_or, take, sym, subst, inl, inr, arith}
 use Rattle.std.specs.List.{Any}
 use Rattle.std.specs.List.Sorted.{IsPermutation}
 use Rattle.std.proofs.lemmas.Bool.{both_ways, cases_lt}
@@ -10,6 +10,7 @@ use Rattle.launch_claims.specs.declared.requirement.LaunchTasks.{LaunchTasks}
 use Rattle.launch_claims.specs.declared.requirement.Requirement.{Requirement}
 use Rattle.launch_claims.proofs.lemmas.Least.{least_same}
 use Rattle.launch_claims.specs.Interference.{Conflict, InterferesAt, InterferesIn, IsKnownAt, IsLeast, IsOfLaunch, least_with, lesser}
+use Rattle.list_lemmas.proofs.lemmas.Parts.{take_with}
 
 -- At the record of this number, one of the first requirements that it asks for is in conflict with one of all.
 abbrev pub AmongPairs : {P : Type 0} → (P → List ℕ) → LaunchTasks → List (Requirement P) → List (Requirement P) → ℕ → Type 0
@@ -33,10 +34,6 @@ least_either P Q (Some m) (Some q) h k =
 -- what the requirement of one task asks
 abbrev AsksAt : {P : Type 0} → (P → List ℕ) → LaunchTasks → Requirement P → List (Requirement P) → ℕ → Type 0
 AsksAt {P = P} points l u all n = (v : Requirement P) × Contains all v × IsKnownAt l n u v × Conflict points u v
-
--- one requirement more
-pub taken : {X : Type 0} (xs : List X) (k : ℕ) (x : X) → k < length xs → x ≡ get_or xs k x → take (k + 1) xs ≡ take k xs ++ x ∷ []
-taken {X = X} xs k x lt is = take_more xs k x lt ∙ ap (λ (y : X). take k xs ++ y ∷ []) (sym is)
 
 among_more : {P : Type 0} (points : P → List ℕ) (l : LaunchTasks) (reqs : List (Requirement P)) (k : ℕ) (u : Requirement P)
     → take (k + 1) reqs ≡ take k reqs ++ u ∷ [] → (n : ℕ)
@@ -80,7 +77,7 @@ pub pairs_found : {P : Type 0} (points : P → List ℕ) (l : LaunchTasks) (reqs
     → IsLeast (AmongPairs points l (take k reqs) reqs) o
     → IsLeast (AmongPairs points l (take (k + 1) reqs) reqs) (Some (least_with u.record o))
 pairs_found points l reqs k u o b lt is told yes_told h =
-    let more = taken reqs k u lt is in
+    let more = take_with reqs k u lt is in
     least_same (λ n. AsksAt points l u reqs n ⊎ AmongPairs points l (take k reqs) reqs n) (AmongPairs points l (take (k + 1) reqs) reqs)
     (among_more points l reqs k u more) (among_before points l reqs k u more) (Some (least_with u.record o))
     (least_either (AsksAt points l u reqs) (AmongPairs points l (take k reqs) reqs) (Some u.record) o
@@ -90,7 +87,7 @@ pub pairs_passed : {P : Type 0} (points : P → List ℕ) (l : LaunchTasks) (req
     (o : Option ℕ) (b : Bool) → k < length reqs → u ≡ get_or reqs k u → SaysWhether points l u reqs b → b ≡ false
     → IsLeast (AmongPairs points l (take k reqs) reqs) o → IsLeast (AmongPairs points l (take (k + 1) reqs) reqs) o
 pairs_passed points l reqs k u o b lt is told no_told h =
-    let more = taken reqs k u lt is in
+    let more = take_with reqs k u lt is in
     least_same (AmongPairs points l (take k reqs) reqs) (AmongPairs points l (take (k + 1) reqs) reqs)
     (λ n a. among_more points l reqs k u more n (inr a))
     (λ n a. elim (among_before points l reqs k u more n a) [

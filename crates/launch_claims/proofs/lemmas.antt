@@ -1,3 +1,2 @@
 -- Lemmas for the proofs of other crates.
 pub mod Least
-pub mod Members

@@ -33,8 +33,8 @@ task_is_item t id e =
     let found = any_found (λ (i : Item). (i.id == id) && is_task i.body) t.items e in
     any_at (λ (i : Item). i.id == id) t.items found.0 found.1 (and_parts (found.0.id == id) (is_task found.0.body) found.2).0
 
-still_placed : (log : List Record) (t : Tables) (line : ℕ) (r : Record) → ((x : _) → Contains t.reqs x → HasAuthor log t.items x)
-    → (x : _) → Contains t.reqs x → HasAuthor log (with_record t line r).items x
+still_placed : (log : List Record) (t : Tables) (line : ℕ) (r : Record) → ((x : Req) → Contains t.reqs x → HasAuthor log t.items x)
+    → (x : Req) → Contains t.reqs x → HasAuthor log (with_record t line r).items x
 still_placed log t line r h q m =
     let a = h q m in
     record {
@@ -51,8 +51,8 @@ still_placed log t line r h q m =
     }
 
 one_more : (log : List Record) (t : Tables) (line : ℕ) (r : Record) → Contains log r → Keeps t r
-    → ((x : _) → Contains t.reqs x → HasAuthor log t.items x)
-    → (x : _) → Contains (with_record t line r).reqs x → HasAuthor log (with_record t line r).items x
+    → ((x : Req) → Contains t.reqs x → HasAuthor log t.items x)
+    → (x : Req) → Contains (with_record t line r).reqs x → HasAuthor log (with_record t line r).items x
 one_more log t line (records.Req task tree space fields access atomic) m k h =
     let known = task_is_item t task (all_at (is_declared t) (names (records.Req task tree space fields access atomic))
     (task_id task) k.declared (0, omega arith, refl)) in
@@ -73,8 +73,8 @@ one_more log t line (records.Fill id tree space fields n) m k h = still_placed l
 one_more log t line _ m k h = h
 
 pub all_have_authors : (log : List Lined) → records_fault (records_of log) [] log ≡ None
-    → (x : _) → Contains (tables_of log).reqs x → HasAuthor (records_of log) (tables_of log).items x
-all_have_authors log none = by_records (Contains (records_of log)) (λ t. (x : _) → Contains t.reqs x
+    → (x : Req) → Contains (tables_of log).reqs x → HasAuthor (records_of log) (tables_of log).items x
+all_have_authors log none = by_records (Contains (records_of log)) (λ t. (x : Req) → Contains t.reqs x
     → HasAuthor (records_of log) t.items x) (records_of log)
     (λ earlier l u m. one_more (records_of log) (tables_of earlier) l.line l.rec m (keeps_of (records_of log) earlier l.rec u))
     [] log (recursion_from_All _ (records_of log) (λ k d lt. Contains-get_or (records_of log) k d lt)) none

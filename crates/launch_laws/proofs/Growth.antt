@@ -13,6 +13,7 @@ use Rattle.std.proofs.lemmas.List.Elements.{Contains-append_left}
 use Rattle.list_lemmas.proofs.lemmas.Contained.{find_any, find_still}
 use Rattle.list_lemmas.proofs.lemmas.Parts.{place_len}
 use Rattle.log_laws.proofs.lemmas.Admitted.{Unbroken, unbroken}
+use Rattle.list_lemmas.proofs.lemmas.Places.{still_at}
 
 -- ---- the tables of a log that goes on
 
@@ -46,17 +47,10 @@ item_stays i t line (records.Task id) m = Contains-append_left t.items _ i m
 item_stays i t line (records.Fill id tree space fields n) m = Contains-append_left t.items _ i m
 item_stays i t line _ m = m
 
--- An item at its position.
-got_more : {X : Type 0} (xs ys : List X) (k : ℕ) (x : X) → slice_get xs k ≡ Some x → slice_get (xs ++ ys) k ≡ Some x
-got_more [] ys zero x e = absurd cc
-got_more [] ys (suc k) x e = absurd cc
-got_more (y ∷ xs) ys zero x e = e
-got_more (y ∷ xs) ys (suc k) x e = got_more xs ys k x e
-
 pub place_stays : (k : ℕ) (i : Item) (t : Tables) (line : ℕ) (r : Record) → slice_get t.items k ≡ Some i
     → slice_get (with_record t line r).items k ≡ Some i
-place_stays k i t line (records.Task id) e = got_more t.items _ k i e
-place_stays k i t line (records.Fill id tree space fields n) e = got_more t.items _ k i e
+place_stays k i t line (records.Task id) e = still_at t.items _ k i e
+place_stays k i t line (records.Fill id tree space fields n) e = still_at t.items _ k i e
 place_stays k i t line _ e = e
 
 -- That some item has an id.

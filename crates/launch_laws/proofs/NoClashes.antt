@@ -29,7 +29,7 @@ writes_on e (r ∷ rs) = let later = writes_on (with_launching e r) rs in
     (writes e r ++ later.0, later.1 ∙ append_assoc e.written (writes e r) later.0)
 
 for_tasks_each : (P : Record → Type 0) (make : ℕ → ℕ → Record) → ((id colour : ℕ) → P (make id colour)) → (id : ℕ) (colours : List ℕ)
-    → (x : _) → Contains (for_tasks make id colours) x → P x
+    → (x : Record) → Contains (for_tasks make id colours) x → P x
 for_tasks_each P make each id [] x m = absurd (Contains-nil m)
 for_tasks_each P make each id (colour ∷ colours) x m = elim (Contains-cases (for_tasks make (id + 1) colours) m) [
   | inl is ↦ subst P (sym is) (each id colour)
@@ -40,13 +40,13 @@ for_tasks_each P make each id (colour ∷ colours) x m = elim (Contains-cases (f
 abbrev IsQuiet : Record → Type 0
 IsQuiet r = (t : Tables) (line : ℕ) → (with_record t line r).spaces ≡ t.spaces
 
-quiet_so : (ys : List Record) → ((x : _) → Contains ys x → IsQuiet x) → (t : Tables) (line : ℕ)
+quiet_so : (ys : List Record) → ((x : Record) → Contains ys x → IsQuiet x) → (t : Tables) (line : ℕ)
     → (fold with_line t (lined_from line ys)).spaces ≡ t.spaces
 quiet_so [] quiet t line = refl
 quiet_so (y ∷ ys) quiet t line = quiet_so ys (λ x m. quiet x (Contains-later ys m)) (with_record t line y) (line + 1)
     ∙ quiet y (Contains-here ys) t line
 
-spaces_same : (xs ys : List Record) → ((x : _) → Contains ys x → IsQuiet x)
+spaces_same : (xs ys : List Record) → ((x : Record) → Contains ys x → IsQuiet x)
     → (tables_of (lined (xs ++ ys))).spaces ≡ (tables_of (lined xs)).spaces
 spaces_same xs ys quiet = ap (λ (t : Tables). t.spaces) (tables_more xs ys) ∙ quiet_so ys quiet (tables_of (lined xs)) (1 + length xs)
 
@@ -55,9 +55,9 @@ record IsCut (written : List Record) (z : Record) : Type 0 where
   front : List Record
   back : List Record
   is : written ≡ front ++ z ∷ back
-  quiet : (x : _) → Contains front x → IsQuiet x
+  quiet : (x : Record) → Contains front x → IsQuiet x
 
-cut_quiet : (written : List Record) (z : Record) → ((x : _) → Contains written x → IsQuiet x) → Contains written z → IsCut written z
+cut_quiet : (written : List Record) (z : Record) → ((x : Record) → Contains written x → IsQuiet x) → Contains written z → IsCut written z
 cut_quiet written z quiet m =
     let cut = split_at written z m in
     record {

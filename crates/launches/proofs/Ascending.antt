@@ -1,7 +1,7 @@
 -- The rectangles of a record with a spelling, in order.
-use Rattle.std.proofs.Common.{◌≡◌, ℕ, List, map, sym, ◌∙◌, subst}
+use Rattle.std.proofs.Common.{◌≡◌, ℕ, List, map, sym, subst}
 use Rattle.point_set.specs.Rects.{AreRects}
-use Rattle.vocabulary.specs.Prelude.{Good, Quad, Rect, Record, rect_of, strip}
+use Rattle.vocabulary.specs.Prelude.{Good, Quad, Record, rect_of, strip}
 use Rattle.spy_grammar.specs.declared.record.Record.TheVariants as records
 use Rattle.semantics.proofs.lemmas.InOrder.{rects_in_order, strips_in_order}
 

@@ -4,12 +4,11 @@ use Rattle.std.specs.List.{list_any, zip}
 use Rattle.std.proofs.lemmas.Bool.{le-ltb, lt-ltb}
 use Rattle.std.proofs.lemmas.List.{get_or_default}
 use Rattle.std.proofs.lemmas.List.Elements.{Contains-append_cases, Contains-append_left, Contains-append_right, filter-append}
-use Rattle.std.proofs.lemmas.List.Folds.{Any-from_list_any, list_any-from_Any}
 use Rattle.std.proofs.lemmas.Slice.Zip.{length-zip, get_or-zip, seconds-zip}
-use Rattle.launch_claims.proofs.lemmas.Members.{in_map, of_map}
 use Rattle.vocabulary.specs.Prelude.{LRecord, Record, lined, tables_of}
 use Rattle.semantics.specs.Launches.{TaskLaunch, Expanded, clash, declared_by, interferes_in_launch, writes}
 use Rattle.launches.specs.Interfering.{BreaksAt, written_before}
+use Rattle.list_lemmas.proofs.lemmas.Contained.{any_at, any_found, map_member, member_map}
 
 -- ---- lists with a line beside each element
 
@@ -70,12 +69,12 @@ pub old_or_new : {X : Type 0} (t : ℕ) (xs : List (ℕ × X)) (ys : List X) (x 
 old_or_new {X = X} t xs ys x h = elim (Contains-append_cases xs (on_line t ys) x h) [
   | inl old ↦ inl old
   | inr new ↦
-      let r = of_map (λ (y : X). (t, y)) ys x new in
-      inr (sym (ap (λ (p : ℕ × X). p.0) r.2), subst (λ (y : X). Contains ys y) (ap (λ (p : ℕ × X). p.1) r.2) r.1)
+      let r = member_map (λ (y : X). (t, y)) ys x new in
+      inr (ap (λ (p : ℕ × X). p.0) r.2, subst (λ (y : X). Contains ys y) (sym (ap (λ (p : ℕ × X). p.1) r.2)) r.1)
 ]
 
 new_in : {X : Type 0} (t : ℕ) (xs : List (ℕ × X)) (ys : List X) (y : X) → Contains ys y → Contains (xs ++ on_line t ys) (t, y)
-new_in {X = X} t xs ys y h = Contains-append_right xs (on_line t ys) (t, y) (in_map (λ (y : X). (t, y)) ys y h)
+new_in {X = X} t xs ys y h = Contains-append_right xs (on_line t ys) (t, y) (map_member (λ (y : X). (t, y)) ys y h)
 
 none_new : (n t : ℕ) (rs : List Record) → n ≤ t → filter (λ (w : ℕ × Record). nat_lt w.0 n) (on_line t rs) ≡ []
 none_new n t [] le = refl
@@ -132,12 +131,6 @@ breaks_earlier ls ws nl nr t n lt b =
           (before_same n t ws nr (omega arith)) b.clash;
     }
 
-pub any_of : {X : Type 0} (p : X → Bool) (xs : List X) → list_any p xs ≡ true → (x : X) × Contains xs x × (p x ≡ true)
-any_of p xs h = let r = Any-from_list_any p xs h in (r.1, (r.0, r.2, r.3), r.4)
-
-pub any_from : {X : Type 0} (p : X → Bool) (xs : List X) (x : X) → Contains xs x → p x ≡ true → list_any p xs ≡ true
-any_from p xs x h e = list_any-from_Any p xs (h.0, x, h.1, h.2, e)
-
 -- what is launched and written so far, with the lines beside it
 pub record Beside (e : Expanded) (ns ms : List ℕ) : Type 0 where
   pub launched : length ns ≡ length e.launches
@@ -173,9 +166,9 @@ interferes_now e r ns ms nl t beside before b =
     ] in
     let told = subst (λ (rs : List Record). IsTrue (clash (tables_of (lined rs)) b.launch.1 b.own.1 b.other.1))
     (written_until e ns ms nr t beside before) b.clash in
-    any_from (λ (x : TaskLaunch). list_any (λ q. list_any (clash d x q) all) nr) e.launches b.launch.1 l
-    (any_from (λ q. list_any (clash d b.launch.1 q) all) nr b.own.1 own
-    (any_from (clash d b.launch.1 b.own.1) all b.other.1 other told))
+    any_at (λ (x : TaskLaunch). list_any (λ q. list_any (clash d x q) all) nr) e.launches b.launch.1 l
+    (any_at (λ q. list_any (clash d b.launch.1 q) all) nr b.own.1 own
+    (any_at (clash d b.launch.1 b.own.1) all b.other.1 other told))
 
 pub breaks_now : (e : Expanded) (r : LRecord) (ns ms : List ℕ) (nl : List TaskLaunch) (t : ℕ) → Beside e ns ms
     → IsEarlier t (zip ns e.launches) → IsEarlier t (zip ms e.written)
@@ -186,9 +179,9 @@ breaks_now e r ns ms nl t beside earlier before h =
     let nr = writes e r in
     let all = e.written ++ nr in
     let d = declared_by e in
-    let l = any_of (λ (x : TaskLaunch). list_any (λ q. list_any (clash d x q) all) nr) e.launches h in
-    let q = any_of (λ q. list_any (clash d l.0 q) all) nr l.2 in
-    let w = any_of (clash d l.0 q.0) all q.2 in
+    let l = any_found (λ (x : TaskLaunch). list_any (λ q. list_any (clash d x q) all) nr) e.launches h in
+    let q = any_found (λ q. list_any (clash d l.0 q) all) nr l.2 in
+    let w = any_found (clash d l.0 q.0) all q.2 in
     let launched = zip_has ns e.launches l.0 beside.launched l.1 in
     let other : (n : ℕ) × Contains (ws ++ on_line t nr) (n, w.0) × (n ≤ t) = elim (Contains-append_cases e.written nr w.0 w.1) [
       | inl old ↦

@@ -1,5 +1,5 @@
 -- Interference among requirements is what breaks the rule.
-use Rattle.std.proofs.Common.{◌≡◌, ◌≢◌, ℕ, ◌+◌, ◌<◌, ◌≤◌, ◌==◌, nat_lt, true, false, not, ◌&&◌, List, [], ◌∷◌, ◌++◌, Contains, find, fold, length, map, Option, Some, None, option_map, refl, sym, ap, subst, ◌∙◌, inl, inr, arith, append_assoc, append-nil, ◌⊎◌, if◌then◌else◌}
+use Rattle.std.proofs.Common.{◌≡◌, ◌≢◌, ℕ, ◌+◌, ◌<◌, ◌≤◌, ◌==◌, nat_lt, true, false, not, ◌&&◌, List, [], ◌∷◌, ◌++◌, Contains, find, fold, length, map, Option, Some, None, option_map, refl, sym, ap, subst, ◌∙◌, inl, inr, arith, append_assoc, append-nil, if◌then◌else◌}
 use Rattle.std.specs.List.{cons_option, filter_map}
 use Rattle.std.specs.Option.{option_map_or}
 use Rattle.std.proofs.lemmas.Bool.{and_from, and_parts, cases_Bool, eq-eqb, eqb-false, eqb-true, false≢true, le-ltb, lt-ltb, ltb-false, ltb-true, ne_eqb, not-true, not_from_false}
@@ -10,7 +10,6 @@ use Rattle.log_tables.proofs.lemmas.Members.{has_in, in_has}
 use Rattle.launch_claims.specs.declared.requirement.LaunchTasks.{LaunchTasks}
 use Rattle.launch_claims.specs.declared.requirement.Requirement.{Requirement}
 use Rattle.launch_claims.specs.Interference.{Conflict, InterferesAt, IsKnownAt, IsLeast, IsTaskOf, ShareNumber}
-use Rattle.launch_claims.proofs.lemmas.Members.{in_map, of_map, one_of}
 use Rattle.launch_claims.proofs.lemmas.Least.{least_same}
 use Rattle.vocabulary.specs.Prelude.{Priv, Coherence, agree, both_atomic, kind_of, is_free, PrivWord, Record, Lined, Tables, Space, meets, is_in, lined, lined_from, no_tables, points_in, points_of, plane_points, tables_of, with_record, privilege_of, coherence_of}
 use Rattle.spy_grammar.specs.declared.record.Record.TheVariants as records
@@ -18,39 +17,7 @@ use Rattle.semantics.specs.Launches.{TaskLaunch, clash, is_launched}
 use Rattle.launches.specs.Interfering.{BreaksAt, written_before}
 use Rattle.launches.specs.Uses.{DeclaredSpace, Use, asked_by, space_by_record, tasks_by, use_seen}
 use Rattle.launches.specs.Walks.{AreInOrder}
-use Rattle.launches.proofs.Breaking.{any_from, any_of}
-
--- ---- members of a filtered list
-
-behind : {Y : Type 0} (o : Option Y) (ys : List Y) (y : Y) → Contains ys y → Contains (cons_option o ys) y
-behind None ys y h = h
-behind (Some z) ys y h = Contains-append_right (z ∷ []) ys y h
-
-some_same : {Y : Type 0} (z y : Y) → Some z ≡ Some y → z ≡ y
-some_same z y e = cc
-
-ahead : {Y : Type 0} (o : Option Y) (ys : List Y) (y : Y) → o ≡ Some y → Contains (cons_option o ys) y
-ahead None ys y e = absurd (none-some y e)
-ahead (Some z) ys y e = (0, omega arith, some_same z y e)
-
-either : {Y : Type 0} (o : Option Y) (ys : List Y) (y : Y) → Contains (cons_option o ys) y → (o ≡ Some y) ⊎ Contains ys y
-either None ys y h = inr h
-either {Y = Y} (Some z) ys y h = elim (one_of z ys y h) [ inl is ↦ inl (ap (λ (x : Y). Some x) is) | inr later ↦ inr later ]
-
-in_filtered : {X Y : Type 0} (h : X → Option Y) (xs : List X) (x : X) (y : Y) → Contains xs x → h x ≡ Some y → Contains (filter_map h xs) y
-in_filtered h [] x y has is = absurd (let lt = has.1 in omega (arith, lt))
-in_filtered {Y = Y} h (z ∷ xs) x y has is = elim (one_of z xs x has) [
-  | inl same ↦ ahead (h z) (filter_map h xs) y (ap h same ∙ is)
-  | inr later ↦ behind (h z) (filter_map h xs) y (in_filtered h xs x y later is)
-]
-
-of_filtered : {X Y : Type 0} (h : X → Option Y) (xs : List X) (y : Y) → Contains (filter_map h xs) y → (x : X) × Contains xs x
-    × (h x ≡ Some y)
-of_filtered h [] y has = absurd (let lt = has.1 in omega (arith, lt))
-of_filtered h (z ∷ xs) y has = elim (either (h z) (filter_map h xs) y has) [
-  | inl is ↦ (z, (0, omega arith, refl), is)
-  | inr later ↦ let r = of_filtered h xs y later in (r.0, Contains-append_right (z ∷ []) xs r.0 r.1, r.2)
-]
+use Rattle.list_lemmas.proofs.lemmas.Contained.{member_filter_map, filter_map_member, map_member, member_map, any_at, any_found}
 
 -- ---- the points that a space has at a line
 
@@ -144,10 +111,10 @@ known_from : (n : ℕ) (o : Option DeclaredSpace) (d : DeclaredSpace) (x : ℕ) 
 known_from n o d x is lt h = subst (λ (p : Option DeclaredSpace). Contains (points_known n p) x) (sym is) (rw (lt-ltb d.line n lt) h)
 
 meets_of : (xs ys : List ℕ) → meets xs ys ≡ true → ShareNumber xs ys
-meets_of xs ys h = let r = any_of (is_in ys) xs h in (r.0, r.1, has_in ys r.0 r.2)
+meets_of xs ys h = let r = any_found (is_in ys) xs h in (r.0, r.1, has_in ys r.0 r.2)
 
 meets_from : (xs ys : List ℕ) → ShareNumber xs ys → meets xs ys ≡ true
-meets_from xs ys h = any_from (is_in ys) xs h.0 h.1 (in_has ys h.0 h.2)
+meets_from xs ys h = any_at (is_in ys) xs h.0 h.1 (in_has ys h.0 h.2)
 
 -- ---- when two requirements clash
 
@@ -270,14 +237,14 @@ breaks_from : {P : Type 0} (points : P → List ℕ) (ls : List (ℕ × TaskLaun
     → InterferesAt points (map tasks_by ls) reqs n → BreaksAt ls ws n
 breaks_from points ls ws reqs n order are h =
     let ds = filter_map space_by_record ws in
-    let l = of_map tasks_by ls h.0 h.1 in
+    let l = member_map tasks_by ls h.0 h.1 in
     let u = h.2.0 in
     let v = h.2.1 in
-    let own = of_filtered (asked_by ds) ws (use_seen points u)
-    (subst (λ (xs : List Use). Contains xs (use_seen points u)) are (in_map (use_seen points) reqs u h.2.2.0)) in
-    let other = of_filtered (asked_by ds) ws (use_seen points v)
-    (subst (λ (xs : List Use). Contains xs (use_seen points v)) are (in_map (use_seen points) reqs v h.2.3.0)) in
-    let known : IsKnownAt (tasks_by l.0) n u v = subst (λ (x : LaunchTasks). IsKnownAt x n u v) (sym l.2) h.2.4 in
+    let own = member_filter_map (asked_by ds) ws (use_seen points u)
+    (subst (λ (xs : List Use). Contains xs (use_seen points u)) are (map_member (use_seen points) reqs u h.2.2.0)) in
+    let other = member_filter_map (asked_by ds) ws (use_seen points v)
+    (subst (λ (xs : List Use). Contains xs (use_seen points v)) are (map_member (use_seen points) reqs v h.2.3.0)) in
+    let known : IsKnownAt (tasks_by l.0) n u v = subst (λ (x : LaunchTasks). IsKnownAt x n u v) l.2 h.2.4 in
     let conflict = h.2.5 in
     let here = asked_line ds own.0 (use_seen points u) own.2 in
     let there = asked_line ds other.0 (use_seen points v) other.2 in
@@ -297,8 +264,8 @@ breaks_from points ls ws reqs n order are h =
           (use_seen points u) (use_seen points v) own.2 other.2 (record {
             declared = known.declared;
             also = known.others_declared;
-            ours = subst (λ (x : LaunchTasks). IsTaskOf x u.task) (sym l.2) h.2.2.1;
-            theirs = subst (λ (x : LaunchTasks). IsTaskOf x v.task) (sym l.2) h.2.3.1;
+            ours = subst (λ (x : LaunchTasks). IsTaskOf x u.task) l.2 h.2.2.1;
+            theirs = subst (λ (x : LaunchTasks). IsTaskOf x v.task) l.2 h.2.3.1;
             tasks = conflict.tasks;
             tree = conflict.tree;
             fields = conflict.fields;
@@ -314,14 +281,14 @@ breaks_to : {P : Type 0} (points : P → List ℕ) (ls : List (ℕ × TaskLaunch
 breaks_to points ls ws reqs n order are b =
     let ds = filter_map space_by_record ws in
     let r = clash_shared n ds (tables_of (lined (written_before n ws))) b.launch (λ id. points_at n id ws order) b.own b.other b.clash in
-    let u = of_map (use_seen points) reqs r.0 (subst (λ (xs : List Use). Contains xs r.0) (sym are)
-    (in_filtered (asked_by ds) ws b.own r.0 b.writes r.2)) in
-    let v = of_map (use_seen points) reqs r.1 (subst (λ (xs : List Use). Contains xs r.1) (sym are)
-    (in_filtered (asked_by ds) ws b.other r.1 b.has r.3)) in
+    let u = member_map (use_seen points) reqs r.0 (subst (λ (xs : List Use). Contains xs r.0) (sym are)
+    (filter_map_member (asked_by ds) ws b.own r.0 b.writes r.2)) in
+    let v = member_map (use_seen points) reqs r.1 (subst (λ (xs : List Use). Contains xs r.1) (sym are)
+    (filter_map_member (asked_by ds) ws b.other r.1 b.has r.3)) in
     let s : Shared n b.launch (use_seen points u.0) (use_seen points v.0) =
-    subst (λ (z : Use). Shared n b.launch z (use_seen points v.0)) (sym u.2) (subst (λ (z : Use). Shared n b.launch r.0 z) (sym v.2) r.4) in
-    let here : u.0.record ≡ b.own.0 = ap (λ (z : Use). z.line) u.2 ∙ asked_line ds b.own r.0 r.2 in
-    let there : v.0.record ≡ b.other.0 = ap (λ (z : Use). z.line) v.2 ∙ asked_line ds b.other r.1 r.3 in
+    subst (λ (z : Use). Shared n b.launch z (use_seen points v.0)) u.2 (subst (λ (z : Use). Shared n b.launch r.0 z) v.2 r.4) in
+    let here : u.0.record ≡ b.own.0 = ap (λ (z : Use). z.line) (sym u.2) ∙ asked_line ds b.own r.0 r.2 in
+    let there : v.0.record ≡ b.other.0 = ap (λ (z : Use). z.line) (sym v.2) ∙ asked_line ds b.other r.1 r.3 in
     let at = b.at in
     let until = b.until in
     let known : IsKnownAt (tasks_by b.launch) n u.0 v.0 = record {
@@ -339,7 +306,7 @@ breaks_to points ls ws reqs n order are b =
       accesses =
           s.accesses;
     } in
-    (tasks_by b.launch, in_map tasks_by ls b.launch b.launched, (u.0, v.0, (u.1, s.ours), (v.1, s.theirs), known, conflict))
+    (tasks_by b.launch, map_member tasks_by ls b.launch b.launched, (u.0, v.0, (u.1, s.ours), (v.1, s.theirs), known, conflict))
 
 -- The first interference among requirements is the first that breaks the rule.
 pub first_broken : {P : Type 0} (points : P → List ℕ) (ls : List (ℕ × TaskLaunch)) (ws : List (ℕ × Record)) (tasks : List LaunchTasks)

@@ -14,12 +14,12 @@ use Rattle.semantics.specs.Faults.{at_line}
 use Rattle.semantics.specs.Launches.{Expanded, TaskLaunch, breaks_launch, interferes_in_launch, launch_records, launch_rules, launches_by, launches_fault, not_expanded, with_launching, writes, written_log}
 use Rattle.launch_claims.specs.Interference.{IsLeast}
 use Rattle.std.proofs.lemmas.Option.{none-some}
-use Rattle.launch_claims.proofs.lemmas.Members.{of_map, one_of}
 use Rattle.launches.specs.Interfering.{BreaksAt, first_fault}
 use Rattle.launches.specs.declared.launched.Launched.{Launched}
 use Rattle.launches.specs.Steps.{IsKept, expanded_as, single_broken, single_rules}
 use Rattle.launches.specs.Walks.{AreInOrder, HasWalked}
 use Rattle.launches.proofs.Breaking.{Beside, IsEarlier, old_or_new, on_line, zip_more, zip_parts, zip_shorter, breaks_earlier, breaks_later, breaks_now, interferes_now}
+use Rattle.list_lemmas.proofs.lemmas.Contained.{member_map, Contains-cases}
 
 -- ---- the rules on one record
 
@@ -157,7 +157,7 @@ in_replicate k t n h =
 order_line : (t : ℕ) (rs : List Record) → AreInOrder (on_line t rs)
 order_line t [] = tt
 order_line t (r ∷ rs) = (
-  λ v h. let made = of_map (λ (x : Record). (t, x)) rs v h in let is = ap (λ (p : ℕ × Record). p.0) made.2 in
+  λ v h. let made = member_map (λ (x : Record). (t, x)) rs v h in let is = ap (λ (p : ℕ × Record). p.0) made.2 in
       omega (arith, is),
   order_line t rs,
 )
@@ -287,7 +287,7 @@ later_lines : (n : ℕ) (log : List LLined) → IsStrictlyIncreasing (n ∷ line
 later_lines n [] up x h = absurd (let lt = h.1 in omega (arith, lt))
 later_lines n (l ∷ rest) up x h =
     let first : n < l.line = up 0 (omega (arith, length-map rest (λ (l : LLined). l.line))) in
-    elim (one_of l rest x h) [
+    elim (Contains-cases rest h) [
       | inl is ↦ let same = ap (λ (y : LLined). y.line) is in omega (arith, first, same)
       | inr later ↦
           let lt = later_lines l.line rest (rest_up n (lines_of (l ∷ rest)) up) x later in

@@ -10,6 +10,6 @@ mod claim;
 mod free;
 mod refusal;
 
-pub use claim::{NumberedReq, Claim};
+pub use claim::{Claim, NumberedReq};
 pub use free::are_free;
 pub use refusal::{first_refused, refused};

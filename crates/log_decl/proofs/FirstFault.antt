@@ -14,10 +14,7 @@ use Rattle.semantics.specs.Rules as rules
 use Rattle.semantics.proofs.lemmas.RecordRules.{none_passes}
 use Rattle.log_rules.specs.Counts.{access_total}
 use Rattle.log_decl.specs.Walk.{is_of_forest, breaks_other, other_broken, space_broken, spaces_fault, Keep, IsWithin}
-
-or_or : {X : Type 0} (o p q : Option X) → option_or (option_or o p) q ≡ option_or o (option_or p q)
-or_or None p q = refl
-or_or (Some x) p q = refl
+use Rattle.list_lemmas.proofs.lemmas.Firsts.{or_assoc}
 
 none_is : {X : Type 0} (o : Option X) → is_none o ≡ true → o ≡ None
 none_is None e = refl
@@ -108,7 +105,7 @@ walk_told log earlier (l ∷ kept) rest keep =
     ∙ ap (λ o. option_or o (space_broken (tables_of earlier) l.rec)) keep.0 in
     ap (λ o. option_or (at o) (records_fault log (earlier ++ l ∷ []) (kept ++ rest))) here
     ∙ ap (option_or (at (space_broken (tables_of earlier) l.rec))) (walk_told log (earlier ++ l ∷ []) kept rest keep.1)
-    ∙ sym (or_or (at (space_broken (tables_of earlier) l.rec)) (spaces_fault (earlier ++ l ∷ []) kept)
+    ∙ sym (or_assoc (at (space_broken (tables_of earlier) l.rec)) (spaces_fault (earlier ++ l ∷ []) kept)
     (records_fault log ((earlier ++ l ∷ []) ++ kept) rest))
     ∙ ap (λ (ls : List Lined). option_or (option_or (at (space_broken (tables_of earlier) l.rec)) (spaces_fault (earlier ++ l ∷ []) kept))
     (records_fault log ls rest)) (append_assoc earlier (l ∷ []) kept)

@@ -17,7 +17,7 @@ use Rattle.semantics.proofs.lemmas.RecordRules.{none_passes}
 use Rattle.log_decl.specs.Walk.{breaks_other, other_broken}
 use Rattle.log_decl.proofs.Depth.{depth_told}
 use Rattle.region_tree.proofs.lemmas.Growth.{grown_space, grown_part, grown_sub}
-use Rattle.log_decl.proofs.SubFaults.{found_any}
+use Rattle.list_lemmas.proofs.lemmas.Contained.{find_any}
 
 -- Facts from tests.
 none_like : {X : Type 0} (P : X → Type 0) (p : X → Bool) (xs : List X) → ((x : X) → P x → p x ≡ true) → list_any p xs ≡ false
@@ -29,12 +29,12 @@ none_like P p (x ∷ xs) tells e = let both = or_parts (p x) (list_any p xs) e i
 -- What is declared is found.
 known_space : (t : Tables) (id : ℕ) → list_any (λ (s : Space). s.id == id) t.spaces ≡ true → IsSome (space_of (regions_of t) id)
 known_space t id has =
-    let h = found_any (λ (s : Space). s.id == id) t.spaces has in
+    let h = find_any (λ (s : Space). s.id == id) t.spaces has in
     subst IsSome (sym h.1) refl
 
 known_part : (t : Tables) (id : ℕ) → list_any (λ (p : parts.Part). p.id == id) t.parts ≡ true → IsSome (part_of (regions_of t) id)
 known_part t id has =
-    let h = found_any (λ (p : parts.Part). p.id == id) t.parts has in
+    let h = find_any (λ (p : parts.Part). p.id == id) t.parts has in
     subst IsSome (sym h.1) refl
 
 -- The rules before those of the forest, as facts.

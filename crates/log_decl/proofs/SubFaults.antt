@@ -17,6 +17,7 @@ use Rattle.vocabulary.specs.Prelude.{Tables, Space, points_in, part_at, meets}
 use Rattle.semantics.specs.Rules.{is_outside, is_not_disjoint}
 use Rattle.log_decl.proofs.Growing.{Extends, points_kept, part_kept}
 use Rattle.log_decl.proofs.Members.{Decides-outside, Decides-meets, passing}
+use Rattle.list_lemmas.proofs.lemmas.Contained.{find_any}
 
 -- Elements by place.
 at_left : {X : Type 0} (xs ys : List X) (i : ℕ) → i < length xs → slice_get (xs ++ ys) i ≡ slice_get xs i
@@ -27,14 +28,6 @@ at_left (x ∷ xs) ys (suc i) lt = at_left xs ys i (omega arith)
 any_found : {X : Type 0} (p : X → Bool) (xs : List X) → IsSome (find p xs) → list_any p xs ≡ true
 any_found p [] h = absurd (false≢true h)
 any_found p (x ∷ xs) h = elim (cases_Bool (p x)) [ inl hit ↦ rw hit refl | inr miss ↦ rw miss (any_found p xs (rw miss at h)) ]
-
-pub found_any : {X : Type 0} (p : X → Bool) (xs : List X) → list_any p xs ≡ true → (x : X) × (find p xs ≡ Some x)
-found_any p [] h = absurd (false≢true h)
-found_any p (x ∷ xs) h = elim (cases_Bool (p x)) [
-  | inl hit ↦ (x, rw hit refl)
-  | inr miss ↦ let r = found_any p xs (rw miss at h) in
-      (r.0, rw miss r.1)
-]
 
 pub declared_is : (t : Tables) (id : ℕ) → IsSome (space_of (regions_of t) id) → list_any (λ (s : Space). s.id == id) t.spaces ≡ true
 declared_is t id h = any_found (λ (s : Space). s.id == id) t.spaces h
@@ -55,7 +48,7 @@ points_then t u s next id has = points_kept t u next.extends id has
 whole_then : (t u : Tables) (s : subs.Sub) (next : IsNext t u s)
     → points_cut (regions_of u) s.part ≡ option_map_or (λ (p : parts.Part). points_in t p.space) (part_at t s.part) []
 whole_then t u s next =
-    let found = found_any (λ (p : parts.Part). p.id == s.part) t.parts next.has_part in
+    let found = find_any (λ (p : parts.Part). p.id == s.part) t.parts next.has_part in
     let here = find_some (λ (p : parts.Part). p.id == s.part) t.parts found.0 found.1 in
     let declared = declared_is t (found.0).space
     (all_at (λ (p : parts.Part). IsSome (space_of (regions_of t) p.space)) t.parts here.0 found.0 next.forest.wholes_declared here.1) in

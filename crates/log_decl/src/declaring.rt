@@ -36,7 +36,14 @@ fn walked<'a, P: ArenaRects<'a>>(
 {
     let whole = WholeLog::new(alloc, records)?;
     let grid = whole_grid(alloc, records)?;
-    walk(tables, Tally::new(alloc, grid), alloc, bump, &whole, records)
+    walk(
+        tables,
+        Tally::new(alloc, grid),
+        alloc,
+        bump,
+        &whole,
+        records,
+    )
 }
 
 /// Adds the records of a log to tables in which nothing is declared, and judges their forest; or the fault of the first that breaks a rule.

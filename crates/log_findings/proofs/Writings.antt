@@ -1,5 +1,5 @@
 -- The dependences of a log, written one after another.
-use Rattle.std.proofs.Common.{◌≡◌, ℕ, ◌+◌, ◌-◌, ◌<◌, ◌≤◌, ◌^◌, Bool, true, false, List, [], ◌∷◌, ◌++◌, length, map, filter, refl, sym, ap, ◌∙◌, subst, arith, Option, append_assoc, append-nil, if◌then◌else◌}
+use Rattle.std.proofs.Common.{◌≡◌, ℕ, ◌+◌, ◌-◌, ◌<◌, ◌^◌, Bool, true, false, List, [], ◌∷◌, ◌++◌, length, map, filter, refl, sym, ap, ◌∙◌, subst, arith, Option, append_assoc, append-nil, if◌then◌else◌}
 use Rattle.std.specs.Prelude.{Result, Ok, Err, OnErr, None, not}
 use Rattle.std.specs.Option.{option_or}
 use Rattle.std.proofs.lemmas.List.{map-append, length-map, length-append, length_push}
@@ -8,7 +8,7 @@ use Rattle.std.proofs.lemmas.List.Filters.{length-filter_both}
 use Rattle.std.specs.Io.KnownBytes.{Appends}
 use Rattle.spy_io.specs.Causes.{Grows}
 use Rattle.buffered_writes.specs.Sending.{IsSent}
-use Rattle.buffered_writes.proofs.lemmas.Sent.{all_kept, part_longer, part_more, sent_all, sent_more, part_kept}
+use Rattle.buffered_writes.proofs.lemmas.Sent.{all_kept, part_longer, part_more, sent_all, sent_more}
 use Rattle.vocabulary.specs.Prelude.{Tables}
 use Rattle.findings.specs.declared.finding.Dep.{Dep}
 use Rattle.findings.specs.declared.finding.Finding.TheVariants as findings
@@ -18,7 +18,6 @@ use Rattle.semantics.specs.Faults.{serial_fault, map_fault}
 use Rattle.interference.specs.declared.pair.Pair.{Pair}
 use Rattle.interference.specs.Pairing.{all_pairs}
 use Rattle.interference.proofs.lemmas.Turning.{pair_place}
-use Rattle.interference.proofs.lemmas.Counting.{few_in_all}
 use Rattle.outcomes.specs.Outcome.{before_count, dependences}
 use Rattle.log_findings.specs.Findings.{deps_shown, IsFoundOf}
 use Rattle.log_findings.specs.Listing.{dependence_of}

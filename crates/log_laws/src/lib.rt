@@ -17,6 +17,6 @@ pub use order_laws::{replay_order_lists, stuck_nodes_have_cycles};
 pub use read_laws::{one_log, printed_logs_are_read, read_logs_are_good};
 pub use serial_laws::{item_ids_are_apart, items_are_listed, serial_order_lists};
 pub use step_laws::{
-    faultless_logs_are_linked, faultless_nodes_conflict_by_reads, faultless_logs_have_one_answer,
+    faultless_logs_are_linked, faultless_logs_have_one_answer, faultless_nodes_conflict_by_reads,
     neighbours_may_change_places, replay_is_an_interleaving, steps_are_listed_once,
 };

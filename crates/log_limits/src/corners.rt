@@ -11,7 +11,7 @@ ghost use Rattle.log_limits.specs.Corners.{corner_total, corners_of, space_corne
 use arena_sets::SetOfRects;
 use cell_counts::{corner_count, corner_points};
 use grid::Grid;
-use log_tables::{LogTables, Keyed, Rows, Space};
+use log_tables::{Keyed, LogTables, Rows, Space};
 use memory::Memory;
 use point_set::PointSet;
 use std::alloc::Global;

@@ -147,7 +147,13 @@ pub fn is_of_wrong_kind<P: PointSet>(tables: &LogTables<P>, rec: &Record) -> boo
 }
 
 /// Whether an instance lacks a point of a space, or one of these fields.
-fn lacks<P: PointSet>(tables: &LogTables<P>, tally: &Tally, space: u32, fields: &Nums, id: u32) -> bool
+fn lacks<P: PointSet>(
+    tables: &LogTables<P>,
+    tally: &Tally,
+    space: u32,
+    fields: &Nums,
+    id: u32,
+) -> bool
     ensures { IfKept tables.now tally.now
         (result ≡ lacks tables.now (points_in tables.now space) fields.now id) }
 {
@@ -236,7 +242,12 @@ fn is_mapped<P: PointSet>(tables: &LogTables<P>, item: usize, number: u32, field
 }
 
 /// Whether one of some fields of an item's requirement is mapped, field by field.
-fn finds_mapped<P: PointSet>(tables: &LogTables<P>, item: usize, number: u32, fields: &[u32]) -> bool
+fn finds_mapped<P: PointSet>(
+    tables: &LogTables<P>,
+    item: usize,
+    number: u32,
+    fields: &[u32],
+) -> bool
     ensures { result ≡ list_any (is_mapped tables.now item number) fields.now }
 {
     fields
@@ -245,7 +256,12 @@ fn finds_mapped<P: PointSet>(tables: &LogTables<P>, item: usize, number: u32, fi
 }
 
 /// Whether one of some fields of an item's requirement is mapped.
-fn is_any_mapped<P: PointSet>(tables: &LogTables<P>, item: usize, number: u32, fields: &Nums) -> bool
+fn is_any_mapped<P: PointSet>(
+    tables: &LogTables<P>,
+    item: usize,
+    number: u32,
+    fields: &Nums,
+) -> bool
     ensures { result ≡ is_any_mapped tables.now item number fields.now }
 {
     finds_mapped(tables, item, number, fields.as_slice())

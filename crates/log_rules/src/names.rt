@@ -82,7 +82,9 @@ fn knows_names<P: PointSet>(tables: &LogTables<P>, rec: &Record) -> bool
             space,
             kind,
             ..
-        } => { tables.has_tree(*tree) && tables.has_space(*space) && has_operator_held(tables, *kind) }
+        } => {
+            tables.has_tree(*tree) && tables.has_space(*space) && has_operator_held(tables, *kind)
+        }
         Record::Map { task, inst, .. } => tables.has_task(*task) && tables.has_inst(*inst),
         Record::Run { task, .. } => tables.has_task(*task),
         Record::Copy {

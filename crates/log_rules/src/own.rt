@@ -24,7 +24,12 @@ use spy_grammar::Record;
 use std::alloc::Global;
 
 /// Whether a requirement is of the item, and shares a place with what is asked for, where the two privileges do not agree.
-fn clashes_with<P: PointSet>(tables: &LogTables<P>, tally: &Tally, req: &Req, asked: &ItemReq<'_>) -> bool
+fn clashes_with<P: PointSet>(
+    tables: &LogTables<P>,
+    tally: &Tally,
+    req: &Req,
+    asked: &ItemReq<'_>,
+) -> bool
     requires req { IsStrictlyIncreasing req.now.fields }
     requires fields { IsStrictlyIncreasing asked.now.fields.now }
     ensures { IfKept tables.now tally.now (result

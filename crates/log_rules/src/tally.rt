@@ -16,7 +16,7 @@ ghost use Rattle.log_rules.specs.Listing.{AddsAll, ids_listed};
 ghost use Rattle.log_rules.specs.Tallied.{AreAtEnd, IfTally, IsTally, Keeps, MayCount, rects_in};
 
 use crate::claim_points::ClaimPoints;
-use crate::claims::{ItemReq, Claims};
+use crate::claims::{Claims, ItemReq};
 use crate::counts::{cells_asked, points_asked, size_asked};
 use crate::names::named_req;
 use crate::serial::note_all;

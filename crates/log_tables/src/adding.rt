@@ -8,8 +8,8 @@ ghost use Rattle.spy_grammar.specs.declared.record.Record.TheVariants as records
 ghost use Rattle.std.specs.List.Sorted.{IsStrictlyIncreasing};
 ghost use Rattle.point_set.specs.Rects.{AreRects, rect_points};
 
-use crate::tables::LogTables;
 use crate::entries::Space;
+use crate::tables::LogTables;
 use arena_sets::{ArenaRects, Memory};
 use bumpalo::Bump;
 use point_set::Rect;

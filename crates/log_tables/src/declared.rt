@@ -6,8 +6,8 @@ ghost use Rattle.std.specs.List.Sorted.{IsStrictlyIncreasing};
 ghost use Rattle.vocabulary.specs.Prelude.{fields_in, points_in, space_above};
 ghost use Rattle.semantics.specs.Rules.{is_declared, runs_item, space_id, part_id, field_space_id, tree_id, operator_id, item_id, task_id, inst_id};
 
-use crate::tables::LogTables;
 use crate::entries::Step;
+use crate::tables::LogTables;
 use point_set::PointSet;
 use semantics::ItemBody;
 

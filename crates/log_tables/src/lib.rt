@@ -8,7 +8,6 @@
 
 mod adding;
 mod declared;
-mod tables;
 mod entries;
 mod fields;
 mod lookups;
@@ -17,14 +16,15 @@ mod numbered;
 mod regions;
 mod reqs;
 mod rows;
+mod tables;
 mod two_rows;
 
 pub use adding::{priv_of, rects_of, strips_of};
-pub use tables::LogTables;
 pub use entries::{ReqKey, Space, Step};
 pub use fields::is_in;
 pub use maps::{FieldKey, Maps};
 pub use regions::Decls;
 pub use reqs::Reqs;
 pub use rows::{Key, Keyed, Rows};
+pub use tables::LogTables;
 pub use two_rows::{AlsoKeyed, TwoRows};

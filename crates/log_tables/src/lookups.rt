@@ -11,11 +11,11 @@ ghost use Rattle.log_tables.specs.Mapped.{inst_mapped};
 ghost use Rattle.log_tables.specs.Regions.{regions_of};
 ghost use Rattle.log_tables.specs.Views.{space_seen};
 
-use crate::tables::LogTables;
 use crate::entries::Space;
 use crate::maps::FieldKey;
 use crate::regions::Decls;
 use crate::rows::Rows;
+use crate::tables::LogTables;
 use point_set::{PointSet, Rect};
 use semantics::{FieldSpace, Inst, Item, LogNode, Map, Part, Req, Serial, Tree};
 

@@ -22,6 +22,7 @@ use Rattle.log_laws.proofs.lemmas.Admitted.{Unbroken, rule_kept, IsFaultless, by
 use Rattle.log_laws.proofs.lemmas.SerialOrder.{items_placed, serial_has_each}
 use Rattle.long_values.proofs.LiftSequential.{AreNamed}
 use Rattle.long_values.proofs.LiftExecution.{AreRunOnce}
+use Rattle.list_lemmas.proofs.lemmas.Places.{still_at}
 
 -- ---- places in lists
 
@@ -35,11 +36,6 @@ place_found key xs k x apart at =
     (λ j lt. false_from_ne_true (key (get_or xs j x) == key x)
     (λ same. apart j k x lt within (eqb-true (key (get_or xs j x)) (key x) same ∙ ap key (sym here))))
     (λ _. eq-eqb (key (get_or xs k x)) (key x) (ap key here))
-
-still_at : {X : Type 0} (xs ys : List X) (k : ℕ) (x : X) → slice_get xs k ≡ Some x → slice_get (xs ++ ys) k ≡ Some x
-still_at [] ys k x e = let none : k < 0 = slice_get_within [] k x e in absurd (omega (arith, none))
-still_at (y ∷ xs) ys zero x e = e
-still_at (y ∷ xs) ys (suc k) x e = still_at xs ys k x e
 
 -- The place of an id that is declared is that of an item with this id.
 place_declared : (items : List Item) (id : ℕ) → list_any (λ (i : Item). i.id == id) items ≡ true → (i : Item)

@@ -1,5 +1,5 @@
 -- Where each child asks for no more than its group licenses, none is shown. The pairs of groups that are apart do not depend on which is named first.
-use Rattle.std.proofs.Common.{◌≡◌, ℕ, ◌==◌, ◌||◌, Bool, true, false, not, inl, inr, List, [], ◌∷◌, filter, refl, sym, ap, subst, Option, None, Contains}
+use Rattle.std.proofs.Common.{◌≡◌, ℕ, ◌==◌, ◌||◌, Bool, true, false, not, List, [], ◌∷◌, filter, refl, sym, ap, subst, Option, None, Contains}
 use Rattle.std.specs.Prelude.{option_map}
 use Rattle.std.specs.List.{list_any}
 use Rattle.std.proofs.lemmas.Bool.{and_parts, eq-eqb, eqb-true}

@@ -1,5 +1,5 @@
 -- The members of a nested log of which no fault is shown are tasks, which ask for their requirements and nothing else.
-use Rattle.std.proofs.Common.{◌≡◌, ℕ, ◌==◌, ◌&&◌, true, inl, List, [], ◌∷◌, refl, ap, ◌∙◌, subst, Some, None, slice_get, Contains}
+use Rattle.std.proofs.Common.{◌≡◌, ℕ, ◌==◌, ◌&&◌, true, List, [], ◌∷◌, refl, ap, ◌∙◌, subst, Some, None, slice_get, Contains}
 use Rattle.std.proofs.lemmas.Bool.{and_parts, eqb-true}
 use Rattle.std.proofs.lemmas.Option.{slice_get-get_or}
 use Rattle.spy_grammar.specs.declared.nested.NRecord.{NRecord}
@@ -22,7 +22,7 @@ abbrev IsOfTask : Tables → GroupMember → Type 0
 IsOfTask t m = (i : Item) × Contains t.items i × (i.id ≡ m.task) × (i.body ≡ bodies.Task)
 
 abbrev AreOfTasks : Tables → Nesting → Type 0
-AreOfTasks t n = (x : _) → Contains n.members x → IsOfTask t x
+AreOfTasks t n = (x : GroupMember) → Contains n.members x → IsOfTask t x
 
 item_stays : (i : Item) (t : Tables) (line : ℕ) (r : Record) → Contains t.items i → Contains (with_record t line r).items i
 item_stays i t line (records.Task id) m = Contains-append_left t.items _ i m

@@ -89,7 +89,11 @@ fn has_other_fields<P: PointSet>(tables: &LogTables<P>, rec: &NRecord) -> bool
 }
 
 /// The first rule that a record breaks, given what is nested by then and what the whole log declares.
-pub(crate) fn broken<P: PointSet>(tables: &LogTables<P>, groups: &Groups, p: &Pending) -> Option<Code>
+pub(crate) fn broken<P: PointSet>(
+    tables: &LogTables<P>,
+    groups: &Groups,
+    p: &Pending,
+) -> Option<Code>
     ensures { result ≡ broken tables.now groups.now p.now }
 {
     if is_late_nested(groups, &p.rec) {

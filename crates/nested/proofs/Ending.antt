@@ -1,7 +1,7 @@
 -- What the parts of a nested log tell of the whole.
 use Rattle.std.proofs.Common.{◌≡◌, ℕ, List, [], Some, None, Result, Ok, IfOk, OnOk, refl, sym, ap, ◌∙◌, subst}
 use Rattle.std.specs.Option.{option_or}
-use Rattle.vocabulary.specs.Prelude.{Code, Tables, Fault}
+use Rattle.vocabulary.specs.Prelude.{Tables, Fault}
 use Rattle.spy_grammar.specs.declared.nested.NLined.{NLined}
 use Rattle.semantics.specs.Faults.{declaration_fault}
 use Rattle.semantics.specs.Nesting.{Nesting, no_nesting, nested_fault, nested_tables, groups_fault, plain_log, shown_unlicensed}

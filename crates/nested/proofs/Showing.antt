@@ -17,6 +17,7 @@ use Rattle.semantics.specs.declared.groups.Unlicensed.{Unlicensed}
 use Rattle.semantics.specs.Nesting.{Nesting, as_req, parent_of, privileges_of, licenses, req_places, unlicensed_place, reqs_of_child, first_given, unlicensed_child, shown_unlicensed}
 use Rattle.licences.specs.Claims.{Claimed, allows, refused, first_refused, holds}
 use Rattle.nested.specs.Rows.{claim_of, row_in, shown_as, shown_group, shown_member}
+use Rattle.list_lemmas.proofs.lemmas.Firsts.{or_assoc}
 
 map_map : {X Y Z : Type 0} (f : Y → Z) (h : X → Y) (xs : List X) → map f (map h xs) ≡ map (λ x. f (h x)) xs
 map_map f h [] = refl
@@ -119,11 +120,7 @@ given_none f xs i le e = sym (e ∙ ap (first_given f) (drop_all i xs le))
 given_append : {X Y : Type 0} (f : X → Option Y) (xs ys : List X)
     → first_given f (xs ++ ys) ≡ option_or (first_given f xs) (first_given f ys)
 given_append f [] ys = refl
-given_append f (x ∷ xs) ys = ap (option_or (f x)) (given_append f xs ys) ∙ sym (either (f x) (first_given f xs) (first_given f ys))
-  where
-    either : {Y : Type 0} (a b c : Option Y) → option_or (option_or a b) c ≡ option_or a (option_or b c)
-    either None b c = refl
-    either (Some y) b c = refl
+given_append f (x ∷ xs) ys = ap (option_or (f x)) (given_append f xs ys) ∙ sym (or_assoc (f x) (first_given f xs) (first_given f ys))
 
 given_groups : (t : Tables) (n : Nesting) (gs : List groups.Group)
     → first_given (unlicensed_child t n) (filter_map

@@ -6,7 +6,7 @@ ghost use Rattle.std.specs.List.Sorted.{IsStrictlyIncreasing};
 ghost use Rattle.nested.specs.Rows.{claim_of, own_rows_by, with_own};
 
 use crate::row::Row;
-use licences::{NumberedReq, Claim};
+use licences::{Claim, NumberedReq};
 use log_tables::LogTables;
 use point_set::PointSet;
 use semantics::Req;

@@ -9,7 +9,7 @@ ghost use Rattle.nested.specs.Rows.{AreNamed, claim_of, row_among, row_in, rows_
 
 use crate::row::Row;
 use bumpalo::Bump;
-use licences::{NumberedReq, Claim};
+use licences::{Claim, NumberedReq};
 use log_tables::LogTables;
 use nest_rules::Groups;
 use point_set::PointSet;

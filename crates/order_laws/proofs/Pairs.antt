@@ -1,5 +1,5 @@
 -- How many pairs of tasks interfere, item by item.
-use Rattle.std.proofs.Common.{◌≡◌, ℕ, zero, suc, ◌+◌, ◌-◌, ◌<◌, Bool, false, not, ◌&&◌, nat_lt, inl, inr, List, [], ◌∷◌, ◌++◌, map, filter, flat_map, length, refl, ap, ap₂, ◌∙◌, arith, if◌then◌else◌}
+use Rattle.std.proofs.Common.{◌≡◌, ℕ, zero, suc, ◌+◌, ◌-◌, ◌<◌, Bool, false, not, ◌&&◌, nat_lt, inl, inr, List, [], ◌∷◌, map, filter, flat_map, length, refl, ap, ap₂, ◌∙◌, arith, if◌then◌else◌}
 use Rattle.std.specs.List.{range_with_len}
 use Rattle.std.proofs.lemmas.Bool.{cases_Bool, lt-ltb, le-ltb}
 use Rattle.std.proofs.lemmas.List.{length-map, length-append}
@@ -7,7 +7,7 @@ use Rattle.std.proofs.lemmas.List.Elements.{filter-append}
 use Rattle.std.proofs.lemmas.List.Concat.{flat_map-append}
 use Rattle.vocabulary.specs.Prelude.{Tables, item_kind, is_free}
 use Rattle.semantics.specs.Shown.{is_task_at, task_pairs}
-use Rattle.list_lemmas.proofs.lemmas.Parts.{filter_map_of}
+use Rattle.list_lemmas.proofs.lemmas.Parts.{filter_map_of, filter_flat}
 use Rattle.list_lemmas.proofs.lemmas.Ranges.{range-more}
 use Rattle.order_laws.specs.Counting.{count_below, sum_below}
 use Rattle.order_laws.specs.Turns.{do_interfere}
@@ -45,11 +45,6 @@ filter_range p first (suc n) =
     ∙ (ap length (filter-append p (range_with_len first n) ((first + n) ∷ []))
     ∙ (length-append (filter p (range_with_len first n)) (filter p ((first + n) ∷ []))
     ∙ ap₂ ◌+◌ (filter_range p first n) (filter_one p (first + n))))
-
-filter_flat : {A X : Type 0} (p : X → Bool) (f : A → List X) (parts : List A)
-    → filter p (flat_map f parts) ≡ flat_map (λ a. filter p (f a)) parts
-filter_flat p f [] = refl
-filter_flat p f (a ∷ parts) = filter-append p (f a) (flat_map f parts) ∙ ap (λ l. filter p (f a) ++ l) (filter_flat p f parts)
 
 single : {X : Type 0} (f : ℕ → List X) (x : ℕ) → length (flat_map f (x ∷ [])) ≡ length (f x)
 single f x = let l = length-append (f x) [] in omega (arith, l)

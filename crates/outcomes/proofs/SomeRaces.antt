@@ -6,7 +6,7 @@ use Rattle.vocabulary.specs.Prelude.{Cell, Tables, comes_first, graph_of, Before
 use Rattle.semantics.specs.ReplayOrder.{replay_order}
 use Rattle.semantics.specs.Races.{Reads}
 use Rattle.semantics.specs.Shown.{replay_place, IsShownRace}
-use Rattle.list_lemmas.proofs.lemmas.Contained.{member_flat, flat_member, member_map, map_member, Contains-here, Contains-later}
+use Rattle.list_lemmas.proofs.lemmas.Contained.{member_flat, flat_member, member_map, map_member}
 use Rattle.log_laws.proofs.lemmas.OwnConflicts.{ends, meet, untouched}
 use Rattle.outcomes.proofs.Decided.{IsDecided, both_told, failing_told, test_told, less_told, IsLeast, least_or_none}
 use Rattle.outcomes.proofs.Races.{one_node}

@@ -5,7 +5,8 @@ use Rattle.std.proofs.lemmas.Option.{same_Some}
 use Rattle.point_set.specs.declared.rect.Rect.{Rect}
 use Rattle.overlaps.specs.declared.node.Ends.{Ends}
 use Rattle.overlaps.specs.declared.point.Point.{Point}
-use Rattle.overlaps.specs.Meeting.{Each, Pairwise, AreApartAt, IsNoHigher, IsIn, spans, ends_with, column_with, clashes, clash_from, clash_point, no_ends}
+use Rattle.overlaps.specs.Meeting.{Pairwise, AreApartAt, IsNoHigher, IsIn, spans, ends_with, column_with, clashes, clash_from, clash_point, no_ends}
+use Rattle.std.specs.List.{AllByRecursion}
 
 -- where one of two rectangles has all columns, the first ends below the second
 abbrev pub IsBelow : ℕ → ℕ → Rect → Rect → Type 0
@@ -45,16 +46,16 @@ below_next : (lo hi : ℕ) (e : Ends) (r s : Rect) → IsAbove lo hi (ends_with 
 below_next lo hi e r s h (inl first) = omega (arith, h.spanning, ends_past lo hi e r first)
 below_next lo hi e r s h (inr second) = omega (arith, h.any second)
 
-each_before : (lo hi : ℕ) (e : Ends) (r : Rect) (ss : List Rect) → Each (IsAbove lo hi (ends_with lo hi e r)) ss → Each (IsAbove lo hi e) ss
+each_before : (lo hi : ℕ) (e : Ends) (r : Rect) (ss : List Rect) → AllByRecursion (IsAbove lo hi (ends_with lo hi e r)) ss → AllByRecursion (IsAbove lo hi e) ss
 each_before lo hi e r [] h = tt
 each_before lo hi e r (s ∷ ss) h = (above_before lo hi e r s h.0, each_before lo hi e r ss h.1)
 
-each_next : (lo hi : ℕ) (e : Ends) (r : Rect) (ss : List Rect) → Each (IsAbove lo hi (ends_with lo hi e r)) ss → Each (IsBelow lo hi r) ss
+each_next : (lo hi : ℕ) (e : Ends) (r : Rect) (ss : List Rect) → AllByRecursion (IsAbove lo hi (ends_with lo hi e r)) ss → AllByRecursion (IsBelow lo hi r) ss
 each_next lo hi e r [] h = tt
 each_next lo hi e r (s ∷ ss) h = (below_next lo hi e r s h.0, each_next lo hi e r ss h.1)
 
 pub none_clash : (lo hi : ℕ) (e : Ends) (rects : List Rect) → e.spanning ≤ e.any → clash_from lo hi e rects ≡ None
-    → Each (IsAbove lo hi e) rects × Pairwise (IsBelow lo hi) rects
+    → AllByRecursion (IsAbove lo hi e) rects × Pairwise (IsBelow lo hi) rects
 none_clash lo hi e [] le none = (tt, tt)
 none_clash lo hi e (r ∷ rs) le none = elim (cases_Bool (clashes lo hi e r)) [
   | inl so ↦ absurd (no_some (clash_point lo hi e r) (rw so at none))
@@ -76,8 +77,8 @@ pub record Ended (lo hi : ℕ) (end column : ℕ) (wide : Bool) (p : Point) (rec
   pub first : wide ≡ false → by.x0 ≡ column
   pub inside : IsIn lo hi by
   pub all : wide ≡ true → spans lo hi by ≡ true
-  pub order : Each (IsNoHigher by) rects
-  pub apart : Each (AreApartAt p by) rects
+  pub order : AllByRecursion (IsNoHigher by) rects
+  pub apart : AllByRecursion (AreApartAt p by) rects
 
 -- each of both ends is that of some rectangle, or there was none
 pub record AreEnds (lo hi : ℕ) (e : Ends) (p : Point) (rects : List Rect) : Type 0 where
@@ -156,7 +157,7 @@ ended_behind lo hi end column wide p r rs h = record {
 -- the higher one of an end and that of the next rectangle
 ended_max : (lo hi end column new : ℕ) (wide : Bool) (p : Point) (r : Rect) (rs : List Rect) → IsIn lo hi r
     → (wide ≡ true → spans lo hi r ≡ true) → (end < r.y1 + 1 → wide ≡ false → r.x0 ≡ new)
-    → (r.y1 + 1 ≤ end → column ≡ new) → Each (IsNoHigher r) rs → Each (AreApartAt p r) rs
+    → (r.y1 + 1 ≤ end → column ≡ new) → AllByRecursion (IsNoHigher r) rs → AllByRecursion (AreApartAt p r) rs
     → (end ≡ 0) ⊎ Ended lo hi end column wide p (r ∷ rs)
     → (max end (r.y1 + 1) ≡ 0) ⊎ Ended lo hi (max end (r.y1 + 1)) new wide p rs
 ended_max lo hi end column new wide p r rs inside all higher still order apart before = elim (cases_lt end (r.y1 + 1)) [
@@ -190,7 +191,7 @@ column_still : (e : Ends) (r : Rect) → r.y1 + 1 ≤ e.any → e.column ≡ col
 column_still e r le = rw (le-ltb e.any (r.y1 + 1) le) refl
 
 ends_more : (lo hi : ℕ) (e : Ends) (p : Point) (r : Rect) (rs : List Rect) → AreEnds lo hi e p (r ∷ rs) → IsIn lo hi r
-    → Each (IsNoHigher r) rs → Each (AreApartAt p r) rs → AreEnds lo hi (ends_with lo hi e r) p rs
+    → AllByRecursion (IsNoHigher r) rs → AllByRecursion (AreApartAt p r) rs → AreEnds lo hi (ends_with lo hi e r) p rs
 ends_more lo hi e p r rs ends inside order apart = record {
   any = ended_max lo hi e.any e.column (column_with e r) false p r rs inside (λ f. absurd (both_ways false refl f))
       (λ lt _. column_higher e r lt) (column_still e r) order apart ends.any;
@@ -202,7 +203,7 @@ ends_more lo hi e p r rs ends inside order apart = record {
 }
 
 pub some_clash : (lo hi : ℕ) (e : Ends) (p : Point) (rects : List Rect) → lo ≤ hi → AreEnds lo hi e p rects
-    → Each (IsIn lo hi) rects → Pairwise IsNoHigher rects → clash_from lo hi e rects ≡ Some p
+    → AllByRecursion (IsIn lo hi) rects → Pairwise IsNoHigher rects → clash_from lo hi e rects ≡ Some p
     → Pairwise (AreApartAt p) rects → ⊥
 some_clash lo hi e p [] le ends inside order clash apart = cc
 some_clash lo hi e p (r ∷ rs) le ends inside order clash apart = elim (cases_Bool (clashes lo hi e r)) [

@@ -1,18 +1,19 @@
 -- The rectangles of some columns, from those of both halves.
 use Rattle.std.proofs.Common.{◌≡◌, ℕ, zero, suc, ◌+◌, ◌<◌, ◌≤◌, ◌^◌, nat_le, nat_lt, max, min, not, true, Bool, List, [], ◌∷◌, Option, Some, None, MatchOption, filter, length, get_or, All, AllPairs, inl, inr, refl, sym, subst, arith}
-use Rattle.std.proofs.lemmas.Bool.{cases_Bool, cases_lt, and_parts, and_from, leb-true, le-leb, ltb-true, lt-ltb, both_ways, not_from_false}
+use Rattle.std.proofs.lemmas.Bool.{cases_Bool, cases_lt, and_parts, and_from, leb-true, le-leb, ltb-true, lt-ltb, not_from_false}
 use Rattle.std.proofs.lemmas.List.Elements.{All-head, All-tail}
 use Rattle.point_set.specs.declared.rect.Rect.{Rect}
 use Rattle.point_set.specs.Rects.{AreSmall, rect_at}
 use Rattle.overlaps.specs.declared.node.Columns.{Columns}
 use Rattle.overlaps.specs.declared.point.Point.{Point}
-use Rattle.overlaps.specs.Meeting.{Each, Pairwise, AreApart, AreApartAt, AreApartIn, IsNoHigher, IsIn, IsShared, HasAllIn, spans, goes_left, goes_right, Tells, no_ends, clash_from}
+use Rattle.overlaps.specs.Meeting.{Pairwise, AreApart, AreApartAt, AreApartIn, IsNoHigher, IsIn, IsShared, HasAllIn, spans, goes_left, goes_right, Tells, no_ends, clash_from}
 use Rattle.overlaps.proofs.Clashing.{IsBelow, none_clash, some_clash, none_yet}
+use Rattle.std.specs.List.{AllByRecursion}
 
 -- ---- Filters.
 
-pub each_kept : (P Q : Rect → Type 0) (p : Rect → Bool) (rs : List Rect) → ((r : Rect) → P r → p r ≡ true → Q r) → Each P rs
-    → Each Q (filter p rs)
+pub each_kept : (P Q : Rect → Type 0) (p : Rect → Bool) (rs : List Rect) → ((r : Rect) → P r → p r ≡ true → Q r) → AllByRecursion P rs
+    → AllByRecursion Q (filter p rs)
 each_kept P Q p [] f h = tt
 each_kept P Q p (r ∷ rs) f h = elim (cases_Bool (p r)) [
   | inl so ↦ rw so (f r h.0 so, each_kept P Q p rs f h.1)
@@ -65,22 +66,22 @@ join_two lo hi middle r s below left right x y from to h k = elim (cases_Bool (s
 ]
 
 -- what a half tells of one rectangle and the later ones, where it is in the half
-join_each : (lo hi middle : ℕ) (r : Rect) (ss : List Rect) → Each (IsBelow lo hi r) ss
-    → (goes_left lo hi middle r ≡ true → Each (AreApartIn lo middle r) (filter (goes_left lo hi middle) ss))
-    → (goes_right lo hi middle r ≡ true → Each (AreApartIn (middle + 1) hi r) (filter (goes_right lo hi middle) ss))
-    → Each (AreApartIn lo hi r) ss
+join_each : (lo hi middle : ℕ) (r : Rect) (ss : List Rect) → AllByRecursion (IsBelow lo hi r) ss
+    → (goes_left lo hi middle r ≡ true → AllByRecursion (AreApartIn lo middle r) (filter (goes_left lo hi middle) ss))
+    → (goes_right lo hi middle r ≡ true → AllByRecursion (AreApartIn (middle + 1) hi r) (filter (goes_right lo hi middle) ss))
+    → AllByRecursion (AreApartIn lo hi r) ss
 join_each lo hi middle r [] below left right = tt
 join_each lo hi middle r (s ∷ ss) below left right = (
   join_two lo hi middle r s below.0
-      (λ a b. let h : Each (AreApartIn lo middle r) (s ∷ filter (goes_left lo hi middle) ss) = rw b at (left a) in h.0)
-      (λ a b. let h : Each (AreApartIn (middle + 1) hi r) (s ∷ filter (goes_right lo hi middle) ss) = rw b at (right a) in h.0),
+      (λ a b. let h : AllByRecursion (AreApartIn lo middle r) (s ∷ filter (goes_left lo hi middle) ss) = rw b at (left a) in h.0)
+      (λ a b. let h : AllByRecursion (AreApartIn (middle + 1) hi r) (s ∷ filter (goes_right lo hi middle) ss) = rw b at (right a) in h.0),
   join_each lo hi middle r ss below.1
       (λ a. elim (cases_Bool (goes_left lo hi middle s)) [
-        | inl so ↦ let h : Each (AreApartIn lo middle r) (s ∷ filter (goes_left lo hi middle) ss) = rw so at (left a) in h.1
+        | inl so ↦ let h : AllByRecursion (AreApartIn lo middle r) (s ∷ filter (goes_left lo hi middle) ss) = rw so at (left a) in h.1
         | inr nay ↦ rw nay at (left a)
       ])
       (λ a. elim (cases_Bool (goes_right lo hi middle s)) [
-        | inl so ↦ let h : Each (AreApartIn (middle + 1) hi r) (s ∷ filter (goes_right lo hi middle) ss) = rw so at (right a) in h.1
+        | inl so ↦ let h : AllByRecursion (AreApartIn (middle + 1) hi r) (s ∷ filter (goes_right lo hi middle) ss) = rw so at (right a) in h.1
         | inr nay ↦ rw nay at (right a)
       ]),
 )
@@ -114,11 +115,11 @@ one_column lo hi r s le inside below x y from to h k =
     let low = k.low in
     omega (arith, below (inl (and_from _ _ (le-leb r.x0 lo (omega arith)) (le-leb hi r.x1 (omega arith)))))
 
-one_each : (lo hi : ℕ) (r : Rect) (ss : List Rect) → hi ≤ lo → IsIn lo hi r → Each (IsBelow lo hi r) ss → Each (AreApartIn lo hi r) ss
+one_each : (lo hi : ℕ) (r : Rect) (ss : List Rect) → hi ≤ lo → IsIn lo hi r → AllByRecursion (IsBelow lo hi r) ss → AllByRecursion (AreApartIn lo hi r) ss
 one_each lo hi r [] le inside below = tt
 one_each lo hi r (s ∷ ss) le inside below = (one_column lo hi r s le inside below.0, one_each lo hi r ss le inside below.1)
 
-pub one_all : (lo hi : ℕ) (rs : List Rect) → hi ≤ lo → Each (IsIn lo hi) rs → Pairwise (IsBelow lo hi) rs → Pairwise (AreApartIn lo hi) rs
+pub one_all : (lo hi : ℕ) (rs : List Rect) → hi ≤ lo → AllByRecursion (IsIn lo hi) rs → Pairwise (IsBelow lo hi) rs → Pairwise (AreApartIn lo hi) rs
 one_all lo hi [] le inside below = tt
 one_all lo hi (r ∷ rs) le inside below = (one_each lo hi r rs le inside.0 below.0, one_all lo hi rs le inside.1 below.1)
 
@@ -129,16 +130,16 @@ few lo hi (r ∷ s ∷ rs) lt = absurd (omega (arith, lt))
 
 -- ---- By places.
 
-each_from : (P : Rect → Type 0) (d : Rect) (rs : List Rect) → ((k : ℕ) → k < length rs → P (get_or rs k d)) → Each P rs
+each_from : (P : Rect → Type 0) (d : Rect) (rs : List Rect) → ((k : ℕ) → k < length rs → P (get_or rs k d)) → AllByRecursion P rs
 each_from P d [] f = tt
 each_from P d (r ∷ rs) f = (f 0 (omega arith), each_from P d rs (λ k lt. f (suc k) (omega arith)))
 
-each_at : (P : Rect → Type 0) (rs : List Rect) (k : ℕ) (d : Rect) → Each P rs → k < length rs → P (get_or rs k d)
+each_at : (P : Rect → Type 0) (rs : List Rect) (k : ℕ) (d : Rect) → AllByRecursion P rs → k < length rs → P (get_or rs k d)
 each_at P [] k d h lt = absurd (omega arith)
 each_at P (r ∷ rs) zero d h lt = h.0
 each_at P (r ∷ rs) (suc k) d h lt = each_at P rs k d h.1 (omega arith)
 
-pub each_of_all : (P : Rect → Type 0) (rs : List Rect) → All P rs → Each P rs
+pub each_of_all : (P : Rect → Type 0) (rs : List Rect) → All P rs → AllByRecursion P rs
 each_of_all P [] h = tt
 each_of_all P (r ∷ rs) h = (All-head P r rs h, each_of_all P rs (All-tail P r rs h))
 
@@ -155,7 +156,7 @@ pairwise_at R (r ∷ rs) h i zero d lt within = absurd (omega (arith, lt))
 pairwise_at R (r ∷ rs) h zero (suc j) d lt within = each_at (R r) rs j d h.0 (omega (arith, within))
 pairwise_at R (r ∷ rs) h (suc i) (suc j) d lt within = pairwise_at R rs h.1 i j d (omega (arith, lt)) (omega (arith, within))
 
-each_weaker : (P Q : Rect → Type 0) (rs : List Rect) → ((r : Rect) → P r → Q r) → Each P rs → Each Q rs
+each_weaker : (P Q : Rect → Type 0) (rs : List Rect) → ((r : Rect) → P r → Q r) → AllByRecursion P rs → AllByRecursion Q rs
 each_weaker P Q [] f h = tt
 each_weaker P Q (r ∷ rs) f h = (f r h.0, each_weaker P Q rs f h.1)
 
@@ -165,7 +166,7 @@ pub is_none : (found : Option Point) → ((p : Point) → found ≡ Some p → �
 is_none None none = refl
 is_none (Some p) none = absurd (none p refl)
 
-pub clash_tells : (lo hi : ℕ) (p : Point) (rects : List Rect) → lo ≤ hi → Each (IsIn lo hi) rects → Pairwise IsNoHigher rects
+pub clash_tells : (lo hi : ℕ) (p : Point) (rects : List Rect) → lo ≤ hi → AllByRecursion (IsIn lo hi) rects → Pairwise IsNoHigher rects
     → clash_from lo hi no_ends rects ≡ Some p → Pairwise (AreApartAt p) rects → ⊥
 clash_tells lo hi p rects le inside order clash = some_clash lo hi no_ends p rects le (none_yet lo hi p rects) inside order clash
 
@@ -197,20 +198,20 @@ right_order lo hi middle rects right is order =
     subst (Pairwise IsNoHigher) (sym is) (pairwise_kept IsNoHigher (goes_right lo hi middle) rects order)
 
 pub left_inside : (lo hi middle : ℕ) (rects left : List Rect) → left ≡ filter (goes_left lo hi middle) rects
-    → Each (IsIn lo hi) rects → Each (IsIn lo middle) left
+    → AllByRecursion (IsIn lo hi) rects → AllByRecursion (IsIn lo middle) left
 left_inside lo hi middle rects left is inside =
-    subst (Each (IsIn lo middle)) (sym is) (each_kept (IsIn lo hi) (IsIn lo middle) (goes_left lo hi middle) rects
+    subst (AllByRecursion (IsIn lo middle)) (sym is) (each_kept (IsIn lo hi) (IsIn lo middle) (goes_left lo hi middle) rects
     (in_left lo hi middle) inside)
 
 pub right_inside : (lo hi middle : ℕ) (rects right : List Rect) → right ≡ filter (goes_right lo hi middle) rects
-    → Each (IsIn lo hi) rects → Each (IsIn (middle + 1) hi) right
+    → AllByRecursion (IsIn lo hi) rects → AllByRecursion (IsIn (middle + 1) hi) right
 right_inside lo hi middle rects right is inside =
-    subst (Each (IsIn (middle + 1) hi)) (sym is)
+    subst (AllByRecursion (IsIn (middle + 1) hi)) (sym is)
     (each_kept (IsIn lo hi) (IsIn (middle + 1) hi) (goes_right lo hi middle) rects (in_right lo hi middle) inside)
 
 -- ---- All columns.
 
-pub all_in : (rs : List Rect) → All (λ (r : Rect). (r.x0 ≤ r.x1) × (r.y0 ≤ r.y1)) rs → AreSmall rs → Each (IsIn 0 4294967295) rs
+pub all_in : (rs : List Rect) → All (λ (r : Rect). (r.x0 ≤ r.x1) × (r.y0 ≤ r.y1)) rs → AreSmall rs → AllByRecursion (IsIn 0 4294967295) rs
 all_in [] some small = tt
 all_in (r ∷ rs) some small =
     let h = All-head (λ (r : Rect). (r.x0 ≤ r.x1) × (r.y0 ≤ r.y1)) r rs some in
@@ -220,7 +221,7 @@ all_in (r ∷ rs) some small =
           (All-tail (λ (r : Rect). (r.x1 < 2 ^ 32) × (r.y1 < 2 ^ 32)) r rs small),
     )
 
-each_apart : (r : Rect) (ss : List Rect) → r.x1 < 2 ^ 32 → Each (AreApartIn 0 4294967295 r) ss → Each (AreApart r) ss
+each_apart : (r : Rect) (ss : List Rect) → r.x1 < 2 ^ 32 → AllByRecursion (AreApartIn 0 4294967295 r) ss → AllByRecursion (AreApart r) ss
 each_apart r ss fits h = each_weaker (AreApartIn 0 4294967295 r) (AreApart r) ss (λ s apart x y here there. let right = here.right in
     apart x y (omega arith) (omega arith) here there) h
 
@@ -251,7 +252,7 @@ between_more rects n least greatest a b h low up x0 x1 k lt within = elim (cases
 ]
 
 pub narrow_inside : (lo hi least greatest first last : ℕ) (rects : List Rect) → AreBetween rects (length rects) least greatest
-    → Each (IsIn lo hi) rects → first ≡ max least lo → last ≡ max (min greatest hi) first → Each (IsIn first last) rects
+    → AllByRecursion (IsIn lo hi) rects → first ≡ max least lo → last ≡ max (min greatest hi) first → AllByRecursion (IsIn first last) rects
 narrow_inside lo hi least greatest first last rects h inside f l =
     each_from (IsIn first last) (record { x0 = 0; x1 = 0; y0 = 0; y1 = 0 }) rects (λ k lt.
     let g = h k lt lt in
@@ -265,22 +266,22 @@ narrow_inside lo hi least greatest first last rects h inside f l =
     })
 
 pub narrow_all : (lo hi least greatest : ℕ) (c : Columns) (rects : List Rect) → AreBetween rects (length rects) least greatest
-    → c.lo ≡ max least lo → c.hi ≡ max (min greatest hi) c.lo → Each (HasAllIn lo hi c) rects
+    → c.lo ≡ max least lo → c.hi ≡ max (min greatest hi) c.lo → AllByRecursion (HasAllIn lo hi c) rects
 narrow_all lo hi least greatest c rects h f l =
     each_from (HasAllIn lo hi c) (record { x0 = 0; x1 = 0; y0 = 0; y1 = 0 }) rects (λ k lt x from to left right.
     let g = h k lt lt in (omega (arith, g.0, f, from, left), omega (arith, g.1, l, to, right)))
 
-widen_each : (lo hi : ℕ) (c : Columns) (r : Rect) (ss : List Rect) → HasAllIn lo hi c r → Each (AreApartIn c.lo c.hi r) ss
-    → Each (AreApartIn lo hi r) ss
+widen_each : (lo hi : ℕ) (c : Columns) (r : Rect) (ss : List Rect) → HasAllIn lo hi c r → AllByRecursion (AreApartIn c.lo c.hi r) ss
+    → AllByRecursion (AreApartIn lo hi r) ss
 widen_each lo hi c r ss all h = each_weaker (AreApartIn c.lo c.hi r) (AreApartIn lo hi r) ss (λ s apart x y from to here there.
     let in_it = all x from to here.left here.right in apart x y in_it.0 in_it.1 here there) h
 
-pub widen : (lo hi : ℕ) (c : Columns) (rects : List Rect) → Each (HasAllIn lo hi c) rects → Pairwise (AreApartIn c.lo c.hi) rects
+pub widen : (lo hi : ℕ) (c : Columns) (rects : List Rect) → AllByRecursion (HasAllIn lo hi c) rects → Pairwise (AreApartIn c.lo c.hi) rects
     → Pairwise (AreApartIn lo hi) rects
 widen lo hi c [] all h = tt
 widen lo hi c (r ∷ rs) all h = (widen_each lo hi c r rs all.0 h.0, widen lo hi c rs all.1 h.1)
 
-pub tells_widely : (lo hi : ℕ) (c : Columns) (rects : List Rect) (found : Option Point) → Each (HasAllIn lo hi c) rects
+pub tells_widely : (lo hi : ℕ) (c : Columns) (rects : List Rect) (found : Option Point) → AllByRecursion (HasAllIn lo hi c) rects
     → Tells c.lo c.hi rects found → Tells lo hi rects found
 tells_widely lo hi c rects (Some p) all h = h
 tells_widely lo hi c rects None all h = widen lo hi c rects all h

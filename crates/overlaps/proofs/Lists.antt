@@ -1,5 +1,5 @@
 -- Two lists of rectangles: the rows that they share, and the points.
-use Rattle.std.proofs.Common.{◌≡◌, ℕ, zero, suc, ◌+◌, ◌<◌, ◌≤◌, ◌^◌, ◌⊎◌, nat_le, max, not, true, Bool, List, [], ◌∷◌, Option, Some, None, MatchOption, filter, length, get_or, AllPairs, Contains, inl, inr, refl, sym, subst, ap, ◌∙◌, arith}
+use Rattle.std.proofs.Common.{◌≡◌, ℕ, zero, suc, ◌+◌, ◌<◌, ◌≤◌, ◌^◌, ◌⊎◌, nat_le, max, true, Bool, List, [], ◌∷◌, Option, Some, None, MatchOption, filter, length, get_or, AllPairs, Contains, inl, inr, refl, sym, subst, ap, ◌∙◌, arith}
 use Rattle.std.proofs.lemmas.Bool.{cases_Bool, cases_lt, and_parts, and_from, leb-true, le-leb, le-ltb, lt-ltb, not_from_false}
 use Rattle.std.proofs.lemmas.List.{get_or_default}
 use Rattle.std.proofs.lemmas.List.Elements.{Contains-get_or}
@@ -9,10 +9,11 @@ use Rattle.point_set.specs.declared.rect.Rect.{Rect}
 use Rattle.point_set.specs.Rects.{AreSmall, Holds, rect_at}
 use Rattle.overlaps.specs.declared.node.Columns.{Columns}
 use Rattle.overlaps.specs.declared.rows.Reached.{Reached}
-use Rattle.overlaps.specs.Meeting.{AreApartIn, Each, HasAllIn, IsIn, IsNoHigher, goes_left, goes_right, spans}
+use Rattle.overlaps.specs.Meeting.{AreApartIn, HasAllIn, IsIn, IsNoHigher, goes_left, goes_right, spans}
 use Rattle.overlaps.specs.declared.point.Point.{Point}
 use Rattle.overlaps.specs.Rows.{AreTall, BeginsIn, IsPast, IsReached, NoneBeginsIn, RowsApart, ShareRow, place_with}
 use Rattle.overlaps.specs.Between.{AreApartFrom, AreApartFromIn, HasAt, IsCommon, SpansApart, TellsBetween, corner}
+use Rattle.std.specs.List.{AllByRecursion}
 
 -- ---- Rows, by one pass.
 
@@ -158,16 +159,16 @@ pub is_kept_order : (p : Rect → Bool) (rects kept : List Rect) → kept ≡ fi
     → AllPairs IsNoHigher kept
 is_kept_order p rects kept is order = subst (AllPairs IsNoHigher) (sym is) (AllPairs-filter IsNoHigher p rects order)
 
-pub each_in : (P : Rect → Type 0) (rects : List Rect) (r : Rect) → Each P rects → Contains rects r → P r
+pub each_in : (P : Rect → Type 0) (rects : List Rect) (r : Rect) → AllByRecursion P rects → Contains rects r → P r
 each_in P [] r each h = absurd (omega (arith, h.1))
 each_in P (s ∷ ss) r each (zero, lt, at) = subst P at each.0
 each_in P (s ∷ ss) r each (suc k, lt, at) = each_in P ss r each.1 (k, omega (arith, lt), at)
 
-pub each_of : (P : Rect → Type 0) (rects : List Rect) → ((r : Rect) → Contains rects r → P r) → Each P rects
+pub each_of : (P : Rect → Type 0) (rects : List Rect) → ((r : Rect) → Contains rects r → P r) → AllByRecursion P rects
 each_of P [] f = tt
 each_of P (s ∷ ss) f = (f s (0, omega arith, refl), each_of P ss (λ r h. f r (suc h.0, omega (arith, h.1), h.2)))
 
-pub tall_of : (lo hi : ℕ) (rects : List Rect) → Each (IsIn lo hi) rects → AreTall rects
+pub tall_of : (lo hi : ℕ) (rects : List Rect) → AllByRecursion (IsIn lo hi) rects → AreTall rects
 tall_of lo hi rects each k d lt = (each_in (IsIn lo hi) rects (get_or rects k d) each (Contains-get_or rects k d lt)).tall
 
 pub tall_kept : (p : Rect → Bool) (rects : List Rect) → AreTall rects → AreTall (filter p rects)
@@ -208,21 +209,21 @@ at_corner lo hi r s le a b (inr wide) mine other =
       record { left = omega arith; right = omega arith; low = omega arith; high = omega arith },
     )
 
-met_at : (lo hi : ℕ) (ours theirs : List Rect) (r s : Rect) → lo ≤ hi → Each (IsIn lo hi) ours → Each (IsIn lo hi) theirs
+met_at : (lo hi : ℕ) (ours theirs : List Rect) (r s : Rect) → lo ≤ hi → AllByRecursion (IsIn lo hi) ours → AllByRecursion (IsIn lo hi) theirs
     → Contains ours r → Contains theirs s → (spans lo hi r ≡ true) ⊎ (spans lo hi s ≡ true) → max r.y0 s.y0 ≤ r.y1
     → max r.y0 s.y0 ≤ s.y1 → IsCommon ours theirs (corner r s)
 met_at lo hi ours theirs r s le a b in_r in_s wide mine other =
     let at = at_corner lo hi r s le (each_in (IsIn lo hi) ours r a in_r) (each_in (IsIn lo hi) theirs s b in_s) wide mine other in
     ((r, in_r, at.0), (s, in_s, at.1))
 
-pub wide_met : (lo hi : ℕ) (ours theirs wide : List Rect) (r s : Rect) → lo ≤ hi → Each (IsIn lo hi) ours
-    → Each (IsIn lo hi) theirs → wide ≡ filter (spans lo hi) ours → ShareRow wide theirs r s → IsCommon ours theirs (corner r s)
+pub wide_met : (lo hi : ℕ) (ours theirs wide : List Rect) (r s : Rect) → lo ≤ hi → AllByRecursion (IsIn lo hi) ours
+    → AllByRecursion (IsIn lo hi) theirs → wide ≡ filter (spans lo hi) ours → ShareRow wide theirs r s → IsCommon ours theirs (corner r s)
 wide_met lo hi ours theirs wide r s le a b w h =
     let of = of_filter (spans lo hi) ours r (subst (λ rs. Contains rs r) w h.first) in
     met_at lo hi ours theirs r s le a b of.0 h.second (inl of.1) h.our h.their
 
-pub other_met : (lo hi : ℕ) (ours theirs other : List Rect) (r s : Rect) → lo ≤ hi → Each (IsIn lo hi) ours
-    → Each (IsIn lo hi) theirs → other ≡ filter (spans lo hi) theirs → ShareRow ours other r s → IsCommon ours theirs (corner r s)
+pub other_met : (lo hi : ℕ) (ours theirs other : List Rect) (r s : Rect) → lo ≤ hi → AllByRecursion (IsIn lo hi) ours
+    → AllByRecursion (IsIn lo hi) theirs → other ≡ filter (spans lo hi) theirs → ShareRow ours other r s → IsCommon ours theirs (corner r s)
 other_met lo hi ours theirs other r s le a b o h =
     let of = of_filter (spans lo hi) theirs s (subst (λ rs. Contains rs s) o h.second) in
     met_at lo hi ours theirs r s le a b h.first of.0 (inr of.1) h.our h.their
@@ -232,7 +233,7 @@ rows_tell r s lo hi (inl below) x y from to h k = let top = h.high in let low = 
 rows_tell r s lo hi (inr above) x y from to h k = let top = k.high in let low = h.low in omega (arith, above)
 
 -- where one column is left
-pub one_column : (lo hi : ℕ) (ours theirs : List Rect) → hi ≤ lo → Each (IsIn lo hi) ours → SpansApart lo hi ours theirs
+pub one_column : (lo hi : ℕ) (ours theirs : List Rect) → hi ≤ lo → AllByRecursion (IsIn lo hi) ours → SpansApart lo hi ours theirs
     → AreApartFromIn lo hi ours theirs
 one_column lo hi ours theirs le inside apart r s in_r in_s =
     let a = each_in (IsIn lo hi) ours r inside in_r in
@@ -293,25 +294,25 @@ both_tell lo hi middle ours theirs left others right rest (Some p) rows l o r t 
 both_tell lo hi middle ours theirs left others right rest None rows l o r t a tells =
     join_halves lo hi middle ours theirs left others right rest rows l o r t a tells
 
-pub widen : (lo hi : ℕ) (c : Columns) (ours theirs : List Rect) → Each (HasAllIn lo hi c) ours
+pub widen : (lo hi : ℕ) (c : Columns) (ours theirs : List Rect) → AllByRecursion (HasAllIn lo hi c) ours
     → AreApartFromIn c.lo c.hi ours theirs → AreApartFromIn lo hi ours theirs
 widen lo hi c ours theirs all apart r s in_r in_s x y from to h k =
     let in_it = each_in (HasAllIn lo hi c) ours r all in_r x from to h.left h.right in
     apart r s in_r in_s x y in_it.0 in_it.1 h k
 
-pub tells_widely : (lo hi : ℕ) (c : Columns) (ours theirs : List Rect) (found : Option Point) → Each (HasAllIn lo hi c) ours
+pub tells_widely : (lo hi : ℕ) (c : Columns) (ours theirs : List Rect) (found : Option Point) → AllByRecursion (HasAllIn lo hi c) ours
     → TellsBetween c.lo c.hi ours theirs found → TellsBetween lo hi ours theirs found
 tells_widely lo hi c ours theirs (Some p) all h = h
 tells_widely lo hi c ours theirs None all h = widen lo hi c ours theirs all h
 
 -- the columns of both lists
-pub hull_inside : (lo hi a b : ℕ) (rects : List Rect) → Each (IsIn lo hi) rects → a ≤ lo → hi ≤ b → Each (IsIn a b) rects
+pub hull_inside : (lo hi a b : ℕ) (rects : List Rect) → AllByRecursion (IsIn lo hi) rects → a ≤ lo → hi ≤ b → AllByRecursion (IsIn a b) rects
 hull_inside lo hi a b rects inside low high = each_of (IsIn a b) rects (λ r h.
     let i = each_in (IsIn lo hi) rects r inside h in
     record { begins = omega (arith, i.begins, high); ends = omega (arith, i.ends, low); wide = i.wide; tall = i.tall })
 
-pub hull_all : (lo hi : ℕ) (c e : Columns) (rects : List Rect) → Each (HasAllIn lo hi c) rects → e.lo ≤ c.lo → c.hi ≤ e.hi
-    → Each (HasAllIn lo hi e) rects
+pub hull_all : (lo hi : ℕ) (c e : Columns) (rects : List Rect) → AllByRecursion (HasAllIn lo hi c) rects → e.lo ≤ c.lo → c.hi ≤ e.hi
+    → AllByRecursion (HasAllIn lo hi e) rects
 hull_all lo hi c e rects all low high = each_of (HasAllIn lo hi e) rects (λ r h x from to left right.
     let i = each_in (HasAllIn lo hi c) rects r all h x from to left right in (omega (arith, i.0, low), omega (arith, i.1, high)))
 

@@ -5,16 +5,12 @@ use Rattle.point_set.specs.Rects.{Holds}
 use Rattle.overlaps.specs.declared.node.Columns.{Columns}
 use Rattle.overlaps.specs.declared.node.Ends.{Ends}
 use Rattle.overlaps.specs.declared.point.Point.{Point}
-
--- Each rectangle has a property.
-abbrev pub Each : (Rect → Type 0) → List Rect → Type 0
-Each P [] = Unit {0}
-Each P (r ∷ rs) = P r × Each P rs
+use Rattle.std.specs.List.{AllByRecursion}
 
 -- Each rectangle is so related to each later one.
 abbrev pub Pairwise : (Rect → Rect → Type 0) → List Rect → Type 0
 Pairwise R [] = Unit {0}
-Pairwise R (r ∷ rs) = Each (R r) rs × Pairwise R rs
+Pairwise R (r ∷ rs) = AllByRecursion (R r) rs × Pairwise R rs
 
 -- They share no point.
 abbrev pub AreApart : Rect → Rect → Type 0

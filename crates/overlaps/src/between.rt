@@ -1,6 +1,7 @@
 ghost use Rattle.std.specs.Prelude.{◌≡◌, ℕ, ◌≤◌, All, AllPairs, IfOk, MatchOption};
 ghost use Rattle.point_set.specs.Rects.{AreSmall};
-ghost use Rattle.overlaps.specs.Meeting.{Each, HasAllIn, IsIn, IsNoHigher};
+ghost use Rattle.std.specs.List.{AllByRecursion};
+ghost use Rattle.overlaps.specs.Meeting.{HasAllIn, IsIn, IsNoHigher};
 ghost use Rattle.overlaps.specs.Between.{AreApartFrom, IsCommon, SpansApart, TellsBetween, corner};
 
 use crate::node::{Columns, left_half, narrowed, right_half, spanning};
@@ -12,13 +13,13 @@ use std::alloc::{AllocError, Global};
 /// The columns between the first and the last one with a rectangle of either list.
 fn hull(ours: &[Rect], theirs: &[Rect], lo: u32, hi: u32) -> Columns
     requires range { lo ≤ hi }
-    requires ours { Each (IsIn lo hi) ours.now }
-    requires theirs { Each (IsIn lo hi) theirs.now }
+    requires ours { AllByRecursion (IsIn lo hi) ours.now }
+    requires theirs { AllByRecursion (IsIn lo hi) theirs.now }
     ensures range { result.lo ≤ result.hi }
     ensures within { (lo ≤ result.lo) × (result.hi ≤ hi) }
-    ensures ours { Each (IsIn result.lo result.hi) ours.now }
-    ensures theirs { Each (IsIn result.lo result.hi) theirs.now }
-    ensures all { Each (HasAllIn lo hi result) ours.now }
+    ensures ours { AllByRecursion (IsIn result.lo result.hi) ours.now }
+    ensures theirs { AllByRecursion (IsIn result.lo result.hi) theirs.now }
+    ensures all { AllByRecursion (HasAllIn lo hi result) ours.now }
 {
     let a = narrowed(ours, lo, hi);
     let b = narrowed(theirs, lo, hi);
@@ -46,8 +47,8 @@ fn spanning_point(
     columns: Columns,
 ) -> Result<Option<Point>, AllocError>
     requires range { columns.lo ≤ columns.hi }
-    requires ours { AllPairs IsNoHigher ours.now × Each (IsIn columns.lo columns.hi) ours.now }
-    requires theirs { AllPairs IsNoHigher theirs.now × Each (IsIn columns.lo columns.hi) theirs.now }
+    requires ours { AllPairs IsNoHigher ours.now × AllByRecursion (IsIn columns.lo columns.hi) ours.now }
+    requires theirs { AllPairs IsNoHigher theirs.now × AllByRecursion (IsIn columns.lo columns.hi) theirs.now }
     ensures { IfOk result (λ o. MatchOption o (SpansApart columns.lo columns.hi ours.now theirs.now)
         (IsCommon ours.now theirs.now)) }
 {
@@ -71,8 +72,8 @@ fn common_in(
     hi: u32,
 ) -> Result<Option<Point>, AllocError>
     requires range { lo ≤ hi }
-    requires ours { AllPairs IsNoHigher ours.now × Each (IsIn lo hi) ours.now }
-    requires theirs { AllPairs IsNoHigher theirs.now × Each (IsIn lo hi) theirs.now }
+    requires ours { AllPairs IsNoHigher ours.now × AllByRecursion (IsIn lo hi) ours.now }
+    requires theirs { AllPairs IsNoHigher theirs.now × AllByRecursion (IsIn lo hi) theirs.now }
     ensures { IfOk result (TellsBetween lo hi ours.now theirs.now) }
 {
     if ours.is_empty() || theirs.is_empty() {

@@ -1,7 +1,8 @@
 //! The rectangles in some columns, by ascending first rows.
 
 ghost use Rattle.std.specs.Prelude.{◌≤◌, ◌≡◌, ◌++◌, ◌∷◌, [], cond, filter, IfOk, OnOk};
-ghost use Rattle.overlaps.specs.Meeting.{Each, HasAllIn, IsIn, clash_from, clash_point, clashes, column_with, ends_with, goes_left, goes_right, no_ends, spans};
+ghost use Rattle.std.specs.List.{AllByRecursion};
+ghost use Rattle.overlaps.specs.Meeting.{HasAllIn, IsIn, clash_from, clash_point, clashes, column_with, ends_with, goes_left, goes_right, no_ends, spans};
 
 use crate::point::Point;
 use point_set::Rect;
@@ -25,11 +26,11 @@ pub(crate) struct Columns {
 /// Those of some columns that lie between the first and the last one with a rectangle.
 pub(crate) fn narrowed(rects: &[Rect], lo: u32, hi: u32) -> Columns
     requires range { lo ≤ hi }
-    requires inside { Each (IsIn lo hi) rects.now }
+    requires inside { AllByRecursion (IsIn lo hi) rects.now }
     ensures range { result.lo ≤ result.hi }
     ensures within { (lo ≤ result.lo) × (result.hi ≤ hi) }
-    ensures inside { Each (IsIn result.lo result.hi) rects.now }
-    ensures all { Each (HasAllIn lo hi result) rects.now }
+    ensures inside { AllByRecursion (IsIn result.lo result.hi) rects.now }
+    ensures all { AllByRecursion (HasAllIn lo hi result) rects.now }
 {
     let mut least = hi;
     let mut greatest = lo;

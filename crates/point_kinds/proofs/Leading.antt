@@ -7,6 +7,7 @@ use Rattle.std.proofs.lemmas.List.{length-append, get_or_append_left, get_or-set
 use Rattle.std.proofs.lemmas.List.Elements.{Contains-get_or, Contains-append_cases, Contains-append_left, Contains-append_right}
 use Rattle.std.proofs.lemmas.List.Kept.{AllPairs-from_increasing}
 use Rattle.point_kinds.specs.Parted.{AreLeads, HasLead, IsLead}
+use Rattle.list_lemmas.proofs.lemmas.Contained.{only, Contains-here}
 
 -- What is known of the places before `end`.
 pub record AreLeadsSoFar (end : ℕ) (numbers points : List ℕ) (seen : List Bool) (leads : List ℕ) : Type 0 where
@@ -14,13 +15,6 @@ pub record AreLeadsSoFar (end : ℕ) (numbers points : List ℕ) (seen : List Bo
   pub marked : (i : ℕ) → i < end → get_or seen (get_or numbers i 0) false ≡ true
   pub told : (n : ℕ) → get_or seen n false ≡ true → (i : ℕ) × (i < end) × (get_or numbers i 0 ≡ n)
   pub ascend : IsStrictlyIncreasing leads
-
-pub only_in : {X : Type 0} (x y : X) → Contains (x ∷ []) y → y ≡ x
-only_in x y (zero, lt, is) = sym is
-only_in x y (suc k, lt, is) = absurd (omega (arith, lt))
-
-pub in_one : {X : Type 0} (x : X) → Contains (x ∷ []) x
-in_one x = (0, omega arith, refl)
 
 increasing_more : (ns : List ℕ) (n : ℕ) → IsStrictlyIncreasing ns → ((m : ℕ) → Contains ns m → m < n) → IsStrictlyIncreasing (ns ++ n ∷ [])
 increasing_more ns n h below k within = step (cases_eq (k + 1) (length ns))
@@ -122,7 +116,7 @@ module _ (end : ℕ) (numbers points : List ℕ) (seen : List Bool) (leads : Lis
         lead = end;
         not_later = omega (arith, last);
         same = ap (λ k. get_or numbers k 0) (sym last);
-        listed = Contains-append_right leads (point ∷ []) point (in_one point);
+        listed = Contains-append_right leads (point ∷ []) point (Contains-here []);
       }
 
       leading : (p : ℕ) → Contains (leads ++ point ∷ []) p → IsLead (end + 1) numbers points p
@@ -132,7 +126,7 @@ module _ (end : ℕ) (numbers points : List ℕ) (seen : List Bool) (leads : Lis
             record {
               place = end;
               within = omega arith;
-              point = sym (only_in point p last);
+              point = sym (only last);
               first = λ k lt same. true≢false (sym (so.marked k lt) ∙ (ap (λ n. get_or seen n false) same ∙ was));
             }
       ]

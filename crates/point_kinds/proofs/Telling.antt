@@ -13,9 +13,9 @@ use Rattle.log_laws.proofs.lemmas.Members.{is_in_of, member_in}
 use Rattle.point_laws.specs.Alike.{AreAlike, AreFirsts}
 use Rattle.point_kinds.specs.Parted.{AreLeads, IsParted}
 use Rattle.point_kinds.specs.Kinds.{AreKinds, places_of, shares}
-use Rattle.point_kinds.proofs.Leading.{in_one, only_in}
 use Rattle.point_kinds.proofs.Walking.{at_least, is_in_set}
 use Rattle.list_lemmas.proofs.lemmas.Filtered.{in_filter, of_filter}
+use Rattle.list_lemmas.proofs.lemmas.Contained.{only, Contains-here}
 
 -- A place is among those of a set's points just where the set has its point.
 same_in : (set points : List ℕ) (i : ℕ) → i < length points → is_in (places_of set points) i ≡ is_in set (get_or points i 0)
@@ -59,14 +59,14 @@ kinds_more spaces s points old new kinds parted = record {
         λ other c. elim (Contains-append_cases spaces (s ∷ []) other c) [
           | inl earlier ↦ before other earlier
           | inr last ↦
-              subst (λ (x : Space). is_in x.points (get_or points i 0) ≡ is_in x.points (get_or points j 0)) (sym (only_in s other last))
+              subst (λ (x : Space). is_in x.points (get_or points i 0) ≡ is_in x.points (get_or points j 0)) (sym (only last))
               (sym (same_in s.points points i in_i) ∙ (h.1 ∙ same_in s.points points j in_j))
         ],
     λ alike.
         (parted.parted i j (old_within i in_i) (old_within j in_j)).1 (
           (kinds.alike i j in_i in_j).1 (λ other c. alike other (Contains-append_left spaces (s ∷ []) other c)),
           same_in s.points points i in_i
-              ∙ (alike s (Contains-append_right spaces (s ∷ []) s (in_one s)) ∙ sym (same_in s.points points j in_j)),
+              ∙ (alike s (Contains-append_right spaces (s ∷ []) s (Contains-here [])) ∙ sym (same_in s.points points j in_j)),
         ),
   );
 }

@@ -7,8 +7,8 @@
 #![tactic(auto)]
 
 mod ends;
-mod taking;
 mod flows;
+mod taking;
 mod tracing;
 mod walking;
 

@@ -5,8 +5,8 @@ ghost use Rattle.semantics.specs.Links.{is_asked, kind_of};
 ghost use Rattle.semantics.specs.Shown.{event_of};
 ghost use Rattle.provenance.specs.Tracing.{links_behind};
 
-use crate::taking::Taken;
 use crate::flows::{Flow, flow_of};
+use crate::taking::Taken;
 use logs::Log;
 use point_set::PointSet;
 use semantics::{Ask, Cell, Link, LinkKind, Move};

@@ -14,7 +14,7 @@ use Rattle.semantics.specs.declared.moves.Move.TheVariants as moves
 use Rattle.semantics.specs.declared.tables.Op.TheVariants as operations
 use Rattle.semantics.specs.Rules.{is_task, is_declared, is_reduction, reduces_in, is_of_wrong_kind, names, inst_id, task_id}
 use Rattle.logs.specs.Faultless.{AreDeclared}
-use Rattle.list_lemmas.proofs.lemmas.Contained.{each_more, member_flat, member_map, all_at, any_at, any_found, find_any, find_still, only, Contains-here, Contains-later, Contains-nil, all_contained}
+use Rattle.list_lemmas.proofs.lemmas.Contained.{each_more, member_flat, member_map, all_at, any_at, any_found, find_any, find_still, only, Contains-here, Contains-nil, all_contained}
 use Rattle.list_lemmas.proofs.lemmas.Firsts.{contains_at}
 use Rattle.log_laws.proofs.lemmas.StepLists.{of_node}
 use Rattle.log_laws.proofs.lemmas.Admitted.{Unbroken, rule_kept, by_records, no_broken_rule}

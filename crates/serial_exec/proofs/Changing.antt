@@ -9,6 +9,7 @@ use Rattle.semantics.specs.declared.tables.ItemBody.TheVariants.{Task, Fill}
 use Rattle.serial_exec.specs.declared.change.Action.{Action}
 use Rattle.serial_exec.specs.declared.change.Change.{Change}
 use Rattle.serial_exec.specs.Changes.{task_action, action_of, change_of, uses_changes, item_changes, items_changes, after_changes, before}
+use Rattle.std.specs.List.{AllByRecursion}
 
 pub after-append : (xs ys : List Change) (v : Value) → after_changes (xs ++ ys) v ≡ after_changes ys (after_changes xs v)
 after-append [] ys v = refl
@@ -57,39 +58,38 @@ items-changes t position (item ∷ items) p v =
 
 -- ---- when it is done
 
--- Each change is of a position.
-abbrev pub Each : (ℕ → Type 0) → List Change → Type 0
-Each P [] = Unit {0}
-Each P (c ∷ cs) = P c.position × Each P cs
+-- The position of each change has a property.
+abbrev pub AllPositions : (ℕ → Type 0) → List Change → Type 0
+AllPositions P cs = AllByRecursion (λ c. P c.position) cs
 
-each-append : (P : ℕ → Type 0) (xs ys : List Change) → Each P xs → Each P ys → Each P (xs ++ ys)
-each-append P [] ys all more = more
-each-append P (x ∷ xs) ys all more = (all.0, each-append P xs ys all.1 more)
+all-append : (P : ℕ → Type 0) (xs ys : List Change) → AllPositions P xs → AllPositions P ys → AllPositions P (xs ++ ys)
+all-append P [] ys all more = more
+all-append P (x ∷ xs) ys all more = (all.0, all-append P xs ys all.1 more)
 
-each-change : (P : ℕ → Type 0) (position : ℕ) (covered : Bool) (o : Option Action) → P position → Each P (cond covered (change_of position o) [])
-each-change P position true None h = tt
-each-change P position true (Some a) h = (h, tt)
-each-change P position false o h = tt
+all-change : (P : ℕ → Type 0) (position : ℕ) (covered : Bool) (o : Option Action) → P position → AllPositions P (cond covered (change_of position o) [])
+all-change P position true None h = tt
+all-change P position true (Some a) h = (h, tt)
+all-change P position false o h = tt
 
-each-uses : (P : ℕ → Type 0) (t : Tables) (position : ℕ) (i : Item) (rs : List Req) (p : Place) → P position
-    → Each P (uses_changes t position (action_of i) rs p)
-each-uses P t position i [] p h = tt
-each-uses P t position i (r ∷ rs) p h = each-append P _ _ (each-change P position (covers t p r) (action_of i r) h)
-    (each-uses P t position i rs p h)
+all-uses : (P : ℕ → Type 0) (t : Tables) (position : ℕ) (i : Item) (rs : List Req) (p : Place) → P position
+    → AllPositions P (uses_changes t position (action_of i) rs p)
+all-uses P t position i [] p h = tt
+all-uses P t position i (r ∷ rs) p h = all-append P _ _ (all-change P position (covers t p r) (action_of i r) h)
+    (all-uses P t position i rs p h)
 
-each-item-at : (P : ℕ → Type 0) (t : Tables) (position : ℕ) (us : List Req) (p : Place) (o : Option Item) → P position
-    → Each P (option_map_or (λ i. uses_changes t position (action_of i) us p) o [])
-each-item-at P t position us p None h = tt
-each-item-at P t position us p (Some i) h = each-uses P t position i us p h
+all-item-at : (P : ℕ → Type 0) (t : Tables) (position : ℕ) (us : List Req) (p : Place) (o : Option Item) → P position
+    → AllPositions P (option_map_or (λ i. uses_changes t position (action_of i) us p) o [])
+all-item-at P t position us p None h = tt
+all-item-at P t position us p (Some i) h = all-uses P t position i us p h
 
-each-item : (P : ℕ → Type 0) (t : Tables) (position item : ℕ) (p : Place) → P position → Each P (item_changes t position item p)
-each-item P t position item p h = each-item-at P t position (uses_of t item) p (slice_get t.items item) h
+all-item : (P : ℕ → Type 0) (t : Tables) (position item : ℕ) (p : Place) → P position → AllPositions P (item_changes t position item p)
+all-item P t position item p h = all-item-at P t position (uses_of t item) p (slice_get t.items item) h
 
-each-items : (low : ℕ) (t : Tables) (position : ℕ) (items : List ℕ) (p : Place) → low ≤ position
-    → Each (λ m. low ≤ m) (items_changes t position items p)
-each-items low t position [] p h = tt
-each-items low t position (item ∷ items) p h = each-append (λ m. low ≤ m) _ _ (each-item (λ m. low ≤ m) t position item p h)
-    (each-items low t (position + 1) items p (omega arith))
+all-items : (low : ℕ) (t : Tables) (position : ℕ) (items : List ℕ) (p : Place) → low ≤ position
+    → AllPositions (λ m. low ≤ m) (items_changes t position items p)
+all-items low t position [] p h = tt
+all-items low t position (item ∷ items) p h = all-append (λ m. low ≤ m) _ _ (all-item (λ m. low ≤ m) t position item p h)
+    (all-items low t (position + 1) items p (omega arith))
 
 before-append : (n : ℕ) (xs ys : List Change) → before n (xs ++ ys) ≡ before n xs ++ before n ys
 before-append n [] ys = refl
@@ -98,13 +98,13 @@ before-append n (x ∷ xs) ys = elim (cases_Bool (nat_lt x.position n)) [
   | inr late ↦ rw late (before-append n xs ys)
 ]
 
-before-all : (n : ℕ) (xs : List Change) → Each (λ m. m < n) xs → before n xs ≡ xs
+before-all : (n : ℕ) (xs : List Change) → AllPositions (λ m. m < n) xs → before n xs ≡ xs
 before-all n [] all = refl
 before-all n (x ∷ xs) all =
     let lt : nat_lt x.position n ≡ true = let h : x.position < n = all.0 in grind (arith, nat_tests) in
     rw lt (ap (λ zs. x ∷ zs) (before-all n xs all.1))
 
-before-none : (n : ℕ) (xs : List Change) → Each (λ m. n ≤ m) xs → before n xs ≡ []
+before-none : (n : ℕ) (xs : List Change) → AllPositions (λ m. n ≤ m) xs → before n xs ≡ []
 before-none n [] all = refl
 before-none n (x ∷ xs) all =
     let le : nat_lt x.position n ≡ false = let h : n ≤ x.position = all.0 in grind (arith, nat_tests) in
@@ -114,11 +114,11 @@ before-none n (x ∷ xs) all =
 pub before-items : (t : Tables) (position n : ℕ) (items : List ℕ) (p : Place)
     → before (position + n) (items_changes t position items p) ≡ items_changes t position (take n items) p
 before-items t position zero items p = before-none (position + 0) (items_changes t position items p)
-    (each-items (position + 0) t position items p (omega arith))
+    (all-items (position + 0) t position items p (omega arith))
 before-items t position (suc n) [] p = refl
 before-items t position (suc n) (item ∷ items) p =
     let here : before (position + suc n) (item_changes t position item p) ≡ item_changes t position item p =
-    before-all (position + suc n) _ (each-item (λ m. m < position + suc n) t position item p (omega arith)) in
+    before-all (position + suc n) _ (all-item (λ m. m < position + suc n) t position item p (omega arith)) in
     let same : position + suc n ≡ (position + 1) + n = omega arith in
     before-append (position + suc n) (item_changes t position item p) (items_changes t (position + 1) items p)
     ∙ ap (λ xs. xs ++ before (position + suc n) (items_changes t (position + 1) items p)) here
@@ -127,34 +127,34 @@ before-items t position (suc n) (item ∷ items) p =
 
 -- ---- in order
 
--- Each change is of a position that is no later than that of all after it.
+-- AllPositions change is of a position that is no later than that of all after it.
 abbrev pub Rises : List Change → Type 0
 Rises [] = Unit {0}
 Rises (c ∷ cs) = All (λ d. c.position ≤ d.position) cs × Rises cs
 
-all-from : (low : ℕ) (cs : List Change) → Each (λ m. low ≤ m) cs → All (λ d. low ≤ d.position) cs
+all-from : (low : ℕ) (cs : List Change) → AllPositions (λ m. low ≤ m) cs → All (λ d. low ≤ d.position) cs
 all-from low [] all k d lt = absurd (omega (arith, lt))
 all-from low (c ∷ cs) all zero d lt = all.0
 all-from low (c ∷ cs) all (suc k) d lt = all-from low cs all.1 k d (omega (arith, lt))
 
 -- What is all of one position comes before what is later.
-rises-append : (m : ℕ) (xs ys : List Change) → Each (λ n. n ≡ m) xs → Each (λ n. m ≤ n) ys → Rises ys → Rises (xs ++ ys)
+rises-append : (m : ℕ) (xs ys : List Change) → AllPositions (λ n. n ≡ m) xs → AllPositions (λ n. m ≤ n) ys → Rises ys → Rises (xs ++ ys)
 rises-append m [] ys here later up = up
 rises-append m (x ∷ xs) ys here later up = (
-  all-from x.position (xs ++ ys) (each-append (λ n. x.position ≤ n) xs ys (still xs here.1) (behind ys later)),
+  all-from x.position (xs ++ ys) (all-append (λ n. x.position ≤ n) xs ys (still xs here.1) (behind ys later)),
   rises-append m xs ys here.1 later up,
 )
   where
-    still : (xs : List Change) → Each (λ n. n ≡ m) xs → Each (λ n. x.position ≤ n) xs
+    still : (xs : List Change) → AllPositions (λ n. n ≡ m) xs → AllPositions (λ n. x.position ≤ n) xs
     still [] all = tt
     still (z ∷ zs) all = (omega (arith, here.0, all.0), still zs all.1)
 
-    behind : (ys : List Change) → Each (λ n. m ≤ n) ys → Each (λ n. x.position ≤ n) ys
+    behind : (ys : List Change) → AllPositions (λ n. m ≤ n) ys → AllPositions (λ n. x.position ≤ n) ys
     behind [] all = tt
     behind (z ∷ zs) all = (omega (arith, here.0, all.0), behind zs all.1)
 
 pub items-rise : (t : Tables) (position : ℕ) (items : List ℕ) (p : Place) → Rises (items_changes t position items p)
 items-rise t position [] p = tt
 items-rise t position (item ∷ items) p = rises-append position (item_changes t position item p) (items_changes t (position + 1) items p)
-    (each-item (λ n. n ≡ position) t position item p refl) (each-items position t (position + 1) items p (omega arith))
+    (all-item (λ n. n ≡ position) t position item p refl) (all-items position t (position + 1) items p (omega arith))
     (items-rise t (position + 1) items p)

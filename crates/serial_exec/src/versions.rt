@@ -47,7 +47,10 @@ impl Versions {
     {
         let positions = Vec::from_slice(alloc, log.serial_places())?;
         let histories = histories_of(alloc, log)?;
-        Ok(Versions { positions, histories })
+        Ok(Versions {
+            positions,
+            histories,
+        })
     }
 
     /// The versions at all points.

@@ -1,5 +1,5 @@
 -- The fault of a crowded log is what any command finds.
-use Rattle.std.proofs.Common.{◌≡◌, ℕ, List, Some, None, ap, inr, subst, sym}
+use Rattle.std.proofs.Common.{◌≡◌, ℕ, List, Some, ap, inr, subst, sym}
 use Rattle.std.specs.Prelude.{Result, Ok, Err, IfOk}
 use Rattle.std.specs.Option.{option_or}
 use Rattle.vocabulary.specs.Prelude.{Fault, Lined, tables_of}

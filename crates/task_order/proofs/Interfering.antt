@@ -3,13 +3,12 @@ use Rattle.std.proofs.Common.{◌≡◌, ℕ, ◌+◌, ◌<◌, inl, inr, Bool, 
 use Rattle.std.specs.List.{list_any}
 use Rattle.std.proofs.lemmas.Bool.{and_parts, and_from, eqb-true, eq-eqb, not-true}
 use Rattle.std.proofs.lemmas.Bool.Decides.{nat_tests}
-use Rattle.std.proofs.lemmas.List.Folds.{Any-from_list_any, list_any-from_Any}
 use Rattle.std.proofs.lemmas.List.Elements.{All-contains}
 use Rattle.vocabulary.specs.Prelude.{Priv, Cell, Place, Req, Tables, agree, is_free, item_kind, is_in, uses_of, covers}
 use Rattle.privilege.specs.declared.kinds.Priv.TheVariants.{Ro, Rw, Wd, Red}
 use Rattle.semantics.specs.SerialOrder.{serial, serial_place}
 use Rattle.semantics.specs.Shown.{is_task_at}
-use Rattle.list_lemmas.proofs.lemmas.Contained.{all_contained}
+use Rattle.list_lemmas.proofs.lemmas.Contained.{all_contained, any_at, any_found}
 use Rattle.list_lemmas.proofs.lemmas.Filtered.{in_filter}
 use Rattle.list_lemmas.proofs.lemmas.Pairs.{AllPairs-cases}
 use Rattle.cell_races.specs.declared.cell_accesses.CellAccess.{CellAccess}
@@ -24,12 +23,6 @@ use Rattle.pair_rows.specs.Meetings.{meets, met, met_at_some, HasOneClass, AreBy
 use Rattle.task_order.specs.Users.{class_of, user_of, AreUsersOf, AreTaskPlaces}
 
 -- ---- users that meet
-
-any_at : {X : Type 0} (p : X → Bool) (xs : List X) (x : X) → Contains xs x → p x ≡ true → list_any p xs ≡ true
-any_at p xs x c e = list_any-from_Any p xs (c.0, x, c.1, c.2, e)
-
-any_found : {X : Type 0} (p : X → Bool) (xs : List X) → list_any p xs ≡ true → (x : X) × Contains xs x × (p x ≡ true)
-any_found p xs e = let a = Any-from_list_any p xs e in (a.1, (a.0, a.2, a.3), a.4)
 
 both_ways : (b c : Bool) → (b ≡ true → c ≡ true) → (c ≡ true → b ≡ true) → b ≡ c
 both_ways true c h k = sym (h refl)

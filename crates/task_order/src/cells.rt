@@ -33,7 +33,11 @@ fn user_of(order: &[usize], cell_access: &CellAccess) -> User
 }
 
 /// The users of accesses, one for each.
-fn users_of(alloc: Global, order: &[usize], cell_accesses: &[CellAccess]) -> Result<Vec<User>, AllocError>
+fn users_of(
+    alloc: Global,
+    order: &[usize],
+    cell_accesses: &[CellAccess],
+) -> Result<Vec<User>, AllocError>
     requires { All (λ x. x.place < length order.now) cell_accesses.now }
     ensures { IfOk result (λ users. users.items ≡ map (user_of order.now) cell_accesses.now) }
 {

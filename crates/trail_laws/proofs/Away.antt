@@ -49,7 +49,7 @@ record IsFit (t : Tables) (m : Map) : Type 0 where
   fit : fits req.access inst.kind ≡ true
 
 record AreKept (t : Tables) : Type 0 where
-  maps : (x : _) → Contains t.maps x → IsFit t x
+  maps : (x : Map) → Contains t.maps x → IsFit t x
   nodes : (n : LogNode) → Contains t.nodes n → OpKept t.insts n.op
 
 kind_still : (insts : List Inst) (x : Inst) (id : ℕ) (b : Bool) → IsOfKind insts id b → IsOfKind (insts ++ x ∷ []) id b

@@ -19,11 +19,6 @@ use Rattle.list_lemmas.proofs.lemmas.Pairs.{AllPairs-cases, AllPairs-push, AllPa
 use Rattle.list_lemmas.proofs.lemmas.Parts.{place_len}
 use Rattle.log_laws.proofs.lemmas.Admitted.{Unbroken, rule_kept, IsFaultless, by_records, keeps_of}
 
-still_at : {X : Type 0} (xs ys : List X) (k : ℕ) (x : X) → slice_get xs k ≡ Some x → slice_get (xs ++ ys) k ≡ Some x
-still_at [] ys k x e = let none : k < 0 = slice_get_within [] k x e in absurd (omega (arith, none))
-still_at (y ∷ xs) ys zero x e = e
-still_at (y ∷ xs) ys (suc k) x e = still_at xs ys k x e
-
 -- ---- what stays with each record
 
 -- Two nodes do not run one item.
@@ -124,7 +119,7 @@ module _ (t : Tables) (h : AreRuns t) where
 abbrev Positive : LogNode → Type 0
 Positive n = 1 ≤ n.done
 
-more_positive : (t : Tables) (line : ℕ) (r : Record) → Good r → ((x : _) → Contains t.nodes x → Positive x) → (x : _) → Contains (with_record t line r).nodes x → Positive x
+more_positive : (t : Tables) (line : ℕ) (r : Record) → Good r → ((x : LogNode) → Contains t.nodes x → Positive x) → (x : LogNode) → Contains (with_record t line r).nodes x → Positive x
 more_positive t line (records.Run task done waits) good h = each_more Positive t.nodes _ h good.1.0.0
 more_positive t line (records.Copy src dst space fields done waits) good h = each_more Positive t.nodes _ h good.1.1.1.1.0.0
 more_positive t line (records.Put inst space fields n done waits) good h = each_more Positive t.nodes _ h good.1.1.1.1.0.0
@@ -134,8 +129,8 @@ more_positive t line (records.Merge done waits) good h = each_more Positive t.no
 more_positive t line _ good h = h
 
 positive : (command : Command) (log : List Lined) → AllByRecursion Good (records_of log) → IsFaultless command log
-    → (x : _) → Contains (tables_of log).nodes x → Positive x
-positive command log good f = by_records Good (λ t. ((x : _) → Contains t.nodes x → Positive x)) (records_of log)
+    → (x : LogNode) → Contains (tables_of log).nodes x → Positive x
+positive command log good f = by_records Good (λ t. ((x : LogNode) → Contains t.nodes x → Positive x)) (records_of log)
     (λ earlier l u g h. more_positive (tables_of earlier) l.line l.rec g h)
     [] log good f.records (λ n m. absurd (Contains-nil m))
 

@@ -9,6 +9,8 @@ use Rattle.crowded_logs.specs.Crowded.{IsKeptAs}
 use Rattle.crowded_logs.specs.Noted.{frame_fault}
 use Rattle.crowded_logs.proofs.Crowding.{fault_kept, header_kept, some_kept}
 use Rattle.crowded_logs.proofs.Framing.{frame_told}
+use Rattle.list_lemmas.proofs.lemmas.Firsts.{or_alike}
+use Rattle.list_lemmas.proofs.lemmas.Contained.{both_none}
 
 -- The first of three faults, or else that of the records.
 tried : {X : Type 0} (header ended count records : Option X)
@@ -16,14 +18,6 @@ tried : {X : Type 0} (header ended count records : Option X)
 tried None None count records = refl
 tried None (Some f) count records = refl
 tried (Some f) ended count records = refl
-
-first_none : {X : Type 0} (o p : Option X) → option_or o p ≡ None → (o ≡ None) × (p ≡ None)
-first_none None p e = (refl, e)
-first_none (Some x) p e = absurd cc
-
-or_alike : {X : Type 0} (o p q : Option X) → (o ≡ None → p ≡ q) → option_or o p ≡ option_or o q
-or_alike None p q h = h refl
-or_alike (Some x) p q h = refl
 
 module _ (lines : ℕ) (log kept : List Lined) (frame : Frame) (told : IsKeptAs log kept frame) where
   frame_is_told : option_or (header_fault lines log) (option_or (ended_fault lines log) (count_fault log)) ≡ frame_fault lines frame
@@ -41,12 +35,12 @@ module _ (lines : ℕ) (log kept : List Lined) (frame : Frame) (told : IsKeptAs 
       (λ none. fault_kept lines log kept told.is_kept (no_end_fault none))
     where
       no_end_fault : frame_fault lines frame ≡ None → ended_fault lines log ≡ None
-      no_end_fault none = (first_none (ended_fault lines log) (count_fault log)
-          (first_none (header_fault lines log) _ (frame_is_told ∙ none)).1).0
+      no_end_fault none = (both_none (ended_fault lines log) (count_fault log)
+          (both_none (header_fault lines log) _ (frame_is_told ∙ none)).1).0
 
   pub some_told : frame_fault lines frame ≡ None → records_fault (records_of kept) [] kept ≡ None → ⊥
   some_told none = some_kept lines log kept told.is_kept
-      (first_none (ended_fault lines log) (count_fault log) (first_none (header_fault lines log) _ (frame_is_told ∙ none)).1).0
+      (both_none (ended_fault lines log) (count_fault log) (both_none (header_fault lines log) _ (frame_is_told ∙ none)).1).0
 
   pub header_told : frame_fault lines frame ≡ None → header_fault 0 kept ≡ None
-  header_told none = header_kept lines log kept told.is_kept (first_none (header_fault lines log) _ (frame_is_told ∙ none)).0
+  header_told none = header_kept lines log kept told.is_kept (both_none (header_fault lines log) _ (frame_is_told ∙ none)).0

@@ -4,7 +4,7 @@ use Rattle.std.specs.Prelude.{IfSome}
 use Rattle.std.specs.List.{list_all, list_any}
 use Rattle.std.specs.Option.{option_map_or}
 use Rattle.std.proofs.lemmas.Bool.{not-false, false≢true, true≢false, or_parts, eqb-true, and_parts}
-use Rattle.std.proofs.lemmas.List.Elements.{recursion_from_All, Contains-append_right, Contains-append_cases, Contains-push}
+use Rattle.std.proofs.lemmas.List.Elements.{recursion_from_All, Contains-append_cases, Contains-push}
 use Rattle.std.proofs.lemmas.Option.{same_Some}
 use Rattle.vocabulary.specs.Prelude.{Rect, Priv, Record, Lined, Move, Req, Inst, Map, LogNode, Op, records_of, Tables, Space, place_of, with_space, with_record, no_tables, tables_of, is_in, is_within, points_in, reqs_of, grid, req_at, inst_at, cell_in, id_of, operator_of, moves_of, start, Value}
 use Rattle.privilege.specs.declared.kinds.Priv.TheVariants as privileges
@@ -85,12 +85,12 @@ abbrev Mapped : Tables → Map → Type 0
 Mapped t m = (r : Req) × (req_at t m.item m.number ≡ Some r) × Within t.spaces t.insts r.space m.fields m.inst
 
 abbrev OpWithin : List Space → List Inst → Op → Type 0
-OpWithin ss is op = (d : DataOp) → data_of op ≡ Some d → (x : _) → Contains (insts_of d.act) x → Within ss is d.space d.fields x
+OpWithin ss is op = (d : DataOp) → data_of op ≡ Some d → (x : ℕ) → Contains (insts_of d.act) x → Within ss is d.space d.fields x
 
 record Covers (t : Tables) : Type 0 where
   insts : (i : Inst) → Contains t.insts i → Spaced t i.space
   reqs : (r : Req) → Contains t.reqs r → Spaced t r.space
-  maps : (x : _) → Contains t.maps x → Mapped t x
+  maps : (x : Map) → Contains t.maps x → Mapped t x
   nodes : (n : LogNode) → Contains t.nodes n → OpWithin t.spaces t.insts n.op
 
 more_op : (ss us : List Space) (is js : List Inst)
@@ -159,7 +159,7 @@ op_within : (t : Tables) → Covers t → (act : DataAct) (space : ℕ) (fields 
     → list_all (is_declared t) (map (λ id. rules.inst_id id) (insts_of act) ++ space_id space ∷ []) ≡ true
     → list_any (lacks t (points_in t space) fields) (insts_of act) ≡ false → (d : DataOp)
     → Some (let x : DataOp = record { act = act; space = space; fields = fields } in x) ≡ Some d
-    → (x : _) → Contains (insts_of d.act) x → Within t.spaces t.insts d.space d.fields x
+    → (x : ℕ) → Contains (insts_of d.act) x → Within t.spaces t.insts d.space d.fields x
 op_within t h act space fields known none d e =
     let insts = map (λ id. rules.inst_id id) (insts_of act) in
     let declared = spaced t space (all_at (is_declared t) (insts ++ space_id space ∷ []) (space_id space) known

@@ -61,19 +61,19 @@ flat_few g (k ∷ ks) ns h within =
     ]
 
 -- Different elements of a list are no more than the list has.
-fewer : {X : Type 0} (xs ys : List X) → Apart xs → ((x : _) → Contains xs x → Contains ys x) → length xs ≤ length ys
+fewer : {X : Type 0} (xs ys : List X) → Apart xs → ((x : X) → Contains xs x → Contains ys x) → length xs ≤ length ys
 fewer xs ys h within = omega (arith, flat_few (λ x. x ∷ []) xs ys h within, singles xs, singles ys)
   where
     singles : {X : Type 0} (zs : List X) → length (flat_map (λ x. x ∷ []) zs) ≡ length zs
     singles zs = ap length (flat_map_single (λ x. x) zs) ∙ length-map zs (λ x. x)
 
 -- Parts of no more than one element each have together no more than there are parts.
-flat_ones : {X Y : Type 0} (g : X → List Y) (xs : List X) → ((x : _) → Contains xs x → length (g x) ≤ 1) → length (flat_map g xs) ≤ length xs
+flat_ones : {X Y : Type 0} (g : X → List Y) (xs : List X) → ((x : X) → Contains xs x → length (g x) ≤ 1) → length (flat_map g xs) ≤ length xs
 flat_ones g [] one = omega arith
 flat_ones g (x ∷ xs) one =
     omega (arith, length-append (g x) (flat_map g xs), flat_ones g xs (λ y m. one y (Contains-later xs m)), one x (Contains-here xs))
 
-flat_nothing : {X Y : Type 0} (g : X → List Y) (xs : List X) → ((x : _) → Contains xs x → g x ≡ []) → flat_map g xs ≡ []
+flat_nothing : {X Y : Type 0} (g : X → List Y) (xs : List X) → ((x : X) → Contains xs x → g x ≡ []) → flat_map g xs ≡ []
 flat_nothing g [] none = refl
 flat_nothing g (x ∷ xs) none = ap₂ ◌++◌ (none x (Contains-here xs)) (flat_nothing g xs (λ y m. none y (Contains-later xs m)))
 
@@ -169,7 +169,7 @@ module _ (t : Tables) (order : HasPointsInOrder t) (fields : HasFieldsApart t) (
       ]
 
   cells_few : (does : Req → Cell → List Move) → ((r : Req) (c : Cell) → length (does r c) ≤ 1)
-      → ((r : Req) (c : Cell) → is_here c ≡ false → here (does r c) ≡ []) → (rs : List Req) → ((x : _) → Contains rs x → Contains t.reqs x)
+      → ((r : Req) (c : Cell) → is_here c ≡ false → here (does r c) ≡ []) → (rs : List Req) → ((x : Req) → Contains rs x → Contains t.reqs x)
       → length (here (at_cells t does rs)) ≤ length rs
   cells_few does one none rs within =
       let part : Req → List Move = λ r. flat_map (λ p. does r (mapped_cell t r p)) (req_grid t r) in
@@ -179,7 +179,7 @@ module _ (t : Tables) (order : HasPointsInOrder t) (fields : HasFieldsApart t) (
       (fields.reqs r (within r m))))
 
   -- A task does no more than two moves here for each of its requirements.
-  run_few : (task : ℕ) (rs : List Req) → ((x : _) → Contains rs x → Contains t.reqs x) → length (here (run_moves t task rs)) ≤ 2 * length rs
+  run_few : (task : ℕ) (rs : List Req) → ((x : Req) → Contains rs x → Contains t.reqs x) → length (here (run_moves t task rs)) ≤ 2 * length rs
   run_few task rs within =
       let reads : Req → Cell → List Move = λ r c. reads_by task r.number r.access c in
       let changes : Req → Cell → List Move = λ r c. changes_by task r.number r.access c in

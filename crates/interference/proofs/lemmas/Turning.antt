@@ -7,7 +7,7 @@ use Rattle.std.proofs.lemmas.List.FromFn.{length-range_with_len}
 use Rattle.vocabulary.specs.Prelude.{Tables, is_free, is_before, item_kind, least_place}
 use Rattle.semantics.specs.Kinds as kinds
 use Rattle.semantics.specs.SerialOrder.{serial, serial_place, turned_pair}
-use Rattle.list_lemmas.proofs.lemmas.Contained.{member_map, member_flat, found_at, Contains-here, Contains-later}
+use Rattle.list_lemmas.proofs.lemmas.Contained.{member_map, member_flat, found_at, Contains-here, Contains-later, find_same}
 use Rattle.list_lemmas.proofs.lemmas.Filtered.{of_filter}
 use Rattle.list_lemmas.proofs.lemmas.Firsts.{cases_option}
 use Rattle.list_lemmas.proofs.lemmas.Ranges.{number_between}
@@ -74,14 +74,6 @@ first_against places us = ap (find (λ (p : Pair). is_before p.kind)) (left_agai
     ∙ find_kept (λ (p : Pair). is_before p.kind) (against places) (left None us 0 1)
 
 -- ---- the first that is turned
-
-find_same : {X : Type 0} (p q : X → Bool) (xs : List X) → ((x : X) → Contains xs x → p x ≡ q x) → find p xs ≡ find q xs
-find_same p q [] h = refl
-find_same p q (x ∷ xs) h =
-    elim (cases_Bool (q x)) [
-      | inl t ↦ rw (h x (Contains-here xs) ∙ t, t) refl
-      | inr f ↦ rw (h x (Contains-here xs) ∙ f, f) (find_same p q xs (λ y m. h y (Contains-later xs m)))
-    ]
 
 pub find_none : {X : Type 0} (p : X → Bool) (xs : List X) → ((x : X) → Contains xs x → p x ≡ false) → find p xs ≡ None
 find_none p [] h = refl

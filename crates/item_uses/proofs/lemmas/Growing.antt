@@ -13,7 +13,7 @@ use Rattle.semantics.specs.Shown.{is_task_at}
 use Rattle.list_lemmas.proofs.lemmas.Ranges.{number_between}
 use Rattle.item_uses.specs.Usages.{Usage, usage_of, usages_of, usages, usages_at}
 use Rattle.item_uses.specs.Gathered.{own_usages, with_usage}
-use Rattle.item_uses.proofs.OneMore.{one_more}
+use Rattle.list_lemmas.proofs.lemmas.Parts.{take_with}
 
 -- ---- what items ask for, position by position
 
@@ -156,4 +156,4 @@ pub usages_step : (t : Tables) (us : List (List Usage)) (rs : List Req) (i : ℕ
     → with_usage t us r.item (usage_of t r) ≡ usages (with_reqs t (take (i + 1) rs))
 usages_step t us rs i r so_far lt is =
     ap (λ us. with_usage t us r.item (usage_of t r)) so_far ∙ sym (usages_with_req (with_reqs t (take i rs)) r)
-    ∙ ap (λ qs. usages (with_reqs t qs)) (sym (one_more rs i r lt is))
+    ∙ ap (λ qs. usages (with_reqs t qs)) (sym (take_with rs i r lt is))

@@ -136,3 +136,12 @@ find_none p (y ∷ ys) e =
       | inl passes ↦ absurd (true≢false (sym (any_at p (y ∷ ys) y (Contains-here ys) passes) ∙ e))
       | inr fails ↦ rw fails (find_none p ys (rw fails at e))
     ]
+
+-- Tests that are the same at each element find the same.
+pub find_same : {X : Type 0} (p q : X → Bool) (xs : List X) → ((x : X) → Contains xs x → p x ≡ q x) → find p xs ≡ find q xs
+find_same p q [] h = refl
+find_same p q (x ∷ xs) h =
+    elim (cases_Bool (q x)) [
+      | inl hit ↦ rw (h x (Contains-here xs) ∙ hit, hit) refl
+      | inr miss ↦ rw (h x (Contains-here xs) ∙ miss, miss) (find_same p q xs (λ y m. h y (Contains-later xs m)))
+    ]

@@ -1,9 +1,9 @@
 -- Places of rows, and the rows at them.
-use Rattle.std.proofs.Common.{◌≡◌, ℕ, suc, ◌+◌, Bool, ◌&&◌, ◌||◌, List, [], ◌∷◌, ◌++◌, map, Option, Some, None, is_some, length, cond, refl, sym, ap, ap₂, filter, inl, inr, arith, find, All, subst, Bor, IfSome}
+use Rattle.std.proofs.Common.{◌≡◌, ℕ, suc, ◌+◌, Bool, ◌&&◌, ◌||◌, List, [], ◌∷◌, ◌++◌, map, Option, Some, None, is_some, length, cond, refl, sym, ap, filter, inl, inr, arith, find, All, subst, Bor, IfSome, zero, ◌<◌, slice_get}
 use Rattle.std.specs.List.{list_any, position_from}
 use Rattle.std.specs.Option.{option_or, option_map, option_copied}
 use Rattle.std.proofs.lemmas.Bool.{cases_Bool}
-use Rattle.std.proofs.lemmas.Option.{none-some, same_Some}
+use Rattle.std.proofs.lemmas.Option.{none-some, same_Some, slice_get_within}
 use Rattle.std.proofs.lemmas.List.Elements.{All-head, All-tail}
 
 -- one row more
@@ -44,11 +44,6 @@ pub all_found_behind : {X : Type 0} (P : X → Type 0) (p : X → Bool) (xs : Li
 all_found_behind P p xs None all e = tt
 all_found_behind P p xs (Some r) all e = all_found P p xs r.now all (sym e)
 
--- Tests that are the same at each element find the same.
-pub find_same : {X : Type 0} (p q : X → Bool) (xs : List X) → ((x : X) → p x ≡ q x) → find p xs ≡ find q xs
-find_same p q [] h = refl
-find_same {X} p q (x ∷ xs) h = ap₂ (λ (b : Bool) (o : Option X). cond b (Some x) o) (h x) (find_same p q xs h)
-
 pub find_filter : {X : Type 0} (s p : X → Bool) (xs : List X) → find p (filter s xs) ≡ find (λ x. s x && p x) xs
 find_filter s p [] = refl
 find_filter s p (x ∷ xs) =
@@ -56,3 +51,9 @@ find_filter s p (x ∷ xs) =
       | inl kept ↦ rw kept (ap (λ o. cond (p x) (Some x) o) (find_filter s p xs))
       | inr left ↦ rw left (find_filter s p xs)
     ]
+
+-- An element that stands at a place of a list stands there in a longer one.
+pub still_at : {X : Type 0} (xs ys : List X) (k : ℕ) (x : X) → slice_get xs k ≡ Some x → slice_get (xs ++ ys) k ≡ Some x
+still_at [] ys k x e = let none : k < 0 = slice_get_within [] k x e in absurd (omega (arith, none))
+still_at (y ∷ xs) ys zero x e = e
+still_at (y ∷ xs) ys (suc k) x e = still_at xs ys k x e

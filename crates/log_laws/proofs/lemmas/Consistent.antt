@@ -30,7 +30,7 @@ Names t m = (r : Req) × (i : Inst) × (req_at t m.item m.number ≡ Some r) × 
 pub record AreConsistent (t : Tables) : Type 0 where
   pub known : (r : Req) → Contains t.reqs r → (r.number ≤ reqs_before t.reqs r.item) × (is_declared t (space_id r.space) ≡ true)
   pub reqs : AllPairs (FitTogether t) t.reqs
-  pub named : (x : _) → Contains t.maps x → Names t x
+  pub named : (x : Map) → Contains t.maps x → Names t x
 
 -- The rules that matter here.
 pub record Keeps (t : Tables) (r : Record) : Type 0 where

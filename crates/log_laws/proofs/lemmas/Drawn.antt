@@ -1,10 +1,10 @@
 -- The spaces of a log whose records are good are of its rectangles.
-use Rattle.std.proofs.Common.{◌≡◌, ℕ, ◌+◌, ◌*◌, ◌^◌, ◌<◌, ◌≤◌, List, [], ◌∷◌, ◌++◌, map, fold, length, get_or, All, Contains, inl, inr, refl, sym, ◌∙◌, subst}
+use Rattle.std.proofs.Common.{◌≡◌, ℕ, ◌+◌, ◌≤◌, List, [], ◌∷◌, ◌++◌, map, fold, All, Contains, inl, inr, refl, sym, ◌∙◌, subst}
 use Rattle.std.specs.List.{AllByRecursion, Any}
 use Rattle.std.proofs.lemmas.List.{get_or_default}
 use Rattle.std.proofs.lemmas.List.Elements.{All-append, All-nil, Contains-append_left, Contains-append_right, Contains-append_cases}
 use Rattle.std.proofs.lemmas.List.Quantifiers.{Any-push}
-use Rattle.point_set.specs.Rects.{AreRects, Has, Holds, rect_at, rect_points}
+use Rattle.point_set.specs.Rects.{AreRects, Holds, rect_at, rect_points}
 use Rattle.point_set.proofs.lemmas.Columns.{of_has}
 use Rattle.vocabulary.specs.Prelude.{Good, Lined, Record, Rect, Space, Tables, no_tables, points_of, rect_of, records_of, strip, tables_of, with_record, with_space}
 use Rattle.spy_grammar.specs.declared.record.Record.TheVariants as records
@@ -20,7 +20,7 @@ abbrev IsWithin : List Space → Rect → Type 0
 IsWithin spaces r = Any (λ (s : Space). HasAllOf r s.points) spaces
 
 abbrev Drawing : Tables → Type 0
-Drawing t = All HasPoint t.rects × ((s : Space) → Contains t.spaces s → IsDrawnIn t.rects s.points) × ((x : _) → Contains t.rects x → IsWithin t.spaces x)
+Drawing t = All HasPoint t.rects × ((s : Space) → Contains t.spaces s → IsDrawnIn t.rects s.points) × ((x : Rect) → Contains t.rects x → IsWithin t.spaces x)
 
 more_rects : (rects more : List Rect) (points : List ℕ) → IsDrawnIn rects points → IsDrawnIn (rects ++ more) points
 more_rects rects more points h = record {

@@ -28,7 +28,7 @@ pub record AreListed (log : List Record) (t : Tables) : Type 0 where
   pub ids : AllPairs (λ (i j : Item). i.id ≢ j.id) t.items
   pub of_log : (i : Item) → Contains t.items i → (r : Record) × Contains log r × Contains (items_declared r) i.id
   pub once : Apart (listed t)
-  pub known : (id : _) → Contains (listed t) id → is_declared t (item_id id) ≡ true
+  pub known : (id : ℕ) → Contains (listed t) id → is_declared t (item_id id) ≡ true
   pub whole : 0 < length t.serials → length (filter lists log) ≡ length t.serials → (r : Record) (id : ℕ) → Contains log r
       → Contains (items_declared r) id → Contains (listed t) id
 

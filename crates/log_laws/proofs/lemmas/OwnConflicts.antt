@@ -3,7 +3,7 @@ use Rattle.std.proofs.Common.{◌≡◌, ◌≢◌, ℕ, ◌⊎◌, inl, inr, Bo
 use Rattle.std.proofs.lemmas.Bool.{true≢false, and_parts, cond_both, eq-eqb, eqb-true, false_from_ne_true}
 use Rattle.std.proofs.lemmas.Bool.Decides.{nat_tests}
 use Rattle.std.proofs.lemmas.Option.{same_Some}
-use Rattle.vocabulary.specs.Prelude.{Priv, agree, may_read, Cell, Move, Req, LogNode, Op, Map, Tables, is_in, points_in, reqs_of, grid, req_grid, id_of, mapped, mapped_cell, reads_by, changes_by, at_cells, run_moves, moves_of, steps, same_cell, is_read, Access, Untouched, Writes, Folds, at_cell, from_to, access, conflicts, NodesConflictByReads}
+use Rattle.vocabulary.specs.Prelude.{Priv, agree, may_read, Cell, Move, Req, LogNode, Op, Map, Tables, is_in, points_in, reqs_of, grid, req_grid, id_of, mapped, mapped_cell, reads_by, changes_by, at_cells, run_moves, moves_of, same_cell, is_read, Access, Untouched, Writes, Folds, at_cell, from_to, access, conflicts, NodesConflictByReads}
 use Rattle.privilege.specs.declared.kinds.Priv.TheVariants as privileges
 use Rattle.semantics.specs.declared.moves.Move.TheVariants as moves
 use Rattle.semantics.specs.declared.tables.Op.TheVariants as operations

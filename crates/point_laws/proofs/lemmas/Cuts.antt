@@ -17,10 +17,10 @@ use Rattle.log_laws.proofs.lemmas.Members.{member_in, is_in_of}
 use Rattle.log_laws.proofs.lemmas.StepLists.{steps_at}
 use Rattle.list_lemmas.proofs.lemmas.Filtered.{of_filter, in_filter}
 use Rattle.list_lemmas.proofs.lemmas.Firsts.{cases_option}
-use Rattle.list_lemmas.proofs.lemmas.Parts.{filter_map_of}
+use Rattle.list_lemmas.proofs.lemmas.Parts.{filter_map_of, filter_flat}
 use Rattle.point_laws.specs.Alike.{HasPointsInOrder, AreFirsts, target, is_at}
 use Rattle.point_laws.specs.Cut.{cut, cut_space, kept, cut_to}
-use Rattle.point_laws.proofs.Rows.{filter_flat, kept_grid}
+use Rattle.point_laws.proofs.Rows.{kept_grid}
 use Rattle.point_laws.proofs.Moves.{Does, at_points, reads_kept, changes_kept, steps_stay}
 use Rattle.point_laws.proofs.Effects.{Agree, Stay, kept_agree}
 use Rattle.point_laws.proofs.lemmas.Firsts.{difference_agrees, shown_at_first}
@@ -153,7 +153,7 @@ module _ (ps : List ℕ) (t : Tables) where
       (wanted_cut (place_of t.items task) (record { tree = tree; point = c.point; field = c.field }) at)
   difference_cut _ s at = refl
 
-  differences_cut : (xs : List Step) → Stay xs → ((x : _) → Contains xs x → is_at ps x ≡ true) → (r s : State) → Agree ps r s
+  differences_cut : (xs : List Step) → Stay xs → ((x : Step) → Contains xs x → is_at ps x ≡ true) → (r s : State) → Agree ps r s
       → first_difference (cut ps t) xs r ≡ first_difference t xs s
   differences_cut [] stay at r s agree = refl
   differences_cut (x ∷ xs) stay at r s agree =

@@ -15,13 +15,13 @@ use Rattle.log_laws.proofs.lemmas.StepLists.{steps_at}
 use Rattle.log_laws.proofs.lemmas.OwnConflicts.{is_of, a_read, no_read}
 use Rattle.point_laws.specs.Alike.{AreAlike, HasPointsInOrder, AreFirsts, target, cell_at, is_at}
 use Rattle.point_laws.proofs.Values.{in_both, first_in, wanted_alike}
-use Rattle.point_laws.proofs.Rows.{filter_flat, flat_grid, kept_parts}
+use Rattle.point_laws.proofs.Rows.{flat_grid, kept_parts}
 use Rattle.point_laws.proofs.Moves.{at_points, reads_kept, steps_at_same, steps_at_stay}
 use Rattle.point_laws.proofs.Effects.{Agree, Mirrors, executed_agree}
 use Rattle.list_lemmas.proofs.lemmas.Contained.{member_map, both_none, Contains-here, Contains-later, Contains-cases}
 use Rattle.list_lemmas.proofs.lemmas.Filtered.{of_filter}
-use Rattle.list_lemmas.proofs.lemmas.Firsts.{cases_option}
-use Rattle.list_lemmas.proofs.lemmas.Parts.{filter_map_of}
+use Rattle.list_lemmas.proofs.lemmas.Firsts.{cases_option, or_assoc, or_none}
+use Rattle.list_lemmas.proofs.lemmas.Parts.{filter_map_of, filter_flat}
 use Rattle.list_lemmas.proofs.lemmas.Ranges.{Rise}
 use Rattle.point_laws.proofs.lemmas.Order.{points_in_rise, points_in_apart}
 use Rattle.point_laws.proofs.Mirrored.{same_mirrors, start_mirrors}
@@ -31,14 +31,6 @@ use Rattle.point_laws.proofs.Mirrored.{same_mirrors, start_mirrors}
 abbrev pub first_of : {A B : Type 0} → (A → Option B) → List A → Option B
 first_of d [] = None
 first_of d (x ∷ xs) = option_or (d x) (first_of d xs)
-
-or_assoc : {B : Type 0} (a b c : Option B) → option_or (option_or a b) c ≡ option_or a (option_or b c)
-or_assoc None b c = refl
-or_assoc (Some x) b c = refl
-
-or_none : {B : Type 0} (a : Option B) → option_or a None ≡ a
-or_none None = refl
-or_none (Some x) = refl
 
 first_append : {A B : Type 0} (d : A → Option B) (xs ys : List A) → first_of d (xs ++ ys) ≡ option_or (first_of d xs) (first_of d ys)
 first_append d [] ys = refl
@@ -107,7 +99,7 @@ read_leaves : (m : Move) (s : State) → is_read m ≡ true → effect m s ≡ s
 read_leaves (moves.Read task req cell) s e = refl
 read_leaves _ s e = absurd cc
 
-reads_seen : (t : Tables) (k : ℕ) (ms : List Move) → ((m : _) → Contains ms m → is_read m ≡ true) → (s : State)
+reads_seen : (t : Tables) (k : ℕ) (ms : List Move) → ((m : Move) → Contains ms m → is_read m ≡ true) → (s : State)
     → first_difference t (steps_of k ms) s ≡ seen t s ms
 reads_seen t k [] read s = refl
 reads_seen t k (m ∷ ms) read s = ap (option_or (difference t m s))
@@ -117,7 +109,7 @@ no_difference : (t : Tables) (m : Move) (s : State) → is_read m ≡ false → 
 no_difference t (moves.Read task req cell) s e = absurd cc
 no_difference t _ s e = refl
 
-none_seen : (t : Tables) (k : ℕ) (ms : List Move) → ((m : _) → Contains ms m → is_read m ≡ false) → (s : State)
+none_seen : (t : Tables) (k : ℕ) (ms : List Move) → ((m : Move) → Contains ms m → is_read m ≡ false) → (s : State)
     → first_difference t (steps_of k ms) s ≡ None
 none_seen t k [] none s = refl
 none_seen t k (m ∷ ms) none s = rw (no_difference t m s (none m (Contains-here ms))) (none_seen t k ms (λ n h. none n (Contains-later ms h)) (effect m s))
@@ -133,7 +125,7 @@ seen_cond t s true ms = refl
 seen_cond t s false ms = refl
 
 -- Reads, and then moves that are none.
-run_difference : (t : Tables) (k : ℕ) (ms ns : List Move) → ((m : _) → Contains ms m → is_read m ≡ true) → ((m : _) → Contains ns m → is_read m ≡ false) → (s : State)
+run_difference : (t : Tables) (k : ℕ) (ms ns : List Move) → ((m : Move) → Contains ms m → is_read m ≡ true) → ((m : Move) → Contains ns m → is_read m ≡ false) → (s : State)
     → first_difference t (steps_of k (ms ++ ns)) s ≡ seen t s ms
 run_difference t k ms ns read none s =
     ap (λ xs. first_difference t xs s) (map-append (λ m. record { node = k; move = m }) ms ns)
@@ -141,7 +133,7 @@ run_difference t k ms ns read none s =
     ∙ ap₂ option_or (reads_seen t k ms read s) (none_seen t k ns none (executed (steps_of k ms) s))
     ∙ or_none (seen t s ms)
 
-changes_alone : (t : Tables) (k : ℕ) (ps : List ℕ) (ms : List Move) → ((m : _) → Contains ms m → is_read m ≡ false) → (r s : State)
+changes_alone : (t : Tables) (k : ℕ) (ps : List ℕ) (ms : List Move) → ((m : Move) → Contains ms m → is_read m ≡ false) → (r s : State)
     → first_difference t (filter (is_at ps) (steps_of k ms)) r ≡ first_difference t (steps_of k ms) s
 changes_alone t k ps ms none r s =
     ap (λ xs. first_difference t xs r) (filter_map_of (is_at ps) (λ m. record { node = k; move = m }) ms)
@@ -236,8 +228,8 @@ module _ (t : Tables) (order : HasPointsInOrder t) (firsts : List ℕ) (are_firs
       let rs = reqs_of t item in
       let first = reads task rs in
       let then = at_cells t (λ r c. changes_by task r.number r.access c) rs in
-      let are_reads : ((m : _) → Contains first m → is_read m ≡ true) = λ m h. a_read task t rs m (is_of t rs _ m h) in
-      let are_changes : ((m : _) → Contains then m → is_read m ≡ false) = λ m h. no_read task t rs m (is_of t rs _ m h) in
+      let are_reads : ((m : Move) → Contains first m → is_read m ≡ true) = λ m h. a_read task t rs m (is_of t rs _ m h) in
+      let are_changes : ((m : Move) → Contains then m → is_read m ≡ false) = λ m h. no_read task t rs m (is_of t rs _ m h) in
       ap (λ xs. first_difference t xs r) (filter_map_of (is_at firsts) (λ m. record { node = k; move = m }) (first ++ then)
       ∙ ap (steps_of k) (filter-append (at_points firsts) first then))
       ∙ run_difference t k (filter (at_points firsts) first) (filter (at_points firsts) then)

@@ -1,5 +1,5 @@
 -- Ascending lists of the same numbers are one list.
-use Rattle.std.proofs.Common.{◌≡◌, ℕ, zero, suc, ◌+◌, ◌<◌, ◌≤◌, List, [], ◌∷◌, Contains, length, refl, ap₂, subst, sym, arith}
+use Rattle.std.proofs.Common.{◌≡◌, ℕ, zero, suc, ◌≤◌, List, [], ◌∷◌, Contains, refl, ap₂, arith}
 use Rattle.std.specs.List.Sorted.{IsStrictlyIncreasing}
 use Rattle.point_set.proofs.lemmas.Ahead.{at_place, spread}
 use Rattle.point_set.proofs.lemmas.Left.{here, behind, tail_up, tail_above, in_tail}

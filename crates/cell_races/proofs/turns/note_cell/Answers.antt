@@ -9,7 +9,6 @@ use Rattle.cell_races.specs.Turns.{IsMarked}
 use Rattle.cell_races.specs.NodeAccesses.{node_access_of}
 use Rattle.cell_races.proofs.AreGroupsOf.{asked_within}
 use Rattle.cell_races.proofs.Turning.{marked_node_accesses}
-use Rattle.cell_races.proofs.Cells.{NotAfter}
 use Rattle.cell_races.proofs.Sifting.{IsSifted, sifted_none, sifted_more, sifted_all}
 use Rattle.cell_races.proofs.turns.note_cell.Goals as goal
 

@@ -5,7 +5,7 @@ use Rattle.reach_marks.specs.Reached.{before_in}
 use Rattle.cell_races.specs.declared.access.Access.TheVariants.{Reads}
 use Rattle.cell_races.specs.declared.cell_accesses.CellAccess.{CellAccess}
 use Rattle.cell_races.specs.Turns.{NotesMore}
-use Rattle.cell_races.proofs.Cells.{IsApart, NotAfter}
+use Rattle.cell_races.proofs.Cells.{IsApart}
 use Rattle.cell_races.proofs.Parts.{take_end, drop_parts, at, apart_more, run_in_order}
 use Rattle.cell_races.proofs.Sifting.{notes_both, notes_all}
 use Rattle.cell_races.proofs.turns.unordered_places.Goals as goal

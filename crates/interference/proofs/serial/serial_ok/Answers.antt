@@ -1,4 +1,4 @@
-use Rattle.std.proofs.Common.{◌<◌, ◌∙◌, sym, ap, length, arith, inl, inr}
+use Rattle.std.proofs.Common.{◌∙◌, sym, ap, length, arith, inl, inr}
 use Rattle.std.proofs.lemmas.Bool.{cases_lt}
 use Rattle.item_uses.proofs.lemmas.Growing.{usages_length}
 use Rattle.interference.specs.Pairing.{asked_of}

@@ -3,7 +3,7 @@ use Rattle.interference.specs.Pairing.{all_pairs}
 use Rattle.interference.proofs.lemmas.Counting.{few_in_all}
 use Rattle.interference.proofs.lemmas.Turning.{pair_order, pair_end}
 use Rattle.log_findings.proofs.Listings.{behind, first_of}
-use Rattle.log_findings.proofs.Writings.{in_err, listing_all, listing_more, listing_none, listing_part, listing_room}
+use Rattle.log_findings.proofs.Writings.{in_err, listing_more, listing_none, listing_part, listing_room}
 use Rattle.log_findings.proofs.written_deps.put_pairs.Goals as goal
 
 pub loop-pair-init : goal.loop-pair-init

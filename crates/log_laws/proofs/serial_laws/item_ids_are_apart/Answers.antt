@@ -1,5 +1,3 @@
-use Rattle.std.proofs.Common.{◌≢◌}
-use Rattle.vocabulary.specs.Prelude.{Item, tables_of}
 use Rattle.log_laws.proofs.lemmas.Admitted.{no_broken_rule}
 use Rattle.log_laws.proofs.lemmas.Listed.{are_listed}
 use Rattle.log_laws.proofs.lemmas.SerialOrder.{items_placed}

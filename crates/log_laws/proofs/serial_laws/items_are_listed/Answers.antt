@@ -1,6 +1,4 @@
-use Rattle.std.proofs.Common.{◌≢◌}
 use Rattle.vocabulary.specs.Prelude.{records_of, tables_of}
-use Rattle.semantics.specs.SerialOrder.{listed}
 use Rattle.log_laws.proofs.lemmas.Admitted.{no_broken_rule}
 use Rattle.log_laws.proofs.lemmas.Listed.{are_listed, each_listed, line_found}
 use Rattle.log_laws.proofs.lemmas.SerialOrder.{place_within}

@@ -1,4 +1,3 @@
-use Rattle.std.proofs.Common.{◌≢◌}
 use Rattle.vocabulary.specs.Prelude.{tables_of}
 use Rattle.semantics.specs.SerialOrder.{serial}
 use Rattle.log_laws.proofs.lemmas.Admitted.{no_broken_rule}

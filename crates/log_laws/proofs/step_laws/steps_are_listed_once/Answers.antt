@@ -1,6 +1,5 @@
-use Rattle.vocabulary.specs.Prelude.{tables_of, steps}
+use Rattle.vocabulary.specs.Prelude.{tables_of}
 use Rattle.semantics.specs.declared.command.Command.TheVariants.{Check}
-use Rattle.std.proofs.Common.{◌≢◌}
 use Rattle.list_lemmas.proofs.lemmas.Pairs.{Apart, apart_none}
 use Rattle.log_laws.proofs.lemmas.Admitted.{faultless, consistent, all_mapped}
 use Rattle.log_laws.proofs.Strict.{strict}

@@ -1,4 +1,3 @@
-use Rattle.semantics.specs.Nesting.{children, reqs_of_child}
 use Rattle.nest_laws.proofs.Licensed.{child_licensed}
 use Rattle.nest_laws.proofs.lemmas.Groups.{task_licensed}
 use Rattle.nest_laws.proofs.Exactly.{none_shown}

@@ -3,7 +3,7 @@ use Rattle.std.proofs.lemmas.Result.{IfOk-weaker}
 use Rattle.point_set.specs.declared.rect.Rect.{Rect}
 use Rattle.overlaps.specs.Between.{AreApartFrom, IsCommon}
 use Rattle.region_tree.specs.Wholes.{AreGaps, IsPointOutside, whole_at}
-use Rattle.region_tree.proofs.Gapped.{gaps_small, gaps_some, none_held, point_told}
+use Rattle.region_tree.proofs.Gapped.{gaps_small, gaps_some, point_told}
 use Rattle.region_tree.proofs.wholes.outside_point.Goals as goal
 
 pub common_point-requires-clause-theirs : goal.common_point-requires-clause-theirs

@@ -1,6 +1,6 @@
 use Rattle.std.proofs.Common.{◌≡◌, ℕ, inl, inr, false, Contains, subst, sym, arith}
 use Rattle.std.proofs.lemmas.Bool.{cases_eq}
-use Rattle.vocabulary.specs.Prelude.{Req, uses_of}
+use Rattle.vocabulary.specs.Prelude.{uses_of}
 use Rattle.semantics.specs.Shown.{is_task_at}
 use Rattle.serial_scan.specs.Claims.{HasClaim}
 use Rattle.serial_scan.proofs.Claiming.{claim_still}

@@ -1,6 +1,5 @@
-use Rattle.std.proofs.Common.{◌≤◌, All, List, length, subst, sym}
+use Rattle.std.proofs.Common.{All, subst, sym}
 use Rattle.vocabulary.specs.Prelude.{Good, Lined}
-use Rattle.semantics.specs.declared.limits.TheConstants.{MOST_BYTES}
 use Rattle.crowded_logs.specs.Crowded.{IsKeptAs}
 use Rattle.spy_cli.proofs.CrowdedFaults.{crowded_found}
 use Rattle.spy_cli.proofs.crowded.input_fault.Goals as goal

@@ -1,4 +1,4 @@
-use Rattle.std.proofs.Common.{List, subst}
+use Rattle.std.proofs.Common.{subst}
 use Rattle.log_input.specs.Inputs.{IsInput}
 use Rattle.spy_cli.proofs.CrowdedFaults.{whole_found}
 use Rattle.spy_cli.proofs.judging.finding_in.Goals as goal

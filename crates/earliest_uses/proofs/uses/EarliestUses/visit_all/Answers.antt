@@ -1,5 +1,4 @@
-use Rattle.std.proofs.Common.{◌≡◌, ℕ, List, ◌-◌, ◌^◌, ◌∷◌, [], false, refl, sym, subst, ◌∙◌, arith}
-use Rattle.vocabulary.specs.Prelude.{Place, is_in}
+use Rattle.std.proofs.Common.{ℕ, List, ◌-◌, ◌^◌, ◌∷◌, [], sym, subst, ◌∙◌, arith}
 use Rattle.earliest_uses.specs.Visits.{IsOver, IsVisit}
 use Rattle.earliest_uses.proofs.Visiting.{IsBehind, behind_more, none_behind, visited_more, visited_none}
 use Rattle.earliest_uses.proofs.uses.EarliestUses.visit_all.Goals as goal

@@ -1,4 +1,4 @@
-use Rattle.std.proofs.Common.{List, All, subst, sym, ◌≤◌}
+use Rattle.std.proofs.Common.{All, subst, sym, ◌≤◌}
 use Rattle.log_laws.specs.Drawn.{AreDrawn}
 use Rattle.log_laws.proofs.lemmas.Drawn.{drawn}
 use Rattle.vocabulary.specs.Prelude.{Rect}
