@@ -12,10 +12,9 @@ ghost use Rattle.log_decl.specs.Walk.{HasWalked};
 use crate::decl_end::DeclEnd;
 use crate::frame::frame_fault;
 use crate::regions::judge_forest;
-use crate::sizes::whole_grid;
 use crate::walk::{Walked, walk};
 use bumpalo::Bump;
-use log_rules::{Tally, WholeLog};
+use log_rules::WholeLog;
 use log_tables::LogTables;
 use region_tree::{ArenaRects, Memory as ForestMemory};
 use spy_grammar::Lined;
@@ -35,15 +34,7 @@ fn walked<'a, P: ArenaRects<'a>>(
     ensures { IfOk result (λ w. HasWalked records.now w.kept tables.new w.code) }
 {
     let whole = WholeLog::new(alloc, records)?;
-    let grid = whole_grid(alloc, records)?;
-    walk(
-        tables,
-        Tally::new(alloc, grid),
-        alloc,
-        bump,
-        &whole,
-        records,
-    )
+    walk(tables, alloc, bump, &whole, records)
 }
 
 /// Adds the records of a log to tables in which nothing is declared, and judges their forest; or the fault of the first that breaks a rule.

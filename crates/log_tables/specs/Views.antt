@@ -45,15 +45,19 @@ IsOfRegions (Tree id space fspace) = Unit {0}
 IsOfRegions (Redop id) = Unit {0}
 IsOfRegions _ = ⊥
 
--- The record is about items, requirements, instances or maps.
+-- The record is about items or requirements.
 abbrev pub IsOfItems : Record → Type 0
 IsOfItems (Task id) = Unit {0}
 IsOfItems (Req task tree space fields access atomic) = Unit {0}
 IsOfItems (Fill id tree space fields n) = Unit {0}
 IsOfItems (Serial ids) = Unit {0}
-IsOfItems (Inst id tree space fields kind) = Unit {0}
-IsOfItems (Map task number fields inst) = Unit {0}
 IsOfItems _ = ⊥
+
+-- The record is about instances or maps.
+abbrev pub IsOfInsts : Record → Type 0
+IsOfInsts (Inst id tree space fields kind) = Unit {0}
+IsOfInsts (Map task number fields inst) = Unit {0}
+IsOfInsts _ = ⊥
 
 -- The record is about a node of the recorded run.
 abbrev pub IsOfNodes : Record → Type 0

@@ -3,7 +3,7 @@
 ghost use Rattle.std.specs.Prelude.{◌≡◌, ◌<◌, ◌≤◌, ◌+◌, ◌-◌, ◌^◌, length, map, OnOk, IfOk, OnErr};
 ghost use Rattle.vocabulary.specs.Prelude.{with_record, with_space, privilege_of, coherence_of, rect_of, strip};
 ghost use Rattle.log_tables.specs.Views as views;
-ghost use Rattle.log_tables.specs.Views.{Ascends, IsOfSpaces, IsOfRegions, IsOfItems, IsOfNodes};
+ghost use Rattle.log_tables.specs.Views.{Ascends, IsOfSpaces, IsOfRegions, IsOfItems, IsOfInsts, IsOfNodes};
 ghost use Rattle.spy_grammar.specs.declared.record.Record.TheVariants as records;
 ghost use Rattle.std.specs.List.Sorted.{IsStrictlyIncreasing};
 ghost use Rattle.point_set.specs.Rects.{AreRects, rect_points};
@@ -300,6 +300,19 @@ impl<'a, P: ArenaRects<'a>> LogTables<P> {
                 let ids = copied(alloc, items)?;
                 self.add_serial(line, ids)?;
             }
+            _ => {}
+        }
+        Ok(())
+    }
+
+    /// What a record on instances declares.
+    fn add_of_insts(&mut self, alloc: Global, line: u32, rec: &Record) -> Result<(), Memory>
+        requires ascends { Ascends rec.now }
+        requires kind { IsOfInsts rec.now }
+        ensures ok { OnOk result (self.new ≡ with_record self.old line rec.now) }
+        ensures err { OnErr result (self.new ≡ self.old) }
+    {
+        match rec {
             Record::Inst {
                 id,
                 tree,
@@ -389,9 +402,8 @@ impl<'a, P: ArenaRects<'a>> LogTables<P> {
             Record::Task { .. }
             | Record::Req { .. }
             | Record::Fill { .. }
-            | Record::Serial { .. }
-            | Record::Inst { .. }
-            | Record::Map { .. } => self.add_of_items(alloc, line, rec),
+            | Record::Serial { .. } => self.add_of_items(alloc, line, rec),
+            Record::Inst { .. } | Record::Map { .. } => self.add_of_insts(alloc, line, rec),
             _ => self.add_of_nodes(alloc, line, rec),
         }
     }

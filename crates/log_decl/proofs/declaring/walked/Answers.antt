@@ -1,5 +1,4 @@
 use Rattle.std.proofs.Common.{refl}
-use Rattle.log_decl.specs.Sizes.{plane_rects}
 use Rattle.log_decl.proofs.declaring.walked.Goals as goal
 
 pub walk-requires : goal.walk-requires
@@ -7,9 +6,6 @@ walk-requires g c κs = (
   (refl, tt),
   (
     c.requires.none,
-    (
-      c.new-2.ensures (plane_rects c.args.records.now) c.in_ok-grid.ensures,
-      (c.in_ok-whole.ensures, (c.requires.ascends, (c.requires.few, c.requires.header))),
-    ),
+    (c.in_ok-whole.ensures, (c.requires.ascends, (c.requires.few, c.requires.header))),
   ),
 )

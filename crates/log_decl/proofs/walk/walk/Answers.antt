@@ -1,4 +1,4 @@
-use Rattle.std.proofs.Common.{◌≡◌, ◌+◌, true, List, take, None, sym, ap, ◌∙◌, arith}
+use Rattle.std.proofs.Common.{◌≡◌, ◌+◌, true, List, take, None, sym, ap, ◌∙◌, arith, [], length, refl, subst}
 use Rattle.grid.specs.Cuts.{grid_of}
 use Rattle.vocabulary.specs.Prelude.{Record, Tables, records_of}
 use Rattle.semantics.specs.Rules.{is_planar}
@@ -6,6 +6,18 @@ use Rattle.log_decl.specs.Sizes.{plane_rects}
 use Rattle.log_decl.specs.Walk.{broken_of}
 use Rattle.log_decl.proofs.Walking.{stands_where, none_where, may_count, flat_here, listed_in, plane_at, rects_more, tables_more, records_more, keeps_more, tally_more}
 use Rattle.log_decl.proofs.walk.walk.Goals as goal
+use Rattle.log_rules.specs.Tallied.{IsTally}
+
+pub loop-l-init : goal.loop-l-init
+loop-l-init g c = record {
+  at = refl;
+  tables = c.requires.none;
+  tally = subst (λ (t : Tables). IsTally (plane_rects c.args.records.now) [] t c.new-tally.result) (sym c.requires.none)
+      (c.new-tally.ensures (plane_rects c.args.records.now) c.in_ok-grid.ensures);
+  few = omega (arith, ap (λ (t : Tables). length t.reqs) c.requires.none);
+  size = λ _. c.new-size.ensures ∙ sym (ap (λ (t : Tables). grid_of t.rects) c.requires.none);
+  keep = tt;
+}
 
 pub returns-then-is_some : goal.returns-then-is_some
 returns-then-is_some g c =
