@@ -16,6 +16,7 @@ use crate::serial::serial_fault;
 use findings::{Finding, PairList};
 use logs::Log;
 use memory::Memory;
+use reach_marks::Reach;
 use region_tree::ArenaSet;
 use semantics::{ListedWait, LogNode};
 use spare_waits::spare;
@@ -76,7 +77,8 @@ fn waits_found<'a, P: ArenaSet<'a>>(
     ensures text { IfOk result texts.Good }
 {
     let waits = count_waits(alloc, log.nodes())?;
-    let list = spare(alloc, &sorting.graph, &sorting.order, &sorting.reach)?;
+    let reach = Reach::build(alloc, &sorting.graph, &sorting.order)?;
+    let list = spare(alloc, &sorting.graph, &sorting.order, &reach)?;
     let pairs = events_of(alloc, log, list.as_slice())?;
     Ok(spare_found(PairList::from_vec(pairs), waits))
 }

@@ -1,23 +1,20 @@
-//! The nodes of a log in replay order, and which are before which.
+//! The nodes of a log in replay order.
 
 ghost use Rattle.std.specs.Prelude.{◌≡◌, ◌<◌, ◌^◌, length, IfOk, IfErr};
 ghost use Rattle.vocabulary.specs.Prelude.{AreLinked, graph_of};
 ghost use Rattle.event_graph.specs.Orders.{IsOrderOf};
-ghost use Rattle.reach_marks.specs.Reached.{AreMarksOf};
 ghost use Rattle.log_findings.specs.Sorted.{AreSorted, IsUnsorted};
 
 use event_graph::{EventList, Graph, Order, Stuck, nodes_in};
 use memory::Memory;
-use reach_marks::Reach;
 use semantics::LogNode;
 use std::alloc::Global;
 
-/// The graph of the nodes of a log, their order, and which are before which.
+/// The graph of the nodes of a log, and their order.
 #[derive(Drop)]
 pub struct Sorting {
     pub graph: Graph,
     pub order: Order,
-    pub reach: Reach,
 }
 
 /// Why the nodes of a log have no order.
@@ -72,19 +69,5 @@ pub(crate) fn sorting_of(alloc: Global, nodes: &[LogNode]) -> Result<Sorting, Un
 {
     let graph = graph_in(alloc, nodes)?;
     let order = order_of(alloc, &graph)?;
-    let reach = reach_in(alloc, &graph, &order)?;
-    Ok(Sorting {
-        graph,
-        order,
-        reach,
-    })
-}
-
-/// The marks of a graph.
-fn reach_in(alloc: Global, graph: &Graph, order: &Order) -> Result<Reach, Memory>
-    requires { IsOrderOf graph.now order.now }
-    ensures { IfOk result (AreMarksOf graph.now) }
-{
-    let reach = Reach::build(alloc, graph, order)?;
-    Ok(reach)
+    Ok(Sorting { graph, order })
 }

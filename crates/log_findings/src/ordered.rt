@@ -43,6 +43,20 @@ fn tasks_found<'a, P: ArenaSet<'a>>(
     }
 }
 
+/// What `ordered` finds in a log whose nodes are sorted.
+fn sorted_found<'a, P: ArenaSet<'a>>(
+    alloc: Global,
+    log: &Log<'a, P>,
+    sorting: &Sorting,
+) -> Result<Finding, Memory>
+    requires { AreSorted (graph_of log.now.nodes) sorting.now }
+    ensures found { IfOk result (OrderedFinds log.now) }
+    ensures text { IfOk result texts.Good }
+{
+    let reach = Reach::build(alloc, &sorting.graph, &sorting.order)?;
+    tasks_found(alloc, log, &reach)
+}
+
 /// The nodes of a log sorted, or the cycle that is shown.
 pub fn sort_log<'a, P: ArenaSet<'a>>(alloc: Global, log: &Log<'a, P>) -> Result<Sorting, Unsorted>
     ensures sorted { IfOk result (AreSorted (graph_of log.now.nodes)) }
@@ -58,7 +72,7 @@ fn order_found<'a, P: ArenaSet<'a>>(alloc: Global, log: &Log<'a, P>) -> Result<F
     ensures text { IfOk result texts.Good }
 {
     match sort_log(alloc, log) {
-        Ok(sorting) => tasks_found(alloc, log, &sorting.reach),
+        Ok(sorting) => sorted_found(alloc, log, &sorting),
         Err(Unsorted::Cycle(events)) => Ok(cycle_found(events)),
         Err(Unsorted::Memory) => Err(Memory),
     }

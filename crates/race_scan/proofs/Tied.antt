@@ -1,11 +1,10 @@
 -- Races of a log are the clashes of what is gathered of it.
-use Rattle.std.proofs.Common.{◌≡◌, ℕ, ◌<◌, true, false, List, Some, None, Contains, Option, MatchOption, refl, sym, ap, ◌∙◌, subst, length, slice_index, unwrap_or, position, ◌==◌, All, get_or}
+use Rattle.std.proofs.Common.{◌≡◌, ℕ, ◌<◌, true, false, List, Some, None, Contains, Option, MatchOption, refl, sym, ap, ◌∙◌, subst, length, slice_index, unwrap_or, position, ◌==◌, All, get_or, arith}
 use Rattle.std.specs.List.{range_with_len}
 use Rattle.std.proofs.lemmas.Bool.{true≢false, false_from_ne_true}
 use Rattle.std.proofs.lemmas.List.{length-map, get_or_default}
 use Rattle.vocabulary.specs.Prelude.{Cell, Move, Tables, graph_of, Before, Step, steps, Race, IsRaceFree, access}
 use Rattle.semantics.specs.ReplayOrder.{replay_order}
-use Rattle.semantics.specs.Races as races
 use Rattle.semantics.specs.Shown.{IsShownRace, replay_place}
 use Rattle.list_lemmas.proofs.lemmas.Contained.{member_flat, flat_member, map_member}
 use Rattle.list_lemmas.proofs.lemmas.Ranges.{number_within, number_in}
@@ -42,6 +41,32 @@ in_steps t k m lt h =
     (flat_member (steps_at t) (range_with_len 0 (length t.nodes)) k (record { node = k; move = m }) (number_in (length t.nodes) k lt)
     (map_member (λ m. record { node = k; move = m }) (moves_at t k) m h))
 
+-- What a step does at a cell is gathered at the place of its node.
+access_gathered : (t : Tables) (order : List ℕ) → ((k : ℕ) → k < length t.nodes → Contains order k)
+    → (k : ℕ) (m : Move) (cell : Cell) (c : Access) → Contains (steps t) (record { node = k; move = m }) → access m cell ≡ meant c
+    → (p : ℕ) × (slice_index order p ≡ k) × Contains (cell_accesses_before t order (length order)) (cell_access p cell c)
+access_gathered t order all k m cell c in_log does =
+    let s = step_in t k m in_log in
+    let p = at_place (length t.nodes) order all k s.0 in (
+      p.0,
+      p.2,
+      (all_gathered t order (length order) (cell_access p.0 cell c) (record {
+        place = p.0;
+        below = p.1;
+        move = m;
+        is_move = subst (λ k. Contains (moves_at t k) m) (sym p.2) s.1;
+        listed = whole p.0 m cell c does;
+      })),
+    )
+
+-- Where nothing is gathered there is no race.
+pub free_of_none : (t : Tables) (order : List ℕ) → ((k : ℕ) → k < length t.nodes → Contains order k)
+    → length (cell_accesses_before t order (length order)) ≡ 0 → IsRaceFree t
+free_of_none t order all none a b cell r =
+    let m = both_meant (access r.one cell) (access r.other cell) r.conflict in
+    let one = access_gathered t order all a r.one cell m.0 r.one_in m.2 in
+    let lt = one.2.1 in omega (arith, lt, none)
+
 module _ (t : Tables) (order : List ℕ) (marks : Marks) (replayed : order ≡ replay_order (graph_of t.nodes))
     (marked : AreMarksOf (graph_of t.nodes) marks)
     (at_graph : ArePlaced (length (graph_of t.nodes)) order marks) where
@@ -60,29 +85,11 @@ module _ (t : Tables) (order : List ℕ) (marks : Marks) (replayed : order ≡ r
   none_before : (a b : ℕ) → a < length t.nodes → b < length t.nodes → before_in marks a b ≡ false → Before (graph_of t.nodes) a b → ⊥
   none_before a b la lb e before = true≢false (sym ((marked.exact a b (rw many la) (rw many lb)).1 before) ∙ e)
 
-  -- What a step does at a cell is gathered at the place of its node.
-  pub cell_access_of : (k : ℕ) (m : Move) (cell : Cell) (c : Access) → Contains (steps t) (record { node = k; move = m })
-      → access m cell ≡ meant c
-      → (p : ℕ) × (slice_index order p ≡ k) × Contains cell_accesses (cell_access p cell c)
-  cell_access_of k m cell c in_log does =
-      let s = step_in t k m in_log in
-      let p = at_place (length t.nodes) order marks placed k s.0 in (
-        p.0,
-        p.2,
-        (all_gathered t order (length order) (cell_access p.0 cell c) (record {
-          place = p.0;
-          below = p.1;
-          move = m;
-          is_move = subst (λ k. Contains (moves_at t k) m) (sym p.2) s.1;
-          listed = whole p.0 m cell c does;
-        })),
-      )
-
   pub to_clash : (a b : ℕ) (cell : Cell) → Race t a b cell → Clash (before_in marks) order cell_accesses a b cell
   to_clash a b cell r =
       let m = both_meant (access r.one cell) (access r.other cell) r.conflict in
-      let one = cell_access_of a r.one cell m.0 r.one_in m.2 in
-      let other = cell_access_of b r.other cell m.1 r.other_in m.3 in
+      let one = access_gathered t order placed.whole a r.one cell m.0 r.one_in m.2 in
+      let other = access_gathered t order placed.whole b r.other cell m.1 r.other_in m.3 in
       let la = (step_in t a r.one r.one_in).0 in
       let lb = (step_in t b r.other r.other_in).0 in
       record {

@@ -10,7 +10,6 @@ pub use Rattle.serial_exec.specs.Kept
 pub use Rattle.long_values.specs.LongOutcome
 pub use Rattle.outcomes.specs.Outcome
 pub use Rattle.semantics.specs.Races
-pub use Rattle.reach_marks.specs.Reached
 pub use Rattle.log_findings.specs.Sorted
 pub use Rattle.semantics.specs.Records
 pub use Rattle.spy_grammar.specs.Spelling

@@ -118,7 +118,6 @@ fn raced<'a, P: ArenaSet<'a>>(
     let sorted = SortedNodes {
         graph: &sorting.graph,
         order: &sorting.order,
-        reach: &sorting.reach,
     };
     match scan(alloc, log, &sorted, firsts) {
         Ok(()) => Ok(()),

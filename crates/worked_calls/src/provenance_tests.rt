@@ -13,7 +13,6 @@ use log_decl::Log;
 use point_kinds::FirstPoints;
 use provenance::{TraceEnd, trace};
 use race_scan::{SortedNodes, scan};
-use reach_marks::Reach;
 use region_tree::ArenaSet;
 use semantics::{Ask, Link, LinkKind};
 use std::alloc::Global;
@@ -166,16 +165,12 @@ fn ask<'a, P: ArenaSet<'a>>(
     let Ok(order) = graph.order(alloc) else {
         return Err("a cycle".into());
     };
-    let (Ok(reach), Ok(firsts)) = (
-        Reach::build(alloc, &graph, &order),
-        FirstPoints::of(alloc, log),
-    ) else {
+    let Ok(firsts) = FirstPoints::of(alloc, log) else {
         return Err("no memory".into());
     };
     let sorted = SortedNodes {
         graph: &graph,
         order: &order,
-        reach: &reach,
     };
     match scan(alloc, log, &sorted, &firsts) {
         Ok(()) => is_found(traced(alloc, log, &order, read), found),

@@ -15,7 +15,6 @@ use event_graph::{Order, nodes_in};
 use log_decl::Log;
 use point_kinds::FirstPoints;
 use race_scan::{ScanEnd, SortedNodes, scan};
-use reach_marks::Reach;
 use region_tree::ArenaSet;
 use replay::{Reads, ReplayEnd, replay};
 use serial_exec::Versions;
@@ -152,16 +151,12 @@ fn ask<'a, P: ArenaSet<'a>>(
     let Ok(order) = graph.order(alloc) else {
         return Err("a cycle".into());
     };
-    let (Ok(reach), Ok(firsts)) = (
-        Reach::build(alloc, &graph, &order),
-        FirstPoints::of(alloc, log),
-    ) else {
+    let Ok(firsts) = FirstPoints::of(alloc, log) else {
         return Err("no memory".into());
     };
     let sorted = SortedNodes {
         graph: &graph,
         order: &order,
-        reach: &reach,
     };
     match scan(alloc, log, &sorted, &firsts) {
         Ok(()) => {
