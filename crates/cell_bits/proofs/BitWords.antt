@@ -2,34 +2,15 @@
 use Rattle.std.proofs.Common.{◌≡◌, ℕ, ◌+◌, ◌-◌, ◌*◌, ◌/◌, ◌%◌, ◌^◌, ◌<◌, ◌≤◌, ◌==◌, ◌||◌, ◌&&◌, ◌↔◌, min, Bool, true, false, nat_lt, List, All, subst, length, get_or, set, lit<, arith, refl, sym, ap, ◌∙◌, inl, inr, eq-eqb, eqb-true, w64}
 use Rattle.std.proofs.Math.ListN.{replicate}
 use Rattle.std.proofs.lemmas.List.Elements.{All-replicate}
-use Rattle.std.specs.Prelude.{bit_and, bit_or, nat_le}
+use Rattle.std.specs.Prelude.{bit_and, nat_le}
 use Rattle.std.specs.Int.{bit_at, bit_not}
-use Rattle.std.proofs.lemmas.Bool.{cases_eq, cases_lt, ne_eqb, or_right, eqb-false, true≢false}
+use Rattle.std.proofs.lemmas.Bool.{cases_eq, cases_lt, ne_eqb, eqb-false, true≢false}
 use Rattle.std.proofs.lemmas.Bool.Decides.{nat_tests}
-use Rattle.std.proofs.lemmas.List.{get_or-set_other, get_or_past}
-use Rattle.std.proofs.lemmas.Grind.{get_or-set_at}
+use Rattle.std.proofs.lemmas.List.{get_or_past}
 use Rattle.std.proofs.lemmas.Nat.{and_le_l}
-use Rattle.std.proofs.lemmas.Nat.Bits.{bit_at-zero, bit_at_set_same, bit_at_set_other, bit_at-lt, bit_at_and, bit_at_not, same_from_bits_below}
-use Rattle.cell_bits.specs.Bits.{has_bit}
-
-pub has_set : (words : List ℕ) (j n : ℕ) → j / 64 < length words
-    → has_bit (set words (j / 64) (bit_or (get_or words (j / 64) 0) (1 * 2 ^ (j % 64) % 2 ^ 64))) n ≡ (has_bit words n || (j == n))
-unfolding has_bit
-has_set words j n within = elim (cases_eq (n / 64) (j / 64)) [
-  | inl same ↦ rw (get_or-set_at words (j / 64) (n / 64) (bit_or (get_or words (j / 64) 0) (1 * 2 ^ (j % 64) % 2 ^ 64)) 0 same within)
-      (elim (cases_eq (n % 64) (j % 64)) [
-        | inl at ↦
-            let is : j ≡ n = omega arith in
-            rw (at, bit_at_set_same w64 (get_or words (j / 64) 0) (j % 64) (omega arith)) (sym (or_right _ (j == n) (eq-eqb j n is)))
-        | inr other ↦
-            let no : (j == n) ≡ false = ne_eqb j n (λ e. other (ap (λ m. m % 64) (sym e))) in
-            rw (bit_at_set_other w64 (get_or words (j / 64) 0) (j % 64) (omega arith) (n % 64) other, no, ← same) (grind arith)
-      ])
-  | inr far ↦
-      let no : (j == n) ≡ false = ne_eqb j n (λ e. far (ap (λ m. m / 64) (sym e))) in
-      rw (get_or-set_other words (j / 64) (n / 64) (bit_or (get_or words (j / 64) 0) (1 * 2 ^ (j % 64) % 2 ^ 64)) 0 far, no)
-      (grind arith)
-]
+use Rattle.std.proofs.lemmas.Nat.Bits.{bit_at-zero, bit_at-lt, bit_at_and, bit_at_not, same_from_bits_below}
+use Rattle.bit_words.specs.Bits.{has_bit}
+use Rattle.bit_words.proofs.lemmas.Words.{bit_of}
 
 -- One bit more in a row of them.
 pub one_more : (b : Bool) (from j n : ℕ) → from ≤ j
@@ -42,12 +23,6 @@ none_yet true from n = refl
 none_yet false from n = grind (arith, nat_tests)
 
 -- A word is zero where none of its bits is set.
-set_bit : (n i : ℕ) → (bit_at n i == 1) ≡ true → bit_at n i ≡ 1
-set_bit n i h = eqb-true (bit_at n i) 1 h
-
-clear_bit : (n i : ℕ) → (bit_at n i == 1) ≡ false → bit_at n i ≡ 0
-clear_bit n i h = let lt = bit_at-lt n i in let ne = eqb-false (bit_at n i) 1 h in omega (arith, lt, ne)
-
 pub zero_word : (word : ℕ) → word < 2 ^ 64 → (word == 0) ≡ true ↔ ((i : ℕ) → i < 64 → bit_at word i ≡ 0)
 zero_word word fits = (
   λ e i lt. ap (λ n. bit_at n i) (eqb-true word 0 e) ∙ bit_at-zero i,
@@ -97,13 +72,6 @@ apart_word word other low = let small : bit_and word other < 2 ^ 64 = (let le = 
 pub in_word : (words : List ℕ) (n : ℕ) → has_bit words n ≡ (bit_at (get_or words (n / 64) 0) (n % 64) == 1)
 unfolding has_bit
 in_word words n = refl
-
-pub bit_of : (words : List ℕ) (k i : ℕ) → i < 64 → has_bit words (64 * k + i) ≡ (bit_at (get_or words k 0) i == 1)
-unfolding has_bit
-bit_of words k i lt =
-    let word : (64 * k + i) / 64 ≡ k = omega arith in
-    let bit : (64 * k + i) % 64 ≡ i = omega arith in
-    rw (word, bit) refl
 
 pub none_behind : (words : List ℕ) (n : ℕ) → length words ≤ n / 64 → has_bit words n ≡ false
 unfolding has_bit

@@ -1,16 +1,11 @@
 -- Which cells of a grid some points touch, as bits.
-use Rattle.std.specs.Prelude.{◌≡◌, ℕ, ◌+◌, ◌*◌, ◌/◌, ◌%◌, ◌^◌, ◌<◌, ◌≤◌, ◌==◌, ◌↔◌, Bool, true, false, List, Contains}
-use Rattle.std.specs.List.{slice_index_or}
-use Rattle.std.specs.Int.{bit_at}
+use Rattle.std.specs.Prelude.{◌≡◌, ℕ, ◌+◌, ◌*◌, ◌/◌, ◌%◌, ◌^◌, ◌<◌, ◌≤◌, ◌↔◌, Bool, true, false, List, Contains}
 use Rattle.point_set.specs.declared.rect.Rect.{Rect}
 use Rattle.point_set.specs.Rects.{Has, Holds}
 use Rattle.grid.specs.Cuts.{Cuts, IsInSpan, span_count}
 use Rattle.cell_bits.specs.declared.cells.CellBits.{CellBits}
 use Rattle.cell_bits.specs.declared.cells.TheConstants.{MOST_CELLS}
-
--- Whether a bit is set in words of 64.
-unfoldable pub has_bit : List ℕ → ℕ → Bool
-has_bit words n = bit_at (slice_index_or words (n / 64) 0) (n % 64) == 1
+use Rattle.bit_words.specs.Bits.{has_bit}
 
 -- A point is in the cell of a number. Cells are numbered column by column.
 pub record IsInCell (grid : Cuts) (n p : ℕ) : Type 0 where

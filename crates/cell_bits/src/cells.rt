@@ -4,7 +4,8 @@ ghost use Rattle.std.specs.Prelude.{◌≡◌, ◌<◌, ◌≤◌, ◌*◌, ◌+
 ghost use Rattle.point_set.specs.declared.rect.Rect.{Rect};
 ghost use Rattle.point_set.specs.Rects.{AreSmall, rect_points};
 ghost use Rattle.grid.specs.Cuts.{grid_of, span_count};
-ghost use Rattle.cell_bits.specs.Bits.{AreBitsOf, HasAll, HasFew, HasNone, IsInBlock, IsOnGrid, TouchesRect, TouchesSome, has_bit};
+ghost use Rattle.bit_words.specs.Bits.{has_bit};
+ghost use Rattle.cell_bits.specs.Bits.{AreBitsOf, HasAll, HasFew, HasNone, IsInBlock, IsOnGrid, TouchesRect, TouchesSome};
 
 use crate::words::{are_within, have_common, set_between};
 use grid::Grid;

@@ -3,7 +3,7 @@
 ghost use Rattle.std.specs.Prelude.{◌≡◌, ◌<◌, ◌≤◌, ◌*◌, ◌==◌, ◌&&◌, ◌||◌, ◌↔◌, nat_le, nat_lt, ℕ, false, true, length};
 ghost use Rattle.std.specs.Int.{bit_at};
 ghost use Rattle.std.specs.List.{slice_index_or};
-ghost use Rattle.cell_bits.specs.Bits.{has_bit};
+ghost use Rattle.bit_words.specs.Bits.{has_bit};
 
 /// The word at a place, or one without a bit behind the last.
 #[inline]

@@ -7,9 +7,9 @@ use Rattle.std.specs.Int.Count as counts
 use Rattle.std.proofs.lemmas.Bool.{cases_Bool, cases_lt, cases_order, lt-ltb}
 use Rattle.std.proofs.lemmas.Bool.Decides.{nat_tests}
 use Rattle.std.proofs.lemmas.Nat.Bits.{bit_at-suc, bit_at_lowest, bit_at_above}
-use Rattle.pair_rows.specs.Bits1024.{has_bit}
+use Rattle.bit_words.specs.Bits.{has_bit}
 use Rattle.pair_rows.specs.Counting.{count_below}
-use Rattle.pair_rows.proofs.BitWords.{bit_of}
+use Rattle.bit_words.proofs.lemmas.Words.{bit_of}
 
 abbrev one : Bool → ℕ
 one b = if b then 1 else 0

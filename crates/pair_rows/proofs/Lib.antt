@@ -1,4 +1,3 @@
-mod BitWords
 mod Counts
 mod Classes
 mod Sums

@@ -3,7 +3,7 @@ use Rattle.std.proofs.Common.{◌≡◌, ℕ, zero, suc, ◌+◌, ◌*◌, ◌^�
 use Rattle.std.proofs.lemmas.Bool.{cases_lt, cases_order, le-ltb, and_right}
 use Rattle.std.proofs.lemmas.Nat.{mul-le}
 use Rattle.pair_rows.specs.declared.users.User.{User}
-use Rattle.pair_rows.specs.Bits1024.{has_bit}
+use Rattle.bit_words.specs.Bits.{has_bit}
 use Rattle.pair_rows.specs.Counting.{sum_below}
 use Rattle.pair_rows.specs.Meetings.{later_in_row, later_met, met_at_some, met_below, row_bit}
 use Rattle.pair_rows.proofs.Counts.{count_same, count_none, count_small, count_split, count_beyond, count_start}

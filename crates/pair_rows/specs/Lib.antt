@@ -1,4 +1,3 @@
-pub mod Bits1024
 pub mod Counting
 pub mod Meetings
 pub mod Spans

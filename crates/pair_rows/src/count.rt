@@ -5,9 +5,10 @@ ghost use Rattle.std.specs.List.{slice_index_or};
 ghost use Rattle.pair_rows.specs.Counting.{sum_below};
 ghost use Rattle.pair_rows.specs.Meetings.{IsPlace, later_in_row, later_met, met_at_some, met_below, row_bit};
 
-use crate::bits::{count_all, count_from, no_bits};
+use crate::counting::{count_all, count_from};
 use crate::places::Places;
 use crate::rows::mark_place;
+use bit_words::no_bits;
 use std::alloc::{AllocError, Global};
 
 /// Adds to the row of each item those of 1,024 items in a row that it meets at some place.

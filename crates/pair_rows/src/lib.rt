@@ -5,13 +5,12 @@
 //! with `count.rt`; `rows.rt` marks the users of one place.
 #![tactic(auto)]
 
-mod bits;
 mod count;
+mod counting;
 mod places;
 mod rows;
 mod users;
 
-pub use bits::{has, is_empty, minus, no_bits, set};
 pub use count::{count_pairs, meeting_rows};
 pub use places::Places;
 pub use users::User;

@@ -1,11 +1,11 @@
 //! Rows of bits, one for each item.
 
 ghost use Rattle.std.specs.Prelude.{◌≡◌, ◌+◌, ◌<◌, ◌||◌, ◌&&◌, ◌==◌, not, ℕ, length};
-ghost use Rattle.pair_rows.specs.Bits1024.{has_bit};
+ghost use Rattle.bit_words.specs.Bits.{has_bit};
 ghost use Rattle.pair_rows.specs.Meetings.{AreByClass, HasOneClass, IsClassEnd, met, row_bit, uses_it};
 
-use crate::bits::{join, minus};
 use crate::users::{User, has_member, members};
+use bit_words::{join, minus};
 
 /// Adds a mask to the row of an item, if it has one.
 fn mark_one(rows: &mut Vec<[u64; 16]>, item: usize, mask: &[u64; 16])

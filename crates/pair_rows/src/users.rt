@@ -1,10 +1,10 @@
 //! The items that use one place.
 
 ghost use Rattle.std.specs.Prelude.{◌≡◌, ◌+◌, ◌<◌, ◌||◌, ◌==◌, ℕ, false};
-ghost use Rattle.pair_rows.specs.Bits1024.{has_bit};
+ghost use Rattle.bit_words.specs.Bits.{has_bit};
 ghost use Rattle.pair_rows.specs.Meetings.{uses_it};
 
-use crate::bits::{no_bits, set};
+use bit_words::{no_bits, set};
 
 /// An item that uses a place, and how: 0 to write, and else by a class of users that do not meet each other.
 #[derive(Clone, Copy)]

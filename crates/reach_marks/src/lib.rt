@@ -6,7 +6,6 @@
 //! Begin with `reach.rt`; `rows.rt` keeps the rows, `building.rt` and `joining.rt` make them.
 #![tactic(auto)]
 
-mod bits;
 mod block;
 mod building;
 mod column;

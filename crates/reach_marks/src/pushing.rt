@@ -2,7 +2,7 @@
 
 ghost use Rattle.std.specs.Prelude.{◌≡◌, ℕ, ◌+◌, ◌*◌, ◌/◌, ◌<◌, ◌≤◌, [], length, map, true, All, OnOk, slice_index_or};
 ghost use Rattle.std.specs.List.{list_any};
-ghost use Rattle.reach_marks.specs.Bits1024.{has_bit};
+ghost use Rattle.bit_words.specs.Bits.{has_bit};
 ghost use Rattle.reach_marks.specs.Blocks.{block_of, reaches, reaches_in};
 ghost use Rattle.reach_marks.specs.Columns.{AddsTag, AddsTags, AreColumns, AreTags, columns_in, rows_in};
 ghost use Rattle.reach_marks.specs.Unions.{bits_have};

@@ -2,13 +2,13 @@
 
 ghost use Rattle.std.specs.Prelude.{◌≡◌, ◌||◌, ◌==◌, ℕ, ◌+◌, ◌*◌, ◌/◌, ◌<◌, List, length, map, All, IfOk, OnOk, IfSome};
 ghost use Rattle.std.specs.List.{list_any};
-ghost use Rattle.reach_marks.specs.Bits1024.{has_bit};
+ghost use Rattle.bit_words.specs.Bits.{has_bit};
 ghost use Rattle.reach_marks.specs.Blocks.{block_has, block_in, block_of, is_full_block, is_mixed_block, reaches_in, IsExact};
 ghost use Rattle.reach_marks.specs.Columns.{AreTags, Grows};
 ghost use Rattle.reach_marks.specs.declared.block.Block.TheVariants.{Mixed};
 
-use crate::bits::{all_bits, has, join, no_bits, set};
 use crate::block::{Block, block_with};
+use bit_words::{all_bits, has, join, no_bits, set};
 use std::alloc::AllocError;
 
 /// The tag of the row of place `p` in column `k`. The rows before the column have nothing in it.

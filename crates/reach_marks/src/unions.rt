@@ -3,12 +3,12 @@
 ghost use Rattle.std.specs.Prelude.{◌≡◌, ◌||◌, ℕ, ◌<◌, ◌/◌, ◌+◌, [], length, false, true, ◌≤◌, All, IfOk, map};
 ghost use Rattle.std.specs.List.{slice_index_or};
 ghost use Rattle.reach_marks.specs.declared.block.Block.TheVariants.{Empty};
-ghost use Rattle.reach_marks.specs.Bits1024.{has_bit};
+ghost use Rattle.bit_words.specs.Bits.{has_bit};
 ghost use Rattle.reach_marks.specs.Blocks.{block_has};
 ghost use Rattle.reach_marks.specs.Unions.{ArePassedOn, bits_have, in_some_row};
 
-use crate::bits::{all_bits, has, no_bits};
 use crate::rows::Rows;
+use bit_words::{all_bits, has, no_bits};
 use std::alloc::{AllocError, Global};
 
 /// So many blocks, of which all bits are set in so many at the front, and none in the others.

@@ -5,7 +5,7 @@ use Rattle.std.proofs.lemmas.Bool.{cases_lt, cases_eq, cases_Bool, true≢false,
 use Rattle.vocabulary.specs.Prelude.{Tables}
 use Rattle.semantics.specs.Shown.{IsKept}
 use Rattle.order_laws.specs.Turns.{do_interfere, AreKeptBut, IsFirstUnkept}
-use Rattle.pair_rows.specs.Bits1024.{has_bit}
+use Rattle.bit_words.specs.Bits.{has_bit}
 use Rattle.order_laws.proofs.lemmas.TaskUses.{interfering_within}
 use Rattle.task_order.specs.Rows.{IsRow, IsKeptWith, IsFirstOf, IsFoundIn, IsFoundBefore}
 

@@ -5,7 +5,7 @@ use Rattle.semantics.specs.Shown.{IsKept}
 use Rattle.reach_marks.specs.Reached.{AreMarksOf}
 use Rattle.order_laws.specs.Turns.{AreKeptBut, do_interfere}
 use Rattle.cell_races.specs.Turns.{is_noted}
-use Rattle.pair_rows.specs.Bits1024.{has_bit}
+use Rattle.bit_words.specs.Bits.{has_bit}
 use Rattle.task_order.specs.Runs.{AreRunsOf}
 use Rattle.task_order.specs.declared.kept.Schedule.{Schedule}
 

@@ -7,7 +7,8 @@ ghost use Rattle.task_order.specs.Rows.{AreRows, IsFoundBefore, IsFoundIn, IsFou
 
 use crate::kept::{Schedule, is_kept};
 use crate::sifting::sifted_rows;
-use pair_rows::{Places, has, is_empty};
+use bit_words::{has, is_empty};
+use pair_rows::Places;
 use point_set::PointSet;
 use std::alloc::{AllocError, Global};
 

@@ -2,13 +2,14 @@
 
 ghost use Rattle.std.specs.Prelude.{◌≡◌, ◌+◌, ◌<◌, ◌^◌, ◌&&◌, ◌||◌, ℕ, not, length, IfOk};
 ghost use Rattle.cell_races.specs.Turns.{is_noted};
-ghost use Rattle.pair_rows.specs.Bits1024.{has_bit};
+ghost use Rattle.bit_words.specs.Bits.{has_bit};
 ghost use Rattle.pair_rows.specs.Meetings.{row_bit};
 ghost use Rattle.task_order.specs.Users.{AreTaskPlaces};
 ghost use Rattle.task_order.specs.Rows.{AreRows, IsSchedule};
 
 use crate::kept::Schedule;
-use pair_rows::{Places, meeting_rows, minus, no_bits, set};
+use bit_words::{minus, no_bits, set};
+use pair_rows::{Places, meeting_rows};
 use point_set::PointSet;
 use std::alloc::{AllocError, Global};
 

@@ -1,5 +1,5 @@
 use Rattle.std.proofs.Common.{◌∙◌, arith}
-use Rattle.cell_bits.specs.Bits.{has_bit}
+use Rattle.bit_words.specs.Bits.{has_bit}
 use Rattle.cell_bits.proofs.Blocks.{column_more}
 use Rattle.cell_bits.proofs.cells.set_block.Goals as goal
 

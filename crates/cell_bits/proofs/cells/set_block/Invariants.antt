@@ -1,5 +1,6 @@
 use Rattle.std.proofs.Common.{◌≡◌, ◌↔◌, ◌⊎◌, true, ℕ, length}
-use Rattle.cell_bits.specs.Bits.{IsInBlock, has_bit}
+use Rattle.bit_words.specs.Bits.{has_bit}
+use Rattle.cell_bits.specs.Bits.{IsInBlock}
 use Rattle.cell_bits.proofs.cells.set_block.Given as goal
 
 abbrev pub invariant-loop-k : goal.invariant-loop-k

@@ -1,5 +1,6 @@
 use Rattle.std.proofs.Common.{◌≡◌, ◌⊎◌, ◌↔◌, length, true, subst, arith, ◌∙◌}
-use Rattle.cell_bits.specs.Bits.{TouchesSome, has_bit}
+use Rattle.bit_words.specs.Bits.{has_bit}
+use Rattle.cell_bits.specs.Bits.{TouchesSome}
 use Rattle.cell_bits.proofs.Blocks.{rect_more}
 use Rattle.cell_bits.proofs.cells.set_rects.Goals as goal
 

@@ -1,7 +1,8 @@
 use Rattle.std.proofs.Common.{◌≡◌, ◌↔◌, ◌⊎◌, true, ℕ, List, length}
 use Rattle.point_set.specs.declared.rect.Rect.{Rect}
 use Rattle.grid.specs.Cuts.{grid_of}
-use Rattle.cell_bits.specs.Bits.{TouchesSome, has_bit}
+use Rattle.bit_words.specs.Bits.{has_bit}
+use Rattle.cell_bits.specs.Bits.{TouchesSome}
 use Rattle.cell_bits.proofs.cells.set_rects.Given as goal
 
 abbrev pub invariant-loop-i : goal.invariant-loop-i

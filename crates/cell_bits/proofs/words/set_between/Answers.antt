@@ -1,6 +1,6 @@
 use Rattle.std.proofs.Common.{◌≡◌, ◌||◌, ◌&&◌, ◌==◌, nat_lt, ap, refl, ◌∙◌, arith}
 use Rattle.std.specs.Prelude.{nat_le}
-use Rattle.cell_bits.specs.Bits.{has_bit}
+use Rattle.bit_words.specs.Bits.{has_bit}
 use Rattle.cell_bits.proofs.BitWords.{none_yet, one_more}
 use Rattle.cell_bits.proofs.words.set_between.Goals as goal
 

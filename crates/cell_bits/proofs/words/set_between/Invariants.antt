@@ -1,6 +1,6 @@
 use Rattle.std.proofs.Common.{◌≡◌, ◌||◌, ◌&&◌, nat_lt, ℕ, length}
 use Rattle.std.specs.Prelude.{nat_le}
-use Rattle.cell_bits.specs.Bits.{has_bit}
+use Rattle.bit_words.specs.Bits.{has_bit}
 use Rattle.cell_bits.proofs.words.set_between.Given as goal
 
 abbrev pub invariant-loop-j : goal.invariant-loop-j

@@ -1,6 +1,6 @@
 use Rattle.std.proofs.Common.{◌&&◌, ◌-◌, ◌+◌, arith}
 use Rattle.std.specs.Prelude.{nat_le}
-use Rattle.pair_rows.specs.Bits1024.{has_bit}
+use Rattle.bit_words.specs.Bits.{has_bit}
 use Rattle.pair_rows.proofs.Counts.{count_small}
 use Rattle.pair_rows.proofs.count.count_row.Goals as goal
 

@@ -1,5 +1,5 @@
 use Rattle.std.proofs.Common.{◌≡◌, ℕ, ◌<◌, ◌||◌, ◌&&◌, length, take}
-use Rattle.pair_rows.specs.Bits1024.{has_bit}
+use Rattle.bit_words.specs.Bits.{has_bit}
 use Rattle.pair_rows.specs.Meetings.{row_bit, uses_it}
 use Rattle.pair_rows.proofs.rows.mark.Given as goal
 

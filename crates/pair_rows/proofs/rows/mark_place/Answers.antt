@@ -1,6 +1,6 @@
 use Rattle.std.proofs.Common.{◌+◌, ◌-◌, ◌||◌, ◌&&◌, ◌==◌, not, ◌≡◌, Bool, true, false, ◌∙◌, ap, sym, refl, get_or, take, drop}
 use Rattle.pair_rows.specs.declared.users.User.{User}
-use Rattle.pair_rows.specs.Bits1024.{has_bit}
+use Rattle.bit_words.specs.Bits.{has_bit}
 use Rattle.pair_rows.specs.Meetings.{row_bit, uses_it}
 use Rattle.pair_rows.proofs.Classes.{apart_more, met_next, met_none}
 use Rattle.pair_rows.proofs.rows.mark_place.Goals as goal

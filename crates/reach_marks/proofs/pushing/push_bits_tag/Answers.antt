@@ -1,4 +1,4 @@
-use Rattle.reach_marks.specs.Bits1024.{has_bit}
+use Rattle.bit_words.specs.Bits.{has_bit}
 use Rattle.reach_marks.proofs.Tagged.{adds_tag}
 use Rattle.reach_marks.proofs.pushing.push_bits_tag.Goals as goal
 

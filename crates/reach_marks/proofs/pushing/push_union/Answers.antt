@@ -1,6 +1,6 @@
 use Rattle.std.proofs.Common.{arith, ◌≡◌, ◌<◌, ◌+◌, ◌*◌, ◌∙◌, ℕ, List, [], get_or, length, sym, ap, subst, All, ◌-◌, true}
 use Rattle.std.proofs.lemmas.List.{get_or_default, length-set}
-use Rattle.reach_marks.specs.Bits1024.{has_bit}
+use Rattle.bit_words.specs.Bits.{has_bit}
 use Rattle.reach_marks.specs.Columns.{AddsTag, AreTags}
 use Rattle.reach_marks.specs.Unions.{bits_have}
 use Rattle.reach_marks.proofs.JoinedRows.{bits_at}

@@ -1,6 +1,6 @@
 use Rattle.std.proofs.Common.{◌≡◌, ℕ, ◌<◌, map, take}
 use Rattle.std.specs.List.{list_any}
-use Rattle.reach_marks.specs.Bits1024.{has_bit}
+use Rattle.bit_words.specs.Bits.{has_bit}
 use Rattle.reach_marks.specs.Blocks.{block_of, reaches_in}
 use Rattle.reach_marks.proofs.tags.joined.Given as goal
 

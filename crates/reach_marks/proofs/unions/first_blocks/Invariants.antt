@@ -1,5 +1,5 @@
 use Rattle.std.proofs.Common.{◌≡◌, ◌<◌, ◌≤◌, ℕ, true, false, [], get_or, length}
-use Rattle.reach_marks.specs.Bits1024.{has_bit}
+use Rattle.bit_words.specs.Bits.{has_bit}
 use Rattle.reach_marks.proofs.unions.first_blocks.Given as goal
 
 abbrev pub invariant-loop-k : goal.invariant-loop-k

@@ -1,6 +1,6 @@
 use Rattle.std.proofs.Common.{◌≡◌, ℕ, ◌+◌, ◌<◌, ◌&&◌, not, nat_lt}
 use Rattle.cell_races.specs.Turns.{is_noted}
-use Rattle.pair_rows.specs.Bits1024.{has_bit}
+use Rattle.bit_words.specs.Bits.{has_bit}
 use Rattle.task_order.proofs.sifting.bits_of_others.Given as goal
 
 abbrev pub invariant-loop-i : goal.invariant-loop-i

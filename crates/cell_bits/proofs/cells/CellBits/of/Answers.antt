@@ -1,7 +1,8 @@
 use Rattle.std.proofs.Common.{◌≡◌, ◌↔◌, true, List, ℕ, drop, length, ap, sym, subst, ◌∙◌}
 use Rattle.std.proofs.lemmas.List.{take_at}
 use Rattle.point_set.specs.Rects.{rect_points}
-use Rattle.cell_bits.specs.Bits.{TouchesCell, has_bit}
+use Rattle.bit_words.specs.Bits.{has_bit}
+use Rattle.cell_bits.specs.Bits.{TouchesCell}
 use Rattle.cell_bits.proofs.BitWords.{no_bits}
 use Rattle.cell_bits.proofs.Blocks.{both_ways, touched_points}
 use Rattle.cell_bits.proofs.cells.CellBits.of.Goals as goal

@@ -1,7 +1,7 @@
 use Rattle.std.proofs.Common.{◌≡◌, ◌∙◌, ◌+◌, ◌<◌, ◌||◌, ℕ, List, [], get_or, length, ap, sym, subst}
 use Rattle.reach_marks.specs.declared.block.Block.{Block}
 use Rattle.reach_marks.specs.declared.block.Block.TheVariants.{Empty}
-use Rattle.reach_marks.specs.Bits1024.{has_bit}
+use Rattle.bit_words.specs.Bits.{has_bit}
 use Rattle.reach_marks.specs.Blocks.{block_has, block_of}
 use Rattle.reach_marks.proofs.Tagged.{block_of_read, row_read, tags_read}
 use Rattle.reach_marks.proofs.rows.Rows.join_into.Goals as goal
