@@ -5,7 +5,7 @@ ghost use Rattle.item_uses.specs.Usages.{usages};
 ghost use Rattle.interference.specs.Searching.{IsSearch};
 
 use item_uses::{ItemUses, Span};
-use logs::Log;
+use logs::AskedLog;
 use point_set::PointSet;
 
 /// The items of which pairs are looked for, with their blocks, and for each item one that asks for the same; and which pairs are asked for: all, or those of which the second item comes before the first by these places.
@@ -19,7 +19,7 @@ pub(crate) struct Search<'l, 'a, P: PointSet + Copy> {
 
 impl<'l, 'a, P: PointSet + Copy> Search<'l, 'a, P> {
     /// The search among the items of a log.
-    pub(crate) fn of(log: &'l Log<'a, P>, asked: Option<&'l [usize]>) -> Search<'l, 'a, P>
+    pub(crate) fn of(log: &AskedLog<'l, 'a, P>, asked: Option<&'l [usize]>) -> Search<'l, 'a, P>
         requires { IfSome asked (λ places. length places.now ≡ length log.now.items) }
         ensures search { IsSearch result }
         ensures items { result.items.now ≡ usages log.now }

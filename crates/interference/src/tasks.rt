@@ -7,7 +7,7 @@ ghost use Rattle.interference.specs.Tasks.{are_tasks};
 use crate::all::pairs;
 use crate::pair::Pair;
 use item_uses::is_task_at;
-use logs::Log;
+use logs::AskedLog;
 use region_tree::ArenaSet;
 use semantics::Item;
 
@@ -19,11 +19,11 @@ pub fn are_tasks(items: &[Item], pair: Pair) -> bool
 }
 
 /// How many pairs of tasks interfere.
-pub fn task_pair_count<'a, P: ArenaSet<'a>>(log: &Log<'a, P>) -> u64
+pub fn task_pair_count<'a, P: ArenaSet<'a>>(log: &AskedLog<'_, 'a, P>) -> u64
     requires { length log.now.items < 2 ^ 32 }
     ensures { result ≡ length (task_pairs log.now) }
 {
-    let items = log.items();
+    let items = log.plain().items();
     let mut count = 0;
     for pair in pairs(log) {
         if are_tasks(items, pair) {

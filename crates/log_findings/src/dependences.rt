@@ -39,8 +39,10 @@ pub(crate) fn dep_of<'a, P: ArenaSet<'a>>(log: &Log<'a, P>, pair: Pair) -> Dep
 fn deps_of<'a, P: ArenaSet<'a>>(alloc: Global, log: &Log<'a, P>) -> Result<Vec<Dep>, Memory>
     ensures { IfOk result (λ list. list.items ≡ dependences log.now) }
 {
+    let uses = log.uses(alloc)?;
+    let asked = log.asked(&uses);
     let mut list = Vec::new(alloc);
-    for pair in pairs(log) {
+    for pair in pairs(&asked) {
         let one = dep_of(log, pair);
         list.push(one)?;
     }

@@ -9,6 +9,7 @@ ghost use Rattle.findings.specs.declared.finding.Finding.TheVariants as findings
 ghost use Rattle.findings.specs.Texts.{dep_line, lines_text, report_text};
 ghost use Rattle.semantics.specs.declared.command.Command.TheVariants.{Deps};
 ghost use Rattle.outcomes.specs.Outcome.{before_count, dependences};
+ghost use Rattle.item_uses.specs.Usages.{usages};
 ghost use Rattle.log_findings.specs.Findings.{IsFoundOf, deps_shown};
 
 use crate::dep_writer::DepWriter;
@@ -17,7 +18,7 @@ use crate::items::item_count;
 use crate::serial::serial_fault;
 use buffered_writes::{Sink, WriteFault};
 use interference::pairs;
-use logs::Log;
+use logs::{Log, LogUses};
 use memory::Memory;
 use region_tree::ArenaSet;
 use spy_grammar::Code;
@@ -60,9 +61,11 @@ impl From<WriteFault> for DepsEnd {
 fn put_pairs<'a, P: ArenaSet<'a>, K: Sink>(
     writer: &mut DepWriter,
     log: &Log<'a, P>,
+    uses: &LogUses<'a, P>,
     sink: &mut K,
 ) -> Result<(), WriteFault>
     requires few { length log.now.items < 2 ^ 32 }
+    requires uses { uses.now ≡ usages log.now }
     requires out { writer.old.out ≡ [] }
     requires before { writer.old.before ≡ 0 }
     requires turn { writer.old.turn ≡ 0 }
@@ -76,7 +79,8 @@ fn put_pairs<'a, P: ArenaSet<'a>, K: Sink>(
     ensures not_ended { OnOk result (K.ended sink.old ≡ 0 → K.ended sink.new ≡ 0) }
     ensures once { K.ended sink.old ≡ 0 → K.ended sink.new ≤ 1 }
 {
-    for pair in pairs(log) {
+    let asked = log.asked(uses);
+    for pair in pairs(&asked) {
         let dep = dep_of(log, pair);
         writer.put(sink, dep)?;
     }
@@ -87,8 +91,10 @@ fn put_pairs<'a, P: ArenaSet<'a>, K: Sink>(
 fn write_found<'a, P: ArenaSet<'a>, K: Sink>(
     mut writer: DepWriter,
     log: &Log<'a, P>,
+    uses: &LogUses<'a, P>,
     sink: &mut K,
 ) -> Result<(), WriteFault>
+    requires uses { uses.now ≡ usages log.now }
     requires out { writer.out ≡ [] }
     requires before { writer.before ≡ 0 }
     requires turn { writer.turn ≡ 0 }
@@ -98,7 +104,7 @@ fn write_found<'a, P: ArenaSet<'a>, K: Sink>(
     ensures once { K.ended sink.old ≡ 0 → K.ended sink.new ≤ 1 }
 {
     log.is_declared();
-    put_pairs(&mut writer, log, sink)?;
+    put_pairs(&mut writer, log, uses, sink)?;
     writer.end(sink, item_count(log))?;
     Ok(())
 }
@@ -132,7 +138,8 @@ pub fn write_deps<'a, P: ArenaSet<'a>, K: Sink>(
             code: fault.code,
         });
     }
+    let uses = log.uses(alloc)?;
     let writer = DepWriter::new(alloc)?;
-    write_found(writer, log, sink)?;
+    write_found(writer, log, &uses, sink)?;
     Ok(())
 }

@@ -1,15 +1,13 @@
 //! What is looked up in a log beside its tables: found once, and kept.
 
-ghost use Rattle.std.specs.Prelude.{◌≡◌, nat_eq, map, IfOk};
-ghost use Rattle.item_uses.specs.Blocks.{AreBlocks};
-ghost use Rattle.item_uses.specs.Representatives.{AreRepresentatives};
+ghost use Rattle.std.specs.Prelude.{◌≡◌, ◌<◌, nat_eq, length, map, IfOk, IfSome, IsSome};
 ghost use Rattle.item_uses.specs.Usages.{usages};
 ghost use Rattle.std.specs.HashMap.{get};
 ghost use Rattle.logs.specs.Looked.{AreFound};
 
+use crate::log_uses::{LogUses, uses_where_listed};
 use crate::serial_order::{serial_lines, serial_order, serial_places};
 use bumpalo::Bump;
-use item_uses::{ItemUses, Span, representatives, spans_of_blocks, uses_of_items};
 use log_tables::{LogTables, Space};
 use point_set::PointSet;
 use region_tree::Memory;
@@ -27,12 +25,8 @@ pub(crate) struct Found<'a, P: PointSet + Copy> {
     pub(crate) places: Vec<usize>,
     /// For the id of each item that is listed, the line that lists it.
     pub(crate) lines: HashMap<u32, u32>,
-    /// What each item asks for.
-    pub(crate) uses: Vec<ItemUses<'a, P>>,
-    /// Bounds on each 64 items.
-    pub(crate) blocks: Vec<Span>,
-    /// For each item one that asks for the same.
-    pub(crate) representatives: Vec<usize>,
+    /// What the items ask for, where a line lists some.
+    pub(crate) uses: Option<LogUses<'a, P>>,
 }
 
 /// The ids of spaces.
@@ -48,25 +42,20 @@ pub(crate) fn found_in<'a, P: PointSet + Copy>(
     bump: &'a Bump,
     tables: &LogTables<P>,
 ) -> Result<Found<'a, P>, Memory>
-    ensures uses { IfOk result (λ f. f.uses.items ≡ usages tables.now) }
-    ensures blocks { IfOk result (λ f. AreBlocks f.blocks.items f.uses.items) }
-    ensures representatives { IfOk result (λ f. AreRepresentatives f.representatives.items f.uses.items) }
+    ensures uses { IfOk result (λ f. IfSome f.uses (λ u. u ≡ usages tables.now)) }
+    ensures some { IfOk result (λ f. 0 < length tables.now.serials → IsSome f.uses) }
     ensures found { IfOk result (λ f. AreFound tables.now f.space_ids.items f.order.items f.places.items (get nat_eq f.lines)) }
 {
     let space_ids = ids_of(alloc, tables.spaces())?;
     let order = serial_order(alloc, tables)?;
     let places = serial_places(alloc, tables.items().len(), order.as_slice())?;
     let lines = serial_lines(alloc, tables.serials())?;
-    let uses = uses_of_items(alloc, bump, tables)?;
-    let blocks = spans_of_blocks(alloc, &uses)?;
-    let representatives = representatives(alloc, &uses)?;
+    let uses = uses_where_listed(alloc, bump, tables)?;
     Ok(Found {
         space_ids,
         order,
         places,
         lines,
         uses,
-        blocks,
-        representatives,
     })
 }

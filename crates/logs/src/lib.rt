@@ -5,10 +5,14 @@
 //! of records that have no fault. Begin with `log.rt`.
 #![tactic(auto)]
 
+mod asked_log;
 mod found;
 mod log;
+mod log_uses;
 mod mapping;
 mod serial_order;
 
+pub use asked_log::AskedLog;
 pub use log::Log;
+pub use log_uses::LogUses;
 pub use mapping::Unmapped;

@@ -15,14 +15,13 @@ ghost use Rattle.logs.specs.Faultless.{AreDeclared};
 ghost use Rattle.logs.specs.Listing.{item_line, ArePlacesIn};
 ghost use Rattle.log_tables.specs.Ascending.{body_fields};
 ghost use Rattle.log_tables.specs.Mapped.{inst_mapped};
-ghost use Rattle.item_uses.specs.Blocks.{AreBlocks};
-ghost use Rattle.item_uses.specs.Representatives.{AreRepresentatives};
 ghost use Rattle.item_uses.specs.Usages.{usages};
 
+use crate::asked_log::AskedLog;
 use crate::found::{Found, found_in};
+use crate::log_uses::LogUses;
 use crate::mapping::{Unmapped, first_unmapped, inst_mapped};
 use bumpalo::Bump;
-use item_uses::{ItemUses, Span};
 use log_tables::LogTables;
 use point_set::{PointSet, Rect};
 use region_tree::{ArenaSet, Forest, Memory, Path};
@@ -35,18 +34,17 @@ use std::marker::Model;
 pub struct Log<'a, P: PointSet + Copy> {
     tables: LogTables<P>,
     found: Found<'a, P>,
+    bump: &'a Bump,
 }
 
 impl<'a, P: PointSet + Copy> Model for Log<'a, P> {
-    ghost use Rattle.std.specs.Prelude.{◌≡◌, nat_eq};
+    ghost use Rattle.std.specs.Prelude.{◌≡◌, ◌<◌, nat_eq, length, IfSome, IsSome};
     ghost use Rattle.std.specs.HashMap.{get};
     ghost use Rattle.vocabulary.specs.Prelude.{Tables};
     ghost use Rattle.log_tables.specs.Regions.{regions_of};
     ghost use Rattle.region_tree.specs.Sound.{IsSound};
     ghost use Rattle.logs.specs.Faultless.{AreDeclared};
     ghost use Rattle.logs.specs.Looked.{AreFound};
-    ghost use Rattle.item_uses.specs.Blocks.{AreBlocks};
-    ghost use Rattle.item_uses.specs.Representatives.{AreRepresentatives};
     ghost use Rattle.item_uses.specs.Usages.{usages};
 
     ghost Value = { Tables };
@@ -54,8 +52,7 @@ impl<'a, P: PointSet + Copy> Model for Log<'a, P> {
     ghost view = { λ l. l.tables };
 
     ghost invariant = { λ l. AreDeclared l.tables × IsSound (regions_of l.tables)
-        × (l.found.uses.items ≡ usages l.tables) × AreBlocks l.found.blocks.items l.found.uses.items
-        × AreRepresentatives l.found.representatives.items l.found.uses.items
+        × IfSome l.found.uses (λ u. u ≡ usages l.tables) × (0 < length l.tables.serials → IsSome l.found.uses)
         × AreFound l.tables l.found.space_ids.items l.found.order.items l.found.places.items (get nat_eq l.found.lines) };
 }
 
@@ -67,7 +64,11 @@ impl<'a, P: ArenaSet<'a>> Log<'a, P> {
         ensures { IfOk result (λ log. log ≡ tables) }
     {
         match found_in(alloc, bump, &tables) {
-            Ok(found) => Ok(Log { tables, found }),
+            Ok(found) => Ok(Log {
+                tables,
+                found,
+                bump,
+            }),
             Err(memory) => {
                 drop(tables);
                 Err(memory)
@@ -188,25 +189,30 @@ impl<'a, P: PointSet + Copy> Log<'a, P> {
         self.line_listing(item)
     }
 
-    /// What each item asks for, in program order.
-    pub fn uses(&self) -> &[ItemUses<'a, P>]
-        ensures { result.now ≡ usages self.now }
+    /// What the items ask for, made where it is asked. The only error is that memory ran out.
+    pub fn uses(&self, alloc: Global) -> Result<LogUses<'a, P>, Memory>
+        ensures { IfOk result (λ uses. uses ≡ usages self.now) }
     {
-        self.found.uses.as_slice()
+        LogUses::of(alloc, self.bump, &self.tables)
     }
 
-    /// Bounds on what each 64 items ask for.
-    pub fn blocks(&self) -> &[Span]
-        ensures { AreBlocks result.now (usages self.now) }
+    /// What the items ask for, which is kept of each log whose lines list items in serial order. No memory is taken.
+    pub fn listed_uses(&self) -> Option<&LogUses<'a, P>>
+        ensures uses { IfSome result (λ uses. uses.now ≡ usages self.now) }
+        ensures some { 0 < length self.now.serials → IsSome result }
     {
-        self.found.blocks.as_slice()
+        match &self.found.uses {
+            Some(uses) => Some(uses),
+            None => None,
+        }
     }
 
-    /// For each item one that asks for the same.
-    pub fn representatives(&self) -> &[usize]
-        ensures { AreRepresentatives result.now (usages self.now) }
+    /// The log with what its items ask for.
+    pub fn asked<'l>(&'l self, uses: &'l LogUses<'a, P>) -> AskedLog<'l, 'a, P>
+        requires { uses.now ≡ usages self.now }
+        ensures { result ≡ self.now }
     {
-        self.found.representatives.as_slice()
+        AskedLog::of(self, uses)
     }
 
     /// The ids of the declared spaces, in the order of their lines.

@@ -52,15 +52,21 @@ fn kept_order<'a, P: PointSet + Copy>(
 }
 
 /// The least place at which two tasks that interfere do so.
-fn place_between<'a, P: PointSet + Copy>(log: &Log<'a, P>, a: usize, b: usize) -> Place
+fn place_between<'a, P: PointSet + Copy>(
+    alloc: Global,
+    log: &Log<'a, P>,
+    a: usize,
+    b: usize,
+) -> Result<Place, Memory>
     requires a { a < length log.now.items }
     requires b { b < length log.now.items }
     requires interfere { do_interfere log.now a b ≡ true }
-    ensures { least_place log.now a b ≡ Some result }
+    ensures { IfOk result (λ place. least_place log.now a b ≡ Some place) }
 {
-    let uses = log.uses();
+    let asked = log.uses(alloc)?;
+    let uses = asked.items();
     match uses[a].interference(&uses[b]).place {
-        Some(place) => place,
+        Some(place) => Ok(place),
         None => unreachable!(),
     }
 }
@@ -92,7 +98,7 @@ fn order_by_rows<'a, P: PointSet + Copy>(
     let log = schedule.log;
     match first_unkept(alloc, schedule, places)? {
         Some((a, b)) => {
-            let place = place_between(log, a, b);
+            let place = place_between(alloc, log, a, b)?;
             Ok(TaskOrder::Unordered { a, b, place })
         }
         None => kept_order(alloc, log, places),

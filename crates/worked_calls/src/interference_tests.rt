@@ -28,14 +28,18 @@ fn ask<'a, 's, P: ArenaSet<'a>>(
     alloc: Global,
     log: &Log<'a, P>,
 ) -> Result<(), &'s str> {
-    let mut found = pairs(log);
+    let Ok(uses) = log.uses(alloc) else {
+        return Err("no memory");
+    };
+    let asked = log.asked(&uses);
+    let mut found = pairs(&asked);
     for want in &PAIRS {
         let pair = found.next().ok_or("too few pairs")?;
         let place = (pair.place.tree, pair.place.point, pair.place.field);
         assert!(rt; (pair.a, pair.b, pair.kind, place) == *want);
     }
     assert!(rt; found.next().is_none());
-    let stretch = pairs(log).next_stretch().ok_or("no stretch")?;
+    let stretch = pairs(&asked).next_stretch().ok_or("no stretch")?;
     assert_eq!(rt; (stretch.a, stretch.from, stretch.to), (0, 2, 3));
     let broken = serial_ok(alloc, log)
         .err()
@@ -44,7 +48,7 @@ fn ask<'a, 's, P: ArenaSet<'a>>(
     if log.items().len() >= 1 << 32 {
         return Err("too many items");
     }
-    assert_eq!(rt; task_pair_count(log), 2);
+    assert_eq!(rt; task_pair_count(&asked), 2);
     Ok(())
 }
 

@@ -3,6 +3,7 @@ use Rattle.interference.specs.Pairing.{all_pairs}
 use Rattle.interference.specs.Tasks.{are_tasks}
 use Rattle.interference.proofs.lemmas.Counting.{count_past, count_here, few_pairs, task_pairs_are}
 use Rattle.interference.proofs.tasks.task_pair_count.Goals as goal
+use Rattle.vocabulary.specs.Prelude.{Tables}
 
 pub loop-pair-init : goal.loop-pair-init
 loop-pair-init g c =
@@ -27,5 +28,6 @@ loop-pair-preserved g c =
 pub returns : goal.returns
 returns g c =
     let none = ap (λ ps. length (filter (are_tasks c.items-items.result.now) ps)) c.in-None.ensures.steps.0 in
-    let same = ap (λ its. length (filter (are_tasks its) (all_pairs c.args.log.now))) c.items-items.ensures in
+    let same = ap (λ its. length (filter (are_tasks its) (all_pairs c.args.log.now)))
+    (c.items-items.ensures ∙ ap (λ (t : Tables). t.items) c.plain.ensures) in
     omega (arith, none, same, c.loop-pair.invariant.2, task_pairs_are c.args.log.now)

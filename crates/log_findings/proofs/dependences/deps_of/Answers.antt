@@ -1,4 +1,4 @@
-use Rattle.std.proofs.Common.{◌∙◌, refl, subst, arith, Contains}
+use Rattle.std.proofs.Common.{◌∙◌, refl, subst, arith, Contains, ap}
 use Rattle.interference.specs.Pairing.{all_pairs}
 use Rattle.interference.proofs.lemmas.Turning.{pair_order, pair_end, pair_place}
 use Rattle.log_findings.specs.Listing.{dependence_of}
@@ -7,7 +7,7 @@ use Rattle.log_findings.proofs.dependences.deps_of.Goals as goal
 
 pub loop-pair-init : goal.loop-pair-init
 loop-pair-init g c =
-    let same = c.into_iter-pair-iterator.ensures.into_iter_gives ∙ c.pairs-pair-items.ensures in (
+    let same = c.into_iter-pair-iterator.ensures.into_iter_gives ∙ c.pairs-pair-items.ensures ∙ ap all_pairs c.asked-asked.ensures in (
       tt,
       tt,
       λ p m. subst (λ ps. Contains ps p) same m,

@@ -1,4 +1,4 @@
-use Rattle.std.proofs.Common.{◌∙◌, refl, subst, arith, Contains}
+use Rattle.std.proofs.Common.{◌∙◌, refl, subst, arith, Contains, ap}
 use Rattle.interference.specs.Pairing.{all_pairs}
 use Rattle.interference.proofs.lemmas.Counting.{few_in_all}
 use Rattle.interference.proofs.lemmas.Turning.{pair_order, pair_end}
@@ -8,7 +8,7 @@ use Rattle.log_findings.proofs.written_deps.put_pairs.Goals as goal
 
 pub loop-pair-init : goal.loop-pair-init
 loop-pair-init g c =
-    let same = c.into_iter-pair-iterator.ensures.into_iter_gives ∙ c.pairs-pair-items.ensures in
+    let same = c.into_iter-pair-iterator.ensures.into_iter_gives ∙ c.pairs-pair-items.ensures ∙ ap all_pairs c.asked-asked.ensures in
     let writer = c.args.writer.now in (
       tt,
       tt,

@@ -6,7 +6,10 @@ use Rattle.log_findings.proofs.written_deps.write_found.Goals as goal
 pub put_pairs-requires : goal.put_pairs-requires
 put_pairs-requires g c = λ k. (
   (refl, tt),
-  (few_declared_items c.args.log.now c.is_declared.ensures, (c.requires.out, (c.requires.before, c.requires.turn))),
+  (
+    few_declared_items c.args.log.now c.is_declared.ensures,
+    (c.requires.uses, (c.requires.out, (c.requires.before, c.requires.turn))),
+  ),
 )
 
 pub returns-in_err-put_pairs-clause-part : goal.returns-in_err-put_pairs-clause-part
