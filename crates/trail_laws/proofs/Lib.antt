@@ -3,5 +3,4 @@ mod Followed
 mod LastPut
 mod Away
 mod Copied
-mod Runs
 mod OneRead

@@ -16,7 +16,7 @@ use Rattle.log_laws.proofs.lemmas.Consistent.{two_reqs}
 use Rattle.log_laws.proofs.lemmas.SerialOrder.{items_placed}
 use Rattle.log_laws.proofs.lemmas.StepLists.{of_node}
 use Rattle.log_laws.proofs.lemmas.OwnConflicts.{is_of, read_is, reads, changes, no_read}
-use Rattle.trail_laws.proofs.Runs.{are_runs, within_items, one_run}
+use Rattle.trail_laws.proofs.lemmas.Runs.{are_runs, within_items, one_run}
 
 -- ---- the read that is asked for
 

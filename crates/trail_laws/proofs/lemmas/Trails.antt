@@ -24,7 +24,7 @@ use Rattle.trail_laws.proofs.Followed.{Origins, follow, looks, held, seen_from, 
 use Rattle.trail_laws.proofs.LastPut.{HasNoAdds, KeepsAway, own_put, own_value, last_value, told, shows_start, reads_member, comes}
 use Rattle.trail_laws.proofs.Away.{steps_kept}
 use Rattle.trail_laws.proofs.Copied.{AreThere, comes_ends, comes_of, comes_there}
-use Rattle.trail_laws.proofs.Runs.{event_positive, found_by_event}
+use Rattle.trail_laws.proofs.lemmas.Runs.{event_positive, found_by_event}
 use Rattle.trail_laws.proofs.OneRead.{asked_tells, one_asked}
 
 -- ---- single links
