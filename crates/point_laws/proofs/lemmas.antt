@@ -1,4 +1,10 @@
 -- Lemmas for the proofs of other crates.
+pub mod Rows
+pub mod Effects
+pub mod Mirrored
+pub mod TaskMoves
+pub mod Accesses
+pub mod Differences
 pub mod Order
 pub mod Firsts
 pub mod Raced

@@ -1,9 +1,9 @@
 -- What is done, read and raced for at some points is what the tables that are cut to these points say.
-use Rattle.std.proofs.Common.{◌≡◌, ℕ, inl, inr, ◌↔◌, Bool, true, false, cond, ◌||◌, ◌&&◌, ◌==◌, List, [], ◌∷◌, ◌++◌, map, filter, flat_map, refl, sym, ap, ap₂, ◌∙◌, subst, Option, Some, None, find, slice_get, take, Contains, length, if◌then◌else◌}
+use Rattle.std.proofs.Common.{◌≡◌, ℕ, inl, inr, ◌↔◌, true, cond, ◌&&◌, ◌==◌, List, [], ◌∷◌, ◌++◌, map, filter, flat_map, refl, sym, ap, ap₂, ◌∙◌, subst, Option, Some, None, find, slice_get, take, Contains, length, if◌then◌else◌}
 use Rattle.std.specs.List.{range_with_len}
 use Rattle.std.specs.Option.{option_or, option_map_or}
 use Rattle.std.proofs.Math.Path.{fun_ext}
-use Rattle.std.proofs.lemmas.Bool.{cases_Bool, true≢false, false_from_ne_true, eqb-true}
+use Rattle.std.proofs.lemmas.Bool.{cases_Bool}
 use Rattle.std.proofs.lemmas.List.Concat.{flat_map_single}
 use Rattle.std.proofs.lemmas.List.Elements.{filter-append}
 use Rattle.list_lemmas.proofs.lemmas.Contained.{Contains-here, Contains-later}
@@ -18,13 +18,17 @@ use Rattle.log_laws.proofs.lemmas.StepLists.{steps_at}
 use Rattle.list_lemmas.proofs.lemmas.Filtered.{of_filter, in_filter}
 use Rattle.list_lemmas.proofs.lemmas.Firsts.{cases_option}
 use Rattle.list_lemmas.proofs.lemmas.Parts.{filter_map_of, filter_flat}
+use Rattle.point_laws.specs.Axes.{ByPoint}
 use Rattle.point_laws.specs.Alike.{HasPointsInOrder, AreFirsts, target, is_at}
 use Rattle.point_laws.specs.Cut.{cut, cut_space, kept, cut_to}
-use Rattle.point_laws.proofs.Rows.{kept_grid}
-use Rattle.point_laws.proofs.Moves.{Does, at_points, reads_kept, changes_kept, steps_stay}
-use Rattle.point_laws.proofs.Effects.{Agree, Stay, kept_agree}
-use Rattle.point_laws.proofs.lemmas.Firsts.{difference_agrees, shown_at_first}
-use Rattle.point_laws.proofs.lemmas.Raced.{is_step, touched_point, both_touched}
+use Rattle.point_laws.proofs.lemmas.Rows.{kept_grid, filter_in}
+use Rattle.point_laws.proofs.Moves.{steps_stay}
+use Rattle.point_laws.proofs.lemmas.TaskMoves.{Does, at_along, reads_kept, changes_kept}
+use Rattle.point_laws.proofs.lemmas.Effects.{Agree, Stay, kept_agree}
+use Rattle.point_laws.proofs.lemmas.Differences.{difference_agrees}
+use Rattle.point_laws.proofs.lemmas.Firsts.{shown_at_first}
+use Rattle.point_laws.proofs.lemmas.Accesses.{touched_point, both_touched}
+use Rattle.point_laws.proofs.lemmas.Raced.{is_step}
 
 -- ---- the points of cut tables
 
@@ -55,47 +59,38 @@ pub kept_within : (listed : Option (List ℕ)) (xs : List ℕ) (q : ℕ) → Con
 kept_within (Some ps) xs q h = (in_both ps xs q h).0
 kept_within None xs q h = h
 
-filter_in : (keep : ℕ → Bool) (p : ℕ) → keep p ≡ true → (ns : List ℕ) → is_in (filter keep ns) p ≡ is_in ns p
-filter_in keep p at [] = refl
-filter_in keep p at (n ∷ ns) = elim (cases_Bool (keep n)) [
-  | inl kept ↦ rw kept (ap (λ b. (n == p) || b) (filter_in keep p at ns))
-  | inr left ↦
-      let differ : (n == p) ≡ false = false_from_ne_true (n == p) (λ e. true≢false (sym at ∙ ap keep (sym (eqb-true n p e)) ∙ left)) in
-      rw (left, differ) (filter_in keep p at ns)
-]
-
 in_cut : (ps : List ℕ) (t : Tables) (p : ℕ) → is_in ps p ≡ true → (id : ℕ) → is_in (points_in (cut ps t) id) p ≡ is_in (points_in t id) p
 in_cut ps t p at id = ap (λ ns. is_in ns p) (points_cut ps t id) ∙ filter_in (is_in ps) p at (points_in t id)
 
 -- ---- the steps of cut tables
 
 module _ (ps : List ℕ) (t : Tables) where
-  cells_cut : (does : Does) → ((r : Req) (c : Cell) → filter (at_points ps) (does r c) ≡ cond (is_in ps c.point) (does r c) [])
-      → (rs : List Req) → at_cells (cut ps t) does rs ≡ filter (at_points ps) (at_cells t does rs)
+  cells_cut : (does : Does) → ((r : Req) (c : Cell) → filter (at_along ByPoint ps) (does r c) ≡ cond (is_in ps c.point) (does r c) [])
+      → (rs : List Req) → at_cells (cut ps t) does rs ≡ filter (at_along ByPoint ps) (at_cells t does rs)
   cells_cut does kept rs =
       let part : Req → List Move = λ r. flat_map (λ x. does r (mapped_cell t r x)) (req_grid t r) in
-      let one : (r : Req) → flat_map (λ x. does r (mapped_cell t r x)) (req_grid (cut ps t) r) ≡ filter (at_points ps) (part r) = λ r.
+      let one : (r : Req) → flat_map (λ x. does r (mapped_cell t r x)) (req_grid (cut ps t) r) ≡ filter (at_along ByPoint ps) (part r) = λ r.
       ap (λ points. flat_map (λ x. does r (mapped_cell t r x)) (grid points r.fields)) (points_cut ps t r.space)
-      ∙ sym (kept_grid (at_points ps) (is_in ps) (λ x. does r (mapped_cell t r x)) (λ x f. kept r (mapped_cell t r (x, f)))
+      ∙ sym (kept_grid (at_along ByPoint ps) (is_in ps) (λ x. does r (mapped_cell t r x)) (λ x f. kept r (mapped_cell t r (x, f)))
       (points_in t r.space) r.fields) in
-      ap (λ g. flat_map g rs) (fun_ext one) ∙ sym (filter_flat (at_points ps) part rs)
+      ap (λ g. flat_map g rs) (fun_ext one) ∙ sym (filter_flat (at_along ByPoint ps) part rs)
 
   each_cut : (space : ℕ) (fields : List ℕ) (does : ℕ × ℕ → Move) → ((x f : ℕ) → (target (does (x, f))).point ≡ x)
-      → map does (grid (points_in (cut ps t) space) fields) ≡ filter (at_points ps) (map does (grid (points_in t space) fields))
+      → map does (grid (points_in (cut ps t) space) fields) ≡ filter (at_along ByPoint ps) (map does (grid (points_in t space) fields))
   each_cut space fields does at =
       ap (λ points. map does (grid points fields)) (points_cut ps t space)
       ∙ sym (flat_map_single does (grid (filter (is_in ps) (points_in t space)) fields))
-      ∙ sym (kept_grid (at_points ps) (is_in ps) (λ x. does x ∷ []) (λ x f. ap (λ y. cond (is_in ps y) (does (x, f) ∷ []) []) (at x f))
+      ∙ sym (kept_grid (at_along ByPoint ps) (is_in ps) (λ x. does x ∷ []) (λ x f. ap (λ y. cond (is_in ps y) (does (x, f) ∷ []) []) (at x f))
       (points_in t space) fields)
-      ∙ ap (filter (at_points ps)) (flat_map_single does (grid (points_in t space) fields))
+      ∙ ap (filter (at_along ByPoint ps)) (flat_map_single does (grid (points_in t space) fields))
 
-  moves_cut : (op : Op) → moves_of (cut ps t) op ≡ filter (at_points ps) (moves_of t op)
+  moves_cut : (op : Op) → moves_of (cut ps t) op ≡ filter (at_along ByPoint ps) (moves_of t op)
   moves_cut (operations.Run item) =
-      ap₂ ◌++◌ (cells_cut (λ r c. reads_by (id_of t item) r.number r.access c) (λ r c. reads_kept ps (id_of t item) r.number r.access c)
+      ap₂ ◌++◌ (cells_cut (λ r c. reads_by (id_of t item) r.number r.access c) (λ r c. reads_kept ByPoint ps (id_of t item) r.number r.access c)
       (reqs_of t item))
-      (cells_cut (λ r c. changes_by (id_of t item) r.number r.access c) (λ r c. changes_kept ps (id_of t item) r.number r.access c)
+      (cells_cut (λ r c. changes_by (id_of t item) r.number r.access c) (λ r c. changes_kept ByPoint ps (id_of t item) r.number r.access c)
       (reqs_of t item))
-      ∙ sym (filter-append (at_points ps) _ _)
+      ∙ sym (filter-append (at_along ByPoint ps) _ _)
   moves_cut (operations.Copy src dst space fields) = each_cut space fields (λ x. moves.Copy (cell_in src x) (cell_in dst x)) (λ x f. refl)
   moves_cut (operations.Put inst space fields n) = each_cut space fields (λ x. moves.Put (cell_in inst x) n) (λ x f. refl)
   moves_cut (operations.Reset inst space fields) = each_cut space fields (λ x. moves.Reset (cell_in inst x)) (λ x f. refl)
@@ -153,14 +148,14 @@ module _ (ps : List ℕ) (t : Tables) where
       (wanted_cut (place_of t.items task) (record { tree = tree; point = c.point; field = c.field }) at)
   difference_cut _ s at = refl
 
-  differences_cut : (xs : List Step) → Stay xs → ((x : Step) → Contains xs x → is_at ps x ≡ true) → (r s : State) → Agree ps r s
+  differences_cut : (xs : List Step) → Stay ByPoint xs → ((x : Step) → Contains xs x → is_at ps x ≡ true) → (r s : State) → Agree ByPoint ps r s
       → first_difference (cut ps t) xs r ≡ first_difference t xs s
   differences_cut [] stay at r s agree = refl
   differences_cut (x ∷ xs) stay at r s agree =
       let here = at x (Contains-here xs) in
-      ap₂ option_or (difference_cut x.move r here ∙ difference_agrees t ps x.move r s here agree)
+      ap₂ option_or (difference_cut x.move r here ∙ difference_agrees ByPoint t ps x.move r s here agree)
       (differences_cut xs (λ y m. stay y (Contains-later xs m)) (λ y m. at y (Contains-later xs m)) (effect x.move r) (effect x.move s)
-      (kept_agree ps x.move (stay x (Contains-here xs)) here r s agree))
+      (kept_agree ByPoint ps x.move (stay x (Contains-here xs)) here r s agree))
 
   pub shown_cut : (nodes : List ℕ) → first_difference (cut ps t) (steps_by (cut ps t) nodes) (start (cut ps t))
       ≡ first_difference t (filter (is_at ps) (steps_by t nodes)) (start t)
@@ -192,7 +187,7 @@ module _ (ps : List ℕ) (t : Tables) (a b : ℕ) (cell : Cell) where
       let one = step_in_cut (record { node = a; move = r.one }) r.one_in in
       let other = step_in_cut (record { node = b; move = r.other }) r.other_in in
       let stays = (is_step t (range_with_len 0 (length t.nodes)) _ one.0).stays in (
-        ap (is_in ps) (touched_point r.one cell stays (both_touched (access r.one cell) (access r.other cell) r.conflict).0) ∙ one.1,
+        ap (is_in ps) (touched_point ByPoint r.one cell stays (both_touched (access r.one cell) (access r.other cell) r.conflict).0) ∙ one.1,
         record {
           differ = r.differ;
           one = r.one;
@@ -210,9 +205,9 @@ module _ (ps : List ℕ) (t : Tables) (a b : ℕ) (cell : Cell) where
   in_cut_too (at, r) =
       let ks = range_with_len 0 (length t.nodes) in
       let touched = both_touched (access r.one cell) (access r.other cell) r.conflict in
-      let first = touched_point r.one cell (is_step t ks (record { node = a; move = r.one })
+      let first = touched_point ByPoint r.one cell (is_step t ks (record { node = a; move = r.one })
       r.one_in).stays touched.0 in
-      let second = touched_point r.other cell (is_step t ks (record { node = b; move = r.other })
+      let second = touched_point ByPoint r.other cell (is_step t ks (record { node = b; move = r.other })
       r.other_in).stays touched.1 in
       record {
         differ = r.differ;
