@@ -1,4 +1,2 @@
-mod Giving
-mod Leading
 mod Telling
 mod Walking

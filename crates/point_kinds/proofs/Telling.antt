@@ -11,7 +11,7 @@ use Rattle.std.proofs.lemmas.List.FromFn.{get_or-range_with_len, length-range_wi
 use Rattle.vocabulary.specs.Prelude.{Space, Tables, is_in}
 use Rattle.log_laws.proofs.lemmas.Members.{is_in_of, member_in}
 use Rattle.point_laws.specs.Alike.{AreAlike, AreFirsts}
-use Rattle.point_kinds.specs.Parted.{AreLeads, IsParted}
+use Rattle.partings.specs.Parted.{AreLeads, IsParted}
 use Rattle.point_kinds.specs.Kinds.{AreKinds, places_of, shares}
 use Rattle.point_kinds.proofs.Walking.{at_least, is_in_set}
 use Rattle.list_lemmas.proofs.lemmas.Filtered.{in_filter, of_filter}

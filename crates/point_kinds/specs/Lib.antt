@@ -1,4 +1,4 @@
-pub mod Parted
 pub mod Kinds
+pub use Rattle.partings.specs.Parted
 pub use Rattle.point_laws.specs.Alike
 pub use Rattle.atoms.specs.Atoms

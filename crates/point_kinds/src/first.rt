@@ -6,10 +6,10 @@ ghost use Rattle.point_laws.specs.Alike.{AreAlike, AreFirsts};
 ghost use Rattle.point_kinds.specs.Kinds.{atom_shares, shares};
 
 use crate::kinds::kinds_of;
-use crate::leads::leads;
 use atoms::Atoms;
 use logs::Log;
 use memory::Memory;
+use partings::leads;
 use point_set::PointSet;
 use std::alloc::{AllocError, Global};
 use std::marker::Model;

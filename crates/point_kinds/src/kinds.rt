@@ -5,9 +5,9 @@ ghost use Rattle.std.specs.List.Sorted.{IsStrictlyIncreasing};
 ghost use Rattle.log_tables.specs.Views.{space_seen};
 ghost use Rattle.point_kinds.specs.Kinds.{AreKinds, shares};
 
-use crate::parting::part;
 use crate::places::list_places;
 use log_tables::Space;
+use partings::part;
 use point_set::PointSet;
 use std::alloc::{AllocError, Global};
 

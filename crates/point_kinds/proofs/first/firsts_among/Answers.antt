@@ -1,7 +1,7 @@
 use Rattle.std.proofs.Common.{◌<◌, IfNone, IfSome, map, length, ap, ◌∙◌, subst, arith}
 use Rattle.log_tables.specs.Views.{space_seen}
 use Rattle.point_kinds.specs.declared.first.TheConstants.{MOST_SHARES}
-use Rattle.point_kinds.specs.Parted.{AreLeads}
+use Rattle.partings.specs.Parted.{AreLeads}
 use Rattle.point_kinds.specs.Kinds.{AreKinds, shares}
 use Rattle.point_kinds.proofs.Telling.{firsts_of_kinds, kinds_apart}
 use Rattle.point_kinds.proofs.first.firsts_among.Given.{Over}

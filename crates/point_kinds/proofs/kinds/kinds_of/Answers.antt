@@ -2,7 +2,7 @@ use Rattle.std.proofs.Common.{◌+◌, ◌<◌, All, map, take, length, subst, s
 use Rattle.std.specs.List.Sorted.{IsStrictlyIncreasing}
 use Rattle.log_tables.specs.Views.{space_seen}
 use Rattle.vocabulary.specs.Prelude.{is_in}
-use Rattle.point_kinds.specs.Parted.{IsParted}
+use Rattle.partings.specs.Parted.{IsParted}
 use Rattle.point_kinds.specs.Kinds.{AreKinds, shares}
 use Rattle.point_kinds.proofs.Telling.{kinds_more, places_ascend, places_within, seen_more, shares_more, shares_most}
 use Rattle.point_kinds.proofs.kinds.kinds_of.Goals as goal

@@ -6,7 +6,7 @@ use Rattle.std.proofs.Math.Seq.{get_or-append_seam}
 use Rattle.std.proofs.lemmas.List.{length-append, get_or_append_left, get_or-set_same, get_or-set_other}
 use Rattle.std.proofs.lemmas.List.Elements.{Contains-get_or, Contains-append_cases, Contains-append_left, Contains-append_right}
 use Rattle.std.proofs.lemmas.List.Kept.{AllPairs-from_increasing}
-use Rattle.point_kinds.specs.Parted.{AreLeads, HasLead, IsLead}
+use Rattle.partings.specs.Parted.{AreLeads, HasLead, IsLead}
 use Rattle.list_lemmas.proofs.lemmas.Contained.{only, Contains-here}
 
 -- What is known of the places before `end`.
@@ -101,7 +101,7 @@ module _ (end : ℕ) (numbers points : List ℕ) (seen : List Bool) (leads : Lis
           let h = so.leads_are.listed t.0 t.1 in
           record { lead = h.lead; not_later = omega (arith, h.not_later, t.1, last); same = h.same ∙ (t.2 ∙ ap (λ k. get_or numbers k 0) (sym last)); listed = h.listed }
 
-  -- It was not, so the point leads.
+  -- It was not, so the value leads.
   anew : get_or seen number false ≡ false → AreLeadsSoFar (end + 1) numbers points seen_now (leads ++ point ∷ [])
   anew was = record {
     leads_are = record { listed = λ k lt. at k lt (cases_eq k end); leading = leading };

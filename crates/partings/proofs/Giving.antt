@@ -8,7 +8,7 @@ use Rattle.std.proofs.lemmas.List.Folds.{list_any-append, list_any_none}
 use Rattle.std.proofs.lemmas.List.Kept.{AllPairs-from_increasing}
 use Rattle.std.proofs.lemmas.Option.{same_Some}
 use Rattle.vocabulary.specs.Prelude.{is_in}
-use Rattle.point_kinds.specs.Parted.{IsGiven, IsParted}
+use Rattle.partings.specs.Parted.{IsGiven, IsParted}
 
 -- No two are the same, and they are no less than `low` and below `end`.
 pub record AreGiven (low end : ℕ) (given : ℕ → Option ℕ) : Type 0 where

@@ -1,9 +1,9 @@
 use Rattle.std.proofs.Common.{◌≡◌, ◌+◌, ◌<◌, ◌++◌, ◌∷◌, [], nat_eq, take, get_or, set, length, sym, ◌∙◌, subst, arith}
 use Rattle.std.specs.HashMap.{get}
 use Rattle.std.proofs.lemmas.List.{take_more, take_all, get_or_default}
-use Rattle.point_kinds.specs.Parted.{IsGiven}
-use Rattle.point_kinds.proofs.Giving.{AreSoFar, below_end, not_before, parted_by, so_more}
-use Rattle.point_kinds.proofs.parting.part.Goals as goal
+use Rattle.partings.specs.Parted.{IsGiven}
+use Rattle.partings.proofs.Giving.{AreSoFar, below_end, not_before, parted_by, so_more}
+use Rattle.partings.proofs.parting.part.Goals as goal
 
 pub loop-k-preserved : goal.loop-k-preserved
 loop-k-preserved c =

@@ -3,11 +3,11 @@
 ghost use Rattle.std.specs.Prelude.{◌≡◌, ◌<◌, ◌++◌, ◌∷◌, [], if◌then◌else◌, true, false, slice_set, All, IfOk, OnOk, length};
 ghost use Rattle.std.specs.List.{slice_index_or};
 ghost use Rattle.std.specs.List.Sorted.{IsStrictlyIncreasing};
-ghost use Rattle.point_kinds.specs.Parted.{AreLeads};
+ghost use Rattle.partings.specs.Parted.{AreLeads};
 
 use std::alloc::{AllocError, Global};
 
-/// Adds a point, if its number was not seen yet, and notes the number as seen.
+/// Adds what stands at a place, if its number was not seen yet, and notes the number as seen.
 fn note_lead(
     seen: &mut Vec<bool>,
     leads: &mut Vec<u64>,
@@ -27,8 +27,8 @@ fn note_lead(
     Ok(())
 }
 
-/// The points that stand at the first place of each number, in order. Each number is below `end`.
-pub(crate) fn leads(
+/// Of values at places, those that stand at the first place of each number, in order. Each number is below `end`.
+pub fn leads(
     alloc: Global,
     numbers: &[usize],
     end: usize,

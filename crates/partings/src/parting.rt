@@ -4,7 +4,7 @@ ghost use Rattle.std.specs.Prelude.{◌≡◌, ◌+◌, ◌<◌, ◌^◌, nat_eq
 ghost use Rattle.std.specs.HashMap.{get};
 ghost use Rattle.std.specs.List.Sorted.{IsStrictlyIncreasing};
 ghost use Rattle.vocabulary.specs.Prelude.{is_in};
-ghost use Rattle.point_kinds.specs.Parted.{IsGiven, IsParted};
+ghost use Rattle.partings.specs.Parted.{IsGiven, IsParted};
 
 use std::alloc::{AllocError, Global};
 use std::collections::HashMap;
@@ -24,8 +24,8 @@ fn number_given(
     Ok(fresh)
 }
 
-/// Gives new numbers, from `next` on, to the places of a list: the same to those that had the same.
-pub(crate) fn part(
+/// Gives new numbers, from `next` on, to the places of a list: the same to those that had the same. Takes a look-up for each of them.
+pub fn part(
     alloc: Global,
     numbers: &mut Vec<usize>,
     places: &[usize],

@@ -1,6 +1,6 @@
 use Rattle.std.proofs.Common.{◌≡◌, length}
-use Rattle.point_kinds.proofs.Leading.{AreLeadsSoFar}
-use Rattle.point_kinds.proofs.leads.leads.Given as goal
+use Rattle.partings.proofs.Leading.{AreLeadsSoFar}
+use Rattle.partings.proofs.first_places.leads.Given as goal
 
 abbrev pub invariant-loop-k : goal.invariant-loop-k
 invariant-loop-k l = record {

@@ -1,8 +1,8 @@
 use Rattle.std.proofs.Common.{◌≡◌, ◌+◌, ◌<◌, ◌∙◌, ap, sym, arith, get_or, length, replicate, set, false, true, subst}
 use Rattle.std.proofs.lemmas.List.{length-set, length-replicate}
-use Rattle.point_kinds.specs.Parted.{AreLeads}
-use Rattle.point_kinds.proofs.Leading.{AreLeadsSoFar, leads_more, none_yet}
-use Rattle.point_kinds.proofs.leads.leads.Goals as goal
+use Rattle.partings.specs.Parted.{AreLeads}
+use Rattle.partings.proofs.Leading.{AreLeadsSoFar, leads_more, none_yet}
+use Rattle.partings.proofs.first_places.leads.Goals as goal
 
 pub loop-k-init : goal.loop-k-init
 loop-k-init c =

@@ -1,7 +1,7 @@
 use Rattle.std.proofs.Common.{◌+◌, nat_eq, take}
 use Rattle.std.specs.HashMap.{get}
-use Rattle.point_kinds.proofs.Giving.{AreSoFar}
-use Rattle.point_kinds.proofs.parting.part.Given as goal
+use Rattle.partings.proofs.Giving.{AreSoFar}
+use Rattle.partings.proofs.parting.part.Given as goal
 
 abbrev pub invariant-loop-k : goal.invariant-loop-k
 invariant-loop-k l =
