@@ -1,0 +1,2 @@
+-- Lemmas for the proofs of other crates.
+pub mod Firsts
