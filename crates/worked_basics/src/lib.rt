@@ -5,6 +5,8 @@
 #![tactic(auto)]
 
 #[cfg(test)]
+mod field_kinds_tests;
+#[cfg(test)]
 mod id_maps_tests;
 #[cfg(test)]
 mod launch_claims_tests;
