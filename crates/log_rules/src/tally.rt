@@ -1,6 +1,6 @@
 //! What is kept count of along a log, and the limits on it.
 
-ghost use Rattle.std.specs.Prelude.{◌≡◌, ◌≤◌, nat_eq, ℕ, List, [], ◌++◌, ◌∷◌, false, true, Option, option_map, IfOk, OnOk};
+ghost use Rattle.std.specs.Prelude.{◌≡◌, ◌≤◌, nat_eq, ℕ, List, [], ◌++◌, ◌∷◌, false, true, Option, option_map, OnOk};
 ghost use Rattle.id_maps.specs.Sets.{has_id};
 ghost use Rattle.point_set.specs.declared.rect.Rect.{Rect};
 ghost use Rattle.grid.specs.Corners.{cell_count};
@@ -285,33 +285,32 @@ impl Tally {
         }
     }
 
-    /// The tally of one record more, given what the records before it declare. The old one is spent, also where memory runs out.
+    /// Takes one record more into account, given what the records before it declare. Where memory runs out the tally is of no use any more.
     pub fn add<P: PointSet>(
-        self,
+        &mut self,
         alloc: Global,
         tables: &LogTables<P>,
         rec: &Record,
-    ) -> Result<Tally, Memory>
+    ) -> Result<(), Memory>
         requires { Ascends rec.now }
-        ensures { IfOk result (λ tally. (all : Option (List Rect)) (earlier : List Record) (line : ℕ)
-            → IsTally all earlier tables.now self → MayCount all earlier tables.now rec.now
-            → IsTally all (earlier ++ rec.now ∷ []) (with_record tables.now line rec.now) tally) }
+        ensures { OnOk result ((all : Option (List Rect)) (earlier : List Record) (line : ℕ)
+            → IsTally all earlier tables.now self.old → MayCount all earlier tables.now rec.now
+            → IsTally all (earlier ++ rec.now ∷ []) (with_record tables.now line rec.now) self.new) }
     {
-        let mut tally = self;
-        tally.points = raised(tally.points, points_asked(rec));
-        tally.cells = raised(tally.cells, cells_asked(tables, rec));
-        tally.accesses = raised(tally.accesses, accesses_asked(tables, rec));
-        note_listed(&mut tally.listed, rec)?;
-        let claimed = claimed_with(tables, &tally, rec);
+        self.points = raised(self.points, points_asked(rec));
+        self.cells = raised(self.cells, cells_asked(tables, rec));
+        self.accesses = raised(self.accesses, accesses_asked(tables, rec));
+        note_listed(&mut self.listed, rec)?;
+        let claimed = claimed_with(tables, self, rec);
         let log = ClaimedLog {
             tables,
-            places: &tally.places,
+            places: &self.places,
         };
-        note_claims(alloc, &mut tally.claims, &log, claimed, rec)?;
-        tally.pairs.note(alloc, &tally.places, tables, rec)?;
-        tally.places.note(alloc, rec)?;
-        tally.claimed = claimed;
-        Ok(tally)
+        note_claims(alloc, &mut self.claims, &log, claimed, rec)?;
+        self.pairs.note(alloc, &self.places, tables, rec)?;
+        self.places.note(alloc, rec)?;
+        self.claimed = claimed;
+        Ok(())
     }
 }
 

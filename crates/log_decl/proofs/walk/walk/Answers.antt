@@ -51,15 +51,15 @@ loop-l-preserved g c =
     let none : broken_of (records_of log) es t r ≡ None =
     ap (λ (w : List Record). broken_of w es t r) (sym c.requires.whole) ∙ sym told
     ∙ none_where c.in_ok-code.code (sym c.is_some.ensures ∙ c.if-is_some.false) in
-    let next = c.in_ok-add.ensures.ok in
-    let tally = c.in_ok-tally.ensures all es l.line (c.in_ok-remember.ensures all es inv.tally) (may_count all (records_of log) es t r
+    let next = c.in_ok-add-2.ensures.ok in
+    let tally = c.in_ok-add.ensures all es l.line (c.in_ok-remember.ensures all es inv.tally) (may_count all (records_of log) es t r
     (flat_here log i t l c.requires.header inv.tables c.loop-l-test.true c.l-item.is)
     (omega (arith, inv.few, c.loop-l-test.true, c.requires.few)) (listed_in log i l c.loop-l-test.true c.l-item.is) none) in
     record {
       at = ap (λ n. n + 1) inv.at;
       tables = next ∙ tables_more log i t l inv.tables c.loop-l-test.true c.l-item.is;
       tally = tally_more _ _ _ _ _ _ tally (records_more log i l c.loop-l-test.true c.l-item.is) next;
-      few = omega (arith, c.in_ok-add.ensures.few, inv.few);
+      few = omega (arith, c.in_ok-add-2.ensures.few, inv.few);
       size = λ plane. (c.in_ok-cells.ensures t.rects plane (inv.size plane)).0 ∙ ap grid_of (sym (rects_more t l.line r))
           ∙ ap (λ (u : Tables). grid_of u.rects) (sym next);
       keep = keeps_more log i t l inv.tables inv.keep c.loop-l-test.true c.l-item.is none;

@@ -19,7 +19,7 @@ pub returns : goal.returns
 returns g c = λ all earlier line is may.
     let t = c.args.tables.now in
     let r = c.args.rec.now in
-    let old = c.args.self in
+    let old = c.args.self.now in
     let most = 2 ^ 128 - 1 in
     record {
       counts = λ still.
@@ -27,15 +27,15 @@ returns g c = λ all earlier line is may.
           let of = is.counts flat in
           record {
             points =
-                c.raised.ensures.sum ∙ ap (λ m. cut (old.points + m)) c.points_asked.ensures
-                ∙ cut-both old.points (points_asked r) most ∙ points-exact t r old.points of.points c.raised.ensures.fits flat may.points
+                c.raised-self.ensures.sum ∙ ap (λ m. cut (old.points + m)) c.points_asked.ensures
+                ∙ cut-both old.points (points_asked r) most ∙ points-exact t r old.points of.points c.raised-self.ensures.fits flat may.points
                 ∙ sym (point_total-add t line r);
             cells =
-                c.raised-2.ensures.sum ∙ ap (λ m. cut (old.cells + m)) c.cells_asked.ensures
-                ∙ cut-both old.cells (cells_asked t r) most ∙ cells-exact t r old.cells of.cells c.raised-2.ensures.fits flat may.cells
+                c.raised-self-2.ensures.sum ∙ ap (λ m. cut (old.cells + m)) c.cells_asked.ensures
+                ∙ cut-both old.cells (cells_asked t r) most ∙ cells-exact t r old.cells of.cells c.raised-self-2.ensures.fits flat may.cells
                 ∙ sym (cell_total-add t line r is.known.insts may.known);
             accesses =
-                c.raised-3.ensures.sum ∙ ap (λ m. cut (old.accesses + m)) (c.accesses_asked.ensures flat)
+                c.raised-self-3.ensures.sum ∙ ap (λ m. cut (old.accesses + m)) (c.accesses_asked.ensures flat)
                 ∙ cut-both old.accesses (size_asked t r) most ∙ accesses-exact earlier t r old.accesses of.accesses flat may.accesses
                 ∙ sym (access_total-add earlier t line r flat still is.known.accesses may.known);
             within = within_limit _ (accesses t r) _ (few_accesses earlier t r flat may.accesses)
