@@ -33,7 +33,7 @@ fn reads_of<P: PointSet + Copy>(log: &Log<'_, P>, req: &Req) -> u64
 }
 
 /// How many reads the tasks of a log have. By the limit on reads it fits.
-pub(crate) fn count_reads<P: PointSet + Copy>(log: &Log<'_, P>) -> u64
+pub fn count_reads<P: PointSet + Copy>(log: &Log<'_, P>) -> u64
     ensures { result ≡ read_count log.now }
 {
     log.is_declared();

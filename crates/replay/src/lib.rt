@@ -12,5 +12,6 @@ mod moving;
 mod replaying;
 mod wanted;
 
+pub use counting::count_reads;
 pub use ends::{Reads, ReplayEnd};
 pub use replaying::replay;

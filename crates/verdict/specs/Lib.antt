@@ -1,4 +1,5 @@
 pub mod Stages
+pub mod Narrow
 pub use Rattle.point_laws.specs.Alike
 pub use Rattle.semantics.specs.Counts
 pub use Rattle.point_laws.specs.Cut

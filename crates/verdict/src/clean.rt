@@ -5,6 +5,7 @@ ghost use Rattle.vocabulary.specs.Prelude.{HasNoCycle, IsRaceFree};
 ghost use Rattle.findings.specs.Texts as texts;
 ghost use Rattle.outcomes.specs.Outcome.{IsSound, WhyFinds};
 ghost use Rattle.long_values.specs.LongOutcome.{CheckFindsLong, IsSoundLong};
+ghost use Rattle.verdict.specs.Narrow.{Passes};
 ghost use Rattle.verdict.specs.Stages.{FindsDifference, IsStop};
 ghost use Rattle.log_findings.specs.Faultless.{AreFaultless};
 
@@ -69,6 +70,7 @@ impl<'a, P: ArenaSet<'a>> Clean<'a, P> {
     /// The log, if each of its reads is right in every interleaving, or the read that is shown to differ in every interleaving. Told by long values, it is the same.
     pub fn replay(self, alloc: Global) -> Result<Judged<'a, P>, Stop>
         ensures judged { IfOk result (λ j. j ≡ self.entry) }
+        ensures passes { OnOk result (Passes self.entry) }
         ensures sound { OnOk result (IsSound self.entry) }
         ensures stop { IfErr result (IsStop (FindsDifference self.entry)) }
         ensures sound_long { OnOk result (IsSoundLong self.entry) }

@@ -2,7 +2,7 @@
 
 ghost use Rattle.std.specs.Prelude.{◌≡◌, All, IfOk};
 ghost use Rattle.findings.specs.Texts as texts;
-ghost use Rattle.vocabulary.specs.Prelude.{Good, AreLines};
+ghost use Rattle.vocabulary.specs.Prelude.{Good, AreLines, tables_of};
 ghost use Rattle.semantics.specs.declared.command.Command.TheVariants.{Check, Deps, Ordered, Spare, Why};
 ghost use Rattle.outcomes.specs.Outcome.{IsFound};
 ghost use Rattle.long_values.specs.LongOutcome.{IsFoundLong};
@@ -10,6 +10,7 @@ ghost use Rattle.log_findings.specs.Findings.{IsFoundOf};
 
 use crate::asking::why_in;
 use crate::checking::check_in;
+use crate::narrow::Source;
 use bumpalo::Bump;
 use findings::Finding;
 use log_decl::{DeclEnd, declare};
@@ -17,22 +18,26 @@ use log_findings::{deps_finding, fault_found, ordered_finding, spare_finding};
 use logs::Log;
 use memory::Memory;
 use point_set::RectSet;
-use region_tree::ArenaSet;
+use region_tree::ArenaRects;
 use semantics::{Ask, Command};
 use spy_grammar::Lined;
 use std::alloc::Global;
 
-/// What a command finds in a log: a row for each command. A log that is only looked at is let go then.
-fn found_in<'a, P: ArenaSet<'a>>(
+/// What a command finds in a log that was made of these records: a row for each command. A log that is only looked at is let go then.
+fn found_in<'a, P: ArenaRects<'a>>(
     alloc: Global,
     command: Command,
     log: Log<'a, P>,
+    source: &Source<'a, '_>,
 ) -> Result<Finding, Memory>
+    requires good { All (λ l. Good l.rec) source.now.records.now.items }
+    requires lines { AreLines source.now.lines source.now.records.now.items }
+    requires tables { log ≡ tables_of source.now.records.now.items }
     ensures found { IfOk result (IsFoundOf command log.entry) }
     ensures text { IfOk result texts.Good }
 {
     match command {
-        Command::Check => check_in(alloc, log),
+        Command::Check => check_in(alloc, log, source),
         Command::Ordered => {
             let found = ordered_finding(alloc, &log);
             log.let_go();
@@ -66,7 +71,14 @@ pub fn find(
 {
     let bump = Bump::new(alloc);
     match declare::<RectSet<'_>>(alloc, &bump, records, lines) {
-        Ok(log) => found_in(alloc, command, log),
+        Ok(log) => {
+            let source = Source {
+                bump: &bump,
+                records,
+                lines,
+            };
+            found_in(alloc, command, log, &source)
+        }
         Err(DeclEnd::Fault { line, code }) => Ok(fault_found(line, code)),
         Err(DeclEnd::Memory) => Err(Memory),
     }

@@ -5,15 +5,18 @@ ghost use Rattle.semantics.specs.declared.command.Command.TheVariants.{Check};
 ghost use Rattle.verdict.specs.declared.stop.Stop.{Stop};
 ghost use Rattle.log_findings.specs.Findings as faults;
 ghost use Rattle.vocabulary.specs.Prelude.{HasNoCycle};
+ghost use Rattle.verdict.specs.Narrow.{Passes};
 ghost use Rattle.verdict.specs.Stages.{FindsCycle, FindsFault, IsStop};
 ghost use Rattle.log_findings.specs.Faultless.{AreFaultless};
 
+use crate::judged::Judged;
 use crate::sorted::{Sorted, sorted_parts};
 use crate::stop::Stop;
 use log_findings::{fault_found, serial_fault};
 use logs::Log;
 use point_set::PointSet;
 use region_tree::ArenaSet;
+use replay::count_reads;
 use semantics::Fault;
 use spy_grammar::Code;
 use std::alloc::Global;
@@ -76,6 +79,16 @@ impl<'a, P: ArenaSet<'a>> Declared<'a, P> {
         ensures { AreFaultless self.now }
     {
         self.log.is_declared();
+    }
+
+    /// The log as one that was judged, where it is known to pass the stages.
+    pub(crate) fn into_judged(self) -> Judged<'a, P>
+        requires { Passes self }
+        ensures { result ≡ self.entry }
+    {
+        self.log.is_declared();
+        let reads = count_reads(&self.log);
+        Judged::of(self.log, reads)
     }
 
     /// The log with its nodes sorted, or the cycle that is shown.

@@ -53,6 +53,7 @@ pub(crate) fn judged_reads<'a, P: ArenaSet<'a>>(
     requires sorted { AreSorted (graph_of log.now.nodes) sorting.now }
     requires firsts { AreFirsts log.now firsts.now }
     requires free { IsRaceFree log.now }
+    ensures right { OnOk result (shown_difference log.now ≡ None) }
     ensures sound { OnOk result (IsSound log.now) }
     ensures count { IfOk result (λ count. count ≡ read_count log.now) }
     ensures stop { IfErr result (IsStop (FindsDifference log.now)) }

@@ -3,7 +3,7 @@
 ghost use Rattle.std.specs.Prelude.{◌≡◌, None, IfOk, IfErr, OnOk};
 ghost use Rattle.semantics.specs.declared.command.Command.TheVariants.{Check};
 ghost use Rattle.semantics.specs.Counts.{read_count};
-ghost use Rattle.vocabulary.specs.Prelude.{graph_of, HasNoCycle, IsRaceFree};
+ghost use Rattle.vocabulary.specs.Prelude.{graph_of, HasNoCycle, IsRaceFree, shown_difference};
 ghost use Rattle.findings.specs.Texts as texts;
 ghost use Rattle.outcomes.specs.Outcome.{IsSound, WhyFinds};
 ghost use Rattle.long_values.specs.LongOutcome.{CheckFindsLong, IsSoundLong};
@@ -172,6 +172,7 @@ impl<'a, P: ArenaSet<'a>> Sorted<'a, P> {
     /// How many reads there are, if each is right in every interleaving, or the read that is shown to differ in every interleaving.
     pub(crate) fn reads(&self, alloc: Global) -> Result<u64, Stop>
         requires { IsRaceFree self.now }
+        ensures right { OnOk result (shown_difference self.now ≡ None) }
         ensures sound { OnOk result (IsSound self.now) }
         ensures count { IfOk result (λ count. count ≡ read_count self.now) }
         ensures stop { IfErr result (IsStop (FindsDifference self.now)) }

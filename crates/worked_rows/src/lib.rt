@@ -4,6 +4,8 @@
 #![tactic(auto)]
 
 #[cfg(test)]
+mod alike_fields;
+#[cfg(test)]
 mod checked;
 #[cfg(test)]
 mod examples;

@@ -1,26 +1,19 @@
-use Rattle.std.proofs.Common.{◌≡◌, ◌∙◌, Some, None, refl, sym, subst}
-use Rattle.vocabulary.specs.Prelude.{Tables, IsRaceFree, Seen, IsRight, Differs, shown_difference, HasNoCycle}
+use Rattle.std.proofs.Common.{◌≡◌, ◌∙◌, Some, refl, sym, subst}
+use Rattle.vocabulary.specs.Prelude.{Tables, IsRaceFree, Seen, Differs, shown_difference, HasNoCycle}
 use Rattle.semantics.specs.Counts.{operation_count, read_count, task_count}
 use Rattle.verdict.specs.Stages.{FindsDifference}
 use Rattle.findings.specs.declared.finding.Finding.TheVariants.{Accepted}
 use Rattle.verdict.proofs.Differing.{told, same_reads}
-use Rattle.outcomes.proofs.lemmas.Replays.{right_everywhere, differs_everywhere}
+use Rattle.outcomes.proofs.lemmas.Replays.{differs_everywhere}
 use Rattle.long_values.proofs.lemmas.Checked.{check_same}
 use Rattle.log_findings.proofs.lemmas.Ends.{of_declared}
 use Rattle.verdict.proofs.Stages.{FindsAlike, of_difference}
+use Rattle.verdict.proofs.Narrowing.{sound_by}
 use Rattle.verdict.proofs.reads.judged_reads.Goals as goal
 
 pub returns-in-Ok-clause-sound : goal.returns-in-Ok-clause-sound
-returns-in-Ok-clause-sound g c =
-    let t = c.args.log.now in
-    let law = of_declared (λ (s : Tables). HasNoCycle s → IsRaceFree s → shown_difference s ≡ None
-    → IsRight s) right_everywhere t c.is_declared.ensures c.requires.faultless in
-    record {
-      no_cycle = c.requires.sorted.order.free;
-      no_race = c.requires.free;
-      right =
-          law c.requires.sorted.order.free c.requires.free c.in-Ok.ensures.right;
-    }
+returns-in-Ok-clause-sound g c = sound_by c.args.log.now c.is_declared.ensures c.requires.faultless
+    (record { no_cycle = c.requires.sorted.order.free; no_race = c.requires.free; right = c.in-Ok.ensures.right })
 
 pub returns-in-Err-Differ-clause-stop : goal.returns-in-Err-Differ-clause-stop
 returns-in-Err-Differ-clause-stop g c =
