@@ -1,7 +1,7 @@
 //! The first rule on single records that a record breaks. The two rules of the forest are left out.
 
 ghost use Rattle.std.specs.Prelude.{◌≡◌, find, IfOk};
-ghost use Rattle.semantics.specs.Faults.{record_rules};
+ghost use Rattle.semantics.specs.Faults.{InLog, record_rules};
 ghost use Rattle.log_tables.specs.Views.{Ascends};
 ghost use Rattle.log_decl.specs.Walk.{IfAt, IfAtEnd, breaks_other};
 
@@ -28,6 +28,48 @@ const RULES: [Code; 28] = [
     WrongKind, NotCovered, MappedTwice, NoRun, TwoRuns, RepeatedEvent, UndefinedEvent, Serial,
     TooManyCells, TooManyAccesses, TooMuchLoad, Version, TooManyReads,
 ];
+
+/// The rules that look at records of the kinds of which a log has most, in the same order.
+#[rattlefmt::skip]
+const OF_REQUIREMENTS: [Code; 7] = [
+    TooManyRecords, UnknownId, NotInTree, Fields, SelfInterference, RepeatedEvent, TooManyAccesses,
+];
+
+#[rattlefmt::skip]
+const OF_MAPS: [Code; 9] = [
+    TooManyRecords, UnknownId, Fields, WrongTree, WrongKind, NotCovered, MappedTwice, RepeatedEvent,
+    TooManyAccesses,
+];
+
+#[rattlefmt::skip]
+const OF_RUNS: [Code; 6] = [
+    TooManyRecords, UnknownId, TwoRuns, RepeatedEvent, UndefinedEvent, TooManyAccesses,
+];
+
+#[rattlefmt::skip]
+const OF_DATA: [Code; 8] = [
+    TooManyRecords, UnknownId, WrongTree, WrongKind, NotCovered, RepeatedEvent, UndefinedEvent,
+    TooManyAccesses,
+];
+
+#[rattlefmt::skip]
+const OF_MERGES: [Code; 4] = [TooManyRecords, RepeatedEvent, UndefinedEvent, TooManyAccesses];
+
+/// The rules that a record may break, in the order in which they are tried. Those that are left out look at records of other kinds alone.
+fn rules_for(rec: &Record) -> &'static [Code]
+    ensures { (r : InLog) → r.rec ≡ rec.now → find (breaks_other r) result.now ≡ find (breaks_other r) record_rules }
+{
+    match rec {
+        Record::Req { .. } => OF_REQUIREMENTS.as_slice(),
+        Record::Map { .. } => OF_MAPS.as_slice(),
+        Record::Run { .. } => OF_RUNS.as_slice(),
+        Record::Copy { .. } | Record::Put { .. } | Record::Reset { .. } | Record::Fold { .. } => {
+            OF_DATA.as_slice()
+        }
+        Record::Merge { .. } => OF_MERGES.as_slice(),
+        _ => RULES.as_slice(),
+    }
+}
 
 /// A record of a log, with what the rules ask of: the log as a whole, the earlier records, and what these declare and add up to.
 #[derive(Clone, Copy)]
@@ -91,7 +133,7 @@ fn first_of<P: PointSet>(
     requires { Ascends at.now.rec.now }
     ensures { IfAtEnd at.now corners.entry (λ r. IfOk result (λ code. code ≡ find (breaks_other r) record_rules)) }
 {
-    let mut rest = RULES.as_slice();
+    let mut rest = rules_for(at.rec);
     while let [code, more @ ..] = rest {
         if breaks(alloc, at, corners, *code)? {
             return Ok(Some(*code));

@@ -1,4 +1,4 @@
-use Rattle.std.proofs.Common.{◌≡◌, ◌-◌, ◌≤◌, Bool, false, List, [], ◌∷◌, find, length, take, drop, get_or, sym, ap, ◌∙◌, arith}
+use Rattle.std.proofs.Common.{◌≡◌, ◌-◌, ◌≤◌, Bool, false, List, [], ◌∷◌, find, length, take, drop, get_or, refl, sym, ap, ◌∙◌, arith}
 use Rattle.std.proofs.Math.Seq.{take-length}
 use Rattle.spy_grammar.specs.declared.code.Code.TheVariants.{TooLong}
 use Rattle.log_decl.specs.Walk.{breaks_other, seen}
@@ -13,7 +13,7 @@ past_first test (x ∷ xs) d some fails =
     rw fails (ap (λ n. find test (take n xs)) others ∙ ap (find test) (take-length xs))
 
 pub loop-rest-init : goal.loop-rest-init
-loop-rest-init g c = λ ends earlier is same cells. ap (find (breaks_other (seen c.args.at.now earlier))) c.as_slice-rest.ensures
+loop-rest-init g c = λ ends earlier is same cells. c.rules_for-rest.ensures (seen c.args.at.now earlier) refl
 
 pub loop-rest-preserved : goal.loop-rest-preserved
 loop-rest-preserved g c = λ ends earlier is same cells.
