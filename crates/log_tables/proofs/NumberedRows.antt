@@ -1,5 +1,5 @@
 -- Rows whose keys have numbers one after the other, and the places of keys among them.
-use Rattle.std.proofs.Common.{◌≡◌, ℕ, zero, suc, ◌+◌, ◌<◌, ◌≤◌, Bool, true, false, List, [], ◌∷◌, length, get_or, Some, None, slice_get, refl, sym, ap, ◌∙◌, inl, inr, arith}
+use Rattle.std.proofs.Common.{◌≡◌, ℕ, zero, suc, ◌+◌, ◌<◌, ◌≤◌, Bool, true, false, List, [], ◌∷◌, ◌++◌, ◌⊎◌, length, get_or, Some, None, slice_get, refl, sym, ap, ◌∙◌, inl, inr, arith}
 use Rattle.std.specs.List.{position_from}
 use Rattle.std.proofs.lemmas.Bool.{cases_Bool, false≢true}
 use Rattle.std.proofs.lemmas.Option.{none-some, same_Some, slice_get-get_or, slice_get_within}
@@ -27,6 +27,31 @@ none_at p k (y ∷ ys) none = elim (cases_Bool (p y)) [
   | inl hit ↦ absurd (none 0 y refl hit)
   | inr miss ↦ rw miss (none_at p (k + 1) ys (λ j z. none (suc j) z))
 ]
+
+-- what stands in some rows and one more
+one_more : {X : Type 0} (rows : List X) (row x : X) (i : ℕ) → slice_get (rows ++ row ∷ []) i ≡ Some x
+    → (slice_get rows i ≡ Some x) ⊎ ((i ≡ length rows) × (x ≡ row))
+one_more [] row x zero at = inr (refl, sym (same_Some row x at))
+one_more [] row x (suc i) at = absurd (none-some x at)
+one_more (y ∷ ys) row x zero at = inl at
+one_more (y ∷ ys) row x (suc i) at = elim (one_more ys row x i at) [
+  | inl before ↦ inl before
+  | inr last ↦ inr (ap suc last.0, last.1)
+]
+
+-- with a row whose number follows, rows are numbered still
+pub numbered_more : {K T : Type 0} (number_of : K → ℕ) (key_of : T → K) (rows : List T) (first : ℕ) (row : T)
+    → AreNumbered number_of key_of first rows → number_of (key_of row) ≡ first + length rows → AreNumbered number_of key_of first (rows ++ row ∷ [])
+numbered_more number_of key_of rows first row numbered follows i x at = elim (one_more rows row x i at) [
+  | inl before ↦ numbered i x before
+  | inr last ↦ ap (λ x. number_of (key_of x)) last.1 ∙ follows ∙ ap (λ i. first + i) (sym last.0)
+]
+
+pub numbered_one : {K T : Type 0} (number_of : K → ℕ) (key_of : T → K) (rows : List T) (row : T) → length rows ≡ 0
+    → AreNumbered number_of key_of (number_of (key_of row)) (rows ++ row ∷ [])
+numbered_one number_of key_of rows row none =
+    numbered_more number_of key_of rows (number_of (key_of row)) row
+    (λ i x at. let lt = slice_get_within rows i x at in absurd (omega (arith, lt, none))) (omega (arith, none))
 
 module _ {K T : Type 0} (eq : K → K → Bool) (number_of : K → ℕ) (key_of : T → K)
     (alike : (a b : K) → eq a b ≡ true → number_of a ≡ number_of b) where

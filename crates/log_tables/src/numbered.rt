@@ -1,6 +1,6 @@
 //! Rows whose keys have numbers one after the other, which are found without a table of their places.
 
-ghost use Rattle.std.specs.Prelude.{◌≡◌, ◌+◌, IfSome, IsTrue};
+ghost use Rattle.std.specs.Prelude.{◌≡◌, ◌+◌, ◌++◌, ◌∷◌, [], IfSome, IsTrue};
 ghost use Rattle.std.specs.List.{position_from};
 ghost use Rattle.log_tables.specs.Noted.{AreNumbered};
 
@@ -28,6 +28,27 @@ pub(crate) fn first_number<K: Key, T: Keyed<K>>(rows: &[T]) -> Option<usize>
     Some(first)
 }
 
+/// The number of the first key of some rows and one more, if the numbers of the others follow it one by one.
+pub(crate) fn first_number_with<K: Key, T: Keyed<K>>(
+    rows: &[T],
+    first: Option<usize>,
+    row: &T,
+) -> Option<usize>
+    requires { IfSome first (λ first. AreNumbered K.number_of T.key_of first rows.now) }
+    ensures { IfSome result (λ first. AreNumbered K.number_of T.key_of first (rows.now ++ row.now ∷ [])) }
+{
+    let key = row.key();
+    if rows.is_empty() {
+        return Some(key.number());
+    }
+    let first = first?;
+    if is_above(key, first, rows.len()) {
+        Some(first)
+    } else {
+        None
+    }
+}
+
 /// The place of the row with a key, where the numbers of keys come one after the other.
 pub(crate) fn numbered_place<K: Key, T: Keyed<K>>(rows: &[T], first: usize, key: K) -> Option<usize>
     requires { AreNumbered K.number_of T.key_of first rows.now }
@@ -49,6 +70,27 @@ pub(crate) fn also_first_number<L: Key, T: AlsoKeyed<L>>(rows: &[T]) -> Option<u
         }
     }
     Some(first)
+}
+
+/// The number of the first of the second keys of some rows and one more, if the numbers of the others follow it one by one.
+pub(crate) fn also_first_number_with<L: Key, T: AlsoKeyed<L>>(
+    rows: &[T],
+    first: Option<usize>,
+    row: &T,
+) -> Option<usize>
+    requires { IfSome first (λ first. AreNumbered L.number_of T.also_of first rows.now) }
+    ensures { IfSome result (λ first. AreNumbered L.number_of T.also_of first (rows.now ++ row.now ∷ [])) }
+{
+    let key = row.also();
+    if rows.is_empty() {
+        return Some(key.number());
+    }
+    let first = first?;
+    if is_above(key, first, rows.len()) {
+        Some(first)
+    } else {
+        None
+    }
 }
 
 /// The place of the row with a second key, where the numbers of these come one after the other.

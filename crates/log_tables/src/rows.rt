@@ -4,9 +4,9 @@ ghost use Rattle.std.specs.Prelude.{ℕ, ◌≡◌, ◌++◌, ◌∷◌, [], tru
 ghost use Rattle.std.specs.List.{list_any, position_from};
 ghost use Rattle.std.specs.Option.{option_copied};
 ghost use Rattle.indexmap.specs.IndexMap.{get, spare};
-ghost use Rattle.log_tables.specs.Noted.{NotesFirst, HoldsPlaces, AreBoth};
+ghost use Rattle.log_tables.specs.Noted.{NotesFirst, HoldsPlaces, AreBoth, AreNumbered};
 
-use crate::numbered::{first_number, numbered_place};
+use crate::numbered::{first_number, first_number_with, numbered_place};
 use indexmap::IndexMap;
 use std::alloc::{AllocError, Global};
 use std::hash::Hash;
@@ -33,7 +33,7 @@ pub trait Key: Copy + Eq + Hash {
 
 /// Rows in the order in which they were added, which contracts see as a list. A row is looked up by its key in constant time: of rows with one key, the first.
 ///
-/// Rows that were made of a list take no memory for their places where the numbers of their keys come one after the other, until a row is added. Without memory for their places, others that were made of a list are looked through one by one.
+/// They take no memory for their places while the numbers of their keys come one after the other, as ids in most logs do. Once they do not, the places of all are noted. Without memory for that, they are looked through one by one.
 #[derive(Drop)]
 pub struct Rows<K: Key, T: Keyed<K>> {
     rows: Vec<T>,
@@ -117,7 +117,7 @@ fn places_unless<K: Key, T: Keyed<K>>(
     }
 }
 
-/// Notes the places of rows that were found by their numbers, since the next key may have any.
+/// Notes the places of rows that were found by their numbers, since the number of the next key does not follow.
 fn leave_numbers<K: Key, T: Keyed<K>>(
     alloc: Global,
     rows: &[T],
@@ -210,8 +210,22 @@ impl<K: Key, T: Keyed<K>> Rows<K, T> {
         row_at(&self.rows, self.place(key))
     }
 
-    /// One row more.
-    pub fn push(&mut self, row: T) -> Result<(), AllocError>
+    /// One row more, where the numbers of the keys still come one after the other from this one on. No place is noted.
+    fn push_numbered(&mut self, first: usize, row: T) -> Result<(), AllocError>
+    where
+        T: Drop,
+        requires { AreNumbered K.number_of T.key_of first (self.old ++ row ∷ []) }
+        ensures ok { OnOk result (self.new ≡ self.old ++ row ∷ []) }
+        ensures err { OnErr result (self.new ≡ self.old) }
+    {
+        self.rows.push(row)?;
+        self.places = None;
+        self.first = Some(first);
+        Ok(())
+    }
+
+    /// One row more, whose place is noted.
+    fn push_noted(&mut self, row: T) -> Result<(), AllocError>
     where
         T: Drop,
         ensures ok { OnOk result (self.new ≡ self.old ++ row ∷ []) }
@@ -228,5 +242,18 @@ impl<K: Key, T: Keyed<K>> Rows<K, T> {
         note_place(&mut self.places, row.key(), self.rows.len())?;
         self.rows.push(row)?;
         Ok(())
+    }
+
+    /// One row more.
+    pub fn push(&mut self, row: T) -> Result<(), AllocError>
+    where
+        T: Drop,
+        ensures ok { OnOk result (self.new ≡ self.old ++ row ∷ []) }
+        ensures err { OnErr result (self.new ≡ self.old) }
+    {
+        match first_number_with(&self.rows, self.first, &row) {
+            Some(first) => self.push_numbered(first, row),
+            None => self.push_noted(row),
+        }
     }
 }

@@ -4,9 +4,9 @@ ghost use Rattle.std.specs.Prelude.{◌≡◌, ◌++◌, ◌∷◌, [], ◌<◌,
 ghost use Rattle.std.specs.List.{list_any, position_from};
 ghost use Rattle.std.specs.Option.{option_copied};
 ghost use Rattle.indexmap.specs.IndexMap.{get, spare};
-ghost use Rattle.log_tables.specs.Noted.{HoldsPlaces, AreBoth};
+ghost use Rattle.log_tables.specs.Noted.{HoldsPlaces, AreBoth, AreNumbered};
 
-use crate::numbered::{also_first_number, also_numbered_place};
+use crate::numbered::{also_first_number, also_first_number_with, also_numbered_place};
 use crate::rows::{Key, Keyed, Rows, note_first, note_place, row_at};
 use indexmap::IndexMap;
 use std::alloc::{AllocError, Global};
@@ -71,7 +71,7 @@ fn also_places_unless<L: Key, T: AlsoKeyed<L>>(
     }
 }
 
-/// Notes the places of rows that were found by the numbers of their second keys, since the next one may have any.
+/// Notes the places of rows that were found by the numbers of their second keys, since that of the next one does not follow.
 fn leave_numbers<L: Key, T: AlsoKeyed<L>>(
     alloc: Global,
     rows: &[T],
@@ -160,8 +160,22 @@ impl<K: Key, L: Key, T: Keyed<K> + AlsoKeyed<L>> TwoRows<K, L, T> {
         row_at(self.rows.as_slice(), self.also_place(key))
     }
 
-    /// One row more.
-    pub fn push(&mut self, row: T) -> Result<(), AllocError>
+    /// One row more, where the numbers of the second keys still come one after the other from this one on. No place of theirs is noted.
+    fn push_numbered(&mut self, first: usize, row: T) -> Result<(), AllocError>
+    where
+        T: Drop,
+        requires { AreNumbered L.number_of T.also_of first (self.old ++ row ∷ []) }
+        ensures ok { OnOk result (self.new ≡ self.old ++ row ∷ []) }
+        ensures err { OnErr result (self.new ≡ self.old) }
+    {
+        self.rows.push(row)?;
+        self.places = None;
+        self.first = Some(first);
+        Ok(())
+    }
+
+    /// One row more, of whose second key the place is noted.
+    fn push_noted(&mut self, row: T) -> Result<(), AllocError>
     where
         T: Drop,
         ensures ok { OnOk result (self.new ≡ self.old ++ row ∷ []) }
@@ -180,5 +194,18 @@ impl<K: Key, L: Key, T: Keyed<K> + AlsoKeyed<L>> TwoRows<K, L, T> {
         self.rows.push(row)?;
         note_place(&mut self.places, key, place)?;
         Ok(())
+    }
+
+    /// One row more.
+    pub fn push(&mut self, row: T) -> Result<(), AllocError>
+    where
+        T: Drop,
+        ensures ok { OnOk result (self.new ≡ self.old ++ row ∷ []) }
+        ensures err { OnErr result (self.new ≡ self.old) }
+    {
+        match also_first_number_with(self.rows.as_slice(), self.first, &row) {
+            Some(first) => self.push_numbered(first, row),
+            None => self.push_noted(row),
+        }
     }
 }
