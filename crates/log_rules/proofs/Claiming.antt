@@ -1,21 +1,20 @@
 -- How claimed places tell whether a requirement interferes with those of its task.
-use Rattle.std.proofs.Common.{◌≡◌, ℕ, ◌+◌, ◌<◌, ◌==◌, Bool, true, false, not, ◌&&◌, ◌||◌, cond, List, [], ◌∷◌, take, length, get_or, Option, Some, None, is_some, refl, sym, ap, ◌∙◌, inl, inr}
+use Rattle.std.proofs.Common.{◌≡◌, ℕ, ◌+◌, ◌<◌, ◌≤◌, ◌==◌, Bool, true, false, not, ◌&&◌, ◌||◌, cond, List, [], ◌∷◌, take, length, get_or, Option, Some, refl, sym, ap, ◌∙◌, inl, inr}
 use Rattle.std.specs.List.{list_any}
-use Rattle.std.specs.Option.{option_map, option_map_or}
-use Rattle.std.proofs.lemmas.Bool.{and_parts, cases_Bool, eqb-true, ne_eqb}
+use Rattle.std.proofs.lemmas.Bool.{and_parts, cases_Bool, eqb-true, le-ltb, lt-ltb}
 use Rattle.std.proofs.lemmas.List.Folds.{list_any_more}
-use Rattle.std.proofs.lemmas.List.Sums.{length-filter}
 use Rattle.std.proofs.Math.Bool.{or-false, or_assoc, and_comm}
 use Rattle.point_set.specs.declared.rect.Rect.{Rect}
-use Rattle.vocabulary.specs.Prelude.{Priv, agree, PrivWord, Req, Tables, place_of, privilege_of, reqs_before, is_in, meets, points_in, req_at}
+use Rattle.vocabulary.specs.Prelude.{Priv, agree, PrivWord, Req, Tables, place_of, privilege_of, reqs_before, reqs_of, is_in, meets, points_in}
 use Rattle.spy_grammar.specs.declared.record.Record.TheVariants as records
 use Rattle.log_rules.specs.declared.claims.OwnPlace.{OwnPlace}
 use Rattle.log_rules.specs.declared.claims.Claims.{Claims}
+use Rattle.log_rules.specs.declared.claims.TheConstants.{FEW}
 use Rattle.log_rules.specs.Cells.{HasCells}
-use Rattle.log_rules.specs.Own.{AreClaims, claim_points, is_claim_point, clashes, claims_at, clashes_with, clashes_own, first_clashes, req_clashes_at, clashes_at, first_clashes_at, clashes_in, clashes_row, same_place, claimed}
+use Rattle.log_rules.specs.Own.{AreClaims, claim_points, is_claim_point, clashes, claims_at, clashes_with, clashes_own, few_clash, req_clashes_at, clashes_at, few_clash_at, clashes_in, clashes_row, same_place, claimed}
 use Rattle.log_rules.proofs.Cells.{IsOfCells, any_alike, any_claim_point, any_of_cells, in_claim_points, of_cells, test_of_cells}
 use Rattle.log_rules.proofs.Members.{meets_turned}
-use Rattle.log_rules.proofs.ListTests.{list_any-alike, list_any-false, list_any-and, list_any-or, list_any-list_any, is_some-find, find-none}
+use Rattle.log_rules.proofs.ListTests.{list_any-alike, list_any-false, list_any-and, list_any-or, list_any-list_any}
 
 -- Places that are one.
 place_of_parts : (i j s t p q f g : ℕ) → i ≡ j → s ≡ t → p ≡ q → f ≡ g
@@ -142,85 +141,61 @@ clashes_with-by_place t item tree space fields a r =
     (meets_turned r.fields fields)
     ∙ row_told (r.item == item) (r.tree == tree) (not (agree r.access a)) (is_in (points_in t r.space)) (is_in r.fields) P fields
 
--- So is whether the first requirement does, and whether some requirement does.
-first_clashes-by_place : (t : Tables) (item tree space : ℕ) (fields : List ℕ) (a : Priv)
-    → first_clashes t item tree space fields a ≡ list_any (λ x. list_any (λ f. first_clashes_at t (place item tree x f) a) fields)
-    (points_in t space)
-first_clashes-by_place t item tree space fields a = by (req_at t item 1)
-  where
-    by : (o : Option Req) → option_map_or (clashes_with t item tree (points_in t space) fields a) o false
-        ≡ list_any (λ x. list_any (λ f. option_map_or (req_clashes_at t (place item tree x f) a) o false) fields) (points_in t space)
-    by None = sym (list_any-alike _ (λ x. false) (points_in t space) (λ x. list_any-false fields) ∙ list_any-false (points_in t space))
-    by (Some r) = clashes_with-by_place t item tree space fields a r
-
-clashes_own-by_place : (t : Tables) (item tree space : ℕ) (fields : List ℕ) (a : Priv)
-    → clashes_own t item tree space fields a ≡ list_any (λ x. list_any (λ f. clashes_at t (place item tree x f) a) fields)
-    (points_in t space)
-clashes_own-by_place t item tree space fields a =
+-- So is whether one of several does.
+any-by_place : (t : Tables) (item tree space : ℕ) (fields : List ℕ) (a : Priv) (rs : List Req)
+    → list_any (clashes_with t item tree (points_in t space) fields a) rs
+    ≡ list_any (λ x. list_any (λ f. list_any (req_clashes_at t (place item tree x f) a) rs) fields) (points_in t space)
+any-by_place t item tree space fields a rs =
     let P = points_in t space in
     let row : Req → ℕ → ℕ → Bool = λ r x f. req_clashes_at t (place item tree x f) a r in
-    list_any-alike _ (λ r. list_any (λ x. list_any (λ f. row r x f) fields) P) t.reqs (clashes_with-by_place t item tree space fields a)
-    ∙ list_any-list_any (λ r x. list_any (row r x) fields) t.reqs P
-    ∙ list_any-alike _ _ P (λ x. list_any-list_any (λ r f. row r x f) t.reqs fields)
+    list_any-alike _ (λ r. list_any (λ x. list_any (λ f. row r x f) fields) P) rs (clashes_with-by_place t item tree space fields a)
+    ∙ list_any-list_any (λ r x. list_any (row r x) fields) rs P
+    ∙ list_any-alike _ _ P (λ x. list_any-list_any (λ r f. row r x f) rs fields)
 
--- Whether a requirement clashes at a place does not divide a cell, and so it is with the first one and with some one.
+-- Whether a requirement clashes at a place does not divide a cell, and so it is with one of several.
 req_of_cells : (all : Option (List Rect)) (t : Tables) (item tree f : ℕ) (a : Priv) (r : Req) → HasCells all t
     → IsOfCells all (λ x. req_clashes_at t (place item tree x f) a r)
 req_of_cells all t item tree f a r cells = test_of_cells all (is_in (points_in t r.space))
     (λ b. (r.item == item) && ((r.tree == tree) && (b && (is_in r.fields f && not (agree r.access a))))) (of_cells all t r.space cells)
 
-first_of_cells : (all : Option (List Rect)) (t : Tables) (item tree f : ℕ) (a : Priv) → HasCells all t
-    → IsOfCells all (λ x. first_clashes_at t (place item tree x f) a)
-first_of_cells all t item tree f a cells = by (req_at t item 1)
-  where
-    by : (o : Option Req) → IsOfCells all (λ x. option_map_or (req_clashes_at t (place item tree x f) a) o false)
-    by None = test_of_cells all (is_in (points_in t 0)) (λ b. false) (of_cells all t 0 cells)
-    by (Some r) = req_of_cells all t item tree f a r cells
+reqs_of_cells : (all : Option (List Rect)) (t : Tables) (item tree : ℕ) (fields : List ℕ) (a : Priv) (rs : List Req) → HasCells all t
+    → IsOfCells all (λ x. list_any (λ f. list_any (req_clashes_at t (place item tree x f) a) rs) fields)
+reqs_of_cells all t item tree fields a rs cells =
+    any_of_cells all (λ f x. list_any (req_clashes_at t (place item tree x f) a) rs) fields
+    (λ f. any_of_cells all (λ r x. req_clashes_at t (place item tree x f) a r) rs (λ r. req_of_cells all t item tree f a r cells))
 
--- The first requirement and the claims tell whether some requirement does.
+-- The first few requirements and the claims tell whether some requirement does.
 pub own_by_claims : (all : Option (List Rect)) (t : Tables) (c : Claims) (item tree space : ℕ) (fields : List ℕ) (a : Priv) → HasCells all t
     → AreClaims all t c
-    → (first_clashes t item tree space fields a || list_any (clashes_row c item tree fields a) (claim_points all (points_in t space)))
+    → (few_clash t item tree space fields a || list_any (clashes_row c item tree fields a) (claim_points all (points_in t space)))
     ≡ clashes_own t item tree space fields a
 own_by_claims all t c item tree space fields a cells are =
     let P = points_in t space in
-    let first : ℕ → ℕ → Bool = λ x f. first_clashes_at t (place item tree x f) a in
+    let few : ℕ → ℕ → Bool = λ x f. few_clash_at t (place item tree x f) a in
     let kept : ℕ → ℕ → Bool = λ x f. clashes_in c (place item tree x f) a in
     let some : ℕ → ℕ → Bool = λ x f. clashes_at t (place item tree x f) a in
-    let first_cells = any_of_cells all (λ f x. first x f) fields (λ f. first_of_cells all t item tree f a cells) in
-    let some_cells = any_of_cells all (λ f x. some x f) fields
-    (λ f. any_of_cells all (λ r x. req_clashes_at t (place item tree x f) a r) t.reqs (λ r. req_of_cells all t item tree f a r cells)) in
+    let own = take FEW (reqs_of t item) in
     ap (λ b. b || list_any (λ x. list_any (kept x) fields) (claim_points all P))
-    (first_clashes-by_place t item tree space fields a ∙ any_claim_point all t space (λ x. list_any (first x) fields) cells first_cells)
-    ∙ sym (list_any-or (λ x. list_any (first x) fields) (λ x. list_any (kept x) fields) (claim_points all P))
-    ∙ any_alike all (λ x. list_any (first x) fields || list_any (kept x) fields) (λ x. list_any (some x) fields) P
-    (λ x begins. sym (list_any-or (first x) (kept x) fields) ∙ list_any-alike _ _ fields (λ f. are (place item tree x f) a begins))
-    ∙ sym (any_claim_point all t space (λ x. list_any (some x) fields) cells some_cells)
-    ∙ sym (clashes_own-by_place t item tree space fields a)
+    (any-by_place t item tree space fields a own
+    ∙ any_claim_point all t space (λ x. list_any (few x) fields) cells (reqs_of_cells all t item tree fields a own cells))
+    ∙ sym (list_any-or (λ x. list_any (few x) fields) (λ x. list_any (kept x) fields) (claim_points all P))
+    ∙ any_alike all (λ x. list_any (few x) fields || list_any (kept x) fields) (λ x. list_any (some x) fields) P
+    (λ x begins. sym (list_any-or (few x) (kept x) fields) ∙ list_any-alike _ _ fields (λ f. are (place item tree x f) a begins))
+    ∙ sym (any_claim_point all t space (λ x. list_any (some x) fields) cells (reqs_of_cells all t item tree fields a t.reqs cells))
+    ∙ sym (any-by_place t item tree space fields a t.reqs)
 
--- An item with no requirements has none that clashes.
-pub own_alone : (t : Tables) (item tree space : ℕ) (fields : List ℕ) (a : Priv) → reqs_before t.reqs item ≡ 0
-    → clashes_own t item tree space fields a ≡ false
-own_alone t item tree space fields a none =
-    let p : Req → Bool = λ r. r.item == item in
-    let q : Req → Bool = clashes_with t item tree (points_in t space) fields a in
-    sym (is_some-find (λ (r : Req). r) q t.reqs)
-    ∙ ap (λ o. is_some (option_map (λ (r : Req). r) o))
-    (find-none p (λ (r : Req). (r.tree == tree) &&
-    (meets (points_in t r.space) (points_in t space) && (meets r.fields fields && not (agree r.access a)))) t.reqs
-    (length-filter p t.reqs ∙ none))
-
--- What a requirement claims, if it is the first of its item or a later one.
-pub first_claims_nothing : (t : Tables) (task tree space : ℕ) (fields : List ℕ) (access : PrivWord) (atomic : Bool)
-    → reqs_before t.reqs (place_of t.items task) ≡ 0 → (k : OwnPlace) (a : Priv)
+-- What a requirement claims, if it is one of the first few of its item or a later one.
+pub few_claim_nothing : (t : Tables) (task tree space : ℕ) (fields : List ℕ) (access : PrivWord) (atomic : Bool)
+    → reqs_before t.reqs (place_of t.items task) < FEW → (k : OwnPlace) (a : Priv)
     → claimed t (records.Req task tree space fields access atomic) k a ≡ false
-first_claims_nothing t task tree space fields access atomic none k a =
-    ap (λ n. not (n == 0) && claims_at (place_of t.items task) tree (points_in t space) fields (privilege_of access) k a) none
+few_claim_nothing t task tree space fields access atomic few k a =
+    ap (λ b. not b && claims_at (place_of t.items task) tree (points_in t space) fields (privilege_of access) k a)
+    (lt-ltb (reqs_before t.reqs (place_of t.items task)) FEW few)
 
 pub later_claims_all : (t : Tables) (task tree space : ℕ) (fields : List ℕ) (access : PrivWord) (atomic : Bool)
-    → (reqs_before t.reqs (place_of t.items task) ≡ 0 → ⊥) → (k : OwnPlace) (a : Priv)
+    → FEW ≤ reqs_before t.reqs (place_of t.items task) → (k : OwnPlace) (a : Priv)
     → claimed t (records.Req task tree space fields access atomic) k a
     ≡ claims_at (place_of t.items task) tree (points_in t space) fields (privilege_of access) k a
-later_claims_all t task tree space fields access atomic some k a =
+later_claims_all t task tree space fields access atomic many k a =
     ap (λ b. not b && claims_at (place_of t.items task) tree (points_in t space) fields (privilege_of access) k a)
-    (ne_eqb (reqs_before t.reqs (place_of t.items task)) 0 some)
+    (le-ltb (reqs_before t.reqs (place_of t.items task)) FEW many)

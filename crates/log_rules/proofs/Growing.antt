@@ -1,14 +1,13 @@
 -- What one record more adds to tables, and what it leaves as it was.
-use Rattle.std.proofs.Common.{◌≡◌, ℕ, ◌+◌, ◌*◌, ◌-◌, ◌<◌, ◌≤◌, ◌==◌, ◌^◌, nat_lt, Bool, true, false, not, ◌&&◌, ◌||◌, List, [], ◌∷◌, ◌++◌, find, length, Option, Some, None, refl, sym, ap, ◌∙◌, lit<, inl, inr, arith, sum_by}
+use Rattle.std.proofs.Common.{◌≡◌, ℕ, ◌+◌, ◌*◌, ◌-◌, ◌<◌, ◌≤◌, ◌==◌, ◌^◌, nat_lt, Bool, true, false, not, ◌&&◌, ◌||◌, List, [], ◌∷◌, ◌++◌, filter, find, take, length, Option, Some, None, refl, sym, ap, ◌∙◌, lit<, inl, inr, arith, sum_by}
 use Rattle.std.specs.List.{list_any, list_all}
 use Rattle.std.specs.Option.{option_map_or}
 use Rattle.std.proofs.lemmas.Bool.{and_from, and_parts, cases_Bool, eqb-true, false≢true, ltb-false}
-use Rattle.std.proofs.lemmas.Bool.Decides.{nat_tests}
 use Rattle.std.proofs.lemmas.List.Folds.{list_all-append, list_any-append}
 use Rattle.std.proofs.lemmas.Grind.{flat_map-append}
 use Rattle.std.proofs.lemmas.List.{append-nil}
 use Rattle.std.proofs.lemmas.List.Sums.{sum_by-cons, sum_by_push, length-filter}
-use Rattle.std.proofs.Math.Bool.{or_comm, or-false, or_assoc}
+use Rattle.std.proofs.Math.Bool.{or-false}
 use Rattle.point_set.specs.declared.rect.Rect.{Rect}
 use Rattle.vocabulary.specs.Prelude.{InstKind, Priv, agree, Record, Tables, Space, points_of, plane_points, place_of, privilege_of, coherence_of, reqs_before, with_record, is_in, points_in}
 use Rattle.spy_grammar.specs.declared.record.Record.TheVariants.{Ispace, Plane, Req, Fill, Serial, Inst, Copy, Put, Reset, Fold, End}
@@ -22,9 +21,10 @@ use Rattle.log_rules.specs.Counts.{point_total, cell_total, access_total, points
 use Rattle.log_limits.specs.Sums.{cut}
 use Rattle.log_rules.specs.Listing.{ids_listed}
 use Rattle.log_rules.specs.declared.claims.Claims.{Claims}
-use Rattle.log_rules.specs.Own.{AddsAt, AreClaims, claims_at, claimed, clashes_in, clashes_at, first_clashes_at, req_clashes_at}
+use Rattle.log_rules.specs.declared.claims.TheConstants.{FEW}
+use Rattle.log_rules.specs.Own.{AddsAt, AreClaims, claims_at, claimed, clashes_in, clashes_at, few_clash_at, req_clashes_at}
 use Rattle.log_rules.specs.Tallied.{knows_space, AreKnown}
-use Rattle.log_rules.proofs.ListTests.{find-none, find-kept, find-last}
+use Rattle.log_rules.proofs.ListTests.{all_few, any_few-snoc}
 
 -- ---- Spaces that are declared keep their points.
 
@@ -183,24 +183,30 @@ listed-add t line _ n = sym (or-false (is_in (listed t) n))
 
 -- ---- Claims.
 
-found-known : {A : Type 0} (p q f g : A → Bool) (xs : List A) → ((x : A) → p x ≡ true → f x ≡ g x) → list_all p xs ≡ true
-    → option_map_or f (find q xs) false ≡ option_map_or g (find q xs) false
-found-known p q f g [] same all = refl
-found-known p q f g (x ∷ xs) same all =
-    elim (cases_Bool (q x)) [
-      | inl hit ↦ rw hit (same x (and_parts (p x) (list_all p xs) all).0)
-      | inr miss ↦ rw miss (found-known p q f g xs same (and_parts (p x) (list_all p xs) all).1)
-    ]
+-- What is added to the claims with one requirement more. It is one of the first few itself, or what it claims is added.
+joined : (few old more low : Bool) → ((few || (low && more)) || (old || (not low && more))) ≡ ((few || old) || more)
+joined true old more low = refl
+joined false old more false = refl
+joined false true true true = refl
+joined false true false true = refl
+joined false false true true = refl
+joined false false false true = refl
 
--- What is added to the claims, where the first requirement stays, and where the record is the first.
-added : (first first2 old new at more : Bool) → first2 ≡ first → (first || old) ≡ at → new ≡ (old || more) → (first2 || new) ≡ (at || more)
-added first first2 old new at more same is adds =
-    ap (λ b. b || new) same ∙ ap (λ b. first || b) adds ∙ sym (or_assoc first old more) ∙ ap (λ b. b || more) is
+untouched : (few old low : Bool) → ((few || false) || (old || (not low && false))) ≡ ((few || old) || false)
+untouched true old low = refl
+untouched false true low = refl
+untouched false false true = refl
+untouched false false false = refl
 
-started : (first first2 old new at more : Bool) → first ≡ false → first2 ≡ more → (first || old) ≡ at → new ≡ (old || false)
-    → (first2 || new) ≡ (at || more)
-started first first2 old new at more none one is adds =
-    ap (λ b. b || new) one ∙ ap (λ b. more || b) (adds ∙ or-false old ∙ sym (ap (λ b. b || old) none) ∙ is) ∙ or_comm more at
+added : (few old new at more ours low small : Bool) → (few || old) ≡ at → new ≡ (old || (not low && more))
+    → (ours ≡ true → low ≡ small) → (ours ≡ false → more ≡ false)
+    → ((few || (ours && (small && more))) || new) ≡ (at || more)
+added few old new at more true low small is adds same other =
+    ap (λ b. (few || (small && more)) || b) (adds ∙ ap (λ b. old || (not b && more)) (same refl))
+    ∙ joined few old more small ∙ ap (λ b. b || more) is
+added few old new at more false low small is adds same other =
+    ap (λ b. (few || false) || b) (adds ∙ ap (λ b. old || (not low && b)) (other refl))
+    ∙ untouched few old low ∙ ap (λ b. b || false) is ∙ sym (ap (λ b. at || b) (other refl))
 
 req_clashes_at-grow : (t u : Tables) (k : OwnPlace) (a : Priv) → Grows t u → (q : reqs.Req) → is_declared t (space_id q.space) ≡ true
     → req_clashes_at u k a q ≡ req_clashes_at t k a q
@@ -210,10 +216,11 @@ claims_stay : (all : Option (List Rect)) (t u : Tables) (old new : Claims) → G
     → list_all (λ (q : reqs.Req). is_declared t (space_id q.space)) t.reqs ≡ true → AddsAt all old new (λ k a. false) → AreClaims all u new
 claims_stay all t u old new g same are known adds = λ k a begins.
     let here = λ (q : reqs.Req). is_declared t (space_id q.space) in
-    let first : reqs.Req → Bool = λ q. (q.item == k.item) && (q.number == 1) in
-    ap (λ b. b || clashes_in new k a) (ap (λ (rs : List reqs.Req). option_map_or (req_clashes_at u k a) (find first rs) false) same
-    ∙ found-known here first (req_clashes_at u k a) (req_clashes_at t k a) t.reqs (req_clashes_at-grow t u k a g) known)
-    ∙ ap (λ b. first_clashes_at t k a || b) (adds k a begins ∙ or-false (clashes_in old k a))
+    let ours : reqs.Req → Bool = λ q. q.item == k.item in
+    ap (λ b. b || clashes_in new k a) (ap (λ (rs : List reqs.Req). list_any (req_clashes_at u k a) (take FEW (filter ours rs))) same
+    ∙ any-known here (req_clashes_at u k a) (req_clashes_at t k a) (take FEW (filter ours t.reqs)) (req_clashes_at-grow t u k a g)
+    (all_few here ours FEW t.reqs known))
+    ∙ ap (λ b. few_clash_at t k a || b) (adds k a begins ∙ or-false (clashes_in old k a))
     ∙ are k a begins
     ∙ sym (ap (list_any (req_clashes_at u k a)) same
     ∙ any-known here (req_clashes_at u k a) (req_clashes_at t k a) t.reqs (req_clashes_at-grow t u k a g) known)
@@ -236,51 +243,23 @@ AreClaims-add all t line (Req task tree space fields access atomic) old new are 
       coherence = coherence_of atomic;
     } in
     let more = claims_at I tree (points_in t space) fields (privilege_of access) k a in
-    let p : reqs.Req → Bool = λ q. (q.item == k.item) && (q.number == 1) in
     let f : reqs.Req → Bool = req_clashes_at t k a in
-    let first = option_map_or f (find p t.reqs) false in
-    let first2 = option_map_or f (find p (t.reqs ++ one ∷ [])) false in
-    let kept : p one ≡ false → first2 ≡ first = λ other. ap (λ o. option_map_or f o false) (find-kept p t.reqs one other) in
-    (elim (cases_Bool (n == 0)) [
-      | inl none ↦
-          elim (cases_Bool (I == k.item)) [
-            | inl ours ↦
-                let few : reqs_before t.reqs k.item ≡ 0 = ap (reqs_before t.reqs) (sym (eqb-true I k.item ours)) ∙ eqb-true n 0 none in
-                let no : find p t.reqs ≡ None = find-none (λ (q : reqs.Req). q.item == k.item) (λ (q : reqs.Req). q.number == 1) t.reqs
-                (length-filter (λ (q : reqs.Req). q.item == k.item) t.reqs ∙ few) in
-                let yes_one : p one ≡ true = ap (λ b. b && (n + 1 == 1)) ours ∙ ap (λ m. m + 1 == 1) (eqb-true n 0 none) in
-                started first first2 (clashes_in old k a) (clashes_in new k a) (clashes_at t k a) more
-                (ap (λ o. option_map_or f o false) no)
-                (ap (λ o. option_map_or f o false) (find-last p t.reqs one no yes_one))
-                (are k a begins)
-                (adds k a begins ∙ ap (λ b. clashes_in old k a || (not b && more)) none)
-            | inr other ↦
-                added first first2 (clashes_in old k a) (clashes_in new k a) (clashes_at t k a) more
-                (kept (ap (λ b. b && (n + 1 == 1)) other))
-                (are k a begins)
-                (adds k a begins ∙ ap (λ b. clashes_in old k a || (not b && more)) none
-                ∙ sym (ap (λ b. clashes_in old k a ||
-                (b && ((tree == k.tree) && (is_in (points_in t space) k.point
-                && (is_in fields k.field && not (agree (privilege_of access) a)))))) other))
-          ]
-      | inr some ↦
-          added first first2 (clashes_in old k a) (clashes_in new k a) (clashes_at t k a) more
-          (kept (later (I == k.item) n some))
-          (are k a begins)
-          (adds k a begins ∙ ap (λ b. clashes_in old k a || (not b && more)) some)
-    ])
+    let ours : reqs.Req → Bool = λ q. q.item == k.item in
+    let count : length (filter ours t.reqs) ≡ reqs_before t.reqs k.item = length-filter ours t.reqs in
+    ap (λ b. b || clashes_in new k a) (any_few-snoc f ours FEW t.reqs one)
+    ∙ added (few_clash_at t k a) (clashes_in old k a) (clashes_in new k a) (clashes_at t k a) more (I == k.item) (nat_lt n FEW)
+    (nat_lt (length (filter ours t.reqs)) FEW) (are k a begins) (adds k a begins)
+    (λ same. ap (λ i. nat_lt (reqs_before t.reqs i) FEW) (eqb-true I k.item same) ∙ sym (ap (λ m. nat_lt m FEW) count))
+    (λ other. ap (λ b. b && ((tree == k.tree) && (is_in (points_in t space) k.point
+    && (is_in fields k.field && not (agree (privilege_of access) a))))) other)
     ∙ ap (λ b. clashes_at t k a || b) (sym (or-false more))
     ∙ sym (list_any-append f t.reqs (one ∷ []))
-  where
-    later : (b : Bool) (n : ℕ) → (n == 0) ≡ false → (b && (n + 1 == 1)) ≡ false
-    later true n some = grind (arith, nat_tests)
-    later false n some = refl
 AreClaims-add all t line (Ispace id set) old new are known adds =
     claims_stay all t (with_record t line (Ispace id set)) old new (grows t line (Ispace id set)) refl are known adds
 AreClaims-add all t line (Plane id quads) old new are known adds =
     claims_stay all t (with_record t line (Plane id quads)) old new (grows t line (Plane id quads)) refl are known adds
 AreClaims-add all t line _ old new are known adds = λ k a begins.
-    ap (λ b. first_clashes_at t k a || b) (adds k a begins ∙ or-false (clashes_in old k a)) ∙ are k a begins
+    ap (λ b. few_clash_at t k a || b) (adds k a begins ∙ or-false (clashes_in old k a)) ∙ are k a begins
 
 -- ---- What is known stays known.
 

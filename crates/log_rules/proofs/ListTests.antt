@@ -1,10 +1,13 @@
 -- Tests of the members of lists.
-use Rattle.std.proofs.Common.{◌≡◌, ℕ, ◌<◌, zero, suc, get_or, Bool, true, false, ◌&&◌, ◌||◌, cond, List, [], ◌∷◌, ◌++◌, filter, length, find, Some, None, is_some, refl, sym, ap, ◌∙◌, inl, inr, arith}
+use Rattle.std.proofs.Common.{◌≡◌, ℕ, ◌<◌, nat_lt, zero, suc, get_or, Bool, true, false, ◌&&◌, ◌||◌, cond, List, [], ◌∷◌, ◌++◌, filter, take, length, find, Some, is_some, refl, sym, ap, ◌∙◌, inl, inr, arith}
 use Rattle.std.specs.List.{list_any, list_all}
-use Rattle.std.specs.Option.{option_map, option_or}
-use Rattle.std.proofs.lemmas.Bool.{cases_Bool, or_right}
-use Rattle.std.proofs.lemmas.List.Folds.{find-append, list_any_none}
-use Rattle.list_lemmas.proofs.lemmas.Firsts.{or_none}
+use Rattle.std.specs.Option.{option_map}
+use Rattle.std.proofs.lemmas.Bool.{cases_Bool, cases_lt, le-ltb, lt-ltb, or_right}
+use Rattle.std.proofs.lemmas.List.{append-nil, length-append, take-append-le, take_all}
+use Rattle.std.proofs.lemmas.List.Elements.{All-filter, All-take, filter-append}
+use Rattle.std.proofs.lemmas.List.Folds.{list_any-append, list_any_none}
+use Rattle.std.proofs.lemmas.List.Sums.{AllPass-from_list_all, list_all-from_AllPass}
+use Rattle.std.proofs.Math.Bool.{or-false}
 use Rattle.vocabulary.specs.Prelude.{Lined, Record, records_of}
 
 pub list_any-alike : {X : Type 0} (p q : X → Bool) (xs : List X) → ((x : X) → p x ≡ q x) → list_any p xs ≡ list_any q xs
@@ -48,26 +51,37 @@ is_some-find f p (x ∷ xs) =
           ∙ sym (ap (λ b. b || list_any p xs) miss)
     ]
 
--- What a list is searched for, where no element passes a weaker test.
-pub find-none : {X : Type 0} (p q : X → Bool) (xs : List X) → length (filter p xs) ≡ 0 → find (λ x. p x && q x) xs ≡ None
-find-none p q [] none = refl
-find-none p q (x ∷ xs) none =
-    elim (cases_Bool (p x)) [
-      | inl hit ↦ absurd (no (length (filter p xs)) (sym (ap (λ b. length (cond b (x ∷ filter p xs) (filter p xs))) hit) ∙ none))
-      | inr miss ↦
-          ap (λ b. cond (b && q x) (Some x) (find (λ y. p y && q y) xs)) miss
-          ∙ find-none p q xs (sym (ap (λ b. length (cond b (x ∷ filter p xs) (filter p xs))) miss) ∙ none)
-    ]
+-- Whether one of the first so many passes, with one element more.
+pub any_take-snoc : {X : Type 0} (p : X → Bool) (m : ℕ) (xs : List X) (x : X)
+    → list_any p (take m (xs ++ x ∷ [])) ≡ (list_any p (take m xs) || (nat_lt (length xs) m && p x))
+any_take-snoc {X} p m xs x = elim (cases_lt (length xs) m) [
+  | inl lt ↦
+      ap (list_any p) (take_all m (xs ++ x ∷ []) (omega (arith, lt, length-append xs (x ∷ []))))
+      ∙ list_any-append p xs (x ∷ [])
+      ∙ ap (λ b. list_any p xs || b) (or-false (p x))
+      ∙ ap (λ (ys : List X). list_any p ys || p x) (sym (take_all m xs (omega (arith, lt))))
+      ∙ sym (ap (λ b. list_any p (take m xs) || (b && p x)) (lt-ltb (length xs) m lt))
+  | inr le ↦
+      ap (list_any p) (take-append-le m xs (x ∷ []) le)
+      ∙ sym (or-false (list_any p (take m xs)))
+      ∙ sym (ap (λ b. list_any p (take m xs) || (b && p x)) (le-ltb (length xs) m le))
+]
+
+-- The same among those that pass another test.
+pub any_few-snoc : {X : Type 0} (p q : X → Bool) (m : ℕ) (xs : List X) (x : X) → list_any p (take m (filter q (xs ++ x ∷ [])))
+    ≡ (list_any p (take m (filter q xs)) || (q x && (nat_lt (length (filter q xs)) m && p x)))
+any_few-snoc {X} p q m xs x = ap (λ (ys : List X). list_any p (take m ys)) (filter-append q xs (x ∷ [])) ∙ by (q x)
   where
-    no : (n : ℕ) → suc n ≡ 0 → ⊥
-    no n e = omega (arith, e)
+    by : (b : Bool) → list_any p (take m (filter q xs ++ cond b (x ∷ []) []))
+        ≡ (list_any p (take m (filter q xs)) || (b && (nat_lt (length (filter q xs)) m && p x)))
+    by true = any_take-snoc p m (filter q xs) x
+    by false =
+        ap (λ (ys : List X). list_any p (take m ys)) (append-nil (filter q xs)) ∙ sym (or-false (list_any p (take m (filter q xs))))
 
--- What a list with one element more is searched for.
-pub find-kept : {X : Type 0} (p : X → Bool) (xs : List X) (x : X) → p x ≡ false → find p (xs ++ x ∷ []) ≡ find p xs
-find-kept p xs x miss = find-append p xs (x ∷ []) ∙ ap (λ b. option_or (find p xs) (cond b (Some x) None)) miss ∙ or_none (find p xs)
-
-pub find-last : {X : Type 0} (p : X → Bool) (xs : List X) (x : X) → find p xs ≡ None → p x ≡ true → find p (xs ++ x ∷ []) ≡ Some x
-find-last p xs x none hit = find-append p xs (x ∷ []) ∙ ap (λ o. option_or o (find p (x ∷ []))) none ∙ ap (λ b. cond b (Some x) None) hit
+-- What all elements pass the first few of some of them pass.
+pub all_few : {X : Type 0} (p q : X → Bool) (m : ℕ) (xs : List X) → list_all p xs ≡ true → list_all p (take m (filter q xs)) ≡ true
+all_few p q m xs all = list_all-from_AllPass p (take m (filter q xs))
+    (All-take (λ x. p x ≡ true) m (filter q xs) (All-filter q (λ x. p x ≡ true) xs (AllPass-from_list_all p xs all)))
 
 -- One record settles whether some record passes.
 pub any_record : (p : Record → Bool) (log : List Lined) (i : ℕ) (d : Lined) → i < length log → p (get_or log i d).rec ≡ true

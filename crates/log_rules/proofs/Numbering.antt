@@ -1,8 +1,8 @@
 -- The requirements of an item are numbered from 1 on, so that they are found by their numbers.
-use Rattle.std.proofs.Common.{◌≡◌, ℕ, zero, suc, ◌+◌, ◌≤◌, ◌==◌, Bool, true, false, ◌&&◌, ◌||◌, cond, List, [], ◌∷◌, ◌++◌, filter, find, length, get_or, take, Some, None, slice_get, refl, sym, ap, ◌∙◌, inl, inr, arith}
+use Rattle.std.proofs.Common.{◌≡◌, ℕ, zero, suc, ◌+◌, ◌<◌, ◌≤◌, ◌==◌, Bool, true, false, ◌&&◌, ◌||◌, cond, List, [], ◌∷◌, ◌++◌, filter, find, length, get_or, take, Some, None, slice_get, refl, sym, ap, ◌∙◌, inl, inr, arith}
 use Rattle.std.specs.List.{list_any}
 use Rattle.std.specs.Option.{option_or}
-use Rattle.std.proofs.lemmas.Bool.{cases_Bool, cases_lt, eqb-true}
+use Rattle.std.proofs.lemmas.Bool.{cases_Bool, cases_lt, eqb-true, or_right}
 use Rattle.std.proofs.lemmas.Bool.Decides.{nat_tests}
 use Rattle.std.proofs.lemmas.List.{append-nil, length-append, take_all}
 use Rattle.std.proofs.lemmas.List.Elements.{filter-append}
@@ -10,9 +10,9 @@ use Rattle.std.proofs.lemmas.List.Folds.{find-append, list_any_more}
 use Rattle.std.proofs.lemmas.List.Sums.{length-filter}
 use Rattle.std.proofs.lemmas.Option.{get_or_from_slice_get, none-some, slice_get-get_or, slice_get_within}
 use Rattle.list_lemmas.proofs.lemmas.Firsts.{or_none}
-use Rattle.vocabulary.specs.Prelude.{Record, Req, Tables, place_of, with_record}
+use Rattle.vocabulary.specs.Prelude.{Priv, Record, Req, Tables, place_of, points_in, reqs_before, reqs_of, with_record}
 use Rattle.spy_grammar.specs.declared.record.Record.TheVariants as records
-use Rattle.log_rules.specs.Own.{AreNumbered}
+use Rattle.log_rules.specs.Own.{AreNumbered, clashes_own, clashes_with}
 
 same_next : (n k : ℕ) → (n + 1 == k + 1) ≡ (suc n + 1 == suc k + 1)
 same_next n k = grind (arith, nat_tests)
@@ -29,7 +29,7 @@ get_snoc (x ∷ xs) r zero = refl
 get_snoc (x ∷ xs) r (suc k) = get_snoc xs r k ∙ ap (λ b. option_or (slice_get xs k) (cond b (Some r) None)) (same_next (length xs) k)
 
 -- The test for the requirement of an item with a number.
-abbrev pub is_at : ℕ → ℕ → Req → Bool
+abbrev is_at : ℕ → ℕ → Req → Bool
 is_at item number r = (r.item == item) && (r.number == number)
 
 abbrev of_item : ℕ → List Req → List Req
@@ -75,18 +75,15 @@ few_more t line _ = omega arith
 
 -- ---- Requirements that are tried one by one.
 
--- One that is found is among them.
-pub found_any : {X : Type 0} (p f : X → Bool) (xs : List X) (x : X) → find p xs ≡ Some x → f x ≡ true → list_any f xs ≡ true
-found_any p f [] x is e = absurd (none-some x is)
-found_any p f (y ∷ ys) x is e = elim (cases_Bool (p y)) [
-  | inl hit ↦
-      let same : Some y ≡ Some x = sym (ap (λ b. cond b (Some y) (find p ys)) hit) ∙ is in
-      let here : f y ≡ true = grind (arith, same, e) in
-      ap (λ b. b || list_any f ys) here
-  | inr miss ↦
-      let rest = found_any p f ys x (sym (ap (λ b. cond b (Some y) (find p ys)) miss) ∙ is) e in
-      elim (cases_Bool (f y)) [ inl here ↦ ap (λ b. b || list_any f ys) here | inr there ↦ ap (λ b. b || list_any f ys) there ∙ rest ]
-]
+-- One of the first so many that passes.
+pub one_passes : {X : Type 0} (f : X → Bool) (xs : List X) (k n : ℕ) (x : X) → slice_get xs k ≡ Some x → k < n → f x ≡ true
+    → list_any f (take n xs) ≡ true
+one_passes f [] k n x is lt e = absurd (none-some x is)
+one_passes f (y ∷ ys) k zero x is lt e = absurd (omega (arith, lt))
+one_passes f (y ∷ ys) zero (suc n) x is lt e =
+    let here : f y ≡ true = grind (arith, is, e) in ap (λ b. b || list_any f (take n ys)) here
+one_passes f (y ∷ ys) (suc k) (suc n) x is lt e =
+    or_right (f y) (list_any f (take n ys)) (one_passes f ys k n x is (omega (arith, lt)) e)
 
 -- One more that does not pass.
 pub one_fails : {X : Type 0} (f : X → Bool) (xs : List X) (k : ℕ) (x : X) → slice_get xs k ≡ Some x → f x ≡ false
@@ -97,12 +94,13 @@ one_fails f xs k x is fails none =
     ∙ ap f (get_or_from_slice_get xs k x x is) ∙ fails
 
 -- No more are left.
-pub all_fail : {X : Type 0} (f : X → Bool) (xs : List X) (k : ℕ) → slice_get xs k ≡ None → list_any f (take k xs) ≡ false
-    → list_any f xs ≡ false
-all_fail f [] k is none = refl
-all_fail f (x ∷ xs) k is none = elim (cases_lt k (length (x ∷ xs))) [
+pub all_fail : {X : Type 0} (f : X → Bool) (xs : List X) (k n : ℕ) → slice_get xs k ≡ None → k ≤ n → list_any f (take k xs) ≡ false
+    → list_any f (take n xs) ≡ false
+all_fail f [] k n is le none = ap (list_any f) (take_all n [] (omega arith))
+all_fail f (x ∷ xs) k n is le none = elim (cases_lt k (length (x ∷ xs))) [
   | inl lt ↦ absurd (none-some _ (sym is ∙ slice_get-get_or (x ∷ xs) k x lt))
-  | inr le ↦ sym (ap (list_any f) (take_all k (x ∷ xs) le)) ∙ none
+  | inr past ↦
+      ap (list_any f) (take_all n (x ∷ xs) (omega (arith, le, past)) ∙ sym (take_all k (x ∷ xs) past)) ∙ none
 ]
 
 -- Those of the item are all that can pass.
@@ -113,3 +111,12 @@ own_all item f (r ∷ rs) none = elim (cases_Bool (r.item == item)) [
   | inl same ↦ rw (same, own_all item f rs none) refl
   | inr other ↦ rw (other, none r other) (own_all item f rs none)
 ]
+
+-- Where an item has no more requirements, the first so many tell of all.
+pub few_are_all : (t : Tables) (item tree space : ℕ) (fields : List ℕ) (a : Priv) (n : ℕ) → reqs_before t.reqs item ≤ n
+    → list_any (clashes_with t item tree (points_in t space) fields a) (take n (reqs_of t item)) ≡ clashes_own t item tree space fields a
+few_are_all t item tree space fields a n few =
+    let f : Req → Bool = clashes_with t item tree (points_in t space) fields a in
+    let count = length-filter (λ (r : Req). r.item == item) t.reqs in
+    ap (list_any f) (take_all n (reqs_of t item) (omega (arith, few, count)))
+    ∙ sym (own_all item f t.reqs (λ r other. rw other refl))

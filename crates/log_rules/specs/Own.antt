@@ -1,5 +1,5 @@
 -- Places that the requirements of tasks claim.
-use Rattle.std.specs.Prelude.{◌≡◌, ℕ, ◌==◌, Bool, true, false, not, ◌&&◌, ◌||◌, List, Option, Some, None, slice_get, ◌+◌}
+use Rattle.std.specs.Prelude.{◌≡◌, ℕ, ◌==◌, Bool, true, false, nat_lt, not, ◌&&◌, ◌||◌, List, Option, Some, None, slice_get, take, ◌+◌}
 use Rattle.std.specs.HashMap.{get}
 use Rattle.std.specs.Option.{option_map_or}
 use Rattle.std.specs.List.{list_any}
@@ -10,6 +10,7 @@ use Rattle.spy_grammar.specs.declared.record.Record.TheVariants as records
 use Rattle.log_rules.specs.declared.claims.OwnPlace.{OwnPlace}
 use Rattle.log_rules.specs.declared.claims.Claims.{Claims}
 use Rattle.log_rules.specs.declared.claims.ItemReq.{ItemReq}
+use Rattle.log_rules.specs.declared.claims.TheConstants.{FEW}
 
 -- Whether a requirement of this item, tree, points, fields and privilege is at a place and does not agree
 -- with a privilege there.
@@ -34,14 +35,21 @@ clashes_own t item tree space fields access =
 abbrev pub clashes_asked : Tables → ItemReq → Bool
 clashes_asked t asked = clashes_own t asked.item asked.tree asked.space asked.fields.now asked.access
 
+-- The same, where only the first so many requirements of the item are looked at.
+abbrev pub clashes_among : Tables → ItemReq → ℕ → Bool
+clashes_among t asked most =
+    list_any (clashes_with t asked.item asked.tree (points_in t asked.space) asked.fields.now asked.access)
+    (take most (reqs_of t asked.item))
+
 -- The requirements of each item are found by their numbers, from 1 on.
 abbrev pub AreNumbered : Tables → Type 0
 AreNumbered t = (item k : ℕ) → req_at t item (k + 1) ≡ slice_get (reqs_of t item) k
 
--- Whether the first requirement of the item does.
-abbrev pub first_clashes : Tables → ℕ → ℕ → ℕ → List ℕ → Priv → Bool
-first_clashes t item tree space fields access =
-    option_map_or (clashes_with t item tree (points_in t space) fields access) (req_at t item 1) false
+-- Whether one of the first few requirements of the item clashes with one of this tree, space, fields and
+-- privilege.
+abbrev pub few_clash : Tables → ℕ → ℕ → ℕ → List ℕ → Priv → Bool
+few_clash t item tree space fields access =
+    list_any (clashes_with t item tree (points_in t space) fields access) (take FEW (reqs_of t item))
 
 -- Whether a requirement is at a place and does not agree with a privilege there.
 abbrev pub req_clashes_at : Tables → OwnPlace → Priv → Req → Bool
@@ -51,9 +59,9 @@ req_clashes_at t k a r = claims_at r.item r.tree (points_in t r.space) r.fields 
 abbrev pub clashes_at : Tables → OwnPlace → Priv → Bool
 clashes_at t k a = list_any (req_clashes_at t k a) t.reqs
 
--- Whether the first requirement of the item is at the place and does not agree with a privilege.
-abbrev pub first_clashes_at : Tables → OwnPlace → Priv → Bool
-first_clashes_at t k a = option_map_or (req_clashes_at t k a) (req_at t k.item 1) false
+-- Whether one of the first few requirements of the item is at the place and does not agree with a privilege.
+abbrev pub few_clash_at : Tables → OwnPlace → Priv → Bool
+few_clash_at t k a = list_any (req_clashes_at t k a) (take FEW (reqs_of t k.item))
 
 -- What is kept of a place: nothing if no requirement is there, a privilege that agrees with what all of them
 -- agree with, or that no privilege does.
@@ -84,11 +92,11 @@ is_claim_point all p = option_map_or (λ rects. is_corner rects p) all true
 abbrev pub claim_points : Option (List Rect) → List ℕ → List ℕ
 claim_points all points = option_map_or (λ rects. corners_in rects points) all points
 
--- At each place that may be claimed the first requirement of the item and what is kept there tell together
--- whether some requirement of the item clashes.
+-- At each place that may be claimed the first few requirements of the item and what is kept there tell
+-- together whether some requirement of the item clashes.
 abbrev pub AreClaims : Option (List Rect) → Tables → Claims → Type 0
 AreClaims all t c = (k : OwnPlace) (a : Priv) → is_claim_point all k.point ≡ true
-    → (first_clashes_at t k a || clashes_in c k a) ≡ clashes_at t k a
+    → (few_clash_at t k a || clashes_in c k a) ≡ clashes_at t k a
 
 -- What clashes with the claims is what did before, and what clashes with these further ones.
 abbrev pub Adds : Claims → Claims → (OwnPlace → Priv → Bool) → Type 0
@@ -99,10 +107,10 @@ abbrev pub AddsAt : Option (List Rect) → Claims → Claims → (OwnPlace → P
 AddsAt all old new more = (k : OwnPlace) (a : Priv) → is_claim_point all k.point ≡ true
     → clashes_in new k a ≡ (clashes_in old k a || more k a)
 
--- Whether a record is a requirement, but not the first of its item, that is at a place and does not agree
--- with a privilege there.
+-- Whether a record is a requirement, but not one of the first few of its item, that is at a place and does
+-- not agree with a privilege there.
 abbrev pub claimed : Tables → Record → OwnPlace → Priv → Bool
 claimed t (records.Req task tree space fields access atomic) k a =
-    not (reqs_before t.reqs (place_of t.items task) == 0)
+    not (nat_lt (reqs_before t.reqs (place_of t.items task)) FEW)
     && claims_at (place_of t.items task) tree (points_in t space) fields (privilege_of access) k a
 claimed t _ k a = false

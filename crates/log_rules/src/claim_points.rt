@@ -10,6 +10,7 @@ ghost use Rattle.log_tables.specs.Views.{Ascends};
 ghost use Rattle.log_rules.specs.Own.{claim_points};
 ghost use Rattle.log_rules.specs.Tallied.{rects_in};
 
+use crate::claims::FEW;
 use cell_counts::{corner_count, corner_points};
 use grid::Grid;
 use log_tables::{LogTables, rects_of, strips_of};
@@ -118,7 +119,7 @@ impl ClaimPoints {
         }
     }
 
-    /// How many places a record claims: a requirement claims some, unless it is the first of its task.
+    /// How many places a record claims: a requirement claims some, unless it is one of the first few of its task.
     pub fn asked<P: PointSet>(&self, tables: &LogTables<P>, rec: &Record) -> u128 {
         match rec {
             Record::Req {
@@ -126,7 +127,7 @@ impl ClaimPoints {
                 space,
                 fields,
                 ..
-            } if tables.req_count(tables.place(*task)) != 0 => {
+            } if tables.req_count(tables.place(*task)) >= FEW => {
                 self.count(tables, *space)
                     .saturating_mul(fields.len() as u128)
             }

@@ -11,6 +11,9 @@ use privilege::{Priv, agree};
 use std::alloc::{AllocError, Global};
 use std::collections::HashMap;
 
+/// How many requirements of a task each later one of it is held against directly. Only those after them claim places.
+pub(crate) const FEW: usize = 4;
+
 /// A place of the requirements of one task, which is named by its position among the items.
 #[derive(Clone, Copy, PartialEq, Eq, Hash)]
 pub(crate) struct OwnPlace {

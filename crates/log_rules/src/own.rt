@@ -9,10 +9,10 @@ ghost use Rattle.vocabulary.specs.Prelude.{agree, Record, points_in, meets};
 ghost use Rattle.semantics.specs.declared.limits.TheConstants.{MOST_ACCESSES};
 ghost use Rattle.semantics.specs.Rules.{interferes_with_own};
 ghost use Rattle.log_tables.specs.Views.{Ascends};
-ghost use Rattle.log_rules.specs.Own.{AreNumbered, claim_points, clashes_with, clashes_asked, first_clashes, clashes_row};
+ghost use Rattle.log_rules.specs.Own.{claim_points, clashes_among, clashes_with, clashes_asked, few_clash, clashes_row};
 ghost use Rattle.log_rules.specs.Tallied.{AreKept, IfKept, IfTally};
 
-use crate::claims::ItemReq;
+use crate::claims::{FEW, ItemReq};
 use crate::fields::meets;
 use crate::tally::{Tally, claims_many};
 use log_tables::{LogTables, priv_of};
@@ -43,12 +43,17 @@ fn clashes_with<P: PointSet>(
         && tally.pairs.meet(tables, req.space, asked.space)
 }
 
-/// Whether some requirement of the item clashes so, requirement by requirement.
-fn clashes_by_req<P: PointSet>(tables: &LogTables<P>, tally: &Tally, asked: &ItemReq<'_>) -> bool
+/// Whether one of the first so many requirements of the item clashes so, requirement by requirement.
+fn clashes_among<P: PointSet>(
+    tables: &LogTables<P>,
+    tally: &Tally,
+    most: u32,
+    asked: &ItemReq<'_>,
+) -> bool
     requires { IsStrictlyIncreasing asked.now.fields.now }
-    ensures { IfKept tables.now tally.now (result ≡ clashes_asked tables.now asked.now) }
+    ensures { IfKept tables.now tally.now (result ≡ clashes_among tables.now asked.now most) }
 {
-    for before in 0..u32::MAX {
+    for before in 0..most {
         let Some(req) = tables.req(asked.item, before + 1) else {
             return false;
         };
@@ -59,16 +64,21 @@ fn clashes_by_req<P: PointSet>(tables: &LogTables<P>, tally: &Tally, asked: &Ite
     false
 }
 
-/// Whether the first requirement of the item clashes so.
-fn first_clashes<P: PointSet>(tables: &LogTables<P>, tally: &Tally, asked: &ItemReq<'_>) -> bool
+/// Whether some requirement of the item clashes so, requirement by requirement.
+fn clashes_by_req<P: PointSet>(tables: &LogTables<P>, tally: &Tally, asked: &ItemReq<'_>) -> bool
     requires { IsStrictlyIncreasing asked.now.fields.now }
-    ensures { IfKept tables.now tally.now (result ≡ first_clashes tables.now asked.now.item asked.now.tree
+    ensures { IfKept tables.now tally.now (result ≡ clashes_asked tables.now asked.now) }
+{
+    clashes_among(tables, tally, u32::MAX, asked)
+}
+
+/// Whether one of the first few requirements of the item clashes so.
+fn few_clash<P: PointSet>(tables: &LogTables<P>, tally: &Tally, asked: &ItemReq<'_>) -> bool
+    requires { IsStrictlyIncreasing asked.now.fields.now }
+    ensures { IfKept tables.now tally.now (result ≡ few_clash tables.now asked.now.item asked.now.tree
         asked.now.space asked.now.fields.now asked.now.access) }
 {
-    match tables.req(asked.item, 1) {
-        Some(first) => clashes_with(tables, tally, first, asked),
-        None => false,
-    }
+    clashes_among(tables, tally, FEW as u32, asked)
 }
 
 /// Whether a privilege clashes with what is claimed at these fields of a space.
@@ -87,7 +97,7 @@ fn clashes_with_claims<P: PointSet>(
     Ok(tally.claims.clashes_any(points.as_slice(), asked))
 }
 
-/// Whether some requirement of the item clashes so: the first, or a later one, whose places are claimed.
+/// Whether some requirement of the item clashes so: one of the first few, or a later one, whose places are claimed.
 fn clashes_by_place<P: PointSet>(
     alloc: Global,
     tables: &LogTables<P>,
@@ -98,13 +108,13 @@ fn clashes_by_place<P: PointSet>(
     ensures { IfOk result (λ clashes. (all : Option (List Rect)) → AreKept all tables.now tally.now
         → tally.now.claimed ≤ MOST_ACCESSES → clashes ≡ clashes_asked tables.now asked.now) }
 {
-    if first_clashes(tables, tally, asked) {
+    if few_clash(tables, tally, asked) {
         return Ok(true);
     }
     clashes_with_claims(alloc, tables, tally, asked)
 }
 
-/// Whether some requirement of the item clashes so. The places are not gone through where nothing can clash, or where they may be too many.
+/// Whether some requirement of the item clashes so. The places are not gone through where the item has few requirements, or where they may be too many.
 fn clashes_own<P: PointSet>(
     alloc: Global,
     tables: &LogTables<P>,
@@ -117,8 +127,8 @@ fn clashes_own<P: PointSet>(
         → (has_many ≡ false → tally.now.claimed ≤ MOST_ACCESSES)
         → clashes ≡ clashes_asked tables.now asked.now) }
 {
-    if tables.req_count(asked.item) == 0 {
-        Ok(false)
+    if tables.req_count(asked.item) <= FEW {
+        Ok(few_clash(tables, tally, asked))
     } else if has_many {
         Ok(clashes_by_req(tables, tally, asked))
     } else {
@@ -128,7 +138,7 @@ fn clashes_own<P: PointSet>(
 
 /// Whether a record is a requirement that shares a place with an earlier one of its task, where the two privileges do not agree.
 ///
-/// It is held against the first of its task, and against the places that the others claim: in a log of the second version those at points where cells of the grid of the whole log begin. Where the requirements ask for too many places, it is held against each earlier one of its task instead.
+/// It is held against the first few of its task, and against the places that the others claim: in a log of the second version those at points where cells of the grid of the whole log begin. Where the requirements ask for too many places, it is held against each earlier one of its task instead.
 pub fn interferes_with_own<P: PointSet>(
     alloc: Global,
     tables: &LogTables<P>,

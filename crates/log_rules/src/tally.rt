@@ -16,7 +16,7 @@ ghost use Rattle.log_rules.specs.Listing.{AddsAll, ids_listed};
 ghost use Rattle.log_rules.specs.Tallied.{AreAtEnd, IfTally, IsTally, Keeps, MayCount, rects_in};
 
 use crate::claim_points::ClaimPoints;
-use crate::claims::{Claims, ItemReq};
+use crate::claims::{Claims, FEW, ItemReq};
 use crate::counts::{cells_asked, points_asked, size_asked};
 use crate::names::named_req;
 use crate::serial::note_all;
@@ -31,7 +31,7 @@ use semantics::{MOST_ACCESSES, MOST_ATOMS, MOST_CELLS, MOST_POINTS};
 use spy_grammar::{Lined, Record};
 use std::alloc::{AllocError, Global};
 
-/// What the records so far add up to: their points, cells and accesses, the items that they list in serial order, what is known of pairs of spaces, and the places that the requirements of each task claim, but for its first. Once they ask for too many places none is claimed.
+/// What the records so far add up to: their points, cells and accesses, the items that they list in serial order, what is known of pairs of spaces, and the places that the requirements of each task claim, but for its first few. Once they ask for too many places none is claimed.
 #[derive(Drop)]
 pub struct Tally {
     pub(crate) points: u128,
@@ -79,7 +79,7 @@ struct ClaimedLog<'w, P: PointSet> {
     places: &'w ClaimPoints,
 }
 
-/// Claims the places of a record, if it is a requirement, and not the first of its task. Later ones are held against the first itself, so that a task with one requirement claims nothing. Nothing is claimed where the requirements ask for too many places.
+/// Claims the places of a record, if it is a requirement, and not one of the first few of its task. Later ones are held against the first few themselves, so that a task with few requirements claims nothing. Nothing is claimed where the requirements ask for too many places.
 fn note_claims<P: PointSet>(
     alloc: Global,
     claims: &mut Claims,
@@ -103,7 +103,7 @@ fn note_claims<P: PointSet>(
             ..
         } => {
             let item = log.tables.place(*task);
-            if log.tables.req_count(item) == 0 {
+            if log.tables.req_count(item) < FEW {
                 return Ok(());
             }
             let points = log.places.points_in(alloc, log.tables, *space)?;
@@ -234,8 +234,8 @@ impl Tally {
         }
     }
 
-    /// Remembers whether a space meets that of the first requirement of a task.
-    fn remember_first<P: PointSet>(
+    /// Remembers whether a space meets those of the first few requirements of a task.
+    fn remember_few<P: PointSet>(
         &mut self,
         tables: &LogTables<P>,
         task: u32,
@@ -243,13 +243,17 @@ impl Tally {
     ) -> Result<(), AllocError>
         ensures { OnOk result (Keeps tables.now self.old self.new) }
     {
-        match named_req(tables, task, 1) {
-            Some(first) => self.remember_meeting(tables, first.space, space),
-            None => Ok(()),
+        let item = tables.place(task);
+        for before in 0..FEW {
+            let Some(req) = tables.req(item, before as u32 + 1) else {
+                return Ok(());
+            };
+            self.remember_meeting(tables, req.space, space)?;
         }
+        Ok(())
     }
 
-    /// Remembers what the rules on a record ask of two spaces, of which one has many cells, so that two such spaces are held against each other by their sets once in a log, however many records ask for it.
+    /// Remembers what the rules on a record ask of two spaces, of which one has many cells, so that two such spaces are held against each other by their sets once in a log, however many records ask for it. In a log of the first version no space has many, and nothing is remembered.
     pub fn remember<P: PointSet>(
         &mut self,
         tables: &LogTables<P>,
@@ -257,8 +261,11 @@ impl Tally {
     ) -> Result<(), AllocError>
         ensures { OnOk result (Keeps tables.now self.old self.new) }
     {
+        if !tables.is_planar() {
+            return Ok(());
+        }
         match rec {
-            Record::Req { task, space, .. } => self.remember_first(tables, *task, *space),
+            Record::Req { task, space, .. } => self.remember_few(tables, *task, *space),
             Record::Inst { tree, space, .. } => self.remember_rooted(tables, *space, *tree),
             Record::Map {
                 task,

@@ -3,7 +3,7 @@ use Rattle.std.specs.List.{list_any}
 use Rattle.vocabulary.specs.Prelude.{points_in, reqs_of}
 use Rattle.log_rules.specs.Own.{clashes_with}
 use Rattle.log_rules.specs.Tallied.{IfKept}
-use Rattle.log_rules.proofs.own.clashes_by_req.Given as goal
+use Rattle.log_rules.proofs.own.clashes_among.Given as goal
 
 abbrev pub invariant-loop-before : goal.invariant-loop-before
 invariant-loop-before g l = IfKept l.tables l.tally
