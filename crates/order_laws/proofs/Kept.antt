@@ -1,17 +1,17 @@
 -- Tasks that interfere are run in serial order exactly where those are that do not agree at a first point.
-use Rattle.std.proofs.Common.{◌≡◌, ℕ, ◌+◌, ◌-◌, ◌<◌, ◌≤◌, inl, inr, Bool, true, false, not, ◌&&◌, ◌==◌, List, [], ◌∷◌, refl, sym, ap, ◌∙◌, subst, arith, map, filter, length, find, Contains}
+use Rattle.std.proofs.Common.{◌≡◌, ℕ, ◌+◌, ◌-◌, ◌<◌, ◌≤◌, inl, inr, Bool, true, false, not, ◌&&◌, ◌==◌, List, [], ◌∷◌, refl, sym, ap, ◌∙◌, subst, arith, map, filter, length, Contains}
 use Rattle.std.specs.List.{AllByRecursion, range_with_len}
 use Rattle.std.proofs.lemmas.Bool.{cases_Bool, cases_lt, true≢false, not-true, and_parts, and_from, lt-ltb, le-ltb}
-use Rattle.vocabulary.specs.Prelude.{Priv, Coherence, Kind, agree, both_atomic, kind_of, Place, Req, Tables, Space, is_in, points_in, covers, kind_at, item_kind, item_places, is_free, strongest, pairs, graph_of}
+use Rattle.vocabulary.specs.Prelude.{Priv, Coherence, Kind, agree, both_atomic, kind_of, Place, Req, Tables, is_in, points_in, covers, kind_at, item_kind, item_places, is_free, strongest, pairs, graph_of}
 use Rattle.privilege.specs.declared.kinds.Kind.TheVariants.{Free, Turn, Before}
 use Rattle.semantics.specs.SerialOrder.{serial, serial_place, by_serial}
 use Rattle.semantics.specs.Events as events
 use Rattle.semantics.specs.Shown.{is_task_at, run_of, task_pairs, IsKept, AreKept}
-use Rattle.point_laws.specs.Alike.{AreAlike, HasFirst, AreFirsts}
+use Rattle.point_laws.specs.Alike.{AreAlike, AreFirsts}
+use Rattle.point_laws.proofs.lemmas.Values.{first_in, in_both}
 use Rattle.log_laws.proofs.lemmas.Members.{is_in_of}
-use Rattle.list_lemmas.proofs.lemmas.Contained.{member_flat, flat_member, member_map, map_member, found_at, Contains-nil, Contains-here, Contains-later, Contains-cases}
+use Rattle.list_lemmas.proofs.lemmas.Contained.{member_flat, flat_member, member_map, map_member, Contains-nil, Contains-here, Contains-later, Contains-cases}
 use Rattle.list_lemmas.proofs.lemmas.Filtered.{of_filter, in_filter}
-use Rattle.list_lemmas.proofs.lemmas.Firsts.{cases_option}
 use Rattle.list_lemmas.proofs.lemmas.Parts.{place_len}
 use Rattle.list_lemmas.proofs.lemmas.Ranges.{number_between, number_in, number_from}
 use Rattle.item_uses.proofs.lemmas.ItemKinds.{covers_tells, covers_so, item_place, kinds_at, kind_here, meets_here, req_kind}
@@ -88,19 +88,6 @@ meeting_turned t a b p m = record {
 
 abbrev moved : ℕ → Place → Place
 moved x p = record { tree = p.tree; point = x; field = p.field }
-
-in_both : (t : Tables) (p q : ℕ) → AreAlike t p q → (id : ℕ) → is_in (points_in t id) p ≡ is_in (points_in t id) q
-in_both t p q alike id = elim (cases_option (find (λ (s : Space). s.id == id) t.spaces)) [
-  | inl none ↦ rw none refl
-  | inr some ↦ rw some.1 (alike some.0 (found_at (λ (s : Space). s.id == id) t.spaces some.0 some.1).0)
-]
-
-first_in : (t : Tables) (firsts : List ℕ) → AreFirsts t firsts → (id q : ℕ) → is_in (points_in t id) q ≡ true → HasFirst t firsts q
-first_in t firsts are_firsts id q e = elim (cases_option (find (λ (s : Space). s.id == id) t.spaces)) [
-  | inl none ↦ absurd (true≢false (sym (rw none at e)))
-  | inr some ↦ are_firsts some.0 (found_at (λ (s : Space). s.id == id) t.spaces some.0 some.1).0 q
-      (rw some.1 at e)
-]
 
 covers_moved : (t : Tables) (x : ℕ) (p : Place) → AreAlike t x p.point → (r : Req) → covers t p r ≡ true → covers t (moved x p) r ≡ true
 covers_moved t x p alike r e = ap (λ b. (r.tree == p.tree) && (b && is_in r.fields p.field)) (in_both t x p.point alike r.space) ∙ e

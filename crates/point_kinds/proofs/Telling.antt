@@ -18,7 +18,7 @@ use Rattle.list_lemmas.proofs.lemmas.Filtered.{in_filter, of_filter}
 use Rattle.list_lemmas.proofs.lemmas.Contained.{only, Contains-here}
 
 -- A place is among those of a set's points just where the set has its point.
-same_in : (set points : List ℕ) (i : ℕ) → i < length points → is_in (places_of set points) i ≡ is_in set (get_or points i 0)
+pub same_in : (set points : List ℕ) (i : ℕ) → i < length points → is_in (places_of set points) i ≡ is_in set (get_or points i 0)
 same_in set points i within = elim (cases_Bool (is_in set (get_or points i 0))) [
   | inl has ↦
       is_in_of (places_of set points) i (in_filter test all i here has) ∙ sym has
@@ -111,14 +111,14 @@ kinds_apart t points numbers leads kinds are p q in_p in_q alike =
     ] in
     sym a.point ∙ (ap (λ k. get_or points k 0) one ∙ b.point)
 
-range_ascends : (n : ℕ) → IsStrictlyIncreasing (range_with_len 0 n)
+pub range_ascends : (n : ℕ) → IsStrictlyIncreasing (range_with_len 0 n)
 range_ascends n k within =
     let len = length-range_with_len 0 n in
     let one = get_or-range_with_len 0 n k 0 (omega (arith, within, len)) in
     let next = get_or-range_with_len 0 n (k + 1) 0 (omega (arith, within, len)) in
     omega (arith, one, next)
 
-range_within : (n : ℕ) → All (λ k. k < n) (range_with_len 0 n)
+pub range_within : (n : ℕ) → All (λ k. k < n) (range_with_len 0 n)
 range_within n k d lt =
     let len = length-range_with_len 0 n in
     let is = get_or-range_with_len 0 n k d (omega (arith, lt, len)) in omega (arith, lt, len, is)

@@ -21,7 +21,7 @@ pub filter_last : (p : ℕ → Bool) (n : ℕ) → p n ≡ true → filter p (ra
 filter_last p n e =
     ap (filter p) (numbers_more n) ∙ filter-append p (range_with_len 0 n) (n ∷ []) ∙ ap (λ ns. filter p (range_with_len 0 n) ++ ns) (rw e refl)
 
-filter_less : (p : ℕ → Bool) (n : ℕ) → p n ≡ false → filter p (range_with_len 0 (n + 1)) ≡ filter p (range_with_len 0 n)
+pub filter_less : (p : ℕ → Bool) (n : ℕ) → p n ≡ false → filter p (range_with_len 0 (n + 1)) ≡ filter p (range_with_len 0 n)
 filter_less p n e =
     ap (filter p) (numbers_more n) ∙ filter-append p (range_with_len 0 n) (n ∷ [])
     ∙ ap (λ ns. filter p (range_with_len 0 n) ++ ns) (rw e refl) ∙ append-nil (filter p (range_with_len 0 n))

@@ -2,10 +2,11 @@
 
 ghost use Rattle.std.specs.Prelude.{◌≡◌, ◌≤◌, ℕ, Contains, IfOk};
 ghost use Rattle.std.specs.List.Sorted.{IsStrictlyIncreasing};
-ghost use Rattle.point_laws.specs.Alike.{AreAlike, AreFirsts};
+ghost use Rattle.point_laws.specs.Alike.{AreAlike, AreFirsts, AreReadFirsts};
 ghost use Rattle.point_kinds.specs.Kinds.{atom_shares, shares};
 
 use crate::kinds::kinds_of;
+use crate::read_points::points_read;
 use atoms::Atoms;
 use logs::Log;
 use memory::Memory;
@@ -73,6 +74,21 @@ impl FirstPoints {
     {
         let atoms = Atoms::build(alloc, log.rects())?;
         let points = firsts_among(alloc, log, atoms.firsts())?;
+        Ok(FirstPoints { points })
+    }
+
+    /// Those of the points that some requirement reads. What nobody reads is never judged, so a replay may leave the others out.
+    ///
+    /// Where the spaces that are read have more of the points together than `MOST_SHARES`, all are given.
+    pub fn read_in<'a, P: PointSet + Copy>(
+        &self,
+        alloc: Global,
+        log: &Log<'a, P>,
+    ) -> Result<FirstPoints, Memory>
+        requires { AreFirsts log.now self.now }
+        ensures { IfOk result (AreReadFirsts log.now) }
+    {
+        let points = points_read(alloc, log, self.points.as_slice())?;
         Ok(FirstPoints { points })
     }
 

@@ -1,4 +1,5 @@
 -- Lemmas for the proofs of other crates.
+pub mod Values
 pub mod Rows
 pub mod Effects
 pub mod Mirrored

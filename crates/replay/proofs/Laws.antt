@@ -10,7 +10,7 @@ use Rattle.semantics.specs.Faults.{unmapped_fault}
 use Rattle.log_laws.proofs.lemmas.Admitted.{no_broken_rule}
 use Rattle.log_laws.proofs.lemmas.SerialOrder.{items_placed}
 use Rattle.logs.specs.Faultless.{AreDeclared}
-use Rattle.point_laws.specs.Alike.{HasPointsInOrder, AreFirsts}
+use Rattle.point_laws.specs.Alike.{HasPointsInOrder, AreReadFirsts}
 use Rattle.point_laws.specs.Cut.{cut, cut_to}
 use Rattle.cut_logs.specs.Cutting.{IsCutOf}
 use Rattle.point_laws.proofs.lemmas.Order.{good_in_order}
@@ -48,7 +48,7 @@ module _ (t : Tables) (d : AreDeclared t) where
   pub cut_stands : (u : Tables) → IsCutOf t u → unmapped_fault t ≡ None → (m : Contents) → IsStart u m → IsReplayedUpTo u (replay_steps u) m
   cut_stands u of mapped m = subst (λ u. IsStart u m → IsReplayedUpTo u (replay_steps u) m) (sym of.1) (starts_stand mapped of.0 m)
 
-  module _ (firsts : List ℕ) (are : AreFirsts t firsts) where
+  module _ (firsts : List ℕ) (are : AreReadFirsts t firsts) where
     pub shown_by_firsts : shown_difference (cut firsts t) ≡ shown_difference t
     shown_by_firsts = shown_whole t (subst HasPointsInOrder (sym d.tables) (good_in_order d.log d.good)) firsts are
 

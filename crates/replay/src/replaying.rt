@@ -5,7 +5,7 @@ ghost use Rattle.vocabulary.specs.Prelude.{graph_of, replay_steps, shown_differe
 ghost use Rattle.semantics.specs.Faults.{unmapped_fault};
 ghost use Rattle.semantics.specs.Counts.{read_count};
 ghost use Rattle.event_graph.specs.Orders.{IsOrderOf};
-ghost use Rattle.point_laws.specs.Alike.{AreFirsts};
+ghost use Rattle.point_laws.specs.Alike.{AreReadFirsts};
 ghost use Rattle.cut_logs.specs.Cutting.{IsCutOf};
 ghost use Rattle.serial_exec.specs.Kept.{AreVersionsAt};
 ghost use Rattle.replay.specs.Ends.{IsEndOf};
@@ -94,7 +94,7 @@ impl<'r, 'a, P: PointSet + Copy> Replay<'r, 'a, P> {
     }
 }
 
-/// Replays a log, and judges each read. Goes over these points alone, among which is the first of each kind, and takes memory for what the instances hold there. Whatever the versions say elsewhere is of no account.
+/// Replays a log, and judges each read. Goes over these points alone, among which is the first of each kind that is read, and takes memory for what the instances hold there. Whatever the versions say elsewhere is of no account.
 pub fn replay<'a, P: ArenaSet<'a>>(
     alloc: Global,
     log: &Log<'a, P>,
@@ -105,7 +105,7 @@ pub fn replay<'a, P: ArenaSet<'a>>(
     requires mapped { unmapped_fault log.now ≡ None }
     requires order { IsOrderOf (graph_of log.now.nodes) order.now }
     requires versions { AreVersionsAt firsts.now log.now versions.now }
-    requires firsts { AreFirsts log.now firsts.now }
+    requires firsts { AreReadFirsts log.now firsts.now }
     ensures right { OnOk result (shown_difference log.now ≡ None) }
     ensures count { IfOk result (λ reads. reads.count ≡ read_count log.now) }
     ensures end { IfErr result (IsEndOf log.now) }

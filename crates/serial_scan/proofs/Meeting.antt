@@ -1,16 +1,15 @@
 -- Items of kind `Before` meet so at a first point.
-use Rattle.std.proofs.Common.{◌≡◌, ℕ, inl, inr, true, ◌==◌, List, [], ◌∷◌, Contains, map, find, refl, sym, ap, ap₂, ◌∙◌, arith}
-use Rattle.std.proofs.lemmas.Bool.{true≢false}
-use Rattle.vocabulary.specs.Prelude.{Kind, Place, Req, Tables, Space, is_in, points_in, uses_of, kind_of, kind_at, item_kind, item_places, strongest, stronger}
+use Rattle.std.proofs.Common.{◌≡◌, ℕ, true, ◌==◌, List, [], ◌∷◌, Contains, map, refl, sym, ap, ap₂, ◌∙◌, arith}
+use Rattle.vocabulary.specs.Prelude.{Kind, Place, Req, Tables, is_in, points_in, uses_of, kind_of, kind_at, item_kind, item_places, strongest, stronger}
 use Rattle.privilege.specs.declared.kinds.Kind.TheVariants.{Free, Turn, Before}
-use Rattle.point_laws.specs.Alike.{AreAlike, AreFirsts, HasFirst}
+use Rattle.point_laws.specs.Alike.{AreFirsts}
+use Rattle.point_laws.proofs.lemmas.Values.{first_in, in_both}
 use Rattle.log_laws.proofs.lemmas.Members.{is_in_of}
 use Rattle.item_uses.proofs.lemmas.ItemKinds.{kinds_at, meets_here}
 use Rattle.serial_scan.specs.declared.claims.Claim.{Claim}
 use Rattle.serial_scan.specs.Claims.{AreAllClaims, ClaimOf}
 use Rattle.serial_scan.specs.Scanned.{AreClearBefore, IsAtFirst, NoneTurnedBefore}
-use Rattle.list_lemmas.proofs.lemmas.Contained.{member_map, found_at, Contains-here, Contains-later}
-use Rattle.list_lemmas.proofs.lemmas.Firsts.{cases_option}
+use Rattle.list_lemmas.proofs.lemmas.Contained.{member_map, Contains-here, Contains-later}
 
 turn_before : (k : Kind) → stronger Turn k ≡ Before → k ≡ Before
 turn_before Before e = refl
@@ -36,19 +35,6 @@ pub record MeetsBefore (t : Tables) (firsts : List ℕ) (a b : ℕ) : Type 0 whe
   pub points : (is_in (points_in t q.space) point ≡ true) × (is_in (points_in t r.space) point ≡ true)
   pub fields : (is_in q.fields field ≡ true) × (is_in r.fields field ≡ true)
   pub before : kind_of q.access q.coherence r.access r.coherence ≡ Before
-
-in_both : (t : Tables) (p q : ℕ) → AreAlike t p q → (id : ℕ) → is_in (points_in t id) p ≡ is_in (points_in t id) q
-in_both t p q alike id = elim (cases_option (find (λ (s : Space). s.id == id) t.spaces)) [
-  | inl none ↦ rw none refl
-  | inr some ↦ rw some.1 (alike some.0 (found_at (λ (s : Space). s.id == id) t.spaces some.0 some.1).0)
-]
-
-first_in : (t : Tables) (firsts : List ℕ) → AreFirsts t firsts → (id q : ℕ) → is_in (points_in t id) q ≡ true → HasFirst t firsts q
-first_in t firsts are_firsts id q e = elim (cases_option (find (λ (s : Space). s.id == id) t.spaces)) [
-  | inl none ↦ absurd (true≢false (sym (rw none at e)))
-  | inr some ↦ are_firsts some.0 (found_at (λ (s : Space). s.id == id) t.spaces some.0 some.1).0 q
-      (rw some.1 at e)
-]
 
 pub meets_before : (t : Tables) (firsts : List ℕ) → AreFirsts t firsts → (a b : ℕ) → item_kind t a b ≡ Before → MeetsBefore t firsts a b
 meets_before t firsts are_firsts a b e =

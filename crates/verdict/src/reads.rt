@@ -22,7 +22,7 @@ use semantics::Ask;
 use serial_exec::Versions;
 use std::alloc::Global;
 
-/// The replay of a log, at its first points, over the values that sequential execution makes there.
+/// The replay of a log, at those of its first points that are read, over the values that sequential execution makes there.
 fn replayed<'a, P: ArenaSet<'a>>(
     alloc: Global,
     log: &Log<'a, P>,
@@ -36,8 +36,9 @@ fn replayed<'a, P: ArenaSet<'a>>(
     ensures count { IfOk result (λ reads. reads.count ≡ read_count log.now) }
     ensures end { IfErr result (IsEndOf log.now) }
 {
-    match Versions::build_on(alloc, log, firsts.as_slice()) {
-        Ok(versions) => replay(alloc, log, &sorting.order, &versions, firsts),
+    let read = firsts.read_in(alloc, log)?;
+    match Versions::build_on(alloc, log, read.as_slice()) {
+        Ok(versions) => replay(alloc, log, &sorting.order, &versions, &read),
         Err(_) => Err(ReplayEnd::Memory),
     }
 }

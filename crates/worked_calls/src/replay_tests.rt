@@ -96,7 +96,7 @@ fn versions_by<'a, P: ArenaSet<'a>>(
     }
 }
 
-/// Replays a log in its order, at its first points, by what it wants there or at all points.
+/// Replays a log in its order, at those of its first points that are read, by what it wants there or at all points.
 fn replay_by<'a, P: ArenaSet<'a>>(
     alloc: Global,
     log: &Log<'a, P>,
@@ -108,8 +108,9 @@ fn replay_by<'a, P: ArenaSet<'a>>(
     requires order { IsOrderOf (graph_of log.now.nodes) order.now }
     requires firsts { AreFirsts log.now firsts.now }
 {
-    let versions = versions_by(alloc, log, firsts, by_all)?;
-    Ok(replay(alloc, log, order, &versions, firsts))
+    let read = firsts.read_in(alloc, log)?;
+    let versions = versions_by(alloc, log, &read, by_all)?;
+    Ok(replay(alloc, log, order, &versions, &read))
 }
 
 /// Whether a replay ended as a case says.

@@ -19,7 +19,7 @@ use Rattle.list_lemmas.proofs.lemmas.Filtered.{of_filter, in_filter}
 use Rattle.list_lemmas.proofs.lemmas.Firsts.{cases_option}
 use Rattle.list_lemmas.proofs.lemmas.Parts.{filter_map_of, filter_flat}
 use Rattle.point_laws.specs.Axes.{ByPoint}
-use Rattle.point_laws.specs.Alike.{HasPointsInOrder, AreFirsts, target, is_at}
+use Rattle.point_laws.specs.Alike.{HasPointsInOrder, AreReadFirsts, target, is_at}
 use Rattle.point_laws.specs.Cut.{cut, cut_space, kept, cut_to}
 use Rattle.point_laws.proofs.lemmas.Rows.{kept_grid, filter_in}
 use Rattle.point_laws.proofs.Moves.{steps_stay}
@@ -165,8 +165,8 @@ module _ (ps : List ℕ) (t : Tables) where
       ∙ differences_cut xs (λ x m. steps_stay t nodes x (of_filter (is_at ps) (steps_by t nodes) x m).0)
       (λ x m. (of_filter (is_at ps) (steps_by t nodes) x m).1) (start (cut ps t)) (start t) start_cut
 
--- Tables that are cut to first points show the differing read of the whole.
-pub shown_whole : (t : Tables) → HasPointsInOrder t → (firsts : List ℕ) → AreFirsts t firsts
+-- Tables that are cut to the first points that are read show the differing read of the whole.
+pub shown_whole : (t : Tables) → HasPointsInOrder t → (firsts : List ℕ) → AreReadFirsts t firsts
     → shown_difference (cut firsts t) ≡ shown_difference t
 shown_whole t order firsts are_firsts = let nodes = replay_order (graph_of t.nodes) in
     shown_cut firsts t nodes ∙ shown_at_first t order firsts are_firsts nodes

@@ -1,11 +1,11 @@
 -- The first difference of a replay is at a first point.
-use Rattle.std.proofs.Common.{◌≡◌, ◌≢◌, ℕ, ◌<◌, inl, inr, ◌⊎◌, Bool, true, false, cond, List, [], ◌∷◌, ◌++◌, filter, flat_map, refl, sym, ap, ap₂, ◌∙◌, arith, Option, None, slice_get, Contains}
+use Rattle.std.proofs.Common.{◌≡◌, ◌≢◌, ℕ, ◌<◌, inl, inr, ◌⊎◌, Bool, true, false, cond, List, [], ◌∷◌, ◌++◌, filter, flat_map, refl, sym, ap, ap₂, ◌∙◌, arith, Option, None, slice_get, Contains, ◌==◌}
 use Rattle.std.specs.Option.{option_or, option_map_or}
 use Rattle.std.proofs.Math.Path.{fun_ext}
 use Rattle.std.proofs.lemmas.Bool.{cases_Bool, true≢false}
 use Rattle.std.proofs.lemmas.List.Elements.{filter-append}
 use Rattle.list_lemmas.proofs.lemmas.Pairs.{AllPairs-rest, AllPairs-first}
-use Rattle.vocabulary.specs.Prelude.{Priv, Cell, Move, Req, Op, Tables, place_of, is_in, points_in, reqs_of, req_grid, id_of, mapped_cell, reads_by, changes_by, at_cells, moves_of, steps_by, State, start, executed, is_read, wanted, Seen, req_at, difference, first_difference}
+use Rattle.vocabulary.specs.Prelude.{Priv, may_read, Cell, Move, Req, Op, Tables, place_of, is_in, points_in, reqs_of, req_grid, id_of, mapped_cell, reads_by, changes_by, at_cells, moves_of, steps_by, State, start, executed, is_read, wanted, Seen, req_at, difference, first_difference}
 use Rattle.privilege.specs.declared.kinds.Priv.TheVariants as privileges
 use Rattle.semantics.specs.declared.moves.Move.TheVariants as moves
 use Rattle.semantics.specs.declared.tables.Op.TheVariants as operations
@@ -13,8 +13,8 @@ use Rattle.log_laws.proofs.lemmas.Members.{is_in_of, member_in}
 use Rattle.log_laws.proofs.lemmas.StepLists.{steps_at}
 use Rattle.log_laws.proofs.lemmas.OwnConflicts.{is_of, a_read, no_read}
 use Rattle.point_laws.specs.Axes.{ByPoint}
-use Rattle.point_laws.specs.Alike.{AreAlike, HasPointsInOrder, AreFirsts, cell_at, is_at}
-use Rattle.point_laws.proofs.Values.{in_both, first_in, wanted_alike}
+use Rattle.point_laws.specs.Alike.{AreAlike, HasPointsInOrder, AreReadFirsts, cell_at, is_at}
+use Rattle.point_laws.proofs.lemmas.Values.{in_both, wanted_alike}
 use Rattle.point_laws.proofs.lemmas.Rows.{flat_grid, kept_parts}
 use Rattle.point_laws.proofs.Moves.{steps_at_same, steps_at_stay}
 use Rattle.point_laws.proofs.lemmas.TaskMoves.{at_along, reads_kept}
@@ -67,6 +67,10 @@ module _ {B : Type 0} (keep : ℕ → Bool) (d : ℕ → Option B) (points : Lis
 
 -- ---- reads at alike points
 
+flat_nil : {A B : Type 0} (f : A → List B) → ((x : A) → f x ≡ []) → (xs : List A) → flat_map f xs ≡ []
+flat_nil f none [] = refl
+flat_nil f none (x ∷ xs) = rw (none x) (flat_nil f none xs)
+
 differs_alike : (t : Tables) (p q : ℕ) → AreAlike t p q → (s : State) → Mirrors ByPoint p q s s → (task number : ℕ) (c : Cell) → c.point ≡ p
     → difference t (moves.Read task number c) s ≡ None → difference t (moves.Read task number (cell_at q c)) s ≡ None
 differs_alike t p q alike s mirrors task number c at =
@@ -75,7 +79,7 @@ differs_alike t p q alike s mirrors task number c at =
     still_none t s task number c (cell_at q c) (mirrors c at)
     (ap (λ x. wanted t item (record { tree = tree; point = x; field = c.field })) at ∙ wanted_alike t p q alike item tree c.field)
 
-module _ (t : Tables) (order : HasPointsInOrder t) (firsts : List ℕ) (are_firsts : AreFirsts t firsts) where
+module _ (t : Tables) (order : HasPointsInOrder t) (firsts : List ℕ) (are_firsts : AreReadFirsts t firsts) where
   -- States that hold the same at all alike points.
   abbrev Uniform : State → Type 0
   Uniform s = (p q : ℕ) → AreAlike t p q → Mirrors ByPoint p q s s
@@ -88,11 +92,11 @@ module _ (t : Tables) (order : HasPointsInOrder t) (firsts : List ℕ) (are_firs
       rw (differs_alike t p q alike s (uniform p q alike) task number c at (both_none _ None e).0) refl
   one_seen task number _ s uniform p q alike c at e = refl
 
-  -- What is seen of a requirement's reads, at first points alone and at all points.
-  req_seen : (task : ℕ) (s : State) → Uniform s → (r : Req)
+  -- What is seen of the reads of a requirement that reads, at first points alone and at all points.
+  read_seen : (task : ℕ) (s : State) → Uniform s → (r : Req) → Contains t.reqs r → may_read r.access ≡ true
       → seen t s (filter (at_along ByPoint firsts) (flat_map (λ x. reads_by task r.number r.access (mapped_cell t r x)) (req_grid t r)))
       ≡ seen t s (flat_map (λ x. reads_by task r.number r.access (mapped_cell t r x)) (req_grid t r))
-  req_seen task s uniform r =
+  read_seen task s uniform r own read =
       let does : ℕ × ℕ → List Move = λ x. reads_by task r.number r.access (mapped_cell t r x) in
       let row : ℕ → List Move = λ x. flat_map (λ f. does (x, f)) r.fields in
       let points = points_in t r.space in
@@ -102,7 +106,7 @@ module _ (t : Tables) (order : HasPointsInOrder t) (firsts : List ℕ) (are_firs
       let early : (x : ℕ) → Contains points x → is_in firsts x ≡ false → (y : ℕ) × Contains points y × (y < x) × (d y ≡ None → d x ≡ None) =
       λ x m left.
       let inside = is_in_of points x m in
-      let h = first_in t firsts are_firsts r.space x inside in
+      let h = are_firsts r own read x inside in
       let differ : h.first ≢ x = λ e. true≢false (sym h.listed ∙ ap (is_in firsts) e ∙ left) in (
         h.first,
         member_in points h.first (in_both t h.first x h.alike r.space ∙ inside),
@@ -123,16 +127,28 @@ module _ (t : Tables) (order : HasPointsInOrder t) (firsts : List ℕ) (are_firs
       ∙ sym (first_flat (λ m. difference t m s) row points)
       ∙ ap (seen t s) (sym (flat_grid does points r.fields))
 
+  -- The same of any requirement: one that does not read sees nothing.
+  req_seen : (task : ℕ) (s : State) → Uniform s → (r : Req) → Contains t.reqs r
+      → seen t s (filter (at_along ByPoint firsts) (flat_map (λ x. reads_by task r.number r.access (mapped_cell t r x)) (req_grid t r)))
+      ≡ seen t s (flat_map (λ x. reads_by task r.number r.access (mapped_cell t r x)) (req_grid t r))
+  req_seen task s uniform r own = elim (cases_Bool (may_read r.access)) [
+    | inl read ↦ read_seen task s uniform r own read
+    | inr not_read ↦
+        let does : ℕ × ℕ → List Move = λ x. reads_by task r.number r.access (mapped_cell t r x) in
+        let none : flat_map does (req_grid t r) ≡ [] = flat_nil does (λ x. rw not_read refl) (req_grid t r) in
+        rw (none) refl
+  ]
+
   abbrev reads : ℕ → List Req → List Move
   reads task rs = at_cells t (λ r c. reads_by task r.number r.access c) rs
 
-  reqs_seen : (task : ℕ) (rs : List Req) (s : State) → Uniform s
+  reqs_seen : (task : ℕ) (rs : List Req) → ((r : Req) → Contains rs r → Contains t.reqs r) → (s : State) → Uniform s
       → seen t s (filter (at_along ByPoint firsts) (reads task rs)) ≡ seen t s (reads task rs)
-  reqs_seen task rs s uniform =
+  reqs_seen task rs own s uniform =
       let does : Req → List Move = λ r. flat_map (λ x. reads_by task r.number r.access (mapped_cell t r x)) (req_grid t r) in
       ap (seen t s) (filter_flat (at_along ByPoint firsts) does rs)
       ∙ first_flat (λ m. difference t m s) (λ r. filter (at_along ByPoint firsts) (does r)) rs
-      ∙ ap (λ e. first_of e rs) (fun_ext (req_seen task s uniform))
+      ∙ first_same (λ r. seen t s (filter (at_along ByPoint firsts) (does r))) (λ r. seen t s (does r)) rs (λ r m. req_seen task s uniform r (own r m))
       ∙ sym (first_flat (λ m. difference t m s) does rs)
 
   -- ---- node by node
@@ -153,7 +169,7 @@ module _ (t : Tables) (order : HasPointsInOrder t) (firsts : List ℕ) (are_firs
       (λ m h. are_changes m (of_filter (at_along ByPoint firsts) then m h).0) r
       ∙ first_same (λ m. difference t m r) (λ m. difference t m s) (filter (at_along ByPoint firsts) first)
       (λ m h. difference_agrees ByPoint t firsts m r s (of_filter (at_along ByPoint firsts) first m h).1 agree)
-      ∙ reqs_seen task rs s uniform
+      ∙ reqs_seen task rs (λ r m. (of_filter (λ (r : Req). r.item == item) t.reqs r m).0) s uniform
       ∙ sym (run_difference t k first then are_reads are_changes s)
   node_difference k operations.Merge r s agree uniform = refl
   node_difference k op r s agree uniform = changes_alone ByPoint t k firsts (moves_of t op) (λ m h. ap is_read (member_map _ _ m h).2) r s

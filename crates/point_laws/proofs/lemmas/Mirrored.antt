@@ -4,7 +4,7 @@ use Rattle.vocabulary.specs.Prelude.{Tables, is_in, Step, State, start, executed
 use Rattle.log_laws.proofs.lemmas.Members.{is_in_of, member_in}
 use Rattle.point_laws.specs.Axes.{Axis, ByPoint, along, cell_to, step_to, is_along}
 use Rattle.point_laws.specs.Alike.{AreAlike, cell_at}
-use Rattle.point_laws.proofs.Values.{starts_alike}
+use Rattle.point_laws.proofs.lemmas.Values.{starts_alike}
 use Rattle.point_laws.proofs.lemmas.Rows.{Same}
 use Rattle.point_laws.proofs.lemmas.Effects.{Stay, Mirrors, executed_agree, executed_mirrors, moved_along}
 use Rattle.list_lemmas.proofs.lemmas.Contained.{only, Contains-first}
