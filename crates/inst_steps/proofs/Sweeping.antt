@@ -17,7 +17,7 @@ use Rattle.inst_steps.specs.Sweeps.{Pass, pass, pass_at, action_at, move_at, own
 use Rattle.std.proofs.lemmas.Option.{slice_get-get_or}
 use Rattle.std.specs.Prelude.{IfSome}
 use Rattle.inst_steps.specs.declared.spot.Spot.{Spot}
-use Rattle.inst_steps.specs.Stepping.{rest_actions, moves_at, spots_left, spot_grid, spot_here, spot_actions, actions_from}
+use Rattle.inst_steps.specs.Stepping.{rest_actions, spots_left, spot_grid, spot_here, spot_actions, actions_from}
 
 -- ---- the sweeps of an operation make its moves
 
@@ -110,7 +110,7 @@ all_steps t op = passes_steps t (passes_of t op) ∙ sweeps_are t op
 
 -- ---- one sweep on
 
-at_place : {X Y : Type 0} (g : Option X → List Y) → g None ≡ [] → (ps : List (Option X)) (k : ℕ)
+pub at_place : {X Y : Type 0} (g : Option X → List Y) → g None ≡ [] → (ps : List (Option X)) (k : ℕ)
     → flat_map g (drop k ps) ≡ g (unwrap_or (slice_get ps k) None) ++ flat_map g (drop (k + 1) ps)
 at_place g none [] zero = sym (ap₂ (λ xs ys. xs ++ flat_map g ys) none (drop_all (zero + 1) [] (omega arith)))
 at_place g none [] (suc k) = sym (ap₂ (λ xs ys. xs ++ flat_map g ys) none (drop_all (suc k + 1) [] (omega arith)))
@@ -141,8 +141,9 @@ module _ {S : Type 0} (points : S → List ℕ) (t : Tables) where
 
 -- ---- the moves of a node
 
-pub node_moves : (t : Tables) (nodes : List LogNode) (node : ℕ) (d : LogNode) → nodes ≡ t.nodes → node < length t.nodes
-    → moves_of t (get_or nodes node d).op ≡ moves_at t node
-node_moves t nodes node d same lt =
-    ap (λ ns. moves_of t (get_or ns node d).op) same
-    ∙ sym (ap (λ (o : Option LogNode). option_map_or (λ (n : LogNode). moves_of t n.op) o []) (slice_get-get_or t.nodes node d lt))
+pub node_moves : {X : Type 0} (does : Op → List X) (t : Tables) (nodes : List LogNode) (node : ℕ) (d : LogNode) → nodes ≡ t.nodes
+    → node < length t.nodes
+    → does (get_or nodes node d).op ≡ option_map_or (λ (n : LogNode). does n.op) (slice_get t.nodes node) []
+node_moves does t nodes node d same lt =
+    ap (λ ns. does (get_or ns node d).op) same
+    ∙ sym (ap (λ (o : Option LogNode). option_map_or (λ (n : LogNode). does n.op) o []) (slice_get-get_or t.nodes node d lt))

@@ -3,3 +3,4 @@ pub mod StoreMaps
 pub mod StoreLaws
 pub mod Covered
 pub mod StepCounts
+pub mod FieldMoves

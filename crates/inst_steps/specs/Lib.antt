@@ -3,6 +3,7 @@ pub mod Sweeps
 pub mod Viewing
 pub mod Weighing
 pub mod Celled
+pub mod FieldMoves
 pub mod Grids
 pub mod Places
 pub mod Stepping

@@ -62,7 +62,7 @@ impl<'l, 'a, 'p, P: PointSet + Copy> Model for Steps<'l, 'a, 'p, P> {
 }
 
 /// The requirements of an item are found by their numbers. There is nothing to do.
-fn reqs_are_numbered<P: PointSet + Copy>(log: &CutLog<'_, '_, '_, P>)
+pub(crate) fn reqs_are_numbered<P: PointSet + Copy>(log: &CutLog<'_, '_, '_, P>)
     ensures { AreNumbered log.now }
 {
     let plain = log.plain();

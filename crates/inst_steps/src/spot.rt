@@ -98,7 +98,7 @@ fn cell_in(inst: u32, point: u64, field: u32) -> Cell
 }
 
 /// What an act does at a point and a field.
-fn move_at<P: PointSet + Copy>(
+pub(crate) fn move_at<P: PointSet + Copy>(
     log: &CutLog<'_, '_, '_, P>,
     act: Act,
     point: u64,

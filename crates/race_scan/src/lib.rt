@@ -1,8 +1,9 @@
 //! The race of a recorded run that is shown: two nodes that conflict at a cell, neither before the other.
 //!
 //! `scan` answers it exactly where the whole log has one, though it looks at one point of each
-//! kind alone. `accesses_by_node.rt` gathers what nodes access there, and `cell_races` finds the race; begin with
-//! `shown.rt`, which ties the two to the log.
+//! kind alone, and at none where already whatever conflicts in a field of an instance is ordered.
+//! `accesses_by_node.rt` gathers what nodes access, and `cell_races` finds the race; begin with `shown.rt`,
+//! which ties the two to the log.
 #![tactic(auto)]
 
 mod accesses_by_node;

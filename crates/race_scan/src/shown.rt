@@ -1,14 +1,16 @@
 //! The race of a log that is shown.
 
-ghost use Rattle.std.specs.Prelude.{◌≡◌, ◌<◌, Contains, IfErr, IfOk, MatchOption, None, OnOk, length};
+ghost use Rattle.std.specs.Prelude.{◌≡◌, ◌<◌, true, All, IfErr, IfOk, MatchOption, None, OnOk, length};
 ghost use Rattle.vocabulary.specs.Prelude.{Cell, graph_of, IsRaceFree};
 ghost use Rattle.semantics.specs.Faults.{unmapped_fault};
 ghost use Rattle.event_graph.specs.Orders.{IsOrderOf};
+ghost use Rattle.reach_marks.specs.Reached.{AreMarksOf, before_in};
+ghost use Rattle.cell_races.specs.Clashes.{IsFree};
 ghost use Rattle.point_laws.specs.Alike.{AreFirsts};
 ghost use Rattle.race_scan.specs.Ends.{IsEndOf, IsShownIn};
-ghost use Rattle.race_scan.specs.Gathered.{cell_accesses_before};
+ghost use Rattle.race_scan.specs.Gathered.{field_accesses_before};
 
-use crate::accesses_by_node::cell_accesses_of;
+use crate::accesses_by_node::{cell_accesses_of, field_accesses_of};
 use cell_races::{CellAccess, FoundRace, shown_race};
 use cut_logs::CutLog;
 use event_graph::{Graph, Order};
@@ -47,46 +49,66 @@ impl From<Memory> for ScanEnd {
     }
 }
 
-/// The race that is shown of what the nodes of a log do at cells.
+/// Whether no two nodes race even if each space that has points had point 0 alone, so that what two nodes do to a field of one instance is at one cell. It goes over no points.
+fn is_free_by_fields(
+    alloc: Global,
+    sorted: &SortedNodes<'_>,
+    reach: &Reach,
+    field_accesses: Vec<CellAccess>,
+) -> Result<bool, Memory>
+    requires order { IsOrderOf sorted.now.graph.now sorted.now.order.now }
+    requires reach { AreMarksOf sorted.now.graph.now reach.now }
+    requires within { All (λ x. x.place < length sorted.now.order.now) field_accesses.items }
+    ensures { IfOk result (λ free. free ≡ true → IsFree (before_in reach.now) sorted.now.order.now field_accesses.items) }
+{
+    let race = shown_race(alloc, sorted.graph, sorted.order, reach, field_accesses)?;
+    Ok(race.is_none())
+}
+
+/// The race that is shown of a log that may be cut, by what its nodes would do if each space that has points had point 0 alone. It is looked for at each cell only where two nodes would race so.
 fn race_among<'a, P: ArenaSet<'a>>(
     alloc: Global,
     log: &CutLog<'_, 'a, '_, P>,
-    graph: &Graph,
-    order: &Order,
-    cell_accesses: Vec<CellAccess>,
+    sorted: &SortedNodes<'_>,
+    field_accesses: Vec<CellAccess>,
 ) -> Result<Option<FoundRace>, Memory>
-    requires graph { graph.now ≡ graph_of log.now.nodes }
-    requires order { IsOrderOf graph.now order.now }
-    requires all { cell_accesses.items ≡ cell_accesses_before log.now order.now (length order.now) }
+    requires graph { sorted.now.graph.now ≡ graph_of log.now.nodes }
+    requires order { IsOrderOf sorted.now.graph.now sorted.now.order.now }
+    requires all { field_accesses.items
+        ≡ field_accesses_before log.now sorted.now.order.now (length sorted.now.order.now) }
     ensures { IfOk result (λ r. MatchOption r (IsRaceFree log.now) (IsShownIn log.now)) }
 {
-    let _linked = graph.len();
-    let reach = Reach::build(alloc, graph, order)?;
-    let clash = shown_race(alloc, graph, order, &reach, cell_accesses)?;
-    Ok(clash)
+    let _linked = sorted.graph.len();
+    let reach = Reach::build(alloc, sorted.graph, sorted.order)?;
+    let is_free = is_free_by_fields(alloc, sorted, &reach, field_accesses)?;
+    if is_free {
+        return Ok(None);
+    }
+    let cell_accesses = cell_accesses_of(alloc, log, sorted.order.as_slice())?;
+    let race = shown_race(alloc, sorted.graph, sorted.order, &reach, cell_accesses)?;
+    Ok(race)
 }
 
-/// The race that is shown of a log that may be cut. Which node is before which is looked for only where some node does something at a cell.
+/// The race that is shown of a log that may be cut. Which node is before which is looked for only where some node does something at a field.
 fn race_of<'a, P: ArenaSet<'a>>(
     alloc: Global,
     log: &CutLog<'_, 'a, '_, P>,
-    graph: &Graph,
-    order: &Order,
+    sorted: &SortedNodes<'_>,
 ) -> Result<Option<FoundRace>, Memory>
-    requires graph { graph.now ≡ graph_of log.now.nodes }
-    requires order { IsOrderOf graph.now order.now }
+    requires graph { sorted.now.graph.now ≡ graph_of log.now.nodes }
+    requires order { IsOrderOf sorted.now.graph.now sorted.now.order.now }
     ensures { IfOk result (λ r. MatchOption r (IsRaceFree log.now) (IsShownIn log.now)) }
 {
-    let _linked = graph.len();
-    let cell_accesses = cell_accesses_of(alloc, log, order.as_slice())?;
-    let found = cell_accesses.as_slice();
+    let _linked = sorted.graph.len();
+    let field_accesses = field_accesses_of(alloc, log, sorted.order.as_slice())?;
+    let found = field_accesses.as_slice();
     if found.is_empty() {
         return Ok(None);
     }
-    race_among(alloc, log, graph, order, cell_accesses)
+    race_among(alloc, log, sorted, field_accesses)
 }
 
-/// Looks for the race of a log that is shown. Goes over these points alone, among which is the first of each kind; the time is that of a sort of the accesses there.
+/// Looks for the race of a log that is shown. Goes over these points alone, among which is the first of each kind, and over none where whatever conflicts in a field of an instance is ordered; the time is that of a sort of the accesses there.
 pub fn scan<'a, P: ArenaSet<'a>>(
     alloc: Global,
     log: &Log<'a, P>,
@@ -101,7 +123,7 @@ pub fn scan<'a, P: ArenaSet<'a>>(
     ensures race { IfErr result (IsEndOf log.now) }
 {
     let log = CutLog::at(log, firsts.as_slice());
-    match race_of(alloc, &log, sorted.graph, sorted.order)? {
+    match race_of(alloc, &log, sorted)? {
         None => Ok(()),
         Some(FoundRace { a, b, cell }) => Err(ScanEnd::Race { a, b, cell }),
     }

@@ -10,6 +10,8 @@ mod checked;
 #[cfg(test)]
 mod examples;
 #[cfg(test)]
+mod halos;
+#[cfg(test)]
 mod many_requirements;
 #[cfg(test)]
 mod rows;
