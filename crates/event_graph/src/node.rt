@@ -4,18 +4,18 @@ ghost use Rattle.std.specs.Prelude.{◌≡◌, IfOk};
 ghost use Rattle.vocabulary.specs.Prelude.{graph_of};
 
 use semantics::LogNode;
-use spy_words::Nums;
+use spy_words::{ListOf, Nums};
 use std::alloc::{AllocError, Global};
 use std::marker::Model;
 
 /// Events in order.
-pub type EventList = Nums;
+pub type EventList = ListOf<u32>;
 
 /// A node of the recorded run, as far as order goes: its completion event, and the events that it waits on.
 #[derive(Drop)]
 pub struct NodeIn {
     pub done: u32,
-    pub waits: EventList,
+    pub waits: Nums,
 }
 
 impl Model for NodeIn {
@@ -30,10 +30,10 @@ impl Model for NodeIn {
 fn node_in(alloc: Global, node: &LogNode) -> Result<NodeIn, AllocError>
     ensures { IfOk result (λ n. n ≡ record { done = node.now.done; waits = node.now.waits }) }
 {
-    let waits = Vec::from_slice(alloc, node.waits.as_slice())?;
+    let waits = Nums::from_slice(alloc, node.waits.as_slice())?;
     Ok(NodeIn {
         done: node.done,
-        waits: EventList::from_vec(waits),
+        waits,
     })
 }
 

@@ -54,8 +54,9 @@ fn cut_record(alloc: Global, rec: &Record, kept: &[u64]) -> Result<Option<Record
     if is_none_left(list, &fields) {
         return Ok(None);
     }
-    let others = Vec::from_slice(alloc, other_numbers(rec))?;
-    let cut = copy_with(alloc, rec, Nums::from_vec(fields), Nums::from_vec(others))?;
+    let fields = Nums::from_slice(alloc, fields.as_slice())?;
+    let others = Nums::from_slice(alloc, other_numbers(rec))?;
+    let cut = copy_with(alloc, rec, fields, others)?;
     Ok(Some(cut))
 }
 

@@ -23,13 +23,6 @@ pub(crate) struct TaskReqs<'r> {
     pub(crate) atomic: bool,
 }
 
-/// A list of the same numbers.
-fn copied(alloc: Global, numbers: &Nums) -> Result<Nums, AllocError>
-    ensures { IfOk result (λ copy. copy ≡ numbers.now) }
-{
-    Ok(Nums::from_vec(Vec::from_slice(alloc, numbers.as_slice())?))
-}
-
 /// The requirement of one task.
 #[tactic(auto, using(launch_laws::proofs::lemmas::WrittenLogs::good_req))]
 fn req_for(
@@ -53,7 +46,7 @@ fn req_for(
         task: id,
         tree: reqs.tree,
         space,
-        fields: copied(alloc, reqs.fields)?,
+        fields: Nums::from_slice(alloc, reqs.fields.as_slice())?,
         access: reqs.access,
         atomic: reqs.atomic,
     })

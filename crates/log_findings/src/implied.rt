@@ -46,7 +46,7 @@ fn event_listed<'a, P: ArenaSet<'a>>(log: &Log<'a, P>, wait: ListedWait) -> u32
     ensures { result ≡ (events_of_wait log.now wait).1 }
 {
     match log.nodes().get(wait.node) {
-        Some(node) => node.waits.at(wait.k).unwrap_or(0),
+        Some(node) => node.waits.as_slice().get(wait.k).copied().unwrap_or(0),
         None => 0,
     }
 }

@@ -10,7 +10,7 @@ use std::alloc::{AllocError, Global};
 pub fn numbers(alloc: Global, list: &[u32]) -> Result<Nums, AllocError>
     ensures { IfOk result (λ r. r ≡ list.now) }
 {
-    Ok(Nums::from_vec(list.to_vec(alloc)?))
+    Nums::from_slice(alloc, list)
 }
 
 /// The points from a first to a last one.

@@ -69,12 +69,12 @@ pub fn stencil_waits(alloc: Global, n: u32, s: u32, i: u32) -> Result<Nums, Allo
     let mut waits = Vec::new(alloc);
     if s == 0 {
         waits.push(i + 1)?;
-        return Ok(Nums::from_vec(waits));
+        return Nums::from_slice(alloc, waits.as_slice());
     }
     waits.push(update_event(n, s - 1, i))?;
     push_copy_from_left(&mut waits, n, s - 1, i)?;
     push_copy_from_right(&mut waits, n, s - 1, i)?;
-    Ok(Nums::from_vec(waits))
+    Nums::from_slice(alloc, waits.as_slice())
 }
 
 /// What the update task of a step waits on.
@@ -87,11 +87,11 @@ pub fn update_waits(alloc: Global, n: u32, s: u32, i: u32) -> Result<Nums, Alloc
     let mut waits = Vec::new(alloc);
     waits.push(stencil_event(n, s, i))?;
     if s == 0 {
-        return Ok(Nums::from_vec(waits));
+        return Nums::from_slice(alloc, waits.as_slice());
     }
     push_copy_to_left(&mut waits, n, s - 1, i)?;
     push_copy_to_right(&mut waits, n, s - 1, i)?;
-    Ok(Nums::from_vec(waits))
+    Nums::from_slice(alloc, waits.as_slice())
 }
 
 /// What the copy of a step over a boundary to the right waits on.
@@ -102,7 +102,7 @@ pub fn right_waits(alloc: Global, n: u32, s: u32, j: u32) -> Result<Nums, AllocE
     ensures { IfOk result (λ r. r ≡ waiting.right_waits n s j) }
 {
     let waits = [update_event(n, s, j), stencil_event(n, s, j + 1)];
-    Ok(Nums::from_vec(waits.to_vec(alloc)?))
+    Nums::from_slice(alloc, waits.as_slice())
 }
 
 /// What the copy of a step over a boundary to the left waits on.
@@ -113,5 +113,5 @@ pub fn left_waits(alloc: Global, n: u32, s: u32, j: u32) -> Result<Nums, AllocEr
     ensures { IfOk result (λ r. r ≡ waiting.left_waits n s j) }
 {
     let waits = [update_event(n, s, j + 1), stencil_event(n, s, j)];
-    Ok(Nums::from_vec(waits.to_vec(alloc)?))
+    Nums::from_slice(alloc, waits.as_slice())
 }

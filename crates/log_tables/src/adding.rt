@@ -19,13 +19,6 @@ use spy_grammar::Record;
 use spy_words::{Nums, PrivWord, Quad};
 use std::alloc::{AllocError, Global};
 
-/// A list of the same numbers.
-fn copied(alloc: Global, numbers: &Nums) -> Result<Nums, AllocError>
-    ensures { IfOk result (λ copy. copy ≡ numbers.now) }
-{
-    Ok(Nums::from_vec(Vec::from_slice(alloc, numbers.as_slice())?))
-}
-
 /// The privilege that a word spells.
 pub fn priv_of(word: PrivWord) -> Priv
     ensures { result ≡ privilege_of word }
@@ -64,7 +57,7 @@ fn op_on_data(alloc: Global, rec: &Record) -> Result<Op, AllocError>
             src: *src,
             dst: *dst,
             space: *space,
-            fields: copied(alloc, fields)?,
+            fields: Nums::from_slice(alloc, fields.as_slice())?,
         }),
         Record::Put {
             inst,
@@ -75,7 +68,7 @@ fn op_on_data(alloc: Global, rec: &Record) -> Result<Op, AllocError>
         } => Ok(Op::Put {
             inst: *inst,
             space: *space,
-            fields: copied(alloc, fields)?,
+            fields: Nums::from_slice(alloc, fields.as_slice())?,
             n: *n,
         }),
         Record::Reset {
@@ -86,7 +79,7 @@ fn op_on_data(alloc: Global, rec: &Record) -> Result<Op, AllocError>
         } => Ok(Op::Reset {
             inst: *inst,
             space: *space,
-            fields: copied(alloc, fields)?,
+            fields: Nums::from_slice(alloc, fields.as_slice())?,
         }),
         Record::Fold {
             src,
@@ -98,7 +91,7 @@ fn op_on_data(alloc: Global, rec: &Record) -> Result<Op, AllocError>
             src: *src,
             dst: *dst,
             space: *space,
-            fields: copied(alloc, fields)?,
+            fields: Nums::from_slice(alloc, fields.as_slice())?,
         }),
         _ => Ok(Op::Merge),
     }
@@ -203,7 +196,7 @@ impl<'a, P: ArenaRects<'a>> LogTables<P> {
         ensures ok { OnOk result (self.new ≡ with_record self.old line (records.Fields id fields.now)) }
         ensures err { OnErr result (self.new ≡ self.old) }
     {
-        let fields = copied(alloc, fields)?;
+        let fields = Nums::from_slice(alloc, fields.as_slice())?;
         self.add_field_space(id, fields)
     }
 
@@ -276,7 +269,7 @@ impl<'a, P: ArenaRects<'a>> LogTables<P> {
                     line,
                     tree: *tree,
                     space: *space,
-                    fields: copied(alloc, fields)?,
+                    fields: Nums::from_slice(alloc, fields.as_slice())?,
                     access: priv_of(*access),
                     coherence: coherence_word(*atomic),
                 })?;
@@ -291,13 +284,13 @@ impl<'a, P: ArenaRects<'a>> LogTables<P> {
                 let body = ItemBody::Fill {
                     tree: *tree,
                     space: *space,
-                    fields: copied(alloc, fields)?,
+                    fields: Nums::from_slice(alloc, fields.as_slice())?,
                     n: *n,
                 };
                 self.add_item(*id, line, body)?;
             }
             Record::Serial { items } => {
-                let ids = copied(alloc, items)?;
+                let ids = Nums::from_slice(alloc, items.as_slice())?;
                 self.add_serial(line, ids)?;
             }
             _ => {}
@@ -324,7 +317,7 @@ impl<'a, P: ArenaRects<'a>> LogTables<P> {
                     id: *id,
                     tree: *tree,
                     space: *space,
-                    fields: copied(alloc, fields)?,
+                    fields: Nums::from_slice(alloc, fields.as_slice())?,
                     kind: *kind,
                 })?;
             }
@@ -335,7 +328,7 @@ impl<'a, P: ArenaRects<'a>> LogTables<P> {
                 inst,
             } => {
                 let item = self.place(*task);
-                let fields = copied(alloc, fields)?;
+                let fields = Nums::from_slice(alloc, fields.as_slice())?;
                 self.add_map(item, *req, fields, *inst)?;
             }
             _ => {}
@@ -352,7 +345,7 @@ impl<'a, P: ArenaRects<'a>> LogTables<P> {
         match rec {
             Record::Run { task, done, waits } => {
                 let item = self.place(*task);
-                let waits = copied(alloc, waits)?;
+                let waits = Nums::from_slice(alloc, waits.as_slice())?;
                 self.add_node(line, *done, waits, Op::Run { item })?;
             }
             Record::Copy { done, waits, .. }
@@ -360,11 +353,11 @@ impl<'a, P: ArenaRects<'a>> LogTables<P> {
             | Record::Reset { done, waits, .. }
             | Record::Fold { done, waits, .. } => {
                 let op = op_on_data(alloc, rec)?;
-                let waits = copied(alloc, waits)?;
+                let waits = Nums::from_slice(alloc, waits.as_slice())?;
                 self.add_node(line, *done, waits, op)?;
             }
             Record::Merge { done, waits } => {
-                let waits = copied(alloc, waits)?;
+                let waits = Nums::from_slice(alloc, waits.as_slice())?;
                 self.add_node(line, *done, waits, Op::Merge)?;
             }
             _ => {}

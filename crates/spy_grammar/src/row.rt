@@ -6,9 +6,9 @@ ghost use Rattle.spy_words.specs.Classes.{any_number, id, extent, fields, waits,
 ghost use Rattle.spy_grammar.specs.Reading.{Left, read_word, read_ids, ended, next_word};
 
 use spy_words::{
-    Extent, InstKind, LineFault, Nums, Pieces, PrivWord, Set, access_of, ascending, at_least_one,
-    coherence_text, each_of, either, extent_of, keep, layout_of, list_of, meet, number_of,
-    outcome_of, split_text,
+    Extent, Gathered, InstKind, LineFault, Nums, Pieces, PrivWord, Set, access_of, ascending,
+    at_least_one, coherence_text, each_of, either, extent_of, keep, layout_of, list_of, meet,
+    number_of, outcome_of, split_text,
 };
 use std::alloc::{AllocError, Global};
 use std::marker::Model;
@@ -81,7 +81,8 @@ impl<'a> RowReader<'a> {
         ensures { IfOk result (λ x. read_word fields self.old ≡ (x, self.new)) }
     {
         let read = ascending(at_least_one(list_of(self.alloc, 0, self.next())?));
-        Ok(Nums::from_vec(keep(&mut self.met, read, Vec::new(self.alloc))))
+        let numbers = keep(&mut self.met, read, Gathered::new(self.alloc));
+        Nums::from_gathered(self.alloc, numbers)
     }
 
     /// Events, or none.
@@ -89,7 +90,8 @@ impl<'a> RowReader<'a> {
         ensures { IfOk result (λ x. read_word waits self.old ≡ (x, self.new)) }
     {
         let read = list_of(self.alloc, 1, self.next())?;
-        Ok(Nums::from_vec(keep(&mut self.met, read, Vec::new(self.alloc))))
+        let numbers = keep(&mut self.met, read, Gathered::new(self.alloc));
+        Nums::from_gathered(self.alloc, numbers)
     }
 
     /// Whether a partition is disjoint.
@@ -129,7 +131,8 @@ impl<'a> RowReader<'a> {
         ensures { IfOk result (λ x. read_ids self.old ≡ (x, self.new)) }
     {
         let read = at_least_one(each_of(self.alloc, 1, &mut self.words)?);
-        Ok(Nums::from_vec(keep(&mut self.met, read, Vec::new(self.alloc))))
+        let numbers = keep(&mut self.met, read, Gathered::new(self.alloc));
+        Nums::from_gathered(self.alloc, numbers)
     }
 
     /// What was read, unless a fault was met or words are left.

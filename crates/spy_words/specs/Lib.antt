@@ -1,3 +1,4 @@
 pub mod Classes
 pub mod Faults
 pub mod Reading
+pub mod ShortLists

@@ -10,16 +10,18 @@ mod cut;
 mod fault;
 mod lists;
 mod parts;
+mod short_lists;
 mod words;
 
 pub use access::{InstKind, PrivWord};
 pub use cut::Pieces;
 pub use fault::{LineFault, keep, meet, outcome_of};
-pub use lists::{Extent, ListOf, Nums, Quad, Rects, Set};
+pub use lists::{Extent, ListOf, Quad, Rects, Set};
 pub use parts::{
-    ListPart, Read, are_fit, ascend, ascending, at_least_one, each_of, extent_of, list_of,
-    push_after, push_list,
+    GatherParts, ListPart, Read, are_fit, ascend, ascending, at_least_one, each_of, extent_of,
+    list_of, push_after, push_list,
 };
+pub use short_lists::{Gathered, Nums};
 pub use words::{
     access_of, coherence_text, either, layout_of, number_of, push_access, push_layout, push_u64,
     split_text,

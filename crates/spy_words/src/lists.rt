@@ -10,9 +10,6 @@ pub struct ListOf<T> {
     items: Vec<T>,
 }
 
-/// Numbers of a line: fields, events or items.
-pub type Nums = ListOf<u32>;
-
 /// A set of points as a line spells it: its parts in order, each a first and a last point.
 pub type Set = ListOf<(u64, u64)>;
 

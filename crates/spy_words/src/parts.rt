@@ -1,6 +1,6 @@
 //! Words that hold a list: numbers, runs of points, or rectangles of points.
 
-ghost use Rattle.std.specs.Prelude.{◌≡◌, [], ◌↔◌, ◌++◌, IsTrue, IfOk, OnOk, map, decimal, nat_lt, List, ℕ, Bool, Result};
+ghost use Rattle.std.specs.Prelude.{◌≡◌, [], ◌∷◌, ◌↔◌, ◌++◌, IsTrue, IfOk, OnOk, map, decimal, nat_lt, List, ℕ, Bool, Result};
 ghost use Rattle.std.specs.List.{AllByRecursion};
 ghost use Rattle.spy_words.specs.declared.fault.LineFault.{LineFault};
 ghost use Rattle.spy_words.specs.declared.fault.LineFault.TheVariants.{Form, Order};
@@ -11,6 +11,7 @@ ghost use Rattle.spy_words.specs.Reading.{each, extent_at, has_colon, has_some, 
 use crate::cut::Pieces;
 use crate::fault::{LineFault, meet, outcome_of, worse_of};
 use crate::lists::{Extent, ListOf, Quad};
+use crate::short_lists::Gathered;
 use crate::words::{number_of, push_u64};
 use std::alloc::{AllocError, Global};
 
@@ -46,6 +47,64 @@ pub trait ListPart: Copy + Drop {
     /// Whether the part may stand before another in an ascending list.
     fn is_before(self, next: Self) -> bool
         ensures { result ≡ before self next };
+}
+
+/// What the parts of a list are gathered in as they are read.
+pub trait GatherParts: Drop {
+    type Part: ListPart;
+
+    /// The parts in order.
+    ghost parts: { Self → List Self.Part };
+
+    /// No parts.
+    fn none(alloc: Global) -> Self
+        ensures { parts result ≡ [] };
+
+    /// One part more.
+    fn add(&mut self, part: Self::Part) -> Result<(), AllocError>
+        ensures { OnOk result (parts self.new ≡ parts self.old ++ part ∷ []) };
+
+    /// The parts in order.
+    fn as_parts(&self) -> &[Self::Part]
+        ensures { result.now ≡ parts self.now };
+}
+
+impl GatherParts for Gathered {
+    type Part = u32;
+
+    ghost parts = { λ v. v.items };
+
+    fn none(alloc: Global) -> Gathered {
+        Gathered::new(alloc)
+    }
+
+    fn add(&mut self, part: u32) -> Result<(), AllocError> {
+        self.push(part)?;
+        Ok(())
+    }
+
+    fn as_parts(&self) -> &[u32] {
+        self.as_slice()
+    }
+}
+
+impl<T: ListPart> GatherParts for Vec<T> {
+    type Part = T;
+
+    ghost parts = { λ v. v.items };
+
+    fn none(alloc: Global) -> Vec<T> {
+        Vec::new(alloc)
+    }
+
+    fn add(&mut self, part: T) -> Result<(), AllocError> {
+        self.push(part)?;
+        Ok(())
+    }
+
+    fn as_parts(&self) -> &[T] {
+        self.as_slice()
+    }
 }
 
 impl ListPart for u32 {
@@ -197,16 +256,15 @@ fn quad_among(least: u32, mut words: Pieces<'_>) -> Result<Quad, LineFault>
 }
 
 /// What each word says, or the fault that is reported of theirs. No word is left then.
-pub fn each_of<T: ListPart>(alloc: Global, least: u32, words: &mut Pieces<'_>) -> Read<Vec<T>>
-    ensures read { IfOk result (λ read. map_ok (λ v. v.items) read ≡ each (T.reading least) words.old) }
+pub fn each_of<G: GatherParts>(alloc: Global, least: u32, words: &mut Pieces<'_>) -> Read<G>
+    ensures read { IfOk result (λ read. map_ok G.parts read ≡ each (G.Part.reading least) words.old) }
     ensures rest { OnOk result (words.new ≡ []) }
 {
-    // Room for one: most lists have one part, and a log may have millions of them.
-    let mut items = Vec::with_capacity(alloc, 1)?;
+    let mut items = G::none(alloc);
     let mut met = None;
     while let Some(word) = words.next() {
-        match T::read(least, word) {
-            Ok(item) => items.push(item)?,
+        match G::Part::read(least, word) {
+            Ok(item) => items.add(item)?,
             Err(fault) => meet(&mut met, fault),
         }
     }
@@ -215,31 +273,31 @@ pub fn each_of<T: ListPart>(alloc: Global, least: u32, words: &mut Pieces<'_>) -
 
 /// The parts between commas, or none for a dash.
 #[tactic(auto, unfolding(crate::specs::Reading::list_at))]
-pub fn list_of<T: ListPart>(alloc: Global, least: u32, word: &[u8]) -> Read<Vec<T>>
-    ensures { IfOk result (λ read. map_ok (λ v. v.items) read ≡ list_at (T.reading least) word.now) }
+pub fn list_of<G: GatherParts>(alloc: Global, least: u32, word: &[u8]) -> Read<G>
+    ensures { IfOk result (λ read. map_ok G.parts read ≡ list_at (G.Part.reading least) word.now) }
 {
     if word == b"-".as_slice() {
-        return Ok(Ok(Vec::new(alloc)));
+        return Ok(Ok(G::none(alloc)));
     }
     each_of(alloc, least, &mut Pieces::of(word, b','))
 }
 
 /// The parts that were read, if there are some.
-pub fn at_least_one<T: ListPart>(read: Result<Vec<T>, LineFault>) -> Result<Vec<T>, LineFault>
-    ensures { map_ok (λ v. v.items) result ≡ tested Form has_some (map_ok (λ v. v.items) read) }
+pub fn at_least_one<G: GatherParts>(read: Result<G, LineFault>) -> Result<G, LineFault>
+    ensures { map_ok G.parts result ≡ tested Form has_some (map_ok G.parts read) }
 {
     match read {
-        Ok(parts) if parts.is_empty() => Err(LineFault::Form),
+        Ok(parts) if parts.as_parts().is_empty() => Err(LineFault::Form),
         read => read,
     }
 }
 
 /// The parts that were read, if they ascend.
-pub fn ascending<T: ListPart>(read: Result<Vec<T>, LineFault>) -> Result<Vec<T>, LineFault>
-    ensures { map_ok (λ v. v.items) result ≡ tested Order (ascends T.before) (map_ok (λ v. v.items) read) }
+pub fn ascending<G: GatherParts>(read: Result<G, LineFault>) -> Result<G, LineFault>
+    ensures { map_ok G.parts result ≡ tested Order (ascends G.Part.before) (map_ok G.parts read) }
 {
     match read {
-        Ok(parts) if !ascend(&parts) => Err(LineFault::Order),
+        Ok(parts) if !ascend(parts.as_parts()) => Err(LineFault::Order),
         read => read,
     }
 }
@@ -255,7 +313,7 @@ fn has_colon(word: &[u8]) -> bool
 fn parts_in_order<T: ListPart>(alloc: Global, word: &[u8]) -> Read<ListOf<T>>
     ensures { IfOk result (λ read. read ≡ tested Order (ascends T.before) (list_at (T.reading 0) word.now)) }
 {
-    match ascending(list_of(alloc, 0, word)?) {
+    match ascending(list_of::<Vec<T>>(alloc, 0, word)?) {
         Ok(parts) => Ok(Ok(ListOf::from_vec(parts))),
         Err(fault) => Ok(Err(fault)),
     }

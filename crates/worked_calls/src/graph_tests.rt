@@ -2,9 +2,10 @@
 
 ghost use Rattle.std.specs.Prelude.{◌≡◌, IfOk};
 
-use event_graph::{EventList, Graph, NodeIn, Stuck, are_linked};
+use event_graph::{Graph, NodeIn, Stuck, are_linked};
 use reach_marks::Reach;
 use spare_waits::{SpareList, spare};
+use spy_words::Nums;
 use std::alloc::Global;
 use std::process::Abort;
 use std::test::Fail;
@@ -16,7 +17,7 @@ type Rows = &'static [(u32, &'static [u32])];
 fn nodes_of(alloc: Global, rows: Rows) -> Result<Vec<NodeIn>, Fail> {
     let mut nodes = Vec::new(alloc);
     for (done, waits) in rows {
-        let waits = EventList::from_vec(waits.to_vec(alloc)?);
+        let waits = Nums::from_slice(alloc, waits)?;
         nodes.push(NodeIn { done: *done, waits })?;
     }
     Ok(nodes)
@@ -171,7 +172,7 @@ fn nodes_of_two_blocks(rt: HostRuntime) -> Result<(), Fail> {
         if done > 0 {
             waits.push(done.saturating_sub(1))?;
         }
-        let waits = EventList::from_vec(waits);
+        let waits = Nums::from_slice(alloc, waits.as_slice())?;
         nodes.push(NodeIn { done, waits })?;
     }
     let graph = graph_of(alloc, nodes)?;

@@ -8,7 +8,8 @@ returns-in_ok-add_req-in-Req-clause-ok g c =
       c.in_ok-add_req-in-Req.ensures.ok,
       c.req_count.ensures.count,
       c.place-item.ensures,
-      c.in_ok-copied-in-Req.ensures,
+      c.in_ok-from_slice-in-Req.ensures,
+      c.as_slice.ensures,
       c.priv_of.ensures,
       c.coherence_word.ensures,
     ) refl
