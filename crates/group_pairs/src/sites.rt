@@ -8,7 +8,7 @@ ghost use Rattle.group_pairs.specs.Sites.{IsSite, shared_row, shared_table, shar
 use crate::marks::Marks;
 use crate::side::Side;
 use licences::Claim;
-use log_tables::{Keyed, Rows};
+use log_tables::{BySpace, KeyBy, Rows};
 use memory::Memory;
 use point_set::PointSet;
 use region_tree::{Forest, Path};
@@ -24,16 +24,18 @@ pub(crate) struct Site {
     pub(crate) path: Option<Path>,
 }
 
-impl Keyed<u32> for Site {
+impl KeyBy<Site> for BySpace {
+    type K = u32;
+
     ghost key_of = { λ s. s.space };
 
-    fn key(&self) -> u32 {
-        self.space
+    fn key(row: &Site) -> u32 {
+        row.space
     }
 }
 
 /// The sites, by their spaces.
-pub(crate) type Sites = Rows<u32, Site>;
+pub(crate) type Sites = Rows<BySpace, Site>;
 
 /// The site of a space.
 fn site_of<P: PointSet>(alloc: Global, forest: &Forest<'_, P>, space: u32) -> Result<Site, Memory>

@@ -13,7 +13,7 @@ use crate::uses::{Space, launch_tasks, requirements_in, spaces_in};
 use crate::walk::Lines;
 use arena_sets::ArenaRects;
 use bumpalo::Bump;
-use log_tables::Rows;
+use log_tables::{ById, Rows};
 use memory::Memory;
 use point_set::RectSet;
 use semantics::Fault;
@@ -36,7 +36,7 @@ fn first_by_sets<'b, P: ArenaRects<'b>>(
     ensures { IfOk result (IsLeast
         (BreaksAt (zip lines.now.launched.items (map launch_seen launches.now)) (zip lines.now.written.items written.now))) }
 {
-    let spaces: Rows<u32, Space<P>> = spaces_in(alloc, bump, written, lines.written.as_slice())?;
+    let spaces: Rows<ById, Space<P>> = spaces_in(alloc, bump, written, lines.written.as_slice())?;
     let reqs = requirements_in(alloc, &spaces, written, lines.written.as_slice())?;
     let tasks = launch_tasks(alloc, launches, lines.launched.as_slice())?;
     launch_claims::first_interference(alloc, tasks.as_slice(), reqs.as_slice())

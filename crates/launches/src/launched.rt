@@ -2,7 +2,7 @@
 
 ghost use Rattle.std.specs.Prelude.{◌≡◌};
 
-use log_tables::Keyed;
+use log_tables::{ById, KeyBy};
 use spy_words::Nums;
 
 /// A launch: the id of its first task, and its colours.
@@ -12,10 +12,13 @@ pub(crate) struct Launched {
     pub(crate) colours: Nums,
 }
 
-impl Keyed<u32> for Launched {
+/// The id is that of the first task.
+impl KeyBy<Launched> for ById {
+    type K = u32;
+
     ghost key_of = { λ l. l.base };
 
-    fn key(&self) -> u32 {
-        self.base
+    fn key(row: &Launched) -> u32 {
+        row.base
     }
 }

@@ -12,7 +12,7 @@ use crate::launched::Launched;
 use crate::step::{launch_of, write};
 use crate::tasks::lacks_space;
 use crate::writing::Writing;
-use log_tables::Rows;
+use log_tables::{ById, Rows};
 use memory::Memory;
 use semantics::{MOST_BYTES, MOST_COLOURS, MOST_RECORDS};
 use spy_grammar::{Code, LRecord};
@@ -20,7 +20,7 @@ use std::alloc::Global;
 
 /// Whether a launch has this id.
 #[tactic(auto, using(crate::proofs::Stepping::some_seen))]
-fn has_launch(launches: &Rows<u32, Launched>, base: u32) -> bool
+fn has_launch(launches: &Rows<ById, Launched>, base: u32) -> bool
     requires { All HasTaskIds launches.now }
     ensures { (written : List Record) → result ≡ is_some (launch_of (expanded_as launches.now written) base) }
 {
@@ -28,7 +28,7 @@ fn has_launch(launches: &Rows<u32, Launched>, base: u32) -> bool
 }
 
 /// Whether a launch with this id is missing, or the partition has no subspace under some of its colours.
-fn lacks_some(launches: &Rows<u32, Launched>, writing: &Writing, base: u32, part: u32) -> bool
+fn lacks_some(launches: &Rows<ById, Launched>, writing: &Writing, base: u32, part: u32) -> bool
     requires { All HasTaskIds launches.now }
     ensures { let e = expanded_as launches.now writing.now in
         result ≡ (is_none (launch_of e base)
@@ -48,7 +48,7 @@ fn ids_exceed(base: u32, count: usize) -> bool
 }
 
 /// Whether an earlier launch has the id of this one.
-fn repeats_launch(launches: &Rows<u32, Launched>, rec: &LRecord) -> bool
+fn repeats_launch(launches: &Rows<ById, Launched>, rec: &LRecord) -> bool
     requires { All HasTaskIds launches.now }
     ensures { (written : List Record) → result ≡ repeats_launch (expanded_as launches.now written) rec.now }
 {
@@ -59,7 +59,7 @@ fn repeats_launch(launches: &Rows<u32, Launched>, rec: &LRecord) -> bool
 }
 
 /// Whether an `lreq` names no launch, or has no subspace for some task.
-fn names_no_launch(launches: &Rows<u32, Launched>, writing: &Writing, rec: &LRecord) -> bool
+fn names_no_launch(launches: &Rows<ById, Launched>, writing: &Writing, rec: &LRecord) -> bool
     requires { All HasTaskIds launches.now }
     ensures { result ≡ names_no_launch (expanded_as launches.now writing.now) rec.now }
 {
@@ -80,7 +80,7 @@ fn exceeds_ids(rec: &LRecord) -> bool
 }
 
 /// The first rule that a record breaks of those that are tried before it is written.
-fn early_broken(launches: &Rows<u32, Launched>, writing: &Writing, rec: &LRecord) -> Option<Code>
+fn early_broken(launches: &Rows<ById, Launched>, writing: &Writing, rec: &LRecord) -> Option<Code>
     requires { All HasTaskIds launches.now }
     ensures { result ≡ find (breaks_launch (expanded_as launches.now writing.now) rec.now) early_rules }
 {
@@ -111,7 +111,7 @@ fn late_broken(writing: &Writing) -> Option<Code>
 
 /// Adds what one record more launches and writes; or the first rule that it breaks by itself.
 pub(crate) fn advance(
-    launches: &mut Rows<u32, Launched>,
+    launches: &mut Rows<ById, Launched>,
     writing: &mut Writing,
     alloc: Global,
     rec: LRecord,

@@ -12,13 +12,13 @@ ghost use Rattle.launches.specs.Steps.{AreGood, HasTaskIds, expanded_as, launch_
 use crate::launched::Launched;
 use crate::tasks::{TaskReqs, push_reqs, push_tasks};
 use crate::writing::Writing;
-use log_tables::Rows;
+use log_tables::{ById, Rows};
 use memory::Memory;
 use spy_grammar::{LRecord, Record};
 use std::alloc::Global;
 
 /// The first launch with this id.
-pub(crate) fn launch_of(launches: &Rows<u32, Launched>, base: u32) -> Option<&Launched>
+pub(crate) fn launch_of(launches: &Rows<ById, Launched>, base: u32) -> Option<&Launched>
     requires { All HasTaskIds launches.now }
     ensures first { option_map (λ l. launch_seen l.now) result
         ≡ find (λ l. l.base == base) (map launch_seen launches.now) }
@@ -66,7 +66,7 @@ fn write_plain(writing: &mut Writing, alloc: Global, rec: Record) -> Result<(), 
 
 /// Writes the tasks of a launch, and notes it.
 fn write_launch(
-    launches: &mut Rows<u32, Launched>,
+    launches: &mut Rows<ById, Launched>,
     writing: &mut Writing,
     alloc: Global,
     launch: Launched,
@@ -84,7 +84,7 @@ fn write_launch(
 
 /// Writes the requirements of the tasks of a launch.
 fn write_reqs(
-    launches: &Rows<u32, Launched>,
+    launches: &Rows<ById, Launched>,
     writing: &mut Writing,
     alloc: Global,
     base: u32,
@@ -106,7 +106,7 @@ fn write_reqs(
 
 /// Adds what one record more launches and writes.
 pub(crate) fn write(
-    launches: &mut Rows<u32, Launched>,
+    launches: &mut Rows<ById, Launched>,
     writing: &mut Writing,
     alloc: Global,
     rec: LRecord,

@@ -12,7 +12,7 @@ use crate::launched::Launched;
 use arena_sets::ArenaRects;
 use bumpalo::Bump;
 use launch_claims::{LaunchTasks, Requirement};
-use log_tables::{Keyed, Rows, priv_of, rects_of, strips_of};
+use log_tables::{ById, KeyBy, Rows, priv_of, rects_of, strips_of};
 use memory::Memory;
 use point_set::{PointSet, Rect};
 use spy_grammar::Record;
@@ -26,11 +26,13 @@ pub(crate) struct Space<P: PointSet + Copy> {
     pub(crate) line: u32,
 }
 
-impl<P: PointSet + Copy> Keyed<u32> for Space<P> {
+impl<P: PointSet + Copy> KeyBy<Space<P>> for ById {
+    type K = u32;
+
     ghost key_of = { λ s. s.id };
 
-    fn key(&self) -> u32 {
-        self.id
+    fn key(row: &Space<P>) -> u32 {
+        row.id
     }
 }
 
@@ -77,7 +79,7 @@ fn space_in<'b, P: ArenaRects<'b>>(
 fn push_space<'b, P: ArenaRects<'b>>(
     alloc: Global,
     bump: &'b Bump,
-    spaces: &mut Rows<u32, Space<P>>,
+    spaces: &mut Rows<ById, Space<P>>,
     rec: &Record,
     line: u32,
 ) -> Result<(), Memory>
@@ -97,7 +99,7 @@ pub(crate) fn spaces_in<'b, P: ArenaRects<'b>>(
     bump: &'b Bump,
     written: &[Record],
     lines: &[u32],
-) -> Result<Rows<u32, Space<P>>, Memory>
+) -> Result<Rows<ById, Space<P>>, Memory>
     requires good { All Good written.now }
     requires lines { length lines.now ≤ length written.now }
     ensures { IfOk result (λ spaces. map (space_seen P.points) spaces
@@ -111,7 +113,7 @@ pub(crate) fn spaces_in<'b, P: ArenaRects<'b>>(
 }
 
 /// The first space with this id.
-fn space_of<P: PointSet + Copy>(spaces: &Rows<u32, Space<P>>, id: u32) -> Option<Space<P>>
+fn space_of<P: PointSet + Copy>(spaces: &Rows<ById, Space<P>>, id: u32) -> Option<Space<P>>
     ensures { result ≡ find (λ s. s.id == id) spaces.now }
 {
     spaces.get(id).copied()
@@ -119,7 +121,7 @@ fn space_of<P: PointSet + Copy>(spaces: &Rows<u32, Space<P>>, id: u32) -> Option
 
 /// The requirement that a record states, if it states one on a declared space.
 fn requirement_in<'w, P: PointSet + Copy>(
-    spaces: &Rows<u32, Space<P>>,
+    spaces: &Rows<ById, Space<P>>,
     rec: &'w Record,
     line: u32,
 ) -> Option<Requirement<'w, P>>
@@ -154,7 +156,7 @@ fn requirement_in<'w, P: PointSet + Copy>(
 /// Adds the requirement that a record states, if it states one on a declared space.
 fn push_requirement<'w, P: PointSet + Copy>(
     reqs: &mut Vec<Requirement<'w, P>>,
-    spaces: &Rows<u32, Space<P>>,
+    spaces: &Rows<ById, Space<P>>,
     rec: &'w Record,
     line: u32,
 ) -> Result<(), Memory>
@@ -170,7 +172,7 @@ fn push_requirement<'w, P: PointSet + Copy>(
 /// The requirements that these records state on declared spaces.
 pub(crate) fn requirements_in<'w, P: PointSet + Copy>(
     alloc: Global,
-    spaces: &Rows<u32, Space<P>>,
+    spaces: &Rows<ById, Space<P>>,
     written: &'w [Record],
     lines: &[u32],
 ) -> Result<Vec<Requirement<'w, P>>, Memory>

@@ -9,7 +9,7 @@ ghost use Rattle.launches.specs.Walks.{HasWalked};
 use crate::launched::Launched;
 use crate::rules::advance;
 use crate::writing::Writing;
-use log_tables::Rows;
+use log_tables::{ById, Rows};
 use memory::Memory;
 use semantics::Fault;
 use spy_grammar::LLined;
@@ -25,7 +25,7 @@ pub(crate) struct Lines {
 /// What is launched and written by the records up to the first that breaks a rule by itself, and the fault of that one.
 #[derive(Drop)]
 pub(crate) struct Walked {
-    pub(crate) launches: Rows<u32, Launched>,
+    pub(crate) launches: Rows<ById, Launched>,
     pub(crate) writing: Writing,
     pub(crate) lines: Lines,
     pub(crate) fault: Option<Fault>,

@@ -7,7 +7,7 @@ ghost use Rattle.semantics.specs.Launches.{space_under};
 ghost use Rattle.launches.specs.Written.{Tells, is_inner};
 
 use crate::declaring::{declare, space_of_step};
-use log_tables::{Rows, Step};
+use log_tables::{ByStep, Rows};
 use memory::Memory;
 use semantics::{MOST_BYTES, MOST_RECORDS, Sub};
 use spy_grammar::{Record, write_record};
@@ -19,7 +19,7 @@ use std::marker::Model;
 /// The subspaces that they declare are looked up, and not gone through. The two counts stay at the greatest `u64` where they would pass it.
 #[derive(Drop)]
 pub(crate) struct Writing {
-    subs: Rows<Step, Sub>,
+    subs: Rows<ByStep, Sub>,
     written: Vec<Record>,
     /// How many are neither header nor end.
     inner: u64,

@@ -11,7 +11,7 @@ ghost use Rattle.log_limits.specs.Corners.{corner_total, corners_of, space_corne
 use arena_sets::SetOfRects;
 use cell_counts::{corner_count, corner_points};
 use grid::Grid;
-use log_tables::{Keyed, LogTables, Rows, Space};
+use log_tables::{ById, KeyBy, LogTables, Rows, Space};
 use memory::Memory;
 use point_set::PointSet;
 use std::alloc::Global;
@@ -24,11 +24,13 @@ pub(crate) struct SpaceCorners {
     pub(crate) count: u128,
 }
 
-impl Keyed<u32> for SpaceCorners {
+impl KeyBy<SpaceCorners> for ById {
+    type K = u32;
+
     ghost key_of = { λ s. s.id };
 
-    fn key(&self) -> u32 {
-        self.id
+    fn key(row: &SpaceCorners) -> u32 {
+        row.id
     }
 }
 
@@ -36,7 +38,7 @@ impl Keyed<u32> for SpaceCorners {
 #[derive(Drop)]
 pub struct Corners {
     grid: Grid,
-    rows: Rows<u32, SpaceCorners>,
+    rows: Rows<ById, SpaceCorners>,
 }
 
 impl Model for Corners {
@@ -62,7 +64,7 @@ fn counted<P: SetOfRects>(
     alloc: Global,
     grid: &Grid,
     spaces: &[Space<P>],
-) -> Result<Rows<u32, SpaceCorners>, Memory>
+) -> Result<Rows<ById, SpaceCorners>, Memory>
     ensures { IfOk result (λ rows. (all : List Rect) → grid.now ≡ grid_of all
         → rows ≡ map (space_corners all) (map (space_seen P.points) spaces.now)) }
 {

@@ -1,9 +1,10 @@
 -- One row more, whose place is noted.
-use Rattle.std.proofs.Common.{◌≡◌, ℕ, ◌+◌, ◌<◌, Bool, List, [], ◌∷◌, ◌++◌, Option, Some, None, IfSome, cond, length, take, get_or, ap, sym, subst, ◌∙◌, arith}
+use Rattle.std.proofs.Common.{◌≡◌, ℕ, ◌+◌, ◌<◌, Bool, List, [], ◌∷◌, ◌++◌, Option, Some, None, Result, Ok, Err, OnOk, IsOk, true, false, cond, length, take, get_or, ap, sym, subst, ◌∙◌, arith}
 use Rattle.std.specs.List.{position_from}
 use Rattle.std.specs.Option.{option_or}
+use Rattle.std.proofs.lemmas.Bool.{false≢true}
 use Rattle.std.proofs.lemmas.List.{take_more, length-take-le}
-use Rattle.log_tables.specs.Noted.{NotesFirst, HoldsPlaces, AreBoth}
+use Rattle.log_tables.specs.Noted.{Finds, NotesFirst, HoldsPlaces}
 use Rattle.list_lemmas.proofs.lemmas.Places.{position_more}
 
 pub place_noted : {K T : Type 0} (eq : K → K → Bool) (key_of : T → K) (old new : K → Option ℕ) (rows : List T) (row : T) (key : K)
@@ -27,23 +28,16 @@ next_noted eq key_of old new rows i row key held noted same lt at =
     subst (HoldsPlaces eq key_of new) (sym (take_more rows i row lt ∙ ap (λ x. take i rows ++ x ∷ []) (sym at)))
     (place_noted eq key_of old new (take i rows) row key i held noted same (sym (length-take-le i rows (omega (arith, lt)))))
 
--- One row more, where places may not be noted at all.
-pub index_noted : {M K T : Type 0} (get : M → K → Option ℕ) (eq : K → K → Bool) (key_of : T → K) (old new : Option M) (rows more : List T)
-    (row : T) (key : K) (place : ℕ)
-    → IfSome old (λ m. HoldsPlaces eq key_of (get m) rows) → AreBoth old new (λ a b. NotesFirst (get a) (get b) (eq key) place)
-    → key ≡ key_of row → place ≡ length rows → more ≡ rows ++ row ∷ []
-    → IfSome new (λ m. HoldsPlaces eq key_of (get m) more)
-index_noted get eq key_of None None rows more row key place held noted same last is = tt
-index_noted get eq key_of None (Some b) rows more row key place held noted same last is = absurd noted
-index_noted get eq key_of (Some a) None rows more row key place held noted same last is = absurd noted
-index_noted get eq key_of (Some a) (Some b) rows more row key place held noted same last is =
-    subst (HoldsPlaces eq key_of (get b)) (sym is) (place_noted eq key_of (get a) (get b) rows row key place held noted same last)
+-- The same of rows that are found by what is noted.
+pub found_noted : {M K T : Type 0} (get : M → K → Option ℕ) (eq : K → K → Bool) (number_of : K → ℕ) (key_of : T → K) (ascend : Bool)
+    (first : Option ℕ) (old new : M) (rows : List T) (row : T) (key : K) (place : ℕ) → ascend ≡ false
+    → Finds get eq number_of key_of ascend first old rows → NotesFirst (get old) (get new) (eq key) place → key ≡ key_of row → place ≡ length rows
+    → Finds get eq number_of key_of ascend first new (rows ++ row ∷ [])
+found_noted get eq number_of key_of true first old new rows row key place none held noted same last = absurd (false≢true (sym none))
+found_noted get eq number_of key_of false first old new rows row key place none held noted same last =
+    place_noted eq key_of (get old) (get new) rows row key place held noted same last
 
--- The same places, in another table.
-pub index_kept : {M K T : Type 0} (get : M → K → Option ℕ) (eq : K → K → Bool) (key_of : T → K) (old new : Option M) (rows : List T)
-    → IfSome old (λ m. HoldsPlaces eq key_of (get m) rows) → AreBoth old new (λ a b. (q : K) → get b q ≡ get a q)
-    → IfSome new (λ m. HoldsPlaces eq key_of (get m) rows)
-index_kept get eq key_of None None rows held same = tt
-index_kept get eq key_of None (Some b) rows held same = absurd same
-index_kept get eq key_of (Some a) None rows held same = absurd same
-index_kept get eq key_of (Some a) (Some b) rows held same = λ q. same q ∙ held q
+-- A clause on what is `Ok` holds of what cannot fail.
+pub from_ok : {A E : Type 0} (r : Result A E) (P : Type 0) → OnOk r P → IsOk r → P
+from_ok (Ok x) P p is = p
+from_ok (Err e) P p is = absurd (false≢true is)

@@ -1,5 +1,5 @@
--- What is noted of keys, as a function from a key to what is looked up.
-use Rattle.std.specs.Prelude.{◌≡◌, ℕ, ◌+◌, Bool, List, Option, Some, None, if◌then◌else◌, slice_get, ⊤}
+-- What is noted of keys, as a function from a key to what is looked up, and how rows are found by it.
+use Rattle.std.specs.Prelude.{◌≡◌, ℕ, ◌+◌, ◌<◌, Bool, true, false, List, Option, Some, None, IfSome, if◌then◌else◌, nat_lt, slice_get}
 use Rattle.std.specs.List.{position_from}
 use Rattle.std.specs.Option.{option_or}
 
@@ -17,8 +17,27 @@ module _ {K : Type 0} where
   AreNumbered {T} number_of key_of first rows = (i : ℕ) (row : T) → slice_get rows i ≡ Some row
       → number_of (key_of row) ≡ first + i
 
--- Both are there, and this holds of them, or neither is.
-abbrev pub AreBoth : {A : Type 0} → Option A → Option A → (A → A → Type 0) → Type 0
-AreBoth (Some a) (Some b) P = P a b
-AreBoth None None P = ⊤
-AreBoth a b P = ⊥
+  -- The numbers of the keys of rows ascend.
+  abbrev pub AreAscending : {T : Type 0} → (K → ℕ) → (T → K) → List T → Type 0
+  AreAscending {T} number_of key_of rows = (i j : ℕ) (row later : T) → i < j → slice_get rows i ≡ Some row
+      → slice_get rows j ≡ Some later → number_of (key_of row) < number_of (key_of later)
+
+  -- Whether the number of a row's key is below another.
+  abbrev pub is_below : {T : Type 0} → (K → ℕ) → (T → K) → ℕ → T → Bool
+  is_below number_of key_of number row = nat_lt (number_of (key_of row)) number
+
+  -- Rows are found so: if their numbers ascend, by these, and else by what is noted.
+  abbrev pub Finds : {M T : Type 0} → (M → K → Option ℕ) → (K → K → Bool) → (K → ℕ) → (T → K)
+      → Bool → Option ℕ → M → List T → Type 0
+  Finds get eq number_of key_of true first noted rows =
+      AreAscending number_of key_of rows × IfSome first (λ n. AreNumbered number_of key_of n rows)
+  Finds get eq number_of key_of false first noted rows = HoldsPlaces eq key_of (get noted) rows
+
+  -- If it is said of rows that their numbers ascend, or follow a first one, they do.
+  abbrev pub IsPlan : {T : Type 0} → (K → ℕ) → (T → K) → Bool → Option ℕ → List T → Type 0
+  IsPlan number_of key_of ascend first rows = ascend ≡ true
+      → AreAscending number_of key_of rows × IfSome first (λ n. AreNumbered number_of key_of n rows)
+
+-- Where the numbers are not to ascend any more, keys are noted already, and one more can be.
+abbrev pub HasRoom : Bool → Bool → ℕ → Type 0
+HasRoom planned ascend spare = planned ≡ false → (ascend ≡ false) × (0 < spare)

@@ -1,14 +1,13 @@
 //! The entries of the tables, and their keys.
 
-ghost use Rattle.std.specs.Prelude.{◌≡◌, nat_eq, unwrap_or};
-ghost use Rattle.std.proofs.lemmas.Bool.{and_parts, eqb-true};
-ghost use Rattle.log_tables.specs.Alike.{alike_options};
+ghost use Rattle.std.specs.Prelude.{◌≡◌, ◌+◌, ◌-◌, ◌*◌, ◌^◌, min, unwrap_or};
+ghost use Rattle.std.proofs.lemmas.Bool.{eqb-true};
+ghost use Rattle.log_tables.specs.Alike.{alike_options, alike_pairs};
 ghost use Rattle.std.specs.List.Sorted.{IsStrictlyIncreasing};
 ghost use Rattle.log_tables.specs.Regions.{step_of};
 ghost use Rattle.log_tables.specs.Runs.{item_run, task_named};
 
-use crate::rows::{Key, Keyed};
-use crate::two_rows::AlsoKeyed;
+use crate::keys::{Key, KeyBy};
 use semantics::{FieldSpace, Inst, Item, ItemBody, LogNode, Op, Part, Req, Sub, Tree};
 use spy_words::Nums;
 
@@ -43,25 +42,27 @@ impl Key for u32 {
     }
 }
 
-/// The colour is the number.
+/// The partition counts before the colour.
 impl Key for Step {
-    ghost number_of = { λ s. s.colour };
+    ghost number_of = { λ s. s.part * 2 ^ 32 + s.colour };
 
-    ghost alike = { λ a b same. eqb-true a.colour b.colour (and_parts (nat_eq a.part b.part) (nat_eq a.colour b.colour) same).1 };
+    ghost alike = { λ a b same. alike_pairs (λ p c. p * 2 ^ 32 + c) a.part b.part a.colour b.colour same };
 
     fn number(&self) -> usize {
-        self.colour as usize
+        ((self.part as usize) << 32) + self.colour as usize
     }
 }
 
-/// The number of the requirement is the number.
+/// The item counts before the number of the requirement.
 impl Key for ReqKey {
-    ghost number_of = { λ r. r.number };
+    ghost number_of = { λ r. min (min (r.item * 2 ^ 32) (2 ^ 64 - 1) + r.number) (2 ^ 64 - 1) };
 
-    ghost alike = { λ a b same. eqb-true a.number b.number (and_parts (nat_eq a.item b.item) (nat_eq a.number b.number) same).1 };
+    ghost alike = { λ a b same. alike_pairs (λ i n. min (min (i * 2 ^ 32) (2 ^ 64 - 1) + n) (2 ^ 64 - 1)) a.item b.item a.number b.number same };
 
     fn number(&self) -> usize {
-        self.number as usize
+        self.item
+            .saturating_mul(1 << 32)
+            .saturating_add(self.number as usize)
     }
 }
 
@@ -85,113 +86,157 @@ impl Key for Option<u32> {
     }
 }
 
-impl Keyed<u32> for u32 {
+/// By the id of what is declared.
+pub struct ById;
+
+/// By the space that a partition cuts, that a subspace is, or that a tree spans.
+pub struct BySpace;
+
+/// By the partition and the colour of a subspace.
+pub struct ByStep;
+
+/// By the item of a requirement, and its number there.
+pub struct ByNumber;
+
+/// By the id of a task alone.
+pub struct ByTask;
+
+/// By the item that a node runs.
+pub struct ByRun;
+
+impl KeyBy<u32> for ById {
+    type K = u32;
+
     ghost key_of = { λ n. n };
 
-    fn key(&self) -> u32 {
-        *self
+    fn key(row: &u32) -> u32 {
+        *row
     }
 }
 
-impl<P> Keyed<u32> for Space<P> {
+impl<P> KeyBy<Space<P>> for ById {
+    type K = u32;
+
     ghost key_of = { λ s. s.id };
 
-    fn key(&self) -> u32 {
-        self.id
+    fn key(row: &Space<P>) -> u32 {
+        row.id
     }
 }
 
-impl Keyed<u32> for Part {
+impl KeyBy<Part> for ById {
+    type K = u32;
+
     ghost key_of = { λ p. p.id };
 
-    fn key(&self) -> u32 {
-        self.id
+    fn key(row: &Part) -> u32 {
+        row.id
     }
 }
 
-impl Keyed<Step> for Sub {
-    ghost key_of = { step_of };
+impl KeyBy<FieldSpace> for ById {
+    type K = u32;
 
-    fn key(&self) -> Step {
-        Step {
-            part: self.part,
-            colour: self.colour,
-        }
-    }
-}
-
-impl Keyed<u32> for FieldSpace {
     ghost key_of = { λ f. f.id };
 
-    fn key(&self) -> u32 {
-        self.id
+    fn key(row: &FieldSpace) -> u32 {
+        row.id
     }
 }
 
-impl Keyed<u32> for Tree {
+impl KeyBy<Tree> for ById {
+    type K = u32;
+
     ghost key_of = { λ r. r.id };
 
-    fn key(&self) -> u32 {
-        self.id
+    fn key(row: &Tree) -> u32 {
+        row.id
     }
 }
 
-impl Keyed<u32> for Item {
+impl KeyBy<Item> for ById {
+    type K = u32;
+
     ghost key_of = { λ i. i.id };
 
-    fn key(&self) -> u32 {
-        self.id
+    fn key(row: &Item) -> u32 {
+        row.id
     }
 }
 
-impl Keyed<ReqKey> for Req {
-    ghost key_of = { λ r. record { item = r.item; number = r.number } };
+impl KeyBy<Inst> for ById {
+    type K = u32;
 
-    fn key(&self) -> ReqKey {
-        ReqKey {
-            item: self.item,
-            number: self.number,
+    ghost key_of = { λ i. i.id };
+
+    fn key(row: &Inst) -> u32 {
+        row.id
+    }
+}
+
+impl KeyBy<LogNode> for ById {
+    type K = u32;
+
+    ghost key_of = { λ n. n.done };
+
+    fn key(row: &LogNode) -> u32 {
+        row.done
+    }
+}
+
+impl KeyBy<Sub> for ByStep {
+    type K = Step;
+
+    ghost key_of = { step_of };
+
+    fn key(row: &Sub) -> Step {
+        Step {
+            part: row.part,
+            colour: row.colour,
         }
     }
 }
 
-impl Keyed<u32> for Inst {
-    ghost key_of = { λ i. i.id };
+impl KeyBy<Req> for ByNumber {
+    type K = ReqKey;
 
-    fn key(&self) -> u32 {
-        self.id
+    ghost key_of = { λ r. record { item = r.item; number = r.number } };
+
+    fn key(row: &Req) -> ReqKey {
+        ReqKey {
+            item: row.item,
+            number: row.number,
+        }
     }
 }
 
-impl Keyed<u32> for LogNode {
-    ghost key_of = { λ n. n.done };
+impl KeyBy<Part> for BySpace {
+    type K = u32;
 
-    fn key(&self) -> u32 {
-        self.done
+    ghost key_of = { λ p. p.space };
+
+    fn key(row: &Part) -> u32 {
+        row.space
     }
 }
 
-impl AlsoKeyed<u32> for Part {
-    ghost also_of = { λ p. p.space };
+impl KeyBy<Sub> for BySpace {
+    type K = u32;
 
-    fn also(&self) -> u32 {
-        self.space
+    ghost key_of = { λ s. s.space };
+
+    fn key(row: &Sub) -> u32 {
+        row.space
     }
 }
 
-impl AlsoKeyed<u32> for Sub {
-    ghost also_of = { λ s. s.space };
+impl KeyBy<Tree> for BySpace {
+    type K = u32;
 
-    fn also(&self) -> u32 {
-        self.space
-    }
-}
+    ghost key_of = { λ r. r.space };
 
-impl AlsoKeyed<u32> for Tree {
-    ghost also_of = { λ r. r.space };
-
-    fn also(&self) -> u32 {
-        self.space
+    fn key(row: &Tree) -> u32 {
+        row.space
     }
 }
 
@@ -205,11 +250,13 @@ fn run_item(op: &Op) -> Option<usize>
     }
 }
 
-impl AlsoKeyed<Option<usize>> for LogNode {
-    ghost also_of = { λ n. item_run n.op };
+impl KeyBy<LogNode> for ByRun {
+    type K = Option<usize>;
 
-    fn also(&self) -> Option<usize> {
-        run_item(&self.op)
+    ghost key_of = { λ n. item_run n.op };
+
+    fn key(row: &LogNode) -> Option<usize> {
+        run_item(&row.op)
     }
 }
 
@@ -223,10 +270,12 @@ fn task_id(item: &Item) -> Option<u32>
     }
 }
 
-impl AlsoKeyed<Option<u32>> for Item {
-    ghost also_of = { task_named };
+impl KeyBy<Item> for ByTask {
+    type K = Option<u32>;
 
-    fn also(&self) -> Option<u32> {
-        task_id(self)
+    ghost key_of = { task_named };
+
+    fn key(row: &Item) -> Option<u32> {
+        task_id(row)
     }
 }

@@ -11,7 +11,7 @@ ghost use Rattle.log_tables.specs.Mapped.{inst_mapped};
 ghost use Rattle.log_tables.specs.Regions.{regions_of};
 ghost use Rattle.log_tables.specs.Views.{space_seen};
 
-use crate::entries::Space;
+use crate::entries::{ById, Space};
 use crate::maps::FieldKey;
 use crate::regions::Decls;
 use crate::rows::Rows;
@@ -19,7 +19,7 @@ use crate::tables::LogTables;
 use point_set::{PointSet, Rect};
 use semantics::{FieldSpace, Inst, Item, LogNode, Map, Part, Req, Serial, Tree};
 
-fn place_in(items: &Rows<u32, Item>, id: u32) -> usize
+fn place_in(items: &Rows<ById, Item>, id: u32) -> usize
     ensures { result ≡ place_of items.now id }
 {
     match items.place(id) {

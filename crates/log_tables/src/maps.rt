@@ -5,7 +5,7 @@ ghost use Rattle.indexmap.specs.IndexMap.{get, spare};
 ghost use Rattle.log_tables.specs.Mapped.{same_field, inst_mapped, names_field};
 ghost use Rattle.log_tables.specs.Noted.{NotesFirst};
 
-use crate::rows::note_first;
+use crate::places::note_first;
 use indexmap::IndexMap;
 use semantics::Map;
 use std::alloc::{AllocError, Global};

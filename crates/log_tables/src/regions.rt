@@ -5,7 +5,7 @@ ghost use Rattle.std.specs.Option.{option_map};
 ghost use Rattle.log_tables.specs.Regions.{space_of, part_of, declared_points, space_points, IsSetOf, whole_of, parent_of};
 ghost use Rattle.log_tables.specs.Views.{space_seen};
 
-use crate::entries::{Space, Step};
+use crate::entries::{ById, BySpace, ByStep, Space};
 use crate::rows::Rows;
 use crate::two_rows::TwoRows;
 use point_set::PointSet;
@@ -16,9 +16,9 @@ use std::marker::Model;
 /// Declared spaces, partitions and subspaces, as they grow. Contracts see them as three lists. A look-up takes constant time, and finds the first of several.
 #[derive(Drop)]
 pub struct Decls<P: PointSet> {
-    spaces: Rows<u32, Space<P>>,
-    parts: TwoRows<u32, u32, Part>,
-    subs: TwoRows<Step, u32, Sub>,
+    spaces: Rows<ById, Space<P>>,
+    parts: TwoRows<ById, BySpace, Part>,
+    subs: TwoRows<ByStep, BySpace, Sub>,
 }
 
 impl<P: PointSet> Model for Decls<P> {
@@ -40,21 +40,6 @@ impl<P: PointSet> Decls<P> {
             spaces: Rows::new(alloc),
             parts: TwoRows::new(alloc),
             subs: TwoRows::new(alloc),
-        }
-    }
-
-    /// The declarations in these three lists. It cannot fail: without memory for the places of ids, each look-up goes through a list.
-    pub fn from_vecs(spaces: Vec<Space<P>>, parts: Vec<Part>, subs: Vec<Sub>) -> Decls<P>
-        ensures { result ≡ record {
-          spaces = map (space_seen P.points) spaces.items;
-          parts = parts.items;
-          subs = subs.items;
-        } }
-    {
-        Decls {
-            spaces: Rows::from_vec(spaces),
-            parts: TwoRows::from_vec(parts),
-            subs: TwoRows::from_vec(subs),
         }
     }
 
@@ -88,21 +73,21 @@ impl<P: PointSet> Decls<P> {
     }
 
     /// The spaces, by their ids.
-    pub fn spaces(&self) -> &Rows<u32, Space<P>>
+    pub fn spaces(&self) -> &Rows<ById, Space<P>>
         ensures { map (space_seen P.points) result.now ≡ self.now.spaces }
     {
         &self.spaces
     }
 
     /// The partitions, by their ids and by the spaces that they cut.
-    pub fn parts(&self) -> &TwoRows<u32, u32, Part>
+    pub fn parts(&self) -> &TwoRows<ById, BySpace, Part>
         ensures { result.now ≡ self.now.parts }
     {
         &self.parts
     }
 
     /// The subspaces, by their steps and by their spaces.
-    pub fn subs(&self) -> &TwoRows<Step, u32, Sub>
+    pub fn subs(&self) -> &TwoRows<ByStep, BySpace, Sub>
         ensures { result.now ≡ self.now.subs }
     {
         &self.subs

@@ -5,7 +5,7 @@ ghost use Rattle.std.specs.List.{position_from};
 ghost use Rattle.std.specs.Option.{option_copied};
 ghost use Rattle.vocabulary.specs.Prelude.{reqs_before};
 
-use crate::entries::ReqKey;
+use crate::entries::{ByNumber, ReqKey};
 use crate::rows::Rows;
 use indexmap::IndexMap;
 use semantics::Req;
@@ -15,7 +15,7 @@ use std::marker::Model;
 /// Requirements, in the order in which they were added.
 #[derive(Drop)]
 pub struct Reqs {
-    rows: Rows<ReqKey, Req>,
+    rows: Rows<ByNumber, Req>,
     counts: IndexMap<usize, usize>,
 }
 

@@ -7,6 +7,7 @@ ghost use Rattle.log_tables.specs.Ascending.{body_fields};
 ghost use Rattle.log_tables.specs.Views.{Declares};
 ghost use Rattle.spy_grammar.specs.declared.record.Record.TheVariants as records;
 
+use crate::entries::{ById, ByRun, BySpace, ByTask};
 use crate::maps::Maps;
 use crate::regions::Decls;
 use crate::reqs::Reqs;
@@ -22,15 +23,15 @@ use std::marker::Model;
 #[derive(Drop)]
 pub struct LogTables<P: PointSet> {
     pub(crate) regions: Decls<P>,
-    pub(crate) field_spaces: Rows<u32, FieldSpace>,
-    pub(crate) trees: TwoRows<u32, u32, Tree>,
-    pub(crate) operators: Rows<u32, u32>,
-    pub(crate) items: TwoRows<u32, Option<u32>, Item>,
+    pub(crate) field_spaces: Rows<ById, FieldSpace>,
+    pub(crate) trees: TwoRows<ById, BySpace, Tree>,
+    pub(crate) operators: Rows<ById, u32>,
+    pub(crate) items: TwoRows<ById, ByTask, Item>,
     pub(crate) reqs: Reqs,
     pub(crate) serials: Vec<Serial>,
-    pub(crate) insts: Rows<u32, Inst>,
+    pub(crate) insts: Rows<ById, Inst>,
     pub(crate) maps: Maps,
-    pub(crate) nodes: TwoRows<u32, Option<usize>, LogNode>,
+    pub(crate) nodes: TwoRows<ById, ByRun, LogNode>,
     pub(crate) version: u32,
     pub(crate) rects: Vec<Rect>,
 }

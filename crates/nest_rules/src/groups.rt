@@ -8,7 +8,7 @@ ghost use Rattle.spy_grammar.specs.declared.nested.NRecord.TheVariants as nested
 ghost use Rattle.semantics.specs.Nesting.{is_group, no_nesting, privileges_before, with_nested};
 
 use indexmap::IndexMap;
-use log_tables::{Rows, priv_of};
+use log_tables::{ById, Rows, priv_of};
 use semantics::{Group, GroupMember, GroupReq, MOST_RECORDS};
 use spy_grammar::NRecord;
 use std::alloc::{AllocError, Global};
@@ -21,10 +21,10 @@ pub struct Groups {
     privileges: Vec<GroupReq>,
     members: Vec<GroupMember>,
     /// The ids of the groups, and how many privileges each has.
-    ids: Rows<u32, u32>,
+    ids: Rows<ById, u32>,
     counts: IndexMap<u32, usize>,
     /// The tasks of the members.
-    tasks: Rows<u32, u32>,
+    tasks: Rows<ById, u32>,
 }
 
 impl Model for Groups {

@@ -3,16 +3,16 @@
 ghost use Rattle.std.specs.Prelude.{◌≡◌, [], OnOk};
 ghost use Rattle.nest_rules.specs.Pending.{knows_by, with_ids};
 
-use log_tables::Rows;
+use log_tables::{ById, Rows};
 use spy_grammar::{NRecord, Record};
 use std::alloc::{AllocError, Global};
 
 /// The ids of the spaces, trees and tasks that are declared so far.
 #[derive(Drop)]
 pub(crate) struct Ids {
-    pub(crate) spaces: Rows<u32, u32>,
-    pub(crate) trees: Rows<u32, u32>,
-    pub(crate) tasks: Rows<u32, u32>,
+    pub(crate) spaces: Rows<ById, u32>,
+    pub(crate) trees: Rows<ById, u32>,
+    pub(crate) tasks: Rows<ById, u32>,
 }
 
 impl Ids {

@@ -97,7 +97,7 @@ fn are_subs_shallow<P: PointSet>(decls: &Decls<P>) -> bool
 
 /// Whether the declarations make a forest: ids are distinct, names are declared, no two subspaces have one place or one space, and no space lies below itself or more than 64 steps deep.
 ///
-/// It takes no memory. It is quick where the declarations have a table of their ids, as they have but where `Decls::from_vecs` had no memory for one; else each declaration costs a pass over all.
+/// It takes no memory.
 pub fn is_forest<P: PointSet>(decls: &Decls<P>) -> bool
     ensures { IsTrue result ↔ IsForest decls.now }
 {

@@ -58,28 +58,27 @@ fn space<'a>(arena: &'a Bump, id: u32, first: u64, last: u64) -> Option<Space<Ru
 
 /// Space 1 has ten points, and a disjoint partition: the first five, and those from `first` on.
 fn halves<'a>(alloc: Global, arena: &'a Bump, first: u64) -> Option<Decls<RunSet<'a>>> {
-    let mut spaces = Vec::new(alloc);
-    spaces.push(space(arena, 1, 0, 9)?).ok()?;
-    spaces.push(space(arena, 2, 0, 4)?).ok()?;
-    spaces.push(space(arena, 3, first, 9)?).ok()?;
-    let mut parts = Vec::new(alloc);
-    parts
-        .push(Part {
+    let mut decls = Decls::new(alloc);
+    decls.add_space(space(arena, 1, 0, 9)?).ok()?;
+    decls.add_space(space(arena, 2, 0, 4)?).ok()?;
+    decls.add_space(space(arena, 3, first, 9)?).ok()?;
+    decls
+        .add_part(Part {
             id: 1,
             space: 1,
             disjoint: true,
         })
         .ok()?;
-    let mut subs = Vec::new(alloc);
     for space in 2..4u32 {
-        subs.push(Sub {
-            part: 1,
-            colour: space,
-            space,
-        })
-        .ok()?;
+        decls
+            .add_sub(Sub {
+                part: 1,
+                colour: space,
+                space,
+            })
+            .ok()?;
     }
-    Some(Decls::from_vecs(spaces, parts, subs))
+    Some(decls)
 }
 
 /// Whether the forest of two halves answers, or else the subspace that is refused, and its least point at fault.

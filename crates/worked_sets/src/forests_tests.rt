@@ -63,31 +63,30 @@ fn trees<P: SetOfRects + Copy, F: Fn(u64) -> Option<P>>(
 ) -> Option<Decls<P>>
     requires { F.IsAlwaysCallable set_of }
 {
-    let mut spaces = Vec::new(alloc);
-    let mut parts = Vec::new(alloc);
-    let mut subs = Vec::new(alloc);
+    let mut decls = Decls::new(alloc);
     for (id, bits, _, steps) in SPACES {
         let set = set_of(bits)?;
-        spaces.push(Space { id, set }).ok()?;
+        decls.add_space(Space { id, set }).ok()?;
         if let Some((part, colour)) = steps.last().copied() {
-            subs.push(Sub {
-                part,
-                colour,
-                space: id,
-            })
-            .ok()?;
+            decls
+                .add_sub(Sub {
+                    part,
+                    colour,
+                    space: id,
+                })
+                .ok()?;
         }
     }
     for (id, space, disjoint) in PARTS {
-        parts
-            .push(Part {
+        decls
+            .add_part(Part {
                 id,
                 space,
                 disjoint,
             })
             .ok()?;
     }
-    Some(Decls::from_vecs(spaces, parts, subs))
+    Some(decls)
 }
 
 /// Whether a path goes by these steps.
@@ -184,31 +183,30 @@ fn cut<'a, P: ArenaSet<'a>>(
     whole: u64,
     pieces: &[u64],
 ) -> Option<Decls<P>> {
-    let mut spaces = Vec::new(alloc);
+    let mut decls = Decls::new(alloc);
     let set = drawn_set(alloc, arena, whole)?;
-    spaces.push(Space { id: 1, set }).ok()?;
-    let mut parts = Vec::new(alloc);
-    parts
-        .push(Part {
+    decls.add_space(Space { id: 1, set }).ok()?;
+    decls
+        .add_part(Part {
             id: 1,
             space: 1,
             disjoint,
         })
         .ok()?;
-    let mut subs = Vec::new(alloc);
     let mut id = 1u32;
     for piece in pieces {
         id = id.saturating_add(1);
         let set = drawn_set(alloc, arena, *piece)?;
-        spaces.push(Space { id, set }).ok()?;
-        subs.push(Sub {
-            part: 1,
-            colour: id,
-            space: id,
-        })
-        .ok()?;
+        decls.add_space(Space { id, set }).ok()?;
+        decls
+            .add_sub(Sub {
+                part: 1,
+                colour: id,
+                space: id,
+            })
+            .ok()?;
     }
-    Some(Decls::from_vecs(spaces, parts, subs))
+    Some(decls)
 }
 
 /// Which way a forest is refused, if it is: 1 for a point outside, 2 for a shared one; the subspace, the other one and the point.

@@ -1,4 +1,5 @@
-use Rattle.std.proofs.Common.{◌≡◌, ◌++◌, List, refl, sym, ap, ◌∙◌, subst}
+use Rattle.std.proofs.Common.{◌≡◌, ◌++◌, List, append-nil, arith, refl, sym, ap, ◌∙◌, subst}
+use Rattle.std.proofs.lemmas.List.{nil_from_length}
 use Rattle.std.specs.Vec.Iter.{into_iter_items}
 use Rattle.vocabulary.specs.Prelude.{Lined, no_tables}
 use Rattle.spy_grammar.specs.declared.nested.NLined.{NLined}
@@ -46,3 +47,10 @@ loop-l-preserved c =
             ≡ pending_from no_tables c.args.records.items) here.0 inv.nested.2),
       );
     }
+
+pub returns-clause-plain : goal.returns-clause-plain
+returns-clause-plain c =
+    let parts = c.loop-l.parts.plain.items in
+    let none = c.in-None.ensures.steps in
+    sym (append-nil parts)
+    ∙ subst (λ (ls : List NLined). parts ++ plain_log ls ≡ plain_log c.args.records.items) (nil_from_length (into_iter_items c.loop-l.l-iterator) (omega (arith, none.0, c.loop-l.l-iterator.rest.ok.0))) c.loop-l.invariant.plain
