@@ -7,7 +7,7 @@ use Rattle.inst_steps.specs.declared.sweep.Sweep.{Sweep}
 use Rattle.inst_steps.specs.declared.spot.Spot.{Spot}
 use Rattle.inst_steps.specs.declared.iterator.At.{At}
 use Rattle.inst_steps.specs.Grids.{grid_from}
-use Rattle.inst_steps.specs.Sweeps.{Pass, pass, passes_of, actions_of_pass, action_at}
+use Rattle.inst_steps.specs.Sweeps.{Pass, pass, passes_of, actions_of_pass, action_at, inst_for}
 
 -- What the node at a position does, move by move.
 abbrev pub moves_at : Tables → ℕ → List Move
@@ -27,10 +27,18 @@ pass_seen s = pass s.act s.space s.fields.now
 abbrev pub IsWithin : {S : Type 0} → Spot S → Type 0
 IsWithin s = s.place < length s.fields.now
 
+-- A spot has the instance of its act in its field.
+abbrev pub HasInst : {S : Type 0} → Tables → Spot S → Type 0
+HasInst t s = s.inst ≡ inst_for t s.act (slice_index s.fields.now s.place)
+
 module _ {S : Type 0} (points : S → List ℕ) where
   -- A spot is at a point of its set, and at one of its fields.
   abbrev pub IsSpot : Spot S → Type 0
   IsSpot s = Contains (points s.set) s.point × IsWithin s
+
+  -- It is so, and it has the instance of its act in that field.
+  abbrev pub IsSpotOf : Tables → Spot S → Type 0
+  IsSpotOf t s = IsSpot s × HasInst t s
 
   -- The points and fields from a spot on.
   abbrev pub spot_grid : Spot S → List (ℕ × ℕ)
@@ -55,8 +63,8 @@ abbrev pub rest_actions : Tables → Op → ℕ → List Action
 rest_actions t op k = flat_map (actions_of_pass t) (drop k (passes_of t op))
 
 module _ {S : Type 0} (points : S → List ℕ) where
-  abbrev pub IsAt : Option (At S) → Type 0
-  IsAt at = IfSome at (λ (a : At S). IsSpot points a.spot)
+  abbrev pub IsAt : Tables → Option (At S) → Type 0
+  IsAt t at = IfSome at (λ (a : At S). IsSpotOf points t a.spot)
 
   -- What is left to do from where an operation stands.
   abbrev pub left_from : Tables → Op → At S → List Action

@@ -10,11 +10,22 @@ use Rattle.inst_steps.specs.declared.act.Act.{Act}
 use Rattle.inst_steps.specs.declared.act.Action.{Action}
 use Rattle.inst_steps.specs.declared.act.Act.TheVariants as acts
 
+-- The instance to which a field of a requirement is mapped, and 0 where none is.
+abbrev pub mapped_inst : Tables → ℕ → ℕ → ℕ → ℕ
+mapped_inst t item number field =
+    unwrap_or (inst_mapped t.maps (record { item = item; number = number; field = field })) 0
+
 -- The cell to which a point and a field of a requirement are mapped. The requirement is named by its item and
 -- number.
 abbrev pub cell_of : Tables → ℕ → ℕ → ℕ × ℕ → Cell
-cell_of t item number p =
-    cell_in (unwrap_or (inst_mapped t.maps (record { item = item; number = number; field = p.1 })) 0) p
+cell_of t item number p = cell_in (mapped_inst t item number p.1) p
+
+-- The instance to which an act of a task is mapped in a field.
+abbrev pub inst_for : Tables → Act → ℕ → ℕ
+inst_for t (acts.Read task item number req) field = mapped_inst t item number field
+inst_for t (acts.Write task item number req) field = mapped_inst t item number field
+inst_for t (acts.Reduce task item number req op) field = mapped_inst t item number field
+inst_for t _ field = 0
 
 -- What an act does at a point and a field.
 abbrev pub move_at : Tables → Act → ℕ × ℕ → Move

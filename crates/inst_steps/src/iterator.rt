@@ -5,7 +5,7 @@ ghost use Rattle.std.specs.Iterator.{YieldsFirst, item_count};
 ghost use Rattle.std.specs.List.{AllByRecursion};
 ghost use Rattle.listed_sets.specs.Meant.{listed_points};
 ghost use Rattle.inst_steps.specs.Acting.{IsBy, IsOwn, steps_in};
-ghost use Rattle.inst_steps.specs.Stepping.{AreNumbered, IsSpot, IsAt, at_left, rest_actions, moves_at, spot_here, spot_actions};
+ghost use Rattle.inst_steps.specs.Stepping.{AreNumbered, IsSpotOf, IsAt, at_left, rest_actions, moves_at, spot_here, spot_actions};
 ghost use Rattle.inst_steps.specs.Sweeps.{action_at, passes_of, pass_at, actions_of_pass};
 
 use crate::act::Action;
@@ -42,7 +42,7 @@ impl<'l, 'a, 'p, P: PointSet + Copy> Model for Actions<'l, 'a, 'p, P> {
 
     ghost view = { λ s. at_left listed_points s.log s.op.now s.at };
 
-    ghost invariant = { λ s. AreNumbered s.log × IsAt listed_points s.at };
+    ghost invariant = { λ s. AreNumbered s.log × IsAt listed_points s.log s.at };
 }
 
 /// The moves of a node that are left, in order. No call takes memory.
@@ -76,13 +76,13 @@ fn sweep_start<'l, 'p, P: PointSet + Copy>(
     k: usize,
 ) -> Option<Spot<'l, Listed<'l, 'p, P>>>
     requires { AreNumbered log.now }
-    ensures spot { IfSome result (IsSpot listed_points) }
+    ensures spot { IfSome result (IsSpotOf listed_points log.now) }
     ensures actions { spot_actions listed_points log.now result
         ≡ actions_of_pass log.now (pass_at (passes_of log.now op.now) k) }
 {
     let sweep = sweep_at(log, op, k)?;
     match log.set(sweep.space) {
-        Some(set) => first_spot(sweep.act, set, sweep.fields),
+        Some(set) => first_spot(log, sweep.act, set, sweep.fields),
         None => None,
     }
 }
@@ -94,7 +94,7 @@ fn start_from<'l, 'p, P: PointSet + Copy>(
     from: usize,
 ) -> Option<At<'l, Listed<'l, 'p, P>>>
     requires { AreNumbered log.now }
-    ensures at { IsAt listed_points result }
+    ensures at { IsAt listed_points log.now result }
     ensures actions { at_left listed_points log.now op.now result
         ≡ rest_actions log.now op.now from }
 {
@@ -113,13 +113,13 @@ fn after<'l, 'p, P: PointSet + Copy>(
     at: &At<'l, Listed<'l, 'p, P>>,
 ) -> Option<At<'l, Listed<'l, 'p, P>>>
     requires numbers { AreNumbered log.now }
-    requires at { IsAt listed_points (Some at.now) }
-    ensures at { IsAt listed_points result }
+    requires at { IsAt listed_points log.now (Some at.now) }
+    ensures at { IsAt listed_points log.now result }
     ensures actions { at_left listed_points log.now op.now (Some at.now)
         ≡ action_at log.now at.now.spot.act (spot_here at.now.spot)
         ∷ at_left listed_points log.now op.now result }
 {
-    match next_spot(&at.spot) {
+    match next_spot(log, &at.spot) {
         Some(spot) => Some(At {
             spot,
             rest: at.rest,
@@ -137,7 +137,7 @@ impl<'l, 'a, 'p, P: PointSet + Copy> Iterator for Actions<'l, 'a, 'p, P> {
 
     fn next(&mut self) -> Option<Action> {
         let at = self.at?;
-        let action = action_here(&self.log, &at.spot);
+        let action = action_here(&at.spot);
         self.at = after(&self.log, self.op, &at);
         Some(action)
     }

@@ -1,16 +1,16 @@
 //! Where a sweep stands.
 
-ghost use Rattle.std.specs.Prelude.{◌≡◌, [], ◌∷◌, ◌++◌, IfSome, IfNone};
-ghost use Rattle.vocabulary.specs.Prelude.{grid};
-ghost use Rattle.inst_steps.specs.Stepping.{IsSpot, spot_here, spot_grid, spots_left, IsWithin};
-ghost use Rattle.inst_steps.specs.Sweeps.{action_at, move_at, cell_of, req_in};
+ghost use Rattle.std.specs.Prelude.{◌≡◌, [], ◌∷◌, ◌++◌, IfSome, IfNone, slice_index};
+ghost use Rattle.vocabulary.specs.Prelude.{Tables, grid};
+ghost use Rattle.inst_steps.specs.Stepping.{HasInst, IsSpotOf, spot_here, spot_grid, spots_left, IsWithin};
+ghost use Rattle.inst_steps.specs.Sweeps.{action_at, inst_for, move_at, req_in};
 
 use crate::act::{Act, Action};
 use cut_logs::CutLog;
 use point_set::{PointSet, next_after};
 use semantics::{Cell, Move};
 
-/// A point of a set and a field, by its place, at which an act is done next.
+/// A point of a set and a field, by its place, at which an act is done next, and the instance to which a task's act is mapped in that field.
 #[derive(Clone, Copy)]
 pub(crate) struct Spot<'l, S: PointSet + Copy> {
     pub(crate) act: Act,
@@ -18,15 +18,30 @@ pub(crate) struct Spot<'l, S: PointSet + Copy> {
     pub(crate) fields: &'l [u32],
     pub(crate) point: u64,
     pub(crate) place: usize,
+    pub(crate) inst: u32,
+}
+
+/// The instance to which an act of a task is mapped in a field.
+fn inst_for<P: PointSet + Copy>(log: &CutLog<'_, '_, '_, P>, act: Act, field: u32) -> u32
+    ensures { result ≡ inst_for log.now act field }
+{
+    let mapped = match act {
+        Act::Read { item, number, .. }
+        | Act::Write { item, number, .. }
+        | Act::Reduce { item, number, .. } => log.inst_of_item(item, number, field),
+        _ => None,
+    };
+    mapped.unwrap_or(0)
 }
 
 /// The first point of a set and the first field.
-pub(crate) fn first_spot<'l, S: PointSet + Copy>(
+pub(crate) fn first_spot<'l, P: PointSet + Copy, S: PointSet + Copy>(
+    log: &CutLog<'_, '_, '_, P>,
     act: Act,
     set: S,
     fields: &'l [u32],
 ) -> Option<Spot<'l, S>>
-    ensures spot { IfSome result (IsSpot S.points) }
+    ensures spot { IfSome result (IsSpotOf S.points log.now) }
     ensures act { IfSome result (λ s. s.act ≡ act) }
     ensures grid { spots_left S.points result ≡ grid (S.points set) fields.now }
 {
@@ -40,15 +55,19 @@ pub(crate) fn first_spot<'l, S: PointSet + Copy>(
             fields,
             point,
             place: 0,
+            inst: inst_for(log, act, fields[0]),
         }),
         None => None,
     }
 }
 
-/// The field after this one, or the first field of the point after.
-pub(crate) fn next_spot<'l, S: PointSet + Copy>(spot: &Spot<'l, S>) -> Option<Spot<'l, S>>
-    requires { IsSpot S.points spot.now }
-    ensures spot { IfSome result (IsSpot S.points) }
+/// The field after this one, or the first field of the point after. The instance is looked up only where the field is another.
+pub(crate) fn next_spot<'l, P: PointSet + Copy, S: PointSet + Copy>(
+    log: &CutLog<'_, '_, '_, P>,
+    spot: &Spot<'l, S>,
+) -> Option<Spot<'l, S>>
+    requires { IsSpotOf S.points log.now spot.now }
+    ensures spot { IfSome result (IsSpotOf S.points log.now) }
     ensures act { IfSome result (λ s. s.act ≡ spot.now.act) }
     ensures grid { spot_grid S.points spot.now ≡ spot_here spot.now ∷ spots_left S.points result }
 {
@@ -59,6 +78,7 @@ pub(crate) fn next_spot<'l, S: PointSet + Copy>(spot: &Spot<'l, S>) -> Option<Sp
             fields: spot.fields,
             point: spot.point,
             place: spot.place + 1,
+            inst: inst_for(log, spot.act, spot.fields[spot.place + 1]),
         });
     }
     match next_after(&spot.set, spot.point) {
@@ -68,26 +88,25 @@ pub(crate) fn next_spot<'l, S: PointSet + Copy>(spot: &Spot<'l, S>) -> Option<Sp
             fields: spot.fields,
             point,
             place: 0,
+            inst: first_inst(log, spot),
         }),
         None => None,
     }
 }
 
-/// The cell to which a point and a field of a requirement are mapped.
-fn cell_of<P: PointSet + Copy>(
+/// The instance of a spot's act in its first field.
+fn first_inst<P: PointSet + Copy, S: PointSet + Copy>(
     log: &CutLog<'_, '_, '_, P>,
-    item: usize,
-    number: u32,
-    point: u64,
-    field: u32,
-) -> Cell
-    ensures { result ≡ cell_of log.now item number (point, field) }
+    spot: &Spot<'_, S>,
+) -> u32
+    requires within { IsWithin spot.now }
+    requires inst { HasInst log.now spot.now }
+    ensures { result ≡ inst_for log.now spot.now.act (slice_index spot.now.fields.now 0) }
 {
-    let inst = match log.inst_of_item(item, number, field) {
-        Some(inst) => inst,
-        None => 0,
-    };
-    Cell { inst, point, field }
+    if spot.place == 0 {
+        return spot.inst;
+    }
+    inst_for(log, spot.act, spot.fields[0])
 }
 
 /// The cell of an instance.
@@ -97,38 +116,22 @@ fn cell_in(inst: u32, point: u64, field: u32) -> Cell
     Cell { inst, point, field }
 }
 
-/// What an act does at a point and a field.
-pub(crate) fn move_at<P: PointSet + Copy>(
-    log: &CutLog<'_, '_, '_, P>,
-    act: Act,
-    point: u64,
-    field: u32,
-) -> Move
-    ensures { result ≡ move_at log.now act (point, field) }
+/// What an act does at a point and a field, where this is the instance to which it is mapped if it is of a task.
+fn move_in(inst: u32, act: Act, point: u64, field: u32) -> Move
+    ensures { (t : Tables) → inst ≡ inst_for t act field → result ≡ move_at t act (point, field) }
 {
     match act {
-        Act::Read {
-            task,
-            item,
-            number,
-            ..
-        } => Move::Read {
+        Act::Read { task, number, .. } => Move::Read {
             task,
             req: number,
-            cell: cell_of(log, item, number, point, field),
+            cell: cell_in(inst, point, field),
         },
-        Act::Write {
+        Act::Write { task, .. } => Move::Write {
             task,
-            item,
-            number,
-            ..
-        } => Move::Write {
-            task,
-            cell: cell_of(log, item, number, point, field),
+            cell: cell_in(inst, point, field),
         },
         Act::Reduce {
             task,
-            item,
             number,
             op,
             ..
@@ -136,7 +139,7 @@ pub(crate) fn move_at<P: PointSet + Copy>(
             task,
             req: number,
             op,
-            cell: cell_of(log, item, number, point, field),
+            cell: cell_in(inst, point, field),
         },
         Act::Copy { src, dst } => Move::Copy {
             from: cell_in(src, point, field),
@@ -157,6 +160,18 @@ pub(crate) fn move_at<P: PointSet + Copy>(
     }
 }
 
+/// What an act does at a point and a field.
+pub(crate) fn move_at<P: PointSet + Copy>(
+    log: &CutLog<'_, '_, '_, P>,
+    act: Act,
+    point: u64,
+    field: u32,
+) -> Move
+    ensures { result ≡ move_at log.now act (point, field) }
+{
+    move_in(inst_for(log, act, field), act, point, field)
+}
+
 /// The position of the requirement by which a run acts.
 fn req_in(act: Act) -> Option<usize>
     ensures { result ≡ req_in act }
@@ -170,15 +185,13 @@ fn req_in(act: Act) -> Option<usize>
 }
 
 /// What is done where a sweep stands.
-pub(crate) fn action_here<P: PointSet + Copy, S: PointSet + Copy>(
-    log: &CutLog<'_, '_, '_, P>,
-    spot: &Spot<'_, S>,
-) -> Action
+pub(crate) fn action_here<S: PointSet + Copy>(spot: &Spot<'_, S>) -> Action
     requires { IsWithin spot.now }
-    ensures { result ≡ action_at log.now spot.now.act (spot_here spot.now) }
+    ensures { (t : Tables) → HasInst t spot.now → result ≡ action_at t spot.now.act (spot_here spot.now) }
 {
+    let field = spot.fields[spot.place];
     Action {
         req: req_in(spot.act),
-        step: move_at(log, spot.act, spot.point, spot.fields[spot.place]),
+        step: move_in(spot.inst, spot.act, spot.point, field),
     }
 }

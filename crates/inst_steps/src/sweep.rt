@@ -1,10 +1,9 @@
 //! The sweeps of an operation, by their places.
 
-ghost use Rattle.std.specs.Prelude.{◌≡◌, ℕ, ◌<◌, ◌≤◌, ◌+◌, ◌^◌, ◌≢◌, length, slice_get, option_map};
-ghost use Rattle.std.specs.Option.{option_copied};
-ghost use Rattle.vocabulary.specs.Prelude.{reqs_of, id_of, operator_held, operator_of};
+ghost use Rattle.std.specs.Prelude.{◌≡◌, ℕ, ◌<◌, ◌≤◌, ◌+◌, ◌^◌, ◌≢◌, IfSome, Some, length, slice_get, option_map};
+ghost use Rattle.vocabulary.specs.Prelude.{Tables, reqs_of, id_of, operator_held, operator_of};
 ghost use Rattle.inst_steps.specs.Stepping.{AreNumbered, pass_seen};
-ghost use Rattle.inst_steps.specs.Sweeps.{reading, changing, pass_for, passes_of, pass_at};
+ghost use Rattle.inst_steps.specs.Sweeps.{own_place, reading, changing, pass_for, passes_of, pass_at};
 
 use crate::act::Act;
 use cut_logs::CutLog;
@@ -21,38 +20,45 @@ pub(crate) struct Sweep<'l> {
     pub(crate) fields: &'l [u32],
 }
 
+/// A requirement, and its position.
+#[derive(Clone, Copy)]
+struct OwnReq<'l> {
+    req: &'l Req,
+    place: usize,
+}
+
 /// How a task reads for a requirement.
-fn reading<P: PointSet + Copy>(log: &CutLog<'_, '_, '_, P>, task: u32, req: &Req) -> Option<Act>
-    ensures { result ≡ reading log.now task req.now }
+fn reading(task: u32, own: OwnReq<'_>) -> Option<Act>
+    ensures { (t : Tables) → own_place t own.entry.req.now ≡ Some own.entry.place → result ≡ reading t task own.entry.req.now }
 {
-    match req.access {
+    match own.req.access {
         Priv::Ro | Priv::Rw => Some(Act::Read {
             task,
-            item: req.item,
-            number: req.number,
-            req: log.req_place(req.item, req.number),
+            item: own.req.item,
+            number: own.req.number,
+            req: Some(own.place),
         }),
         Priv::Wd | Priv::Red(_) => None,
     }
 }
 
 /// How a task changes for a requirement.
-fn changing<P: PointSet + Copy>(log: &CutLog<'_, '_, '_, P>, task: u32, req: &Req) -> Option<Act>
-    ensures { result ≡ changing log.now task req.now }
+fn changing(task: u32, own: OwnReq<'_>) -> Option<Act>
+    ensures { (t : Tables) → own_place t own.entry.req.now ≡ Some own.entry.place → result ≡ changing t task own.entry.req.now }
 {
-    match req.access {
+    match own.req.access {
         Priv::Ro => None,
         Priv::Rw | Priv::Wd => Some(Act::Write {
             task,
-            item: req.item,
-            number: req.number,
-            req: log.req_place(req.item, req.number),
+            item: own.req.item,
+            number: own.req.number,
+            req: Some(own.place),
         }),
         Priv::Red(op) => Some(Act::Reduce {
             task,
-            item: req.item,
-            number: req.number,
-            req: log.req_place(req.item, req.number),
+            item: own.req.item,
+            number: own.req.number,
+            req: Some(own.place),
             op,
         }),
     }
@@ -98,12 +104,15 @@ fn own_req<'l, P: PointSet + Copy>(
     log: &CutLog<'l, '_, '_, P>,
     item: usize,
     k: usize,
-) -> Option<&'l Req>
+) -> Option<OwnReq<'l>>
     requires numbers { AreNumbered log.now }
     requires place { k < length (reqs_of log.now item) }
-    ensures { option_copied result ≡ slice_get (reqs_of log.now item) k }
+    ensures req { option_map (λ own. own.req.now) result ≡ slice_get (reqs_of log.now item) k }
+    ensures place { IfSome result (λ own. own_place log.now own.req.now ≡ Some own.place) }
 {
-    log.req(item, k as u32 + 1)
+    let place = log.req_place(item, k as u32 + 1)?;
+    let req = log.reqs().get(place)?;
+    Some(OwnReq { req, place })
 }
 
 /// How many requirements an item has.
@@ -119,7 +128,10 @@ pub(crate) fn sweep_count<P: PointSet + Copy>(log: &CutLog<'_, '_, '_, P>, op: &
     ensures { result ≡ length (passes_of log.now op.now) }
 {
     match op {
-        Op::Run { item } => own_count(log, *item) + own_count(log, *item),
+        Op::Run { item } => {
+            let count = own_count(log, *item);
+            count + count
+        }
         Op::Merge => 0,
         _ => 1,
     }
@@ -137,12 +149,12 @@ fn sweep_of_run<'l, P: PointSet + Copy>(
     let count = own_count(log, item);
     let task = id_of(log, item);
     if k < count {
-        let req = own_req(log, item, k)?;
-        return sweep_for(req, reading(log, task, req));
+        let own = own_req(log, item, k)?;
+        return sweep_for(own.req, reading(task, own));
     }
     if k - count < count {
-        let req = own_req(log, item, k - count)?;
-        return sweep_for(req, changing(log, task, req));
+        let own = own_req(log, item, k - count)?;
+        return sweep_for(own.req, changing(task, own));
     }
     None
 }

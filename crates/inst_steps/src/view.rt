@@ -133,6 +133,20 @@ fn viewed_cell<P: PointSet + Copy>(log: &Log<'_, P>, req: usize, point: u64, fie
 }
 
 impl<'s, 'a, P: PointSet + Copy, V: Reads> View<'s, 'a, P, V> {
+    /// The number of what a cell holds to which the requirement is mapped.
+    pub fn get_at(&self, cell: &Cell) -> usize
+        requires mapped { viewed_cell self.now.log.now self.now.req cell.now.point cell.now.field ≡ cell.now }
+        requires there { map.contains_key self.now.store.now.cells cell.now ≡ true }
+        ensures known { result < length self.now.store.now.values }
+        ensures value { map.get self.now.store.now.cells cell.now
+            ≡ Some (value_at self.now.store.now.values result) }
+    {
+        match self.store.number(cell) {
+            Some(number) => number,
+            None => unreachable!(),
+        }
+    }
+
     /// The number of what the cell of a point and a field holds.
     pub fn get(&self, point: u64, field: u32) -> usize
         requires { map.contains_key self.now.store.now.cells
@@ -143,14 +157,26 @@ impl<'s, 'a, P: PointSet + Copy, V: Reads> View<'s, 'a, P, V> {
             ≡ Some (value_at self.now.store.now.values result) }
     {
         let cell = viewed_cell(self.log, self.req, point, field);
-        match self.store.number(&cell) {
-            Some(number) => number,
-            None => unreachable!(),
-        }
+        self.get_at(&cell)
     }
 }
 
 impl<'s, 'a, P: PointSet + Copy, V: Writes> View<'s, 'a, P, V> {
+    /// Puts the value of a number into a cell to which the requirement is mapped, and into no other.
+    pub fn set_at(&mut self, cell: &Cell, number: usize)
+        requires mapped { viewed_cell self.old.log.now self.old.req cell.now.point cell.now.field ≡ cell.now }
+        requires there { map.contains_key self.old.store.now.cells cell.now ≡ true }
+        requires known { number < length self.old.store.now.values }
+        ensures store { self.new.store.now.cells ≡ map.insert self.old.store.now.cells cell.now
+            (value_at self.old.store.now.values number) }
+        ensures values { self.new.store.now.values ≡ self.old.store.now.values }
+        ensures same_reference { self.new.store.ghost_name ≡ self.old.store.ghost_name }
+        ensures log { self.new.log.now ≡ self.old.log.now }
+        ensures req { self.new.req ≡ self.old.req }
+    {
+        self.store.put(*cell, number);
+    }
+
     /// Puts the value of a number into the cell of a point and a field, and into no other.
     pub fn set(&mut self, point: u64, field: u32, number: usize)
         requires there { map.contains_key self.old.store.now.cells
@@ -165,11 +191,29 @@ impl<'s, 'a, P: PointSet + Copy, V: Writes> View<'s, 'a, P, V> {
         ensures req { self.new.req ≡ self.old.req }
     {
         let cell = viewed_cell(self.log, self.req, point, field);
-        self.store.put(cell, number);
+        self.set_at(&cell, number);
     }
 }
 
 impl<'s, 'a, P: PointSet + Copy, V: Folds> View<'s, 'a, P, V> {
+    /// Adds a contribution once to a cell to which the requirement is mapped, and to no other, with the operator of the privilege. Where memory runs out the cells hold what they held.
+    pub fn fold_in_at(&mut self, cell: &Cell, c: Contribution) -> Result<(), Memory>
+        requires mapped { viewed_cell self.old.log.now self.old.req cell.now.point cell.now.field ≡ cell.now }
+        requires there { map.contains_key self.old.store.now.cells cell.now ≡ true }
+        requires fits { weight_of (value_in self.old.store.now.cells cell.now) < 2 ^ 64 - 1 }
+        ensures ok { OnOk result (self.new.store.now.cells
+            ≡ with_added self.old.store.now.cells cell.now (V.op self.old.privilege) c) }
+        ensures err { OnErr result (self.new.store.now.cells ≡ self.old.store.now.cells) }
+        ensures kept { Keeps self.old.store.now.values self.new.store.now.values }
+        ensures same_reference { self.new.store.ghost_name ≡ self.old.store.ghost_name }
+        ensures log { self.new.log.now ≡ self.old.log.now }
+        ensures req { self.new.req ≡ self.old.req }
+        ensures privilege { self.new.privilege ≡ self.old.privilege }
+    {
+        let op = self.privilege.op();
+        self.store.add(*cell, op, c)
+    }
+
     /// Adds a contribution once to the cell of a point and a field, and to no other, with the operator of the privilege. Where memory runs out the cells hold what they held.
     pub fn fold_in(&mut self, point: u64, field: u32, c: Contribution) -> Result<(), Memory>
         requires there { map.contains_key self.old.store.now.cells
@@ -187,7 +231,6 @@ impl<'s, 'a, P: PointSet + Copy, V: Folds> View<'s, 'a, P, V> {
         ensures privilege { self.new.privilege ≡ self.old.privilege }
     {
         let cell = viewed_cell(self.log, self.req, point, field);
-        let op = self.privilege.op();
-        self.store.add(cell, op, c)
+        self.fold_in_at(&cell, c)
     }
 }

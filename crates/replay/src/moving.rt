@@ -176,8 +176,8 @@ impl<'r, 'a, P: PointSet + Copy> Replay<'r, 'a, P> {
     {
         let cell = reading.cell;
         match privilege_of(self.log, req) {
-            Some(Priv::Ro) => store.view_ro(self.log, req).get(cell.point, cell.field),
-            Some(Priv::Rw) => store.view_rw(self.log, req).get(cell.point, cell.field),
+            Some(Priv::Ro) => store.view_ro(self.log, req).get_at(&cell),
+            Some(Priv::Rw) => store.view_rw(self.log, req).get_at(&cell),
             _ => unreachable!(),
         }
     }
@@ -219,11 +219,11 @@ impl<'r, 'a, P: PointSet + Copy> Replay<'r, 'a, P> {
         match privilege_of(self.log, req) {
             Some(Priv::Rw) => {
                 let mut view = store.view_rw(self.log, req);
-                view.set(cell.point, cell.field, number);
+                view.set_at(cell, number);
             }
             Some(Priv::Wd) => {
                 let mut view = store.view_wd(self.log, req);
-                view.set(cell.point, cell.field, number);
+                view.set_at(cell, number);
             }
             _ => unreachable!(),
         }
@@ -278,7 +278,7 @@ impl<'r, 'a, P: PointSet + Copy> Replay<'r, 'a, P> {
                 ..
             } => {
                 let mut view = store.view_red(self.log, own.req);
-                view.fold_in(cell.point, cell.field, Contribution { task, req: number })?;
+                view.fold_in_at(&cell, Contribution { task, req: number })?;
                 Ok(())
             }
             _ => unreachable!(),

@@ -7,13 +7,13 @@ pub returns-in-None-clause-grid : goal.returns-in-None-clause-grid
 returns-in-None-clause-grid g c =
     let s = c.args.spot.now in
     let points = g.S.PointSet.points s.set in
-    grid_last points s.fields.now s.point s.place c.requires.1 (omega (arith, c.if-spot.false))
+    grid_last points s.fields.now s.point s.place c.requires.0.1 (omega (arith, c.if-spot.false))
     ∙ ap (λ ps. spot_here s ∷ ps) (grid_over points s.fields.now s.point c.in-None.ensures)
 
 pub returns-in-Some-clause-grid : goal.returns-in-Some-clause-grid
 returns-in-Some-clause-grid g c =
     let s = c.args.spot.now in
     let points = g.S.PointSet.points s.set in
-    grid_last points s.fields.now s.point s.place c.requires.1 (omega (arith, c.if-spot.false))
+    grid_last points s.fields.now s.point s.place c.requires.0.1 (omega (arith, c.if-spot.false))
     ∙ ap (λ ps. spot_here s ∷ ps) (grid_next points s.fields.now s.point c.in-Some.point
     (g.met.S.PointSet.ascends s.set) c.in-Some.ensures)
