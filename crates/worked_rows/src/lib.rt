@@ -12,6 +12,8 @@ mod examples;
 #[cfg(test)]
 mod halos;
 #[cfg(test)]
+mod ids;
+#[cfg(test)]
 mod many_requirements;
 #[cfg(test)]
 mod rows;
