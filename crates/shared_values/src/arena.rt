@@ -25,6 +25,8 @@ pub struct Arena {
     table: HashMap<Key, usize>,
     /// For each number one that is known to stand for an equal value: a lesser one, or itself.
     alike: Vec<usize>,
+    /// A number that was given last, which is often asked for next.
+    last: usize,
 }
 
 impl Model for Arena {
@@ -76,6 +78,7 @@ impl Arena {
             nodes: Vec::new(alloc),
             table: HashMap::new(alloc),
             alike: Vec::new(alloc),
+            last: 0,
         }
     }
 
@@ -91,6 +94,9 @@ impl Arena {
         ensures { IfSome result (λ id. (id < length self.now)
             × (value_at self.now id ≡ made self.now node)) }
     {
+        if stands_at(&self.nodes, self.last, node) {
+            return Some(self.last);
+        }
         let key = key_of(node);
         let id = match self.table.get(&key) {
             Some(id) => *id,
@@ -110,9 +116,11 @@ impl Arena {
         ensures kept { Keeps self.old self.new }
     {
         if let Some(id) = self.found(node) {
+            self.last = id;
             return Ok(id);
         }
         let id = self.nodes.as_slice().len();
+        self.last = id;
         self.nodes.reserve(1)?;
         self.table.insert(key_of(node), id)?;
         self.alike.reserve(1)?;
