@@ -3,13 +3,16 @@
 //! Whoever goes over the steps of nodes adds what each accesses (`push_cell_accesses`), and `shown_race` gives the
 //! race at the least cell, exactly where there is one. At one cell neighbours that do not conflict form
 //! groups, and a node is compared with a whole group at once; that this finds the same race is the law
-//! `groups_tell`. `unordered_places` asks the same groups which nodes are not in turn, by an order of their own.
+//! `groups_tell`. `are_free_by_chains` asks whether chains of one wait or two show that there is none, which takes no marks.
+//! `unordered_places` asks the same groups which nodes are not in turn, by an order of their own.
 //! Begin with `scan.rt`; `frontier.rt` has the groups of one cell.
 #![tactic(auto)]
 
 mod access;
 mod cell_accesses;
 mod cell_scan;
+mod chained;
+mod chains;
 mod frontier;
 mod laws;
 mod node_accesses;
@@ -18,6 +21,7 @@ mod turns;
 
 pub use access::{Access, NodeAccess};
 pub use cell_accesses::{CellAccess, push_cell_accesses, sort_cell_accesses};
+pub use chained::are_free_by_chains;
 pub use laws::{first_race_is_first, groups_tell};
 pub use scan::{FoundRace, cell_end, shown_race};
 pub use turns::unordered_places;

@@ -2,3 +2,4 @@ mod Collected
 mod Placed
 mod Tied
 mod ShownCut
+mod Ordered

@@ -1,0 +1,88 @@
+//! Whether no two nodes race, as far as short chains of waits show it.
+
+ghost use Rattle.std.specs.Prelude.{◌≡◌, ◌<◌, true, All, IfOk, length};
+ghost use Rattle.std.specs.List.Sorted.{IsPermutation};
+ghost use Rattle.event_graph.specs.Orders.{IsOrderOf};
+ghost use Rattle.cell_races.specs.CellAccesses.{AreInOrder};
+ghost use Rattle.cell_races.specs.Chained.{AreInTurn, IsFreeOf};
+
+use crate::access::NodeAccess;
+use crate::cell_accesses::{CellAccess, sort_cell_accesses};
+use crate::frontier::Frontier;
+use crate::node_accesses::list_node_accesses;
+use crate::scan::cell_end;
+use event_graph::{Graph, Order};
+use std::alloc::{AllocError, Global};
+
+/// How many waits are looked at for each access, on average at most.
+const STEPS_EACH: usize = 8;
+
+/// Whether short chains show of nodes in replay order that each comes after all with which it conflicts. The groups are made anew in the room of earlier ones.
+fn are_in_turn(
+    frontier: &mut Frontier,
+    graph: &Graph,
+    node_accesses: &[NodeAccess],
+    steps: &mut usize,
+) -> Result<bool, AllocError>
+    requires { All (λ a. a.node < length graph.now) node_accesses.now }
+    ensures { IfOk result (λ are. are ≡ true → AreInTurn graph.now node_accesses.now) }
+{
+    frontier.clear();
+    for node_access in node_accesses {
+        if !frontier.leads_to(graph, *node_access, steps) {
+            return Ok(false);
+        }
+        frontier.take(*node_access)?;
+    }
+    Ok(true)
+}
+
+/// Whether short chains show of accesses in order that no two nodes race, cell by cell.
+fn are_free(
+    alloc: Global,
+    graph: &Graph,
+    order: &[usize],
+    cell_accesses: &[CellAccess],
+    steps: &mut usize,
+) -> Result<bool, AllocError>
+    requires nodes { All (λ k. k < length graph.now) order.now }
+    requires within { All (λ x. x.place < length order.now) cell_accesses.now }
+    requires in_order { AreInOrder cell_accesses.now }
+    ensures { IfOk result (λ are. are ≡ true → IsFreeOf graph.now order.now cell_accesses.now) }
+{
+    let mut node_accesses = Vec::new(alloc);
+    let mut frontier = Frontier::new(alloc);
+    let mut from = 0;
+    while from < cell_accesses.len() {
+        let end = cell_end(cell_accesses, from);
+        list_node_accesses(&mut node_accesses, order, &cell_accesses[from..end])?;
+        if !are_in_turn(&mut frontier, graph, node_accesses.as_slice(), steps)? {
+            return Ok(false);
+        }
+        from = end;
+    }
+    Ok(true)
+}
+
+/// Whether chains of one wait or of two show that no two nodes race, of what they do at cells. No marks are made, and the time is that of a sort. What is done is put in the order of cells.
+pub fn are_free_by_chains(
+    alloc: Global,
+    graph: &Graph,
+    order: &Order,
+    cell_accesses: &mut Vec<CellAccess>,
+) -> Result<bool, AllocError>
+    requires order { IsOrderOf graph.now order.now }
+    requires within { All (λ x. x.place < length order.now) cell_accesses.old.items }
+    ensures free { IfOk result (λ are. are ≡ true → IsFreeOf graph.now order.now cell_accesses.old.items) }
+    ensures same { IsPermutation cell_accesses.old.items cell_accesses.new.items }
+{
+    sort_cell_accesses(cell_accesses);
+    let mut steps = cell_accesses.len().saturating_mul(STEPS_EACH);
+    are_free(
+        alloc,
+        graph,
+        order.as_slice(),
+        cell_accesses.as_slice(),
+        &mut steps,
+    )
+}
