@@ -6,6 +6,8 @@
 #[cfg(test)]
 mod alike_fields;
 #[cfg(test)]
+mod chains;
+#[cfg(test)]
 mod checked;
 #[cfg(test)]
 mod examples;
