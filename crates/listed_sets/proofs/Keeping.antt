@@ -41,7 +41,7 @@ same_test xs q true h = is_in_of xs q (h.0 refl)
 same_test xs q false h = false_from_ne_true (is_in xs q) (λ e. true≢false (sym (h.1 (member_in xs q e))))
 
 -- Numbers that rise are those that they are.
-same_numbers : (xs ys : List ℕ) → Rise xs → Rise ys → ((q : ℕ) → Contains xs q → Contains ys q) → ((q : ℕ) → Contains ys q → Contains xs q)
+pub same_numbers : (xs ys : List ℕ) → Rise xs → Rise ys → ((q : ℕ) → Contains xs q → Contains ys q) → ((q : ℕ) → Contains ys q → Contains xs q)
     → xs ≡ ys
 same_numbers [] [] a b on back = refl
 same_numbers [] (y ∷ ys) a b on back = absurd (Contains-nil (back y (Contains-here ys)))

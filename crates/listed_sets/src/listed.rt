@@ -4,7 +4,7 @@ ghost use Rattle.std.specs.List.Sorted.{IsStrictlyIncreasing};
 ghost use Rattle.point_laws.specs.Cut.{kept};
 ghost use Rattle.listed_sets.specs.Listed.{IsAscending, listed_of};
 
-use crate::common::{count_common, gap_common, last_common, next_common};
+use crate::common::{count_common, gap_common, last_common, near, next_common};
 use point_set::PointSet;
 use std::alloc::AllocError;
 
@@ -21,12 +21,25 @@ pub struct Listed<'s, 'p, S: PointSet> {
     ghost bounded: { All (λ p. p < 2 ^ 64) (kept (listed_of listed) (S.points set.now)) },
 }
 
+/// What is listed between the first and the last point of a set.
+fn near_listed<'p, S: PointSet>(set: &S, listed: Option<&'p [u64]>) -> Option<&'p [u64]>
+    requires { IsAscending listed }
+    ensures ascending { IsAscending result }
+    ensures same { kept (listed_of result) (S.points set.now) ≡ kept (listed_of listed.entry) (S.points set.now) }
+{
+    match listed {
+        Some(listed) => Some(near(set, listed)),
+        None => None,
+    }
+}
+
 impl<'s, 'p, S: PointSet> Listed<'s, 'p, S> {
-    /// The points of a set that are listed, or all of them where there is no list.
+    /// The points of a set that are listed, or all of them where there is no list. What is listed before the set's first point or after its last is left out at once.
     pub fn at(set: &'s S, listed: Option<&'p [u64]>) -> Listed<'s, 'p, S>
         requires { IsAscending listed }
         ensures { ⟦<Listed<'s, 'p, S> as PointSet>⟧.points result ≡ kept (listed_of listed.entry) (S.points set.now) }
     {
+        let listed = near_listed(set, listed);
         Listed { set, listed }
     }
 }
