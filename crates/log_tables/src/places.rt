@@ -105,6 +105,19 @@ fn ascending_place<W: KeyBy<T>, T>(rows: &[T], key: W::K) -> Option<usize>
     }
 }
 
+/// The place of the row with a key, where the numbers of keys ascend. It is looked at first whether the row stands at a place where it may be.
+fn guessed_place<W: KeyBy<T>, T>(rows: &[T], key: W::K, guess: usize) -> Option<usize>
+    requires { AreAscending W.K.number_of W.key_of rows.now }
+    ensures { result ≡ position_from (λ x. W.K.eq (W.key_of x) key) 0 rows.now }
+{
+    if let Some(row) = rows.get(guess) {
+        if W::key(row) == key {
+            return Some(guess);
+        }
+    }
+    ascending_place::<W, T>(rows, key)
+}
+
 impl<K: Key> Places<K> {
     /// Those of no rows.
     pub(crate) fn new(alloc: Global) -> Places<K>
@@ -134,6 +147,23 @@ pub(crate) fn place_of<W: KeyBy<T>, T>(
     match places.first {
         Some(first) => numbered_place::<W, T>(rows, first, key),
         None => ascending_place::<W, T>(rows, key),
+    }
+}
+
+/// The place of the first row with a key, which may be one that is guessed.
+pub(crate) fn place_near<W: KeyBy<T>, T>(
+    places: &Places<W::K>,
+    rows: &[T],
+    key: W::K,
+    guess: usize,
+) -> Option<usize>
+    requires { Finds (get W.K.eq) W.K.eq W.K.number_of W.key_of places.now.ascend places.now.first places.now.noted rows.now }
+    ensures { result ≡ position_from (λ x. W.K.eq (W.key_of x) key) 0 rows.now }
+{
+    if places.ascend {
+        guessed_place::<W, T>(rows, key, guess)
+    } else {
+        place_of::<W, T>(places, rows, key)
     }
 }
 

@@ -12,11 +12,16 @@ use semantics::Req;
 use std::alloc::{AllocError, Global};
 use std::marker::Model;
 
+/// How many items more than there are requirements it is noted where their first ones stand.
+const MOST_BETWEEN: usize = 1 << 16;
+
 /// Requirements, in the order in which they were added.
 #[derive(Drop)]
 pub struct Reqs {
     rows: Rows<ByNumber, Req>,
     counts: IndexMap<usize, usize>,
+    /// Where the first requirement of an item is likely to stand. No answer rests on it.
+    firsts: Vec<usize>,
 }
 
 impl Model for Reqs {
@@ -39,6 +44,7 @@ impl Reqs {
         Reqs {
             rows: Rows::new(alloc),
             counts: IndexMap::new(alloc),
+            firsts: Vec::new(alloc),
         }
     }
 
@@ -57,18 +63,39 @@ impl Reqs {
         self.counts.get(&item).copied().unwrap_or(0)
     }
 
+    /// Where the requirement of an item with this number is likely to stand.
+    fn guess(&self, item: usize, number: u32) -> usize {
+        match self.firsts.get(item) {
+            Some(first) => first.saturating_add(number as usize).saturating_sub(1),
+            None => 0,
+        }
+    }
+
+    /// Notes where the next requirement will stand, if it is the first of an item that comes after those before it. Where many items between have none, nothing is noted.
+    fn note_first(&mut self, item: usize) -> Result<(), AllocError>
+        ensures { self.new ≡ self.old }
+    {
+        let place = self.rows.len();
+        if item < self.firsts.len() || item > place.saturating_add(MOST_BETWEEN) {
+            return Ok(());
+        }
+        self.firsts.resize(item.saturating_add(1), place)
+    }
+
     /// The position of the requirement of an item with this number.
     pub fn place(&self, item: usize, number: u32) -> Option<usize>
         ensures { result ≡ position_from (λ r. (r.item == item) && (r.number == number)) 0 self.now }
     {
-        self.rows.place(ReqKey { item, number })
+        let guess = self.guess(item, number);
+        self.rows.place_near(ReqKey { item, number }, guess)
     }
 
     /// The requirement of an item with this number.
     pub fn get(&self, item: usize, number: u32) -> Option<&Req>
         ensures { option_copied result ≡ find (λ r. (r.item == item) && (r.number == number)) self.now }
     {
-        self.rows.get(ReqKey { item, number })
+        let guess = self.guess(item, number);
+        self.rows.get_near(ReqKey { item, number }, guess)
     }
 
     /// One requirement more.
@@ -78,6 +105,7 @@ impl Reqs {
         ensures err { OnErr result (self.new ≡ self.old) }
     {
         let item = req.item;
+        self.note_first(item)?;
         let count = self.count(item) + 1;
         self.counts.reserve(1)?;
         self.rows.push(req)?;

@@ -5,7 +5,7 @@ ghost use Rattle.std.specs.List.{list_any, position_from};
 ghost use Rattle.std.specs.Option.{option_copied};
 
 use crate::keys::KeyBy;
-use crate::places::{Places, make_room, note, place_of, plan_with};
+use crate::places::{Places, make_room, note, place_near, place_of, plan_with};
 use std::alloc::{AllocError, Global};
 use std::marker::Model;
 
@@ -74,6 +74,13 @@ impl<W: KeyBy<T>, T> Rows<W, T> {
         place_of::<W, T>(&self.places, &self.rows, key)
     }
 
+    /// The same, where it is likely that the row stands at this place, so that this one is looked at first.
+    pub(crate) fn place_near(&self, key: W::K, guess: usize) -> Option<usize>
+        ensures { result ≡ position_from (λ x. W.K.eq (W.key_of x) key) 0 self.now }
+    {
+        place_near::<W, T>(&self.places, &self.rows, key, guess)
+    }
+
     /// Whether a row has this key.
     pub fn has(&self, key: W::K) -> bool
         ensures { result ≡ list_any (λ x. W.K.eq (W.key_of x) key) self.now }
@@ -86,6 +93,13 @@ impl<W: KeyBy<T>, T> Rows<W, T> {
         ensures { option_copied result ≡ find (λ x. W.K.eq (W.key_of x) key) self.now }
     {
         row_at(&self.rows, self.place(key))
+    }
+
+    /// The same, where it is likely that the row stands at this place.
+    pub(crate) fn get_near(&self, key: W::K, guess: usize) -> Option<&T>
+        ensures { option_copied result ≡ find (λ x. W.K.eq (W.key_of x) key) self.now }
+    {
+        row_at(&self.rows, self.place_near(key, guess))
     }
 
     /// One row more.
