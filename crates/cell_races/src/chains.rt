@@ -6,7 +6,7 @@ ghost use Rattle.vocabulary.specs.Prelude.{Before, WaitsOn};
 use event_graph::Graph;
 
 /// How many waits of a node are looked at.
-const WAITS_LOOKED_AT: usize = 8;
+const WAITS_LOOKED_AT: usize = 32;
 
 /// The node on which a node waits in a place of its list, if there is one and so many steps are left that it may be looked at.
 #[tactic(auto, using(crate::proofs::Waited::waited))]
