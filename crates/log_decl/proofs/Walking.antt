@@ -7,6 +7,7 @@ use Rattle.std.proofs.lemmas.Grind.{flat_map-append}
 use Rattle.std.proofs.lemmas.List.Elements.{Contains-append_left, Contains-append_right}
 use Rattle.std.proofs.lemmas.List.Sums.{fold-append}
 use Rattle.vocabulary.specs.Prelude.{Code, Record, Lined, Rect, records_of, Tables, tables_of, with_record, no_tables}
+use Rattle.grid.specs.Corners.{cell_count}
 use Rattle.grid.specs.Cuts.{Cuts, grid_of}
 use Rattle.spy_grammar.specs.declared.code.Code.TheVariants as codes
 use Rattle.spy_grammar.specs.declared.record.Record.TheVariants as records
@@ -17,7 +18,18 @@ use Rattle.semantics.proofs.lemmas.Versions.{flat_before, version_at}
 use Rattle.log_rules.specs.declared.tally.Tally.{Tally}
 use Rattle.log_rules.specs.Tallied.{AreListed, IsTally, MayCount, rects_in}
 use Rattle.log_decl.specs.Sizes.{is_plane_log, opens_plane, plane_rects, rects_of_log}
-use Rattle.log_decl.specs.Walk.{breaks_other, broken_of, other_broken, Keep, IsWithin, HasWalked}
+use Rattle.log_decl.specs.Walk.{breaks_other, broken_of, other_broken, HasTally, Keep, IsWithin, HasWalked}
+
+-- The code is that of the first rule that a record breaks, where the tally and the number of cells are right.
+abbrev Tells : List Record → List Record → Tally → ℕ → Option Code → Tables → Record → Type 0
+Tells log es tally cells code t r = HasTally es t tally → (is_planar t ≡ true → cells ≡ cell_count (t.rects ++ rects_in r))
+    → code ≡ broken_of log es t r
+
+-- What is told of a record as it is looked up is told of it.
+pub told_of : (log es : List Record) (tally : Tally) (cells : ℕ) (code : Option Code) (t u : Tables) (r q : Record) → u ≡ t → q ≡ r
+    → Tells log es tally cells code u q → Tells log es tally cells code t r
+told_of log es tally cells code t u r q tables rec told =
+    subst (Tells log es tally cells code t) rec (subst (λ (v : Tables). Tells log es tally cells code v q) tables told)
 
 pub tables_more : (log : List Lined) (i : ℕ) (t : Tables) (l : Lined) → t ≡ tables_of (take i log) → i < length log → l ≡ get_or log i l
     → with_record t l.line l.rec ≡ tables_of (take (i + 1) log)

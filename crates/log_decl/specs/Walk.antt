@@ -4,6 +4,7 @@ use Rattle.log_rules.specs.Counts.{access_total}
 use Rattle.std.specs.Borrow.{Bor}
 use Rattle.grid.specs.Corners.{cell_count}
 use Rattle.log_limits.specs.declared.corners.Corners.{Corners}
+use Rattle.point_set.specs.declared.set.PointSet.{Ghosts}
 use Rattle.log_rules.specs.Tallied.{AreAtEnd, IsTally, rects_in}
 use Rattle.log_rules.specs.declared.tally.Tally.{Tally}
 use Rattle.std.specs.Option.{option_or}
@@ -25,12 +26,14 @@ abbrev pub breaks_other : InLog → Code → Bool
 breaks_other r code = not (is_of_forest code) && breaks r code
 
 -- The record that the code is at, after these records.
-abbrev pub seen : {P : Type 0} → AtRecord P → List Record → InLog
-seen at earlier = record { log = at.whole.now; earlier = earlier; tables = at.tables.now; rec = at.rec.now }
+abbrev pub seen : {P : Type 0} {G : Ghosts P} → AtRecord P G → List Record → InLog
+seen at earlier =
+    record { log = at.whole.now; earlier = earlier; tables = at.named.now.tables.now; rec = at.named.now.rec.now }
 
 -- In a log of the second version the cells are those of the grid of the rectangles up to the record.
-abbrev pub AreCellsAt : {P : Type 0} → AtRecord P → Type 0
-AreCellsAt at = rules.is_planar at.tables.now ≡ true → at.cells ≡ cell_count (at.tables.now.rects ++ rects_in at.rec.now)
+abbrev pub AreCellsAt : {P : Type 0} {G : Ghosts P} → AtRecord P G → Type 0
+AreCellsAt at = rules.is_planar at.named.now.tables.now ≡ true
+    → at.cells ≡ cell_count (at.named.now.tables.now.rects ++ rects_in at.named.now.rec.now)
 
 -- The tally is that of these records, whose tables these are. In a log of the second version it goes by
 -- rectangles.
@@ -39,14 +42,14 @@ pub record HasTally (earlier : List Record) (t : Tables) (tally : Tally) : Type 
   pub is : IsTally all earlier t tally
 
 -- A fact of that record, after the earlier ones, where what is known of these is so.
-abbrev pub IfAt : {P : Type 0} → AtRecord P → (InLog → Type 0) → Type 0
-IfAt at P = (earlier : List Record) → HasTally earlier at.tables.now at.tally.now
+abbrev pub IfAt : {P : Type 0} {G : Ghosts P} → AtRecord P G → (InLog → Type 0) → Type 0
+IfAt at P = (earlier : List Record) → HasTally earlier at.named.now.tables.now at.tally.now
     → earlier ≡ records_of at.earlier.now → AreCellsAt at → P (seen at earlier)
 
 -- The same where besides it is counted at the end of a log of the second version how many cells begin in each
 -- space.
-abbrev pub IfAtEnd : {P : Type 0} → AtRecord P → Option (Bor Corners) → (InLog → Type 0) → Type 0
-IfAtEnd at corners P = AreAtEnd at.tables.now at.rec.now corners → IfAt at P
+abbrev pub IfAtEnd : {P : Type 0} {G : Ghosts P} → AtRecord P G → Option (Bor Corners) → (InLog → Type 0) → Type 0
+IfAtEnd at corners P = AreAtEnd at.named.now.tables.now at.named.now.rec.now corners → IfAt at P
 
 -- The first of these rules that a record breaks, of its log, the earlier records, and their tables.
 abbrev pub broken_of : List Record → List Record → Tables → Record → Option Code

@@ -7,13 +7,12 @@ ghost use Rattle.log_decl.specs.Walk.{IfAt, IfAtEnd, breaks_other};
 
 use log_limits::Corners;
 use log_rules::{
-    Tally, WholeLog, has_many_accesses, has_many_atoms, has_many_cells, has_many_points,
+    Named, Tally, WholeLog, has_many_accesses, has_many_atoms, has_many_cells, has_many_points,
     has_many_reads, has_much_load, has_no_run, has_wrong_fields, interferes_with_own,
     is_bad_serial, is_late, is_late_sub, is_mapped_again, is_no_root, is_not_covered,
     is_not_in_tree, is_of_other_version, is_of_wrong_kind, is_of_wrong_tree, is_run_again,
     is_sub_again, is_too_deep, names_unknown, repeats_event, repeats_id, waits_for_none,
 };
-use log_tables::LogTables;
 use point_set::PointSet;
 use region_tree::{Memory, SetOfRects};
 use spy_grammar::Code::*;
@@ -71,16 +70,15 @@ fn rules_for(rec: &Record) -> &'static [Code]
     }
 }
 
-/// A record of a log, with what the rules ask of: the log as a whole, the earlier records, and what these declare and add up to.
+/// A record of a log and what it names, with what the rules ask of: the log as a whole, the earlier records, and what these declare and add up to.
 #[derive(Clone, Copy)]
 pub(crate) struct AtRecord<'w, 'l, P: PointSet> {
     pub(crate) whole: &'w WholeLog<'l>,
-    pub(crate) tables: &'w LogTables<P>,
+    pub(crate) named: &'w Named<'w, P>,
     pub(crate) tally: &'w Tally,
     /// How many cells the grid of the rectangles up to the record has, where the log is of the second version.
     pub(crate) cells: u128,
     pub(crate) earlier: &'w [Lined],
-    pub(crate) rec: &'w Record,
 }
 
 /// Whether a record breaks the rule of a code. The rules of the forest are passed over. At the end of a log of the second version it is counted how many cells begin in each space.
@@ -90,36 +88,39 @@ fn breaks<P: PointSet>(
     corners: Option<&Corners>,
     code: Code,
 ) -> Result<bool, Memory>
-    requires { Ascends at.now.rec.now }
+    requires { Ascends at.now.named.now.rec.now }
     ensures { IfAtEnd at.now corners.entry (λ r. IfOk result (λ broken. broken ≡ breaks_other r code)) }
 {
+    let named = at.named;
+    let tables = named.tables;
+    let rec = named.rec;
     match code {
-        TooManyRecords => Ok(is_late(at.earlier.len(), at.rec)),
-        RepeatedId => Ok(repeats_id(at.tables, at.rec)),
-        UnknownId => Ok(names_unknown(at.tables, at.rec)),
-        TooManyPoints => Ok(has_many_points(at.tables, at.tally, at.rec)),
-        TooManyAtoms => Ok(has_many_atoms(at.tables, at.cells, at.rec)),
-        SpaceInTwo => Ok(is_sub_again(at.tables, at.rec)),
-        LateSub => Ok(is_late_sub(at.tables, at.rec)),
-        TooDeep => Ok(is_too_deep(at.tables, at.rec)),
-        NotRoot => Ok(is_no_root(at.tables, at.rec)),
-        NotInTree => Ok(is_not_in_tree(at.tables, at.rec)),
-        Fields => Ok(has_wrong_fields(at.tables, at.rec)),
-        SelfInterference => interferes_with_own(alloc, at.tables, at.tally, at.rec),
-        WrongTree => Ok(is_of_wrong_tree(at.tables, at.rec)),
-        WrongKind => Ok(is_of_wrong_kind(at.tables, at.rec)),
-        NotCovered => Ok(is_not_covered(at.tables, at.tally, at.rec)),
-        MappedTwice => Ok(is_mapped_again(at.tables, at.rec)),
-        NoRun => Ok(has_no_run(at.whole, at.rec)),
-        TwoRuns => Ok(is_run_again(at.tables, at.rec)),
-        RepeatedEvent => Ok(repeats_event(at.tables, at.rec)),
-        UndefinedEvent => Ok(waits_for_none(at.whole, at.rec)),
-        Serial => Ok(is_bad_serial(alloc, at.whole, at.tables, at.tally, at.rec)?),
-        TooManyCells => Ok(has_many_cells(at.tables, at.tally, corners, at.rec)),
-        TooManyAccesses => Ok(has_many_accesses(at.tables, at.tally, corners, at.earlier, at.rec)),
-        TooMuchLoad => has_much_load(alloc, at.tables, corners, at.rec),
-        Version => Ok(is_of_other_version(at.tables, at.rec)),
-        TooManyReads => Ok(has_many_reads(at.tables, at.rec)),
+        TooManyRecords => Ok(is_late(at.earlier.len(), rec)),
+        RepeatedId => Ok(repeats_id(tables, rec)),
+        UnknownId => Ok(names_unknown(named)),
+        TooManyPoints => Ok(has_many_points(tables, at.tally, rec)),
+        TooManyAtoms => Ok(has_many_atoms(tables, at.cells, rec)),
+        SpaceInTwo => Ok(is_sub_again(tables, rec)),
+        LateSub => Ok(is_late_sub(tables, rec)),
+        TooDeep => Ok(is_too_deep(tables, rec)),
+        NotRoot => Ok(is_no_root(tables, rec)),
+        NotInTree => Ok(is_not_in_tree(named)),
+        Fields => Ok(has_wrong_fields(named)),
+        SelfInterference => interferes_with_own(alloc, named, at.tally),
+        WrongTree => Ok(is_of_wrong_tree(named)),
+        WrongKind => Ok(is_of_wrong_kind(named)),
+        NotCovered => Ok(is_not_covered(named, at.tally)),
+        MappedTwice => Ok(is_mapped_again(named)),
+        NoRun => Ok(has_no_run(at.whole, rec)),
+        TwoRuns => Ok(is_run_again(named)),
+        RepeatedEvent => Ok(repeats_event(tables, rec)),
+        UndefinedEvent => Ok(waits_for_none(at.whole, rec)),
+        Serial => Ok(is_bad_serial(alloc, at.whole, tables, at.tally, rec)?),
+        TooManyCells => Ok(has_many_cells(tables, at.tally, corners, rec)),
+        TooManyAccesses => Ok(has_many_accesses(tables, at.tally, corners, at.earlier, rec)),
+        TooMuchLoad => has_much_load(alloc, tables, corners, rec),
+        Version => Ok(is_of_other_version(tables, rec)),
+        TooManyReads => Ok(has_many_reads(tables, rec)),
         _ => Ok(false),
     }
 }
@@ -130,10 +131,10 @@ fn first_of<P: PointSet>(
     at: &AtRecord<'_, '_, P>,
     corners: Option<&Corners>,
 ) -> Result<Option<Code>, Memory>
-    requires { Ascends at.now.rec.now }
+    requires { Ascends at.now.named.now.rec.now }
     ensures { IfAtEnd at.now corners.entry (λ r. IfOk result (λ code. code ≡ find (breaks_other r) record_rules)) }
 {
-    let mut rest = rules_for(at.rec);
+    let mut rest = rules_for(at.named.rec);
     while let [code, more @ ..] = rest {
         if breaks(alloc, at, corners, *code)? {
             return Ok(Some(*code));
@@ -148,12 +149,12 @@ pub(crate) fn first_broken<P: SetOfRects>(
     alloc: Global,
     at: &AtRecord<'_, '_, P>,
 ) -> Result<Option<Code>, Memory>
-    requires { Ascends at.now.rec.now }
+    requires { Ascends at.now.named.now.rec.now }
     ensures { IfAt at.now (λ r. IfOk result (λ code. code ≡ find (breaks_other r) record_rules)) }
 {
-    match at.rec {
-        Record::End { .. } if at.tables.is_planar() => {
-            let corners = Corners::of(alloc, at.tables)?;
+    match at.named.rec {
+        Record::End { .. } if at.named.tables.is_planar() => {
+            let corners = Corners::of(alloc, at.named.tables)?;
             first_of(alloc, at, Some(&corners))
         }
         _ => first_of(alloc, at, None),

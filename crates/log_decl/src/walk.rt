@@ -10,7 +10,7 @@ use crate::broken::{AtRecord, first_broken};
 use crate::sizes::{cells_with, is_plane_log, whole_grid};
 use bumpalo::Bump;
 use cell_counts::GridSize;
-use log_rules::{Tally, WholeLog};
+use log_rules::{Named, Tally, WholeLog};
 use log_tables::LogTables;
 use region_tree::{ArenaRects, Memory};
 use spy_grammar::{Code, Lined};
@@ -45,14 +45,14 @@ pub(crate) fn walk<'a, P: ArenaRects<'a>>(
     let mut kept = 0;
     for l in records {
         let cells = cells_with(alloc, is_plane, &mut size, &l.rec)?;
-        tally.remember(tables, &l.rec)?;
+        let named = Named::of(&*tables, &l.rec);
+        tally.remember(&named)?;
         let at = AtRecord {
             whole: &*whole,
-            tables: &*tables,
+            named: &named,
             tally: &tally,
             cells,
             earlier: &records[..kept],
-            rec: &l.rec,
         };
         let code = first_broken(alloc, &at)?;
         if code.is_some() {

@@ -1,7 +1,7 @@
 -- Tests of the members of lists.
-use Rattle.std.proofs.Common.{◌≡◌, ℕ, ◌<◌, nat_lt, zero, suc, get_or, Bool, true, false, ◌&&◌, ◌||◌, cond, List, [], ◌∷◌, ◌++◌, filter, take, length, find, Some, is_some, refl, sym, ap, ◌∙◌, inl, inr, arith}
+use Rattle.std.proofs.Common.{◌≡◌, ℕ, ◌<◌, nat_lt, zero, suc, get_or, Bool, true, false, ◌&&◌, ◌||◌, cond, List, [], ◌∷◌, ◌++◌, filter, take, length, find, Bor, Option, Some, None, is_some, refl, sym, ap, ◌∙◌, inl, inr, arith}
 use Rattle.std.specs.List.{list_any, list_all}
-use Rattle.std.specs.Option.{option_map}
+use Rattle.std.specs.Option.{option_copied, option_map}
 use Rattle.std.proofs.lemmas.Bool.{cases_Bool, cases_lt, le-ltb, lt-ltb, or_right}
 use Rattle.std.proofs.lemmas.List.{append-nil, length-append, take-append-le, take_all}
 use Rattle.std.proofs.lemmas.List.Elements.{All-filter, All-take, filter-append}
@@ -41,15 +41,24 @@ pub list_any-list_any : {X Y : Type 0} (R : X → Y → Bool) (xs : List X) (ys 
 list_any-list_any R [] ys = sym (list_any-false ys)
 list_any-list_any R (x ∷ xs) ys = rw (list_any-list_any R xs ys) (sym (list_any-or (R x) (λ y. list_any (λ z. R z y) xs) ys))
 
-pub is_some-find : {X Y : Type 0} (f : X → Y) (p : X → Bool) (xs : List X) → is_some (option_map f (find p xs)) ≡ list_any p xs
-is_some-find f p [] = refl
-is_some-find f p (x ∷ xs) =
+pub is_some-find : {X : Type 0} (p : X → Bool) (xs : List X) → is_some (find p xs) ≡ list_any p xs
+is_some-find p [] = refl
+is_some-find p (x ∷ xs) =
     elim (cases_Bool (p x)) [
-      | inl hit ↦ ap (λ b. is_some (option_map f (cond b (Some x) (find p xs)))) hit ∙ sym (ap (λ b. b || list_any p xs) hit)
-      | inr miss ↦
-          ap (λ b. is_some (option_map f (cond b (Some x) (find p xs)))) miss ∙ is_some-find f p xs
-          ∙ sym (ap (λ b. b || list_any p xs) miss)
+      | inl hit ↦ ap (λ b. is_some (cond b (Some x) (find p xs))) hit ∙ sym (ap (λ b. b || list_any p xs) hit)
+      | inr miss ↦ ap (λ b. is_some (cond b (Some x) (find p xs))) miss ∙ is_some-find p xs ∙ sym (ap (λ b. b || list_any p xs) miss)
     ]
+
+is_some-map : {X Y : Type 0} (f : X → Y) (o : Option X) → is_some (option_map f o) ≡ is_some o
+is_some-map f None = refl
+is_some-map f (Some x) = refl
+
+pub is_some-find_map : {X Y : Type 0} (f : X → Y) (p : X → Bool) (xs : List X) → is_some (option_map f (find p xs)) ≡ list_any p xs
+is_some-find_map f p xs = is_some-map f (find p xs) ∙ is_some-find p xs
+
+pub is_some-behind : {X : Type 0} (o : Option (Bor X)) → is_some o ≡ is_some (option_copied o)
+is_some-behind None = refl
+is_some-behind (Some b) = refl
 
 -- Whether one of the first so many passes, with one element more.
 pub any_take-snoc : {X : Type 0} (p : X → Bool) (m : ℕ) (xs : List X) (x : X)

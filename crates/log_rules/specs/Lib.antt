@@ -4,6 +4,7 @@ pub mod Gathered
 pub mod Instances
 pub mod Listing
 pub mod Loads
+pub mod Lookups
 pub mod Own
 pub mod Pairs
 pub mod Rows

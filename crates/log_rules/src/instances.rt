@@ -1,73 +1,63 @@
 //! Instances: of which tree and kind they are, and what they cover.
 
-ghost use Rattle.std.specs.Prelude.{◌≡◌, false, [], not};
+ghost use Rattle.std.specs.Prelude.{◌≡◌, [], not, IfSome};
 ghost use Rattle.std.specs.List.{list_any};
-ghost use Rattle.std.specs.Option.{option_map_or};
+ghost use Rattle.std.specs.List.Sorted.{IsStrictlyIncreasing};
+ghost use Rattle.std.specs.Option.{option_copied, option_map};
 ghost use Rattle.log_rules.specs.Tallied.{IfKept, IfTally};
-ghost use Rattle.log_rules.specs.Instances.{tree_of_req, root_points, fits_inst, is_mapped, is_any_mapped};
-ghost use Rattle.vocabulary.specs.Prelude.{points_in, is_within};
-ghost use Rattle.semantics.specs.Rules.{is_of_wrong_tree, is_of_wrong_kind, is_not_covered, is_mapped_again, is_reduction, reduces_in, tree_of_inst, is_of_tree, fits, lacks, named_req};
+ghost use Rattle.log_rules.specs.Instances.{fits_inst, is_any_mapped, is_inst_of, is_lacking, is_mapped, is_reducing, root_points};
+ghost use Rattle.vocabulary.specs.Prelude.{Tables, points_in, is_within};
+ghost use Rattle.semantics.specs.Rules.{is_of_wrong_tree, is_of_wrong_kind, is_not_covered, is_mapped_again, is_reduction, fits};
 
 use crate::fields::is_within;
-use crate::names::named_req;
+use crate::named::Named;
 use crate::space_pairs::is_vacant;
 use crate::tally::Tally;
 use log_tables::LogTables;
 use point_set::PointSet;
 use privilege::Priv;
+use semantics::{Inst, Req, Tree};
 use spy_grammar::{InstKind, Nums, Record};
 
-/// The tree of an instance.
-fn tree_of_inst<P: PointSet>(tables: &LogTables<P>, id: u32) -> Option<u32>
-    ensures { result ≡ tree_of_inst tables.now id }
+/// The tree of an instance, if it is declared.
+fn tree_of_inst(inst: Option<&Inst>) -> Option<u32>
+    ensures { result ≡ option_map (λ i. i.tree) (option_copied inst.entry) }
 {
-    match tables.inst(id) {
+    match inst {
         Some(inst) => Some(inst.tree),
         None => None,
     }
 }
 
-/// Whether an instance is of this tree.
-fn is_of_tree<P: PointSet>(tables: &LogTables<P>, tree: Option<u32>, id: u32) -> bool
-    ensures { result ≡ is_of_tree tables.now tree id }
+/// The tree of a requirement, if there is one.
+fn tree_of_req(req: Option<&Req>) -> Option<u32>
+    ensures { result ≡ option_map (λ r. r.tree) (option_copied req.entry) }
 {
-    match (tables.inst(id), tree) {
+    match req {
+        Some(req) => Some(req.tree),
+        None => None,
+    }
+}
+
+/// Whether an instance is of this tree.
+fn is_of_tree(inst: Option<&Inst>, tree: Option<u32>) -> bool
+    ensures { result ≡ is_inst_of tree (option_copied inst.entry) }
+{
+    match (inst, tree) {
         (Some(inst), Some(tree)) => inst.tree == tree,
         _ => false,
     }
 }
 
-/// Whether an instance is of another tree than a requirement.
-fn is_apart<P: PointSet>(tables: &LogTables<P>, task: u32, number: u32, inst: u32) -> bool
-    ensures { result ≡ not (is_of_tree tables.now (tree_of_req tables.now task number) inst) }
-{
-    match named_req(tables, task, number) {
-        Some(req) => !is_of_tree(tables, Some(req.tree), inst),
-        None => !is_of_tree(tables, None, inst),
-    }
-}
-
-/// Whether two instances are of different trees.
-fn are_apart<P: PointSet>(tables: &LogTables<P>, src: u32, dst: u32) -> bool
-    ensures { result ≡ not (is_of_tree tables.now (tree_of_inst tables.now src) dst) }
-{
-    !is_of_tree(tables, tree_of_inst(tables, src), dst)
-}
-
 /// Whether an instance is of another tree than its requirement, or two instances are of different trees.
-pub fn is_of_wrong_tree<P: PointSet>(tables: &LogTables<P>, rec: &Record) -> bool
-    ensures { result ≡ is_of_wrong_tree tables.now rec.now }
+pub fn is_of_wrong_tree<P: PointSet>(named: &Named<'_, P>) -> bool
+    ensures { result ≡ is_of_wrong_tree named.now.tables.now named.now.rec.now }
 {
-    match rec {
-        Record::Map {
-            task,
-            req,
-            inst,
-            ..
-        } => is_apart(tables, *task, *req, *inst),
-        Record::Copy { src, dst, .. } | Record::Fold { src, dst, .. } => are_apart(
-            tables, *src, *dst,
-        ),
+    match named.rec {
+        Record::Map { .. } => !is_of_tree(named.inst, tree_of_req(named.req)),
+        Record::Copy { .. } | Record::Fold { .. } => {
+            !is_of_tree(named.target, tree_of_inst(named.inst))
+        }
         _ => false,
     }
 }
@@ -82,10 +72,10 @@ fn is_reduction(kind: InstKind) -> bool
 }
 
 /// Whether this is a reduction instance.
-fn reduces_in<P: PointSet>(tables: &LogTables<P>, id: u32) -> bool
-    ensures { result ≡ reduces_in tables.now id }
+fn reduces_in(inst: Option<&Inst>) -> bool
+    ensures { result ≡ is_reducing (option_copied inst.entry) }
 {
-    match tables.inst(id) {
+    match inst {
         Some(inst) => is_reduction(inst.kind),
         None => false,
     }
@@ -104,44 +94,28 @@ fn fits(access: Priv, kind: InstKind) -> bool
     }
 }
 
-/// Whether a requirement with this privilege may be mapped to this instance.
-fn fits_inst<P: PointSet>(tables: &LogTables<P>, access: Priv, id: u32) -> bool
-    ensures { result ≡ fits_inst tables.now id access }
-{
-    match tables.inst(id) {
-        Some(inst) => fits(access, inst.kind),
-        None => false,
-    }
-}
-
 /// Whether a requirement may be mapped to this instance.
-fn fits_req<P: PointSet>(tables: &LogTables<P>, task: u32, number: u32, inst: u32) -> bool
-    ensures { result ≡ option_map_or (λ r. fits_inst tables.now inst r.access)
-        (named_req tables.now task number) false }
+fn fits_inst(req: Option<&Req>, inst: Option<&Inst>) -> bool
+    ensures { result ≡ fits_inst (option_copied req.entry) (option_copied inst.entry) }
 {
-    match named_req(tables, task, number) {
-        Some(req) => fits_inst(tables, req.access, inst),
-        None => false,
+    match (req, inst) {
+        (Some(req), Some(inst)) => fits(req.access, inst.kind),
+        _ => false,
     }
 }
 
 /// Whether an instance is of a kind that cannot be used so, or a copy has one instance as source and target.
-pub fn is_of_wrong_kind<P: PointSet>(tables: &LogTables<P>, rec: &Record) -> bool
-    ensures { result ≡ is_of_wrong_kind tables.now rec.now }
+pub fn is_of_wrong_kind<P: PointSet>(named: &Named<'_, P>) -> bool
+    ensures { result ≡ is_of_wrong_kind named.now.tables.now named.now.rec.now }
 {
-    match rec {
-        Record::Map {
-            task,
-            req,
-            inst,
-            ..
-        } => !fits_req(tables, *task, *req, *inst),
+    match named.rec {
+        Record::Map { .. } => !fits_inst(named.req, named.inst),
         Record::Copy { src, dst, .. } => {
-            reduces_in(tables, *src) || reduces_in(tables, *dst) || *src == *dst
+            reduces_in(named.inst) || reduces_in(named.target) || *src == *dst
         }
-        Record::Put { inst, .. } => reduces_in(tables, *inst),
-        Record::Reset { inst, .. } => !reduces_in(tables, *inst),
-        Record::Fold { src, dst, .. } => !reduces_in(tables, *src) || reduces_in(tables, *dst),
+        Record::Put { .. } => reduces_in(named.inst),
+        Record::Reset { .. } => !reduces_in(named.inst),
+        Record::Fold { .. } => !reduces_in(named.inst) || reduces_in(named.target),
         _ => false,
     }
 }
@@ -152,12 +126,13 @@ fn lacks<P: PointSet>(
     tally: &Tally,
     space: u32,
     fields: &Nums,
-    id: u32,
+    inst: Option<&Inst>,
 ) -> bool
-    ensures { IfKept tables.now tally.now
-        (result ≡ lacks tables.now (points_in tables.now space) fields.now id) }
+    requires { IfSome inst (λ i. IsStrictlyIncreasing i.now.fields) }
+    ensures { IfKept tables.now tally.now (result
+        ≡ is_lacking tables.now (points_in tables.now space) fields.now (option_copied inst.entry)) }
 {
-    match tables.inst(id) {
+    match inst {
         Some(inst) => {
             !(tally.pairs.within(tables, space, inst.space)
                 && is_within(fields.as_slice(), inst.fields.as_slice()))
@@ -167,69 +142,52 @@ fn lacks<P: PointSet>(
 }
 
 /// Whether an instance lacks one of these fields.
-fn lacks_field<P: PointSet>(tables: &LogTables<P>, fields: &Nums, id: u32) -> bool
-    ensures { result ≡ lacks tables.now [] fields.now id }
+fn lacks_field(fields: &Nums, inst: Option<&Inst>) -> bool
+    requires { IfSome inst (λ i. IsStrictlyIncreasing i.now.fields) }
+    ensures { (t : Tables) → result ≡ is_lacking t [] fields.now (option_copied inst.entry) }
 {
-    match tables.inst(id) {
+    match inst {
         Some(inst) => !is_within(fields.as_slice(), inst.fields.as_slice()),
         None => true,
     }
 }
 
-/// Whether a space has a point outside the root space of a tree.
-fn exceeds_root<P: PointSet>(tables: &LogTables<P>, tally: &Tally, tree: u32, space: u32) -> bool
+/// Whether a space has a point outside the root space of a tree, if it is declared.
+fn exceeds_root<P: PointSet>(
+    tables: &LogTables<P>,
+    tally: &Tally,
+    tree: Option<Tree>,
+    space: u32,
+) -> bool
     ensures { IfKept tables.now tally.now (result
         ≡ not (is_within (points_in tables.now space) (root_points tables.now tree))) }
 {
-    match tables.tree(tree) {
+    match tree {
         Some(tree) => !tally.pairs.within(tables, space, tree.space),
         None => !is_vacant(tables, space),
     }
 }
 
 /// Whether an instance has a point outside the root space of its tree, or lacks a point or a field of what is done with it.
-pub fn is_not_covered<P: PointSet>(tables: &LogTables<P>, tally: &Tally, rec: &Record) -> bool
-    ensures { IfTally tables.now tally.now (λ earlier. result ≡ is_not_covered tables.now rec.now) }
+pub fn is_not_covered<P: PointSet>(named: &Named<'_, P>, tally: &Tally) -> bool
+    ensures { IfTally named.now.tables.now tally.now (λ earlier. result
+        ≡ is_not_covered named.now.tables.now named.now.rec.now) }
 {
+    let tables = named.tables;
+    let rec = named.rec;
     match rec {
-        Record::Inst { tree, space, .. } => exceeds_root(tables, tally, *tree, *space),
-        Record::Map {
-            task,
-            req,
-            fields,
-            inst,
-        } => match named_req(tables, *task, *req) {
-            Some(req) => lacks(tables, tally, req.space, fields, *inst),
-            None => lacks_field(tables, fields, *inst),
+        Record::Inst { space, .. } => exceeds_root(tables, tally, named.tree, *space),
+        Record::Map { fields, .. } => match named.req {
+            Some(req) => lacks(tables, tally, req.space, fields, named.inst),
+            None => lacks_field(fields, named.inst),
         },
-        Record::Copy {
-            src,
-            dst,
-            space,
-            fields,
-            ..
+        Record::Copy { space, fields, .. } | Record::Fold { space, fields, .. } => {
+            lacks(tables, tally, *space, fields, named.inst)
+                || lacks(tables, tally, *space, fields, named.target)
         }
-        | Record::Fold {
-            src,
-            dst,
-            space,
-            fields,
-            ..
-        } => {
-            lacks(tables, tally, *space, fields, *src) || lacks(tables, tally, *space, fields, *dst)
-        }
-        Record::Put {
-            inst,
-            space,
-            fields,
-            ..
-        }
-        | Record::Reset {
-            inst,
-            space,
-            fields,
-            ..
-        } => lacks(tables, tally, *space, fields, *inst),
+        Record::Put { space, fields, .. } | Record::Reset { space, fields, .. } => lacks(
+            tables, tally, *space, fields, named.inst,
+        ),
         _ => false,
     }
 }
@@ -268,16 +226,11 @@ fn is_any_mapped<P: PointSet>(
 }
 
 /// Whether a map maps a field that its requirement has mapped already.
-pub fn is_mapped_again<P: PointSet>(tables: &LogTables<P>, rec: &Record) -> bool
-    ensures { result ≡ is_mapped_again tables.now rec.now }
+pub fn is_mapped_again<P: PointSet>(named: &Named<'_, P>) -> bool
+    ensures { result ≡ is_mapped_again named.now.tables.now named.now.rec.now }
 {
-    match rec {
-        Record::Map {
-            task,
-            req,
-            fields,
-            ..
-        } => is_any_mapped(tables, tables.place(*task), *req, fields),
+    match named.rec {
+        Record::Map { req, fields, .. } => is_any_mapped(named.tables, named.item, *req, fields),
         _ => false,
     }
 }

@@ -1,7 +1,8 @@
 //! The rules that each record of a log has to keep, given what the earlier records declare. Each rule is one small test, named as its definition is.
 //!
 //! Each function answers exactly its definition in `Rules` of `semantics`, over the tables of the earlier
-//! records (`LogTables` of `log_tables`). What a rule asks of the whole log is gathered once before
+//! records (`LogTables` of `log_tables`). What a record names of these is looked up once for all rules (`Named`).
+//! What a rule asks of the whole log is gathered once before
 //! (`WholeLog`), and what a rule counts is kept along the way (`Tally`). The order of the rules, and which
 //! fault is shown, are for `log_decl`. Begin with any rule, `names.rt` say.
 #![tactic(auto)]
@@ -14,6 +15,7 @@ mod events;
 mod fields;
 mod instances;
 mod load;
+mod named;
 mod names;
 mod own;
 mod pair_answers;
@@ -29,6 +31,7 @@ pub use counts::{has_many_reads, is_late};
 pub use events::{is_run_again, repeats_event};
 pub use instances::{is_mapped_again, is_not_covered, is_of_wrong_kind, is_of_wrong_tree};
 pub use load::has_much_load;
+pub use named::Named;
 pub use names::{names_unknown, repeats_id};
 pub use own::interferes_with_own;
 pub use requirements::{exceeds_tree, has_wrong_fields, is_not_in_tree};

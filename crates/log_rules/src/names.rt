@@ -1,14 +1,12 @@
 //! What has an id, and what a record names by one.
 
-ghost use Rattle.std.specs.Prelude.{◌≡◌, not, IfSome};
+ghost use Rattle.std.specs.Prelude.{◌≡◌};
 ghost use Rattle.std.specs.List.{list_all};
-ghost use Rattle.std.specs.List.Sorted.{IsStrictlyIncreasing};
-ghost use Rattle.std.specs.Option.{option_copied};
-ghost use Rattle.semantics.specs.Rules.{repeats_id, names_unknown, is_declared, names, lacks_req, reduced_by, held_by, item_id, named_req};
+ghost use Rattle.semantics.specs.Rules.{repeats_id, names_unknown, is_declared, names, lacks_req, reduced_by, held_by, item_id};
 
+use crate::named::Named;
 use log_tables::LogTables;
 use point_set::PointSet;
-use semantics::Req;
 use spy_grammar::{InstKind, PrivWord, Record};
 
 /// Whether a record declares an id that is declared already, or a colour that its partition has already.
@@ -55,9 +53,11 @@ fn has_items<P: PointSet>(tables: &LogTables<P>, ids: &[u32]) -> bool
 }
 
 /// Whether all that a record names is declared.
-fn knows_names<P: PointSet>(tables: &LogTables<P>, rec: &Record) -> bool
-    ensures { result ≡ list_all (is_declared tables.now) (names rec.now) }
+fn knows_names<P: PointSet>(named: &Named<'_, P>) -> bool
+    ensures { result ≡ list_all (is_declared named.now.tables.now) (names named.now.rec.now) }
 {
+    let tables = named.tables;
+    let rec = named.rec;
     match rec {
         Record::Part { space, .. } => tables.has_space(*space),
         Record::Sub { part, space, .. } => tables.has_part(*part) && tables.has_space(*space),
@@ -71,11 +71,11 @@ fn knows_names<P: PointSet>(tables: &LogTables<P>, rec: &Record) -> bool
             ..
         } => {
             tables.has_task(*task)
-                && tables.has_tree(*tree)
+                && named.has_tree(*tree)
                 && tables.has_space(*space)
                 && has_operator_of(tables, *access)
         }
-        Record::Fill { tree, space, .. } => tables.has_tree(*tree) && tables.has_space(*space),
+        Record::Fill { tree, space, .. } => named.has_tree(*tree) && tables.has_space(*space),
         Record::Serial { items } => has_items(tables, items.as_slice()),
         Record::Inst {
             tree,
@@ -83,9 +83,9 @@ fn knows_names<P: PointSet>(tables: &LogTables<P>, rec: &Record) -> bool
             kind,
             ..
         } => {
-            tables.has_tree(*tree) && tables.has_space(*space) && has_operator_held(tables, *kind)
+            named.has_tree(*tree) && tables.has_space(*space) && has_operator_held(tables, *kind)
         }
-        Record::Map { task, inst, .. } => tables.has_task(*task) && tables.has_inst(*inst),
+        Record::Map { task, inst, .. } => tables.has_task(*task) && named.has_inst(*inst),
         Record::Run { task, .. } => tables.has_task(*task),
         Record::Copy {
             src,
@@ -98,38 +98,27 @@ fn knows_names<P: PointSet>(tables: &LogTables<P>, rec: &Record) -> bool
             dst,
             space,
             ..
-        } => { tables.has_inst(*src) && tables.has_inst(*dst) && tables.has_space(*space) }
+        } => { named.has_inst(*src) && named.has_target(*dst) && tables.has_space(*space) }
         Record::Put { inst, space, .. } | Record::Reset { inst, space, .. } => {
-            tables.has_inst(*inst) && tables.has_space(*space)
+            named.has_inst(*inst) && tables.has_space(*space)
         }
         _ => true,
     }
 }
 
-/// The requirement of a task with this number.
-pub(crate) fn named_req<P: PointSet>(tables: &LogTables<P>, task: u32, number: u32) -> Option<&Req>
-    ensures req { option_copied result ≡ named_req tables.now task number }
-    ensures ascend { IfSome result (λ req. IsStrictlyIncreasing req.now.fields) }
-{
-    tables.req(tables.place(task), number)
-}
-
 /// Whether a record names a requirement that its task does not have.
-fn lacks_req<P: PointSet>(tables: &LogTables<P>, rec: &Record) -> bool
-    ensures { result ≡ lacks_req tables.now rec.now }
+fn lacks_req<P: PointSet>(named: &Named<'_, P>) -> bool
+    ensures { result ≡ lacks_req named.now.tables.now named.now.rec.now }
 {
-    match rec {
-        Record::Map { task, req, .. } => match named_req(tables, *task, *req) {
-            Some(_) => false,
-            None => true,
-        },
+    match named.rec {
+        Record::Map { .. } => !named.req.is_some(),
         _ => false,
     }
 }
 
 /// Whether a record names a thing that is not declared, or a requirement that its task does not have.
-pub fn names_unknown<P: PointSet>(tables: &LogTables<P>, rec: &Record) -> bool
-    ensures { result ≡ names_unknown tables.now rec.now }
+pub fn names_unknown<P: PointSet>(named: &Named<'_, P>) -> bool
+    ensures { result ≡ names_unknown named.now.tables.now named.now.rec.now }
 {
-    !knows_names(tables, rec) || lacks_req(tables, rec)
+    !knows_names(named) || lacks_req(named)
 }

@@ -14,6 +14,7 @@ ghost use Rattle.log_rules.specs.Tallied.{AreKept, IfKept, IfTally};
 
 use crate::claims::{FEW, ItemReq};
 use crate::fields::meets;
+use crate::named::Named;
 use crate::tally::{Tally, claims_many};
 use log_tables::{LogTables, priv_of};
 use memory::Memory;
@@ -141,17 +142,15 @@ fn clashes_own<P: PointSet>(
 /// It is held against the first few of its task, and against the places that the others claim: in a log of the second version those at points where cells of the grid of the whole log begin. Where the requirements ask for too many places, it is held against each earlier one of its task instead.
 pub fn interferes_with_own<P: PointSet>(
     alloc: Global,
-    tables: &LogTables<P>,
+    named: &Named<'_, P>,
     tally: &Tally,
-    rec: &Record,
 ) -> Result<bool, Memory>
-    requires { Ascends rec.now }
-    ensures { IfOk result (λ interferes. IfTally tables.now tally.now
-        (λ earlier. interferes ≡ interferes_with_own tables.now rec.now)) }
+    requires { Ascends named.now.rec.now }
+    ensures { IfOk result (λ interferes. IfTally named.now.tables.now tally.now
+        (λ earlier. interferes ≡ interferes_with_own named.now.tables.now named.now.rec.now)) }
 {
-    match rec {
+    match named.rec {
         Record::Req {
-            task,
             tree,
             space,
             fields,
@@ -159,11 +158,11 @@ pub fn interferes_with_own<P: PointSet>(
             ..
         } => clashes_own(
             alloc,
-            tables,
+            named.tables,
             tally,
-            claims_many(tables, tally, rec),
+            claims_many(named.tables, tally, named.rec),
             &ItemReq {
-                item: tables.place(*task),
+                item: named.item,
                 tree: *tree,
                 space: *space,
                 fields: fields.as_slice(),

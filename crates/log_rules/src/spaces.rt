@@ -1,12 +1,13 @@
 //! Spaces, and which lie below which.
 
-ghost use Rattle.std.specs.Prelude.{◌≡◌, ◌==◌, ◌||◌, length, min};
-ghost use Rattle.vocabulary.specs.Prelude.{upward, space_above, is_in, is_in_tree};
+ghost use Rattle.std.specs.Prelude.{◌≡◌, ◌==◌, ◌||◌, false, length, min};
+ghost use Rattle.std.specs.Option.{option_map_or};
+ghost use Rattle.vocabulary.specs.Prelude.{upward, space_above, spaces_above, is_in, is_in_tree};
 ghost use Rattle.semantics.specs.Rules.{is_of_other_version, is_sub_again, is_late_sub, is_too_deep, is_no_root};
 
 use log_tables::LogTables;
 use point_set::PointSet;
-use semantics::DEEPEST;
+use semantics::{DEEPEST, Tree};
 use spy_grammar::Record;
 
 /// Whether a record declares a space by rectangles in a log that is not of the second version.
@@ -93,13 +94,21 @@ fn lies_below<P: PointSet>(tables: &LogTables<P>, space: u32, root: u32, limit: 
     false
 }
 
-/// Whether a space is the root space of a tree, or lies below it.
-pub fn is_in_tree<P: PointSet>(tables: &LogTables<P>, tree: u32, space: u32) -> bool
-    ensures { result ≡ is_in_tree tables.now tree space }
+/// Whether a space is the root space of a tree, if it is declared, or lies below it.
+pub(crate) fn lies_in<P: PointSet>(tables: &LogTables<P>, tree: Option<Tree>, space: u32) -> bool
+    ensures { result ≡ option_map_or (λ r. (space == r.space) || is_in (spaces_above tables.now space) r.space)
+        tree false }
 {
-    match tables.tree(tree) {
+    match tree {
         Some(tree) => space == tree.space
             || lies_below(tables, space, tree.space, tables.sub_count()),
         None => false,
     }
+}
+
+/// Whether a space is the root space of a tree, or lies below it.
+pub fn is_in_tree<P: PointSet>(tables: &LogTables<P>, tree: u32, space: u32) -> bool
+    ensures { result ≡ is_in_tree tables.now tree space }
+{
+    lies_in(tables, tables.tree(tree), space)
 }

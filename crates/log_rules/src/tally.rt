@@ -18,7 +18,7 @@ ghost use Rattle.log_rules.specs.Tallied.{AreAtEnd, IfTally, IsTally, Keeps, May
 use crate::claim_points::ClaimPoints;
 use crate::claims::{Claims, FEW, ItemReq};
 use crate::counts::{cells_asked, points_asked, size_asked};
-use crate::names::named_req;
+use crate::named::Named;
 use crate::serial::note_all;
 use crate::space_pairs::SpacePairs;
 use grid::Grid;
@@ -27,7 +27,7 @@ use log_limits::{Corners, access_total, cell_total, exceeds, raised};
 use log_tables::{LogTables, priv_of};
 use memory::Memory;
 use point_set::PointSet;
-use semantics::{MOST_ACCESSES, MOST_ATOMS, MOST_CELLS, MOST_POINTS};
+use semantics::{Inst, MOST_ACCESSES, MOST_ATOMS, MOST_CELLS, MOST_POINTS, Req, Tree};
 use spy_grammar::{Lined, Record};
 use std::alloc::{AllocError, Global};
 
@@ -178,11 +178,11 @@ impl Tally {
         &mut self,
         tables: &LogTables<P>,
         space: u32,
-        inst: u32,
+        inst: Option<&Inst>,
     ) -> Result<(), AllocError>
         ensures { OnOk result (Keeps tables.now self.old self.new) }
     {
-        match tables.inst(inst) {
+        match inst {
             Some(inst) => self.remember_within(tables, space, inst.space),
             None => Ok(()),
         }
@@ -193,8 +193,8 @@ impl Tally {
         &mut self,
         tables: &LogTables<P>,
         space: u32,
-        src: u32,
-        dst: u32,
+        src: Option<&Inst>,
+        dst: Option<&Inst>,
     ) -> Result<(), AllocError>
         ensures { OnOk result (Keeps tables.now self.old self.new) }
     {
@@ -207,13 +207,12 @@ impl Tally {
     fn remember_mapped<P: PointSet>(
         &mut self,
         tables: &LogTables<P>,
-        task: u32,
-        number: u32,
-        inst: u32,
+        req: Option<&Req>,
+        inst: Option<&Inst>,
     ) -> Result<(), AllocError>
         ensures { OnOk result (Keeps tables.now self.old self.new) }
     {
-        match named_req(tables, task, number) {
+        match req {
             Some(req) => self.remember_held(tables, req.space, inst),
             None => Ok(()),
         }
@@ -224,11 +223,11 @@ impl Tally {
         &mut self,
         tables: &LogTables<P>,
         space: u32,
-        tree: u32,
+        tree: Option<Tree>,
     ) -> Result<(), AllocError>
         ensures { OnOk result (Keeps tables.now self.old self.new) }
     {
-        match tables.tree(tree) {
+        match tree {
             Some(tree) => self.remember_within(tables, space, tree.space),
             None => Ok(()),
         }
@@ -238,12 +237,11 @@ impl Tally {
     fn remember_few<P: PointSet>(
         &mut self,
         tables: &LogTables<P>,
-        task: u32,
+        item: usize,
         space: u32,
     ) -> Result<(), AllocError>
         ensures { OnOk result (Keeps tables.now self.old self.new) }
     {
-        let item = tables.place(task);
         for before in 0..FEW {
             let Some(req) = tables.req(item, before as u32 + 1) else {
                 return Ok(());
@@ -254,39 +252,22 @@ impl Tally {
     }
 
     /// Remembers what the rules on a record ask of two spaces, of which one has many cells, so that two such spaces are held against each other by their sets once in a log, however many records ask for it. In a log of the first version no space has many, and nothing is remembered.
-    pub fn remember<P: PointSet>(
-        &mut self,
-        tables: &LogTables<P>,
-        rec: &Record,
-    ) -> Result<(), AllocError>
-        ensures { OnOk result (Keeps tables.now self.old self.new) }
+    pub fn remember<P: PointSet>(&mut self, named: &Named<'_, P>) -> Result<(), AllocError>
+        ensures { OnOk result (Keeps named.now.tables.now self.old self.new) }
     {
+        let tables = named.tables;
         if !tables.is_planar() {
             return Ok(());
         }
-        match rec {
-            Record::Req { task, space, .. } => self.remember_few(tables, *task, *space),
-            Record::Inst { tree, space, .. } => self.remember_rooted(tables, *space, *tree),
-            Record::Map {
-                task,
-                req,
-                inst,
-                ..
-            } => self.remember_mapped(tables, *task, *req, *inst),
-            Record::Copy {
-                src,
-                dst,
-                space,
-                ..
+        match named.rec {
+            Record::Req { space, .. } => self.remember_few(tables, named.item, *space),
+            Record::Inst { space, .. } => self.remember_rooted(tables, *space, named.tree),
+            Record::Map { .. } => self.remember_mapped(tables, named.req, named.inst),
+            Record::Copy { space, .. } | Record::Fold { space, .. } => {
+                self.remember_both(tables, *space, named.inst, named.target)
             }
-            | Record::Fold {
-                src,
-                dst,
-                space,
-                ..
-            } => { self.remember_both(tables, *space, *src, *dst) }
-            Record::Put { inst, space, .. } | Record::Reset { inst, space, .. } => {
-                self.remember_held(tables, *space, *inst)
+            Record::Put { space, .. } | Record::Reset { space, .. } => {
+                self.remember_held(tables, *space, named.inst)
             }
             _ => Ok(()),
         }

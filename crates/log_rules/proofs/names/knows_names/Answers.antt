@@ -7,7 +7,7 @@ use Rattle.log_rules.proofs.names.knows_names.Goals as goal
 
 pub returns-in-Serial : goal.returns-in-Serial
 returns-in-Serial g c =
-    let t = c.args.tables.now in
+    let t = c.args.named.now.tables.now in
     c.has_items.ensures ∙ ap (list_all (λ id. is_declared t (item_id id))) c.as_slice.ensures
     ∙ sym (list_all-map (is_declared t) (λ id. item_id id) c.in-Serial.items)
     ∙ ap (λ (r : Record). list_all (is_declared t) (names r)) (sym c.in-Serial.is)
