@@ -6,9 +6,9 @@ ghost use Rattle.spy_words.specs.Classes.{any_number, id, extent, fields, waits,
 ghost use Rattle.spy_grammar.specs.Reading.{Left, read_word, read_ids, ended, next_word};
 
 use spy_words::{
-    Extent, Gathered, InstKind, LineFault, Nums, Pieces, PrivWord, Set, access_of, ascending,
-    at_least_one, coherence_text, each_of, either, extent_of, keep, layout_of, list_of, meet,
-    number_of, outcome_of, split_text,
+    Extent, InstKind, LineFault, Nums, Pieces, PrivWord, Set, access_of, at_least_one,
+    coherence_text, each_of, either, extent_of, fields_of, keep, layout_of, list_gathered, meet,
+    number_of, outcome_of, split_text, waits_of,
 };
 use std::alloc::{AllocError, Global};
 use std::marker::Model;
@@ -80,18 +80,16 @@ impl<'a> RowReader<'a> {
     pub fn fields(&mut self) -> Result<Nums, AllocError>
         ensures { IfOk result (λ x. read_word fields self.old ≡ (x, self.new)) }
     {
-        let read = ascending(at_least_one(list_of(self.alloc, 0, self.next())?));
-        let numbers = keep(&mut self.met, read, Gathered::new(self.alloc));
-        Nums::from_gathered(self.alloc, numbers)
+        let read = fields_of(self.alloc, self.next())?;
+        Ok(keep(&mut self.met, read, Nums::new()))
     }
 
     /// Events, or none.
     pub fn waits(&mut self) -> Result<Nums, AllocError>
         ensures { IfOk result (λ x. read_word waits self.old ≡ (x, self.new)) }
     {
-        let read = list_of(self.alloc, 1, self.next())?;
-        let numbers = keep(&mut self.met, read, Gathered::new(self.alloc));
-        Nums::from_gathered(self.alloc, numbers)
+        let read = waits_of(self.alloc, self.next())?;
+        Ok(keep(&mut self.met, read, Nums::new()))
     }
 
     /// Whether a partition is disjoint.
@@ -131,8 +129,8 @@ impl<'a> RowReader<'a> {
         ensures { IfOk result (λ x. read_ids self.old ≡ (x, self.new)) }
     {
         let read = at_least_one(each_of(self.alloc, 1, &mut self.words)?);
-        let numbers = keep(&mut self.met, read, Gathered::new(self.alloc));
-        Nums::from_gathered(self.alloc, numbers)
+        let read = list_gathered(self.alloc, read)?;
+        Ok(keep(&mut self.met, read, Nums::new()))
     }
 
     /// What was read, unless a fault was met or words are left.

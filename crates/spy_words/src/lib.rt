@@ -9,6 +9,7 @@ mod access;
 mod cut;
 mod fault;
 mod lists;
+mod number_words;
 mod parts;
 mod short_lists;
 mod words;
@@ -17,9 +18,10 @@ pub use access::{InstKind, PrivWord};
 pub use cut::Pieces;
 pub use fault::{LineFault, keep, meet, outcome_of};
 pub use lists::{Extent, ListOf, Quad, Rects, Set};
+pub use number_words::{fields_of, list_gathered, waits_of};
 pub use parts::{
-    GatherParts, ListPart, Read, are_fit, ascend, ascending, at_least_one, each_of, extent_of,
-    list_of, push_after, push_list,
+    GatherParts, ListPart, Read, are_fit, ascend, at_least_one, each_of, extent_of, push_after,
+    push_list,
 };
 pub use short_lists::{Gathered, Nums};
 pub use words::{

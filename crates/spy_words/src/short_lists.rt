@@ -1,6 +1,6 @@
 //! Lists of numbers. A log has many, and most of them are short.
 
-ghost use Rattle.std.specs.Prelude.{◌≡◌, [], length, IfOk, IfSome};
+ghost use Rattle.std.specs.Prelude.{◌≡◌, [], ◌∷◌, length, IfOk, IfSome};
 
 use smallvec::SmallVec;
 use std::alloc::{AllocError, Global};
@@ -59,6 +59,15 @@ impl Nums {
         ensures { result ≡ [] }
     {
         Nums { items: Items::Few0 }
+    }
+
+    /// One number.
+    pub fn one(number: u32) -> Nums
+        ensures { result ≡ number ∷ [] }
+    {
+        Nums {
+            items: Items::Few1([number]),
+        }
     }
 
     /// The list of these numbers.

@@ -385,3 +385,14 @@ class_again layout (instances.Red op) good = (ap (map_ok (λ op. instances.Red o
 class_again split true good = (refl, above_all 32 (codes "disjoint") refl)
 class_again coherence true good = (refl, above_all 32 (codes "at") refl)
 class_again c x good = (refl, above_all 32 (word_of c x) refl)
+
+-- A word that says one number says the list of it.
+pub one_field : (w : List ℕ) (n : ℕ) → number_from 0 w ≡ Ok n → meaning_at fields w ≡ Ok (n ∷ [])
+one_field w n e =
+    let t = number_takes 0 w n e in
+    ap (meaning_at fields) t.0 ∙ (class_again fields (n ∷ []) ((t.1, tt), refl, λ e. absurd cc)).0
+
+pub one_wait : (w : List ℕ) (n : ℕ) → number_from 1 w ≡ Ok n → meaning_at waits w ≡ Ok (n ∷ [])
+one_wait w n e =
+    let t = number_takes 1 w n e in
+    ap (meaning_at waits) t.0 ∙ (class_again waits (n ∷ []) (t.1, tt)).0
