@@ -17,7 +17,7 @@ use Rattle.inst_steps.specs.Sweeps.{Pass, pass, pass_at, action_at, move_at, own
 use Rattle.std.proofs.lemmas.Option.{slice_get-get_or}
 use Rattle.std.specs.Prelude.{IfSome}
 use Rattle.inst_steps.specs.declared.spot.Spot.{Spot}
-use Rattle.inst_steps.specs.Stepping.{rest_actions, spots_left, spot_grid, spot_here, spot_actions, actions_from}
+use Rattle.inst_steps.specs.Stepping.{rest_actions, spots_left, spot_grid, spot_actions}
 
 -- ---- the sweeps of an operation make its moves
 
@@ -132,12 +132,6 @@ module _ {S : Type 0} (points : S → List ℕ) (t : Tables) where
       → spot_actions points t o ≡ map (action_at t act) (spots_left points o)
   spot_actions_are act None h = refl
   spot_actions_are act (Some s) h = ap (λ a. map (action_at t a) (spot_grid points s)) h
-
-  pub spot_step : (s : Spot S) (o : Option (Spot S)) → spot_grid points s ≡ spot_here s ∷ spots_left points o
-      → IfSome o (λ (n : Spot S). n.act ≡ s.act)
-      → actions_from points t s ≡ action_at t s.act (spot_here s) ∷ spot_actions points t o
-  spot_step s o e h = ap (map (action_at t s.act)) e
-      ∙ ap (λ rest. action_at t s.act (spot_here s) ∷ rest) (sym (spot_actions_are s.act o h))
 
 -- ---- the moves of a node
 

@@ -1,5 +1,5 @@
 -- What a node does, move by move.
-use Rattle.std.specs.Prelude.{◌≡◌, ℕ, ◌+◌, ◌<◌, ◌^◌, List, [], ◌++◌, map, flat_map, drop, length, slice_get, slice_index, Contains, Option, IfSome}
+use Rattle.std.specs.Prelude.{◌≡◌, ℕ, ◌+◌, ◌<◌, ◌^◌, List, [], ◌∷◌, ◌++◌, map, flat_map, drop, length, slice_get, slice_index, Contains, Option, IfSome}
 use Rattle.std.specs.Option.{option_map_or}
 use Rattle.vocabulary.specs.Prelude.{Move, LogNode, Op, Tables, reqs_of, req_at, moves_of}
 use Rattle.inst_steps.specs.declared.act.Action.{Action}
@@ -72,3 +72,7 @@ module _ {S : Type 0} (points : S → List ℕ) where
 
   abbrev pub at_left : Tables → Op → Option (At S) → List Action
   at_left t op at = option_map_or (left_from t op) at []
+
+-- What is done where an operation stands.
+abbrev pub actions_here : {S : Type 0} → Tables → Option (At S) → List Action
+actions_here t at = option_map_or (λ (a : At _). action_at t a.spot.act (spot_here a.spot) ∷ []) at []

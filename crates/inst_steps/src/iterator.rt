@@ -1,15 +1,15 @@
 //! What a node does, one move after the other.
 
-ghost use Rattle.std.specs.Prelude.{◌≡◌, ◌<◌, ◌∷◌, Some, None, length, IfSome, IfNone};
+ghost use Rattle.std.specs.Prelude.{◌≡◌, ◌<◌, ◌++◌, length, IfSome};
 ghost use Rattle.std.specs.Iterator.{YieldsFirst, item_count};
 ghost use Rattle.std.specs.List.{AllByRecursion};
 ghost use Rattle.listed_sets.specs.Meant.{listed_points};
 ghost use Rattle.inst_steps.specs.Acting.{IsBy, IsOwn, steps_in};
-ghost use Rattle.inst_steps.specs.Stepping.{AreNumbered, IsSpotOf, IsAt, at_left, rest_actions, moves_at, spot_here, spot_actions};
+ghost use Rattle.inst_steps.specs.Stepping.{AreNumbered, IsSpotOf, IsAt, actions_here, at_left, rest_actions, moves_at, spot_here, spot_actions};
 ghost use Rattle.inst_steps.specs.Sweeps.{action_at, passes_of, pass_at, actions_of_pass};
 
 use crate::act::Action;
-use crate::spot::{Spot, action_here, first_spot, next_spot};
+use crate::spot::{self, Spot, action_here, first_spot};
 use crate::sweep::{sweep_at, sweep_count};
 use cut_logs::CutLog;
 use listed_sets::Listed;
@@ -18,7 +18,7 @@ use semantics::{Move, Op};
 use std::marker::Model;
 
 /// Where an operation stands: in a sweep, and before the sweeps that are left after it.
-#[derive(Clone, Copy)]
+#[derive(Drop)]
 pub(crate) struct At<'l, S: PointSet + Copy> {
     pub(crate) spot: Spot<'l, S>,
     pub(crate) rest: usize,
@@ -106,26 +106,26 @@ fn start_from<'l, 'p, P: PointSet + Copy>(
     None
 }
 
-/// Where an operation stands after one move more.
-fn after<'l, 'p, P: PointSet + Copy>(
+/// Takes an operation one move on.
+fn go_on<'l, 'p, P: PointSet + Copy>(
     log: &CutLog<'l, '_, 'p, P>,
     op: &'l Op,
-    at: &At<'l, Listed<'l, 'p, P>>,
-) -> Option<At<'l, Listed<'l, 'p, P>>>
+    at: &mut Option<At<'l, Listed<'l, 'p, P>>>,
+)
     requires numbers { AreNumbered log.now }
-    requires at { IsAt listed_points log.now (Some at.now) }
-    ensures at { IsAt listed_points log.now result }
-    ensures actions { at_left listed_points log.now op.now (Some at.now)
-        ≡ action_at log.now at.now.spot.act (spot_here at.now.spot)
-        ∷ at_left listed_points log.now op.now result }
+    requires at { IsAt listed_points log.now at.old }
+    ensures at { IsAt listed_points log.now at.new }
+    ensures actions { at_left listed_points log.now op.now at.old
+        ≡ actions_here log.now at.old ++ at_left listed_points log.now op.now at.new }
 {
-    match next_spot(log, &at.spot) {
-        Some(spot) => Some(At {
-            spot,
-            rest: at.rest,
-        }),
-        None => start_from(log, op, at.rest),
+    let Some(here) = at else {
+        return;
+    };
+    if spot::go_on(log, &mut here.spot) {
+        return;
     }
+    let rest = here.rest;
+    *at = start_from(log, op, rest);
 }
 
 impl<'l, 'a, 'p, P: PointSet + Copy> Iterator for Actions<'l, 'a, 'p, P> {
@@ -136,9 +136,11 @@ impl<'l, 'a, 'p, P: PointSet + Copy> Iterator for Actions<'l, 'a, 'p, P> {
     ghost remaining = { item_count (λ left. left) };
 
     fn next(&mut self) -> Option<Action> {
-        let at = self.at?;
-        let action = action_here(&at.spot);
-        self.at = after(&self.log, self.op, &at);
+        let action = match &self.at {
+            Some(at) => action_here(&at.spot),
+            None => return None,
+        };
+        go_on(&self.log, self.op, &mut self.at);
         Some(action)
     }
 }

@@ -1,6 +1,6 @@
 //! Where a sweep stands.
 
-ghost use Rattle.std.specs.Prelude.{◌≡◌, [], ◌∷◌, ◌++◌, IfSome, IfNone, slice_index};
+ghost use Rattle.std.specs.Prelude.{◌≡◌, [], ◌∷◌, ◌++◌, true, if◌then◌else◌, IfSome, IfNone, slice_index};
 ghost use Rattle.vocabulary.specs.Prelude.{Tables, grid};
 ghost use Rattle.inst_steps.specs.Stepping.{HasInst, IsSpotOf, spot_here, spot_grid, spots_left, IsWithin};
 ghost use Rattle.inst_steps.specs.Sweeps.{action_at, inst_for, move_at, req_in};
@@ -11,7 +11,7 @@ use point_set::{PointSet, next_after};
 use semantics::{Cell, Move};
 
 /// A point of a set and a field, by its place, at which an act is done next, and the instance to which a task's act is mapped in that field.
-#[derive(Clone, Copy)]
+#[derive(Drop)]
 pub(crate) struct Spot<'l, S: PointSet + Copy> {
     pub(crate) act: Act,
     pub(crate) set: S,
@@ -61,37 +61,29 @@ pub(crate) fn first_spot<'l, P: PointSet + Copy, S: PointSet + Copy>(
     }
 }
 
-/// The field after this one, or the first field of the point after. The instance is looked up only where the field is another.
-pub(crate) fn next_spot<'l, P: PointSet + Copy, S: PointSet + Copy>(
+/// Takes a spot to the field after its own, or to the first field of the point after its own, and tells whether there is one. The instance is looked up only where the field is another.
+pub(crate) fn go_on<P: PointSet + Copy, S: PointSet + Copy>(
     log: &CutLog<'_, '_, '_, P>,
-    spot: &Spot<'l, S>,
-) -> Option<Spot<'l, S>>
-    requires { IsSpotOf S.points log.now spot.now }
-    ensures spot { IfSome result (IsSpotOf S.points log.now) }
-    ensures act { IfSome result (λ s. s.act ≡ spot.now.act) }
-    ensures grid { spot_grid S.points spot.now ≡ spot_here spot.now ∷ spots_left S.points result }
+    spot: &mut Spot<'_, S>,
+) -> bool
+    requires { IsSpotOf S.points log.now spot.old }
+    ensures spot { result ≡ true → IsSpotOf S.points log.now spot.new }
+    ensures act { spot.new.act ≡ spot.old.act }
+    ensures grid { spot_grid S.points spot.old
+        ≡ spot_here spot.old ∷ (if result then spot_grid S.points spot.new else []) }
 {
     if spot.place + 1 < spot.fields.len() {
-        return Some(Spot {
-            act: spot.act,
-            set: spot.set,
-            fields: spot.fields,
-            point: spot.point,
-            place: spot.place + 1,
-            inst: inst_for(log, spot.act, spot.fields[spot.place + 1]),
-        });
+        spot.place += 1;
+        spot.inst = inst_for(log, spot.act, spot.fields[spot.place]);
+        return true;
     }
-    match next_after(&spot.set, spot.point) {
-        Some(point) => Some(Spot {
-            act: spot.act,
-            set: spot.set,
-            fields: spot.fields,
-            point,
-            place: 0,
-            inst: first_inst(log, spot),
-        }),
-        None => None,
-    }
+    let Some(point) = next_after(&spot.set, spot.point) else {
+        return false;
+    };
+    spot.inst = first_inst(log, spot);
+    spot.place = 0;
+    spot.point = point;
+    true
 }
 
 /// The instance of a spot's act in its first field.

@@ -1,10 +1,6 @@
-use Rattle.std.proofs.Common.{◌≡◌, ℕ, ◌+◌, ◌==◌, ◌&&◌, ◌∙◌, Option, Some, None, position, slice_get, sym, ap}
+use Rattle.std.proofs.Common.{◌+◌, ◌∙◌, Some, None, slice_get, sym, ap}
 use Rattle.std.specs.Option.{option_and_then, option_map}
-use Rattle.std.proofs.lemmas.Iterator.Adapters.{position_from-zero}
 use Rattle.std.proofs.lemmas.Option.{slice_get-get_or}
-use Rattle.vocabulary.specs.Prelude.{Req, Tables, reqs_of}
-use Rattle.list_lemmas.proofs.lemmas.Firsts.{find_by_place}
-use Rattle.inst_steps.specs.Stepping.{AreNumbered}
 use Rattle.inst_steps.proofs.Owning.{found_own, own_there}
 use Rattle.inst_steps.proofs.sweep.own_req.Goals as goal
 
