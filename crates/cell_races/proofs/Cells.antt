@@ -7,12 +7,12 @@ use Rattle.vocabulary.specs.Prelude.{Cell, comes_first, same_cell}
 use Rattle.cell_races.specs.declared.access.NodeAccess.{NodeAccess}
 use Rattle.cell_races.specs.declared.cell_accesses.CellAccess.{CellAccess}
 use Rattle.cell_races.specs.Accesses.{conflicts}
-use Rattle.cell_races.specs.CellAccesses.{key, comes_before}
+use Rattle.cell_races.specs.CellAccesses.{key, comes_before, IsUpTo, AreByCell}
 use Rattle.cell_races.specs.NodeAccesses.{node_access_of, node_accesses_of}
 use Rattle.cell_races.specs.Races.{race_in}
 use Rattle.cell_races.specs.Clashes.{Clash, IsFree, IsShown}
 use Rattle.std.proofs.lemmas.List.Elements.{Contains-append_right, Contains-append_cases, Contains-append_left, All-contains}
-use Rattle.list_lemmas.proofs.lemmas.Pairs.{AllPairs-parts, AllPairs-first}
+use Rattle.list_lemmas.proofs.lemmas.Pairs.{AllPairs-parts, AllPairs-first, AllPairs-so}
 use Rattle.list_lemmas.proofs.lemmas.Contained.{map_member, member_map, Contains-nil, Contains-cases, Contains-here}
 use Rattle.cell_races.proofs.Merging.{Climbs}
 use Rattle.cell_races.proofs.Sorting.{same_itself}
@@ -21,7 +21,7 @@ use Rattle.cell_races.proofs.Members.{pairs_map}
 
 -- ---- cells in order
 
-not_itself : (c : Cell) → comes_first (key c) (key c) ≡ false
+pub not_itself : (c : Cell) → comes_first (key c) (key c) ≡ false
 not_itself c = grind (arith, nat_tests)
 
 inst_is : (a b : Cell) → comes_first (key a) (key b) ≡ false → comes_first (key b) (key a) ≡ false → a.inst ≡ b.inst
@@ -64,17 +64,21 @@ abbrev pub BeginsElsewhere : Cell → List CellAccess → Type 0
 BeginsElsewhere c [] = Unit {0}
 BeginsElsewhere c (x ∷ xs) = x.cell ≡ c → ⊥
 
-gone : (r : CellAccess) (back : List CellAccess) → ((y : CellAccess) → Contains back y → NotAfter r y) → AllPairs NotAfter back → BeginsElsewhere r.cell back
-    → (y : CellAccess) → Contains back y → y.cell ≡ r.cell → ⊥
-gone r [] after o begins y m at = absurd (Contains-nil m)
-gone r (e ∷ back) after o begins y m at = elim (Contains-cases back m) [
+-- Where what follows an access does not begin at its cell, nothing of it is there.
+pub gone : (r : CellAccess) (back : List CellAccess) → ((y : CellAccess) → Contains back y → IsUpTo r y) → AreByCell back
+    → BeginsElsewhere r.cell back → (y : CellAccess) → Contains back y → y.cell ≡ r.cell → ⊥
+gone r [] up o begins y m at = absurd (Contains-nil m)
+gone r (e ∷ back) up o begins y m at = elim (Contains-cases back m) [
   | inl here ↦ begins (ap (λ (x : CellAccess). x.cell) (sym here) ∙ at)
-  | inr later ↦
-      let not_after = AllPairs-first NotAfter e back o y later in
-      begins (neither_first e.cell r.cell (or_parts _ (same_cell e.cell r.cell && nat_lt e.place r.place) (after e (Contains-here back))).0
-      (subst (λ c. comes_first (key c) (key e.cell) ≡ false) at
-      (or_parts _ (same_cell y.cell e.cell && nat_lt y.place e.place) not_after).0))
+  | inr later ↦ begins (neither_first e.cell r.cell (up e (Contains-here back))
+      (subst (λ c. comes_first (key c) (key e.cell) ≡ false) at (AllPairs-first IsUpTo e back o y later)))
 ]
+
+up_to : (x y : CellAccess) → NotAfter x y → IsUpTo x y
+up_to x y after = (or_parts _ (same_cell y.cell x.cell && nat_lt y.place x.place) after).0
+
+by_cell : (xs : List CellAccess) → AllPairs NotAfter xs → AreByCell xs
+by_cell xs o = AllPairs-so NotAfter IsUpTo xs (λ x y _ _. up_to x y) o
 
 pub cell_of : (front : List CellAccess) (r : CellAccess) (here back : List CellAccess) → AllPairs NotAfter (front ++ ((r ∷ here) ++ back))
     → IsApart front ((r ∷ here) ++ back)
@@ -86,7 +90,7 @@ cell_of front r here back o apart at begins =
     record {
       at = at;
       not_front = λ x m e. apart x r m (Contains-here (here ++ back)) e;
-      not_back = gone r back after parts.1 begins;
+      not_back = gone r back (λ y m. up_to r y (after y m)) (by_cell back parts.1) begins;
       far = λ x y m n e. apart x y m (Contains-append_right (r ∷ here) back y n) e;
       least = λ x m. elim m [
         | inl in_here ↦ rw (at x in_here) (not_itself r.cell)

@@ -1,5 +1,5 @@
 -- What nodes do at cells, one entry for each cell that a move reads or changes.
-use Rattle.std.specs.Prelude.{◌≡◌, ◌≢◌, ℕ, ◌<◌, ◌≤◌, length, ◌||◌, ◌&&◌, nat_lt, Bool, false, List, [], ◌∷◌, AllPairs, if◌then◌else◌}
+use Rattle.std.specs.Prelude.{◌≡◌, ◌≢◌, ℕ, ◌<◌, ◌≤◌, ◌^◌, length, ◌||◌, ◌&&◌, nat_lt, Bool, false, List, [], ◌∷◌, AllPairs, if◌then◌else◌}
 use Rattle.std.specs.List.{slice_index_or}
 use Rattle.vocabulary.specs.Prelude.{Cell, Move, comes_first, same_cell}
 use Rattle.semantics.specs.declared.moves.Move.TheVariants.{Read, Write, Reduce, Copy, Put, Reset, Fold}
@@ -29,6 +29,17 @@ cell_accesses_of place (Fold op from to) = both_accessed place from to (Folds op
 -- Cells go by instance, point and field.
 abbrev pub key : Cell → ℕ × ℕ × ℕ
 key c = (c.inst, c.point, c.field)
+
+-- Point and field fit their types, so that they are digits of the cell's key.
+abbrev pub AreDigits : Cell → Type 0
+AreDigits c = (c.point < 2 ^ 64) × (c.field < 2 ^ 32)
+
+-- None is at a lesser cell than an earlier one.
+abbrev pub IsUpTo : CellAccess → CellAccess → Type 0
+IsUpTo x y = comes_first (key y.cell) (key x.cell) ≡ false
+
+abbrev pub AreByCell : List CellAccess → Type 0
+AreByCell cell_accesses = AllPairs IsUpTo cell_accesses
 
 -- The one is at a lesser cell, or at the same cell by an earlier node.
 abbrev pub comes_before : CellAccess → CellAccess → Bool

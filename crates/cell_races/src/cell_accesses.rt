@@ -1,8 +1,7 @@
 //! What nodes do at cells.
 
 ghost use Rattle.std.specs.Prelude.{◌≡◌, [], ◌∷◌, ◌++◌, OnOk, OnErr};
-ghost use Rattle.std.specs.List.Sorted.{IsPermutation};
-ghost use Rattle.cell_races.specs.CellAccesses.{cell_access, cell_accesses_of, both_accessed, AreInOrder};
+ghost use Rattle.cell_races.specs.CellAccesses.{cell_access, cell_accesses_of, both_accessed};
 
 use crate::access::Access;
 use semantics::{Cell, Move};
@@ -87,15 +86,4 @@ pub fn push_cell_accesses(
         Move::Copy { from, to } => push_both(cell_accesses, place, from, to, Access::Writes),
         Move::Fold { op, from, to } => push_both(cell_accesses, place, from, to, Access::Folds(op)),
     }
-}
-
-/// Puts accesses in the order of their cells, and those of a cell in replay order.
-pub fn sort_cell_accesses(cell_accesses: &mut Vec<CellAccess>)
-    ensures cell_accesses { IsPermutation cell_accesses.old.items cell_accesses.new.items }
-    ensures order { AreInOrder cell_accesses.new.items }
-{
-    cell_accesses.sort_unstable_by_key(|cell_access| {
-        let cell = cell_access.cell;
-        (cell.inst, cell.point, cell.field, cell_access.place)
-    });
 }

@@ -7,7 +7,8 @@ ghost use Rattle.cell_races.specs.CellAccesses.{AreInOrder};
 ghost use Rattle.cell_races.specs.Chained.{AreInTurn, IsFreeOf};
 
 use crate::access::NodeAccess;
-use crate::cell_accesses::{CellAccess, sort_cell_accesses};
+use crate::cell_accesses::CellAccess;
+use crate::cell_sort::sort_cell_accesses;
 use crate::frontier::Frontier;
 use crate::node_accesses::list_node_accesses;
 use crate::scan::cell_end;

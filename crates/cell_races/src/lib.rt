@@ -11,6 +11,7 @@
 mod access;
 mod cell_accesses;
 mod cell_scan;
+mod cell_sort;
 mod chained;
 mod chains;
 mod frontier;
@@ -20,7 +21,8 @@ mod scan;
 mod turns;
 
 pub use access::{Access, NodeAccess};
-pub use cell_accesses::{CellAccess, push_cell_accesses, sort_cell_accesses};
+pub use cell_accesses::{CellAccess, push_cell_accesses};
+pub use cell_sort::sort_cell_accesses;
 pub use chained::are_free_by_chains;
 pub use laws::{first_race_is_first, groups_tell};
 pub use scan::{FoundRace, cell_end, shown_race};

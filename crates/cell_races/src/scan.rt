@@ -10,8 +10,9 @@ ghost use Rattle.cell_races.specs.CellAccesses.{AreInOrder, IsCellEnd};
 ghost use Rattle.cell_races.specs.Clashes.{IsFree, IsShown};
 
 use crate::access::NodeAccess;
-use crate::cell_accesses::{CellAccess, sort_cell_accesses};
+use crate::cell_accesses::CellAccess;
 use crate::cell_scan::first_race;
+use crate::cell_sort::sort_cell_accesses;
 use crate::frontier::Frontier;
 use crate::node_accesses::list_node_accesses;
 use event_graph::{Graph, Order};

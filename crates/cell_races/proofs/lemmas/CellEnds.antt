@@ -25,8 +25,8 @@ module _ (cell_accesses : List CellAccess) (from end : ℕ) (is_end : IsCellEnd 
   module _ (in_order : AreInOrder cell_accesses) (apart : AreApart (take from cell_accesses) (drop from cell_accesses)) where
     pub one_cell : (x y : CellAccess) → Contains run x → Contains run y → x.cell ≡ y.cell
     one_cell x y m n =
-        parts.at cell_accesses from end is_end.behind is_end.within none is_end.same is_end.other in_order apart x m
-        ∙ sym (parts.at cell_accesses from end is_end.behind is_end.within none is_end.same is_end.other in_order apart y n)
+        parts.at cell_accesses from end is_end.behind is_end.within none is_end.same is_end.other x m
+        ∙ sym (parts.at cell_accesses from end is_end.behind is_end.within none is_end.same is_end.other y n)
 
     pub apart_still : AreApart (take end cell_accesses) (drop end cell_accesses)
     apart_still = parts.apart_more cell_accesses from end is_end.behind is_end.within none is_end.same is_end.other in_order apart

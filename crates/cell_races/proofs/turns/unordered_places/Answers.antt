@@ -23,8 +23,7 @@ pub note_cell-requires-clause-one : goal.note_cell-requires-clause-one
 note_cell-requires-clause-one c = λ y z m n.
     let x = c.cell_end-end.ensures in
     let run = take (c.cell_end-end.result - c.loop-from.from) (drop c.loop-from.from c.args.cell_accesses.now) in
-    let cell = at c.args.cell_accesses.now c.loop-from.from c.cell_end-end.result x.behind x.within none x.same x.other c.requires.in_order
-    c.loop-from.invariant.apart in
+    let cell = at c.args.cell_accesses.now c.loop-from.from c.cell_end-end.result x.behind x.within none x.same x.other in
     cell y m ∙ sym (cell z n)
 
 pub loop-from-preserved : goal.loop-from-preserved
