@@ -1,14 +1,16 @@
 //! Whether no two nodes race, as far as short chains of waits show it.
 
-ghost use Rattle.std.specs.Prelude.{◌≡◌, ◌<◌, true, All, IfOk, length};
+ghost use Rattle.std.specs.Prelude.{◌≡◌, ◌<◌, All, IfOk, length};
 ghost use Rattle.std.specs.List.Sorted.{IsPermutation};
 ghost use Rattle.event_graph.specs.Orders.{IsOrderOf};
 ghost use Rattle.cell_races.specs.CellAccesses.{AreInOrder};
 ghost use Rattle.cell_races.specs.Chained.{AreInTurn, IsFreeOf};
+ghost use Rattle.cell_races.specs.declared.chains.ByChains.TheVariants.{Free};
 
 use crate::access::NodeAccess;
 use crate::cell_accesses::CellAccess;
 use crate::cell_sort::sort_cell_accesses;
+use crate::chains::ByChains;
 use crate::frontier::Frontier;
 use crate::node_accesses::list_node_accesses;
 use crate::scan::cell_end;
@@ -24,18 +26,18 @@ fn are_in_turn(
     graph: &Graph,
     node_accesses: &[NodeAccess],
     steps: &mut usize,
-) -> Result<bool, AllocError>
+) -> Result<ByChains, AllocError>
     requires { All (λ a. a.node < length graph.now) node_accesses.now }
-    ensures { IfOk result (λ are. are ≡ true → AreInTurn graph.now node_accesses.now) }
+    ensures { IfOk result (λ by. by ≡ Free → AreInTurn graph.now node_accesses.now) }
 {
     frontier.clear();
     for node_access in node_accesses {
-        if !frontier.leads_to(graph, *node_access, steps) {
-            return Ok(false);
+        match frontier.ordered_by_chains(graph, *node_access, steps) {
+            ByChains::Free => frontier.take(*node_access)?,
+            untold => return Ok(untold),
         }
-        frontier.take(*node_access)?;
     }
-    Ok(true)
+    Ok(ByChains::Free)
 }
 
 /// Whether short chains show of accesses in order that no two nodes race, cell by cell.
@@ -45,11 +47,11 @@ fn are_free(
     order: &[usize],
     cell_accesses: &[CellAccess],
     steps: &mut usize,
-) -> Result<bool, AllocError>
+) -> Result<ByChains, AllocError>
     requires nodes { All (λ k. k < length graph.now) order.now }
     requires within { All (λ x. x.place < length order.now) cell_accesses.now }
     requires in_order { AreInOrder cell_accesses.now }
-    ensures { IfOk result (λ are. are ≡ true → IsFreeOf graph.now order.now cell_accesses.now) }
+    ensures { IfOk result (λ by. by ≡ Free → IsFreeOf graph.now order.now cell_accesses.now) }
 {
     let mut node_accesses = Vec::new(alloc);
     let mut frontier = Frontier::new(alloc);
@@ -57,12 +59,12 @@ fn are_free(
     while from < cell_accesses.len() {
         let end = cell_end(cell_accesses, from);
         list_node_accesses(&mut node_accesses, order, &cell_accesses[from..end])?;
-        if !are_in_turn(&mut frontier, graph, node_accesses.as_slice(), steps)? {
-            return Ok(false);
+        match are_in_turn(&mut frontier, graph, node_accesses.as_slice(), steps)? {
+            ByChains::Free => from = end,
+            untold => return Ok(untold),
         }
-        from = end;
     }
-    Ok(true)
+    Ok(ByChains::Free)
 }
 
 /// Whether chains of one wait or of two show that no two nodes race, of what they do at cells. No marks are made, and the time is that of a sort. What is done is put in the order of cells.
@@ -71,10 +73,10 @@ pub fn are_free_by_chains(
     graph: &Graph,
     order: &Order,
     cell_accesses: &mut Vec<CellAccess>,
-) -> Result<bool, AllocError>
+) -> Result<ByChains, AllocError>
     requires order { IsOrderOf graph.now order.now }
     requires within { All (λ x. x.place < length order.now) cell_accesses.old.items }
-    ensures free { IfOk result (λ are. are ≡ true → IsFreeOf graph.now order.now cell_accesses.old.items) }
+    ensures free { IfOk result (λ by. by ≡ Free → IsFreeOf graph.now order.now cell_accesses.old.items) }
     ensures same { IsPermutation cell_accesses.old.items cell_accesses.new.items }
 {
     sort_cell_accesses(cell_accesses);

@@ -2,8 +2,23 @@
 
 ghost use Rattle.std.specs.Prelude.{◌≡◌, true, All, IfSome};
 ghost use Rattle.vocabulary.specs.Prelude.{Before, WaitsOn};
+ghost use Rattle.cell_races.specs.declared.chains.ByChains.TheVariants.{Free};
 
 use event_graph::Graph;
+
+/// What short chains of waits tell of whether nodes race.
+#[derive(Clone, Copy)]
+pub enum ByChains {
+    /// They show that no two nodes race.
+    Free,
+    /// They do not tell.
+    Unknown,
+    /// They do not tell, and a node had to come after more nodes than they are likely to tell of.
+    Wide,
+}
+
+/// The most nodes after all of which short chains are likely to show that another comes.
+const LIKELY_TOLD: usize = 64;
 
 /// How many waits of a node are looked at.
 const WAITS_LOOKED_AT: usize = 32;
@@ -52,7 +67,7 @@ fn leads_to(graph: &Graph, a: usize, b: usize, steps: &mut usize) -> bool
 }
 
 /// Whether such a chain is found from each node of a group to a node. Each wait that is looked at takes a step of those that are left; where none is left, none is found.
-pub(crate) fn all_lead_to(graph: &Graph, group: &[usize], b: usize, steps: &mut usize) -> bool
+fn all_lead_to(graph: &Graph, group: &[usize], b: usize, steps: &mut usize) -> bool
     ensures { result ≡ true → All (λ a. Before graph.now a b) group.now }
 {
     for a in group {
@@ -61,4 +76,22 @@ pub(crate) fn all_lead_to(graph: &Graph, group: &[usize], b: usize, steps: &mut 
         }
     }
     true
+}
+
+/// Whether such chains show that a node comes after a whole group, and so races with none of it.
+pub(crate) fn ordered_by_chains(
+    graph: &Graph,
+    group: &[usize],
+    b: usize,
+    steps: &mut usize,
+) -> ByChains
+    ensures { result ≡ Free → All (λ a. Before graph.now a b) group.now }
+{
+    if all_lead_to(graph, group, b, steps) {
+        ByChains::Free
+    } else if group.len() > LIKELY_TOLD {
+        ByChains::Wide
+    } else {
+        ByChains::Unknown
+    }
 }

@@ -24,6 +24,7 @@ pub use access::{Access, NodeAccess};
 pub use cell_accesses::{CellAccess, push_cell_accesses};
 pub use cell_sort::sort_cell_accesses;
 pub use chained::are_free_by_chains;
+pub use chains::ByChains;
 pub use laws::{first_race_is_first, groups_tell};
 pub use scan::{FoundRace, cell_end, shown_race};
 pub use turns::unordered_places;

@@ -1,5 +1,6 @@
 -- What the nodes of a log do at cells, node by node in replay order.
-use Rattle.std.specs.Prelude.{ℕ, zero, suc, List, [], ◌++◌, flat_map, slice_index}
+use Rattle.std.specs.Prelude.{ℕ, zero, suc, List, [], ◌++◌, flat_map, length, slice_index}
+use Rattle.std.specs.List.Sorted.{IsPermutation}
 use Rattle.vocabulary.specs.Prelude.{Move, Tables}
 use Rattle.cell_races.specs.declared.cell_accesses.CellAccess.{CellAccess}
 use Rattle.cell_races.specs.CellAccesses.{cell_accesses_of}
@@ -20,3 +21,13 @@ cell_accesses_before t order n = accesses_before (moves_at t) order n
 -- of its fields.
 abbrev pub field_accesses_before : Tables → List ℕ → ℕ → List CellAccess
 field_accesses_before t order n = accesses_before (field_moves_at t) order n
+
+-- What all nodes of the order do at cells, in some order.
+abbrev pub AreAllCellsOf : Tables → List ℕ → List CellAccess → Type 0
+AreAllCellsOf t order cell_accesses =
+    IsPermutation (cell_accesses_before t order (length order)) cell_accesses
+
+-- The same if each space that has points had point 0 alone.
+abbrev pub AreAllFieldsOf : Tables → List ℕ → List CellAccess → Type 0
+AreAllFieldsOf t order cell_accesses =
+    IsPermutation (field_accesses_before t order (length order)) cell_accesses

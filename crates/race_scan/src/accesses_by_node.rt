@@ -1,10 +1,10 @@
 //! What the nodes of a log do at cells.
 
-ghost use Rattle.std.specs.Prelude.{◌≡◌, ◌<◌, ◌++◌, All, IfOk, OnOk, flat_map, length};
+ghost use Rattle.std.specs.Prelude.{◌≡◌, ◌<◌, ◌++◌, All, IfOk, IfSome, OnOk, flat_map, length};
 ghost use Rattle.cell_races.specs.CellAccesses.{cell_accesses_of};
 ghost use Rattle.inst_steps.specs.FieldMoves.{field_moves_at};
 ghost use Rattle.inst_steps.specs.Stepping.{moves_at};
-ghost use Rattle.race_scan.specs.Gathered.{cell_accesses_before, field_accesses_before};
+ghost use Rattle.race_scan.specs.Gathered.{AreAllCellsOf, cell_accesses_before, field_accesses_before};
 
 use cell_races::{CellAccess, push_cell_accesses};
 use cut_logs::CutLog;
@@ -44,6 +44,23 @@ pub(crate) fn cell_accesses_of<'a, P: ArenaSet<'a>>(
         push_node(&mut cell_accesses, log, place, order[place])?;
     }
     Ok(cell_accesses)
+}
+
+/// What all nodes do at cells, in some order: as it is given, or else gathered.
+pub(crate) fn given_or_gathered<'a, P: ArenaSet<'a>>(
+    alloc: Global,
+    log: &CutLog<'_, 'a, '_, P>,
+    order: &[usize],
+    given: Option<Vec<CellAccess>>,
+) -> Result<Vec<CellAccess>, AllocError>
+    requires nodes { All (λ k. k < length log.now.nodes) order.now }
+    requires given { IfSome given (λ v. AreAllCellsOf log.now order.now v.items) }
+    ensures { IfOk result (λ v. AreAllCellsOf log.now order.now v.items) }
+{
+    match given {
+        Some(cell_accesses) => Ok(cell_accesses),
+        None => cell_accesses_of(alloc, log, order),
+    }
 }
 
 /// Adds what a node would do at cells if each space that has points had point 0 alone. Its moves are listed in the room of those of earlier nodes.

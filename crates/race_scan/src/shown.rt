@@ -1,18 +1,17 @@
 //! The race of a log that is shown.
 
-ghost use Rattle.std.specs.Prelude.{◌≡◌, ◌<◌, true, All, IfErr, IfOk, MatchOption, None, OnOk, length};
-ghost use Rattle.std.specs.List.Sorted.{IsPermutation};
-ghost use Rattle.vocabulary.specs.Prelude.{Cell, Tables, graph_of, IsRaceFree};
+ghost use Rattle.std.specs.Prelude.{◌≡◌, ◌<◌, true, All, IfErr, IfOk, IfSome, MatchOption, None, OnOk, length};
+ghost use Rattle.vocabulary.specs.Prelude.{Cell, graph_of, IsRaceFree};
 ghost use Rattle.semantics.specs.Faults.{unmapped_fault};
 ghost use Rattle.event_graph.specs.Orders.{IsOrderOf};
 ghost use Rattle.reach_marks.specs.Reached.{AreMarksOf, before_in};
 ghost use Rattle.cell_races.specs.Clashes.{IsFree};
 ghost use Rattle.point_laws.specs.Alike.{AreFirsts};
 ghost use Rattle.race_scan.specs.Ends.{IsEndOf, IsShownIn};
-ghost use Rattle.race_scan.specs.Gathered.{cell_accesses_before, field_accesses_before};
+ghost use Rattle.race_scan.specs.Gathered.{AreAllCellsOf, AreAllFieldsOf, field_accesses_before};
 
-use crate::accesses_by_node::{cell_accesses_of, field_accesses_of};
-use cell_races::{CellAccess, FoundRace, are_free_by_chains, shown_race};
+use crate::accesses_by_node::{cell_accesses_of, field_accesses_of, given_or_gathered};
+use cell_races::{ByChains, CellAccess, FoundRace, are_free_by_chains, shown_race};
 use cut_logs::CutLog;
 use event_graph::{Graph, Order};
 use logs::Log;
@@ -66,22 +65,19 @@ fn is_free_by_fields(
     Ok(race.is_none())
 }
 
-/// The race that is shown of a log, by the marks of its graph, of what its nodes would do if each space that has points had point 0 alone, and of what they do. It is looked for at each cell only where two nodes would race so.
-fn race_by_marks(
+/// The race that is shown of a log that may be cut, by the marks of its graph. It is looked for at each cell only where two nodes would race if each space that has points had point 0 alone. What is done at cells is gathered there, unless it is given.
+fn race_by_marks<'a, P: ArenaSet<'a>>(
     alloc: Global,
+    log: &CutLog<'_, 'a, '_, P>,
     sorted: &SortedNodes<'_>,
     field_accesses: Vec<CellAccess>,
-    cell_accesses: Vec<CellAccess>,
+    cell_accesses: Option<Vec<CellAccess>>,
 ) -> Result<Option<FoundRace>, Memory>
+    requires graph { sorted.now.graph.now ≡ graph_of log.now.nodes }
     requires order { IsOrderOf sorted.now.graph.now sorted.now.order.now }
-    requires fields { All (λ x. x.place < length sorted.now.order.now) field_accesses.items }
-    requires cells { All (λ x. x.place < length sorted.now.order.now) cell_accesses.items }
-    ensures { IfOk result (λ r. (t : Tables) → sorted.now.graph.now ≡ graph_of t.nodes
-        → IsPermutation (field_accesses_before t sorted.now.order.now (length sorted.now.order.now))
-        field_accesses.items
-        → IsPermutation (cell_accesses_before t sorted.now.order.now (length sorted.now.order.now))
-        cell_accesses.items
-        → MatchOption r (IsRaceFree t) (IsShownIn t)) }
+    requires fields { AreAllFieldsOf log.now sorted.now.order.now field_accesses.items }
+    requires cells { IfSome cell_accesses (λ v. AreAllCellsOf log.now sorted.now.order.now v.items) }
+    ensures { IfOk result (λ r. MatchOption r (IsRaceFree log.now) (IsShownIn log.now)) }
 {
     let _linked = sorted.graph.len();
     let reach = Reach::build(alloc, sorted.graph, sorted.order)?;
@@ -89,11 +85,33 @@ fn race_by_marks(
     if is_free {
         return Ok(None);
     }
+    let cell_accesses = given_or_gathered(alloc, log, sorted.order.as_slice(), cell_accesses)?;
     let race = shown_race(alloc, sorted.graph, sorted.order, &reach, cell_accesses)?;
     Ok(race)
 }
 
-/// The race that is shown of a log that may be cut, by what its nodes would do if each space that has points had point 0 alone. Marks of what is before what are made only where short chains of waits do not show that no two nodes race.
+/// The race that is shown of a log that may be cut, where short chains of waits by fields do not tell, but may by cells.
+fn race_by_cells<'a, P: ArenaSet<'a>>(
+    alloc: Global,
+    log: &CutLog<'_, 'a, '_, P>,
+    sorted: &SortedNodes<'_>,
+    field_accesses: Vec<CellAccess>,
+) -> Result<Option<FoundRace>, Memory>
+    requires graph { sorted.now.graph.now ≡ graph_of log.now.nodes }
+    requires order { IsOrderOf sorted.now.graph.now sorted.now.order.now }
+    requires fields { AreAllFieldsOf log.now sorted.now.order.now field_accesses.items }
+    ensures { IfOk result (λ r. MatchOption r (IsRaceFree log.now) (IsShownIn log.now)) }
+{
+    let _linked = sorted.graph.len();
+    let _placed = sorted.order.places();
+    let mut cell_accesses = cell_accesses_of(alloc, log, sorted.order.as_slice())?;
+    match are_free_by_chains(alloc, sorted.graph, sorted.order, &mut cell_accesses)? {
+        ByChains::Free => Ok(None),
+        _ => race_by_marks(alloc, log, sorted, field_accesses, Some(cell_accesses)),
+    }
+}
+
+/// The race that is shown of a log that may be cut, by what its nodes would do if each space that has points had point 0 alone. Marks of what is before what are made only where short chains of waits do not show that no two nodes race. Where chains by fields fail at a large group, those by cells would hardly tell, and what is done at cells is not gathered for them.
 fn race_among<'a, P: ArenaSet<'a>>(
     alloc: Global,
     log: &CutLog<'_, 'a, '_, P>,
@@ -109,14 +127,11 @@ fn race_among<'a, P: ArenaSet<'a>>(
     let _linked = sorted.graph.len();
     let _placed = sorted.order.places();
     let mut field_accesses = field_accesses;
-    if are_free_by_chains(alloc, sorted.graph, sorted.order, &mut field_accesses)? {
-        return Ok(None);
+    match are_free_by_chains(alloc, sorted.graph, sorted.order, &mut field_accesses)? {
+        ByChains::Free => Ok(None),
+        ByChains::Unknown => race_by_cells(alloc, log, sorted, field_accesses),
+        ByChains::Wide => race_by_marks(alloc, log, sorted, field_accesses, None),
     }
-    let mut cell_accesses = cell_accesses_of(alloc, log, sorted.order.as_slice())?;
-    if are_free_by_chains(alloc, sorted.graph, sorted.order, &mut cell_accesses)? {
-        return Ok(None);
-    }
-    race_by_marks(alloc, sorted, field_accesses, cell_accesses)
 }
 
 /// The race that is shown of a log that may be cut. Which node is before which is looked for only where some node does something at a field.

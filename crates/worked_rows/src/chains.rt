@@ -1,7 +1,8 @@
 //! What waits order: in one step, in two, and over more or later ones, of which marks have to tell.
 
+use std::alloc::Global;
 use std::test::Fail;
-use worked_answers::{Status, answer_edited};
+use worked_answers::{Status, answer, answer_edited, framed};
 
 /// A task writes what another reads.
 const WRITE_AND_READ: &[u8] = b"legion-spy 1
@@ -19,6 +20,34 @@ run 1 1 -
 run 2 2 1
 end 12
 ";
+
+/// A task reads a point of an instance that holds what there is at the start.
+const ONE_READER: &[u8] = b"ispace 1 0
+fields 1 1
+tree 1 1 1
+inst 1 1 1 1 home
+task 1
+req 1 1 1 1 ro ex
+map 1 1 1 1
+run 1 1 -
+";
+
+/// A log of 70 such tasks, each of which waits on the one before it, and of one that writes the point and waits on an event.
+fn many_readers(alloc: Global, event: u64) -> Result<Vec<u8>, Fail> {
+    let mut lines = ONE_READER.to_vec(alloc)?;
+    for before in 1..70u64 {
+        let task = before.wrapping_add(1);
+        let reader = format!(in alloc;
+            "task {task}\nreq {task} 1 1 1 ro ex\nmap {task} 1 1 1\nrun {task} {task} {before}\n"
+        )?;
+        lines.extend_from_slice(reader.as_bytes())?;
+    }
+    let writer = format!(in alloc;
+        "task 71\nreq 71 1 1 1 wd ex\nmap 71 1 1 1\nrun 71 71 {event}\n"
+    )?;
+    lines.extend_from_slice(writer.as_bytes())?;
+    framed(alloc, &lines)
+}
 
 #[test]
 #[rattlefmt::skip]
@@ -38,6 +67,27 @@ fn ordered_by_chains_of_waits(rt: HostRuntime) -> Result<(), Fail> {
     ];
     for (edits, status, report) in rows {
         let (ended, said) = answer_edited(alloc, "check", WRITE_AND_READ, edits)?;
+        assert_eq!(rt; said.as_slice(), report);
+        assert!(rt; ended == status);
+    }
+    Ok(())
+}
+
+#[test]
+fn ordered_behind_many_readers(rt: HostRuntime) -> Result<(), Fail> {
+    let alloc = rt.alloc();
+    // The writer waits on the last reader alone, or on the last but one.
+    let rows: [(u64, Status, &[u8]); 2] = [
+        (
+            70,
+            Status::Yes,
+            b"accepted tasks 71 operations 71 reads 70\n",
+        ),
+        (69, Status::Refused, b"race 70 71 inst 1 point 0 field 1\n"),
+    ];
+    for (event, status, report) in rows {
+        let log = many_readers(alloc, event)?;
+        let (ended, said) = answer(alloc, "check", &log)?;
         assert_eq!(rt; said.as_slice(), report);
         assert!(rt; ended == status);
     }

@@ -26,7 +26,7 @@ pub loop-from-preserved : goal.loop-from-preserved
 loop-from-preserved c =
     let x = c.cell_end-end.ensures in
     let listed = c.as_slice.ensures.value ∙ c.in_ok-list_node_accesses.ensures in
-    let in_turn = subst (AreInTurn c.args.graph.now) listed (c.in_ok-are_in_turn.ensures c.if-not-branch.false) in
+    let in_turn = subst (AreInTurn c.args.graph.now) listed (c.in_ok-untold.ensures c.in-Free.is) in
     record {
       within = x.within;
       free = λ marks are. none_more c.args.cell_accesses.now c.loop-from.from c.cell_end-end.result x.behind x.within none x.same x.other

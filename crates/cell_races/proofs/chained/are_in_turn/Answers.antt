@@ -23,7 +23,7 @@ loop-node_access-preserved c = λ marks are.
     let goes = transitive nodes marks are in
     let race_free = never_fails nodes marks are c.loop-node_access.frontier x
     (asked_within goes h.1 x (length nodes) (All-take (λ (y : NodeAccess). y.node < length nodes) i xs c.requires)) (c.requires i none lt)
-    (c.leads_to.ensures c.if-not-leads_to.false) in (
+    (c.ordered_by_chains.ensures c.in-Free.is) in (
       h.0 ∙ race_later (before_in marks) xs i none lt (sym (tells goes h.1 x) ∙ race_free),
-      rw (take_more xs i none lt, c.in_ok-take.ensures) (stands_more goes h.1 x race_free),
+      rw (take_more xs i none lt, c.in_ok-take-in-Free.ensures) (stands_more goes h.1 x race_free),
     )
