@@ -3,10 +3,10 @@ use Rattle.std.proofs.Common.{◌≡◌, ℕ, ◌==◌, ◌<◌, inl, inr, Bool,
 use Rattle.std.specs.List.{position_or_len}
 use Rattle.std.proofs.lemmas.Bool.{true≢false, cases_Bool, eqb-true}
 use Rattle.std.proofs.lemmas.Bool.Decides.{nat_tests}
-use Rattle.std.proofs.lemmas.List.{get_or_default}
+use Rattle.std.proofs.lemmas.List.{get_or_default, length-map}
 use Rattle.std.proofs.lemmas.List.Quantifiers.{position-Some}
 use Rattle.std.proofs.lemmas.List.Sums.{fails_before_first}
-use Rattle.vocabulary.specs.Prelude.{Node, AreLinked}
+use Rattle.vocabulary.specs.Prelude.{AreLinked, Node, Tables, graph_of}
 use Rattle.event_graph.specs.Orders.{IsOrderOf}
 use Rattle.event_graph.proofs.lemmas.Whole.{order_within, order_whole}
 use Rattle.reach_marks.specs.Reached.{Marks, AreMarksOf}
@@ -59,3 +59,9 @@ all_placed nodes order marks is are linked = record {
   whole = order_whole nodes order is linked;
   placed = λ p. subst (λ ns. p < length ns → slice_index marks.places (slice_index ns p) ≡ p) (sym is.replayed) (are.places.placed p);
 }
+
+-- The nodes of an order are of the log of whose nodes the graph is.
+pub order_in_log : (t : Tables) (nodes : List Node) (order : List ℕ) → nodes ≡ graph_of t.nodes → IsOrderOf nodes order
+    → All (λ k. k < length t.nodes) order
+order_in_log t nodes order graph is =
+    subst (λ n. All (λ k. k < n) order) (ap (λ ns. length ns) graph ∙ length-map t.nodes _) (order_below nodes order is)

@@ -1,8 +1,9 @@
 //! The race of a recorded run that is shown: two nodes that conflict at a cell, neither before the other.
 //!
-//! `scan` answers it exactly where the whole log has one, though it looks at one point of each
-//! kind alone, and at no point where short chains of waits order whatever conflicts in a field of an
-//! instance. What is before what is marked only where such chains do not show that there is no race.
+//! `scan` answers it exactly where the whole log has one, though it looks at one point of each kind alone. Where
+//! nodes do little at these points, that is looked at first. Else fields of instances are, and no point where
+//! short chains of waits order whatever conflicts in one. What is before what is marked only where such chains
+//! do not show that there is no race.
 //! `accesses_by_node.rt` gathers what nodes access, and `cell_races` finds the race; begin with `shown.rt`,
 //! which ties the two to the log.
 #![tactic(auto)]

@@ -8,9 +8,12 @@ ghost use Rattle.reach_marks.specs.Reached.{AreMarksOf, before_in};
 ghost use Rattle.cell_races.specs.Clashes.{IsFree};
 ghost use Rattle.point_laws.specs.Alike.{AreFirsts};
 ghost use Rattle.race_scan.specs.Ends.{IsEndOf, IsShownIn};
-ghost use Rattle.race_scan.specs.Gathered.{AreAllCellsOf, AreAllFieldsOf, field_accesses_before};
+ghost use Rattle.race_scan.specs.Gathered.{AreAllCellsOf, AreAllFieldsOf, cell_accesses_before, field_accesses_before};
 
-use crate::accesses_by_node::{cell_accesses_of, field_accesses_of, given_or_gathered};
+use crate::accesses_by_node::{
+    cell_accesses_of, cells_given_or_gathered, few_cell_accesses, field_accesses_of,
+    fields_given_or_gathered,
+};
 use cell_races::{ByChains, CellAccess, FoundRace, are_free_by_chains, shown_race};
 use cut_logs::CutLog;
 use event_graph::{Graph, Order};
@@ -85,30 +88,49 @@ fn race_by_marks<'a, P: ArenaSet<'a>>(
     if is_free {
         return Ok(None);
     }
-    let cell_accesses = given_or_gathered(alloc, log, sorted.order.as_slice(), cell_accesses)?;
+    let cell_accesses = cells_given_or_gathered(
+        alloc,
+        log,
+        sorted.order.as_slice(),
+        cell_accesses,
+    )?;
     let race = shown_race(alloc, sorted.graph, sorted.order, &reach, cell_accesses)?;
     Ok(race)
 }
 
-/// The race that is shown of a log that may be cut, where short chains of waits by fields do not tell, but may by cells.
+/// The race that is shown of a log that may be cut, by what its nodes do at cells. Marks are made only where short chains of waits do not tell, and what is done by fields is gathered only there, unless it is given.
 fn race_by_cells<'a, P: ArenaSet<'a>>(
     alloc: Global,
     log: &CutLog<'_, 'a, '_, P>,
     sorted: &SortedNodes<'_>,
-    field_accesses: Vec<CellAccess>,
+    cell_accesses: Vec<CellAccess>,
+    field_accesses: Option<Vec<CellAccess>>,
 ) -> Result<Option<FoundRace>, Memory>
     requires graph { sorted.now.graph.now ≡ graph_of log.now.nodes }
     requires order { IsOrderOf sorted.now.graph.now sorted.now.order.now }
-    requires fields { AreAllFieldsOf log.now sorted.now.order.now field_accesses.items }
+    requires cells { cell_accesses.items
+        ≡ cell_accesses_before log.now sorted.now.order.now (length sorted.now.order.now) }
+    requires fields { IfSome field_accesses (λ v. AreAllFieldsOf log.now sorted.now.order.now v.items) }
     ensures { IfOk result (λ r. MatchOption r (IsRaceFree log.now) (IsShownIn log.now)) }
 {
     let _linked = sorted.graph.len();
     let _placed = sorted.order.places();
-    let mut cell_accesses = cell_accesses_of(alloc, log, sorted.order.as_slice())?;
-    match are_free_by_chains(alloc, sorted.graph, sorted.order, &mut cell_accesses)? {
-        ByChains::Free => Ok(None),
-        _ => race_by_marks(alloc, log, sorted, field_accesses, Some(cell_accesses)),
+    let mut cell_accesses = cell_accesses;
+    if let ByChains::Free = are_free_by_chains(
+        alloc,
+        sorted.graph,
+        sorted.order,
+        &mut cell_accesses,
+    )? {
+        return Ok(None);
     }
+    let field_accesses = fields_given_or_gathered(
+        alloc,
+        log,
+        sorted.order.as_slice(),
+        field_accesses,
+    )?;
+    race_by_marks(alloc, log, sorted, field_accesses, Some(cell_accesses))
 }
 
 /// The race that is shown of a log that may be cut, by what its nodes would do if each space that has points had point 0 alone. Marks of what is before what are made only where short chains of waits do not show that no two nodes race. Where chains by fields fail at a large group, those by cells would hardly tell, and what is done at cells is not gathered for them.
@@ -129,13 +151,16 @@ fn race_among<'a, P: ArenaSet<'a>>(
     let mut field_accesses = field_accesses;
     match are_free_by_chains(alloc, sorted.graph, sorted.order, &mut field_accesses)? {
         ByChains::Free => Ok(None),
-        ByChains::Unknown => race_by_cells(alloc, log, sorted, field_accesses),
+        ByChains::Unknown => {
+            let cell_accesses = cell_accesses_of(alloc, log, sorted.order.as_slice())?;
+            race_by_cells(alloc, log, sorted, cell_accesses, Some(field_accesses))
+        }
         ByChains::Wide => race_by_marks(alloc, log, sorted, field_accesses, None),
     }
 }
 
-/// The race that is shown of a log that may be cut. Which node is before which is looked for only where some node does something at a field.
-fn race_of<'a, P: ArenaSet<'a>>(
+/// The race that is shown of a log that may be cut, by fields first. Which node is before which is looked for only where some node does something at a field.
+fn race_by_fields<'a, P: ArenaSet<'a>>(
     alloc: Global,
     log: &CutLog<'_, 'a, '_, P>,
     sorted: &SortedNodes<'_>,
@@ -153,7 +178,23 @@ fn race_of<'a, P: ArenaSet<'a>>(
     race_among(alloc, log, sorted, field_accesses)
 }
 
-/// Looks for the race of a log that is shown. Goes over these points alone, among which is the first of each kind, and over none where short chains of waits order whatever conflicts in a field of an instance; the time is that of a sort of the accesses there.
+/// The race that is shown of a log that may be cut. Where nodes do little at cells, that is looked at straight away; else by fields first, for which no point is gone over.
+fn race_of<'a, P: ArenaSet<'a>>(
+    alloc: Global,
+    log: &CutLog<'_, 'a, '_, P>,
+    sorted: &SortedNodes<'_>,
+) -> Result<Option<FoundRace>, Memory>
+    requires graph { sorted.now.graph.now ≡ graph_of log.now.nodes }
+    requires order { IsOrderOf sorted.now.graph.now sorted.now.order.now }
+    ensures { IfOk result (λ r. MatchOption r (IsRaceFree log.now) (IsShownIn log.now)) }
+{
+    match few_cell_accesses(alloc, log, sorted.order.as_slice())? {
+        Some(cell_accesses) => race_by_cells(alloc, log, sorted, cell_accesses, None),
+        None => race_by_fields(alloc, log, sorted),
+    }
+}
+
+/// Looks for the race of a log that is shown. Goes over these points alone, among which is the first of each kind, and only as long as nodes do little there where short chains of waits order whatever conflicts in a field of an instance; the time is that of a sort of the accesses.
 pub fn scan<'a, P: ArenaSet<'a>>(
     alloc: Global,
     log: &Log<'a, P>,

@@ -53,12 +53,10 @@ fn many_readers(alloc: Global, event: u64) -> Result<Vec<u8>, Fail> {
 #[rattlefmt::skip]
 fn ordered_by_chains_of_waits(rt: HostRuntime) -> Result<(), Fail> {
     let alloc = rt.alloc();
-    let rows: [(&[u8], Status, &[u8]); 8] = [
+    let rows: [(&[u8], Status, &[u8]); 7] = [
         (b"", Status::Yes, b"accepted tasks 2 operations 2 reads 1\n"),
         (b"13 merge 3 1\n13 run 2 2 3\n14 end 13", Status::Yes, b"accepted tasks 2 operations 2 reads 1\n"),
         (b"13 merge 3 1\n13 merge 4 3\n13 run 2 2 4\n14 end 14", Status::Yes, b"accepted tasks 2 operations 2 reads 1\n"),
-        // The ninth wait is the one that counts.
-        (b"13 merge 11 -\n13 merge 12 -\n13 merge 13 -\n13 merge 14 -\n13 merge 15 -\n13 merge 16 -\n13 merge 17 -\n13 merge 18 -\n13 run 2 2 11,12,13,14,15,16,17,18,1\n14 end 20", Status::Yes, b"accepted tasks 2 operations 2 reads 1\n"),
         (b"13 run 2 2 -", Status::Refused, b"race 1 2 inst 1 point 0 field 1\n"),
         (b"13 merge 3 -\n13 merge 4 3\n13 run 2 2 4\n14 end 14", Status::Refused, b"race 1 2 inst 1 point 0 field 1\n"),
         (b"13 merge 3 1\n13 run 2 2 -\n14 end 13", Status::Refused, b"race 1 2 inst 1 point 0 field 1\n"),
@@ -87,6 +85,54 @@ fn ordered_behind_many_readers(rt: HostRuntime) -> Result<(), Fail> {
     ];
     for (event, status, report) in rows {
         let log = many_readers(alloc, event)?;
+        let (ended, said) = answer(alloc, "check", &log)?;
+        assert_eq!(rt; said.as_slice(), report);
+        assert!(rt; ended == status);
+    }
+    Ok(())
+}
+
+/// What two tasks do, of which one writes what the other reads, before the run of the second.
+const WRITTEN: &[u8] = b"ispace 1 0
+fields 1 1
+tree 1 1 1
+inst 1 1 1 1 plain
+task 1
+req 1 1 1 1 wd ex
+map 1 1 1 1
+task 2
+req 2 1 1 1 ro ex
+map 2 1 1 1
+run 1 1 -
+";
+
+/// A log of these, where the second waits on 40 merges, and then on an event.
+fn many_waits(alloc: Global, event: u64) -> Result<Vec<u8>, Fail> {
+    let mut lines = WRITTEN.to_vec(alloc)?;
+    let mut waits = Vec::new(alloc);
+    for merge in 3..43u64 {
+        let line = format!(in alloc; "merge {merge} -\n")?;
+        lines.extend_from_slice(line.as_bytes())?;
+        let wait = format!(in alloc; "{merge},")?;
+        waits.extend_from_slice(wait.as_bytes())?;
+    }
+    lines.extend_from_slice(b"run 2 2 ")?;
+    lines.extend_from_slice(waits.as_slice())?;
+    let last = format!(in alloc; "{event}\n")?;
+    lines.extend_from_slice(last.as_bytes())?;
+    framed(alloc, &lines)
+}
+
+#[test]
+fn ordered_by_the_last_of_many_waits(rt: HostRuntime) -> Result<(), Fail> {
+    let alloc = rt.alloc();
+    // The last wait is on the writer, or on a merge once more.
+    let rows: [(u64, Status, &[u8]); 2] = [
+        (1, Status::Yes, b"accepted tasks 2 operations 2 reads 1\n"),
+        (3, Status::Refused, b"race 1 2 inst 1 point 0 field 1\n"),
+    ];
+    for (event, status, report) in rows {
+        let log = many_waits(alloc, event)?;
         let (ended, said) = answer(alloc, "check", &log)?;
         assert_eq!(rt; said.as_slice(), report);
         assert!(rt; ended == status);

@@ -11,7 +11,7 @@ use Rattle.inst_steps.specs.FieldMoves.{field_moves_at}
 use Rattle.inst_steps.specs.Stepping.{moves_at}
 use Rattle.race_scan.specs.Gathered.{AreAllCellsOf, cell_accesses_before, field_accesses_before}
 use Rattle.race_scan.specs.Placed.{ArePlaced}
-use Rattle.race_scan.proofs.Placed.{all_placed, order_below}
+use Rattle.race_scan.proofs.Placed.{all_placed, order_in_log}
 use Rattle.race_scan.proofs.Tied.{found_race, free_by_fields, places_within}
 use Rattle.race_scan.proofs.shown.race_by_marks.Goals as goal
 
@@ -35,12 +35,11 @@ returns-then-is_free g c =
     (free_moved (before_in marks) order (field_accesses_before t order (length order)) c.args.field_accesses.items c.requires.fields
     (c.in_ok-is_free.ensures c.if-is_free.true))
 
-pub given_or_gathered-requires : goal.given_or_gathered-requires
-given_or_gathered-requires g c κs = (
+pub cells_given_or_gathered-requires : goal.cells_given_or_gathered-requires
+cells_given_or_gathered-requires g c κs = (
   (refl, tt),
   (
-    rw c.as_slice.ensures (subst (λ n. All (λ k. k < n) c.args.sorted.now.order.now) (ap (λ ns. length ns) c.requires.graph
-        ∙ length-map c.args.log.now.nodes _) (order_below c.args.sorted.now.graph.now c.args.sorted.now.order.now c.requires.order)),
+    rw c.as_slice.ensures (order_in_log c.args.log.now c.args.sorted.now.graph.now c.args.sorted.now.order.now c.requires.graph c.requires.order),
     rw c.as_slice.ensures c.requires.cells,
   ),
 )
