@@ -1,5 +1,5 @@
 -- What chains of waits tell, whatever the marks of a graph are.
-use Rattle.std.proofs.Common.{◌≡◌, ◌<◌, ◌∷◌, [], ℕ, false, not, List, All, length, get_or, inl, inr, sym, ap, subst, Contains, slice_get, Some}
+use Rattle.std.proofs.Common.{◌≡◌, ◌<◌, ◌∷◌, ◌++◌, [], ℕ, false, not, List, All, length, get_or, inl, inr, sym, ap, subst, Contains, slice_get, Some}
 use Rattle.std.proofs.lemmas.List.Folds.{list_any_none}
 use Rattle.std.proofs.lemmas.Option.{slice_get_within, get_or_from_slice_get}
 use Rattle.list_lemmas.proofs.lemmas.Firsts.{cases_option}
@@ -7,6 +7,7 @@ use Rattle.vocabulary.specs.Prelude.{Node, WaitsOn, Before}
 use Rattle.event_graph.specs.Orders.{IsWait}
 use Rattle.event_graph.proofs.lemmas.Placed.{node_at}
 use Rattle.reach_marks.specs.Reached.{Marks, AreMarksOf, before_in}
+use Rattle.reach_marks.proofs.lemmas.Transitive.{chains_join}
 use Rattle.cell_races.specs.declared.access.NodeAccess.{NodeAccess}
 use Rattle.cell_races.specs.Groups.{Groups, asked, fails_at}
 
@@ -28,12 +29,15 @@ waited nodes node k on w =
           }
     ]
 
--- One wait is a chain, and two are.
+-- One wait is a chain, two are, and a chain goes on by a wait.
 pub one_wait : (nodes : List Node) (a b : ℕ) → WaitsOn nodes b a → Before nodes a b
 one_wait nodes a b w = ([], w)
 
 pub two_waits : (nodes : List Node) (a between b : ℕ) → WaitsOn nodes between a → WaitsOn nodes b between → Before nodes a b
 two_waits nodes a between b first second = (between ∷ [], (first, second))
+
+pub one_more : (nodes : List Node) (a between b : ℕ) → Before nodes a between → WaitsOn nodes b between → Before nodes a b
+one_more nodes a between b before w = (before.0 ++ between ∷ [], chains_join nodes a before.0 between [] b before.1 w)
 
 -- A node that comes after all that it has to come after does not fail.
 pub never_fails : (nodes : List Node) (marks : Marks) → AreMarksOf nodes marks → (g : Groups) (v : NodeAccess)

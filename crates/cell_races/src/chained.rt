@@ -18,7 +18,7 @@ use event_graph::{Graph, Order};
 use std::alloc::{AllocError, Global};
 
 /// How many waits are looked at for each access, on average at most.
-const STEPS_EACH: usize = 8;
+const STEPS_EACH: usize = 64;
 
 /// Whether short chains show of nodes in replay order that each comes after all with which it conflicts. The groups are made anew in the room of earlier ones.
 fn are_in_turn(
@@ -67,7 +67,7 @@ fn are_free(
     Ok(ByChains::Free)
 }
 
-/// Whether chains of one wait or of two show that no two nodes race, of what they do at cells. No marks are made, and the time is that of a sort. What is done is put in the order of cells.
+/// Whether chains of one wait, of two or of three show that no two nodes race, of what they do at cells. No marks are made, and the time is that of a sort. What is done is put in the order of cells.
 pub fn are_free_by_chains(
     alloc: Global,
     graph: &Graph,

@@ -49,7 +49,7 @@ fn waits_on(graph: &Graph, node: usize, on: usize, steps: &mut usize) -> bool
 
 /// Whether a chain of one wait or of two is found from a node to another.
 #[tactic(auto, using(crate::proofs::Waited::one_wait, crate::proofs::Waited::two_waits))]
-fn leads_to(graph: &Graph, a: usize, b: usize, steps: &mut usize) -> bool
+fn leads_in_two(graph: &Graph, a: usize, b: usize, steps: &mut usize) -> bool
     ensures { result ≡ true → Before graph.now a b }
 {
     if waits_on(graph, b, a, steps) {
@@ -60,6 +60,25 @@ fn leads_to(graph: &Graph, a: usize, b: usize, steps: &mut usize) -> bool
             return false;
         };
         if waits_on(graph, between, a, steps) {
+            return true;
+        }
+    }
+    false
+}
+
+/// Whether a chain of one wait, of two or of three is found from a node to another.
+#[tactic(auto, using(crate::proofs::Waited::one_more))]
+fn leads_to(graph: &Graph, a: usize, b: usize, steps: &mut usize) -> bool
+    ensures { result ≡ true → Before graph.now a b }
+{
+    if leads_in_two(graph, a, b, steps) {
+        return true;
+    }
+    for k in 0..WAITS_LOOKED_AT {
+        let Some(between) = wait_at(graph, b, k, steps) else {
+            return false;
+        };
+        if leads_in_two(graph, a, between, steps) {
             return true;
         }
     }

@@ -1,4 +1,4 @@
-//! What waits order: in one step, in two, and over more or later ones, of which marks have to tell.
+//! What waits order: in one step, in two or in three, and over more or later ones, of which marks have to tell.
 
 use std::alloc::Global;
 use std::test::Fail;
@@ -53,10 +53,11 @@ fn many_readers(alloc: Global, event: u64) -> Result<Vec<u8>, Fail> {
 #[rattlefmt::skip]
 fn ordered_by_chains_of_waits(rt: HostRuntime) -> Result<(), Fail> {
     let alloc = rt.alloc();
-    let rows: [(&[u8], Status, &[u8]); 7] = [
+    let rows: [(&[u8], Status, &[u8]); 8] = [
         (b"", Status::Yes, b"accepted tasks 2 operations 2 reads 1\n"),
         (b"13 merge 3 1\n13 run 2 2 3\n14 end 13", Status::Yes, b"accepted tasks 2 operations 2 reads 1\n"),
         (b"13 merge 3 1\n13 merge 4 3\n13 run 2 2 4\n14 end 14", Status::Yes, b"accepted tasks 2 operations 2 reads 1\n"),
+        (b"13 merge 3 1\n13 merge 4 3\n13 merge 5 4\n13 run 2 2 5\n14 end 15", Status::Yes, b"accepted tasks 2 operations 2 reads 1\n"),
         (b"13 run 2 2 -", Status::Refused, b"race 1 2 inst 1 point 0 field 1\n"),
         (b"13 merge 3 -\n13 merge 4 3\n13 run 2 2 4\n14 end 14", Status::Refused, b"race 1 2 inst 1 point 0 field 1\n"),
         (b"13 merge 3 1\n13 run 2 2 -\n14 end 13", Status::Refused, b"race 1 2 inst 1 point 0 field 1\n"),
