@@ -5,6 +5,7 @@ mod FirstFault
 mod Growing
 mod Members
 mod Placing
+mod RulesOf
 mod SpaceFaults
 mod Steady
 mod SubFaults

@@ -164,6 +164,14 @@ pub none_where : (o : Option Code) → is_some o ≡ false → o ≡ None
 none_where None e = refl
 none_where (Some code) e = absurd (false≢true (sym e))
 
+-- What the tally was of a record as it is looked up, it was of the record.
+pub tally_named : (all : Option (List Rect)) (es : List Record) (line : ℕ) (old new : Tally) (t u : Tables) (r q : Record) → u ≡ t → q ≡ r
+    → (IsTally all es u old → MayCount all es u q → IsTally all (es ++ q ∷ []) (with_record u line q) new)
+    → IsTally all es t old → MayCount all es t r → IsTally all (es ++ r ∷ []) (with_record t line r) new
+tally_named all es line old new t u r q tables rec adds =
+    let Adds = λ (v : Tables) (s : Record). IsTally all es v old → MayCount all es v s → IsTally all (es ++ s ∷ []) (with_record v line s) new in
+    subst (Adds t) rec (subst (λ (v : Tables). Adds v q) tables adds)
+
 pub tally_more : (all : Option (List Rect)) (es rs : List Record) (u v : Tables) (tally : Tally) → IsTally all es u tally → es ≡ rs → v ≡ u
     → IsTally all rs v tally
 tally_more all es rs u v tally is same here = subst (λ (w : Tables). IsTally all rs w tally) (sym here)

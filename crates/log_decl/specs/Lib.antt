@@ -1,4 +1,5 @@
 pub mod Ends
+pub mod RulesOf
 pub mod Sizes
 pub mod SubLines
 pub mod Walk

@@ -58,7 +58,7 @@ pub(crate) fn walk<'a, P: ArenaRects<'a>>(
         if code.is_some() {
             return Ok(Walked { kept, code });
         }
-        tally.add(alloc, tables, &l.rec)?;
+        tally.add(alloc, &named)?;
         tables.add(alloc, bump, l.line, &l.rec)?;
         kept += 1;
     }

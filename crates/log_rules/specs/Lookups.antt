@@ -4,7 +4,7 @@ use Rattle.std.specs.Option.{option_and_then}
 use Rattle.spy_grammar.specs.declared.record.Record.TheVariants.{Req, Fill, Inst, Map, Run, Copy, Put, Reset, Fold}
 use Rattle.semantics.specs.declared.tables.Inst as insts
 use Rattle.semantics.specs.declared.tables.Req as reqs
-use Rattle.vocabulary.specs.Prelude.{Record, Tables, Tree, inst_at, place_of, tree_at}
+use Rattle.vocabulary.specs.Prelude.{Record, Tables, Tree, inst_at, place_of, reqs_before, tree_at}
 use Rattle.semantics.specs.Rules.{named_req}
 
 -- The id of the tree of a requirement, a fill or an instance.
@@ -45,6 +45,11 @@ item_named t (Req task tree space fields access atomic) = place_of t.items task
 item_named t (Map task number fields inst) = place_of t.items task
 item_named t (Run task done waits) = place_of t.items task
 item_named t _ = 0
+
+-- How many requirements the task of a requirement has so far, and 0 of other records.
+abbrev pub before_named : Tables → Record → ℕ
+before_named t (Req task tree space fields access atomic) = reqs_before t.reqs (place_of t.items task)
+before_named t _ = 0
 
 -- The requirement of a map.
 abbrev pub req_named : Tables → Record → Option reqs.Req

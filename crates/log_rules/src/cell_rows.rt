@@ -110,6 +110,9 @@ impl CellRows {
         ensures { IfSome result (λ answer. (all : Option (List Rect)) (t : Tables) → HasCells all t
             → HasRows all t self.now → answer ≡ is_within (points_in t ours) (points_in t theirs)) }
     {
+        if self.rows.is_empty() {
+            return None;
+        }
         match (self.rows.get(&ours), self.rows.get(&theirs)) {
             (Some(bits), Some(others)) => Some(bits.within(others)),
             _ => None,
@@ -121,6 +124,9 @@ impl CellRows {
         ensures { IfSome result (λ answer. (all : Option (List Rect)) (t : Tables) → HasCells all t
             → HasRows all t self.now → answer ≡ meets (points_in t ours) (points_in t theirs)) }
     {
+        if self.rows.is_empty() {
+            return None;
+        }
         match (self.rows.get(&ours), self.rows.get(&theirs)) {
             (Some(bits), Some(others)) => Some(bits.meets(others)),
             _ => None,

@@ -11,6 +11,7 @@ ghost use Rattle.log_rules.specs.Own.{claim_points};
 ghost use Rattle.log_rules.specs.Tallied.{rects_in};
 
 use crate::claims::FEW;
+use crate::named::Named;
 use cell_counts::{corner_count, corner_points};
 use grid::Grid;
 use log_tables::{LogTables, rects_of, strips_of};
@@ -120,15 +121,10 @@ impl ClaimPoints {
     }
 
     /// How many places a record claims: a requirement claims some, unless it is one of the first few of its task.
-    pub fn asked<P: PointSet>(&self, tables: &LogTables<P>, rec: &Record) -> u128 {
-        match rec {
-            Record::Req {
-                task,
-                space,
-                fields,
-                ..
-            } if tables.req_count(tables.place(*task)) >= FEW => {
-                self.count(tables, *space)
+    pub fn asked<P: PointSet>(&self, named: &Named<'_, P>) -> u128 {
+        match named.rec {
+            Record::Req { space, fields, .. } if named.before >= FEW => {
+                self.count(named.tables, *space)
                     .saturating_mul(fields.len() as u128)
             }
             _ => 0,

@@ -1,10 +1,10 @@
 //! How much a record asks for, in points, cells and accesses.
 
-ghost use Rattle.std.specs.Prelude.{◌≡◌, ◌+◌, ◌-◌, ◌*◌, ◌<◌, ◌^◌, ℕ, length, map, nat_lt};
+ghost use Rattle.std.specs.Prelude.{◌≡◌, ◌+◌, ◌-◌, ◌*◌, ◌<◌, ◌^◌, ℕ, false, length, map, nat_lt};
 ghost use Rattle.point_set.specs.Rects.{AreRects};
 ghost use Rattle.log_tables.specs.Views.{Ascends};
 ghost use Rattle.vocabulary.specs.Prelude.{plane_points, points_of, rect_of};
-ghost use Rattle.semantics.specs.Rules.{is_late, size_of, has_many_reads, read_count};
+ghost use Rattle.semantics.specs.Rules.{is_late, is_planar, size_of, has_many_reads, read_count};
 ghost use Rattle.log_limits.specs.Sums.{cut};
 ghost use Rattle.log_rules.specs.Counts.{points_asked, cells_asked, reads_of, size_asked};
 
@@ -97,13 +97,23 @@ pub(crate) fn cells_asked<P: PointSet>(tables: &LogTables<P>, rec: &Record) -> u
 }
 
 /// How many points and fields together the accesses have for which a record asks.
-pub(crate) fn size_asked<P: PointSet>(tables: &LogTables<P>, rec: &Record) -> u128
+fn size_asked<P: PointSet>(tables: &LogTables<P>, rec: &Record) -> u128
     ensures { result ≡ cut (size_asked tables.now rec.now) }
 {
     match asked(rec) {
         Some((space, fields)) => size_of(tables, space, fields),
         None => 0,
     }
+}
+
+/// How many accesses a record asks for, in a log of the first version. In one of the second they are counted at its end, and no set is gone through before.
+pub(crate) fn accesses_asked<P: PointSet>(tables: &LogTables<P>, rec: &Record) -> u128
+    ensures { is_planar tables.now ≡ false → result ≡ cut (size_asked tables.now rec.now) }
+{
+    if tables.is_planar() {
+        return 0;
+    }
+    size_asked(tables, rec)
 }
 
 /// How many reads a requirement asks for.

@@ -1,9 +1,9 @@
 //! The rules that each record of a log has to keep, given what the earlier records declare. Each rule is one small test, named as its definition is.
 //!
 //! Each function answers exactly its definition in `Rules` of `semantics`, over the tables of the earlier
-//! records (`LogTables` of `log_tables`). What a record names of these is looked up once for all rules (`Named`).
-//! What a rule asks of the whole log is gathered once before
-//! (`WholeLog`), and what a rule counts is kept along the way (`Tally`). The order of the rules, and which
+//! records (`LogTables` of `log_tables`). What a record names of these, and how much it asks for, is looked up
+//! once for all rules (`Named`). What a rule asks of the whole log is gathered once before (`WholeLog`), and
+//! what a rule counts is kept along the way (`Tally`). Which rules look at a record, in which order, and which
 //! fault is shown, are for `log_decl`. Begin with any rule, `names.rt` say.
 #![tactic(auto)]
 

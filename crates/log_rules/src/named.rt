@@ -1,18 +1,21 @@
-//! What a record names, looked up once for all rules.
+//! What a record names and how much it asks for, looked up once for all rules.
 
-ghost use Rattle.std.specs.Prelude.{◌≡◌, IfSome, Some};
+ghost use Rattle.std.specs.Prelude.{◌≡◌, IfSome, Some, false};
 ghost use Rattle.std.proofs.Props.{props};
 ghost use Rattle.std.specs.List.Sorted.{IsStrictlyIncreasing};
 ghost use Rattle.std.specs.Option.{option_copied};
-ghost use Rattle.semantics.specs.Rules.{inst_id, is_declared, tree_id};
-ghost use Rattle.log_rules.specs.Lookups.{inst_id_in, inst_named, item_named, req_named, target_id_in, target_named, tree_id_in, tree_named};
+ghost use Rattle.semantics.specs.Rules.{inst_id, is_declared, is_planar, tree_id};
+ghost use Rattle.log_limits.specs.Sums.{cut};
+ghost use Rattle.log_rules.specs.Counts.{size_asked};
+ghost use Rattle.log_rules.specs.Lookups.{before_named, inst_id_in, inst_named, item_named, req_named, target_id_in, target_named, tree_id_in, tree_named};
 
+use crate::counts::accesses_asked;
 use log_tables::LogTables;
 use point_set::PointSet;
 use semantics::{Inst, Req, Tree};
 use spy_grammar::Record;
 
-/// A record, the tables of the earlier records, and what the record names of these. Each is looked up once, however many rules ask for it.
+/// A record, the tables of the earlier records, what the record names of these, and how much it asks for. Each is looked up once, however many rules ask for it.
 #[derive(Drop)]
 pub struct Named<'t, P: PointSet> {
     pub tables: &'t LogTables<P>,
@@ -21,6 +24,10 @@ pub struct Named<'t, P: PointSet> {
     pub(crate) tree: Option<Tree>,
     /// The position of the task of a requirement, a map or a run, and the number of items where there is none. 0 of other records.
     pub(crate) item: usize,
+    /// How many requirements the task of a requirement has so far. 0 of other records.
+    pub(crate) before: usize,
+    /// How many accesses the record asks for, in a log of the first version. In one of the second they are counted at its end.
+    pub(crate) asked: u128,
     /// The requirement of a map.
     pub(crate) req: Option<&'t Req>,
     /// The instance of a map, a put or a reset, or the source of a copy or a fold.
@@ -29,6 +36,8 @@ pub struct Named<'t, P: PointSet> {
     pub(crate) target: Option<&'t Inst>,
     ghost is_tree: { tree ≡ tree_named tables.now rec.now },
     ghost is_item: { item ≡ item_named tables.now rec.now },
+    ghost is_before: { before ≡ before_named tables.now rec.now },
+    ghost is_asked: { is_planar tables.now ≡ false → asked ≡ cut (size_asked tables.now rec.now) } by { Prim.hlevel props },
     ghost is_req: { option_copied req ≡ req_named tables.now rec.now },
     ghost is_inst: { option_copied inst ≡ inst_named tables.now rec.now },
     ghost is_target: { option_copied target ≡ target_named tables.now rec.now },
@@ -58,6 +67,17 @@ fn item_named<P: PointSet>(tables: &LogTables<P>, rec: &Record) -> usize
         Record::Req { task, .. } | Record::Map { task, .. } | Record::Run { task, .. } => {
             tables.place(*task)
         }
+        _ => 0,
+    }
+}
+
+/// How many requirements the task of a requirement has so far, whose position is this one.
+fn before_named<P: PointSet>(tables: &LogTables<P>, rec: &Record, item: usize) -> usize
+    requires { item ≡ item_named tables.now rec.now }
+    ensures { result ≡ before_named tables.now rec.now }
+{
+    match rec {
+        Record::Req { .. } => tables.req_count(item),
         _ => 0,
     }
 }
@@ -116,6 +136,8 @@ impl<'t, P: PointSet> Named<'t, P> {
             rec,
             tree: tree_named(tables, rec),
             item,
+            before: before_named(tables, rec, item),
+            asked: accesses_asked(tables, rec),
             req: req_named(tables, rec, item),
             inst: inst_named(tables, rec),
             target: target_named(tables, rec),

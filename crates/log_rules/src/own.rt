@@ -5,7 +5,7 @@ ghost use Rattle.std.specs.List.{list_any};
 ghost use Rattle.std.specs.List.Sorted.{IsStrictlyIncreasing};
 ghost use Rattle.point_set.specs.declared.rect.Rect.{Rect};
 ghost use Rattle.grid.specs.Cuts.{grid_of};
-ghost use Rattle.vocabulary.specs.Prelude.{agree, Record, points_in, meets};
+ghost use Rattle.vocabulary.specs.Prelude.{agree, Record, points_in, meets, reqs_before};
 ghost use Rattle.semantics.specs.declared.limits.TheConstants.{MOST_ACCESSES};
 ghost use Rattle.semantics.specs.Rules.{interferes_with_own};
 ghost use Rattle.log_tables.specs.Views.{Ascends};
@@ -118,19 +118,19 @@ fn clashes_by_place<P: PointSet>(
 /// Whether some requirement of the item clashes so. The places are not gone through where the item has few requirements, or where they may be too many.
 fn clashes_own<P: PointSet>(
     alloc: Global,
-    tables: &LogTables<P>,
+    named: &Named<'_, P>,
     tally: &Tally,
-    has_many: bool,
     asked: &ItemReq<'_>,
 ) -> Result<bool, Memory>
-    requires { IsStrictlyIncreasing asked.now.fields.now }
-    ensures { IfOk result (λ clashes. (all : Option (List Rect)) → AreKept all tables.now tally.now
-        → (has_many ≡ false → tally.now.claimed ≤ MOST_ACCESSES)
-        → clashes ≡ clashes_asked tables.now asked.now) }
+    requires before { named.now.before ≡ reqs_before named.now.tables.now.reqs asked.now.item }
+    requires ascend { IsStrictlyIncreasing asked.now.fields.now }
+    ensures { IfOk result (λ clashes. (all : Option (List Rect)) → AreKept all named.now.tables.now tally.now
+        → clashes ≡ clashes_asked named.now.tables.now asked.now) }
 {
-    if tables.req_count(asked.item) <= FEW {
-        Ok(few_clash(tables, tally, asked))
-    } else if has_many {
+    let tables = named.tables;
+    if named.before <= FEW {
+        Ok(clashes_among(tables, tally, named.before as u32, asked))
+    } else if claims_many(tally, named) {
         Ok(clashes_by_req(tables, tally, asked))
     } else {
         clashes_by_place(alloc, tables, tally, asked)
@@ -158,9 +158,8 @@ pub fn interferes_with_own<P: PointSet>(
             ..
         } => clashes_own(
             alloc,
-            named.tables,
+            named,
             tally,
-            claims_many(named.tables, tally, named.rec),
             &ItemReq {
                 item: named.item,
                 tree: *tree,

@@ -32,11 +32,14 @@ impl PairAnswers {
         }
     }
 
-    /// The answer of a pair, if it has one.
+    /// The answer of a pair, if it has one. Where no pair has one, as in each log of the first version, nothing is looked up.
     pub(crate) fn get(&self, ours: u32, theirs: u32) -> Option<bool>
         ensures { IfSome result (λ answer. (test : List ℕ → List ℕ → Bool) (t : Tables)
             → AreAnswers test t self.now → answer ≡ test (points_in t ours) (points_in t theirs)) }
     {
+        if self.answers.is_empty() {
+            return None;
+        }
         match self.answers.get(&SpacePair { ours, theirs }) {
             Some(answer) => Some(*answer),
             None => None,

@@ -9,15 +9,13 @@ ghost use Rattle.vocabulary.specs.Prelude.{Record, no_tables, records_of, with_r
 ghost use Rattle.semantics.specs.declared.limits.TheConstants.{MOST_ACCESSES};
 ghost use Rattle.semantics.specs.Rules.{has_many_points, has_many_atoms, has_many_cells, has_many_accesses, is_planar};
 ghost use Rattle.log_tables.specs.Views.{Ascends};
-ghost use Rattle.log_limits.specs.Sums.{cut};
-ghost use Rattle.log_rules.specs.Counts.{size_asked};
 ghost use Rattle.log_rules.specs.Own.{AddsAt, claimed};
 ghost use Rattle.log_rules.specs.Listing.{AddsAll, ids_listed};
 ghost use Rattle.log_rules.specs.Tallied.{AreAtEnd, IfTally, IsTally, Keeps, MayCount, rects_in};
 
 use crate::claim_points::ClaimPoints;
 use crate::claims::{Claims, FEW, ItemReq};
-use crate::counts::{cells_asked, points_asked, size_asked};
+use crate::counts::{cells_asked, points_asked};
 use crate::named::Named;
 use crate::serial::note_all;
 use crate::space_pairs::SpacePairs;
@@ -55,62 +53,44 @@ fn note_listed(listed: &mut IdSet, rec: &Record) -> Result<(), AllocError>
     }
 }
 
-/// How many accesses a record asks for, in a log of the first version. In one of the second they are counted at its end, and no set is gone through before.
-fn accesses_asked<P: PointSet>(tables: &LogTables<P>, rec: &Record) -> u128
-    ensures { is_planar tables.now ≡ false → result ≡ cut (size_asked tables.now rec.now) }
-{
-    if tables.is_planar() {
-        return 0;
-    }
-    size_asked(tables, rec)
-}
-
 /// How many places the requirements so far and a record ask for.
-fn claimed_with<P: PointSet>(tables: &LogTables<P>, tally: &Tally, rec: &Record) -> u128
+fn claimed_with<P: PointSet>(tally: &Tally, named: &Named<'_, P>) -> u128
     ensures { tally.now.claimed ≤ result }
 {
-    raised(tally.claimed, tally.places.asked(tables, rec))
-}
-
-/// What a log declares so far, and at which points its requirements claim places.
-#[derive(Clone, Copy)]
-struct ClaimedLog<'w, P: PointSet> {
-    tables: &'w LogTables<P>,
-    places: &'w ClaimPoints,
+    raised(tally.claimed, tally.places.asked(named))
 }
 
 /// Claims the places of a record, if it is a requirement, and not one of the first few of its task. Later ones are held against the first few themselves, so that a task with few requirements claims nothing. Nothing is claimed where the requirements ask for too many places.
 fn note_claims<P: PointSet>(
     alloc: Global,
     claims: &mut Claims,
-    log: &ClaimedLog<'_, P>,
+    places: &ClaimPoints,
     sum: u128,
-    rec: &Record,
+    named: &Named<'_, P>,
 ) -> Result<(), Memory>
-    ensures { OnOk result ((all : Option (List Rect)) → log.now.places.now.grid ≡ option_map grid_of all
-        → sum ≤ MOST_ACCESSES → AddsAt all claims.old claims.new (claimed log.now.tables.now rec.now)) }
+    ensures { OnOk result ((all : Option (List Rect)) → places.now.grid ≡ option_map grid_of all
+        → sum ≤ MOST_ACCESSES
+        → AddsAt all claims.old claims.new (claimed named.now.tables.now named.now.rec.now)) }
 {
     if sum > MOST_ACCESSES {
         return Ok(());
     }
-    match rec {
+    match named.rec {
         Record::Req {
-            task,
             tree,
             space,
             fields,
             access,
             ..
         } => {
-            let item = log.tables.place(*task);
-            if log.tables.req_count(item) < FEW {
+            if named.before < FEW {
                 return Ok(());
             }
-            let points = log.places.points_in(alloc, log.tables, *space)?;
+            let points = places.points_in(alloc, named.tables, *space)?;
             claims.claim_all(
                 points.as_slice(),
                 &ItemReq {
-                    item,
+                    item: named.item,
                     tree: *tree,
                     space: *space,
                     fields: fields.as_slice(),
@@ -274,27 +254,22 @@ impl Tally {
     }
 
     /// Takes one record more into account, given what the records before it declare. Where memory runs out the tally is of no use any more.
-    pub fn add<P: PointSet>(
-        &mut self,
-        alloc: Global,
-        tables: &LogTables<P>,
-        rec: &Record,
-    ) -> Result<(), Memory>
-        requires { Ascends rec.now }
+    pub fn add<P: PointSet>(&mut self, alloc: Global, named: &Named<'_, P>) -> Result<(), Memory>
+        requires { Ascends named.now.rec.now }
         ensures { OnOk result ((all : Option (List Rect)) (earlier : List Record) (line : ℕ)
-            → IsTally all earlier tables.now self.old → MayCount all earlier tables.now rec.now
-            → IsTally all (earlier ++ rec.now ∷ []) (with_record tables.now line rec.now) self.new) }
+            → IsTally all earlier named.now.tables.now self.old
+            → MayCount all earlier named.now.tables.now named.now.rec.now
+            → IsTally all (earlier ++ named.now.rec.now ∷ [])
+            (with_record named.now.tables.now line named.now.rec.now) self.new) }
     {
+        let tables = named.tables;
+        let rec = named.rec;
         self.points = raised(self.points, points_asked(rec));
         self.cells = raised(self.cells, cells_asked(tables, rec));
-        self.accesses = raised(self.accesses, accesses_asked(tables, rec));
+        self.accesses = raised(self.accesses, named.asked);
         note_listed(&mut self.listed, rec)?;
-        let claimed = claimed_with(tables, self, rec);
-        let log = ClaimedLog {
-            tables,
-            places: &self.places,
-        };
-        note_claims(alloc, &mut self.claims, &log, claimed, rec)?;
+        let claimed = claimed_with(self, named);
+        note_claims(alloc, &mut self.claims, &self.places, claimed, named)?;
         self.pairs.note(alloc, &self.places, tables, rec)?;
         self.places.note(alloc, rec)?;
         self.claimed = claimed;
@@ -355,26 +330,24 @@ pub fn has_many_cells<P: PointSet>(
 
 /// Whether records ask for too many accesses together: those up to each record in a log of the first version, and all at the end of one of the second.
 pub fn has_many_accesses<P: PointSet>(
-    tables: &LogTables<P>,
+    named: &Named<'_, P>,
     tally: &Tally,
     corners: Option<&Corners>,
     earlier: &[Lined],
-    rec: &Record,
 ) -> bool
-    ensures { IfTally tables.now tally.now (λ before. before ≡ records_of earlier.now
-        → AreAtEnd tables.now rec.now corners.entry → result ≡ has_many_accesses before tables.now rec.now) }
+    ensures { IfTally named.now.tables.now tally.now (λ before. before ≡ records_of earlier.now
+        → AreAtEnd named.now.tables.now named.now.rec.now corners.entry
+        → result ≡ has_many_accesses before named.now.tables.now named.now.rec.now) }
 {
     match corners {
         Some(corners) => exceeds(0, access_total(corners, earlier), MOST_ACCESSES),
-        None => {
-            !tables.is_planar() && exceeds(tally.accesses, size_asked(tables, rec), MOST_ACCESSES)
-        }
+        None => { !named.tables.is_planar() && exceeds(tally.accesses, named.asked, MOST_ACCESSES) }
     }
 }
 
 /// Whether a record and the requirements so far ask for so many places that they are not claimed.
-pub(crate) fn claims_many<P: PointSet>(tables: &LogTables<P>, tally: &Tally, rec: &Record) -> bool
+pub(crate) fn claims_many<P: PointSet>(tally: &Tally, named: &Named<'_, P>) -> bool
     ensures { result ≡ false → tally.now.claimed ≤ MOST_ACCESSES }
 {
-    claimed_with(tables, tally, rec) > MOST_ACCESSES
+    claimed_with(tally, named) > MOST_ACCESSES
 }

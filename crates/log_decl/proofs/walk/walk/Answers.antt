@@ -4,7 +4,7 @@ use Rattle.vocabulary.specs.Prelude.{Record, Tables, records_of}
 use Rattle.semantics.specs.Rules.{is_planar}
 use Rattle.log_decl.specs.Sizes.{plane_rects}
 use Rattle.log_decl.specs.Walk.{broken_of}
-use Rattle.log_decl.proofs.Walking.{stands_where, none_where, told_of, may_count, flat_here, listed_in, plane_at, rects_more, tables_more, records_more, keeps_more, tally_more}
+use Rattle.log_decl.proofs.Walking.{stands_where, none_where, told_of, may_count, flat_here, listed_in, plane_at, rects_more, tables_more, records_more, keeps_more, tally_more, tally_named}
 use Rattle.log_decl.proofs.walk.walk.Goals as goal
 use Rattle.log_rules.specs.Tallied.{IsTally, Keeps}
 
@@ -58,7 +58,8 @@ loop-l-preserved g c =
     ap (λ (w : List Record). broken_of w es t r) (sym c.requires.whole) ∙ sym told
     ∙ none_where c.in_ok-code.code (sym c.is_some.ensures ∙ c.if-is_some.false) in
     let next = c.in_ok-add-2.ensures.ok in
-    let tally = c.in_ok-add.ensures all es l.line kept (may_count all (records_of log) es t r
+    let tally = tally_named all es l.line _ _ t _ r _ c.of-named.ensures.tables c.of-named.ensures.rec (c.in_ok-add.ensures all es l.line) kept
+    (may_count all (records_of log) es t r
     (flat_here log i t l c.requires.header inv.tables c.loop-l-test.true c.l-item.is)
     (omega (arith, inv.few, c.loop-l-test.true, c.requires.few)) (listed_in log i l c.loop-l-test.true c.l-item.is) none) in
     record {

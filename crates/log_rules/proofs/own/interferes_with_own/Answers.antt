@@ -12,7 +12,7 @@ returns-in-Req g c =
     let t = n.tables.now in
     let req = c.in-Req in
     IfOk-weaker c.clashes_own.result _ _ (λ interferes told all earlier is.
-    told all is.kept c.claims_many.ensures
+    told all is.kept
     ∙ ap (λ item. clashes_own t item req.tree req.space c.as_slice.result.now c.priv_of.result) (n.is_item ∙ ap (item_named t) req.is)
     ∙ ap (λ (fields : List ℕ). clashes_own t (place_of t.items req.task) req.tree req.space fields c.priv_of.result) c.as_slice.ensures
     ∙ ap (clashes_own t (place_of t.items req.task) req.tree req.space req.fields) c.priv_of.ensures

@@ -9,8 +9,8 @@ use Rattle.log_rules.proofs.tally.has_many_accesses.Goals as goal
 
 pub returns-in-Some : goal.returns-in-Some
 returns-in-Some g c = λ all earlier is same at.
-    let t = c.args.tables.now in
-    let r = c.args.rec.now in
+    let t = c.args.named.now.tables.now in
+    let r = c.args.named.now.rec.now in
     let ends = subst (AreAtEnd t r) c.in-Some.is at in
     let parts = and_parts (is_planar t) (is_end r) ends.0 in
     c.exceeds.ensures (access_total t (records_of c.args.earlier.now)) (c.access_total.ensures t ends.1 parts.0) (lit< tt)

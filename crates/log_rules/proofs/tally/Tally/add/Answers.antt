@@ -17,8 +17,9 @@ within_limit a b n few is = elim (cases_lt 4194304 (a + b)) [ inl lt ↦ grind (
 
 pub returns : goal.returns
 returns g c = λ all earlier line is may.
-    let t = c.args.tables.now in
-    let r = c.args.rec.now in
+    let named = c.args.named.now in
+    let t = named.tables.now in
+    let r = named.rec.now in
     let old = c.args.self.now in
     let most = 2 ^ 128 - 1 in
     record {
@@ -35,7 +36,7 @@ returns g c = λ all earlier line is may.
                 ∙ cut-both old.cells (cells_asked t r) most ∙ cells-exact t r old.cells of.cells c.raised-self-2.ensures.fits flat may.cells
                 ∙ sym (cell_total-add t line r is.known.insts may.known);
             accesses =
-                c.raised-self-3.ensures.sum ∙ ap (λ m. cut (old.accesses + m)) (c.accesses_asked.ensures flat)
+                c.raised-self-3.ensures.sum ∙ ap (λ m. cut (old.accesses + m)) (named.is_asked flat)
                 ∙ cut-both old.accesses (size_asked t r) most ∙ accesses-exact earlier t r old.accesses of.accesses flat may.accesses
                 ∙ sym (access_total-add earlier t line r flat still is.known.accesses may.known);
             within = within_limit _ (accesses t r) _ (few_accesses earlier t r flat may.accesses)
