@@ -3,8 +3,9 @@
 //! Each function asks of some kinds of record the rules that look at them, in the order in which they are
 //! tried. No other rule is broken by a record of these kinds. `first_broken` picks the function; begin there.
 
-ghost use Rattle.std.specs.Prelude.{◌≡◌, find, IfOk, None};
+ghost use Rattle.std.specs.Prelude.{◌≡◌, find, IfOk, None, true};
 ghost use Rattle.semantics.specs.Faults.{record_rules};
+ghost use Rattle.semantics.specs.Rules.{is_end};
 ghost use Rattle.log_tables.specs.Views.{Ascends};
 ghost use Rattle.log_decl.specs.Walk.{IfAt, IfAtEnd, breaks_other};
 ghost use Rattle.log_decl.specs.RulesOf.{first_true, of_ends, of_insts, of_maps, of_names, of_nodes, of_reqs, of_serials, of_spaces, of_subs};
@@ -223,7 +224,7 @@ fn first_of_node<P: PointSet>(at: &AtRecord<'_, '_, P>) -> Option<Code>
     ])
 }
 
-/// The first rule that the end of a log breaks. At the end of a log of the second version it is counted how many cells begin in each space.
+/// The first rule that the end of a log breaks, where it is given how many cells begin in each space if the log is of the second version.
 fn first_of_end<P: PointSet>(
     alloc: Global,
     at: &AtRecord<'_, '_, P>,
@@ -249,6 +250,22 @@ fn first_of_end<P: PointSet>(
         (TooMuchLoad, has_load),
         (TooManyReads, has_many_reads(tables, rec)),
     ]))
+}
+
+/// The first rule that the end of a log breaks. At the end of a log of the second version it is counted how many cells begin in each space.
+fn first_at_end<P: SetOfRects>(
+    alloc: Global,
+    at: &AtRecord<'_, '_, P>,
+) -> Result<Option<Code>, Memory>
+    requires { is_end at.now.named.now.rec.now ≡ true }
+    ensures { IfAt at.now (λ r. IfOk result (λ code. code ≡ find (breaks_other r) of_ends)) }
+{
+    if at.named.tables.is_planar() {
+        let corners = Corners::of(alloc, at.named.tables)?;
+        first_of_end(alloc, at, Some(&corners))
+    } else {
+        first_of_end(alloc, at, None)
+    }
 }
 
 /// The first rule that a record breaks, but for those of the forest.
@@ -278,10 +295,6 @@ pub(crate) fn first_broken<P: SetOfRects>(
         | Record::Reset { .. }
         | Record::Fold { .. }
         | Record::Merge { .. } => Ok(first_of_node(at)),
-        Record::End { .. } if at.named.tables.is_planar() => {
-            let corners = Corners::of(alloc, at.named.tables)?;
-            first_of_end(alloc, at, Some(&corners))
-        }
-        Record::End { .. } => first_of_end(alloc, at, None),
+        Record::End { .. } => first_at_end(alloc, at),
     }
 }

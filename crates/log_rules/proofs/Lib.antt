@@ -1,3 +1,4 @@
+mod AddsNothing
 mod BitRows
 mod Cells
 mod Claiming

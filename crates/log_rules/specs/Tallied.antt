@@ -6,6 +6,7 @@ use Rattle.std.specs.List.{list_all}
 use Rattle.std.specs.Option.{option_map_or}
 use Rattle.grid.specs.Cuts.{grid_of}
 use Rattle.vocabulary.specs.Prelude.{Record, Rect, Tables, with_record}
+use Rattle.spy_grammar.specs.declared.record.Record.TheVariants as records
 use Rattle.semantics.specs.declared.tables.Req as reqs
 use Rattle.semantics.specs.declared.tables.Inst as insts
 use Rattle.semantics.specs.declared.limits.TheConstants.{MOST_ACCESSES}
@@ -69,6 +70,14 @@ pub record IsTally (all : Option (List Rect)) (earlier : List Record) (t : Table
   pub lists : IsSetOf (listed t) (has_id tally.listed)
   pub known : AreKnown earlier t
   pub kept : AreKept all t tally
+
+-- Whether a record is of a kind that adds nothing to the tally.
+abbrev pub adds_nothing : Record → Bool
+adds_nothing (records.Task id) = true
+adds_nothing (records.Map task number fields inst) = true
+adds_nothing (records.Run task done waits) = true
+adds_nothing (records.Merge done waits) = true
+adds_nothing _ = false
 
 -- What was the tally of some records whose tables these are is so still.
 abbrev pub Keeps : Tables → Tally → Tally → Type 0

@@ -11,7 +11,7 @@ ghost use Rattle.semantics.specs.Rules.{has_many_points, has_many_atoms, has_man
 ghost use Rattle.log_tables.specs.Views.{Ascends};
 ghost use Rattle.log_rules.specs.Own.{AddsAt, claimed};
 ghost use Rattle.log_rules.specs.Listing.{AddsAll, ids_listed};
-ghost use Rattle.log_rules.specs.Tallied.{AreAtEnd, IfTally, IsTally, Keeps, MayCount, rects_in};
+ghost use Rattle.log_rules.specs.Tallied.{AreAtEnd, IfTally, IsTally, Keeps, MayCount, adds_nothing, rects_in};
 
 use crate::claim_points::ClaimPoints;
 use crate::claims::{Claims, FEW, ItemReq};
@@ -100,6 +100,18 @@ fn note_claims<P: PointSet>(
             Ok(())
         }
         _ => Ok(()),
+    }
+}
+
+/// Whether a record is of a kind that adds nothing to the tally, as most records are.
+fn adds_nothing(rec: &Record) -> bool
+    ensures { result ≡ adds_nothing rec.now }
+{
+    match rec {
+        Record::Task { .. } | Record::Map { .. } | Record::Run { .. } | Record::Merge { .. } => {
+            true
+        }
+        _ => false,
     }
 }
 
@@ -264,6 +276,9 @@ impl Tally {
     {
         let tables = named.tables;
         let rec = named.rec;
+        if adds_nothing(rec) {
+            return Ok(());
+        }
         self.points = raised(self.points, points_asked(rec));
         self.cells = raised(self.cells, cells_asked(tables, rec));
         self.accesses = raised(self.accesses, named.asked);

@@ -1,4 +1,4 @@
-use Rattle.std.proofs.Common.{◌≡◌, ◌&&◌, Bool, true, inl, inr, ap, sym, ◌∙◌}
+use Rattle.std.proofs.Common.{inl, inr, ap}
 use Rattle.std.proofs.lemmas.Result.{IfOk-weaker}
 use Rattle.semantics.specs.Rules.{is_end, is_planar}
 use Rattle.log_decl.specs.RulesOf.{of_ends, of_insts, of_maps, of_names, of_reqs, of_serials, of_spaces, of_subs}
@@ -64,19 +64,9 @@ returns-in-Header g c = λ earlier has same cells.
     of_all at.whole.now earlier t r c.first_of_name.result of_names is.0
     (c.first_of_name.ensures (no_end (is_planar t) r is.1) earlier has same cells)
 
-pub returns-in_ok-corners-in-End : goal.returns-in_ok-corners-in-End
-returns-in_ok-corners-in-End g c = λ earlier has same cells.
+pub returns-in-End : goal.returns-in-End
+returns-in-End g c = λ earlier has same cells.
     let at = c.args.at.now in
-    let t = at.named.now.tables.now in
-    let r = at.named.now.rec.now in
-    let ends : (is_planar t && is_end r) ≡ true = ap (λ (b : Bool). b && is_end r) (sym c.is_planar.ensures ∙ c.if-is_planar.true) ∙ ap is_end c.in-End.is in
-    IfOk-weaker c.first_of_end.result _ _ (λ code told. of_all at.whole.now earlier t r code of_ends (ap rules_of c.in-End.is) told)
-    (c.first_of_end.ensures (ends, c.in_ok-corners-in-End.ensures) earlier has same cells)
-
-pub returns-in-End-2 : goal.returns-in-End-2
-returns-in-End-2 g c = λ earlier has same cells.
-    let at = c.args.at.now in
-    let t = at.named.now.tables.now in
-    let r = at.named.now.rec.now in
-    IfOk-weaker c.first_of_end-in-End-2.result _ _ (λ code told. of_all at.whole.now earlier t r code of_ends (ap rules_of c.in-End-2.is) told)
-    (c.first_of_end-in-End-2.ensures (ap (λ (b : Bool). b && is_end r) (sym c.is_planar.ensures ∙ c.if-is_planar.false)) earlier has same cells)
+    IfOk-weaker c.first_at_end.result _ _ (λ code told.
+    of_all at.whole.now earlier at.named.now.tables.now at.named.now.rec.now code of_ends (ap rules_of c.in-End.is) told)
+    (c.first_at_end.ensures earlier has same cells)

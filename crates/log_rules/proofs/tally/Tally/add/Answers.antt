@@ -6,6 +6,7 @@ use Rattle.semantics.specs.Rules.{accesses}
 use Rattle.log_rules.specs.Counts.{points_asked, cells_asked, size_asked}
 use Rattle.log_limits.specs.Sums.{cut}
 use Rattle.log_rules.specs.Listing.{ids_listed}
+use Rattle.log_rules.proofs.AddsNothing.{stays}
 use Rattle.log_rules.proofs.Cells.{HasCells-add}
 use Rattle.log_rules.proofs.Limits.{cut-both}
 use Rattle.log_rules.proofs.Growing.{AreKnown-add, point_total-add, cell_total-add, access_total-add, points-exact, cells-exact, accesses-exact, few_accesses, listed-add, AreClaims-add}
@@ -14,6 +15,11 @@ use Rattle.log_rules.proofs.tally.Tally.add.Goals as goal
 
 within_limit : (a b n : ℕ) → nat_lt 4194304 (a + b) ≡ false → n ≡ a + b → n ≤ 4194304
 within_limit a b n few is = elim (cases_lt 4194304 (a + b)) [ inl lt ↦ grind (arith, nat_tests) | inr le ↦ omega arith ]
+
+pub returns-then-adds_nothing : goal.returns-then-adds_nothing
+returns-then-adds_nothing g c = λ all earlier line is may.
+    let named = c.args.named.now in
+    stays all earlier named.tables.now line named.rec.now c.args.self.now (sym c.adds_nothing.ensures ∙ c.if-adds_nothing.true) c.requires is may
 
 pub returns : goal.returns
 returns g c = λ all earlier line is may.
