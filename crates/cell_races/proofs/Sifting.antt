@@ -10,7 +10,7 @@ use Rattle.cell_races.specs.declared.cell_accesses.CellAccess.{CellAccess}
 use Rattle.cell_races.specs.Accesses.{conflicts}
 use Rattle.cell_races.specs.Groups.{Groups, no_groups, with_node_access, fails_at}
 use Rattle.cell_races.specs.Races.{is_unordered, race_in, IsTransitive}
-use Rattle.cell_races.specs.Turns.{is_noted, IsUnorderedAt, NotesMore, AreNoted}
+use Rattle.cell_races.specs.Turns.{is_noted, AreInTurnBut, IsUnorderedAt, NotesMore, AreNoted}
 use Rattle.cell_races.specs.NodeAccesses.{node_access_of}
 use Rattle.cell_races.proofs.Cells.{IsApart, NotAfter, place_after}
 use Rattle.cell_races.proofs.Firsts.{race_push}
@@ -215,6 +215,20 @@ unordered_in before order some all k inside l = record {
   not_before = l.not_before;
 }
 
+-- What is in turn at the cells of two lists is so at those of both.
+pub turn_both : (before : ℕ → ℕ → Bool) (order : List ℕ) (front run : List CellAccess) (noted : List Bool) → IsApart front run
+    → AreInTurnBut before order front noted → AreInTurnBut before order run noted → AreInTurnBut before order (front ++ run) noted
+turn_both before order front run noted far h g x y xm ym same lt c x_free y_free = elim (Contains-append_cases front run x xm) [
+  | inl x_front ↦ elim (Contains-append_cases front run y ym) [
+    | inl y_front ↦ h x y x_front y_front same lt c x_free y_free
+    | inr y_run ↦ absurd (far x y x_front y_run same)
+  ]
+  | inr x_run ↦ elim (Contains-append_cases front run y ym) [
+    | inl y_front ↦ absurd (far y x y_front x_run (sym same))
+    | inr y_run ↦ g x y x_run y_run same lt c x_free y_free
+  ]
+]
+
 pub notes_both : (before : ℕ → ℕ → Bool) (order : List ℕ) (front run : List CellAccess) (old mid new : List Bool) → IsApart front run
     → NotesMore before order front old mid → NotesMore before order run mid new → NotesMore before order (front ++ run) old new
 notes_both before order front run old mid new far h g =
@@ -233,17 +247,8 @@ notes_both before order front run old mid new far h g =
         ]
         | inr l ↦ inr (unordered_in before order run (front ++ run) k right l)
       ];
-      turn = λ x y xm ym same lt c x_free y_free. elim (Contains-append_cases front run x xm) [
-        | inl x_front ↦ elim (Contains-append_cases front run y ym) [
-          | inl y_front ↦ h.turn x y x_front y_front same lt c
-              (notes_kept g x.place x_free) (notes_kept g y.place y_free)
-          | inr y_run ↦ absurd (far x y x_front y_run same)
-        ]
-        | inr x_run ↦ elim (Contains-append_cases front run y ym) [
-          | inl y_front ↦ absurd (far y x y_front x_run (sym same))
-          | inr y_run ↦ g.turn x y x_run y_run same lt c x_free y_free
-        ]
-      ];
+      turn = turn_both before order front run new far
+          (λ x y xm ym same lt c x_free y_free. h.turn x y xm ym same lt c (notes_kept g x.place x_free) (notes_kept g y.place y_free)) g.turn;
     }
 
 pub notes_none : (before : ℕ → ℕ → Bool) (order : List ℕ) (noted : List Bool) → NotesMore before order [] noted noted

@@ -1,10 +1,11 @@
-//! Whether no two nodes race, as far as short chains of waits show it.
+//! Whether no two nodes race, or all are in turn, as far as short chains of waits show it.
 
-ghost use Rattle.std.specs.Prelude.{◌≡◌, ◌<◌, All, IfOk, length};
+ghost use Rattle.std.specs.Prelude.{◌≡◌, ◌<◌, All, IfOk, length, map, true};
 ghost use Rattle.std.specs.List.Sorted.{IsPermutation};
 ghost use Rattle.event_graph.specs.Orders.{IsOrderOf};
 ghost use Rattle.cell_races.specs.CellAccesses.{AreInOrder};
-ghost use Rattle.cell_races.specs.Chained.{AreInTurn, IsFreeOf};
+ghost use Rattle.cell_races.specs.Chained.{AreInTurn, AreInTurnOf, IsFreeOf};
+ghost use Rattle.cell_races.specs.NodeAccesses.{node_access_of};
 ghost use Rattle.cell_races.specs.declared.chains.ByChains.TheVariants.{Free};
 
 use crate::access::NodeAccess;
@@ -12,7 +13,7 @@ use crate::cell_accesses::CellAccess;
 use crate::cell_sort::sort_cell_accesses;
 use crate::chains::ByChains;
 use crate::frontier::Frontier;
-use crate::node_accesses::list_node_accesses;
+use crate::node_accesses::{list_node_accesses, node_access_of};
 use crate::scan::cell_end;
 use event_graph::{Graph, Order};
 use std::alloc::{AllocError, Global};
@@ -88,4 +89,59 @@ pub fn are_free_by_chains(
         cell_accesses.as_slice(),
         &mut steps,
     )
+}
+
+/// Makes the list that of the nodes of what is done at a cell, access by access. Whether all of them are nodes of the graph.
+fn list_each(
+    node_accesses: &mut Vec<NodeAccess>,
+    graph: &Graph,
+    order: &[usize],
+    cell_accesses: &[CellAccess],
+) -> Result<bool, AllocError>
+    ensures list { IfOk result (λ all. all ≡ true
+        → node_accesses.new.items ≡ map (node_access_of order.now) cell_accesses.now) }
+    ensures nodes { IfOk result (λ all. all ≡ true
+        → All (λ a. a.node < length graph.now) node_accesses.new.items) }
+{
+    node_accesses.clear();
+    for cell_access in cell_accesses {
+        if cell_access.place >= order.len() {
+            return Ok(false);
+        }
+        let node_access = node_access_of(order, cell_access);
+        if node_access.node >= graph.len() {
+            return Ok(false);
+        }
+        node_accesses.push(node_access)?;
+    }
+    Ok(true)
+}
+
+/// Whether short chains show that what conflicts at a cell is done in the order of its places: the node at the earlier one is before the other. The accesses are in order; no marks are made.
+pub fn are_in_turn_by_chains(
+    alloc: Global,
+    graph: &Graph,
+    order: &[usize],
+    cell_accesses: &[CellAccess],
+) -> Result<ByChains, AllocError>
+    requires { AreInOrder cell_accesses.now }
+    ensures { IfOk result (λ by. by ≡ Free → AreInTurnOf graph.now order.now cell_accesses.now) }
+{
+    let mut steps = cell_accesses.len().saturating_mul(STEPS_EACH);
+    let mut node_accesses = Vec::new(alloc);
+    let mut frontier = Frontier::new(alloc);
+    let mut from = 0;
+    while from < cell_accesses.len() {
+        let end = cell_end(cell_accesses, from);
+        let at_cell = &cell_accesses[from..end];
+        let are_nodes = list_each(&mut node_accesses, graph, order, at_cell)?;
+        if !are_nodes {
+            return Ok(ByChains::Unknown);
+        }
+        match are_in_turn(&mut frontier, graph, node_accesses.as_slice(), &mut steps)? {
+            ByChains::Free => from = end,
+            untold => return Ok(untold),
+        }
+    }
+    Ok(ByChains::Free)
 }

@@ -5,7 +5,6 @@ ghost use Rattle.findings.specs.Texts as texts;
 ghost use Rattle.semantics.specs.declared.command.Command.TheVariants.{Ordered};
 ghost use Rattle.vocabulary.specs.Prelude.{graph_of, HasNoCycle};
 ghost use Rattle.outcomes.specs.Outcome.{OrderedFinds};
-ghost use Rattle.reach_marks.specs.Reached.{AreMarksOf};
 ghost use Rattle.log_findings.specs.Findings.{IsFoundOf};
 ghost use Rattle.log_findings.specs.Sorted.{AreSorted, IsUnsorted};
 
@@ -16,24 +15,27 @@ use crate::serial::serial_fault;
 use findings::Finding;
 use logs::Log;
 use memory::Memory;
-use reach_marks::Reach;
 use region_tree::ArenaSet;
 use std::alloc::Global;
-use task_order::{TaskOrder, task_order};
+use task_order::{SortedNodes, TaskOrder, task_order};
 
-/// What `ordered` finds by marks of the nodes, of which none is on a cycle.
+/// What `ordered` finds in a log whose nodes are sorted, of which none is on a cycle.
 fn tasks_found<'a, P: ArenaSet<'a>>(
     alloc: Global,
     log: &Log<'a, P>,
-    reach: &Reach,
+    sorting: &Sorting,
 ) -> Result<Finding, Memory>
     requires no_cycle { HasNoCycle log.now }
-    requires marks { AreMarksOf (graph_of log.now.nodes) reach.now }
+    requires sorted { AreSorted (graph_of log.now.nodes) sorting.now }
     ensures found { IfOk result (OrderedFinds log.now) }
     ensures text { IfOk result texts.Good }
 {
     log.is_declared();
-    match task_order(alloc, log, reach) {
+    let sorted = SortedNodes {
+        graph: &sorting.graph,
+        order: &sorting.order,
+    };
+    match task_order(alloc, log, &sorted) {
         Ok(TaskOrder::Kept { pairs }) => Ok(ordered_found(task_count(log), pairs)),
         Ok(TaskOrder::Unordered { a, b, place }) => {
             let (t, u) = ids_by_serial(log, a, b);
@@ -41,20 +43,6 @@ fn tasks_found<'a, P: ArenaSet<'a>>(
         }
         Err(_) => Err(Memory),
     }
-}
-
-/// What `ordered` finds in a log whose nodes are sorted.
-fn sorted_found<'a, P: ArenaSet<'a>>(
-    alloc: Global,
-    log: &Log<'a, P>,
-    sorting: &Sorting,
-) -> Result<Finding, Memory>
-    requires { AreSorted (graph_of log.now.nodes) sorting.now }
-    ensures found { IfOk result (OrderedFinds log.now) }
-    ensures text { IfOk result texts.Good }
-{
-    let reach = Reach::build(alloc, &sorting.graph, &sorting.order)?;
-    tasks_found(alloc, log, &reach)
 }
 
 /// The nodes of a log sorted, or the cycle that is shown.
@@ -72,7 +60,7 @@ fn order_found<'a, P: ArenaSet<'a>>(alloc: Global, log: &Log<'a, P>) -> Result<F
     ensures text { IfOk result texts.Good }
 {
     match sort_log(alloc, log) {
-        Ok(sorting) => sorted_found(alloc, log, &sorting),
+        Ok(sorting) => tasks_found(alloc, log, &sorting),
         Err(Unsorted::Cycle(events)) => Ok(cycle_found(events)),
         Err(Unsorted::Memory) => Err(Memory),
     }

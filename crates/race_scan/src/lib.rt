@@ -11,4 +11,5 @@
 mod accesses_by_node;
 mod shown;
 
-pub use shown::{ScanEnd, SortedNodes, scan};
+pub use cell_races::SortedNodes;
+pub use shown::{ScanEnd, scan};

@@ -14,9 +14,8 @@ use crate::accesses_by_node::{
     cell_accesses_of, cells_given_or_gathered, few_cell_accesses, field_accesses_of,
     fields_given_or_gathered,
 };
-use cell_races::{ByChains, CellAccess, FoundRace, are_free_by_chains, shown_race};
+use cell_races::{ByChains, CellAccess, FoundRace, SortedNodes, are_free_by_chains, shown_race};
 use cut_logs::CutLog;
-use event_graph::{Graph, Order};
 use logs::Log;
 use memory::Memory;
 use point_kinds::FirstPoints;
@@ -24,13 +23,6 @@ use reach_marks::Reach;
 use region_tree::ArenaSet;
 use semantics::Cell;
 use std::alloc::Global;
-
-/// The graph of the nodes of a log, and their order.
-#[derive(Clone, Copy)]
-pub struct SortedNodes<'g> {
-    pub graph: &'g Graph,
-    pub order: &'g Order,
-}
 
 /// Why a scan finds no log free of races.
 #[derive(Clone, Copy)]

@@ -6,3 +6,4 @@ mod Interfering
 mod Counted
 mod Chains
 mod Looked
+mod Stable

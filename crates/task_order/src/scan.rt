@@ -2,6 +2,8 @@
 
 ghost use Rattle.std.specs.Prelude.{◌≡◌, ℕ, ◌<◌, All, IfOk, IsTrue, length};
 ghost use Rattle.vocabulary.specs.Prelude.{graph_of};
+ghost use Rattle.semantics.specs.Shown.{AreKept};
+ghost use Rattle.event_graph.specs.Orders.{IsOrderOf};
 ghost use Rattle.semantics.specs.SerialOrder.{serial, serial_place};
 ghost use Rattle.reach_marks.specs.Reached.{AreMarksOf};
 ghost use Rattle.cell_races.specs.CellAccesses.{AreInOrder};
@@ -10,7 +12,7 @@ ghost use Rattle.order_laws.specs.Turns.{AreKeptBut, ListsItems};
 ghost use Rattle.task_order.specs.Gathered.{AreFirstCellAccesses, in_order};
 ghost use Rattle.task_order.specs.Runs.{AreRunsOf};
 
-use cell_races::{CellAccess, unordered_places};
+use cell_races::{ByChains, CellAccess, SortedNodes, are_in_turn_by_chains, unordered_places};
 use log_laws::serial_order_lists;
 use logs::Log;
 use order_laws::places_tell_of_tasks;
@@ -40,6 +42,32 @@ fn runs_in_order<'a, P: PointSet + Copy>(
         order.push(runs[*item])?;
     }
     Ok(order)
+}
+
+/// Whether short chains of waits show that every two tasks that interfere are run in serial order, from what tasks do at first points alone. No marks are made.
+pub(crate) fn are_kept_by_chains<'a, P: PointSet + Copy>(
+    alloc: Global,
+    log: &Log<'a, P>,
+    sorted: &SortedNodes<'_>,
+    runs: &[usize],
+    cell_accesses: &[CellAccess],
+) -> Result<bool, AllocError>
+    requires graph { sorted.now.graph.now ≡ graph_of log.now.nodes }
+    requires replayed { IsOrderOf sorted.now.graph.now sorted.now.order.now }
+    requires runs { AreRunsOf log.now runs.now }
+    requires cell_accesses { AreFirstCellAccesses log.now cell_accesses.now }
+    requires order { AreInOrder cell_accesses.now }
+    ensures { IfOk result (λ kept. IsTrue kept → AreKept log.now) }
+{
+    lists_items(log);
+    places_tell_of_tasks();
+    let _linked = sorted.graph.len();
+    let _placed = sorted.order.places();
+    let order = runs_in_order(alloc, log, runs)?;
+    match are_in_turn_by_chains(alloc, sorted.graph, &order, cell_accesses)? {
+        ByChains::Free => Ok(true),
+        _ => Ok(false),
+    }
 }
 
 /// Whether what is done is done by nodes that are marked.

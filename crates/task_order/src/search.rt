@@ -3,7 +3,7 @@
 ghost use Rattle.std.specs.Prelude.{◌≡◌, ℕ, ◌<◌, ◌^◌, length, true, false, IfOk, IsTrue, Some};
 ghost use Rattle.vocabulary.specs.Prelude.{graph_of, least_place};
 ghost use Rattle.semantics.specs.Shown.{AreKept};
-ghost use Rattle.reach_marks.specs.Reached.{AreMarksOf};
+ghost use Rattle.event_graph.specs.Orders.{IsOrderOf};
 ghost use Rattle.cell_races.specs.Turns.{is_noted};
 ghost use Rattle.order_laws.specs.Turns.{do_interfere};
 ghost use Rattle.task_order.specs.Users.{AreTaskPlaces};
@@ -13,9 +13,10 @@ ghost use Rattle.task_order.specs.Searched.{IsTaskOrder};
 use crate::kept::Schedule;
 use crate::least::first_unkept;
 use crate::runs::runs_of;
-use crate::scan::unordered_tasks;
+use crate::scan::{are_kept_by_chains, unordered_tasks};
 use crate::task_cell_accesses::cell_accesses_of_tasks;
 use crate::tasks::{count_task_pairs, task_places};
+use cell_races::SortedNodes;
 use logs::Log;
 use memory::Memory;
 use order_laws::first_pair_is_shown;
@@ -124,24 +125,30 @@ fn order_of_tasks<'a, P: PointSet + Copy>(
     }
 }
 
-/// Whether every two tasks of a log that interfere are run in serial order, by marks of the log's nodes.
+/// Whether every two tasks of a log that interfere are run in serial order. Marks of the log's nodes are made only where short chains of waits do not show that all are.
 pub fn task_order<'a, P: ArenaSet<'a>>(
     alloc: Global,
     log: &Log<'a, P>,
-    reach: &Reach,
+    sorted: &SortedNodes<'_>,
 ) -> Result<TaskOrder, Memory>
     requires few { length log.now.items < 2 ^ 32 }
-    requires marks { AreMarksOf (graph_of log.now.nodes) reach.now }
+    requires graph { sorted.now.graph.now ≡ graph_of log.now.nodes }
+    requires replayed { IsOrderOf sorted.now.graph.now sorted.now.order.now }
     ensures { IfOk result (IsTaskOrder log.now) }
 {
     let firsts = FirstPoints::of(alloc, log)?;
     let runs = runs_of(alloc, log)?;
     let cell_accesses = cell_accesses_of_tasks(alloc, log, firsts.as_slice())?;
-    let unordered = unordered_tasks(alloc, log, reach, &runs, &cell_accesses)?;
     let places = task_places(alloc, log, &cell_accesses)?;
+    let kept = are_kept_by_chains(alloc, log, sorted, &runs, &cell_accesses)?;
+    if kept {
+        return kept_order(alloc, log, &places);
+    }
+    let reach = Reach::build(alloc, sorted.graph, sorted.order)?;
+    let unordered = unordered_tasks(alloc, log, &reach, &runs, &cell_accesses)?;
     let schedule = Schedule {
         log,
-        reach,
+        reach: &reach,
         runs: &runs,
         unordered: &unordered,
     };

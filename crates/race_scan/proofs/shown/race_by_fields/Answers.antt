@@ -1,4 +1,4 @@
-use Rattle.std.proofs.Common.{◌<◌, All, Contains, ℕ, length, refl, sym, ap, ◌∙◌, subst}
+use Rattle.std.proofs.Common.{◌<◌, Contains, ℕ, length, refl, sym, ap, ◌∙◌, subst}
 use Rattle.std.proofs.lemmas.List.{length-map}
 use Rattle.event_graph.proofs.lemmas.Whole.{order_whole}
 use Rattle.race_scan.specs.Gathered.{field_accesses_before}

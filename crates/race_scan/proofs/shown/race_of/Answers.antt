@@ -1,4 +1,4 @@
-use Rattle.std.proofs.Common.{refl, length, subst}
+use Rattle.std.proofs.Common.{refl}
 use Rattle.race_scan.proofs.Placed.{order_in_log}
 use Rattle.race_scan.proofs.shown.race_of.Goals as goal
 
