@@ -1,43 +1,10 @@
--- What chains of waits tell, whatever the marks of a graph are.
-use Rattle.std.proofs.Common.{◌≡◌, ◌<◌, ◌∷◌, ◌++◌, [], ℕ, false, not, List, All, length, get_or, inl, inr, sym, ap, subst, Contains, slice_get, Some}
+-- What comes after all that it has to come after, whatever the marks of a graph are.
+use Rattle.std.proofs.Common.{◌≡◌, ◌<◌, false, not, List, All, length, get_or, ap}
 use Rattle.std.proofs.lemmas.List.Folds.{list_any_none}
-use Rattle.std.proofs.lemmas.Option.{slice_get_within, get_or_from_slice_get}
-use Rattle.list_lemmas.proofs.lemmas.Firsts.{cases_option}
-use Rattle.vocabulary.specs.Prelude.{Node, WaitsOn, Before}
-use Rattle.event_graph.specs.Orders.{IsWait}
-use Rattle.event_graph.proofs.lemmas.Placed.{node_at}
+use Rattle.vocabulary.specs.Prelude.{Node, Before}
 use Rattle.reach_marks.specs.Reached.{Marks, AreMarksOf, before_in}
-use Rattle.reach_marks.proofs.lemmas.Transitive.{chains_join}
 use Rattle.cell_races.specs.declared.access.NodeAccess.{NodeAccess}
 use Rattle.cell_races.specs.Groups.{Groups, asked, fails_at}
-
--- What a node lists is what it waits on.
-pub waited : (nodes : List Node) (node k on : ℕ) → IsWait nodes node k on → WaitsOn nodes node on
-waited nodes node k on w =
-    let m = node_at nodes on w.event w.done in
-    elim (cases_option (slice_get nodes node)) [
-      | inl none ↦ let bad = rw none at w.listed in absurd cc
-      | inr some ↦
-          let listed : slice_get some.0.waits k ≡ Some w.event = rw some.1 at w.listed in
-          record {
-            on = m.0;
-            by = some.0;
-            on_is = m.1;
-            by_is = some.1;
-            listed = subst (Contains some.0.waits) (sym m.2)
-                (k, slice_get_within some.0.waits k w.event listed, get_or_from_slice_get some.0.waits k w.event w.event listed);
-          }
-    ]
-
--- One wait is a chain, two are, and a chain goes on by a wait.
-pub one_wait : (nodes : List Node) (a b : ℕ) → WaitsOn nodes b a → Before nodes a b
-one_wait nodes a b w = ([], w)
-
-pub two_waits : (nodes : List Node) (a between b : ℕ) → WaitsOn nodes between a → WaitsOn nodes b between → Before nodes a b
-two_waits nodes a between b first second = (between ∷ [], (first, second))
-
-pub one_more : (nodes : List Node) (a between b : ℕ) → Before nodes a between → WaitsOn nodes b between → Before nodes a b
-one_more nodes a between b before w = (before.0 ++ between ∷ [], chains_join nodes a before.0 between [] b before.1 w)
 
 -- A node that comes after all that it has to come after does not fail.
 pub never_fails : (nodes : List Node) (marks : Marks) → AreMarksOf nodes marks → (g : Groups) (v : NodeAccess)

@@ -2,29 +2,14 @@
 
 ghost use Rattle.std.specs.Prelude.{◌≡◌, true, All, IfSome};
 ghost use Rattle.vocabulary.specs.Prelude.{Before, WaitsOn};
-ghost use Rattle.cell_races.specs.declared.chains.ByChains.TheVariants.{Free};
 
 use event_graph::Graph;
-
-/// What short chains of waits tell of whether nodes race.
-#[derive(Clone, Copy)]
-pub enum ByChains {
-    /// They show that no two nodes race.
-    Free,
-    /// They do not tell.
-    Unknown,
-    /// They do not tell, and a node had to come after more nodes than they are likely to tell of.
-    Wide,
-}
-
-/// The most nodes after all of which short chains are likely to show that another comes.
-const LIKELY_TOLD: usize = 64;
 
 /// How many waits of a node are looked at.
 const WAITS_LOOKED_AT: usize = 32;
 
 /// The node on which a node waits in a place of its list, if there is one and so many steps are left that it may be looked at.
-#[tactic(auto, using(crate::proofs::Waited::waited))]
+#[tactic(auto, using(reach_marks::proofs::lemmas::Chains::waited))]
 fn wait_at(graph: &Graph, node: usize, k: usize, steps: &mut usize) -> Option<usize>
     ensures { IfSome result (λ on. WaitsOn graph.now node on) }
 {
@@ -48,7 +33,7 @@ fn waits_on(graph: &Graph, node: usize, on: usize, steps: &mut usize) -> bool
 }
 
 /// Whether a chain of one wait or of two is found from a node to another.
-#[tactic(auto, using(crate::proofs::Waited::one_wait, crate::proofs::Waited::two_waits))]
+#[tactic(auto, using(reach_marks::proofs::lemmas::Chains::one_wait, reach_marks::proofs::lemmas::Chains::two_waits))]
 fn leads_in_two(graph: &Graph, a: usize, b: usize, steps: &mut usize) -> bool
     ensures { result ≡ true → Before graph.now a b }
 {
@@ -67,7 +52,7 @@ fn leads_in_two(graph: &Graph, a: usize, b: usize, steps: &mut usize) -> bool
 }
 
 /// Whether a chain of one wait, of two or of three is found from a node to another.
-#[tactic(auto, using(crate::proofs::Waited::one_more))]
+#[tactic(auto, using(reach_marks::proofs::lemmas::Chains::one_more))]
 fn leads_to(graph: &Graph, a: usize, b: usize, steps: &mut usize) -> bool
     ensures { result ≡ true → Before graph.now a b }
 {
@@ -86,7 +71,7 @@ fn leads_to(graph: &Graph, a: usize, b: usize, steps: &mut usize) -> bool
 }
 
 /// Whether such a chain is found from each node of a group to a node. Each wait that is looked at takes a step of those that are left; where none is left, none is found.
-fn all_lead_to(graph: &Graph, group: &[usize], b: usize, steps: &mut usize) -> bool
+pub(crate) fn all_lead_to(graph: &Graph, group: &[usize], b: usize, steps: &mut usize) -> bool
     ensures { result ≡ true → All (λ a. Before graph.now a b) group.now }
 {
     for a in group {
@@ -95,22 +80,4 @@ fn all_lead_to(graph: &Graph, group: &[usize], b: usize, steps: &mut usize) -> b
         }
     }
     true
-}
-
-/// Whether such chains show that a node comes after a whole group, and so races with none of it.
-pub(crate) fn ordered_by_chains(
-    graph: &Graph,
-    group: &[usize],
-    b: usize,
-    steps: &mut usize,
-) -> ByChains
-    ensures { result ≡ Free → All (λ a. Before graph.now a b) group.now }
-{
-    if all_lead_to(graph, group, b, steps) {
-        ByChains::Free
-    } else if group.len() > LIKELY_TOLD {
-        ByChains::Wide
-    } else {
-        ByChains::Unknown
-    }
 }

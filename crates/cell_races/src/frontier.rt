@@ -1,14 +1,10 @@
 //! How far the nodes that access a cell have been looked at.
 
 ghost use Rattle.std.specs.Prelude.{◌≡◌, ◌<◌, All, OnOk, length};
-ghost use Rattle.vocabulary.specs.Prelude.{Before};
 ghost use Rattle.reach_marks.specs.Reached.{before_in};
 ghost use Rattle.cell_races.specs.Groups.{no_groups, with_node_access, asked, fails_at};
-ghost use Rattle.cell_races.specs.declared.chains.ByChains.TheVariants.{Free};
 
 use crate::access::{Access, NodeAccess};
-use crate::chains::{ByChains, ordered_by_chains};
-use event_graph::Graph;
 use reach_marks::Reach;
 use std::alloc::{AllocError, Global};
 use std::marker::Model;
@@ -72,19 +68,6 @@ impl Frontier {
         reach
             .first_not_before(self.asked(node_access), node_access.node)
             .is_some()
-    }
-
-    /// Whether short chains of waits show that the next node comes after the whole group that it has to come after.
-    pub(crate) fn ordered_by_chains(
-        &self,
-        graph: &Graph,
-        node_access: NodeAccess,
-        steps: &mut usize,
-    ) -> ByChains
-        ensures { result ≡ Free
-            → All (λ a. Before graph.now a node_access.node) (asked self.now node_access) }
-    {
-        ordered_by_chains(graph, self.asked(node_access), node_access.node, steps)
     }
 
     /// Takes the next node.

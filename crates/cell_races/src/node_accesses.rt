@@ -1,10 +1,11 @@
 //! The nodes that access a cell.
 
-ghost use Rattle.std.specs.Prelude.{◌≡◌, ◌<◌, All, OnOk, length};
+ghost use Rattle.std.specs.Prelude.{◌≡◌, ◌<◌, All, IfOk, OnOk, length, map, true};
 ghost use Rattle.cell_races.specs.NodeAccesses.{node_access_of, node_accesses_of, with_access};
 
 use crate::access::NodeAccess;
 use crate::cell_accesses::CellAccess;
+use event_graph::Graph;
 use std::alloc::AllocError;
 
 /// The node at the place of an access, and what it does.
@@ -53,4 +54,30 @@ pub(crate) fn list_node_accesses(
     }
     node_accesses.push(last)?;
     Ok(())
+}
+
+/// Makes the list that of the nodes of what is done at a cell, access by access. Whether all of them are nodes of the graph.
+pub(crate) fn list_access_by_access(
+    node_accesses: &mut Vec<NodeAccess>,
+    graph: &Graph,
+    order: &[usize],
+    cell_accesses: &[CellAccess],
+) -> Result<bool, AllocError>
+    ensures list { IfOk result (λ all. all ≡ true
+        → node_accesses.new.items ≡ map (node_access_of order.now) cell_accesses.now) }
+    ensures nodes { IfOk result (λ all. all ≡ true
+        → All (λ a. a.node < length graph.now) node_accesses.new.items) }
+{
+    node_accesses.clear();
+    for cell_access in cell_accesses {
+        if cell_access.place >= order.len() {
+            return Ok(false);
+        }
+        let node_access = node_access_of(order, cell_access);
+        if node_access.node >= graph.len() {
+            return Ok(false);
+        }
+        node_accesses.push(node_access)?;
+    }
+    Ok(true)
 }

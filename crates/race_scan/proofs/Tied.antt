@@ -1,5 +1,5 @@
 -- Races of a log are the clashes of what is gathered of it.
-use Rattle.std.proofs.Common.{◌≡◌, ◌≢◌, ℕ, ◌<◌, true, false, List, Some, None, Contains, Option, MatchOption, refl, sym, ap, ◌∙◌, subst, length, slice_index, unwrap_or, position, ◌==◌, All, get_or, arith}
+use Rattle.std.proofs.Common.{◌≡◌, ◌≢◌, ℕ, ◌<◌, true, false, List, Some, None, Contains, Option, MatchOption, refl, sym, ap, ◌∙◌, subst, length, slice_index, unwrap_or, position, ◌==◌, All, get_or}
 use Rattle.std.specs.List.{range_with_len}
 use Rattle.std.proofs.lemmas.Bool.{true≢false, false_from_ne_true}
 use Rattle.std.proofs.lemmas.List.{length-map, get_or_default}
@@ -85,16 +85,6 @@ raced_at t a b cell r =
       one_does = access_moved ByPoint 0 r.one cell first (touched_point ByPoint r.one cell first touched.0);
       other_does = access_moved ByPoint 0 r.other cell second (touched_point ByPoint r.other cell second touched.1);
     }
-
--- Where nothing is gathered there is no race.
-pub free_of_none : (t : Tables) (order : List ℕ) → ((k : ℕ) → k < length t.nodes → Contains order k)
-    → length (field_accesses_before t order (length order)) ≡ 0 → IsRaceFree t
-free_of_none t order all none a b cell r =
-    let m = both_meant (access r.one cell) (access r.other cell) r.conflict in
-    let at = raced_at t a b cell r in
-    let one = access_gathered (field_moves_at t) order (length t.nodes) all a (move_to ByPoint 0 r.one) (cell_to ByPoint 0 cell) m.0
-    (step_in t a r.one r.one_in).0 at.one_in (at.one_does ∙ m.2) in
-    let lt = one.2.1 in omega (arith, lt, none)
 
 module _ (t : Tables) (order : List ℕ) (marks : Marks) (replayed : order ≡ replay_order (graph_of t.nodes))
     (marked : AreMarksOf (graph_of t.nodes) marks)

@@ -26,8 +26,3 @@ field_accesses_before t order n = accesses_before (field_moves_at t) order n
 abbrev pub AreAllCellsOf : Tables → List ℕ → List CellAccess → Type 0
 AreAllCellsOf t order cell_accesses =
     IsPermutation (cell_accesses_before t order (length order)) cell_accesses
-
--- The same if each space that has points had point 0 alone.
-abbrev pub AreAllFieldsOf : Tables → List ℕ → List CellAccess → Type 0
-AreAllFieldsOf t order cell_accesses =
-    IsPermutation (field_accesses_before t order (length order)) cell_accesses

@@ -4,7 +4,7 @@ ghost use Rattle.std.specs.Prelude.{◌≡◌, ◌<◌, ◌++◌, true, All, IfO
 ghost use Rattle.cell_races.specs.CellAccesses.{cell_accesses_of};
 ghost use Rattle.inst_steps.specs.FieldMoves.{field_moves_at};
 ghost use Rattle.inst_steps.specs.Stepping.{moves_at};
-ghost use Rattle.race_scan.specs.Gathered.{AreAllCellsOf, AreAllFieldsOf, cell_accesses_before, field_accesses_before};
+ghost use Rattle.race_scan.specs.Gathered.{cell_accesses_before, field_accesses_before};
 
 use cell_races::{CellAccess, push_cell_accesses};
 use cut_logs::CutLog;
@@ -90,23 +90,6 @@ pub(crate) fn cell_accesses_of<'a, P: ArenaSet<'a>>(
     Ok(cell_accesses)
 }
 
-/// What all nodes do at cells, in some order: as it is given, or else gathered.
-pub(crate) fn cells_given_or_gathered<'a, P: ArenaSet<'a>>(
-    alloc: Global,
-    log: &CutLog<'_, 'a, '_, P>,
-    order: &[usize],
-    given: Option<Vec<CellAccess>>,
-) -> Result<Vec<CellAccess>, AllocError>
-    requires nodes { All (λ k. k < length log.now.nodes) order.now }
-    requires given { IfSome given (λ v. AreAllCellsOf log.now order.now v.items) }
-    ensures { IfOk result (λ v. AreAllCellsOf log.now order.now v.items) }
-{
-    match given {
-        Some(cell_accesses) => Ok(cell_accesses),
-        None => cell_accesses_of(alloc, log, order),
-    }
-}
-
 /// Adds what a node would do at cells if each space that has points had point 0 alone. Its moves are listed in the room of those of earlier nodes.
 fn push_fields_of<'a, P: ArenaSet<'a>>(
     cell_accesses: &mut Vec<CellAccess>,
@@ -142,21 +125,4 @@ pub(crate) fn field_accesses_of<'a, P: ArenaSet<'a>>(
         push_fields_of(&mut cell_accesses, &mut moves, log, place, order[place])?;
     }
     Ok(cell_accesses)
-}
-
-/// What all nodes would do if each space that has points had point 0 alone, in some order: as it is given, or else gathered.
-pub(crate) fn fields_given_or_gathered<'a, P: ArenaSet<'a>>(
-    alloc: Global,
-    log: &CutLog<'_, 'a, '_, P>,
-    order: &[usize],
-    given: Option<Vec<CellAccess>>,
-) -> Result<Vec<CellAccess>, AllocError>
-    requires nodes { All (λ k. k < length log.now.nodes) order.now }
-    requires given { IfSome given (λ v. AreAllFieldsOf log.now order.now v.items) }
-    ensures { IfOk result (λ v. AreAllFieldsOf log.now order.now v.items) }
-{
-    match given {
-        Some(field_accesses) => Ok(field_accesses),
-        None => field_accesses_of(alloc, log, order),
-    }
 }

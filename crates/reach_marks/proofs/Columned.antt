@@ -55,7 +55,7 @@ empty_column : (k p : ℕ) → block_in k [] p ≡ Empty
 empty_column k p = elim (cases_lt (p / 1024) k) [ inl lt ↦ before_column k [] p lt | inr le ↦ in_column k [] p le ]
 
 -- A column whose first row alone is there adds nothing.
-first_of_column : (k p : ℕ) → block_in k (Empty ∷ []) p ≡ Empty
+pub first_of_column : (k p : ℕ) → block_in k (Empty ∷ []) p ≡ Empty
 first_of_column k p = elim (cases_lt (p / 1024) k) [
   | inl lt ↦ before_column k (Empty ∷ []) p lt
   | inr le ↦ in_column k (Empty ∷ []) p le ∙ only (p - 1024 * k)

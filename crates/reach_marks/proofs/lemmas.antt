@@ -1,3 +1,4 @@
 -- Lemmas for the proofs of other crates.
+pub mod Chains
 pub mod Marked
 pub mod Transitive

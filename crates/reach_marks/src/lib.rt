@@ -7,6 +7,7 @@
 #![tactic(auto)]
 
 mod block;
+mod block_reach;
 mod building;
 mod column;
 mod joining;
@@ -20,6 +21,7 @@ mod tags;
 mod unions;
 mod waits;
 
+pub use block_reach::BlockReach;
 pub use laws::before_is_transitive;
 pub use memory::Memory;
 pub use reach::Reach;

@@ -30,7 +30,7 @@ fn push_whole(pool: &mut Vec<[u64; 16]>, column: &mut Column) -> Result<(), Allo
 
 /// Adds the tag of a block of these places and of those in their rows, which is whole if it is before `front`.
 #[inline]
-fn push_joined_tag(
+pub(crate) fn push_joined_tag(
     pool: &mut Vec<[u64; 16]>,
     column: &mut Column,
     k: usize,

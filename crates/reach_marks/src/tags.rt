@@ -1,6 +1,6 @@
 //! What tags stand for.
 
-ghost use Rattle.std.specs.Prelude.{◌≡◌, ◌||◌, ◌==◌, ℕ, ◌+◌, ◌*◌, ◌/◌, ◌<◌, List, length, map, All, IfOk, OnOk, IfSome};
+ghost use Rattle.std.specs.Prelude.{◌≡◌, ◌||◌, ◌==◌, ℕ, ◌+◌, ◌*◌, ◌/◌, ◌<◌, List, length, map, true, All, IfOk, OnOk, IfSome};
 ghost use Rattle.std.specs.List.{list_any};
 ghost use Rattle.bit_words.specs.Bits.{has_bit};
 ghost use Rattle.reach_marks.specs.Blocks.{block_has, block_in, block_of, is_full_block, is_mixed_block, reaches_in, IsExact};
@@ -8,7 +8,7 @@ ghost use Rattle.reach_marks.specs.Columns.{AreTags, Grows};
 ghost use Rattle.reach_marks.specs.declared.block.Block.TheVariants.{Mixed};
 
 use crate::block::{Block, block_with};
-use bit_words::{all_bits, has, join, no_bits, set};
+use bit_words::{all_bits, has, is_empty, join, minus, no_bits, set};
 use std::alloc::AllocError;
 
 /// The tag of the row of place `p` in column `k`. The rows before the column have nothing in it.
@@ -36,6 +36,23 @@ pub(crate) fn has_tagged(pool: &[[u64; 16]], tag: usize, i: usize) -> bool
         0 => false,
         1 => true,
         _ => has(&pool[tag - 2], i),
+    }
+}
+
+/// Whether each place of a block whose bit is set is in the set.
+pub(crate) fn has_all_tagged(pool: &[[u64; 16]], tag: usize, bits: &[u64; 16]) -> bool
+    requires { tag < length pool.now + 2 }
+    ensures { result ≡ true → (i : ℕ) → i < 1024 → has_bit bits.now i ≡ true
+        → block_has (block_of pool.now tag) i ≡ true }
+{
+    match tag {
+        0 => false,
+        1 => true,
+        _ => {
+            let mut others = *bits;
+            minus(&mut others, &pool[tag - 2]);
+            is_empty(&others)
+        }
     }
 }
 

@@ -12,7 +12,7 @@ ghost use Rattle.order_laws.specs.Turns.{AreKeptBut, ListsItems};
 ghost use Rattle.task_order.specs.Gathered.{AreFirstCellAccesses, in_order};
 ghost use Rattle.task_order.specs.Runs.{AreRunsOf};
 
-use cell_races::{ByChains, CellAccess, SortedNodes, are_in_turn_by_chains, unordered_places};
+use cell_races::{CellAccess, SortedNodes, are_in_turn_by_waits, unordered_places};
 use log_laws::serial_order_lists;
 use logs::Log;
 use order_laws::places_tell_of_tasks;
@@ -44,8 +44,8 @@ fn runs_in_order<'a, P: PointSet + Copy>(
     Ok(order)
 }
 
-/// Whether short chains of waits show that every two tasks that interfere are run in serial order, from what tasks do at first points alone. No marks are made.
-pub(crate) fn are_kept_by_chains<'a, P: PointSet + Copy>(
+/// Whether waits are found that show that every two tasks that interfere are run in serial order, from what tasks do at first points alone.
+pub(crate) fn are_kept_by_waits<'a, P: PointSet + Copy>(
     alloc: Global,
     log: &Log<'a, P>,
     sorted: &SortedNodes<'_>,
@@ -64,10 +64,8 @@ pub(crate) fn are_kept_by_chains<'a, P: PointSet + Copy>(
     let _linked = sorted.graph.len();
     let _placed = sorted.order.places();
     let order = runs_in_order(alloc, log, runs)?;
-    match are_in_turn_by_chains(alloc, sorted.graph, &order, cell_accesses)? {
-        ByChains::Free => Ok(true),
-        _ => Ok(false),
-    }
+    let turned = are_in_turn_by_waits(alloc, sorted, &order, cell_accesses)?;
+    Ok(turned)
 }
 
 /// Whether what is done is done by nodes that are marked.

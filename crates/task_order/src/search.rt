@@ -13,7 +13,7 @@ ghost use Rattle.task_order.specs.Searched.{IsTaskOrder};
 use crate::kept::Schedule;
 use crate::least::first_unkept;
 use crate::runs::runs_of;
-use crate::scan::{are_kept_by_chains, unordered_tasks};
+use crate::scan::{are_kept_by_waits, unordered_tasks};
 use crate::task_cell_accesses::cell_accesses_of_tasks;
 use crate::tasks::{count_task_pairs, task_places};
 use cell_races::SortedNodes;
@@ -125,7 +125,7 @@ fn order_of_tasks<'a, P: PointSet + Copy>(
     }
 }
 
-/// Whether every two tasks of a log that interfere are run in serial order. Marks of the log's nodes are made only where short chains of waits do not show that all are.
+/// Whether every two tasks of a log that interfere are run in serial order. Marks of all nodes are made only where no waits are found that show that all are.
 pub fn task_order<'a, P: ArenaSet<'a>>(
     alloc: Global,
     log: &Log<'a, P>,
@@ -140,7 +140,7 @@ pub fn task_order<'a, P: ArenaSet<'a>>(
     let runs = runs_of(alloc, log)?;
     let cell_accesses = cell_accesses_of_tasks(alloc, log, firsts.as_slice())?;
     let places = task_places(alloc, log, &cell_accesses)?;
-    let kept = are_kept_by_chains(alloc, log, sorted, &runs, &cell_accesses)?;
+    let kept = are_kept_by_waits(alloc, log, sorted, &runs, &cell_accesses)?;
     if kept {
         return kept_order(alloc, log, &places);
     }

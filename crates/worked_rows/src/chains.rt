@@ -1,4 +1,4 @@
-//! What waits order: in one step, in two or in three, and over more or later ones, of which marks have to tell.
+//! What waits order: in one step, in two or in three, and over more or later ones, of which marks have to tell, block by block.
 
 use std::alloc::Global;
 use std::test::Fail;
@@ -73,6 +73,26 @@ fn ordered_by_chains_of_waits(rt: HostRuntime) -> Result<(), Fail> {
 }
 
 #[test]
+#[rattlefmt::skip]
+fn tasks_ordered_by_chains_of_waits(rt: HostRuntime) -> Result<(), Fail> {
+    let alloc = rt.alloc();
+    let rows: [(&[u8], Status, &[u8]); 6] = [
+        (b"", Status::Yes, b"ordered tasks 2 pairs 1\n"),
+        (b"13 merge 3 1\n13 merge 4 3\n13 run 2 2 4\n14 end 14", Status::Yes, b"ordered tasks 2 pairs 1\n"),
+        (b"13 merge 3 1\n13 merge 4 3\n13 merge 5 4\n13 run 2 2 5\n14 end 15", Status::Yes, b"ordered tasks 2 pairs 1\n"),
+        (b"13 run 2 2 -", Status::Refused, b"unordered 1 2 tree 1 point 0 field 1\n"),
+        (b"13 merge 3 1\n13 run 2 2 -\n14 end 13", Status::Refused, b"unordered 1 2 tree 1 point 0 field 1\n"),
+        (b"12 run 2 2 -\n12 merge 3 2\n13 run 1 1 3\n14 end 13", Status::Refused, b"unordered 1 2 tree 1 point 0 field 1\n"),
+    ];
+    for (edits, status, report) in rows {
+        let (ended, said) = answer_edited(alloc, "ordered", WRITE_AND_READ, edits)?;
+        assert_eq!(rt; said.as_slice(), report);
+        assert!(rt; ended == status);
+    }
+    Ok(())
+}
+
+#[test]
 fn ordered_behind_many_readers(rt: HostRuntime) -> Result<(), Fail> {
     let alloc = rt.alloc();
     // The writer waits on the last reader alone, or on the last but one.
@@ -135,6 +155,41 @@ fn ordered_by_the_last_of_many_waits(rt: HostRuntime) -> Result<(), Fail> {
     for (event, status, report) in rows {
         let log = many_waits(alloc, event)?;
         let (ended, said) = answer(alloc, "check", &log)?;
+        assert_eq!(rt; said.as_slice(), report);
+        assert!(rt; ended == status);
+    }
+    Ok(())
+}
+
+/// A log of what two tasks do, where the second waits on the last of 2,100 merges in a chain, so that three blocks of nodes lie between them. The first of these waits on `first`.
+fn long_chain(alloc: Global, first: &[u8]) -> Result<Vec<u8>, Fail> {
+    let mut lines = WRITTEN.to_vec(alloc)?;
+    lines.extend_from_slice(b"merge 3 ")?;
+    lines.extend_from_slice(first)?;
+    lines.extend_from_slice(b"\n")?;
+    for before in 3..2102u64 {
+        let merge = before.wrapping_add(1);
+        let line = format!(in alloc; "merge {merge} {before}\n")?;
+        lines.extend_from_slice(line.as_bytes())?;
+    }
+    lines.extend_from_slice(b"run 2 2 2102\n")?;
+    framed(alloc, &lines)
+}
+
+#[test]
+#[rattlefmt::skip]
+fn ordered_by_a_long_chain(rt: HostRuntime) -> Result<(), Fail> {
+    let alloc = rt.alloc();
+    // The chain begins at the writer, or at nothing.
+    let rows: [(&str, &[u8], Status, &[u8]); 4] = [
+        ("check", b"1", Status::Yes, b"accepted tasks 2 operations 2 reads 1\n"),
+        ("ordered", b"1", Status::Yes, b"ordered tasks 2 pairs 1\n"),
+        ("check", b"-", Status::Refused, b"race 1 2 inst 1 point 0 field 1\n"),
+        ("ordered", b"-", Status::Refused, b"unordered 1 2 tree 1 point 0 field 1\n"),
+    ];
+    for (command, first, status, report) in rows {
+        let log = long_chain(alloc, first)?;
+        let (ended, said) = answer(alloc, command, &log)?;
         assert_eq!(rt; said.as_slice(), report);
         assert!(rt; ended == status);
     }

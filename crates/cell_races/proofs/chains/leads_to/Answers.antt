@@ -1,4 +1,4 @@
-use Rattle.cell_races.proofs.Waited.{one_more}
+use Rattle.reach_marks.proofs.lemmas.Chains.{one_more}
 use Rattle.cell_races.proofs.chains.leads_to.Goals as goal
 
 pub returns-then-leads_in_two-2 : goal.returns-then-leads_in_two-2

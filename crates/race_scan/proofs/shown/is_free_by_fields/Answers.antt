@@ -1,15 +1,28 @@
-use Rattle.std.proofs.Common.{◌≡◌, ◌∙◌, ap, not, is_some, Option, Some, None, MatchOption, false}
-use Rattle.cell_races.specs.declared.scan.FoundRace.{FoundRace}
-use Rattle.cell_races.specs.Clashes.{IsFree, IsShown}
-use Rattle.cell_races.specs.Ranks.{rank_in}
-use Rattle.reach_marks.specs.Reached.{before_in}
+use Rattle.std.proofs.Common.{◌≡◌, ◌∙◌, ap, length, refl, subst}
+use Rattle.inst_steps.specs.FieldMoves.{field_moves_at}
+use Rattle.race_scan.specs.Gathered.{field_accesses_before}
+use Rattle.race_scan.proofs.Ordered.{free_of_fields}
+use Rattle.race_scan.proofs.Placed.{order_in_log}
+use Rattle.race_scan.proofs.Tied.{places_within}
 use Rattle.race_scan.proofs.shown.is_free_by_fields.Goals as goal
 
-none_there : (o : Option FoundRace) (P : Type 0) (Q : FoundRace → Type 0) → MatchOption o P Q → is_some o ≡ false → P
-none_there None P Q h e = h
-none_there (Some r) P Q h e = absurd cc
+pub field_accesses_of-requires : goal.field_accesses_of-requires
+field_accesses_of-requires g c κs = (
+  (refl, tt),
+  rw c.as_slice.ensures (order_in_log c.args.log.now c.args.sorted.now.graph.now c.args.sorted.now.order.now c.requires.graph c.requires.order),
+)
+
+pub are_free_by_waits-requires-clause-within : goal.are_free_by_waits-requires-clause-within
+are_free_by_waits-requires-clause-within g c =
+    let order = c.args.sorted.now.order.now in
+    let t = c.args.log.now in
+    let all : c.in_ok-field_accesses.field_accesses.items ≡ field_accesses_before t order (length order) =
+    subst (λ ns. c.in_ok-field_accesses.field_accesses.items ≡ field_accesses_before t ns (length ns)) c.as_slice.ensures
+    c.in_ok-field_accesses.ensures in
+    rw all (places_within (field_moves_at t) order (length order))
 
 pub returns : goal.returns
-returns c is = none_there c.in_ok-race.race (IsFree (before_in c.args.reach.now) c.args.sorted.now.order.now c.args.field_accesses.items)
-    (IsShown (before_in c.args.reach.now) (rank_in c.args.reach.now) c.args.sorted.now.order.now c.args.field_accesses.items)
-    c.in_ok-race.ensures (c.is_none.ensures ∙ ap not is)
+returns g c = λ e. free_of_fields c.args.log.now c.args.sorted.now.graph.now c.args.sorted.now.order.now c.places-placed.result.now
+    c.requires.graph c.requires.order c.len-linked.ensures.linked c.places-placed.ensures c.in_ok-field_accesses.field_accesses.items
+    (c.in_ok-is_free.ensures.free e)
+    (c.in_ok-field_accesses.ensures ∙ ap (λ ns. field_accesses_before c.args.log.now ns (length ns)) c.as_slice.ensures)
