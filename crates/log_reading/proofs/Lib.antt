@@ -1,3 +1,4 @@
 pub mod lemmas
 mod Held
 mod TextHeld
+mod Ended

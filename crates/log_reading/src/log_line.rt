@@ -1,7 +1,6 @@
 //! Lines of logs of any kind, read.
 
-ghost use Rattle.std.specs.Prelude.{◌≡◌, ℕ, List, None, Option, Result, Err, refl, IfOk, OnOk};
-ghost use Rattle.spy_words.specs.Faults.{Fails};
+ghost use Rattle.std.specs.Prelude.{◌≡◌, ℕ, List, None, Option, Result, refl, IfOk, OnOk};
 ghost use Rattle.spy_words.specs.declared.fault.LineFault.{LineFault as Faulty};
 ghost use Rattle.spy_grammar.specs.Launches.{launch_line_at, launch_spelling};
 ghost use Rattle.spy_grammar.specs.Nested.{GoodNested, nested_line_at, nested_spelling};
@@ -9,11 +8,11 @@ ghost use Rattle.vocabulary.specs.Prelude.{Good, GoodLaunch, line_at, on_line, s
 ghost use Rattle.semantics.specs.Launches.{on_launch_line};
 ghost use Rattle.semantics.specs.Nesting.{on_nested_line};
 ghost use Rattle.semantics.specs.TextFaults.{line_fault};
-ghost use Rattle.log_reading.specs.Spelled.{SaysBy};
+ghost use Rattle.log_reading.specs.Spelled.{EndsBy, HasFaultOfLine, SaysBy};
 
+use crate::reading::{SpellEnd, end_of};
 use spy_grammar::{
-    LLined, LRecord, LineFault, Lined, NLined, NRecord, Record, read_launch_line, read_line,
-    read_nested_line,
+    LLined, LRecord, Lined, NLined, NRecord, Record, read_launch_line, read_line, read_nested_line,
 };
 use std::alloc::Global;
 
@@ -37,10 +36,10 @@ pub trait LogLine: Drop {
     ghost rec_of: { Self → Self.Rec };
 
     /// What a line of this number says, unless it is passed over.
-    fn read_on(alloc: Global, line: u32, text: &[u8]) -> Result<Option<Self>, LineFault>
+    fn read_on(alloc: Global, line: u32, text: &[u8]) -> Result<Option<Self>, SpellEnd>
         ensures said { IfOk result (SaysBy good spelled on line text.now) }
         ensures clean { OnOk result (line_fault line (read text.now) ≡ None) }
-        ensures fails { (f : Faulty) → result ≡ Err f → Fails f (read text.now) };
+        ensures fault { EndsBy (HasFaultOfLine read line text.now) result };
 
     ghost line_is: { (n : ℕ) (r : Self.Rec) → line_of (on n r) ≡ n };
 
@@ -62,11 +61,11 @@ impl LogLine for Lined {
 
     ghost rec_of = { λ l. l.rec };
 
-    fn read_on(alloc: Global, line: u32, text: &[u8]) -> Result<Option<Lined>, LineFault> {
+    fn read_on(alloc: Global, line: u32, text: &[u8]) -> Result<Option<Lined>, SpellEnd> {
         match read_line(alloc, text) {
             Ok(Some(rec)) => Ok(Some(Lined { line, rec })),
             Ok(None) => Ok(None),
-            Err(fault) => Err(fault),
+            Err(fault) => Err(end_of(line, fault)),
         }
     }
 
@@ -90,11 +89,11 @@ impl LogLine for LLined {
 
     ghost rec_of = { λ l. l.rec };
 
-    fn read_on(alloc: Global, line: u32, text: &[u8]) -> Result<Option<LLined>, LineFault> {
+    fn read_on(alloc: Global, line: u32, text: &[u8]) -> Result<Option<LLined>, SpellEnd> {
         match read_launch_line(alloc, text) {
             Ok(Some(rec)) => Ok(Some(LLined { line, rec })),
             Ok(None) => Ok(None),
-            Err(fault) => Err(fault),
+            Err(fault) => Err(end_of(line, fault)),
         }
     }
 
@@ -118,11 +117,11 @@ impl LogLine for NLined {
 
     ghost rec_of = { λ l. l.rec };
 
-    fn read_on(alloc: Global, line: u32, text: &[u8]) -> Result<Option<NLined>, LineFault> {
+    fn read_on(alloc: Global, line: u32, text: &[u8]) -> Result<Option<NLined>, SpellEnd> {
         match read_nested_line(alloc, text) {
             Ok(Some(rec)) => Ok(Some(NLined { line, rec })),
             Ok(None) => Ok(None),
-            Err(fault) => Err(fault),
+            Err(fault) => Err(end_of(line, fault)),
         }
     }
 

@@ -38,7 +38,7 @@ impl<T: Drop> From<AllocFailed<T>> for SpellEnd {
 }
 
 /// The end that a fault of a line makes.
-fn end_of(line: u32, fault: LineFault) -> SpellEnd
+pub(crate) fn end_of(line: u32, fault: LineFault) -> SpellEnd
     ensures { result ≡ end_at line fault }
 {
     let code = match fault {
@@ -57,10 +57,7 @@ pub fn said_on<L: LogLine>(alloc: Global, line: u32, text: &[u8]) -> Result<Opti
     ensures clean { OnOk result (line_fault line (L.read text.now) ≡ None) }
     ensures fault { EndsBy (HasFaultOfLine L.read line text.now) result }
 {
-    match L::read_on(alloc, line, text) {
-        Ok(said) => Ok(said),
-        Err(fault) => Err(end_of(line, fault)),
-    }
+    L::read_on(alloc, line, text)
 }
 
 /// Adds what a line says.

@@ -1,3 +1,4 @@
 pub mod lemmas
 mod CellLaws
 mod WordFaults
+mod Given

@@ -98,5 +98,5 @@ pub fn read_launch_line(alloc: Global, line: &[u8]) -> Result<Option<LRecord>, L
     ensures only { (r : LRecord) → GoodLaunch r → line.now ≡ launch_spelling r → (result ≡ Ok (Some r))
         ⊎ (result ≡ Err Memory) }
 {
-    any_line::<LaunchKind>(alloc, line)?
+    any_line::<LaunchKind>(alloc, line)
 }

@@ -1,11 +1,12 @@
 //! A line, read by any of the grammars.
 
-ghost use Rattle.std.specs.Prelude.{◌≡◌, true, IfOk, None, Ok};
+ghost use Rattle.std.specs.Prelude.{◌≡◌, true, IfOk, None, Ok, Some};
+ghost use Rattle.spy_words.specs.Faults.{Gives, map_ok};
 ghost use Rattle.spy_grammar.specs.Rows.{Grammar, kind_in};
 ghost use Rattle.spy_grammar.specs.Reading.{is_passed_over, line_in, read_record, record_in};
 
 use crate::row::RowReader;
-use spy_words::{LineFault, Pieces, Read};
+use spy_words::{LineFault, Pieces};
 use std::alloc::{AllocError, Global};
 
 /// A kind of record of a grammar.
@@ -26,28 +27,28 @@ pub trait LineKind: Copy + Drop {
 }
 
 /// The record that words say.
-#[tactic(auto, unfolding(crate::specs::Reading::record_in))]
-fn record_of<K: LineKind>(alloc: Global, words: Pieces<'_>) -> Read<K::Rec>
-    ensures { IfOk result (λ read. read ≡ record_in K.grammar words.entry) }
+#[tactic(auto, unfolding(crate::specs::Reading::record_in), using(crate::proofs::Given::ended_gives, crate::proofs::Given::fails_so))]
+fn record_of<K: LineKind>(alloc: Global, words: Pieces<'_>) -> Result<Option<K::Rec>, LineFault>
+    ensures { Gives (λ o. o) result (map_ok (λ r. Some r) (record_in K.grammar words.entry)) }
 {
     let mut row = RowReader::new(alloc, words);
     match K::of_name(row.next()) {
         Ok(kind) => {
             let rec = kind.read(&mut row)?;
-            Ok(row.end(rec))
+            row.end(Some(rec))
         }
-        Err(fault) => Ok(Err(fault)),
+        Err(fault) => Err(fault),
     }
 }
 
 /// What a line says: nothing if it is blank or a comment.
 #[tactic(auto, unfolding(crate::specs::Reading::line_in))]
-pub fn any_line<K: LineKind>(alloc: Global, line: &[u8]) -> Read<Option<K::Rec>>
-    ensures exact { IfOk result (λ read. read ≡ line_in K.grammar line.now) }
-    ensures blank { is_passed_over line.now ≡ true → result ≡ Ok (Ok None) }
+pub fn any_line<K: LineKind>(alloc: Global, line: &[u8]) -> Result<Option<K::Rec>, LineFault>
+    ensures exact { Gives (λ o. o) result (line_in K.grammar line.now) }
+    ensures blank { is_passed_over line.now ≡ true → result ≡ Ok None }
 {
     if let [] | [b'#', ..] = line {
-        return Ok(Ok(None));
+        return Ok(None);
     }
-    Ok(record_of::<K>(alloc, Pieces::of(line, b' '))?.map(Some))
+    record_of::<K>(alloc, Pieces::of(line, b' '))
 }

@@ -98,5 +98,5 @@ pub fn read_nested_line(alloc: Global, line: &[u8]) -> Result<Option<NRecord>, L
     ensures only { (r : NRecord) → GoodNested r → line.now ≡ nested_spelling r → (result ≡ Ok (Some r))
         ⊎ (result ≡ Err Memory) }
 {
-    any_line::<NestedKind>(alloc, line)?
+    any_line::<NestedKind>(alloc, line)
 }

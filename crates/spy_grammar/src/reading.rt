@@ -175,5 +175,5 @@ pub fn read_line(alloc: Global, line: &[u8]) -> Result<Option<Record>, LineFault
     ensures only { (r : Record) → Good r → line.now ≡ spelling r → (result ≡ Ok (Some r))
         ⊎ (result ≡ Err Memory) }
 {
-    any_line::<RecordKind>(alloc, line)?
+    any_line::<RecordKind>(alloc, line)
 }

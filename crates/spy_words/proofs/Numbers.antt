@@ -1,5 +1,5 @@
 -- A number and its word, both ways.
-use Rattle.std.proofs.Common.{◌≡◌, ℕ, zero, suc, ◌+◌, ◌*◌, ◌-◌, ◌^◌, ◌<◌, Bool, true, false, List, [], ◌∷◌, length, get_or, take, min, Ok, refl, sym, subst, ◌∙◌, arith, rules}
+use Rattle.std.proofs.Common.{◌≡◌, ℕ, zero, suc, ◌+◌, ◌*◌, ◌-◌, ◌^◌, ◌<◌, Bool, true, false, List, [], ◌∷◌, length, get_or, take, drop, min, Ok, Some, None, ◌&&◌, ◌≤◌, if◌then◌else◌, refl, sym, ap, subst, ◌∙◌, arith, rules}
 use Rattle.std.specs.Prelude.{decimal}
 use Rattle.std.specs.Char.{is_ascii_digit}
 use Rattle.std.specs.Int.{IsInRange}
@@ -9,11 +9,12 @@ use Rattle.std.proofs.lemmas.Bool.{false≢true, lt-ltb, le-ltb, ne_eqb}
 use Rattle.std.proofs.lemmas.Bool.Decides.{nat_tests}
 use Rattle.std.proofs.lemmas.Fmt.{decimal-digits_value, digits_decimal, digits_value-decimal, first_decimal, decimal_nonempty, decimal_digit}
 use Rattle.std.proofs.lemmas.Int.Digits.{digits_value_more}
-use Rattle.std.proofs.lemmas.List.Folds.{list_all_at}
+use Rattle.std.proofs.lemmas.List.{take-append-drop}
+use Rattle.std.proofs.lemmas.List.Folds.{list_all_at, list_all-append}
 use Rattle.std.proofs.lemmas.Str.{digit_value_digit}
-use Rattle.std.proofs.lemmas.Str.Parse.{IsNumeralModel, numerals_by_value}
+use Rattle.std.proofs.lemmas.Str.Parse.{IsNumeralModel, numerals_by_value, digits_value-take-le}
 use Rattle.spy_words.specs.Classes.{IsNumberFrom}
-use Rattle.spy_words.specs.Reading.{is_digits, has_leading_zero, number_from}
+use Rattle.spy_words.specs.Reading.{capped_value, is_digits, has_leading_zero, number_from}
 use Rattle.spy_words.proofs.lemmas.Joins.{Above, Lacks}
 
 -- ---- digits
@@ -25,13 +26,21 @@ digit_of_test c false e n = absurd (n refl)
 digit_at : (w : List ℕ) (i : ℕ) → list_all is_ascii_digit w ≡ true → i < length w → IsInRange 48 57 (get_or w i 0)
 digit_at w i all lt = digit_of_test (get_or w i 0) _ refl (λ fails. false≢true (sym (list_all_at is_ascii_digit w i 0 lt fails) ∙ all))
 
--- one more digit, in a value that stops at 2 ^ 32
-pub value_more : (w : List ℕ) (i value : ℕ) → i < length w → is_ascii_digit (get_or w i 0) ≡ true
-    → value ≡ min (digits_value 10 (take i w)) (2 ^ 32)
-    → min (value * 10 + (get_or w i 0 - 48)) (2 ^ 32) ≡ min (digits_value 10 (take (i + 1) w)) (2 ^ 32)
+-- one more digit
+pub value_more : (w : List ℕ) (i value : ℕ) → i < length w → is_ascii_digit (get_or w i 0) ≡ true → value ≡ digits_value 10 (take i w)
+    → value * 10 + (get_or w i 0 - 48) ≡ digits_value 10 (take (i + 1) w)
 value_more w i value lt digit so_far =
     let d = digit_of_test (get_or w i 0) _ refl (λ fails. false≢true (sym fails ∙ digit)) in
     omega (arith, digits_value_more 10 w i lt, digit_value_digit (get_or w i 0) d, d.0, d.1)
+
+-- a value that is large stays large
+pub value_stays : (w : List ℕ) (i : ℕ) → list_all is_ascii_digit (take i w) ≡ true → 2 ^ 32 ≤ digits_value 10 (take i w)
+    → capped_value w ≡ (if list_all is_ascii_digit (drop i w) then Some (2 ^ 32) else None)
+value_stays w i digits large =
+    let all : list_all is_ascii_digit w ≡ list_all is_ascii_digit (drop i w) = ap (list_all is_ascii_digit) (sym (take-append-drop i w))
+    ∙ list_all-append is_ascii_digit (take i w) (drop i w) ∙ ap (λ b. b && list_all is_ascii_digit (drop i w)) digits in
+    let least : min (digits_value 10 w) (2 ^ 32) ≡ 2 ^ 32 = omega (arith, large, digits_value-take-le 10 w i (omega arith)) in
+    rw (all, least) refl
 
 -- the words of digits, in std's terms
 own : IsNumeralModel (λ w. list_all is_ascii_digit w ≡ true) (digits_value 10)

@@ -1,6 +1,8 @@
 //! Single words: numbers, and words of a few fixed texts.
 
-ghost use Rattle.std.specs.Prelude.{◌≡◌, ◌∷◌, [], ◌++◌, true, false, if◌then◌else◌, Err, OnOk, codes, decimal};
+ghost use Rattle.std.specs.Prelude.{◌≡◌, ◌∷◌, [], ◌++◌, ◌^◌, true, false, if◌then◌else◌, Err, None, OnOk, Some, codes, decimal};
+ghost use Rattle.std.specs.Char.{is_ascii_digit};
+ghost use Rattle.std.specs.List.{list_all};
 ghost use Rattle.spy_words.specs.declared.fault.LineFault.TheVariants.{Form};
 ghost use Rattle.spy_words.specs.Classes.{split_word, access, access_word, coherence_word, layout, layout_word};
 ghost use Rattle.spy_words.specs.Reading.{capped_value, meaning_at, number_from, operator_at, text_at};
@@ -10,17 +12,33 @@ use crate::fault::LineFault;
 use itoa::Buffer;
 use std::alloc::AllocError;
 
+/// The value of digits, which is 2^32 or greater before these: 2^32, if all of these are digits.
+fn value_beyond(rest: &[u8]) -> Option<u64>
+    ensures { result ≡ (if list_all is_ascii_digit rest.now then Some (2 ^ 32) else None) }
+{
+    for b in rest {
+        if !b.is_ascii_digit() {
+            return None;
+        }
+    }
+    Some(1 << 32)
+}
+
 /// The value of digits, or 2^32 where it is greater; `None` where some byte is no digit. One pass.
 #[inline]
 fn value_of(word: &[u8]) -> Option<u64>
     ensures { result ≡ capped_value word.now }
 {
     let mut value = 0u64;
-    for b in word {
+    for (k, b) in word.iter().enumerate() {
         if !b.is_ascii_digit() {
             return None;
         }
-        value = (value * 10 + u64::from(*b - b'0')).min(1 << 32);
+        value = value * 10 + u64::from(*b - b'0');
+        // A branch that is hardly ever taken waits for nothing, unlike the lesser of two numbers.
+        if value >= 1 << 32 {
+            return value_beyond(&word[k + 1..]);
+        }
     }
     Some(value)
 }

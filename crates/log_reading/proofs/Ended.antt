@@ -1,23 +1,17 @@
-use Rattle.std.proofs.Common.{◌≡◌, ℕ, Option, Some, Result, refl, sym, ap, ◌∙◌}
+-- How a fault of a line ends the reading.
+use Rattle.std.proofs.Common.{◌≡◌, ℕ, Option, Some, Result, ap, ◌∙◌}
 use Rattle.vocabulary.specs.Prelude.{Code, LineFault}
 use Rattle.spy_words.specs.declared.fault.LineFault.TheVariants as faults
 use Rattle.spy_words.specs.Faults.{Fails}
 use Rattle.semantics.specs.TextFaults.{line_fault}
 use Rattle.log_reading.specs.Spelled.{end_at}
 use Rattle.log_reading.specs.declared.reading.SpellEnd.TheVariants as ends
-use Rattle.log_reading.proofs.reading.said_on.Goals as goal
 
 -- A fault of a line that is no want of memory ends the reading.
-ends_by : {R : Type 0} (f : LineFault) (read : Result (Option R) LineFault) (number line : ℕ) (code : Code) → Fails f read
+pub ends_by : {R : Type 0} (f : LineFault) (read : Result (Option R) LineFault) (number line : ℕ) (code : Code) → Fails f read
     → end_at number f ≡ ends.Fault line code → line_fault number read ≡ Some (record { line = line; code = code })
 ends_by faults.Memory read number line code fails is = absurd cc
 ends_by faults.Word read number line code fails is = ap (line_fault number) fails ∙ cc is
 ends_by faults.Form read number line code fails is = ap (line_fault number) fails ∙ cc is
 ends_by faults.Number read number line code fails is = ap (line_fault number) fails ∙ cc is
 ends_by faults.Order read number line code fails is = ap (line_fault number) fails ∙ cc is
-
-pub returns-in-Err-clause-fault : goal.returns-in-Err-clause-fault
-returns-in-Err-clause-fault g c line code is =
-    let same : c.end_of.result ≡ ends.Fault line code = cc in
-    ends_by c.in-Err.fault (g.L.LogLine.read c.args.text.now) c.args.line line code (c.in-Err.ensures.fails c.in-Err.fault refl)
-    (sym c.end_of.ensures ∙ same)
