@@ -6,3 +6,7 @@ mod Waited
 mod Inverted
 mod NodeOrder
 mod Cycling
+mod Flat
+mod Sourced
+mod Nodes
+mod Kept

@@ -8,7 +8,7 @@ use Rattle.semantics.specs.ReplayOrder.{after_rounds, has_event, is_ready, repla
 use Rattle.log_laws.proofs.lemmas.Members.{is_in_of, member_in}
 use Rattle.list_lemmas.proofs.lemmas.Contained.{any_at}
 use Rattle.list_lemmas.proofs.lemmas.Ranges.{number_in, number_within, range-more}
-use Rattle.event_graph.specs.EventPlaces.{ArePlaces, IsBehind, WaitBack}
+use Rattle.event_graph.specs.EventPlaces.{IsBehind, WaitBack}
 use Rattle.event_graph.proofs.Taking.{find_least, round_next}
 
 pub one_more : (k : ℕ) → range_with_len 0 k ++ k ∷ [] ≡ range_with_len 0 (k + 1)
@@ -17,18 +17,18 @@ one_more k =
     let more : suc k ≡ k + 1 = omega arith in
     ap (λ m. range_with_len 0 k ++ m ∷ []) same ∙ sym (range-more 0 k) ∙ ap (range_with_len 0) more
 
-module _ (nodes : List Node) (place : ℕ → Option ℕ) (places : ArePlaces nodes place) (back : WaitBack nodes place) where
+module _ (nodes : List Node) (back : WaitBack nodes) where
   abbrev first : ℕ → List ℕ
   first n = range_with_len 0 n
 
   -- Events of nodes before one are met once these are taken.
-  met : (k : ℕ) (events : List ℕ) → All (IsBehind place k) events
+  met : (k : ℕ) (events : List ℕ) → All (IsBehind nodes k) events
       → list_all (λ event. list_any (has_event nodes event) (first k)) events ≡ true
   met k [] behind = refl
   met k (e ∷ es) behind =
       let at = behind 0 e (omega arith) in
       let has : has_event nodes e at.0 ≡ true =
-      ap (λ (o : Option ℕ). unwrap_or (option_map (λ d. d == e) o) false) (places.found e at.0 at.2) ∙ eq-eqb e e refl in
+      ap (λ (o : Option ℕ). unwrap_or (option_map (λ d. d == e) o) false) at.2 ∙ eq-eqb e e refl in
       rw (any_at (has_event nodes e) (first k) at.0 (number_in k at.0 at.1) has) (met k es (λ j d lt. behind (suc j) d (omega (arith, lt))))
 
   ready : (k : ℕ) → is_ready nodes (first k) k ≡ true
@@ -54,7 +54,7 @@ module _ (nodes : List Node) (place : ℕ → Option ℕ) (places : ArePlaces no
   in_node_order = let same : 0 + length nodes ≡ length nodes = omega arith in rounds (length nodes) 0 same ∙ ap first same
 
 -- Past the last node nothing is waited on.
-pub back_past : (nodes : List Node) (place : ℕ → Option ℕ) (k : ℕ) → length nodes ≤ k → All (IsBehind place k) (waits_at nodes k)
-back_past nodes place k past = subst (All (IsBehind place k))
+pub back_past : (nodes : List Node) (k : ℕ) → length nodes ≤ k → All (IsBehind nodes k) (waits_at nodes k)
+back_past nodes k past = subst (All (IsBehind nodes k))
     (sym (ap (λ (o : Option Node). unwrap_or (option_map (λ (n : Node). n.waits) o) []) (slice_get_past nodes k past)))
     (λ j d lt. absurd (omega (arith, lt)))

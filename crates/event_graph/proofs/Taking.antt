@@ -1,11 +1,10 @@
 -- How the nodes that wait, the queue and the replay order go together.
-use Rattle.std.proofs.Common.{AllPairs, map, add-one, ◌≡◌, ◌≢◌, ℕ, zero, suc, ◌+◌, ◌<◌, ◌≤◌, ◌==◌, ◌&&◌, ◌||◌, not, Bool, true, false, List, [], ◌∷◌, ◌++◌, length, get_or, arith, refl, sym, ap, ◌∙◌, subst, if◌then◌else◌, inl, inr, ◌↔◌, find, Some, None, slice_get, Contains}
+use Rattle.std.proofs.Common.{AllPairs, add-one, ◌≡◌, ◌≢◌, ℕ, zero, suc, ◌+◌, ◌<◌, ◌≤◌, ◌==◌, ◌&&◌, ◌||◌, not, Bool, true, false, List, [], ◌∷◌, ◌++◌, length, get_or, arith, refl, sym, ap, ◌∙◌, subst, if◌then◌else◌, inl, inr, ◌↔◌, find, Some, None, slice_get, Contains}
 use Rattle.std.specs.List.{list_all, range_with_len}
 use Rattle.std.proofs.lemmas.Bool.{true≢false, false_from_ne_true, and_parts, or_cases, cases_eq, not-true, or_parts, or_right, eqb-true}
 use Rattle.std.proofs.lemmas.Bool.Decides.{nat_tests}
 use Rattle.std.proofs.lemmas.List.Folds.{list_any-append}
-use Rattle.std.proofs.lemmas.List.{length-map, get_or_past}
-use Rattle.std.proofs.lemmas.Option.{gets, slice_get_cases, slice_get_within, slice_get-map, get_or_from_slice_get}
+use Rattle.std.proofs.lemmas.Option.{gets, slice_get_cases, slice_get_within}
 use Rattle.std.proofs.Math.Bool.{or-false}
 use Rattle.vocabulary.specs.Prelude.{is_in, Node}
 use Rattle.semantics.specs.ReplayOrder.{positions, waits_at, has_event, is_ready, after_rounds}
@@ -221,11 +220,3 @@ queue_first nodes pending ready counts long queued = record {
   );
   met = λ k m. absurd (Contains-nil m);
 }
-
-pub counts_of : (nodes : List Node) (k : ℕ) → get_or (map (λ (n : Node). length n.waits) nodes) k 0 ≡ length (waits_at nodes k)
-counts_of nodes k = elim (slice_get_cases nodes k).1 [
-  | inl some ↦ rw some.2 (get_or_from_slice_get (map (λ (n : Node). length n.waits) nodes) k (length some.0.waits) 0
-      (slice_get-map (λ (n : Node). length n.waits) nodes k ∙ rw some.2 refl))
-  | inr none ↦ rw none.1 (get_or_past (map (λ (n : Node). length n.waits) nodes) k 0
-      (omega (arith, none.0, length-map nodes (λ (n : Node). length n.waits))))
-]

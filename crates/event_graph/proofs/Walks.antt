@@ -1,38 +1,18 @@
 -- The walk over the stuck nodes.
-use Rattle.std.proofs.Common.{add-one, ◌≡◌, ℕ, ◌+◌, ◌<◌, ◌==◌, ◌&&◌, ◌||◌, Bool, true, false, List, [], ◌∷◌, length, get_or, cond, arith, refl, sym, ap, ◌∙◌, subst, inl, inr, Option, Some, None, find, filter, option_map, unwrap_or, All}
-use mathlib.Core.Path.{fun_ext}
+use Rattle.std.proofs.Common.{add-one, ◌≡◌, ℕ, ◌+◌, ◌<◌, ◌==◌, ◌&&◌, ◌||◌, Bool, true, false, List, [], ◌∷◌, length, get_or, arith, refl, sym, ap, ◌∙◌, inl, inr, Some, None, find, filter, unwrap_or, All}
 use Rattle.std.specs.List.{list_any}
-use Rattle.std.proofs.lemmas.Bool.{true≢false, cases_Bool, eq-eqb, ne_eqb, cases_eq, false_from_ne_true, and_left, and_right, and_from, not_from_false, not-true}
+use Rattle.std.proofs.lemmas.Bool.{true≢false, cases_Bool, false_from_ne_true, and_left, and_right, and_from, not_from_false, not-true}
 use Rattle.std.proofs.lemmas.Option.{same_Some}
-use Rattle.vocabulary.specs.Prelude.{is_in, Node}
-use Rattle.semantics.specs.ReplayOrder.{positions, waits_at, done_at, has_event, replay_order, is_stuck, stuck_wait, walk, up_to, cycle_from, from_least, shown_cycle}
-use Rattle.list_lemmas.proofs.lemmas.Firsts.{cases_option}
+use Rattle.vocabulary.specs.Prelude.{is_in, AreLinked, Node}
+use Rattle.semantics.specs.ReplayOrder.{positions, waits_at, has_event, replay_order, is_stuck, stuck_wait, walk, up_to, cycle_from, from_least, shown_cycle}
 use Rattle.log_laws.proofs.lemmas.Rounds.{replay, taken_within}
 use Rattle.std.proofs.lemmas.List.Elements.{Contains-get_or}
 use Rattle.std.proofs.Math.Bool.{or_comm}
-use Rattle.event_graph.specs.EventPlaces.{is_place, ArePlaces}
+use Rattle.event_graph.specs.EventPlaces.{AreSources}
 use Rattle.event_graph.specs.Marked.{AreMarked}
+use Rattle.event_graph.proofs.Sourced.{any_source}
 use Rattle.event_graph.proofs.Taking.{find_least, find_nothing}
 use Rattle.list_lemmas.proofs.lemmas.Places.{find_filter}
-
--- Whether a node has an event is read off the place of the event.
-not_there : (nodes : List Node) (place : ℕ → Option ℕ) → ArePlaces nodes place → (j e : ℕ) → (done_at nodes j ≡ Some e → ⊥)
-    → is_place j (place e) ≡ false
-not_there nodes place are j e bad = elim (cases_option (place e)) [
-  | inl none ↦ ap (is_place j) none
-  | inr some ↦ ap (is_place j) some.1 ∙ ne_eqb some.0 j
-      (λ same. bad (subst (λ q. done_at nodes q ≡ Some e) same (are.found e some.0 some.1)))
-]
-
-event_place : (nodes : List Node) (place : ℕ → Option ℕ) → ArePlaces nodes place → (j e : ℕ) → has_event nodes e j ≡ is_place j (place e)
-event_place nodes place are j e = elim (cases_option (done_at nodes j)) [
-  | inl none ↦ ap (λ o. unwrap_or (option_map (λ d. d == e) o) false) none
-      ∙ sym (not_there nodes place are j e (λ at. let bad = sym none ∙ at in absurd cc))
-  | inr some ↦ ap (λ o. unwrap_or (option_map (λ d. d == e) o) false) some.1 ∙ elim (cases_eq some.0 e) [
-    | inl same ↦ eq-eqb some.0 e same ∙ sym (ap (is_place j) (are.known e j (some.1 ∙ ap (λ d. Some d) same)) ∙ eq-eqb j j refl)
-    | inr other ↦ ne_eqb some.0 e other ∙ sym (not_there nodes place are j e (λ at. other (same_Some some.0 e (sym some.1 ∙ at))))
-  ]
-]
 
 filter_none : {X : Type 0} (s : X → Bool) (xs : List X) → find s xs ≡ None → filter s xs ≡ []
 filter_none s [] e = refl
@@ -72,12 +52,12 @@ module _ (nodes : List Node) (marks : List Bool) (marked : AreMarked marks (leng
       (λ stuck. true≢false (sym (below j less) ∙ stuck_unmarked j (omega (arith, less, in_nodes)) stuck))) in
       ap (cycle_from nodes) (filter_some (is_stuck nodes) (positions nodes) k first).1
 
-  module _ (place : ℕ → Option ℕ) (are : ArePlaces nodes place) (k : ℕ) where
+  module _ (linked : AreLinked nodes) (k : ℕ) (list : List ℕ) (are : AreSources nodes k list) where
     abbrev waits_there : ℕ → Bool
-    waits_there j = list_any (λ e. is_place j (place e)) (waits_at nodes k)
+    waits_there j = list_any (λ p. p == j) list
 
     lists_is : (j : ℕ) → list_any (λ e. has_event nodes e j) (waits_at nodes k) ≡ waits_there j
-    lists_is j = ap (λ p. list_any p (waits_at nodes k)) (fun_ext (event_place nodes place are j))
+    lists_is j = any_source nodes linked.apart j list (waits_at nodes k) are
 
     pub stuck_wait_some : (best : ℕ) → best < length nodes → get_or marks best false ≡ false → waits_there best ≡ true
         → ((j : ℕ) → j < best → get_or marks j false ≡ false → waits_there j ≡ false) → stuck_wait nodes k ≡ Some best

@@ -1,30 +1,18 @@
 //! Whether nodes wait on earlier ones alone.
 
-ghost use Rattle.std.specs.Prelude.{◌≡◌, ℕ, All, true, IfOk, length};
+ghost use Rattle.std.specs.Prelude.{◌≡◌, ◌<◌, All, true, IfOk};
 ghost use Rattle.std.specs.List.{range_with_len};
-ghost use Rattle.id_maps.specs.Entries.{entry_at};
-ghost use Rattle.event_graph.specs.EventPlaces.{IsBehind, WaitBack};
+ghost use Rattle.event_graph.specs.EventPlaces.{WaitBack};
 
-use crate::node::NodeIn;
-use id_maps::IdMap;
+use crate::graph::Graph;
 use std::alloc::{AllocError, Global};
 
-/// Whether an event is that of a node before the one at a position.
-fn is_behind(places: &IdMap<usize>, k: usize, event: u32) -> bool
-    ensures { result ≡ true → IsBehind (entry_at places.now) k event }
+/// Whether all numbers are below one.
+fn are_below(k: usize, numbers: &[u32]) -> bool
+    ensures { result ≡ true → All (λ p. p < k) numbers.now }
 {
-    match places.get(event) {
-        Some(p) => p < k,
-        None => false,
-    }
-}
-
-/// Whether all events are those of nodes before the one at a position.
-fn are_behind(places: &IdMap<usize>, k: usize, events: &[u32]) -> bool
-    ensures { result ≡ true → All (IsBehind (entry_at places.now) k) events.now }
-{
-    for event in events {
-        if !is_behind(places, k, *event) {
+    for p in numbers {
+        if *p as usize >= k {
             return false;
         }
     }
@@ -32,11 +20,11 @@ fn are_behind(places: &IdMap<usize>, k: usize, events: &[u32]) -> bool
 }
 
 /// Whether each node waits on earlier ones alone.
-pub(crate) fn wait_back(nodes: &[NodeIn], places: &IdMap<usize>) -> bool
-    ensures { result ≡ true → WaitBack nodes.now (entry_at places.now) }
+pub(crate) fn wait_back(graph: &Graph) -> bool
+    ensures { result ≡ true → WaitBack graph.now }
 {
-    for (k, node) in nodes.iter().enumerate() {
-        if !are_behind(places, k, node.waits.as_slice()) {
+    for k in 0..graph.len() {
+        if !are_below(k, graph.sources(k)) {
             return false;
         }
     }

@@ -1,17 +1,19 @@
 //! The graph of the nodes of a recorded run.
 
-ghost use Rattle.std.specs.Prelude.{◌≡◌, ◌≢◌, ℕ, length, map, ◌<◌, ◌≤◌, ◌^◌, None, option_map, All, Contains, IfOk, IfErr, IfSome, IfNone, Some, slice_get, ◌↔◌};
+ghost use Rattle.std.specs.Prelude.{◌≡◌, ◌≢◌, ℕ, length, map, ◌<◌, ◌≤◌, ◌^◌, None, option_map, All, Contains, IfOk, IfErr, IfSome, IfNone, Some, slice_get, slice_index, ◌↔◌};
 ghost use Rattle.vocabulary.specs.Prelude.{AreLinked, WaitsOn};
 ghost use Rattle.semantics.specs.ReplayOrder.{done_at, waits_at, replay_order, shown_cycle};
+ghost use Rattle.event_graph.specs.EventPlaces.{AreSources};
 ghost use Rattle.event_graph.specs.Orders.{IsOrderOf, IsWait, IsWhy, AreCycleEvents, event_at};
 
 use crate::backward::{positions, wait_back};
-use crate::cycle_walk::{from_its_least, waits_of, walk_from};
+use crate::cycle_walk::{from_its_least, walk_from};
 use crate::marks::{first_unmarked, marks_of};
 use crate::node::{EventList, NodeIn};
 use crate::order::Order;
-use crate::places::{place_of, places_at, places_of};
+use crate::places::{events_of, first_places};
 use crate::rounds::order_by;
+use crate::sources::Sources;
 use crate::stuck::Stuck;
 use crate::waiters::waiters_of;
 use id_maps::IdMap;
@@ -22,34 +24,53 @@ use std::marker::Model;
 /// Nodes and their waits. A node is named by its position, or by its event.
 #[derive(Drop)]
 pub struct Graph {
-    nodes: Vec<NodeIn>,
+    done: Vec<u32>,
+    sources: Sources,
     places: IdMap<usize>,
 }
 
 impl Model for Graph {
-    ghost use Rattle.std.specs.Prelude.{List, length, ◌<◌, ◌^◌};
+    ghost use Rattle.std.specs.Prelude.{List};
     ghost use Rattle.id_maps.specs.Entries.{entry_at};
     ghost use Rattle.vocabulary.specs.Prelude.{Node};
-    ghost use Rattle.event_graph.specs.EventPlaces.{IsIndexed};
+    ghost use Rattle.event_graph.specs.EventPlaces.{AreKept, nodes_by};
 
     ghost Value = { List Node };
 
-    ghost view = { λ g. g.nodes.items };
+    ghost view = { λ g. nodes_by g.done.items g.done.items g.sources };
 
-    ghost invariant = { λ g. (length g.nodes.items < 2 ^ 32) × IsIndexed g.nodes.items (entry_at g.places) };
+    ghost invariant = { λ g. AreKept g.done.items g.sources (entry_at g.places) };
+}
+
+/// The event in a place.
+fn event_in(done: &[u32], k: usize) -> u32
+    requires { k < length done.now }
+    ensures { result ≡ slice_index done.now k }
+{
+    done[k]
 }
 
 /// The events of these nodes.
-fn events_at(alloc: Global, nodes: &[NodeIn], ks: &[usize]) -> Result<EventList, AllocError>
-    requires { All (λ k. k < length nodes.now) ks.now }
-    ensures { IfOk result (λ v. v ≡ map (event_at nodes.now) ks.now) }
+fn events_at(alloc: Global, graph: &Graph, ks: &[usize]) -> Result<EventList, AllocError>
+    requires { All (λ k. k < length graph.now) ks.now }
+    ensures { IfOk result (λ v. v ≡ map (event_at graph.now) ks.now) }
 {
     let mut events = Vec::with_capacity(alloc, ks.len())?;
     for k in ks {
-        let node = &nodes[*k];
-        events.push(node.done)?;
+        events.push(graph.event(*k))?;
     }
     Ok(EventList::from_vec(events))
+}
+
+/// The same numbers, as positions.
+fn as_positions(alloc: Global, numbers: &[u32]) -> Result<Vec<usize>, AllocError>
+    ensures { IfOk result (λ v. v.items ≡ numbers.now) }
+{
+    let mut positions = Vec::with_capacity(alloc, numbers.len())?;
+    for number in numbers {
+        positions.push(*number as usize)?;
+    }
+    Ok(positions)
 }
 
 impl Graph {
@@ -59,8 +80,14 @@ impl Graph {
         requires linked { AreLinked nodes.items }
         ensures { IfOk result (λ g. g ≡ nodes.items) }
     {
-        let places = places_of(alloc, nodes.as_slice())?;
-        Ok(Graph { nodes, places })
+        let done = events_of(alloc, nodes.as_slice())?;
+        let places = first_places(alloc, done.as_slice())?;
+        let sources = Sources::of(alloc, nodes.as_slice(), &places)?;
+        Ok(Graph {
+            done,
+            sources,
+            places,
+        })
     }
 
     /// How many nodes there are.
@@ -70,7 +97,24 @@ impl Graph {
         ensures few { length self.now < 2 ^ 32 }
         ensures linked { AreLinked self.now }
     {
-        self.nodes.len()
+        self.done.as_slice().len()
+    }
+
+    // The event of a node.
+    fn event(&self, node: usize) -> u32
+        requires { node < length self.now }
+        ensures { done_at self.now node ≡ Some result }
+    {
+        event_in(self.done.as_slice(), node)
+    }
+
+    /// The nodes that a node waits on, as it lists their events.
+    pub(crate) fn sources(&self, node: usize) -> &[u32]
+        requires { node < length self.now }
+        ensures sources { AreSources self.now node result.now }
+        ensures linked { AreLinked self.now }
+    {
+        self.sources.list(node)
     }
 
     /// The node of an event, or `None` where no node has it.
@@ -86,10 +130,10 @@ impl Graph {
         ensures some { IfSome result (IsWait self.now node k) }
         ensures none { IfNone result (length (waits_at self.now node) ≤ k) }
     {
-        if node < self.nodes.len() {
-            let events = waits_of(self.nodes.as_slice(), node);
-            if k < events.len() {
-                return Some(place_of(&self.places, events[k]));
+        if node < self.len() {
+            let sources = self.sources(node);
+            if k < sources.len() {
+                return Some(sources[k] as usize);
             }
         }
         None
@@ -103,8 +147,7 @@ impl Graph {
             → IsWait self.now node k on) }
         ensures waits { IfOk result (λ v. (on : ℕ) → Contains v.items on ↔ WaitsOn self.now node on) }
     {
-        let events = waits_of(self.nodes.as_slice(), node);
-        let found = places_at(alloc, &self.places, events)?;
+        let found = as_positions(alloc, self.sources(node))?;
         Ok(found)
     }
 
@@ -112,29 +155,24 @@ impl Graph {
     fn taken(&self, alloc: Global) -> Result<Vec<usize>, AllocError>
         ensures { IfOk result (λ v. v.items ≡ replay_order self.now) }
     {
-        if wait_back(self.nodes.as_slice(), &self.places) {
-            let all = positions(alloc, self.nodes.len())?;
+        if wait_back(self) {
+            let all = positions(alloc, self.len())?;
             return Ok(all);
         }
-        let waiters = waiters_of(alloc, self.nodes.as_slice(), &self.places)?;
-        order_by(alloc, self.nodes.as_slice(), &waiters)
+        let waiters = waiters_of(alloc, self)?;
+        order_by(alloc, self, &waiters)
     }
 
     // The cycle that is shown, if these are the nodes that are ever taken.
     fn cycle(&self, alloc: Global, taken: &[usize]) -> Result<Option<Vec<usize>>, AllocError>
         requires { taken.now ≡ replay_order self.now }
-        ensures { IfOk result (λ o. option_map (λ c. c.items) o ≡ shown_cycle self.now) }
+        ensures cycle { IfOk result (λ o. option_map (λ c. c.items) o ≡ shown_cycle self.now) }
+        ensures linked { AreLinked self.now }
     {
-        let marks = marks_of(alloc, self.nodes.len(), taken)?;
+        let marks = marks_of(alloc, self.len(), taken)?;
         match first_unmarked(marks.as_slice()) {
             Some(start) => {
-                let round = walk_from(
-                    alloc,
-                    self.nodes.as_slice(),
-                    &self.places,
-                    marks.as_slice(),
-                    start,
-                )?;
+                let round = walk_from(alloc, self, marks.as_slice(), start)?;
                 let turned = from_its_least(alloc, round.as_slice())?;
                 Ok(Some(turned))
             }
@@ -148,16 +186,17 @@ impl Graph {
         requires none { shown_cycle self.now ≡ None }
         ensures { IfOk result (IsOrderOf self.now) }
     {
-        let order = Order::of(alloc, self.nodes.len(), taken)?;
+        let order = Order::of(alloc, self.len(), taken)?;
         Ok(order)
     }
 
     // The events of the cycle that is shown.
     fn shown(&self, alloc: Global, cycle: &[usize]) -> Result<EventList, AllocError>
-        requires { shown_cycle self.now ≡ Some cycle.now }
+        requires shown { shown_cycle self.now ≡ Some cycle.now }
+        requires linked { AreLinked self.now }
         ensures { IfOk result (AreCycleEvents self.now) }
     {
-        let events = events_at(alloc, self.nodes.as_slice(), cycle)?;
+        let events = events_at(alloc, self, cycle)?;
         Ok(events)
     }
 

@@ -3,7 +3,8 @@
 //! `Graph::order` gives the replay order of the nodes, or the cycle that is shown, each exactly where there
 //! is one: the least node whose waits are all met is taken next, and from the first node that is never taken
 //! a walk along stuck waits comes to a cycle. The definitions are in `ReplayOrder` of `semantics`. Begin
-//! with `graph.rt`; `order.rt` has the order, and `stuck.rt` the cycle.
+//! with `graph.rt`; `sources.rt` keeps what each node waits on, `order.rt` has the order, and `stuck.rt` the
+//! cycle.
 #![tactic(auto)]
 
 mod backward;
@@ -16,6 +17,7 @@ mod order;
 mod places;
 mod queue;
 mod rounds;
+mod sources;
 mod stuck;
 mod waiters;
 

@@ -3,7 +3,9 @@
 //! `Reach::before` says exactly whether a chain of waits leads from one node to another, at once;
 //! `first_not_before` and `before_some` ask it of many. A node's row of marks is joined from the rows of
 //! those that it waits for; blocks that are none or all take no room, and rows share blocks that are alike.
-//! Begin with `reach.rt`; `rows.rt` keeps the rows, `building.rt` and `joining.rt` make them.
+//! `BlockReach` marks the nodes of one block alone, in at most 17 MB: what it marks is before, and what it
+//! does not mark may be before, too. Begin with `reach.rt`; `rows.rt` keeps the rows, `building.rt` and
+//! `joining.rt` make them; `block_reach.rt` is apart from these.
 #![tactic(auto)]
 
 mod block;

@@ -7,13 +7,12 @@ use Rattle.std.proofs.lemmas.List.{take_more, map-append, get_or-map, get_or-set
 use Rattle.std.proofs.lemmas.Grind.{get_or-set_at}
 use Rattle.std.proofs.Math.ListN.{length-set}
 use Rattle.std.proofs.lemmas.List.Elements.{Contains-get_or}
-use Rattle.std.specs.Option.{IsSomeAnd}
 use Rattle.semantics.specs.ReplayOrder.{waits_at, done_at}
 use Rattle.std.proofs.lemmas.Option.{same_Some, slice_get_cases, slice_get_within, slice_get-map, get_or_from_slice_get, slice_get-get_or}
 use Rattle.vocabulary.specs.Prelude.{Node, AreLinked}
 use Rattle.list_lemmas.proofs.lemmas.Firsts.{cases_option}
 use Rattle.event_graph.specs.WaitCounts.{times, AddsWaits}
-use Rattle.event_graph.specs.EventPlaces.{hits, is_place, ArePlaces}
+use Rattle.event_graph.specs.EventPlaces.{ArePlaces}
 use Rattle.event_graph.proofs.Times.{times-push}
 
 pub stands : (t : ℕ → Bool) (i : ℕ) (xs : List ℕ) (j : ℕ) → position_from t i xs ≡ Some j → (k : ℕ) × (x : ℕ) × (j ≡ i + k)
@@ -88,32 +87,6 @@ places_from nodes apart place is =
           ap place (sym n.2) ∙ s.known p n.0 n.1;
     }
 
-hits_more : (place : ℕ → Option ℕ) (p : ℕ) (ws : List ℕ) (w : ℕ)
-    → hits place p (ws ++ w ∷ []) ≡ hits place p ws + (if is_place p (place w) then 1 else 0)
-hits_more place p [] w = omega arith
-hits_more place p (v ∷ ws) w = omega (arith, hits_more place p ws w)
-
-pub hits_take : (place : ℕ → Option ℕ) (p : ℕ) (ws : List ℕ) (i d q : ℕ) → i < length ws → place (get_or ws i d) ≡ Some q
-    → hits place p (take (i + 1) ws) ≡ hits place p (take i ws) + (if q == p then 1 else 0)
-hits_take place p ws i d q lt at = rw (take_more ws i d lt) (hits_more place p (take i ws) (get_or ws i d) ∙ rw at refl)
-
-pub hits_times : (nodes : List Node) (place : ℕ → Option ℕ) → ArePlaces nodes place → (p : ℕ) (n : Node) → slice_get nodes p ≡ Some n
-    → (ws : List ℕ) → hits place p ws ≡ times n.done ws
-hits_times nodes place are p n at [] = refl
-hits_times nodes place are p n at (w ∷ ws) = ap (λ b. (if b then 1 else 0) + hits place p ws) here
-    ∙ ap (λ m. (if w == n.done then 1 else 0) + m) (hits_times nodes place are p n at ws)
-  where
-    here : is_place p (place w) ≡ (w == n.done)
-    here = elim (cases_eq w n.done) [
-      | inl e ↦ ap (λ v. is_place p (place v)) e
-          ∙ (ap (is_place p) ((stand nodes place are).known p n at) ∙ (eq-eqb p p refl ∙ sym (eq-eqb w n.done e)))
-      | inr ne ↦ elim (cases_option (place w)) [
-        | inl none ↦ ap (is_place p) none ∙ sym (ne_eqb w n.done ne)
-        | inr some ↦ ap (is_place p) some.1 ∙ (ne_eqb some.0 p (λ same. let m = (stand nodes place are).found w some.0 some.1 in
-            ne (sym m.2 ∙ ap done (same_Some m.0 n (sym m.1 ∙ (ap (slice_get nodes) same ∙ at))))) ∙ sym (ne_eqb w n.done ne))
-      ]
-    ]
-
 -- One more is written down at p.
 pub pushed_adds : (rows : List (List ℕ)) (p k : ℕ)
     → AddsWaits rows (set rows p (get_or rows p [] ++ k ∷ [])) k (λ q. if p == q then 1 else 0)
@@ -137,17 +110,6 @@ listed_more W k s old new grown was = elim (cases_eq k s) [
   | inl same ↦ grind (arith, nat_tests, ap W same)
   | inr other ↦ grind (arith, nat_tests)
 ]
-
--- What is waited on is a node.
-pub placed_within : (nodes : List Node) (place : ℕ → Option ℕ) → ArePlaces nodes place → (ws : List ℕ)
-    → All (λ e. is_some (place e) ≡ true) ws → (m : ℕ) → m ≡ length nodes → All (λ e. IsSomeAnd (place e) (λ p. p < m)) ws
-placed_within nodes place are ws known m is i d lt =
-    let e = get_or ws i d in
-    elim (cases_option (place e)) [
-      | inl none ↦ let bad = rw none at (known i d lt) in absurd cc
-      | inr some ↦ rw some.1 (let n = node_at nodes some.0 e (are.found e some.0 some.1) in
-          omega (arith, slice_get_within nodes some.0 n.0 n.1, is))
-    ]
 
 pub waits_known : (nodes : List Node) → AreLinked nodes → (place : ℕ → Option ℕ) → ArePlaces nodes place → (k : ℕ)
     → All (λ e. is_some (place e) ≡ true) (waits_at nodes k)

@@ -1,24 +1,21 @@
-use Rattle.std.proofs.Common.{◌≡◌, ◌∙◌, ap, length, List, subst, arith}
-use Rattle.id_maps.specs.Entries.{entry_at}
-use Rattle.vocabulary.specs.Prelude.{Node}
+use Rattle.std.proofs.Common.{arith, get_or}
+use Rattle.std.proofs.lemmas.Option.{slice_get-get_or}
 use Rattle.semantics.specs.ReplayOrder.{waits_at}
-use Rattle.event_graph.specs.Orders.{IsWait}
-use Rattle.event_graph.proofs.Waited.{wait_found, no_waits}
+use Rattle.event_graph.proofs.Sourced.{source_count, wait_found}
+use Rattle.event_graph.proofs.Waited.{no_waits}
 use Rattle.event_graph.proofs.graph.Graph.wait_at.Goals as goal
 
-pub place_of-requires : goal.place_of-requires
-place_of-requires c =
-    let events = c.waits_of-events.ensures ∙ ap (λ (ns : List Node). waits_at ns c.args.node) c.as_slice.ensures.value in
-    rw events (c.self.invariant.1.waits c.args.node c.args.k 0 (rw events at c.if-k-events.true))
+pub returns-then-k-sources-clause-some : goal.returns-then-k-sources-clause-some
+returns-then-k-sources-clause-some c =
+    let list = c.sources-sources.result.now in
+    wait_found c.args.self.now c.args.node list c.sources-sources.ensures.sources c.args.k (get_or list c.args.k 0)
+    (slice_get-get_or list c.args.k 0 c.if-k-sources.true)
 
-pub returns-then-k-events-clause-some : goal.returns-then-k-events-clause-some
-returns-then-k-events-clause-some c =
-    let events = c.waits_of-events.ensures ∙ ap (λ (ns : List Node). waits_at ns c.args.node) c.as_slice.ensures.value in
-    subst (λ (ns : List Node). IsWait ns c.args.node c.args.k c.place_of.result) c.self.view_is
-    (wait_found c.self.inside.nodes.items
-    (entry_at c.self.inside.places) c.self.invariant.1 c.args.node c.args.k c.place_of.result c.waits_of-events.result.now events c.if-k-events.true c.place_of.ensures)
+pub returns-else-k-sources-clause-none : goal.returns-else-k-sources-clause-none
+returns-else-k-sources-clause-none c =
+    let count = source_count c.args.self.now c.sources-sources.result.now (waits_at c.args.self.now c.args.node) c.sources-sources.ensures.sources in
+    omega (arith, count, c.if-k-sources.false)
 
 pub returns-else-node-len-clause-none : goal.returns-else-node-len-clause-none
 returns-else-node-len-clause-none c =
-    let count : c.len.result ≡ length c.args.self.now = cc in
-    rw (no_waits c.args.self.now c.args.node (omega (arith, count, c.if-node-len.false))) (omega arith)
+    rw (no_waits c.args.self.now c.args.node (omega (arith, c.len.ensures.count, c.if-node-len.false))) (omega arith)
