@@ -146,9 +146,6 @@ are_rects points rects h up =
 
 -- ---- One more.
 
-pub no_pieces : ArePieces [] []
-no_pieces = record { pieces = All-nil IsPiece; joined = refl }
-
 pub points_append : (xs ys : List Rect) → points_of (map ends (xs ++ ys)) ≡ points_of (map ends xs) ++ points_of (map ends ys)
 points_append xs ys = ap points_of (map-append ends xs ys) ∙ flat_map-append run_points (map ends xs) (map ends ys)
 
@@ -170,9 +167,6 @@ pub record AreSoFar (old now : List Rect) (first from last : ℕ) : Type 0 where
   pub is : now ≡ old ++ added
   pub pieces : All IsPiece added
   pub span : points_of (map ends added) ++ run_points (from, last) ≡ run_points (first, last)
-
-pub none_so_far : (old : List Rect) (first last : ℕ) → AreSoFar old old first first last
-none_so_far old first last = record { added = []; is = sym (append-nil old); pieces = All-nil IsPiece; span = refl }
 
 pub piece_more : (old now new : List Rect) (first from end last : ℕ) (r : Rect) → AreSoFar old now first from last → IsPiece r
     → (ends r).0 ≡ from → (ends r).1 ≡ end → from ≤ end → end < last → new ≡ now ++ r ∷ [] → AreSoFar old new first (end + 1) last

@@ -101,9 +101,6 @@ stand_joined r s behind on before h =
     let two = last_two before r s behind h in
     (still_banded before r s behind on h, points_same before r s behind (two.some 0 r (omega arith)).1 (two.some 1 r (omega arith)).1 on)
 
-pub stand_same : (rects : List Rect) → StandFor rects rects
-stand_same rects before h = (h, refl)
-
 pub stand_both : (xs ys zs : List Rect) → StandFor xs ys → StandFor ys zs → StandFor xs zs
 stand_both xs ys zs first second before h =
     let there = first before h in

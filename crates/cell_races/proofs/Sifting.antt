@@ -251,14 +251,6 @@ notes_both before order front run old mid new far h g =
           (λ x y xm ym same lt c x_free y_free. h.turn x y xm ym same lt c (notes_kept g x.place x_free) (notes_kept g y.place y_free)) g.turn;
     }
 
-pub notes_none : (before : ℕ → ℕ → Bool) (order : List ℕ) (noted : List Bool) → NotesMore before order [] noted noted
-notes_none before order noted = record {
-  each = refl;
-  kept = λ k e. e;
-  sound = λ k e. inl e;
-  turn = λ x y xm. absurd (Contains-nil xm);
-}
-
 none_noted : (n k : ℕ) → is_noted (replicate n false) k ≡ false
 none_noted zero k = refl
 none_noted (suc n) zero = refl

@@ -1,5 +1,5 @@
 -- Lists that are gone through, one element more.
-use Rattle.std.proofs.Common.{◌≡◌, ℕ, suc, ◌+◌, ◌<◌, ◌≤◌, List, [], ◌∷◌, ◌++◌, All, map, take, length, get_or, sym, ap, ◌∙◌, subst, arith}
+use Rattle.std.proofs.Common.{◌≡◌, ℕ, ◌+◌, ◌<◌, ◌≤◌, List, [], ◌∷◌, ◌++◌, All, map, take, length, get_or, sym, ap, ◌∙◌, subst, arith}
 use Rattle.std.proofs.lemmas.List.{map-append, take_all}
 use Rattle.std.proofs.lemmas.List.Elements.{All-push}
 use Rattle.list_lemmas.proofs.lemmas.Parts.{take_with}
@@ -16,9 +16,6 @@ pub map_grows : {X Y : Type 0} (f : X → Y) (xs : List X) (i : ℕ) (x : X) (y 
 map_grows f xs i x y now next lt is so_far more own =
     more ∙ ap (λ ys. ys ++ y ∷ []) so_far ∙ ap (λ z. map f (take i xs) ++ z ∷ []) own
     ∙ sym (ap (map f) (take_with xs i x lt is) ∙ map-append f (take i xs) (x ∷ []))
-
-pub all_of_rest : {X : Type 0} (P : X → Type 0) (x : X) (xs : List X) → All P (x ∷ xs) → P x × All P xs
-all_of_rest P x xs all = (all 0 x (omega arith), λ k d lt. all (suc k) d (omega (arith, lt)))
 
 -- Bounds that widen hold of what was within them.
 pub wider : (low high from to : ℕ) (xs : List ℕ) → from ≤ low → high ≤ to → All (λ f. (low ≤ f) × (f ≤ high)) xs

@@ -100,15 +100,6 @@ pub common_is : (xs ys : List ℕ) (o : Option ℕ) → IsLeastCommon xs ys o �
 common_is xs ys None h = sym (no_meeting xs ys (λ x one other. h x (one, other)))
 common_is xs ys (Some p) h = sym (list_any-from_Any (is_in ys) xs (h.0.0.0, p, h.0.0.1, h.0.0.2, in_has ys p h.0.1))
 
--- A space that is not declared shares no points.
-pub unknown_first : (d : Regions) (a b : Site) → space_of d a.space ≡ None → false ≡ sharing d a b
-unknown_first d a b none =
-    sym (no_meeting (space_points d a.space) (space_points d b.space) (λ x one other. no_point (space_of d a.space) none x one))
-  where
-    no_point : (o : Option Space) → o ≡ None → (x : ℕ) → Contains (option_map_or (λ (s : Space). s.points) o []) x → ⊥
-    no_point None e x has = omega (arith, has.1)
-    no_point (Some s) e x has = absurd cc
-
 pub unknown_second : (d : Regions) (a b : Site) → space_of d b.space ≡ None → false ≡ sharing d a b
 unknown_second d a b none =
     sym (no_meeting (space_points d a.space) (space_points d b.space) (λ x one other. no_point (space_of d b.space) none x other))

@@ -16,7 +16,7 @@ use Rattle.semantics.specs.Faults.{is_end}
 use Rattle.semantics.specs.Launches.{TaskLaunch, Expanded, writes, with_launching, launches_by, names_no_launch, repeats_launch, exceeds_ids, writes_many, writes_long, breaks_launch}
 use Rattle.launch_laws.proofs.lemmas.WrittenLogs.{length_text}
 use Rattle.launches.specs.declared.launched.Launched.{Launched}
-use Rattle.launches.specs.Steps.{HasTaskIds, IsKept, launch_seen, expanded_as, early_rules, single_broken}
+use Rattle.launches.specs.Steps.{HasTaskIds, IsKept, launch_seen, early_rules, single_broken}
 
 pub writes_end : (e : Expanded) (r : Record) → is_end r ≡ true → writes e (Plain r) ≡ records.End (length e.written - 1) ∷ []
 writes_end e (records.End n) h = refl
@@ -44,15 +44,6 @@ some_seen f None p e = ap is_some e
 some_seen f (Some x) p e = ap is_some e
 
 -- ---- one step
-
--- A record that launches nothing.
-pub step_no_launch : (ls : List Launched) (ws us : List Record) (r : LRecord) → launches_by r ≡ [] → us ≡ ws ++ writes (expanded_as ls ws) r
-    → expanded_as ls us ≡ with_launching (expanded_as ls ws) r
-step_no_launch ls ws us r none e =
-    let seen = map launch_seen ls in
-    ap (λ (xs : List Record). expanded_as ls xs) e
-    ∙ ap (λ (ys : List TaskLaunch). record { launches = ys; written = ws ++ writes (expanded_as ls ws) r }) (sym (append-nil seen)
-    ∙ ap (λ (ys : List TaskLaunch). seen ++ ys) (sym none))
 
 pub fit_more : (ls ms : List Launched) (l : Launched) → All HasTaskIds ls → HasTaskIds l → ms ≡ ls ++ l ∷ [] → All HasTaskIds ms
 fit_more ls ms l all one e = subst (All HasTaskIds) (sym e) (All-push HasTaskIds ls l all one)

@@ -4,7 +4,7 @@ use Rattle.std.specs.List.{list_any, list_all}
 use Rattle.std.proofs.lemmas.Bool.{false≢true, and_parts, eqb-true}
 use Rattle.std.proofs.lemmas.List.Folds.{Any-from_list_any}
 use Rattle.std.proofs.lemmas.Bool.Decides.{nat_tests}
-use Rattle.std.proofs.lemmas.List.{take_more, drop_more, drop_all}
+use Rattle.std.proofs.lemmas.List.{take_more, drop_more}
 use Rattle.std.proofs.lemmas.List.Elements.{All-contains, Contains-append_left, Contains-push, Contains-push_cases}
 use Rattle.vocabulary.specs.Prelude.{Place, grid, least_of, lesser}
 use Rattle.list_lemmas.proofs.lemmas.Contained.{all_at, member_map, map_member, Contains-nil, Contains-here, Contains-later, Contains-cases}
@@ -219,12 +219,3 @@ pub refused_on : (cs own : List Claimed) (i : ℕ) (c : Claimed) → i < length 
     → first_refused cs own ≡ first_refused cs (drop i own) → first_refused cs own ≡ first_refused cs (drop (i + 1) own)
 refused_on cs own i c lt is none e = e ∙ ap (first_refused cs) (drop_more own i c lt)
     ∙ ap (λ d. first_refused cs (d ∷ drop (i + 1) own)) (sym is) ∙ rw none refl
-
-pub refused_here : (cs own : List Claimed) (i : ℕ) (c : Claimed) (p : Place) → i < length own → c ≡ get_or own i c → refused cs c ≡ Some p
-    → first_refused cs own ≡ first_refused cs (drop i own) → first_refused cs own ≡ Some (c.number, p)
-refused_here cs own i c p lt is some e = e ∙ ap (first_refused cs) (drop_more own i c lt)
-    ∙ ap (λ d. first_refused cs (d ∷ drop (i + 1) own)) (sym is) ∙ rw some refl
-
-pub refused_none : (cs own : List Claimed) (i : ℕ) → length own ≤ i → first_refused cs own ≡ first_refused cs (drop i own)
-    → first_refused cs own ≡ None
-refused_none cs own i le e = e ∙ ap (first_refused cs) (drop_all i own le)

@@ -1,6 +1,6 @@
 -- How far a claim is allowed, one claim more.
 use Rattle.std.proofs.Common.{◌≡◌, ℕ, ◌+◌, ◌^◌, ◌<◌, ◌≤◌, ◌==◌, max, Bool, true, false, ◌&&◌, ◌||◌, inl, inr, List, [], ◌∷◌, ◌++◌, Contains, take, length, get_or, Option, Some, None, refl, sym, ap, ◌∙◌, subst, arith}
-use Rattle.std.proofs.lemmas.List.{take_all, take_more}
+use Rattle.std.proofs.lemmas.List.{take_more}
 use Rattle.std.proofs.lemmas.List.Folds.{list_any-append, list_any-from_Any}
 use Rattle.std.proofs.lemmas.Bool.{cases_Bool, cases_lt, false≢true}
 use Rattle.privilege.specs.Allowed.{contains}
@@ -154,15 +154,6 @@ none_more all i one c f from o lt is end h so_far =
     let own : (serves one c f && is_in one.points from) ≡ false = sym (allows_more [] one c f from) ∙ here in
     ap (λ cs. allows_at cs c f from) (take_more all i one lt ∙ ap (λ x. take i all ++ x ∷ []) (sym is))
     ∙ neither (take i all) one c f from so_far own
-
--- Where no claim reaches further, none allows the first point.
-pub none_reach : (all : List Claimed) (i : ℕ) (c : Claimed) (f from : ℕ) → length all ≤ i → allows_at (take i all) c f from ≡ false
-    → Reaches (allows_at all c f) from (Some from)
-none_reach all i c f from le none = (
-  omega arith,
-  (λ x le lt. absurd (omega (arith, le, lt))),
-  λ e. subst (λ cs. allows_at cs c f from ≡ false) (take_all i all le) none,
-)
 
 -- What is refused is none of the points of a claim that serves the field, so no point before the first that it lacks is.
 pub doubt_by_one : (all : List Claimed) (one c : Claimed) (f : ℕ) (o : Option ℕ) → Contains all one → serves one c f ≡ true

@@ -1,33 +1,12 @@
 -- Parts of an ascending list, and what of a set they have.
-use Rattle.std.proofs.Common.{◌≡◌, ℕ, ◌+◌, ◌-◌, ◌<◌, ◌≤◌, inl, inr, List, Contains, filter, take, drop, length, get_or, sym, ap, ◌∙◌, arith}
+use Rattle.std.proofs.Common.{◌≡◌, ℕ, ◌+◌, ◌-◌, ◌<◌, ◌≤◌, inl, inr, List, Contains, filter, drop, get_or, ap, ◌∙◌, arith}
 use Rattle.std.specs.List.Sorted.{IsStrictlyIncreasing}
 use Rattle.std.proofs.lemmas.Bool.{cases_lt}
-use Rattle.std.proofs.lemmas.List.{length-take, length-drop, get_or-take, get_or-drop}
+use Rattle.std.proofs.lemmas.List.{length-drop, get_or-drop}
 use Rattle.std.proofs.lemmas.List.Kept.{IsStrictlyIncreasing-filter, AllPairs-from_increasing}
 use Rattle.vocabulary.specs.Prelude.{is_in}
 use Rattle.point_laws.proofs.lemmas.Cuts.{in_both, in_kept}
 use Rattle.listed_sets.proofs.Keeping.{same_numbers}
-
-pub of_take : (n : ℕ) (xs : List ℕ) (q : ℕ) → Contains (take n xs) q → Contains xs q
-of_take n xs q c =
-    let lt = c.1 in
-    let size = length-take n xs in
-    (c.0, omega (arith, lt, size), sym (get_or-take n xs c.0 q (omega (arith, lt, size))) ∙ c.2)
-
-pub of_drop : (n : ℕ) (xs : List ℕ) (q : ℕ) → Contains (drop n xs) q → Contains xs q
-of_drop n xs q c =
-    let lt = c.1 in
-    let size = length-drop n xs in
-    (n + c.0, omega (arith, lt, size), sym (get_or-drop n xs c.0 q) ∙ c.2)
-
--- What is no greater than a number, where what is passed over is.
-pub in_take : (n high : ℕ) (xs : List ℕ) → ((k d : ℕ) → n ≤ k → k < length xs → high < get_or xs k d) → (q : ℕ) → q ≤ high
-    → Contains xs q → Contains (take n xs) q
-in_take n high xs past q le c = elim (cases_lt c.0 n) [
-  | inl before ↦ let lt = c.1 in let size = length-take n xs in
-      (c.0, omega (arith, lt, size, before), get_or-take n xs c.0 q before ∙ c.2)
-  | inr not_before ↦ let more = past c.0 q (omega (arith, not_before)) c.1 in let is = c.2 in absurd (omega (arith, more, is, le))
-]
 
 -- What is no less than a number, where what is left out is.
 pub in_drop : (n low : ℕ) (xs : List ℕ) → ((k d : ℕ) → 0 ≤ k → k < n → get_or xs k d < low) → (q : ℕ) → low ≤ q → Contains xs q

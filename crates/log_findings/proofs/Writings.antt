@@ -1,5 +1,5 @@
 -- The dependences of a log, written one after another.
-use Rattle.std.proofs.Common.{◌≡◌, ℕ, ◌+◌, ◌-◌, ◌<◌, ◌^◌, Bool, true, false, List, [], ◌∷◌, ◌++◌, length, map, filter, refl, sym, ap, ◌∙◌, subst, arith, Option, append_assoc, append-nil, if◌then◌else◌}
+use Rattle.std.proofs.Common.{◌≡◌, ℕ, ◌+◌, ◌-◌, ◌<◌, ◌^◌, Bool, true, false, List, [], ◌∷◌, ◌++◌, length, map, filter, refl, sym, ap, ◌∙◌, subst, arith, Option, append_assoc, if◌then◌else◌}
 use Rattle.std.specs.Prelude.{Result, Ok, Err, OnErr, None, not}
 use Rattle.std.specs.Option.{option_or}
 use Rattle.std.proofs.lemmas.List.{map-append, length-map, length-append, length_push}
@@ -129,17 +129,6 @@ pub record AreAllListed (t : Tables) (start now : Option (List ℕ)) (kept : Lis
   pub sent : IsSent start now (listed_text (dependences t)) kept
   pub before_is : before ≡ before_count (dependences t)
   pub all_is : before + turn ≡ length (dependences t)
-
-pub listing_all : (t : Tables) (start now : Option (List ℕ)) (kept : List ℕ) (before turn : ℕ) (left : List Pair)
-    → IsListing t start now kept before turn left → left ≡ [] → AreAllListed t start now kept before turn
-listing_all t start now kept before turn left l none =
-    let whole : l.listed ≡ dependences t =
-    sym (append-nil l.listed) ∙ ap (λ ps. l.listed ++ map (dependence_of t) ps) (sym none) ∙ l.whole in
-    record {
-      sent = subst (λ ds. IsSent start now (listed_text ds) kept) whole l.sent;
-      before_is = l.before_is ∙ ap before_count whole;
-      all_is = l.all_is ∙ ap length whole;
-    }
 
 -- ---- the whole report
 

@@ -40,10 +40,6 @@ module _ (p : Record → Bool) (xs ys : List Record) (r : Record) (h : list_any 
   both_more : list_any p (xs ++ r ∷ []) ≡ true → list_any p (ys ++ r ∷ []) ≡ true
   both_more e = any_more p ys r ∙ both (list_any p xs) (list_any p ys) (p r) h (sym (any_more p xs r) ∙ e)
 
-  -- One that is added to those that answer.
-  right_more : list_any p xs ≡ true → list_any p (ys ++ r ∷ []) ≡ true
-  right_more e = any_more p ys r ∙ or_left (list_any p ys) (p r) (h e)
-
   -- One that is added to those that ask, and is answered already.
   left_more : (p r ≡ true → list_any p ys ≡ true) → list_any p (xs ++ r ∷ []) ≡ true → list_any p ys ≡ true
   left_more here e = either (list_any p xs) (p r) (sym (any_more p xs r) ∙ e) (list_any p ys ≡ true) h here

@@ -15,7 +15,7 @@ use Rattle.semantics.specs.declared.tables.Req as reqs
 use Rattle.semantics.specs.declared.tables.Inst as insts
 use Rattle.semantics.specs.declared.tables.Serial as serials
 use Rattle.semantics.specs.SerialOrder.{listed}
-use Rattle.semantics.specs.Rules.{size_of, cost_of, cells_of, asked, accesses, points_declared, is_planar, is_end, is_declared, space_id, names, names_unknown, lacks_req, has_many_points, has_many_cells, has_many_accesses}
+use Rattle.semantics.specs.Rules.{size_of, cells_of, asked, accesses, points_declared, is_planar, is_end, is_declared, space_id, names, names_unknown, lacks_req, has_many_points, has_many_cells, has_many_accesses}
 use Rattle.log_rules.specs.declared.claims.OwnPlace.{OwnPlace}
 use Rattle.log_rules.specs.Counts.{point_total, cell_total, access_total, points_asked, cells_asked, size_asked}
 use Rattle.log_limits.specs.Sums.{cut}
@@ -116,13 +116,6 @@ point_total-add t line (Ispace id set) = let h =
 point_total-add t line (Plane id quads) = let h =
     sum_by_push (λ (s : Space). length s.points) t.spaces (record { id = id; points = plane_points quads }) in omega (arith, h)
 point_total-add t line _ = omega arith
-
--- In a log of the first version all points are counted.
-flat_cost : (t : Tables) (space : ℕ) (fields : List ℕ) → is_planar t ≡ false → cost_of t space fields ≡ size_of t space fields
-flat_cost t space fields flat = rw flat refl
-
-flat_cells : (t : Tables) → is_planar t ≡ false → cells_of t ≡ cell_total t
-flat_cells t flat = rw flat refl
 
 pub flat_asked : (t : Tables) (r : Record) → is_planar t ≡ false → accesses t r ≡ size_asked t r
 flat_asked t r flat = rw flat refl
@@ -338,22 +331,12 @@ accesses-exact earlier t r old is flat fits =
 
 -- ---- What is judged of such sums.
 
-pub judged_accesses : (earlier : List Record) (t : Tables) (r : Record) → is_planar t ≡ false
-    → nat_lt 4194304 (access_total t earlier + size_asked t r) ≡ has_many_accesses earlier t r
-judged_accesses earlier t r flat =
-    ap (λ m. nat_lt 4194304 (access_total t earlier + m)) (sym (flat_asked t r flat))
-    ∙ ap (λ b. (not b || is_end r) && nat_lt 4194304 (access_total t earlier + accesses t r)) (sym flat)
-
 pub judged_cells : (t : Tables) (id tree space : ℕ) (fields : List ℕ) (kind : InstKind) → is_planar t ≡ false
     → nat_lt 1048576 (cell_total t + size_of t space fields) ≡ has_many_cells t (Inst id tree space fields kind)
 judged_cells t id tree space fields kind flat = rw flat refl
 
 pub no_cells : (t : Tables) (n : ℕ) → is_planar t ≡ false → false ≡ has_many_cells t (End n)
 no_cells t n flat = rw flat refl
-
-pub judged_points : (t : Tables) (r : Record) (points : List ℕ) → points_declared r ≡ Some points → is_planar t ≡ false
-    → nat_lt 1048576 (point_total t + points_asked r) ≡ has_many_points t r
-judged_points t r points is flat = rw (is, flat) refl
 
 pub no_points : (t : Tables) (r : Record) → points_declared r ≡ None → false ≡ has_many_points t r
 no_points t r is = by (is_planar t) (points_declared r) is

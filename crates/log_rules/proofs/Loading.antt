@@ -207,12 +207,6 @@ corners_ascend t cs c points have is by up told =
     let here = subst (CountsBy t) is by in
     subst IsStrictlyIncreasing (sym (told t here.1)) (IsStrictlyIncreasing-filter (is_corner t.rects) have up)
 
-pub all_told : (t : Tables) (cs : Option (Bor Corners)) (space : ℕ) (have : List ℕ) → cs ≡ None → CountsBy t cs → have ≡ points_in t space
-    → have ≡ points_counted t space
-all_told t cs space have is by same =
-    let here : is_planar t ≡ false = subst (CountsBy t) is by in
-    same ∙ rw here refl
-
 -- At the end of a log the points are counted as its version says.
 pub counts_at_end : (t : Tables) (r : Record) (cs : Option (Bor Corners)) → is_end r ≡ true → AreAtEnd t r cs → CountsBy t cs
 counts_at_end t r None last at = not_planar (is_planar t) (subst (λ b. (is_planar t && b) ≡ false) last at)

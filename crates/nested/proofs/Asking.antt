@@ -85,10 +85,6 @@ own_step t rows rs i r so_far lt is =
     ap (λ rows. with_own rows r.item (claim_of t r)) so_far ∙ with_one t (take i rs) r
     ∙ ap (own_rows_by t) (sym (take_more rs i r lt ∙ ap (λ y. take i rs ++ y ∷ []) (sym is)))
 
-pub no_rows : (t : Tables) (rows : List (List Claimed)) → rows ≡ map (λ (i : ℕ). []) (range_with_len 0 (length t.items + 1))
-    → rows ≡ own_rows_by t []
-no_rows t rows is = is ∙ sym (none_asked t 0 (length t.items + 1))
-
 -- ---- the row of a task
 
 within : {X : Type 0} (p : X → Bool) (xs : List X) (o : Option ℕ) → position p xs ≡ o → unwrap_or o (length xs) < length xs + 1

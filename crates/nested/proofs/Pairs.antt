@@ -1,6 +1,6 @@
 -- Groups as sides of pairs.
-use Rattle.std.proofs.Common.{◌≡◌, ℕ, zero, suc, ◌+◌, ◌-◌, ◌<◌, Bool, not, ◌&&◌, ◌||◌, inl, inr, List, [], ◌∷◌, ◌++◌, All, filter, map, take, length, get_or, count_by, Option, Some, None, refl, sym, ap, ap₂, ◌∙◌, subst, arith, append-nil}
-use Rattle.std.proofs.lemmas.List.{take_more, map-append, length-map, append_assoc}
+use Rattle.std.proofs.Common.{◌≡◌, ℕ, zero, suc, ◌+◌, ◌-◌, ◌<◌, Bool, not, ◌&&◌, ◌||◌, inl, inr, List, [], ◌∷◌, ◌++◌, All, filter, map, take, length, get_or, count_by, Some, None, refl, sym, ap, ap₂, ◌∙◌, subst, arith, append-nil}
+use Rattle.std.proofs.lemmas.List.{take_more, map-append, append_assoc}
 use Rattle.std.proofs.lemmas.Bool.{cases_Bool}
 use Rattle.std.proofs.lemmas.List.Elements.{All-map}
 use Rattle.std.proofs.lemmas.List.Sums.{length-filter}
@@ -22,9 +22,6 @@ pub no_more : (n : Nesting) (k : ℕ) (all : List ℕ) → all ++ from_group n k
 no_more n zero all = append-nil all
 no_more n (suc k) all = append-nil all
 
-pub all_up : (n : Nesting) (above : Option ℕ) (all : List ℕ) → all ++ from_group n 0 above ≡ all
-all_up n above all = append-nil all
-
 pub one_up : (n : Nesting) (k id : ℕ) (all : List ℕ) → 0 < k
     → all ++ from_group n k (Some id) ≡ (all ++ id ∷ []) ++ from_group n (k - 1) (group_above n id)
 one_up n zero id all lt = absurd (omega (arith, lt))
@@ -43,9 +40,6 @@ row_at_place : (t : Tables) (n : Nesting) (gs : List groups.Group) (k : ℕ) (g 
 row_at_place t n [] k g d lt = absurd (omega (arith, lt))
 row_at_place t n (h ∷ gs) zero g d lt = refl
 row_at_place t n (h ∷ gs) (suc k) g d lt = row_at_place t n gs k g d (omega (arith, lt))
-
-pub rows_long : (t : Tables) (n : Nesting) (rows : List (List Claimed)) → rows ≡ rows_in t n → length rows ≡ length n.groups
-rows_long t n rows is = ap length is ∙ length-map n.groups (λ (g : groups.Group). row_in t n g.id)
 
 pub one_side : (t : Tables) (n : Nesting) (k : ℕ) (gs : List groups.Group) (d : groups.Group) (side : Sided) (row : List Claimed)
     (rows : List (List Claimed)) (now next : List Sided) → gs ≡ n.groups → k < length gs → rows ≡ rows_in t n → row ≡ get_or rows k row

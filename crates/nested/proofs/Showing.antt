@@ -1,11 +1,11 @@
 -- What is shown of children, by claims.
-use Rattle.std.proofs.Common.{◌≡◌, ℕ, ◌+◌, ◌<◌, ◌≤◌, ◌==◌, Bool, true, false, ◌&&◌, not, inl, inr, List, [], ◌∷◌, ◌++◌, map, filter, drop, length, get_or, Option, Some, None, is_some, refl, sym, ap, ◌∙◌}
+use Rattle.std.proofs.Common.{◌≡◌, ℕ, ◌+◌, ◌<◌, ◌≤◌, ◌==◌, Bool, true, false, ◌&&◌, not, inl, inr, List, [], ◌∷◌, ◌++◌, map, filter, drop, length, Option, Some, None, refl, sym, ap, ◌∙◌}
 use Rattle.std.specs.Prelude.{option_map}
 use Rattle.std.specs.List.{filter_map}
 use Rattle.std.specs.Option.{option_or}
 use mathlib.Core.Path.{fun_ext}
 use Rattle.std.proofs.lemmas.Bool.{cases_Bool, false≢true, ne_eqb}
-use Rattle.std.proofs.lemmas.List.{drop_more, drop_all}
+use Rattle.std.proofs.lemmas.List.{drop_all}
 use Rattle.list_lemmas.proofs.lemmas.Places.{list_any_map}
 use Rattle.privilege.specs.Allowed.{contains}
 use Rattle.vocabulary.specs.Prelude.{Place, Priv, Req, Tables, least_of, reqs_of, place_of}
@@ -94,24 +94,6 @@ member_told t n m all own o all_is own_is is =
     ∙ child_shown t n (record { leaf = true; id = m.task; group = m.group }) own own_is
 
 -- ---- along the children
-
-pub given_on : {X Y : Type 0} (f : X → Option Y) (xs : List X) (i : ℕ) (x : X) → i < length xs → x ≡ get_or xs i x → is_some (f x) ≡ false
-    → first_given f xs ≡ first_given f (drop i xs) → first_given f xs ≡ first_given f (drop (i + 1) xs)
-given_on f xs i x lt is none e = e ∙ ap (first_given f) (drop_more xs i x lt) ∙ ap (λ y. first_given f (y ∷ drop (i + 1) xs)) (sym is)
-    ∙ past (f x) none
-  where
-    past : {Y : Type 0} {p : Option Y} (o : Option Y) → is_some o ≡ false → option_or o p ≡ p
-    past None none = refl
-    past (Some y) none = absurd (false≢true (sym none))
-
-pub given_here : {X Y : Type 0} (f : X → Option Y) (xs : List X) (i : ℕ) (x : X) → i < length xs → x ≡ get_or xs i x → is_some (f x) ≡ true
-    → first_given f xs ≡ first_given f (drop i xs) → f x ≡ first_given f xs
-given_here f xs i x lt is some e = here (f x) (first_given f (drop (i + 1) xs)) some
-    ∙ sym (e ∙ ap (first_given f) (drop_more xs i x lt) ∙ ap (λ y. first_given f (y ∷ drop (i + 1) xs)) (sym is))
-  where
-    here : {Y : Type 0} (o p : Option Y) → is_some o ≡ true → o ≡ option_or o p
-    here None p some = absurd (false≢true some)
-    here (Some y) p some = refl
 
 pub given_none : {X Y : Type 0} (f : X → Option Y) (xs : List X) (i : ℕ) → length xs ≤ i → first_given f xs ≡ first_given f (drop i xs)
     → None ≡ first_given f xs

@@ -139,10 +139,6 @@ each_at P [] k d h lt = absurd (omega arith)
 each_at P (r ∷ rs) zero d h lt = h.0
 each_at P (r ∷ rs) (suc k) d h lt = each_at P rs k d h.1 (omega arith)
 
-pub each_of_all : (P : Rect → Type 0) (rs : List Rect) → All P rs → AllByRecursion P rs
-each_of_all P [] h = tt
-each_of_all P (r ∷ rs) h = (All-head P r rs h, each_of_all P rs (All-tail P r rs h))
-
 pub pairwise_from : (R : Rect → Rect → Type 0) (rs : List Rect) → AllPairs R rs → Pairwise R rs
 pairwise_from R [] h = tt
 pairwise_from R (r ∷ rs) h = (
@@ -243,13 +239,6 @@ answer rs None small tells = pairwise_at AreApart rs (all_apart rs small tells)
 -- each rectangle before this place lies between these columns
 abbrev pub AreBetween : List Rect → ℕ → ℕ → ℕ → Type 0
 AreBetween rects n least greatest = (k : ℕ) → k < n → k < length rects → (least ≤ (rect_at rects k).x0) × ((rect_at rects k).x1 ≤ greatest)
-
-pub between_more : (rects : List Rect) (n least greatest a b : ℕ) → AreBetween rects n least greatest → a ≤ least → greatest ≤ b
-    → a ≤ (rect_at rects n).x0 → (rect_at rects n).x1 ≤ b → AreBetween rects (n + 1) a b
-between_more rects n least greatest a b h low up x0 x1 k lt within = elim (cases_lt k n) [
-  | inl before ↦ let g = h k before within in (omega (arith, g.0), omega (arith, g.1))
-  | inr ge ↦ let e : k ≡ n = omega arith in rw e (x0, x1)
-]
 
 pub narrow_inside : (lo hi least greatest first last : ℕ) (rects : List Rect) → AreBetween rects (length rects) least greatest
     → AllByRecursion (IsIn lo hi) rects → first ≡ max least lo → last ≡ max (min greatest hi) first → AllByRecursion (IsIn first last) rects

@@ -11,7 +11,7 @@ use Rattle.overlaps.specs.declared.node.Columns.{Columns}
 use Rattle.overlaps.specs.declared.rows.Reached.{Reached}
 use Rattle.overlaps.specs.Meeting.{AreApartIn, HasAllIn, IsIn, IsNoHigher, goes_left, goes_right, spans}
 use Rattle.overlaps.specs.declared.point.Point.{Point}
-use Rattle.overlaps.specs.Rows.{AreTall, BeginsIn, IsPast, IsReached, NoneBeginsIn, RowsApart, ShareRow, place_with}
+use Rattle.overlaps.specs.Rows.{AreTall, IsPast, IsReached, NoneBeginsIn, RowsApart, ShareRow, place_with}
 use Rattle.overlaps.specs.Between.{AreApartFrom, AreApartFromIn, HasAt, IsCommon, SpansApart, TellsBetween, corner}
 use Rattle.std.specs.List.{AllByRecursion}
 
@@ -19,18 +19,6 @@ use Rattle.std.specs.List.{AllByRecursion}
 
 abbrev zero_rect : Rect
 zero_rect = record { x0 = 0; x1 = 0; y0 = 0; y1 = 0 }
-
-pub none_reached : (rects : List Rect) → IsReached rects (record { count = 0; end = 0; place = 0 }) 0
-none_reached rects = record {
-  within = omega arith;
-  begin = λ k lt. absurd (omega (arith, lt));
-  below =
-      λ k lt. absurd (omega (arith, lt));
-  some = inl refl;
-}
-
-pub reached_up : (rects : List Rect) (e : Reached) (a b : ℕ) → IsReached rects e a → a ≤ b → IsReached rects e b
-reached_up rects e a b h le = record { within = h.within; begin = λ k lt. omega (arith, h.begin k lt, le); below = h.below; some = h.some }
 
 pub reached_more : (rects : List Rect) (e f : Reached) (row : ℕ) → IsReached rects e row → e.count < length rects
     → (rect_at rects e.count).y0 ≤ row → f.count ≡ e.count + 1 → f.end ≡ max e.end ((rect_at rects e.count).y1 + 1)
@@ -58,16 +46,6 @@ reached_more rects e f row h lt low count end place = record {
   ];
 }
 
-pub past_all : (rects : List Rect) (count row : ℕ) → length rects ≤ count → IsPast rects count row
-past_all rects count row past k le lt = absurd (omega (arith, past, le, lt))
-
-pub past_here : (rects : List Rect) (count row : ℕ) → AllPairs IsNoHigher rects → count < length rects
-    → row < (rect_at rects count).y0 → IsPast rects count row
-past_here rects count row order within above k le lt = elim (cases_lt count k) [
-  | inl less ↦ omega (arith, above, order count k zero_rect less lt)
-  | inr ge ↦ let same : k ≡ count = omega (arith, le, ge) in rw same above
-]
-
 -- none of the others before a place begins in a row of one of these
 pub record NoneBegun (rects others : List Rect) (reached : Reached) (n : ℕ) : Type 0 where
   pub row : ℕ
@@ -75,9 +53,6 @@ pub record NoneBegun (rects others : List Rect) (reached : Reached) (n : ℕ) : 
   pub low : (j : ℕ) → n ≤ j → j < length others → row ≤ (rect_at others j).y0
   pub none : (j : ℕ) → j < n → j < length others → (r : Rect) → Contains rects r → r.y0 ≤ (rect_at others j).y0
       → r.y1 < (rect_at others j).y0
-
-pub none_begun : (rects others : List Rect) → NoneBegun rects others (record { count = 0; end = 0; place = 0 }) 0
-none_begun rects others = record { row = 0; is = none_reached rects; low = λ j _ _. omega arith; none = λ j lt. absurd (omega (arith, lt)) }
 
 at_place : (rects : List Rect) (r : Rect) (h : Contains rects r) → rect_at rects h.0 ≡ r
 at_place rects r h = get_or_default rects h.0 zero_rect r h.1 ∙ h.2
@@ -104,26 +79,6 @@ begun_more rects others before after n order h lt is past le = record {
   ];
 }
 
--- the place of one that ends above the row is that of a rectangle
-pub reached_place : (rects : List Rect) (after : Reached) (row : ℕ) → IsReached rects after row → row < after.end
-    → (after.place < length rects) × ((rect_at rects after.place).y0 ≤ row) × (row ≤ (rect_at rects after.place).y1)
-reached_place rects after row is above = elim is.some [
-  | inl none_yet ↦ absurd (omega (arith, none_yet, above))
-  | inr s ↦ (omega (arith, s.0, is.within), is.begin after.place s.0, omega (arith, s.1, above))
-]
-
-pub begun_here : (rects others : List Rect) (after : Reached) (n : ℕ) → n < length others
-    → IsReached rects after (rect_at others n).y0 → (rect_at others n).y0 < after.end
-    → BeginsIn rects others (rect_at rects after.place) (rect_at others n)
-begun_here rects others after n lt is above =
-    let at = reached_place rects after (rect_at others n).y0 is above in
-    record {
-      first = Contains-get_or rects after.place zero_rect at.0;
-      second = Contains-get_or others n zero_rect lt;
-      low = at.1;
-      high = at.2;
-    }
-
 pub begun_all : (rects others : List Rect) (reached : Reached) (n : ℕ) → NoneBegun rects others reached n → length others ≤ n
     → NoneBeginsIn rects others
 begun_all rects others reached n h past r s in_r in_s from =
@@ -139,19 +94,6 @@ rows_from ours theirs a b r s in_r in_s = elim (cases_lt s.y0 r.y0) [
   | inl above ↦ inr (b s r in_s in_r (omega (arith, above)))
   | inr below ↦ inl (a r s in_r in_s below)
 ]
-
-pub rows_met : (ours theirs : List Rect) (r s : Rect) → AreTall theirs → BeginsIn ours theirs r s → ShareRow ours theirs r s
-rows_met ours theirs r s tall h =
-    let low = h.low in
-    let high = h.high in
-    let up = tall_in theirs s tall h.second in
-    record { first = h.first; second = h.second; our = omega arith; their = omega arith }
-
-pub rows_back : (ours theirs : List Rect) (r s : Rect) → ShareRow theirs ours s r → ShareRow ours theirs r s
-rows_back ours theirs r s h =
-    let mine = h.our in
-    let other = h.their in
-    record { first = h.second; second = h.first; our = omega arith; their = omega arith }
 
 -- ---- In one node.
 
@@ -304,12 +246,6 @@ pub tells_widely : (lo hi : ℕ) (c : Columns) (ours theirs : List Rect) (found 
     → TellsBetween c.lo c.hi ours theirs found → TellsBetween lo hi ours theirs found
 tells_widely lo hi c ours theirs (Some p) all h = h
 tells_widely lo hi c ours theirs None all h = widen lo hi c ours theirs all h
-
--- the columns of both lists
-pub hull_inside : (lo hi a b : ℕ) (rects : List Rect) → AllByRecursion (IsIn lo hi) rects → a ≤ lo → hi ≤ b → AllByRecursion (IsIn a b) rects
-hull_inside lo hi a b rects inside low high = each_of (IsIn a b) rects (λ r h.
-    let i = each_in (IsIn lo hi) rects r inside h in
-    record { begins = omega (arith, i.begins, high); ends = omega (arith, i.ends, low); wide = i.wide; tall = i.tall })
 
 pub hull_all : (lo hi : ℕ) (c e : Columns) (rects : List Rect) → AllByRecursion (HasAllIn lo hi c) rects → e.lo ≤ c.lo → c.hi ≤ e.hi
     → AllByRecursion (HasAllIn lo hi e) rects

@@ -1,6 +1,5 @@
 -- Counts of numbers that pass, and of bits.
 use Rattle.std.proofs.Common.{◌≡◌, ℕ, zero, suc, ◌+◌, ◌-◌, ◌*◌, ◌/◌, ◌%◌, ◌^◌, ◌<◌, ◌≤◌, ◌==◌, ◌&&◌, nat_lt, inl, inr, Bool, false, List, get_or, refl, sym, ap, ◌∙◌, arith, if◌then◌else◌, add-one}
-use Rattle.std.specs.Prelude.{nat_le}
 use Rattle.std.specs.Int.{bit_at}
 use Rattle.std.specs.Int.Count.{ones_in}
 use Rattle.std.specs.Int.Count as counts
@@ -104,11 +103,3 @@ count_next t n b e = rw (add-one n, e) refl
 pub all_later : (t : ℕ → Bool) (a base n : ℕ) → a < base → count_below t n ≡ count_below (λ i. nat_lt a (base + i) && t i) n
 all_later t a base n lt = count_same t (λ i. nat_lt a (base + i) && t i) n
     (λ k less. sym (ap (λ z. z && t k) (lt-ltb a (base + k) (omega (arith, lt)))))
-
-pub from_later : (t : ℕ → Bool) (a base n : ℕ) → base ≤ a → count_below (λ i. nat_le (a - base + 1) i && t i) n ≡ count_below
-    (λ i. nat_lt a (base + i) && t i) n
-from_later t a base n le = count_same (λ i. nat_le (a - base + 1) i && t i) (λ i. nat_lt a (base + i) && t i) n
-    (λ k less. ap (λ z. z && t k) (tests k))
-  where
-    tests : (k : ℕ) → nat_le (a - base + 1) k ≡ nat_lt a (base + k)
-    tests k = grind (arith, nat_tests, le)

@@ -1,7 +1,7 @@
 -- The users of places in one list, as it grows.
 use Rattle.std.proofs.Common.{◌≡◌, ℕ, ◌+◌, ◌-◌, ◌≤◌, List, [], ◌∷◌, ◌++◌, All, refl, ap, ap₂, ◌∙◌, arith, map, take, drop, length}
 use Rattle.std.proofs.lemmas.List.{drop-append-le, take-append-le, length-drop, map-append}
-use Rattle.std.proofs.lemmas.List.Elements.{All-append, All-cons, All-nil, All-from_recursion, recursion_from_All}
+use Rattle.std.proofs.lemmas.List.Elements.{recursion_from_All}
 use Rattle.std.proofs.Math.Seq.{drop-append_seam, take-length}
 use Rattle.std.specs.List.{AllByRecursion}
 use Rattle.pair_rows.specs.declared.users.User.{User}
@@ -33,16 +33,3 @@ places_more users more spans end within e =
     map-append (users_between (users ++ more)) spans ((length users, end) ∷ [])
     ∙ ap₂ (λ us u. us ++ u ∷ []) (all_between users more spans (recursion_from_All (IsSpan (length users)) spans within))
     (ap (λ n. users_between (users ++ more) (length users, n)) e ∙ last_between users more)
-
-spans_still : (count n : ℕ) → count ≤ n → (spans : List (ℕ × ℕ)) → AllByRecursion (IsSpan count) spans → AllByRecursion (IsSpan n) spans
-spans_still count n le [] h = tt
-spans_still count n le (span ∷ spans) h =
-    let within = h.0.within in
-    (record { order = h.0.order; within = omega (arith, within, le) }, spans_still count n le spans h.1)
-
-pub spans_more : (count n : ℕ) → count ≤ n → (spans : List (ℕ × ℕ)) → All (IsSpan count) spans
-    → All (IsSpan n) (spans ++ (count, n) ∷ [])
-spans_more count n le spans h =
-    All-append (IsSpan n) spans ((count, n) ∷ [])
-    (All-from_recursion (IsSpan n) spans (spans_still count n le spans (recursion_from_All (IsSpan count) spans h)))
-    (All-cons (IsSpan n) (count, n) [] (record { order = le; within = omega arith }) (All-nil (IsSpan n)))

@@ -74,11 +74,3 @@ sum_none places (suc n) = let r = sum_none places n in let z = count_start (λ b
 
 abbrev pub AreEmpty : List (List ℕ) → Type 0
 AreEmpty rows = (a i : ℕ) → a < length rows → i < 1024 → row_bit rows a i ≡ false
-
-pub empty_more : (rows : List (List ℕ)) (row : List ℕ) → AreEmpty rows → ((i : ℕ) → i < 1024 → has_bit row i ≡ false)
-    → AreEmpty (rows ++ row ∷ [])
-empty_more [] row h none zero i lt less = none i less
-empty_more [] row h none (suc a) i lt less = absurd (omega (arith, lt))
-empty_more (r ∷ rows) row h none zero i lt less = h zero i (omega arith) less
-empty_more (r ∷ rows) row h none (suc a) i lt less = empty_more rows row (λ a i below. h (suc a) i (omega (arith, below))) none a i
-    (omega (arith, lt)) less

@@ -1,9 +1,9 @@
 -- Marks of the points that are read, and the marked ones of a list.
-use Rattle.std.proofs.Common.{◌≡◌, ℕ, ◌+◌, ◌<◌, inl, inr, Bool, true, false, List, [], ◌∷◌, ◌++◌, map, filter, take, length, get_or, replicate, set, Contains, find, ◌==◌, sym, ap, ◌∙◌, subst, arith}
+use Rattle.std.proofs.Common.{◌≡◌, ℕ, ◌+◌, ◌<◌, inl, inr, Bool, true, false, List, [], ◌∷◌, ◌++◌, map, filter, take, length, get_or, set, Contains, find, ◌==◌, sym, ap, ◌∙◌, subst, arith}
 use Rattle.std.specs.List.{range_with_len}
 use Rattle.std.specs.List.Sorted.{IsStrictlyIncreasing}
 use Rattle.std.proofs.lemmas.Bool.{cases_eq, eqb-true, true≢false}
-use Rattle.std.proofs.lemmas.List.{take_more, map-append, get_or_default, length-map, length-set, length-replicate, get_or-map, get_or-set_same, get_or-set_other}
+use Rattle.std.proofs.lemmas.List.{take_more, map-append, get_or_default, length-map, length-set, get_or-map, get_or-set_same, get_or-set_other}
 use Rattle.std.proofs.lemmas.List.Elements.{All-filter, Contains-append_cases}
 use Rattle.std.proofs.lemmas.List.Kept.{AllPairs-from_increasing, IsStrictlyIncreasing-filter}
 use Rattle.std.proofs.lemmas.List.FromFn.{get_or-range_with_len, length-range_with_len}
@@ -11,7 +11,7 @@ use Rattle.vocabulary.specs.Prelude.{may_read, Req, Space, Tables, is_in, points
 use Rattle.id_maps.specs.declared.sets.IdSet.{IdSet}
 use Rattle.id_maps.specs.Sets.{has_id}
 use Rattle.log_laws.proofs.lemmas.Members.{member_in, is_in_of}
-use Rattle.list_lemmas.proofs.lemmas.Contained.{only, found_at, map_member, Contains-nil}
+use Rattle.list_lemmas.proofs.lemmas.Contained.{only, found_at, map_member}
 use Rattle.list_lemmas.proofs.lemmas.Firsts.{cases_option}
 use Rattle.list_lemmas.proofs.lemmas.Filtered.{in_filter}
 use Rattle.point_laws.specs.Alike.{AreFirsts, AreReadFirsts}
@@ -52,9 +52,6 @@ marks_more places i place first old within is inside before = record {
       | inl same ↦ subst (λ k. get_or (set old place true) k false ≡ true) (sym same) (get_or-set_same old place true false inside)
       | inr other ↦ get_or-set_other old place k true false other ∙ e
     ]
-
-pub none_marked : (ids : IdSet) (points : List ℕ) → AreMarked [] ids points (replicate (length points) false)
-none_marked ids points = record { each = length-replicate (length points) false; marked = λ s c. absurd (Contains-nil c) }
 
 -- One space more, whose points are marked.
 pub marked_more : (spaces : List Space) (s : Space) (ids : IdSet) (points : List ℕ) (old new : List Bool) → AreMarked spaces ids points old

@@ -12,9 +12,6 @@ use Rattle.point_set.proofs.lemmas.Columns.{of_has, to_has, has_at}
 pub row_fits : (rects : List Rect) (x y : ℕ) → AreRects rects → Has rects x y → y < 2 ^ 32
 row_fits rects x y are h = let top = h.holds.high in omega (arith, y_fits rects h.place are.1 h.within)
 
-pub column_fits : (rects : List Rect) (x y : ℕ) → AreRects rects → Has rects x y → x < 2 ^ 32
-column_fits rects x y are h = let right = h.holds.right in omega (arith, x_fits rects h.place are.1 h.within)
-
 -- ---- The next point.
 
 -- the next row of the same column
@@ -85,10 +82,6 @@ column_bare rects from are bare q h =
     let a_fits = a.y_fits in
     let beyond : from ≤ a.x = omega (arith, h.1) in
     bare a.x ((a.y, a.has), beyond)
-
-pub rowless : (rects : List Rect) (from x : ℕ) → IsLeast (λ z. HasColumn rects z × (from ≤ z)) (Some x)
-    → IsLeast (λ v. Has rects x v × (0 ≤ v)) None → ⊥
-rowless rects from x column bare = bare column.0.0.0 (column.0.0.1, omega arith)
 
 pub none_right : (rects : List Rect) (from : ℕ) → AreRects rects → 2 ^ 32 ≤ from → IsLeastFrom (rect_points rects) (from * 2 ^ 32) None
 none_right rects from are far q h =

@@ -303,10 +303,6 @@ claim_from asked limit p but c holds kept other =
     and_from (has p c.rect) (is_kept asked limit c.sub && is_other but c.sub) (has_of p c.rect holds)
     (and_from (is_kept asked limit c.sub) (is_other but c.sub) kept other)
 
-pub none_owned : (asked : Asked) (limit : ℕ) (p : Point) (but : Option ℕ) (claims : List Claim) → length claims ≡ 0
-    → IsOwner asked limit p but claims None
-none_owned asked limit p but claims none c h = absurd (omega (arith, none, h.1))
-
 still_taken : (claims : List Claim) (k : ℕ) (c : Claim) → Contains (take k claims) c → Contains (take (k + 1) claims) c
 still_taken claims k c h =
     let t = taken claims k c h in

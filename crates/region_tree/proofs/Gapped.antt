@@ -1,5 +1,5 @@
 -- What a space leaves free, and rectangles that are held against it.
-use Rattle.std.proofs.Common.{◌≡◌, ℕ, ◌+◌, ◌*◌, ◌<◌, ◌≤◌, ◌^◌, nat_le, true, Bool, List, [], Option, Some, None, MatchOption, length, get_or, All, AllPairs, Contains, sym, subst, inl, inr, arith}
+use Rattle.std.proofs.Common.{◌≡◌, ℕ, ◌+◌, ◌*◌, ◌<◌, ◌≤◌, ◌^◌, nat_le, true, Bool, List, [], Option, Some, None, MatchOption, get_or, All, AllPairs, Contains, sym, subst, inl, inr, arith}
 use Rattle.std.specs.List.Sorted.{IsPermutation}
 use Rattle.std.proofs.lemmas.Bool.{le-leb}
 use Rattle.std.proofs.lemmas.List.Elements.{All-contains, Contains-get_or}
@@ -14,7 +14,7 @@ use Rattle.overlaps.specs.Between.{AreApartFrom, IsCommon}
 use Rattle.overlaps.specs.Meeting.{IsNoHigher}
 use Rattle.plane_gaps.specs.Gaps.{HasPoint, LeaveFree}
 use Rattle.arena_sets.specs.Pieces.{AreRectsOf}
-use Rattle.region_tree.specs.Wholes.{AreGaps, AreHeld, IsPointOutside, near}
+use Rattle.region_tree.specs.Wholes.{AreGaps, IsPointOutside, near}
 use Rattle.region_tree.proofs.Claiming.{held}
 
 -- ---- What is left free.
@@ -62,9 +62,6 @@ gaps_small points last gaps are k d lt = let r = are.are (get_or gaps k d) (Cont
 pub gaps_some : (points : List ℕ) (last : ℕ) (gaps : List Rect) → AreGaps points last gaps
     → All (λ (r : Rect). (r.x0 ≤ r.x1) × (r.y0 ≤ r.y1)) gaps
 gaps_some points last gaps are k d lt = let r = are.are (get_or gaps k d) (Contains-get_or gaps k d lt) in (r.wide, r.tall)
-
-pub none_held : (points : List ℕ) (rects : List Rect) → rects ≡ [] → AreHeld points rects
-none_held points rects is r h = let lt : h.0 < 0 = subst (λ (rs : List Rect). h.0 < length rs) is h.1 in absurd (omega (arith, lt))
 
 -- what a point in common with what is left free tells
 pub point_told : (points : List ℕ) (last : ℕ) (rects gaps : List Rect) (found : Option Point) → AreGaps points last gaps

@@ -1,5 +1,5 @@
 -- What is kept of places is what sequential execution wants.
-use Rattle.std.proofs.Common.{◌≡◌, ℕ, zero, suc, ◌+◌, ◌-◌, ◌<◌, ◌≤◌, Bool, true, false, cond, List, [], ◌∷◌, map, take, drop, filter, length, get_or, Option, refl, sym, ap, subst, ◌∙◌, inl, inr, arith, zero-add}
+use Rattle.std.proofs.Common.{◌≡◌, ℕ, zero, suc, ◌+◌, ◌-◌, ◌<◌, ◌≤◌, Bool, true, false, cond, List, [], ◌∷◌, map, take, drop, filter, length, get_or, refl, sym, ap, subst, ◌∙◌, inl, inr, arith, zero-add}
 use Rattle.std.specs.List.{AllWithin}
 use Rattle.std.specs.List.Sorted.{IsNonDecreasingBy}
 use Rattle.std.specs.Map.{lookup}
@@ -29,11 +29,6 @@ lookup-mapped items test (e ∷ es) = elim (cases_Bool (test e.0)) [
 
 pub kept-changes : (positions : List ℕ) (h : PlaceLists Change) (p : Place) → changes_in (kept positions h) p ≡ listed h p
 kept-changes positions h p = lookup-mapped (λ v. v.items) (same_place p) h.lists.entries
-
--- What is looked up.
-pub found-at : {V X : Type 0} (items : V → List X) (at found : Option V) → found ≡ at
-    → option_map_or items at [] ≡ option_map_or items found []
-found-at items at found is = ap (λ o. option_map_or items o []) (sym is)
 
 -- ---- in order
 

@@ -3,7 +3,6 @@ use Rattle.std.proofs.Common.{◌≡◌, ℕ, suc, ◌+◌, ◌<◌, ◌==◌, B
 use Rattle.std.specs.Option.{option_map_or}
 use Rattle.std.specs.List.{AllPairs}
 use Rattle.std.specs.List.Sorted.{IsStrictlyIncreasing}
-use Rattle.std.proofs.Math.Bool.{and-false}
 use Rattle.std.proofs.lemmas.Bool.{cases_Bool, eqb-true, false_from_ne_true, true≢false}
 use Rattle.std.proofs.lemmas.Bool.Decides.{nat_tests}
 use Rattle.std.proofs.lemmas.Grind.{common_steps}
@@ -99,8 +98,3 @@ point-noted c all mid new tree x xs fields p up before after =
     ∙ ap (λ cs. mid ++ cs) (one_point c (tree == p.tree) (x == p.point) (is_in xs p.point) (is_in fields p.field)
     (not_behind x p.point xs up))
     ∙ before
-
--- Where no point is left, all are noted.
-pub all-noted : (c : Change) (all new : List Change) (tree : ℕ) (fields : List ℕ) (p : Place)
-    → new ++ cond (covered tree [] fields p) (c ∷ []) [] ≡ all → new ≡ all
-all-noted c all new tree fields p e = sym (append-nil new) ∙ ap (λ b. new ++ cond b (c ∷ []) []) (sym (and-false (tree == p.tree))) ∙ e

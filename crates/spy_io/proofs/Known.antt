@@ -1,19 +1,11 @@
-use Rattle.std.proofs.Common.{◌≡◌, ◌≢◌, ℕ, List, [], ◌++◌, Option, Some, None, refl, ap, sym, subst, ◌∙◌, append_assoc, append-nil, take, drop, length, ◌+◌}
-use Rattle.std.specs.Io.KnownBytes.{Consumes, Appends, Keeps}
+use Rattle.std.proofs.Common.{◌≡◌, ◌≢◌, ℕ, List, [], ◌++◌, Option, refl, ap, sym, ◌∙◌, append_assoc, take, drop, length, ◌+◌}
+use Rattle.std.specs.Io.KnownBytes.{Consumes, Appends}
 use Rattle.std.proofs.KnownBytes.{Appends-nil, Appends-trans, Consumes-trans}
 use Rattle.std.proofs.lemmas.List.{take-append-drop, drop-drop, take_at}
-use Rattle.spy_io.specs.Causes.{Grows}
 
 -- std's law under a name that `using` takes
 pub consumes_both : (old mid new : Option (List ℕ)) (a b : List ℕ) → Consumes old mid a → Consumes mid new b → Consumes old new (a ++ b)
 consumes_both old mid new a b p q = Consumes-trans old mid new a b p q
-
--- what grew, and then stayed
-grown_kept : (old mid new : Option (List ℕ)) (front : List ℕ) → Appends old mid front → Keeps mid new → Appends old new front
-grown_kept None mid new front grown kept = tt
-grown_kept (Some xs) None new front grown kept = absurd grown
-grown_kept (Some xs) (Some ys) None front grown kept = absurd kept
-grown_kept (Some xs) (Some ys) (Some zs) front grown kept = kept ∙ grown
 
 -- the bytes held grew by those of `bytes` that come before the rest
 pub record IsWritten (old new : Option (List ℕ)) (bytes rest : List ℕ) : Type 0 where
@@ -33,16 +25,6 @@ written_more old mid new bytes rest after n w more left = record {
       ∙ ap (λ x. w.front ++ take n rest ++ x) (sym left);
   grown = Appends-trans old mid new w.front (take n rest) w.grown more;
 }
-
--- nothing is left
-pub written_all : (old new : Option (List ℕ)) (bytes rest : List ℕ) → IsWritten old new bytes rest → rest ≡ [] → Appends old new bytes
-written_all old new bytes rest w none = subst (Appends old new) (sym (w.parts ∙ ap (λ x. w.front ++ x) none ∙ append-nil w.front)) w.grown
-
--- a call failed, before which something was left
-pub written_part : (old mid new : Option (List ℕ)) (bytes rest : List ℕ) → IsWritten old mid bytes rest → Keeps mid new → rest ≢ []
-    → Grows old new bytes
-written_part old mid new bytes rest w kept more =
-    record { front = w.front; back = rest; parts = w.parts; more = more; grown = grown_kept old mid new w.front w.grown kept }
 
 -- the first n bytes after `at` stand in front of what is kept, and the rest comes after them
 pub first_given : (at n : ℕ) (bytes given kept : List ℕ) → given ≡ take n (drop at bytes) → length given ≡ n

@@ -3,7 +3,7 @@ use Rattle.std.proofs.Common.{◌≡◌, ℕ, inl, inr, List, [], ◌∷◌, ◌
 use Rattle.std.specs.List.Sorted.{IsPermutation}
 use Rattle.std.proofs.lemmas.List.Sorted.{Contains-permutation, IsPermutation-sym}
 use Rattle.std.proofs.lemmas.List.Elements.{Contains-append_cases, Contains-append_left, Contains-append_right}
-use Rattle.list_lemmas.proofs.lemmas.Contained.{member_map, map_member, member_flat, flat_member, only, Contains-nil, Contains-here}
+use Rattle.list_lemmas.proofs.lemmas.Contained.{member_map, map_member, member_flat, flat_member, only, Contains-here}
 use Rattle.cell_races.specs.declared.cell_accesses.CellAccess.{CellAccess}
 use Rattle.task_order.specs.Gathered.{cell_access_at, cell_accesses_over, IsOneAt, Adds, IsDoneBy, AreDoneBy}
 use Rattle.vocabulary.specs.Prelude.{Req, Tables}
@@ -45,9 +45,6 @@ over_more one p points rest fields now new at is =
     ∙ ap (λ ps. now ++ cell_accesses_over one ps fields) (sym at)
 
 -- ---- requirement by requirement
-
-pub done_none : (t : Tables) (points : List ℕ) → AreDoneBy t points [] []
-done_none t points = record { sound = λ x m. absurd (Contains-nil m); whole = λ r x m. absurd (Contains-nil m) }
 
 pub done_more : (t : Tables) (points : List ℕ) (reqs : List Req) (r : Req) (old new : List CellAccess) → AreDoneBy t points reqs old
     → Adds (IsDoneBy t points r) old new → AreDoneBy t points (reqs ++ r ∷ []) new

@@ -72,9 +72,6 @@ none_there t points r none x d =
     let b = and_parts (is_in (points_in t r.space) x.cell.point) (is_in r.fields x.cell.field) a.1 in
     true≢false (sym b.0 ∙ ap (λ ps. is_in ps x.cell.point) none)
 
-pub none_done : (t : Tables) (points : List ℕ) (r : Req) → is_task_at t r.item ≡ false → (x : CellAccess) → IsDoneBy t points r x → ⊥
-none_done t points r other x d = true≢false (sym d.task ∙ other)
-
 -- ---- in turn
 
 abbrev done_at : Tables → ℕ → Place → Req → CellAccess

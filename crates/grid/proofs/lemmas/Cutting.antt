@@ -2,12 +2,12 @@
 use Rattle.std.proofs.Common.{◌≡◌, ◌↔◌, ℕ, zero, suc, ◌+◌, ◌-◌, ◌^◌, ◌<◌, ◌≤◌, ◌⊎◌, nat_le, List, [], ◌∷◌, All, Contains, length, get_or, true, false, refl, sym, ◌∙◌, subst, inl, inr, arith, add-one}
 use Rattle.std.specs.List.Sorted.{IsStrictlyIncreasing, IsPartitionPoint, IsPartitionedBy}
 use Rattle.std.proofs.lemmas.Bool.{cases_order, cases_lt, lt-ltb, le-ltb, eq-eqb, ne_eqb, leb-true, leb-false}
-use Rattle.std.proofs.lemmas.List.Elements.{Contains-get_or, All-nil, All-cons, All-head, All-tail, All-contains}
+use Rattle.std.proofs.lemmas.List.Elements.{Contains-get_or, All-contains}
 use Rattle.std.proofs.lemmas.List.Sorted.{IsPartitionedBy-leb}
 use Rattle.std.proofs.lemmas.Map.Keys.{non_decreasing_from_sorted, sorted_from_strictly_increasing}
 use Rattle.point_set.proofs.lemmas.Ahead.{at_place, spread}
 use Rattle.point_set.specs.declared.rect.Rect.{Rect}
-use Rattle.point_set.specs.Rects.{AreSmall, Holds}
+use Rattle.point_set.specs.Rects.{Holds}
 use Rattle.grid.specs.Cuts.{with_cut, cuts, x_ends, y_ends, grid_of, AreCuts, IsInSpan, HasBoth}
 
 -- each number is at least `low`, and above the number before it
@@ -283,30 +283,3 @@ pub can_search : (x : ℕ) (ns : List ℕ) → IsStrictlyIncreasing ns → IsPar
 can_search x ns up = IsPartitionedBy-leb (λ q. q) ns x (non_decreasing_from_sorted ns (sorted_from_strictly_increasing ns up))
 
 -- ---- The cuts of small rectangles are small.
-
-x_small : (rects : List Rect) → All (λ r. (r.x0 ≤ r.x1) × (r.y0 ≤ r.y1)) rects → AreSmall rects → All (λ n. n ≤ 2 ^ 32) (x_ends rects)
-x_small [] points small = All-nil (λ n. n ≤ 2 ^ 32)
-x_small (r ∷ rs) points small =
-    let some = All-head (λ (q : Rect). (q.x0 ≤ q.x1) × (q.y0 ≤ q.y1)) r rs points in
-    let fits = All-head (λ (q : Rect). (q.x1 < 2 ^ 32) × (q.y1 < 2 ^ 32)) r rs small in
-    let more = x_small rs (All-tail (λ (q : Rect). (q.x0 ≤ q.x1) × (q.y0 ≤ q.y1)) r rs points)
-    (All-tail (λ (q : Rect). (q.x1 < 2 ^ 32) × (q.y1 < 2 ^ 32)) r rs small) in
-    All-cons (λ n. n ≤ 2 ^ 32) r.x0 ((r.x1 + 1) ∷ x_ends rs) (omega (arith, some.0, fits.0))
-    (All-cons (λ n. n ≤ 2 ^ 32) (r.x1 + 1) (x_ends rs) (omega (arith, fits.0)) more)
-
-y_small : (rects : List Rect) → All (λ r. (r.x0 ≤ r.x1) × (r.y0 ≤ r.y1)) rects → AreSmall rects → All (λ n. n ≤ 2 ^ 32) (y_ends rects)
-y_small [] points small = All-nil (λ n. n ≤ 2 ^ 32)
-y_small (r ∷ rs) points small =
-    let some = All-head (λ (q : Rect). (q.x0 ≤ q.x1) × (q.y0 ≤ q.y1)) r rs points in
-    let fits = All-head (λ (q : Rect). (q.x1 < 2 ^ 32) × (q.y1 < 2 ^ 32)) r rs small in
-    let more = y_small rs (All-tail (λ (q : Rect). (q.x0 ≤ q.x1) × (q.y0 ≤ q.y1)) r rs points)
-    (All-tail (λ (q : Rect). (q.x1 < 2 ^ 32) × (q.y1 < 2 ^ 32)) r rs small) in
-    All-cons (λ n. n ≤ 2 ^ 32) r.y0 ((r.y1 + 1) ∷ y_ends rs) (omega (arith, some.1, fits.1))
-    (All-cons (λ n. n ≤ 2 ^ 32) (r.y1 + 1) (y_ends rs) (omega (arith, fits.1)) more)
-
-pub small_cuts : (rects : List Rect) → All (λ r. (r.x0 ≤ r.x1) × (r.y0 ≤ r.y1)) rects → AreSmall rects
-    → AreCuts (grid_of rects).xs × AreCuts (grid_of rects).ys
-small_cuts rects points small = (
-  are_small (x_ends rects) (x_small rects points small),
-  are_small (y_ends rects) (y_small rects points small),
-)

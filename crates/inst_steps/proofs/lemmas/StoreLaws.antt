@@ -1,18 +1,16 @@
 -- Stores and states, move by move, and weights.
-use Rattle.std.proofs.Common.{◌≡◌, ℕ, ◌+◌, ◌≤◌, nat_eq, true, false, cond, is_some, List, filter, Some, None, refl, sym, ap, ap₂, ◌∙◌, inl, inr, arith}
-use Rattle.std.specs.Prelude.{unwrap_or}
+use Rattle.std.proofs.Common.{◌≡◌, ℕ, ◌+◌, ◌≤◌, nat_eq, true, false, cond, is_some, List, filter, Some, refl, sym, ap, ◌∙◌, inl, inr, arith}
 use Rattle.std.specs.FinMap.{get, insert, contains_key}
 use Rattle.std.proofs.lemmas.Bool.{cases_Bool, true≢false, false≢true, false_from_ne_true}
 use Rattle.std.proofs.Math.Bool.{and_assoc}
-use Rattle.value_terms.specs.declared.terms.Base.TheVariants.{Raw}
-use Rattle.vocabulary.specs.Prelude.{Value, plain, add_one, fold_in, weight_of, Cell, Move, Tables, State, start, same_cell, stored, effect, is_in, points_in, inst_at}
+use Rattle.vocabulary.specs.Prelude.{Value, weight_of, Cell, Move, Tables, State, same_cell, stored, is_in, points_in, inst_at}
 use Rattle.value_terms.proofs.lemmas.Sums.{weight_added, weight_folded}
 use Rattle.semantics.specs.declared.moves.Move.TheVariants as moves
 use Rattle.point_laws.specs.Cut.{cut}
-use Rattle.point_laws.proofs.lemmas.Cuts.{points_cut, start_cut}
+use Rattle.point_laws.proofs.lemmas.Cuts.{points_cut}
 use Rattle.log_laws.proofs.lemmas.Members.{member_in}
 use Rattle.log_laws.proofs.lemmas.OwnConflicts.{one_cell}
-use Rattle.inst_steps.specs.Stores.{Contents, HasCells, Holds, IsStart, has_cell, after_move, value_in}
+use Rattle.inst_steps.specs.Stores.{Contents, HasCells, Holds, has_cell, after_move, value_in}
 use Rattle.inst_steps.specs.Weighing.{weight_at, weight_after}
 use Rattle.inst_steps.proofs.lemmas.StoreMaps.{get_put}
 use Rattle.list_lemmas.proofs.lemmas.Filtered.{of_filter}
@@ -55,39 +53,11 @@ none_there ps t c none = elim (cases_option (inst_at t c.inst)) [
   | inr some ↦ rw (some.1, points_cut ps t some.0.space, not_kept ps (points_in t some.0.space) c.point none) refl
 ]
 
-held_in : (m : Contents) (s : State) (c : Cell) → Holds m s → contains_key m c ≡ true → value_in m c ≡ s c
-held_in m s c held there = ap (λ o. unwrap_or o (plain Raw)) (held c there)
-
 put_held : (m : Contents) (s : State) (cell : Cell) (v w : Value) → contains_key m cell ≡ true → v ≡ w → Holds m s
     → Holds (insert m cell v) (stored s cell w)
 put_held m s cell v w there same held c has = get_at m cell v c ∙ elim (cases_Bool (same_cell c cell)) [
   | inl here ↦ rw here (ap (λ v. Some v) same)
   | inr other ↦ rw other (held c (sym (kept_cells m cell v c there) ∙ has))
-]
-
-pub move_held : (step : Move) (m : Contents) (s : State) → HasCells m step → Holds m s → Holds (after_move step m) (effect step s)
-move_held (moves.Read task req cell) m s h held = held
-move_held (moves.Write task cell) m s h held = put_held m s cell _ _ h refl held
-move_held (moves.Reduce task req op cell) m s h held =
-    put_held m s cell _ _ h (ap (add_one op (record { task = task; req = req })) (held_in m s cell held h)) held
-move_held (moves.Copy from to) m s h held = put_held m s to _ _ h.1 (held_in m s from held h.0) held
-move_held (moves.Put cell n) m s h held = put_held m s cell _ _ h refl held
-move_held (moves.Reset cell) m s h held = put_held m s cell _ _ h refl held
-move_held (moves.Fold op from to) m s h held =
-    put_held m s to _ _ h.1 (ap₂ (λ w v. fold_in w op v) (held_in m s to held h.1) (held_in m s from held h.0)) held
-
-pub start_held : (t : Tables) (m : Contents) → IsStart t m → Holds m (start t)
-start_held t m is c has = elim (cases_Bool (has_cell t c)) [
-  | inl here ↦ is c ∙ ap (λ b. cond b (Some (start t c)) None) here
-  | inr other ↦ absurd (false≢true (sym (ap is_some (is c ∙ ap (λ b. cond b (Some (start t c)) None) other)) ∙ has))
-]
-
--- A store of listed points holds what the start of all points holds.
-pub listed_start_held : (ps : List ℕ) (t : Tables) (m : Contents) → IsStart (cut ps t) m → Holds m (start t)
-listed_start_held ps t m is c has = elim (cases_Bool (is_in ps c.point)) [
-  | inl listed ↦ start_held (cut ps t) m is c has ∙ ap (λ v. Some v) (start_cut ps t c listed)
-  | inr other ↦ absurd (false≢true (sym (ap is_some (is c ∙ ap (λ b. cond b (Some (start (cut ps t) c)) None) (none_there ps t c other)))
-      ∙ has))
 ]
 
 -- ---- weights

@@ -1,5 +1,5 @@
 -- Maps from cells, and the entries of a table of numbers of cells.
-use Rattle.std.proofs.Common.{◌≡◌, ℕ, ◌<◌, length, Bool, ◌&&◌, nat_eq, true, false, cond, is_some, List, [], ◌∷◌, Option, Some, None, refl, sym, ap, ap₂, ◌∙◌, subst, inl, inr, arith}
+use Rattle.std.proofs.Common.{◌≡◌, ℕ, ◌<◌, length, Bool, ◌&&◌, nat_eq, true, false, cond, is_some, List, [], ◌∷◌, Option, Some, None, refl, sym, ap, ap₂, ◌∙◌, subst, inl, inr}
 use Rattle.std.specs.Ordering.{nat_cmp, is_eq, ordering_then}
 use Rattle.std.specs.declared.cmp.Ordering.{Ordering}
 use Rattle.std.specs.declared.cmp.Ordering.TheVariants.{Less, Equal, Greater}
@@ -102,11 +102,6 @@ still_valued : (values new : List Value) (o : Option ℕ) → Keeps values new �
 still_valued values new None kept known = refl
 still_valued values new (Some n) kept known = ap (λ v. Some v) (kept.same n known)
 
-still_below : (values new : List Value) (o : Option ℕ) → Keeps values new → IfSome o (λ n. n < length values)
-    → IfSome o (λ n. n < length new)
-still_below values new None kept known = tt
-still_below values new (Some n) kept known = omega (arith, known, kept.longer)
-
 -- A store, as it is kept and as it is seen.
 module _ (values : List Value) (ns : List (Cell × ℕ)) (h : Held) (view : held values ns ≡ h) where
   pub got : (c : Cell) (o : Option ℕ) → o ≡ lookup (same_key c) ns → option_map (value_at h.values) o ≡ get h.cells c
@@ -148,7 +143,3 @@ module _ (values : List Value) (ns : List (Cell × ℕ)) (h : Held) (view : held
 
   pub not_missing : {X : Type 0} (c : Cell) → lookup (same_key c) ns ≡ None → contains_key h.cells c ≡ true → X
   not_missing c none there = absurd (false≢true (ap is_some (sym none) ∙ is_there c there))
-
--- What is known stays known.
-pub still_known : (values new : List Value) (ns : List (Cell × ℕ)) → AreKnown values ns → Keeps values new → AreKnown new ns
-still_known values new ns known kept c = still_below values new (lookup (same_key c) ns) kept (known c)

@@ -1,5 +1,5 @@
 -- How many pairs of tasks there are.
-use Rattle.std.proofs.Common.{◌≡◌, ℕ, ◌+◌, ◌-◌, ◌*◌, ◌<◌, ◌≤◌, Bool, true, false, List, [], ◌∷◌, length, refl, sym, ap, ◌∙◌, arith, map, filter, flat_map, ◌^◌, None, subst}
+use Rattle.std.proofs.Common.{◌≡◌, ℕ, ◌+◌, ◌-◌, ◌*◌, ◌<◌, ◌≤◌, Bool, true, false, List, [], ◌∷◌, length, refl, sym, ap, ◌∙◌, arith, filter, flat_map, ◌^◌, None, subst}
 use Rattle.std.specs.List.{range_with_len}
 use Rattle.std.proofs.lemmas.List.{length-map, length-append}
 use Rattle.std.proofs.lemmas.List.FromFn.{length-range_with_len}
@@ -59,20 +59,6 @@ few_pairs t q small =
     subst (λ ps. length (filter q ps) < 2 ^ 64) (all_are t (usages t) refl) few
 
 -- ---- the pairs of tasks
-
-map_again : {X Y Z : Type 0} (f : X → Y) (g : Y → Z) (h : X → Z) (xs : List X) → ((x : X) → g (f x) ≡ h x) → map g (map f xs) ≡ map h xs
-map_again f g h [] same = refl
-map_again f g h (x ∷ xs) same = rw (same x) (ap (λ ys. h x ∷ ys) (map_again f g h xs same))
-
-map_itself : (xs : List (ℕ × ℕ)) → map (λ x. x) xs ≡ xs
-map_itself [] = refl
-map_itself (x ∷ xs) = ap (λ ys. x ∷ ys) (map_itself xs)
-
-pub task_pairs_listed : (t : Tables) → map (λ (p : Pair). (p.a, p.b)) (filter (are_tasks t.items) (all_pairs t)) ≡ task_pairs t
-task_pairs_listed t =
-    ap (map (λ (p : Pair). (p.a, p.b))) (filter_map_of (are_tasks t.items) (pair_of t) (kinds.pairs t))
-    ∙ map_again (pair_of t) (λ (p : Pair). (p.a, p.b)) (λ x. x) (task_pairs t) (λ x. refl)
-    ∙ map_itself (task_pairs t)
 
 all_pass : {X : Type 0} (xs : List X) → filter (λ x. true) xs ≡ xs
 all_pass [] = refl

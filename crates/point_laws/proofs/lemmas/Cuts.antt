@@ -55,10 +55,6 @@ in_both ps xs q h = let m = of_filter (is_in ps) xs q h in (m.0, member_in ps q 
 pub in_kept : (ps xs : List ℕ) (q : ℕ) → Contains xs q → Contains ps q → Contains (filter (is_in ps) xs) q
 in_kept ps xs q here there = in_filter (is_in ps) xs q here (is_in_of ps q there)
 
-pub kept_within : (listed : Option (List ℕ)) (xs : List ℕ) (q : ℕ) → Contains (kept listed xs) q → Contains xs q
-kept_within (Some ps) xs q h = (in_both ps xs q h).0
-kept_within None xs q h = h
-
 in_cut : (ps : List ℕ) (t : Tables) (p : ℕ) → is_in ps p ≡ true → (id : ℕ) → is_in (points_in (cut ps t) id) p ≡ is_in (points_in t id) p
 in_cut ps t p at id = ap (λ ns. is_in ns p) (points_cut ps t id) ∙ filter_in (is_in ps) p at (points_in t id)
 

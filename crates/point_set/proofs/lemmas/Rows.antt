@@ -256,9 +256,6 @@ moved rects k x z y are kn here there h =
 
 -- ---- From what is found.
 
-pub next_none : (rects : List Rect) (x y : ℕ) → IsPast rects (x * 2 ^ 32) → IsLeast (λ v. Has rects x v × (y ≤ v)) None
-next_none rects x y f v h = none_past rects x f.place x v f.parts f.past (omega arith) h.0
-
 pub next_right : (rects : List Rect) (x y : ℕ) (r : Rect) → AreRects rects → IsFirstFrom rects (x * 2 ^ 32) r → x < r.x0
     → IsLeast (λ v. Has rects x v × (y ≤ v)) None
 next_right rects x y r are f lt v h = none_between rects x f.place x v are f.parts f.within (omega arith)
@@ -292,10 +289,6 @@ next_on rects x y r s are f le g ge =
     (row_here rects x y f.place g.place are f.within (in_found rects x r are f le)
     (same_parts rects y g.place (rect_at rects f.place) r f.is g.parts) g.within (subst (λ (q : Rect). q.x0 ≤ x) (sym g.is) ge))
 
-pub gap_none : (rects : List Rect) (x y : ℕ) → y < 2 ^ 32 → IsPast rects (x * 2 ^ 32)
-    → IsLeast (λ v. ¬ Has rects x v × (y ≤ v) × (v < 2 ^ 32)) (Some y)
-gap_none rects x y fits f = gap_at_once rects x y fits (λ v h. none_past rects x f.place x v f.parts f.past (omega arith) h)
-
 pub gap_right : (rects : List Rect) (x y : ℕ) (r : Rect) → AreRects rects → y < 2 ^ 32 → IsFirstFrom rects (x * 2 ^ 32) r → x < r.x0
     → IsLeast (λ v. ¬ Has rects x v × (y ≤ v) × (v < 2 ^ 32)) (Some y)
 gap_right rects x y r are fits f lt = gap_at_once rects x y fits
@@ -316,16 +309,7 @@ pub column_found : (rects : List Rect) (x : ℕ) (r : Rect) → AreRects rects �
 column_found rects x r are f = subst (λ (q : Rect). IsLeast (λ z. HasColumn rects z × (x ≤ z)) (Some (max x q.x0))) f.is
     (column_here rects x f.place are f.parts f.within)
 
-pub column_none : (rects : List Rect) (x : ℕ) → IsPast rects (x * 2 ^ 32) → IsLeast (λ z. HasColumn rects z × (x ≤ z)) None
-column_none rects x f = no_column rects x f.place f.parts f.past
-
 -- ---- Columns that are alike.
-
-pub alike_past : (rects : List Rect) (x z y : ℕ) → IsPast rects (x * 2 ^ 32) → x ≤ z → Has rects x y ↔ Has rects z y
-alike_past rects x z y f le = (
-  λ h. absurd (none_past rects x f.place x y f.parts f.past (omega arith) h),
-  λ h. absurd (none_past rects x f.place z y f.parts f.past le h),
-)
 
 pub alike_before : (rects : List Rect) (x z y : ℕ) (r : Rect) → AreRects rects → IsFirstFrom rects (x * 2 ^ 32) r → x < r.x0 → x ≤ z
     → z < r.x0 → Has rects x y ↔ Has rects z y

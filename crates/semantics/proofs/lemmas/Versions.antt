@@ -10,11 +10,6 @@ use Rattle.semantics.specs.Tables.{Tables, with_record, no_tables, tables_of}
 use Rattle.semantics.specs.Rules.{is_planar}
 use Rattle.semantics.specs.Faults.{at_line, header_fault, is_header, opens}
 
--- The version does not go by lines.
-pub same_version : (t : Tables) (a b : ℕ) (r : Record) → (with_record t a r).version ≡ (with_record t b r).version
-same_version t a b (Header version) = refl
-same_version t a b r = refl
-
 -- No record but a header changes it.
 version_stays : (t : Tables) (line : ℕ) (r : Record) → is_header r ≡ false → (with_record t line r).version ≡ t.version
 version_stays t line (Header version) e = absurd (false≢true (sym e))

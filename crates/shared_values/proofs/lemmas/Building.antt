@@ -1,5 +1,5 @@
 -- What the numbers stand for as nodes come.
-use Rattle.std.proofs.Common.{◌≡◌, ℕ, zero, suc, ◌+◌, ◌<◌, List, [], ◌∷◌, ◌++◌, length, get_or, set, ◌⊎◌, inl, inr, refl, ap, ap₂, sym, subst, ◌∙◌, Bool, true, arith}
+use Rattle.std.proofs.Common.{◌≡◌, ℕ, zero, suc, ◌+◌, ◌<◌, List, [], ◌∷◌, ◌++◌, length, get_or, ◌⊎◌, inl, inr, refl, ap, ap₂, sym, subst, ◌∙◌, Bool, true, arith}
 use Rattle.std.proofs.lemmas.Bool.{cases_lt}
 use Rattle.std.proofs.lemmas.List.{get_or_append_left}
 use Rattle.std.proofs.Math.Seq.{get_or-append_seam}
@@ -166,9 +166,6 @@ within nodes seen now id is same lt =
     let k = ap (length {A = Node}) same in
     omega (arith, l, m, k, lt)
 
-pub same_by_number : (values : List Value) (a b : ℕ) → a ≡ b → true ≡ same_value (value_at values a) (value_at values b)
-same_by_number values a b e = sym ((value_decides (value_at values a) (value_at values b)).1 (ap (value_at values) e))
-
 pub count_told : (nodes seen : List Node) (now : List Value) (n : ℕ) → built [] nodes ≡ now → seen ≡ nodes → n ≡ length seen
     → n ≡ length now
 count_told nodes seen now n is same told =
@@ -177,24 +174,7 @@ count_told nodes seen now n is same told =
     let k = ap (length {A = Node}) same in
     omega (arith, l, m, k, told)
 
-pub same_by_value : (nodes seen : List Node) (now : List Value) (a b : ℕ) → built [] nodes ≡ now → seen ≡ nodes
-    → value_at (built [] seen) a ≡ value_at (built [] seen) b → true ≡ same_value (value_at now a) (value_at now b)
-same_by_value nodes seen now a b is same e =
-    let whole : built [] seen ≡ now = ap (built []) same ∙ is in
-    sym ((value_decides (value_at now a) (value_at now b)).1 (subst (λ (v : List Value). value_at v a ≡ value_at v b) whole e))
-
 -- ---- what is noted
-
-pub noted_none : IsHeldArena [] []
-noted_none = record {
-  fit = tt;
-  noted = record {
-    within = omega arith;
-    known = λ k d lt. absurd
-        (omega (arith, lt));
-    same = λ k d lt. absurd (omega (arith, lt));
-  };
-}
 
 noted_later : (values later : List Value) (alike : List ℕ) → IsNoted values alike → Keeps values later → IsNoted later alike
 noted_later values later alike h k = record {
@@ -232,36 +212,6 @@ noted_more values alike h lt =
           inr (ap (λ (i : ℕ). get_or (xs ++ n ∷ []) i d) e ∙ get_or-append_seam xs n [] d ∙ is ∙ sym e)
     ]
 
-noted_set : (values : List Value) (alike : List ℕ) (id other : ℕ) → IsNoted values alike → other < length values
-    → value_at values other ≡ value_at values id → IsNoted values (set alike id other)
-noted_set values alike id other h known same = record {
-  within = let l = length-set alike id other in omega (arith, l, h.within);
-  known = λ k d lt. elim (read_set alike id other k d (let l = length-set alike id other in omega (arith, l, lt))) [
-    | inl w ↦ subst (λ (i : ℕ). i < length values) (sym w) (h.known k d
-        (let l = length-set alike id other in omega (arith, l, lt)))
-    | inr w ↦ subst (λ (i : ℕ). i < length values) (sym w.1) known
-  ];
-  same = λ k d lt. elim (read_set alike id other k d (let l = length-set alike id other in omega (arith, l, lt))) [
-    | inl w ↦ ap (value_at values) w ∙ h.same k d (let l = length-set alike id other in omega (arith, l, lt))
-    | inr w ↦ ap (value_at values) w.1 ∙ same ∙ ap (value_at values) (sym w.0)
-  ];
-} where
-  length-set : (xs : List ℕ) (i x : ℕ) → length (set xs i x) ≡ length xs
-  length-set [] i x = refl
-  length-set (y ∷ xs) zero x = refl
-  length-set (y ∷ xs) (suc i) x = ap suc (length-set xs i x)
-
-  read_set : (xs : List ℕ) (i x k d : ℕ) → k < length xs → (get_or (set xs i x) k d ≡ get_or xs k d) ⊎
-      ((k ≡ i) × (get_or (set xs i x) k d ≡ x))
-  read_set [] i x k d lt = absurd (omega (arith, lt))
-  read_set (y ∷ xs) zero x zero d lt = inr (refl, refl)
-  read_set (y ∷ xs) zero x (suc k) d lt = inl refl
-  read_set (y ∷ xs) (suc i) x zero d lt = inl refl
-  read_set (y ∷ xs) (suc i) x (suc k) d lt = elim (read_set xs i x k d (omega (arith, lt))) [
-    | inl w ↦ inl w
-    | inr w ↦ inr (ap suc w.0, w.1)
-  ]
-
 pub put_held : (nodes new : List Node) (now : List Value) (n : Node) (alike : List ℕ) → built [] nodes ≡ now
     → IsHeldArena nodes alike → IsPut nodes new now n → IsHeldArena new alike
 put_held nodes new now n alike is h put = record {
@@ -280,21 +230,6 @@ put_noted nodes new now n alike more is h put told =
       noted = noted_more (built [] new) alike held.noted
           (omega (arith, l, w, put.known));
     })
-
-pub set_held : (nodes : List Node) (now : List Value) (alike : List ℕ) (id other : ℕ) → built [] nodes ≡ now
-    → IsHeldArena nodes alike → other < length now → value_at now other ≡ value_at now id → IsHeldArena nodes (set alike id other)
-set_held nodes now alike id other is h known same = record {
-  fit = h.fit;
-  noted = subst
-      (λ (v : List Value). IsNoted v (set alike id other)) (sym is)
-      (noted_set now alike id other (subst (λ (v : List Value). IsNoted v alike) is h.noted) known same);
-}
-
-pub alike_known : (nodes : List Node) (now : List Value) (alike : List ℕ) (id d : ℕ) → built [] nodes ≡ now
-    → IsHeldArena nodes alike → id < length alike → (get_or alike id d < length now) ×
-    (value_at now (get_or alike id d) ≡ value_at now id)
-alike_known nodes now alike id d is h lt = subst (λ (v : List Value). (get_or alike id d < length v) ×
-    (value_at v (get_or alike id d) ≡ value_at v id)) is (h.noted.known id d lt, h.noted.same id d lt)
 
 pub same_if_equal : (v w : Value) → v ≡ w → true ≡ same_value v w
 same_if_equal v w e = sym ((value_decides v w).1 e)

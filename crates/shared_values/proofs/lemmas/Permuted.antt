@@ -9,10 +9,8 @@ use Rattle.value_terms.specs.Values.{Value}
 use Rattle.value_terms.proofs.lemmas.Changes.{add_add}
 use Rattle.shared_values.specs.declared.node.Step.{Step}
 use Rattle.shared_values.specs.declared.node.Entry.{Entry}
-use Rattle.shared_values.specs.declared.node.Node.{Node}
-use Rattle.shared_values.specs.declared.node.Node.TheVariants.{More}
 use Rattle.shared_values.specs.declared.suffix.Sums.{Sums}
-use Rattle.shared_values.specs.Arenas.{value_at, IsNodeAt}
+use Rattle.shared_values.specs.Arenas.{value_at}
 use Rattle.shared_values.specs.Summing.{entry_of, summed_one, summed, IsStepBy, AreSums}
 
 pub summed_last : (op : ℕ) (es : List Entry) (e : Entry) (v : Value) → summed op (es ++ e ∷ []) v ≡ summed op es (summed_one op e v)
@@ -54,17 +52,6 @@ entry_decides a b =
     (λ (e : a ≡ b). (ap (λ (x : Entry). x.task) e, (ap (λ (x : Entry). x.req) e, ap (λ (x : Entry). x.n) e)))
     (Decides-and (a.task == b.task) (a.req == b.req && a.n == b.n) (Decides-eqb a.task b.task)
     (Decides-and (a.req == b.req) (a.n == b.n) (Decides-eqb a.req b.req) (Decides-eqb a.n b.n)))
-
-pub step_told : (values : List Value) (op at : ℕ) (n : Node) (s : Step) → IsNodeAt values at n → n ≡ More s → s.op ≡ op
-    → IsStepBy values op at s
-step_told values op at n s h e by =
-    let node = subst (λ (m : Node). IsNodeAt values at m) e h in
-    record {
-      by = by;
-      earlier = h.earlier s e;
-      is = subst (λ (o : ℕ). value_at values at ≡ summed_one o (entry_of s)
-          (value_at values s.before)) by node.is;
-    }
 
 -- One way goes on.
 pub gathers : (values : List Value) (op x : ℕ) (s : Step) (es new : List Entry) (e : Entry) (w : Value) → IsStepBy values op x s
