@@ -1,7 +1,7 @@
 //! The graph of the nodes of a recorded run.
 
 ghost use Rattle.std.specs.Prelude.{◌≡◌, ◌≢◌, ℕ, length, map, ◌<◌, ◌≤◌, ◌^◌, None, option_map, All, Contains, IfOk, IfErr, IfSome, IfNone, Some, slice_get, slice_index, ◌↔◌};
-ghost use Rattle.vocabulary.specs.Prelude.{AreLinked, WaitsOn};
+ghost use Rattle.vocabulary.specs.Prelude.{AreLinked, WaitsOn, graph_of};
 ghost use Rattle.semantics.specs.ReplayOrder.{done_at, waits_at, replay_order, shown_cycle};
 ghost use Rattle.event_graph.specs.EventPlaces.{AreSources};
 ghost use Rattle.event_graph.specs.Orders.{IsOrderOf, IsWait, IsWhy, AreCycleEvents, event_at};
@@ -9,7 +9,7 @@ ghost use Rattle.event_graph.specs.Orders.{IsOrderOf, IsWait, IsWhy, AreCycleEve
 use crate::backward::{positions, wait_back};
 use crate::cycle_walk::{from_its_least, walk_from};
 use crate::marks::{first_unmarked, marks_of};
-use crate::node::{EventList, NodeIn};
+use crate::node::{EventList, NodeIn, NodeRef, refs_in, refs_of};
 use crate::order::Order;
 use crate::places::{events_of, first_places};
 use crate::rounds::order_by;
@@ -18,6 +18,7 @@ use crate::stuck::Stuck;
 use crate::waiters::waiters_of;
 use id_maps::IdMap;
 use memory::Memory;
+use semantics::LogNode;
 use std::alloc::{AllocError, Global};
 use std::marker::Model;
 
@@ -74,20 +75,42 @@ fn as_positions(alloc: Global, numbers: &[u32]) -> Result<Vec<usize>, AllocError
 }
 
 impl Graph {
+    // The graph of these nodes.
+    fn of(alloc: Global, nodes: &[NodeRef<'_>]) -> Result<Graph, AllocError>
+        requires few { length nodes.now < 2 ^ 32 }
+        requires linked { AreLinked nodes.now }
+        ensures { IfOk result (λ g. g ≡ nodes.now) }
+    {
+        let done = events_of(alloc, nodes)?;
+        let places = first_places(alloc, done.as_slice())?;
+        let sources = Sources::of(alloc, nodes, &places)?;
+        Ok(Graph {
+            done,
+            sources,
+            places,
+        })
+    }
+
     /// The graph of these nodes.
     pub fn build(alloc: Global, nodes: Vec<NodeIn>) -> Result<Graph, Memory>
         requires few { length nodes.items < 2 ^ 32 }
         requires linked { AreLinked nodes.items }
         ensures { IfOk result (λ g. g ≡ nodes.items) }
     {
-        let done = events_of(alloc, nodes.as_slice())?;
-        let places = first_places(alloc, done.as_slice())?;
-        let sources = Sources::of(alloc, nodes.as_slice(), &places)?;
-        Ok(Graph {
-            done,
-            sources,
-            places,
-        })
+        let refs = refs_of(alloc, nodes.as_slice())?;
+        let graph = Graph::of(alloc, refs.as_slice())?;
+        Ok(graph)
+    }
+
+    /// The graph of the nodes of a log.
+    pub fn of_log(alloc: Global, nodes: &[LogNode]) -> Result<Graph, Memory>
+        requires few { length nodes.now < 2 ^ 32 }
+        requires linked { AreLinked (graph_of nodes.now) }
+        ensures { IfOk result (λ g. g ≡ graph_of nodes.now) }
+    {
+        let refs = refs_in(alloc, nodes)?;
+        let graph = Graph::of(alloc, refs.as_slice())?;
+        Ok(graph)
     }
 
     /// How many nodes there are.

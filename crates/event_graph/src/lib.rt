@@ -24,6 +24,6 @@ mod waiters;
 pub use graph::Graph;
 pub use linked::are_linked;
 pub use memory::Memory;
-pub use node::{EventList, NodeIn, nodes_in};
+pub use node::{EventList, NodeIn};
 pub use order::Order;
 pub use stuck::Stuck;

@@ -26,24 +26,52 @@ impl Model for NodeIn {
     ghost view = { λ n. record { done = n.done; waits = n.waits } };
 }
 
-/// A node of a log, as far as order goes.
-fn node_in(alloc: Global, node: &LogNode) -> Result<NodeIn, AllocError>
-    ensures { IfOk result (λ n. n ≡ record { done = node.now.done; waits = node.now.waits }) }
-{
-    let waits = Nums::from_slice(alloc, node.waits.as_slice())?;
-    Ok(NodeIn {
-        done: node.done,
-        waits,
-    })
+/// A node as its graph is built: its waits stay where they are.
+#[derive(Drop)]
+pub(crate) struct NodeRef<'a> {
+    pub(crate) done: u32,
+    pub(crate) waits: &'a [u32],
 }
 
-/// The nodes of a log, as far as order goes.
-pub fn nodes_in(alloc: Global, nodes: &[LogNode]) -> Result<Vec<NodeIn>, AllocError>
-    ensures { IfOk result (λ ns. ns.items ≡ graph_of nodes.now) }
+impl<'a> Model for NodeRef<'a> {
+    ghost use Rattle.vocabulary.specs.Prelude.{Node};
+
+    ghost Value = { Node };
+
+    ghost view = { λ n. record { done = n.done; waits = n.waits.now } };
+}
+
+/// These nodes, where they are.
+pub(crate) fn refs_of<'a>(
+    alloc: Global,
+    nodes: &'a [NodeIn],
+) -> Result<Vec<NodeRef<'a>>, AllocError>
+    ensures { IfOk result (λ refs. refs.items ≡ nodes.now) }
 {
-    let mut list = Vec::new(alloc);
+    let mut refs = Vec::with_capacity(alloc, nodes.len())?;
     for node in nodes {
-        list.push(node_in(alloc, node)?)?;
+        refs.push(NodeRef {
+            done: node.done,
+            waits: node.waits.as_slice(),
+        })?;
     }
-    Ok(list)
+    Ok(refs)
+}
+
+/// The nodes of a log, where they are.
+pub(crate) fn refs_in<'a>(
+    alloc: Global,
+    nodes: &'a [LogNode],
+) -> Result<Vec<NodeRef<'a>>, AllocError>
+    ensures { IfOk result (λ refs. refs.items ≡ graph_of nodes.now) }
+{
+    let mut refs = Vec::with_capacity(alloc, nodes.len())?;
+    for node in nodes {
+        let waits = node.waits.as_slice();
+        refs.push(NodeRef {
+            done: node.done,
+            waits,
+        })?;
+    }
+    Ok(refs)
 }

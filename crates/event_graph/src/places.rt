@@ -4,7 +4,7 @@ ghost use Rattle.std.specs.Prelude.{◌≡◌, ℕ, nat_eq, map, IfOk, IsSome, S
 ghost use Rattle.id_maps.specs.Entries.{entry_at};
 ghost use Rattle.std.specs.List.{position_from};
 
-use crate::node::NodeIn;
+use crate::node::NodeRef;
 use id_maps::IdMap;
 use std::alloc::{AllocError, Global};
 
@@ -21,7 +21,7 @@ pub(crate) fn first_places(alloc: Global, events: &[u32]) -> Result<IdMap<usize>
 }
 
 /// The event of each node.
-pub(crate) fn events_of(alloc: Global, nodes: &[NodeIn]) -> Result<Vec<u32>, AllocError>
+pub(crate) fn events_of(alloc: Global, nodes: &[NodeRef<'_>]) -> Result<Vec<u32>, AllocError>
     ensures { IfOk result (λ v. v.items ≡ map (λ n. n.done) nodes.now) }
 {
     nodes.iter().map(|n| n.done).collect(alloc)

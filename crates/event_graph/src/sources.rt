@@ -6,7 +6,7 @@ ghost use Rattle.id_maps.specs.Entries.{entry_at};
 ghost use Rattle.semantics.specs.ReplayOrder.{waits_at};
 ghost use Rattle.event_graph.specs.EventPlaces.{place_or_zero};
 
-use crate::node::NodeIn;
+use crate::node::NodeRef;
 use crate::places::place_of;
 use id_maps::IdMap;
 use std::alloc::{AllocError, Global};
@@ -31,7 +31,7 @@ impl Model for Sources {
 }
 
 /// How many events nodes wait on, so that room is taken at once. No answer rests on it.
-fn wait_count(nodes: &[NodeIn]) -> usize {
+fn wait_count(nodes: &[NodeRef<'_>]) -> usize {
     let mut count = 0usize;
     for node in nodes {
         count = count.saturating_add(node.waits.len());
@@ -70,7 +70,7 @@ impl Sources {
     /// For each node where the nodes stand that it waits on.
     pub(crate) fn of(
         alloc: Global,
-        nodes: &[NodeIn],
+        nodes: &[NodeRef<'_>],
         places: &IdMap<usize>,
     ) -> Result<Sources, AllocError>
         requires { (k : ℕ) → All (λ e. IsSomeAnd (entry_at places.now e) (λ p. p < 2 ^ 32)) (waits_at nodes.now k) }
@@ -80,7 +80,7 @@ impl Sources {
         let mut starts = Vec::with_capacity(alloc, nodes.len().saturating_add(1))?;
         starts.push(0)?;
         for node in nodes {
-            add_places(&mut numbers, places, node.waits.as_slice())?;
+            add_places(&mut numbers, places, node.waits)?;
             starts.push(numbers.as_slice().len())?;
         }
         Ok(Sources { numbers, starts })

@@ -5,7 +5,7 @@ ghost use Rattle.vocabulary.specs.Prelude.{AreLinked, graph_of};
 ghost use Rattle.event_graph.specs.Orders.{IsOrderOf};
 ghost use Rattle.log_findings.specs.Sorted.{AreSorted, IsUnsorted};
 
-use event_graph::{EventList, Graph, Order, Stuck, nodes_in};
+use event_graph::{EventList, Graph, Order, Stuck};
 use memory::Memory;
 use semantics::LogNode;
 use std::alloc::Global;
@@ -37,17 +37,6 @@ impl From<Memory> for Unsorted {
     }
 }
 
-/// The graph of the nodes of a log.
-fn graph_in(alloc: Global, nodes: &[LogNode]) -> Result<Graph, Memory>
-    requires few { length nodes.now < 2 ^ 32 }
-    requires linked { AreLinked (graph_of nodes.now) }
-    ensures { IfOk result (λ g. g ≡ graph_of nodes.now) }
-{
-    let list = nodes_in(alloc, nodes)?;
-    let graph = Graph::build(alloc, list)?;
-    Ok(graph)
-}
-
 /// The order of a graph, or the cycle that is shown.
 fn order_of(alloc: Global, graph: &Graph) -> Result<Order, Unsorted>
     ensures order { IfOk result (IsOrderOf graph.now) }
@@ -67,7 +56,7 @@ pub(crate) fn sorting_of(alloc: Global, nodes: &[LogNode]) -> Result<Sorting, Un
     ensures sorted { IfOk result (AreSorted (graph_of nodes.now)) }
     ensures unsorted { IfErr result (IsUnsorted (graph_of nodes.now)) }
 {
-    let graph = graph_in(alloc, nodes)?;
+    let graph = Graph::of_log(alloc, nodes)?;
     let order = order_of(alloc, &graph)?;
     Ok(Sorting { graph, order })
 }

@@ -1,9 +1,11 @@
 //! The orders and the cycles of a few graphs, which nodes are before which, and which waits others imply.
 
 ghost use Rattle.std.specs.Prelude.{◌≡◌, IfOk};
+ghost use Rattle.vocabulary.specs.Prelude.{graph_of};
 
 use event_graph::{Graph, NodeIn, Stuck, are_linked};
 use reach_marks::Reach;
+use semantics::LogNode;
 use spare_waits::{SpareList, spare};
 use spy_words::Nums;
 use std::alloc::Global;
@@ -21,6 +23,21 @@ fn nodes_of(alloc: Global, rows: Rows) -> Result<Vec<NodeIn>, Fail> {
         nodes.push(NodeIn { done: *done, waits })?;
     }
     Ok(nodes)
+}
+
+/// The nodes of a log, as far as order goes.
+pub fn nodes_in(alloc: Global, nodes: &[LogNode]) -> Result<Vec<NodeIn>, Fail>
+    ensures { IfOk result (λ list. list.items ≡ graph_of nodes.now) }
+{
+    let mut list = Vec::new(alloc);
+    for node in nodes {
+        let waits = Nums::from_slice(alloc, node.waits.as_slice())?;
+        list.push(NodeIn {
+            done: node.done,
+            waits,
+        })?;
+    }
+    Ok(list)
 }
 
 /// The graph of these nodes.

@@ -6,9 +6,9 @@ ghost use Rattle.semantics.specs.Faults.{unmapped_fault};
 ghost use Rattle.event_graph.specs.Orders.{IsOrderOf};
 
 use crate::framed_logs::log_of;
-use crate::graph_tests::graph_of;
+use crate::graph_tests::{graph_of, nodes_in};
 use bumpalo::Bump;
-use event_graph::{Order, nodes_in};
+use event_graph::Order;
 use log_decl::Log;
 use point_kinds::FirstPoints;
 use provenance::{TraceEnd, trace};

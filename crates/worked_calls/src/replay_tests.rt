@@ -8,10 +8,10 @@ ghost use Rattle.point_laws.specs.Alike.{AreFirsts};
 ghost use Rattle.serial_exec.specs.Kept.{AreVersionsAt};
 
 use crate::framed_logs::log_of;
-use crate::graph_tests::graph_of;
+use crate::graph_tests::{graph_of, nodes_in};
 use crate::values::{Written, value_of};
 use bumpalo::Bump;
-use event_graph::{Order, nodes_in};
+use event_graph::Order;
 use log_decl::Log;
 use point_kinds::FirstPoints;
 use race_scan::{ScanEnd, SortedNodes, scan};

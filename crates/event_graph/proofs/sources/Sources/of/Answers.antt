@@ -15,7 +15,7 @@ add_places-requires c =
     let n = c.node-item.result in
     let at : slice_get c.args.nodes.now k ≡ Some n =
     slice_get-get_or c.args.nodes.now k n c.loop-node-test.true ∙ ap (λ z. Some z) (sym c.node-item.is) in
-    let waits : c.as_slice.result.now ≡ waits_at c.args.nodes.now k = (c.as_slice.ensures ∙ ap (λ (m : Node). m.waits) c.node.view_is) ∙ rw at refl in
+    let waits : c.node.inside.waits.now ≡ waits_at c.args.nodes.now k = ap (λ (m : Node). m.waits) c.node.view_is ∙ rw at refl in
     subst (λ ws. All (λ e. IsSomeAnd (entry_at c.args.places.now e) (λ p. p < 2 ^ 32)) ws) (sym waits) (c.requires k)
 
 pub loop-node-init : goal.loop-node-init
@@ -31,12 +31,11 @@ loop-node-preserved c =
     let h = c.loop-node.invariant in
     let new = c.add_places.new.numbers.items in
     let place = entry_at c.args.places.now in
-    let waits : c.as_slice.result.now ≡ c.node-item.result.waits = c.as_slice.ensures ∙ ap (λ (m : Node). m.waits) c.node.view_is in
-    let end = length c.as_slice-in-loop-node.result.now in
+    let end = length c.as_slice.result.now in
     let added = list_added (λ (m : Node). map (place_or_zero place) m.waits) c.args.nodes.now c.loop-node.node-index c.node-item.result
     c.loop-node-test.true c.node-item.is c.loop-node.numbers.items new h.ends h.fit h.lists
-    (c.in_ok-add_places.ensures ∙ ap (λ ws. c.loop-node.numbers.items ++ map (place_or_zero place) ws) waits)
-    end (ap (λ (l : List ℕ). length l) c.as_slice-in-loop-node.ensures.value) in
+    (c.in_ok-add_places.ensures ∙ ap (λ (m : Node). c.loop-node.numbers.items ++ map (place_or_zero place) m.waits) c.node.view_is)
+    end (ap (λ (l : List ℕ). length l) c.as_slice.ensures.value) in
     record {
       ends = h.ends ++ end ∷ [];
       starts = c.in_ok-push-2.ensures.items ∙ ap (λ (l : List ℕ). l ++ end ∷ []) h.starts;

@@ -2,7 +2,7 @@ use Rattle.std.proofs.Common.{◌≡◌, ◌∙◌, ◌<◌, nat_eq, ap, Some, s
 use Rattle.id_maps.specs.Entries.{entry_at}
 use Rattle.std.specs.List.{position_from}
 use Rattle.event_graph.proofs.lemmas.Placed.{linked_if, stands_first, waits_stand}
-use Rattle.event_graph.proofs.linked.are_linked.Goals as goal
+use Rattle.event_graph.proofs.linked.are_refs_linked.Goals as goal
 
 pub returns : goal.returns
 returns c =
